@@ -1,0 +1,5 @@
+//! What a table of line information is and means: its plain structs, the pure table that contracts see, the conditions
+//! that a table meets, its weight, and the frames, rows and file texts that it stands for.
+#![tactic(auto)]
+
+pub mod table;
