@@ -1,2 +1,7 @@
+pub mod Answers
+pub mod Conditions
+pub mod FileText
+pub mod Meaning
 pub mod Parts
 pub mod Views
+pub mod Weight

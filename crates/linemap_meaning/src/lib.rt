@@ -2,4 +2,5 @@
 //! that a table meets, its weight, and the frames, rows and file texts that it stands for.
 #![tactic(auto)]
 
+pub mod rule;
 pub mod table;
