@@ -1,0 +1,62 @@
+-- Texts written one after the other, whole or in part.
+use Rattle.std.proofs.Common.{◌≡◌, ◌∙◌, ℕ, List, [], ◌++◌, Option, None, Some, length, take, min, ◌+◌, ◌≤◌, refl, sym, ap, subst, arith, append_assoc}
+use Rattle.std.proofs.lemmas.List.{append-nil, take_min, take-append-le}
+use Rattle.std.proofs.Math.Seq.{take-append-add, take-length}
+use Rattle.std.specs.Io.KnownBytes.{Appends, Keeps}
+use Rattle.linemap_output.specs.Writing.{AppendsFront}
+
+-- one text after the other is the two joined
+pub appends_more : (a b c : Option (List ℕ)) (xs ys : List ℕ) → Appends a b xs → Appends b c ys → Appends a c (xs ++ ys)
+appends_more None b c xs ys p q = tt
+appends_more (Some a) None c xs ys p q = absurd p
+appends_more (Some a) (Some b) None xs ys p q = absurd q
+appends_more (Some a) (Some b) (Some c) xs ys p q = q ∙ ap (λ bs. bs ++ ys) p ∙ append_assoc a xs ys
+
+-- what is kept has grown by nothing
+pub appends_nothing : (a b : Option (List ℕ)) → Keeps a b → Appends a b []
+appends_nothing None b k = tt
+appends_nothing (Some a) None k = absurd k
+appends_nothing (Some a) (Some b) k = k ∙ sym (append-nil a)
+
+pub keeps_again : (a b c : Option (List ℕ)) → Keeps a b → Keeps b c → Keeps a c
+keeps_again None b c p q = tt
+keeps_again (Some a) None c p q = absurd p
+keeps_again (Some a) (Some b) None p q = absurd q
+keeps_again (Some a) (Some b) (Some c) p q = q ∙ p
+
+pub keeps_same : (a : Option (List ℕ)) → Keeps a a
+keeps_same None = tt
+keeps_same (Some a) = refl
+
+-- a text that was kept behind stays written
+pub appends_kept : (a b c : Option (List ℕ)) (xs : List ℕ) → Appends a b xs → Keeps b c → Appends a c xs
+appends_kept None b c xs p k = tt
+appends_kept (Some a) None c xs p k = absurd p
+appends_kept (Some a) (Some b) None xs p k = absurd k
+appends_kept (Some a) (Some b) (Some c) xs p k = k ∙ p
+
+-- the text is its own front
+pub front_whole : (a b : Option (List ℕ)) (xs : List ℕ) → Appends a b xs → AppendsFront a b xs
+front_whole a b xs p = record { count = length xs; appends = rw (take-length xs) p }
+
+-- so is nothing
+pub front_none : (a b : Option (List ℕ)) (xs : List ℕ) → Keeps a b → AppendsFront a b xs
+front_none a b xs k = record { count = 0; appends = appends_nothing a b k }
+
+-- a front of a text is a front of what begins with the text
+pub front_longer : (a b : Option (List ℕ)) (xs ys : List ℕ) → AppendsFront a b xs → AppendsFront a b (xs ++ ys)
+front_longer a b xs ys f =
+    let low : min f.count (length xs) ≤ length xs = omega arith in
+    let same : take (min f.count (length xs)) (xs ++ ys) ≡ take f.count xs = take-append-le (min f.count (length xs)) xs ys low ∙ take_min f.count xs in
+    record { count = min f.count (length xs); appends = rw same f.appends }
+
+-- a text that was written whole, and a front of the next one
+pub front_after : (a b c : Option (List ℕ)) (xs ys : List ℕ) → Appends a b xs → AppendsFront b c ys → AppendsFront a c (xs ++ ys)
+front_after a b c xs ys p f = record {
+  count = length xs + f.count;
+  appends = rw (take-append-add xs ys f.count) (appends_more a b c xs (take f.count ys) p f.appends);
+}
+
+-- a text of which all was written but the rest
+pub front_before : (a b : Option (List ℕ)) (front rest text : List ℕ) → Appends a b front → front ++ rest ≡ text → AppendsFront a b text
+front_before a b front rest text p e = subst (AppendsFront a b) e (front_longer a b front rest (front_whole a b front p))

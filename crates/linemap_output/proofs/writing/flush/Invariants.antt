@@ -1,0 +1,13 @@
+use Rattle.std.proofs.Common.{◌<◌, ◌-◌}
+use Rattle.std.specs.Io.KnownBytes.{Keeps}
+use Rattle.linemap_output.proofs.writing.flush.Given as goal
+
+-- what the writer holds stays, and more interruptions are allowed
+abbrev pub invariant-flush : goal.invariant-flush
+invariant-flush g l = record {
+  kept : Keeps (g.W.Write.contents l.fn.out) (g.W.Write.contents l.out);
+  allowed : l.interruptions < 1000;
+}
+
+abbrev pub decreases-flush : goal.decreases-flush
+decreases-flush g l = 1000 - l.interruptions

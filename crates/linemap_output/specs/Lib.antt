@@ -1,0 +1,2 @@
+pub mod ErrorLine
+pub mod Writing

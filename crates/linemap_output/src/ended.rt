@@ -1,0 +1,49 @@
+//! How a program ended.
+ghost use Rattle.std.specs.Prelude.{◌≡◌, true, false};
+
+/// How a program ended: its exit status, and what went wrong outside of it.
+#[derive(Clone, Copy, Debug, PartialEq, Eq)]
+pub struct Ended {
+    /// The exit status.
+    pub status: u8,
+    /// Set only where a growth of memory was refused.
+    pub memory: bool,
+    /// Set only where a read failed, or gave no text.
+    pub read: bool,
+    /// Set only where a write or a flush failed, or a write took nothing.
+    pub write: bool,
+}
+
+impl Ended {
+    /// Ended with this status, and nothing went wrong outside.
+    pub fn with_status(status: u8) -> Ended
+        ensures { result ≡ record { status = status; memory = false; read = false; write = false } }
+    {
+        Ended {
+            status,
+            memory: false,
+            read: false,
+            write: false,
+        }
+    }
+
+    /// The same, and a write failed too.
+    pub fn with_write_fault(self) -> Ended
+        ensures { result ≡ record self { write = true } }
+    {
+        Ended {
+            write: true,
+            ..self
+        }
+    }
+
+    /// The same, and memory was refused too.
+    pub fn with_memory_refused(self) -> Ended
+        ensures { result ≡ record self { memory = true } }
+    {
+        Ended {
+            memory: true,
+            ..self
+        }
+    }
+}
