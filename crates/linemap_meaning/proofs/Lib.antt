@@ -1,2 +1,4 @@
+pub mod Hexadecimal
+pub mod Tests
 pub mod ViewLemmas
 mod Worked

@@ -2,5 +2,6 @@
 //! that a table meets, its weight, and the frames, rows and file texts that it stands for.
 #![tactic(auto)]
 
+pub mod address;
 pub mod rule;
 pub mod table;
