@@ -4,18 +4,17 @@ use Rattle.std.specs.Char.{is_digit, digit_value}
 use Rattle.std.specs.List.{list_all}
 use Rattle.std.specs.Result.{result_ok, OkIff}
 use Rattle.std.specs.Str.Parse.{AllDigits, IsNumeral, ParsesUnsigned, without_leading_plus, digits_value}
-use Rattle.std.proofs.lemmas.Bool.{ltb-true, lt-ltb}
-use Rattle.linemap_meaning.proofs.Tests.{both_true, true_parts}
+use Rattle.std.proofs.lemmas.Bool.{ltb-true, lt-ltb, and_parts, and_from}
 use Rattle.linemap_meaning.specs.Answers.{is_hexadecimal, hexadecimal_number}
 
 test_of_digits : (ds : List ℕ) → AllDigits 16 ds → list_all (λ c. is_digit c 16) ds ≡ true
 test_of_digits [] h = refl
-test_of_digits (c ∷ cs) h = both_true _ _ (lt-ltb (digit_value c) 16 h.0) (test_of_digits cs h.1)
+test_of_digits (c ∷ cs) h = and_from _ _ (lt-ltb (digit_value c) 16 h.0) (test_of_digits cs h.1)
 
 digits_of_test : (ds : List ℕ) → list_all (λ c. is_digit c 16) ds ≡ true → AllDigits 16 ds
 digits_of_test [] h = tt
 digits_of_test (c ∷ cs) h =
-    let parts = true_parts (is_digit c 16) (list_all (λ d. is_digit d 16) cs) h in
+    let parts = and_parts (is_digit c 16) (list_all (λ d. is_digit d 16) cs) h in
     (ltb-true (digit_value c) 16 parts.0, digits_of_test cs parts.1)
 
 -- the test that a number stands there
@@ -27,12 +26,12 @@ Fits64 ds = IsNumeral 16 ds × (digits_value 16 ds < 2 ^ 64)
 
 fits_of : (ds : List ℕ) → Fits64 ds → fits ds ≡ true
 fits_of ds h =
-    both_true _ _ (both_true _ _ (lt-ltb 0 (length ds) h.0.0) (test_of_digits ds h.0.1)) (lt-ltb (digits_value 16 ds) (2 ^ 64) h.1)
+    and_from _ _ (and_from _ _ (lt-ltb 0 (length ds) h.0.0) (test_of_digits ds h.0.1)) (lt-ltb (digits_value 16 ds) (2 ^ 64) h.1)
 
 of_fits : (ds : List ℕ) → fits ds ≡ true → Fits64 ds
 of_fits ds h =
-    let outer = true_parts (is_hexadecimal ds) (nat_lt (digits_value 16 ds) (2 ^ 64)) h in
-    let inner = true_parts (nat_lt 0 (length ds)) (list_all (λ c. is_digit c 16) ds) outer.0 in
+    let outer = and_parts (is_hexadecimal ds) (nat_lt (digits_value 16 ds) (2 ^ 64)) h in
+    let inner = and_parts (nat_lt 0 (length ds)) (list_all (λ c. is_digit c 16) ds) outer.0 in
     ((ltb-true 0 (length ds) inner.0, digits_of_test ds inner.1), ltb-true (digits_value 16 ds) (2 ^ 64) outer.1)
 
 choose : {A : Type 0} (b : Bool) (P : Type 0) (r : Option A) (v : A) → (b ≡ true → P) → (P → b ≡ true) → (P → r ≡ Some v) → (¬ P → r ≡ None) → r ≡ (if b then Some v else None)

@@ -1,4 +1,3 @@
 pub mod Hexadecimal
-pub mod Tests
 pub mod ViewLemmas
 mod Worked

@@ -126,10 +126,10 @@ unit_stretches u = flat_map (λ s. row_stretches u s.end s.rows) u.sequences
 abbrev pub is_between : ℕ → ℕ → Stretch → Bool
 is_between low high s = nat_lt s.address high && nat_lt low (s.address + s.length)
 
--- a stretch put before the first that begins above it
+-- a stretch put before the first that doesn't begin below it, so that stretches of one address keep their order
 abbrev pub put_in_order : Stretch → List Stretch → List Stretch
 put_in_order s [] = s ∷ []
-put_in_order s (t ∷ ts) = if nat_lt s.address t.address then s ∷ t ∷ ts else t ∷ put_in_order s ts
+put_in_order s (t ∷ ts) = if nat_le s.address t.address then s ∷ t ∷ ts else t ∷ put_in_order s ts
 
 abbrev pub in_order : List Stretch → List Stretch
 in_order [] = []
