@@ -1,6 +1,7 @@
 pub mod Answers
 pub mod Conditions
 pub mod FileText
+pub mod Laws
 pub mod Meaning
 pub mod Parts
 pub mod Views

@@ -3,5 +3,6 @@
 #![tactic(auto)]
 
 pub mod address;
+pub mod laws;
 pub mod rule;
 pub mod table;
