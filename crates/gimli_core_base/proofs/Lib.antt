@@ -1,3 +1,5 @@
 pub mod Steps
 pub mod Sizes
 pub mod Listings
+pub mod Calls
+pub mod Times

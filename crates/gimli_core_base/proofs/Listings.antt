@@ -71,3 +71,7 @@ pub listing_push : {S A X : Type 0} {size : S → ℕ} {p : Step S (Option A)} �
 listing_push {S} {A} {X} {size} {p} h see xs ys x s t u same e pushed =
     ap (λ (zs : List A). prepend zs (listing_in size p u)) (ap (map see) pushed ∙ map-append see xs (x ∷ []))
     ∙ sym (listing_item h (map see xs) (see x) t u e) ∙ same
+
+-- with each item the size falls
+pub item_smaller : {S A : Type 0} {size : S → ℕ} {p : Step S (Option A)} → Shrinks size p → (s : S) (x : A) (t : S) → p s ≡ Ok (Some x, t) → size t < size s
+item_smaller {size = size} h s x t e = (h.smaller s (size s) (omega arith)).left x t e

@@ -5,7 +5,8 @@ use Rattle.std.specs.List.{position}
 use Rattle.std.proofs.lemmas.List.Quantifiers.{position-Some}
 use Rattle.gimli_core_base.specs.declared.error.Error.{Error}
 use Rattle.gimli_core_base.specs.View.{View, bytes_left}
-use Rattle.gimli_core_base.specs.Parsers.{Step, onward, lift, some_or, byte, byte_of, part, skip, truncated, null_terminated, place_or_end, text_to}
+use Rattle.gimli_core_base.specs.Repetition.{until_end}
+use Rattle.gimli_core_base.specs.Parsers.{Step, Parser, onward, lift, some_or, byte, byte_of, part, skip, truncated, null_terminated, place_or_end, text_to}
 use Rattle.gimli_core_base.proofs.Steps.{begins, state_is, value_is}
 
 -- a value leaves at most n of the size
@@ -145,3 +146,7 @@ take_below k xs h = omega (arith, length-take k xs)
 
 -- the facts above, for `search`
 pub ruleset sizes = (AtMost-Ok, Below-Ok, SomeBelow-Ok, SomeBelow-None, AtMost-Err, Below-Err, SomeBelow-Err, AtMost-onward, Below-onward, Below-onward_rest, SomeBelow-onward, SomeBelow-onward_rest, AtMost-cond, Below-cond, SomeBelow-cond, AtMost-lift, Below-lift, AtMost-some_or, Below-some_or, AtMost-part, AtMost-skip, AtMost-truncated, Below-byte, Below-null_terminated, AtMost-Below, drop_at_most, drop_below, take_at_most, take_below)
+
+-- items up to the end of the bytes
+pub SomeBelow-until_end : {A : Type 0} {n : ℕ} {p : Parser A} (v : View) → ((w : View) → bytes_left w ≤ n → Below bytes_left n (p w)) → bytes_left v ≤ n → SomeBelow bytes_left n (until_end p v)
+SomeBelow-until_end v k h = SomeBelow-cond _ SomeBelow-None (SomeBelow-onward (k v h) (λ x s lt. SomeBelow-Ok lt))
