@@ -1,0 +1,3 @@
+pub mod Fixed
+pub mod Leb128
+pub mod Numbers

@@ -1,0 +1,105 @@
+-- Numbers, read from a view: a value and what is left behind it, or the first fault.
+use Rattle.std.specs.Prelude.{ℕ, ℤ, ◌+◌, ◌^◌, ◌==◌, ◌||◌, nat_lt, Bool, List, length, take, Option, Some, None, Result, Ok, Err, if◌then◌else◌}
+use Rattle.std.specs.Int.{Width, w8, w16, w32, w64, byte_len, cast_signed}
+use Rattle.gimli_core_base.specs.declared.error.Error.{Error}
+use Rattle.gimli_core_base.specs.declared.error.Error.TheVariants.{UnexpectedEof, BadUnsignedLeb128, BadSignedLeb128, UnknownReservedLength, UnsupportedOffset, UnsupportedAddressSize}
+use Rattle.gimli_core_base.specs.View.{View, after, ends}
+use Rattle.gimli_core_base.specs.Parsers.{Parser, ◌>>=◌, give, fail, branch, lift}
+use Rattle.gimli_core_constants.specs.declared.common.Format.{Format}
+use Rattle.gimli_core_constants.specs.declared.common.Format.TheVariants.{Dwarf32, Dwarf64}
+use Rattle.gimli_core_constants.specs.Formats.{word_size}
+use Rattle.gimli_core_numbers.specs.declared.leb128.Fault.{Fault}
+use Rattle.gimli_core_numbers.specs.declared.leb128.Fault.TheVariants.{Cut, Bad}
+use Rattle.gimli_core_numbers.specs.Fixed.{number}
+use Rattle.gimli_core_numbers.specs.Leb128.{string_at, unsigned_at, signed_at}
+
+-- ---- numbers of a fixed width, in the view's order
+
+-- a number of n bytes
+unfoldable pub fixed : ℕ → Parser ℕ
+fixed n v = if nat_lt (length v.bytes) n then Err (ends v) else Ok (number v.is_big (take n v.bytes), after n v)
+
+-- the same as two's complement
+unfoldable pub fixed_signed : Width → Parser ℤ
+fixed_signed w = do
+  n ← fixed (byte_len w)
+  give (cast_signed w n)
+
+-- ---- LEB128 (DWARF 5, 7.6)
+
+-- A string that is cut ends where its missing byte would stand.
+abbrev pub string_fault : Error → View → Fault → Error
+string_fault bad v Cut = UnexpectedEof (record { 0 = v.first + length v.bytes })
+string_fault bad v Bad = bad
+
+-- a number and the bytes behind its string
+abbrev pub behind : {A : Type 0} → Error → View → Result (A × ℕ) Fault → Result (A × View) Error
+behind bad v (Ok found) = Ok (found.0, after found.1 v)
+behind bad v (Err fault) = Err (string_fault bad v fault)
+
+-- an unsigned number in 64 bits
+unfoldable pub unsigned : Parser ℕ
+unsigned v = behind BadUnsignedLeb128 v (unsigned_at 10 (2 ^ 64) v.bytes)
+
+-- one in 16 bits, of at most three bytes
+unfoldable pub unsigned_16 : Parser ℕ
+unsigned_16 v = behind BadUnsignedLeb128 v (unsigned_at 3 (2 ^ 16) v.bytes)
+
+-- one in 32 bits
+unfoldable pub unsigned_32 : Parser ℕ
+unsigned_32 = do
+  n ← unsigned
+  branch (nat_lt n (2 ^ 32)) (give n) (fail BadUnsignedLeb128)
+
+-- a signed number in 64 bits
+unfoldable pub signed : Parser ℤ
+signed v = behind BadSignedLeb128 v (signed_at v.bytes)
+
+-- a string of any length, whatever its number
+abbrev pub behind_string : View → Option (List ℕ) → Result (Unit {0} × View) Error
+behind_string v (Some string) = Ok (tt, after (length string) v)
+behind_string v None = Err (string_fault BadUnsignedLeb128 v Cut)
+
+unfoldable pub skipped : Parser (Unit {0})
+skipped v = behind_string v (string_at v.bytes)
+
+-- ---- offsets and lengths, of a type that holds the numbers below a limit
+
+abbrev pub offset_below : ℕ → ℕ → Result ℕ Error
+offset_below limit n = if nat_lt n limit then Ok n else Err UnsupportedOffset
+
+-- an offset of n bytes
+unfoldable pub sized_offset : ℕ → ℕ → Parser ℕ
+sized_offset limit n = do
+  offset ← fixed n
+  lift (offset_below limit offset)
+
+-- an offset or a length of a format: four or eight bytes (DWARF 5, 7.4)
+unfoldable pub word : ℕ → Format → Parser ℕ
+word limit format = sized_offset limit (word_size format)
+
+-- An initial length and the format that it shows: a word below 0xfffffff0 for 32-bit DWARF, 0xffffffff and
+-- eight more bytes for 64-bit DWARF; the words between are reserved (DWARF 5, 7.4 and 7.2.2).
+abbrev pub length_of : ℕ → ℕ → Parser (ℕ × Format)
+length_of limit w = branch (nat_lt w 0xfffffff0) (give (w, Dwarf32)) (branch (w == 0xffffffff) (sized_offset limit 8 >>= λ n. give (n, Dwarf64)) (fail (UnknownReservedLength w)))
+
+unfoldable pub initial_length : ℕ → Parser (ℕ × Format)
+initial_length limit = do
+  w ← fixed 4
+  length_of limit w
+
+-- ---- addresses
+
+-- the sizes that an address may have
+abbrev pub is_address_size : ℕ → Bool
+is_address_size n = n == 1 || n == 2 || n == 4 || n == 8
+
+-- a byte that is the size of an address
+unfoldable pub address_size : Parser ℕ
+address_size = do
+  n ← fixed 1
+  branch (is_address_size n) (give n) (fail (UnsupportedAddressSize n))
+
+-- an address of n bytes
+unfoldable pub address : ℕ → Parser ℕ
+address n = branch (is_address_size n) (fixed n) (fail (UnsupportedAddressSize n))
