@@ -1,0 +1,159 @@
+//! What the words of a command line ask for.
+ghost use Rattle.std.specs.Prelude.{◌≡◌, IfOk, IfErr, IsSomeAnd, map, codes, string_bytes};
+ghost use Rattle.clap.specs.Words.{fault_of, found_of, kind_of, rows_of, subcommand_of, subcommand_rows_of};
+ghost use Rattle.linemap_words.specs.CommandLine.{linemap_app};
+ghost use Rattle.linemap_words.specs.Request.{HasNoRequest, IsFault, IsRefusal, IsRequestOf, LacksArguments};
+
+use crate::command_line::{ADDRESSES, TABLE, linemap_command};
+use clap::ArgMatches;
+use clap::error::ErrorKind;
+use std::alloc::{AllocError, AllocFailed, Global};
+use thiserror::Error;
+
+/// What the program is asked to do.
+#[derive(Debug, Drop)]
+pub enum Request {
+    /// Print a line for each address.
+    Ask {
+        /// The path of the table's file.
+        table: String,
+        /// The addresses as they were written.
+        words: Vec<String>,
+    },
+}
+
+/// Why the words are no request. Its text is what is to be printed.
+#[derive(Debug, Drop, Error)]
+pub enum WordsError {
+    /// No memory was left.
+    #[error("linemap: out of memory\n")]
+    Memory,
+    /// A mistake in the words, or a request for help, in `clap`'s words.
+    #[error("{0}")]
+    Fault(clap::Error),
+    /// The matches name no subcommand, or lack one of its arguments.
+    #[error("linemap: no request\n")]
+    NoRequest,
+}
+
+impl From<AllocError> for WordsError {
+    ghost use Rattle.linemap_words.specs.declared.request.WordsError.TheVariants.{Memory};
+
+    ghost from_gives = { λ _ e. e ≡ Memory };
+
+    fn from(_error: AllocError) -> WordsError {
+        WordsError::Memory
+    }
+}
+
+impl<T: Drop> From<AllocFailed<T>> for WordsError {
+    ghost use Rattle.linemap_words.specs.declared.request.WordsError.TheVariants.{Memory};
+
+    ghost from_gives = { λ _ e. e ≡ Memory };
+
+    fn from(_error: AllocFailed<T>) -> WordsError {
+        WordsError::Memory
+    }
+}
+
+impl WordsError {
+    ghost use Rattle.linemap_words.specs.Status.{HasStatus, TellsHelp};
+
+    /// What the program exits with: 0 after help, 1 for want of memory, and else 2.
+    pub fn status(&self) -> u8
+        ensures { HasStatus self.now result }
+    {
+        match self {
+            WordsError::Memory => 1,
+            WordsError::Fault(error) => { if error.use_stderr() { 2 } else { 0 } }
+            WordsError::NoRequest => 2,
+        }
+    }
+
+    /// Whether the text is help, which goes to the standard output.
+    pub fn is_help(&self) -> bool
+        ensures { TellsHelp self.now result }
+    {
+        match self {
+            WordsError::Fault(error) => !error.use_stderr(),
+            WordsError::Memory | WordsError::NoRequest => false,
+        }
+    }
+}
+
+/// Reads the words of a command line, of which the first is the program's name. Its answers take
+/// memory for copies of the words.
+pub fn read_words(alloc: Global, words: &[String]) -> Result<Request, WordsError>
+    ensures request { IfOk result (λ request. IsSomeAnd
+        (subcommand_of linemap_app (map string_bytes words.now)) (IsRequestOf request)) }
+    ensures refusal { IfErr result (λ error. IsRefusal error
+        (fault_of linemap_app (map string_bytes words.now))
+        (subcommand_of linemap_app (map string_bytes words.now))) }
+{
+    let command = linemap_command(alloc)?;
+    let matches = match command.try_get_matches_from(words) {
+        Ok(matches) => matches,
+        Err(error) => return Err(refused(error)),
+    };
+    request_in(alloc, &matches)
+}
+
+// The request of the subcommand that the parse met.
+fn request_in(alloc: Global, matches: &ArgMatches<'_>) -> Result<Request, WordsError>
+    ensures request { IfOk result (λ request.
+        IsSomeAnd (subcommand_rows_of matches.now) (IsRequestOf request)) }
+    ensures refusal { IfErr result (λ error. HasNoRequest error (subcommand_rows_of matches.now)) }
+{
+    match matches.subcommand() {
+        Some((name, found)) => {
+            if name == "ask" {
+                ask_request(alloc, found)
+            } else {
+                Err(WordsError::NoRequest)
+            }
+        }
+        None => Err(WordsError::NoRequest),
+    }
+}
+
+// An error of the parse. Want of memory is told apart.
+fn refused(error: clap::Error) -> WordsError
+    ensures { IsFault result (kind_of error) }
+{
+    if error.kind() == ErrorKind::OutOfMemory {
+        WordsError::Memory
+    } else {
+        WordsError::Fault(error)
+    }
+}
+
+// The request of the matches of `ask`.
+fn ask_request(alloc: Global, found: &ArgMatches<'_>) -> Result<Request, WordsError>
+    ensures request { IfOk result (λ request.
+        IsRequestOf request (codes "ask", rows_of (found_of found.now))) }
+    ensures refusal { IfErr result (λ error. LacksArguments error (rows_of (found_of found.now))) }
+{
+    let table = match found.get_str(TABLE) {
+        Some(table) => table,
+        None => return Err(WordsError::NoRequest),
+    };
+    let addresses = match found.get_strs(ADDRESSES) {
+        Some(addresses) => addresses,
+        None => return Err(WordsError::NoRequest),
+    };
+    Ok(Request::Ask {
+        table: String::from_str(alloc, table)?,
+        words: copied(alloc, addresses)?,
+    })
+}
+
+// Copies of the texts.
+fn copied(alloc: Global, texts: &[&str]) -> Result<Vec<String>, AllocError>
+    ensures { IfOk result (λ copies. map string_bytes copies.items ≡ map (λ text. text.now) texts.now) }
+{
+    let mut copies = Vec::new(alloc);
+    for text in texts {
+        copies.push(String::from_str(alloc, text)?)?;
+    }
+    Ok(copies)
+}
