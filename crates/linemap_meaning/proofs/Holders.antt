@@ -27,12 +27,12 @@ none_held a r (s ∷ ss) apart h =
     or_from (holds a s) (any_holds a ss) (not_both a r s p.0 h) (none_held a r ss p.1 h)
 
 -- the second of two lists that don't overlap
-rest_apart : (rs ss : List RangePart) → any_overlap (rs ++ ss) ≡ false → any_overlap ss ≡ false
+pub rest_apart : (rs ss : List RangePart) → any_overlap (rs ++ ss) ≡ false → any_overlap ss ≡ false
 rest_apart [] ss h = h
 rest_apart (r ∷ rs) ss h = rest_apart rs ss (or_parts (list_any (overlap r) (rs ++ ss)) (any_overlap (rs ++ ss)) h).1
 
 -- where the first holds an address, the second doesn't
-not_in_rest : (a : ℕ) (rs ss : List RangePart) → any_overlap (rs ++ ss) ≡ false → any_holds a rs ≡ true → any_holds a ss ≡ false
+pub not_in_rest : (a : ℕ) (rs ss : List RangePart) → any_overlap (rs ++ ss) ≡ false → any_holds a rs ≡ true → any_holds a ss ≡ false
 not_in_rest a [] ss h k = cc
 not_in_rest a (r ∷ rs) ss h k =
     let p = or_parts (list_any (overlap r) (rs ++ ss)) (any_overlap (rs ++ ss)) h in

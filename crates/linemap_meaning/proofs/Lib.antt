@@ -1,7 +1,13 @@
+pub mod Chains
+pub mod Files
+pub mod Frames
 pub mod Hexadecimal
 pub mod Holders
+pub mod Orders
 pub mod Ranges
 pub mod Sound
+pub mod Stretches
+pub mod TableStretches
 pub mod Texts
 pub mod ViewLemmas
 mod Worked

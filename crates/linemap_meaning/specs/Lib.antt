@@ -1,8 +1,11 @@
 pub mod Answers
+pub mod ChainLaws
 pub mod Conditions
 pub mod FileText
+pub mod FrameLaws
 pub mod Laws
 pub mod Meaning
 pub mod Parts
+pub mod StretchLaws
 pub mod Views
 pub mod Weight
