@@ -1,5 +1,6 @@
 pub mod Chains
 pub mod Files
+pub mod Fits
 pub mod Frames
 pub mod Hexadecimal
 pub mod Holders

@@ -1,10 +1,11 @@
 -- Worked values: what the definitions say of small tables, by computation.
-use Rattle.std.proofs.Common.{◌≡◌, ℕ, ◌-◌, ◌^◌, List, [], ◌∷◌, ◌++◌, Option, Some, None, refl, codes}
+use Rattle.std.proofs.Common.{◌≡◌, ℕ, ◌-◌, ◌^◌, List, [], ◌∷◌, ◌++◌, Option, Some, None, refl, codes, true, false}
 use Rattle.std.specs.Fmt.{digits}
 use Rattle.linemap_meaning.specs.Parts.{RangePart, RowPart, Calls, no_calls, more_calls, FunctionPart, UnitPart}
 use Rattle.linemap_meaning.specs.FileText.{join}
 use Rattle.linemap_meaning.specs.Conditions.{first_broken}
 use Rattle.linemap_meaning.specs.Weight.{table_weight}
+use Rattle.linemap_meaning.specs.Targets.{fits, is_target}
 use Rattle.linemap_meaning.specs.Meaning.{Location, Frame, Stretch, location_at, frames_at, stretches_between}
 use Rattle.linemap_meaning.specs.Answers.{word_address, place_text, ask_text}
 use Rattle.linemap_meaning.specs.declared.rule.Rule.TheVariants.{CallOutside, Rows}
@@ -88,6 +89,23 @@ plain_weight = refl
 
 no_units_weight : table_weight [] ≡ 8192
 no_units_weight = refl
+
+-- ---- which encodings they fit
+
+abbrev high_unit : ℕ → List UnitPart
+high_unit end = unit_of (range 0x1000 end) (codes "src") (codes "a.c") [] (row 0x1000 1 1 ∷ []) 0x1010 ∷ []
+
+below_the_tombstone : fits 4 (high_unit 0xffff_fffd) ≡ true
+below_the_tombstone = refl
+
+at_the_tombstone : fits 4 (high_unit 0xffff_fffe) ≡ false
+at_the_tombstone = refl
+
+no_units_fit : fits 4 [] ≡ true
+no_units_fit = refl
+
+targets : (is_target 2 false 4 ≡ true) × (is_target 2 true 4 ≡ false) × (is_target 5 true 8 ≡ true) × (is_target 4 false 2 ≡ false) × (is_target 6 false 8 ≡ false)
+targets = (refl, refl, refl, refl, refl)
 
 -- ---- locations
 

@@ -7,5 +7,6 @@ pub mod Laws
 pub mod Meaning
 pub mod Parts
 pub mod StretchLaws
+pub mod Targets
 pub mod Views
 pub mod Weight

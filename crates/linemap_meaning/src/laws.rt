@@ -3,6 +3,7 @@
 
 ghost use Rattle.linemap_meaning.specs.ChainLaws.{ChainGoesDown, OneWayDown};
 ghost use Rattle.linemap_meaning.specs.FrameLaws.{FileThere, FirstFrame, FramesAtCalls, FramesInOrder, NoFrame, RowThere};
+ghost use Rattle.linemap_meaning.specs.Targets.{SoundFits8};
 ghost use Rattle.linemap_meaning.specs.StretchLaws.{OrderKeepsAll, StretchesAnswer, StretchesAscend};
 ghost use Rattle.linemap_meaning.specs.Laws.{FollowingApart, NeighboursSuffice, OneFunction, OneSequence, OneUnit, RootSwallows};
 
@@ -89,4 +90,9 @@ pub fn stretches_ascend()
 /// Putting stretches in order keeps each of them, as often as it was there.
 pub fn order_keeps_all()
     ensures { OrderKeepsAll }
+{}
+
+/// A sound table fits every encoding with addresses of 8 bytes.
+pub fn sound_fits_8()
+    ensures { SoundFits8 }
 {}
