@@ -1,0 +1,3 @@
+pub mod NumberSizes
+pub mod Views
+pub mod Texts

@@ -1,0 +1,100 @@
+//! A reader of owned bytes that are shared.
+
+ghost use Rattle.std.specs.Prelude.{◌≡◌, ◌+◌, ◌<◌, ◌≤◌, ◌^◌, Bool, false, length, IsOk, IsTrue};
+ghost use Rattle.gimli_core_base.specs.View.{View};
+ghost use Rattle.gimli_core_base.specs.Calls.{Gives};
+
+use crate::reader::Reader;
+use bytes::Bytes;
+use gimli_core_base::constants::ReaderOffsetId;
+use gimli_core_base::error::Error;
+use gimli_core_numbers::Endianity;
+use std::marker::Model;
+
+/// Shared bytes in an order, read from the front. A copy shares the bytes, and takes a little memory.
+#[derive(Debug, Drop)]
+pub struct EndianBytes<E: Endianity> {
+    bytes: Bytes,
+    endian: E,
+    first: u64,
+}
+
+impl<E: Endianity> Model for EndianBytes<E> {
+    ghost use Rattle.std.specs.Prelude.{◌+◌, ◌<◌, ◌^◌, length};
+    ghost use Rattle.gimli_core_base.specs.View.{View};
+
+    ghost Value = { View };
+
+    ghost view = { λ a. record { bytes = a.bytes; is_big = E.is_big a.endian; first = a.first } };
+
+    ghost invariant = { λ a. a.first + length a.bytes < 2 ^ 64 };
+}
+
+impl<E: Endianity> EndianBytes<E> {
+    /// The first byte's identifier is 0.
+    pub fn new(bytes: Bytes, endian: E) -> Self
+        ensures { result ≡ record { bytes = bytes; is_big = E.is_big endian; first = 0 } }
+    {
+        let _count = bytes.len();
+        EndianBytes {
+            bytes,
+            endian,
+            first: 0,
+        }
+    }
+
+    pub fn with_first_id(bytes: Bytes, endian: E, first: ReaderOffsetId) -> Self
+        requires { first.0 + length bytes < 2 ^ 64 }
+        ensures { result ≡ record { bytes = bytes; is_big = E.is_big endian; first = first.0 } }
+    {
+        EndianBytes {
+            bytes,
+            endian,
+            first: first.0,
+        }
+    }
+}
+
+impl<E: Endianity> Reader for EndianBytes<E> {
+    type Endian = E;
+
+    type Offset = usize;
+
+    ghost view = { λ v. v };
+
+    ghost copies_freely = { false };
+
+    fn endian(&self) -> E {
+        self.endian
+    }
+
+    fn as_bytes(&self) -> &[u8] {
+        let _count = self.bytes.len();
+        self.bytes.as_slice()
+    }
+
+    fn offset_id(&self) -> ReaderOffsetId {
+        ReaderOffsetId(self.first)
+    }
+
+    fn advance(&mut self, count: usize) {
+        self.bytes.advance(count);
+        self.first += count as u64;
+    }
+
+    fn truncate(&mut self, len: usize) -> Result<(), Error> {
+        if self.bytes.len() < len {
+            return Err(Error::UnexpectedEof(self.offset_id()));
+        }
+        self.bytes.truncate(len);
+        Ok(())
+    }
+
+    fn copy(&self) -> Result<Self, Error> {
+        Ok(EndianBytes {
+            bytes: self.bytes.clone()?,
+            endian: self.endian,
+            first: self.first,
+        })
+    }
+}
