@@ -1,5 +1,5 @@
 -- The numbers of bytes by their places: what std makes of arrays, and zeros around the bytes.
-use Rattle.std.proofs.Common.{◌≡◌, ℕ, zero, suc, ◌+◌, ◌-◌, ◌*◌, ◌^◌, ◌<◌, ◌≤◌, List, [], ◌∷◌, ◌++◌, length, take, drop, replicate, refl, ap, ◌∙◌, arith}
+use Rattle.std.proofs.Common.{◌≡◌, ℕ, zero, suc, ◌-◌, ◌≤◌, List, [], ◌∷◌, ◌++◌, length, drop, replicate, refl, ap, ◌∙◌, arith}
 use Rattle.std.proofs.lemmas.List.{append-nil, length-append, drop-replicate, drop_all, length-replicate, take-replicate}
 use Rattle.std.specs.Int.{w64, from_be_bytes, from_le_bytes}
 use borrow.Rule.Slice.PartMut.{put_mid}

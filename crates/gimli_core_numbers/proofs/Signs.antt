@@ -1,15 +1,14 @@
 -- The sign of a LEB128 string.
-use Rattle.std.proofs.Common.{◌≡◌, ℕ, zero, suc, ◌+◌, ◌-◌, ◌*◌, ◌^◌, ◌<◌, ◌≤◌, ◌%◌, Bool, true, false, cond, ltb, leb, List, [], ◌∷◌, ◌++◌, length, get_or, take, drop, Result, Ok, Err, refl, sym, ap, subst, ◌∙◌, arith, inl, inr}
-use Rattle.std.specs.Prelude.{◌≢◌, ℤ, pos, negsuc, ◌+ℤ◌, ◌-ℤ◌, FitsSigned}
+use Rattle.std.proofs.Common.{◌≡◌, ℕ, zero, suc, ◌+◌, ◌-◌, ◌*◌, ◌^◌, ◌<◌, ◌≤◌, ◌%◌, true, false, leb, List, [], ◌∷◌, ◌++◌, length, get_or, take, drop, Ok, Err, refl, sym, ap, subst, ◌∙◌, arith, inl, inr}
+use Rattle.std.specs.Prelude.{◌≢◌, ℤ, pos, negsuc, ◌-ℤ◌, FitsSigned}
 use mir.Val.{to_z}
 use Rattle.std.specs.Int.{w64}
 use Rattle.std.proofs.lemmas.Bool.{cases_lt, le-ltb, lt-ltb, le-leb, lt-leb}
 use Rattle.std.proofs.lemmas.Int.{ints, to_z_pos}
 use Rattle.std.proofs.lemmas.List.{length-take-le, length-append}
 use Rattle.std.proofs.Math.Nat.{pow-succ', pow-le-pow_right, mul-le-mul_right}
-use Rattle.gimli_core_numbers.specs.declared.leb128.Fault.{Fault}
-use Rattle.gimli_core_numbers.specs.declared.leb128.Fault.TheVariants.{Cut, Bad}
-use Rattle.gimli_core_numbers.specs.Leb128.{digits_from, unsigned_number, is_negative, signed_number, fits_i64, judged, signed_of, signed_at}
+use Rattle.gimli_core_numbers.specs.declared.leb128.Fault.TheVariants.{Bad}
+use Rattle.gimli_core_numbers.specs.Leb128.{unsigned_number, is_negative, signed_number, fits_i64, judged, signed_at}
 use Rattle.gimli_core_numbers.proofs.Strings.{pow128, unsigned_number-push, unsigned_number-below, take_at_place, drop_at_place, next_power, NextDigit, judged_from, judged_from-long, judged_from-end}
 
 pub is_negative-push : (front : List ℕ) (b : ℕ) → is_negative (front ++ b ∷ []) ≡ leb 64 (b % 128)

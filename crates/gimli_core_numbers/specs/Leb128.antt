@@ -1,6 +1,6 @@
 -- LEB128 (DWARF 5, 7.6): bytes from 128 on, and a last one below 128. The low seven bits of each byte are a digit to the
 -- base 128, the lowest digit first.
-use Rattle.std.specs.Prelude.{ℕ, ℤ, pos, negsuc, zero, suc, ◌+◌, ◌-◌, ◌*◌, ◌^◌, ◌/◌, ◌%◌, ◌-ℤ◌, nat_lt, nat_le, Bool, true, false, List, [], ◌∷◌, length, take, Option, Some, None, option_map, Result, Ok, Err, if◌then◌else◌}
+use Rattle.std.specs.Prelude.{ℕ, ℤ, pos, negsuc, ◌+◌, ◌*◌, ◌^◌, ◌%◌, ◌-ℤ◌, nat_lt, nat_le, Bool, false, List, [], ◌∷◌, length, take, Option, Some, None, option_map, Result, Ok, Err, if◌then◌else◌}
 use Rattle.std.specs.Option.{ok_or}
 use Rattle.gimli_core_numbers.specs.declared.leb128.Fault.{Fault}
 use Rattle.gimli_core_numbers.specs.declared.leb128.Fault.TheVariants.{Cut, Bad}

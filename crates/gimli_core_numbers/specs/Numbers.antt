@@ -1,6 +1,6 @@
 -- Numbers, read from a view: a value and what is left behind it, or the first fault.
 use Rattle.std.specs.Prelude.{ℕ, ℤ, ◌+◌, ◌^◌, ◌==◌, ◌||◌, nat_lt, Bool, List, length, take, Option, Some, None, Result, Ok, Err, if◌then◌else◌}
-use Rattle.std.specs.Int.{Width, w8, w16, w32, w64, byte_len, cast_signed}
+use Rattle.std.specs.Int.{Width, byte_len, cast_signed}
 use Rattle.gimli_core_base.specs.declared.error.Error.{Error}
 use Rattle.gimli_core_base.specs.declared.error.Error.TheVariants.{UnexpectedEof, BadUnsignedLeb128, BadSignedLeb128, UnknownReservedLength, UnsupportedOffset, UnsupportedAddressSize}
 use Rattle.gimli_core_base.specs.View.{View, after, ends}

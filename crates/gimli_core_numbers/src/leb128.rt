@@ -3,6 +3,10 @@
 ghost use Rattle.std.specs.Prelude.{◌≡◌, ◌^◌, ◌*◌, ◌<◌, ◌≤◌, ◌-ℤ◌, pos, length, option_map};
 ghost use Rattle.gimli_core_numbers.specs.Leb128.{string_at, unsigned_at, signed_at};
 
+mod writer;
+
+pub use writer::Leb128;
+
 /// Why the bytes at the front are no number.
 #[derive(Clone, Copy, Debug, PartialEq, Eq)]
 pub enum Fault {

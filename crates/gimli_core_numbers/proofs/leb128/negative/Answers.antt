@@ -1,4 +1,4 @@
-use Rattle.std.proofs.Common.{◌≤◌, ◌^◌, arith}
+use Rattle.std.proofs.Common.{arith}
 use Rattle.std.proofs.lemmas.Int.{ints}
 use Rattle.gimli_core_numbers.proofs.Signs.{half_is, nine_sevens}
 use Rattle.gimli_core_numbers.proofs.leb128.negative.Goals as goal

@@ -1,9 +1,8 @@
-use Rattle.std.proofs.Common.{rules, ◌≢◌, ◌≡◌, ℕ, ◌+◌, ◌≤◌, ◌<◌, ◌*◌, ◌^◌, ◌%◌, arith, List, take, drop, length, get_or, Result, ap, subst, sym, ◌∙◌, refl}
+use Rattle.std.proofs.Common.{rules, ◌≢◌, ℕ, arith, get_or, ap, subst, sym, ◌∙◌}
 use Rattle.std.proofs.lemmas.Int.{ints}
-use Rattle.std.proofs.lemmas.List.{length-take-le}
-use Rattle.gimli_core_numbers.specs.Leb128.{judged, unsigned_number}
-use Rattle.gimli_core_numbers.proofs.Strings.{next_digit, judged_from-more, judged_from-end, unsigned_number-below}
-use Rattle.gimli_core_numbers.proofs.Signs.{Tenth, tenth_negative, tenth_refused, positive_ends, negative_ends, bit_6, tenth}
+use Rattle.gimli_core_numbers.specs.Leb128.{judged}
+use Rattle.gimli_core_numbers.proofs.Strings.{next_digit, judged_from-more, judged_from-end}
+use Rattle.gimli_core_numbers.proofs.Signs.{tenth_negative, tenth_refused, positive_ends, negative_ends, bit_6, tenth}
 use Rattle.gimli_core_numbers.proofs.leb128.signed.Goals as goal
 
 pub returns-in-127 : goal.returns-in-127

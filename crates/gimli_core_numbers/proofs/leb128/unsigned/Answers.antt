@@ -1,4 +1,4 @@
-use Rattle.std.proofs.Common.{arith, ◌≤◌, get_or, Result, List, ℕ}
+use Rattle.std.proofs.Common.{arith}
 use Rattle.gimli_core_numbers.specs.Leb128.{judged}
 use Rattle.gimli_core_numbers.proofs.Strings.{next_digit, judged_from-more, judged_from-end, unsigned_ends}
 use Rattle.gimli_core_numbers.proofs.leb128.unsigned.Goals as goal

@@ -1,7 +1,4 @@
-use Rattle.std.proofs.Common.{◌≡◌, ◌∙◌, sym, ap, length, ◌-◌, ◌++◌, drop, replicate, Bool, true, false}
-use Rattle.std.specs.Int.{w64, from_be_bytes, from_le_bytes}
-use borrow.Rule.Slice.PartMut.{put_mid}
-use Rattle.gimli_core_numbers.specs.Fixed.{number}
+use Rattle.std.proofs.Common.{◌≡◌, ◌∙◌, sym, true, false}
 use Rattle.gimli_core_numbers.proofs.Places.{big-at_end, little-at_start}
 use Rattle.gimli_core_numbers.proofs.order.Endianity.read_uint.Goals as goal
 
