@@ -1,5 +1,5 @@
 -- A stable sort by address puts stretches in the order of the definition.
-use Rattle.std.proofs.Common.{◌≡◌, ℕ, suc, ◌<◌, ◌≤◌, Bool, true, false, not, cond, List, [], ◌∷◌, length, get_or, Option, None, map, filter, refl, ap, sym, ◌∙◌, inl, inr, subst, arith, rules, tests, nat_le}
+use Rattle.std.proofs.Common.{◌≡◌, ℕ, suc, ◌<◌, ◌≤◌, Bool, true, false, not, cond, List, [], ◌∷◌, length, get_or, None, map, filter, refl, ap, sym, ◌∙◌, inl, inr, subst, arith, rules, tests}
 use Rattle.std.specs.Prelude.{◌&&◌}
 use Rattle.std.specs.Ordering.{nat_cmp, is_lt}
 use Rattle.std.specs.List.Sorted.{IsNonDecreasingBy, IsStableByKey}

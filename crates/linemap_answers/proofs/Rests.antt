@@ -2,12 +2,10 @@
 use Rattle.std.proofs.Common.{◌≡◌, ℕ, ◌<◌, ◌≤◌, ◌+◌, Bool, true, false, cond, List, [], ◌∷◌, ◌++◌, length, get_or, drop, map, filter, flat_map, refl, ap, sym, ◌∙◌, append_assoc, append-nil, nat_lt, ◌-◌}
 use Rattle.std.proofs.lemmas.List.Elements.{filter-append}
 use Rattle.std.proofs.lemmas.List.{at_drop_more, at_drop_all}
-use Rattle.linemap_meaning.specs.Parts.{RowPart, SequencePart, UnitPart}
-use Rattle.linemap_meaning.specs.Views.{row_part, sequence_part, unit_part}
+use Rattle.linemap_meaning.specs.Parts.{RowPart, UnitPart}
+use Rattle.linemap_meaning.specs.Views.{row_part}
 use Rattle.linemap_meaning.specs.Meaning.{Stretch, next_address, row_stretches, row_location, is_between}
 use Rattle.linemap_meaning.specs.declared.table.TableRow.{TableRow}
-use Rattle.linemap_meaning.specs.declared.table.TableSequence.{TableSequence}
-use Rattle.linemap_meaning.specs.declared.table.TableUnit.{TableUnit}
 
 -- the stretches between two ends of rows up to an end
 abbrev pub of_rows : ℕ → ℕ → UnitPart → ℕ → List TableRow → List Stretch

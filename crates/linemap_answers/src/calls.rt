@@ -47,7 +47,8 @@ fn push_frames(
     }
 }
 
-/// The frames of the address, innermost call first, each at the call site of the one inside it.
+/// The frames of the address, innermost call first: this one at the place of the address, each further one at the call
+/// site of the one before it.
 pub fn frames(
     alloc: Global,
     units: &[TableUnit],

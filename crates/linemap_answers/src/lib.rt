@@ -15,3 +15,6 @@ pub use lines::{location_line, word_line};
 pub use path::{file_text, join};
 pub use places::location;
 pub use stretches::rows;
+
+#[cfg(test)]
+mod tests;
