@@ -1,3 +1,4 @@
-pub mod NumberSizes
+pub mod Strings
 pub mod Views
 pub mod Texts
+pub mod Same

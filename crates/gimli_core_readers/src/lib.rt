@@ -1,6 +1,7 @@
 //! Readers: numbers, texts and parts of a section's bytes, read one after the other.
 #![tactic(auto)]
 
+pub mod laws;
 pub mod leb128;
 pub mod reader;
 pub mod shared;

@@ -129,11 +129,10 @@ pub trait Reader: Drop {
         ensures value { Takes view result (view self.old) (view self.new) (part (Self.Offset.count len) (view self.old)) }
         ensures free { IsTrue copies_freely → result ≢ Err Memory }
     {
-        let count = len.into_u64();
-        need(self, count)?;
+        need(self, len.into_u64())?;
         let mut next = self.copy()?;
         next.truncate(len)?;
-        self.advance(count as usize);
+        self.skip(len)?;
         Ok(next)
     }
 

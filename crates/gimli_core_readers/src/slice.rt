@@ -203,10 +203,7 @@ impl<'a, E: Endianity> Reader for EndianSlice<'a, E> {
     }
 
     /// Takes no memory.
-    fn copy(&self) -> Result<Self, Error>
-        ensures value { Gives (λ v. v) result (Ok self.now) }
-        ensures free { IsTrue true → IsOk result }
-    {
+    fn copy(&self) -> Result<Self, Error> {
         Ok(EndianSlice {
             slice: self.slice,
             endian: self.endian,
