@@ -1,0 +1,4 @@
+pub mod Places
+pub mod Iterators
+pub mod AddressSets
+pub mod Bases

@@ -1,0 +1,27 @@
+ghost use Rattle.std.specs.Prelude.{◌≡◌};
+ghost use Rattle.gimli_core_base.specs.Calls.{Answers};
+ghost use Rattle.gimli_core_strings.specs.Places.{to_place};
+
+use gimli_core_base::error::Error;
+use gimli_core_numbers::ReaderOffset;
+use gimli_core_readers::{EndianSlice, Reader};
+
+/// The bytes of a section from the place of an index on: the base plus the index times the width. Takes no memory.
+pub(crate) fn behind_place<'a, R: Reader>(
+    section: &'a R,
+    base: R::Offset,
+    index: R::Offset,
+    width: u8,
+) -> Result<EndianSlice<'a, R::Endian>, Error>
+    ensures { Answers (λ left. (tt, left)) result (to_place (R.Offset.count base) (R.Offset.count index) width (R.view section.now)) }
+{
+    let place = index
+        .into_u64()
+        .checked_mul(u64::from(width))
+        .and_then(|distance| distance.checked_add(base.into_u64()))
+        .ok_or(Error::OffsetSumOverflow)?;
+    let bytes = section.as_bytes();
+    let mut input = EndianSlice::with_first_id(bytes, section.endian(), section.offset_id());
+    input.skip(place as usize)?;
+    Ok(input)
+}

@@ -1,0 +1,60 @@
+ghost use Rattle.std.specs.Prelude.{◌≡◌, option_map, IfSome, MatchResult, Ok, Err, Result};
+ghost use Rattle.gimli_core_base.specs.View.{View, place_of};
+ghost use Rattle.gimli_core_constants.specs.declared.common.SectionId.{SectionId};
+ghost use Rattle.gimli_core_constants.specs.Sections.{name_of, dwo_name_of};
+
+use gimli_core_base::constants::ReaderOffsetId;
+use gimli_core_constants::SectionId;
+use gimli_core_readers::Reader;
+
+/// A section of debugging information over a reader.
+pub trait Section<R: Reader>: From<R> {
+    /// Which section it is.
+    ghost section_id: { SectionId };
+
+    /// What is seen of the section: its reader's view.
+    ghost seen: { Self → View };
+
+    fn id() -> SectionId
+        ensures { result ≡ section_id };
+
+    /// The reader that holds the section.
+    fn reader(&self) -> &R
+        ensures { R.view result.now ≡ seen self.now };
+
+    /// The section's name in an ELF file.
+    final fn section_name() -> &'static str
+        ensures { result.now ≡ name_of section_id }
+    {
+        Self::id().name()
+    }
+
+    /// The section's name in a split file, for those that may stand in one.
+    final fn dwo_section_name() -> Option<&'static str>
+        ensures { option_map (λ name. name.now) result ≡ dwo_name_of section_id }
+    {
+        Self::id().dwo_name()
+    }
+
+    /// The section over the reader that a loader gives for it, or the loader's refusal.
+    final fn load<F: FnOnce(SectionId) -> Result<R, E>, E>(f: F) -> Result<Self, E>
+        requires { F.pre f section_id }
+        ensures { (loaded : Result R E) × F.post f section_id loaded
+            × MatchResult result (λ section. (reader : R) × (loaded ≡ Ok reader) × (seen section ≡ R.view reader)) (λ e. loaded ≡ Err e) }
+    {
+        Ok(Self::from(f(Self::id())?))
+    }
+
+    /// The section and the offset in it of the place that an identifier names, the end included.
+    final fn lookup_offset_id(&self, id: ReaderOffsetId) -> Option<(SectionId, R::Offset)>
+        ensures section { IfSome result (λ found. found.0 ≡ section_id) }
+        ensures offset { option_map (λ found. R.Offset.count found.1) result ≡ place_of id.0 (seen self.now) }
+    {
+        self.reader()
+            .lookup_offset_id(id)
+            .map(|offset| (Self::id(), offset))
+    }
+
+    /// A section that is made of a reader is seen as the reader.
+    ghost from_reader: { (reader : R) (section : Self) → Self.from_gives reader section → seen section ≡ R.view reader };
+}
