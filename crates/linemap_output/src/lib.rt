@@ -7,5 +7,5 @@ mod error_line;
 mod writing;
 
 pub use ended::Ended;
-pub use error_line::write_error_line;
+pub use error_line::{fail, write_error_line};
 pub use writing::{MAX_INTERRUPTIONS, WriteFault, flush, write_bytes, write_text};
