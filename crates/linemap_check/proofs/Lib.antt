@@ -1,0 +1,5 @@
+mod CallLemmas
+mod Lists
+mod OverlapLemmas
+mod RuleLemmas
+mod SaturationLemmas

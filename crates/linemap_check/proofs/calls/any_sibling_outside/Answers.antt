@@ -1,0 +1,5 @@
+use Rattle.linemap_check.proofs.CallLemmas.{sibling_ranges_calls}
+use Rattle.linemap_check.proofs.calls.any_sibling_outside.Goals as goal
+
+pub returns : goal.returns
+returns c = rw sibling_ranges_calls c.any_outside.ensures

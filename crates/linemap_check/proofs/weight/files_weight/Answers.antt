@@ -1,0 +1,7 @@
+use Rattle.linemap_meaning.specs.Views.{file_part}
+use Rattle.linemap_meaning.specs.Weight.{file_weight}
+use Rattle.linemap_check.proofs.SaturationLemmas.{sum_by_map}
+use Rattle.linemap_check.proofs.weight.files_weight.Goals as goal
+
+pub returns : goal.returns
+returns c = rw (sum_by_map file_weight file_part c.args.files.now) c.total.ensures

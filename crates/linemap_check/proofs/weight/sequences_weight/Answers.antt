@@ -1,0 +1,7 @@
+use Rattle.linemap_meaning.specs.Views.{sequence_part}
+use Rattle.linemap_meaning.specs.Weight.{sequence_weight}
+use Rattle.linemap_check.proofs.SaturationLemmas.{sum_by_map}
+use Rattle.linemap_check.proofs.weight.sequences_weight.Goals as goal
+
+pub returns : goal.returns
+returns c = rw (sum_by_map sequence_weight sequence_part c.args.sequences.now) c.total.ensures

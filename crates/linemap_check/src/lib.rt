@@ -1,0 +1,14 @@
+//! Whether the units of a table break a rule, and which is the lowest, and how large their image may grow. Nothing here takes memory.
+#![tactic(auto)]
+
+mod calls;
+mod functions;
+mod outside;
+mod overlaps;
+mod ranges;
+pub mod rules;
+mod sequences;
+mod spanned;
+mod texts;
+mod units;
+pub mod weight;

@@ -1,0 +1,3 @@
+mod JsonLemmas
+mod ShapeLemmas
+mod EachLemmas

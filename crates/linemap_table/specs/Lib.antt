@@ -1,0 +1,5 @@
+pub mod Answer
+pub mod Fault
+pub mod Refusals
+pub mod Shape
+pub mod Units

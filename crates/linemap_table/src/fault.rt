@@ -1,0 +1,20 @@
+//! Why a part of a table could not be taken out of a JSON value.
+
+use std::alloc::AllocError;
+
+#[derive(Clone, Copy, PartialEq, Eq, Debug)]
+pub enum Fault {
+    Memory,
+    Shape,
+}
+
+impl From<AllocError> for Fault {
+    ghost use Rattle.std.specs.Prelude.{◌≡◌};
+    ghost use Rattle.linemap_table.specs.declared.fault.Fault.TheVariants.{Memory};
+
+    ghost from_gives = { λ e r. r ≡ Memory };
+
+    fn from(_error: AllocError) -> Fault {
+        Fault::Memory
+    }
+}

@@ -1,0 +1,82 @@
+//! Tables of line information: read from JSON, or checked from units, by one list of rules.
+#![tactic(auto)]
+
+ghost use Rattle.std.specs.Prelude.{◌≡◌, ◌≢◌, IfErr, IfOk, None, Some, map};
+ghost use Rattle.linemap_meaning.specs.Conditions.{IsSound};
+ghost use Rattle.linemap_meaning.specs.Views.{unit_part};
+ghost use Rattle.linemap_table.specs.Answer.{json_in};
+ghost use Rattle.linemap_table.specs.declared.error.TableError.TheVariants.{Json, Memory};
+ghost use Rattle.serde_json.specs.View.{view};
+
+mod calls;
+mod element;
+pub mod error;
+mod fault;
+mod fields;
+
+use crate::element::units_of;
+use crate::error::TableError;
+use linemap_check::rules::first_broken;
+use linemap_check::weight::weight;
+use linemap_meaning::table::TableUnit;
+use serde_json::Value;
+use std::alloc::Global;
+
+/// The units of a table that breaks no rule. Only `read` and `check` make one.
+#[derive(Debug, PartialEq, Drop)]
+pub struct Table {
+    units: Vec<TableUnit>,
+    pub ghost sound: { IsSound (map unit_part units.items) },
+}
+
+impl Table {
+    ghost use Rattle.std.specs.Prelude.{◌-◌, ◌^◌, min};
+    ghost use Rattle.linemap_meaning.specs.Weight.{table_weight};
+    ghost use Rattle.linemap_table.specs.Answer.{checked, table_in};
+    ghost use Rattle.linemap_table.specs.Units.{Answers, AnswersOrMemory, units_of};
+
+    /// Reads a table from JSON text. It takes memory for the JSON value and for the units.
+    pub fn read(alloc: Global, text: &[u8]) -> Result<Table, TableError>
+        ensures { AnswersOrMemory result (table_in text.now) }
+    {
+        let value = parse(alloc, text)?;
+        let units = units_of(alloc, &value)?;
+        Table::check(units)
+    }
+
+    /// Checks units, which a refusal drops. It takes no memory.
+    pub fn check(units: Vec<TableUnit>) -> Result<Table, TableError>
+        ensures { Answers result (checked (map unit_part units.items)) }
+    {
+        match first_broken(&units) {
+            Some(rule) => Err(TableError::from(rule)),
+            None => Ok(Table { units }),
+        }
+    }
+
+    pub fn units(&self) -> &[TableUnit]
+        ensures value { map unit_part result.now ≡ units_of self.now }
+        ensures sound { IsSound (units_of self.now) }
+    {
+        &self.units
+    }
+
+    /// How large the table's image may grow, as far as a `u64` goes.
+    pub fn weight(&self) -> u64
+        ensures { result ≡ min (table_weight (units_of self.now)) (2 ^ 64 - 1) }
+    {
+        weight(&self.units)
+    }
+}
+
+/// The JSON value of a text.
+fn parse(alloc: Global, text: &[u8]) -> Result<Value, TableError>
+    ensures value { IfOk result (λ v. json_in text.now ≡ Some (view v)) }
+    ensures refused { IfErr result (λ e. e ≢ Memory → (e ≡ Json) × (json_in text.now ≡ None)) }
+{
+    match Value::from_slice(alloc, text) {
+        Ok(value) => Ok(value),
+        Err(error) if error.is_memory() => Err(TableError::Memory),
+        Err(_) => Err(TableError::Json),
+    }
+}
