@@ -15,7 +15,7 @@ mod fault;
 mod fields;
 
 use crate::element::units_of;
-use crate::error::TableError;
+pub use crate::error::TableError;
 use linemap_check::rules::first_broken;
 use linemap_check::weight::weight;
 use linemap_meaning::table::TableUnit;
@@ -44,7 +44,8 @@ impl Table {
         Table::check(units)
     }
 
-    /// Checks units, which a refusal drops. It takes no memory.
+    /// Checks units, which a refusal drops. It takes no memory, and one pass for each rule where the ranges of units, of a unit's functions and
+    /// sequences, and of calls side by side stand in ascending order; else it may try each pair of them.
     pub fn check(units: Vec<TableUnit>) -> Result<Table, TableError>
         ensures { Answers result (checked (map unit_part units.items)) }
     {
@@ -54,6 +55,7 @@ impl Table {
         }
     }
 
+    /// The units, in the order in which they were read or given.
     pub fn units(&self) -> &[TableUnit]
         ensures value { map unit_part result.now ≡ units_of self.now }
         ensures sound { IsSound (units_of self.now) }
@@ -80,3 +82,6 @@ fn parse(alloc: Global, text: &[u8]) -> Result<Value, TableError>
         Err(_) => Err(TableError::Json),
     }
 }
+
+#[cfg(test)]
+mod tests;
