@@ -1,1 +1,2 @@
 pub mod AddressSetLemmas
+pub mod MemoryLemmas

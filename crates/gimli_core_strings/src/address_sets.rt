@@ -47,6 +47,7 @@ impl<R: Reader> AddrHeaderIter<R> {
     pub fn next(&mut self) -> Result<Option<AddrHeader<R>>, Error>
         ensures value { TakesOrEnds (λ set. set) result self.old.left self.new.left (next_set R.Offset.limit self.old) }
         ensures section { self.new.section_length ≡ self.old.section_length }
+        ensures free { IsTrue R.copies_freely → result ≢ Err Memory }
         ensures order { ComesNext result (sets_to_come R.Offset.limit self.old) (sets_to_come R.Offset.limit self.new) }
     {
         if self.input.is_empty() {
@@ -127,8 +128,9 @@ fn parse_header<R: Reader>(
     input: &mut R,
     offset: DebugAddrOffset<R::Offset>,
 ) -> Result<AddrHeader<R>, Error>
-    ensures { Gives (λ header. (header, R.view input.new)) result
+    ensures value { Gives (λ header. (header, R.view input.new)) result
         (address_set R.Offset.limit (R.Offset.count offset.0) (R.view input.old)) }
+    ensures free { IsTrue R.copies_freely → result ≢ Err Memory }
 {
     let (length, format) = input.read_initial_length()?;
     let mut entries = input.split(length)?;

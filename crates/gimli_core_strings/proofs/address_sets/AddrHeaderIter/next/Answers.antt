@@ -5,7 +5,7 @@ use Rattle.gimli_core_strings.proofs.address_sets.AddrHeaderIter.next.Goals as g
 
 pub invariant_of-self : goal.invariant_of-self
 invariant_of-self g c =
-    set_leaves_within _ _ _ _ _ _ _ c.self.invariant c.in_ok-input.ensures.value c.in-Ok.ensures
+    set_leaves_within _ _ _ _ _ _ _ c.self.invariant c.in_ok-input.ensures.value c.in-Ok.ensures.value
 
 pub returns-then-is_empty-clause-order : goal.returns-then-is_empty-clause-order
 returns-then-is_empty-clause-order g c =
