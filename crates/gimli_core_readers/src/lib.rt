@@ -11,3 +11,6 @@ mod text;
 pub use reader::{Reader, read_u8_array};
 pub use shared::EndianBytes;
 pub use slice::EndianSlice;
+
+#[cfg(test)]
+mod tests;
