@@ -3,3 +3,4 @@ pub mod Sizes
 pub mod Listings
 pub mod Calls
 pub mod Times
+pub mod ReadAgain
