@@ -17,10 +17,12 @@ pub fn linemap_command<'a>(alloc: Global) -> Result<Command<'a>, AllocError>
     ensures { IfOk result (λ command. app_of command ≡ linemap_app) }
 {
     let ask = ask_command(alloc)?;
-    let command = Command::new(alloc, "linemap")
+    // Named alike wherever the executable stands.
+    let command = Command::new(alloc, "linemap").bin_name("linemap")?;
+    command
         .about("Answers which source line an address belongs to")
-        .subcommand_required(true);
-    command.subcommand(ask)
+        .subcommand_required(true)
+        .subcommand(ask)
 }
 
 // `ask TABLE ADDR..`: at least one address.

@@ -1,0 +1,72 @@
+//! Why an answer stopped, and how the program tells it.
+ghost use Rattle.std.specs.Prelude.{◌≡◌};
+
+use linemap_output::{Ended, WriteFault, fail};
+use linemap_table::error::TableError;
+use std::alloc::AllocError;
+use std::io::Write;
+
+/// Why an answer stopped before its end.
+#[derive(Clone, Copy, Debug, PartialEq, Eq)]
+pub enum Stop {
+    /// No memory was left.
+    Memory,
+    /// The text is no table.
+    Table(TableError),
+    /// The table is too heavy to be answered.
+    TooLarge,
+    /// The answers could not be written.
+    Output(WriteFault),
+}
+
+impl From<AllocError> for Stop {
+    ghost use Rattle.linemap.specs.declared.stop.Stop.TheVariants.{Memory};
+
+    ghost from_gives = { λ _ stop. stop ≡ Memory };
+
+    fn from(_error: AllocError) -> Stop {
+        Stop::Memory
+    }
+}
+
+impl From<WriteFault> for Stop {
+    ghost use Rattle.linemap.specs.declared.stop.Stop.TheVariants.{Output};
+
+    ghost from_gives = { λ fault stop. stop ≡ Output fault };
+
+    fn from(fault: WriteFault) -> Stop {
+        Stop::Output(fault)
+    }
+}
+
+impl From<TableError> for Stop {
+    ghost use Rattle.linemap.specs.Ask.{table_stop};
+
+    ghost from_gives = { λ error stop. stop ≡ table_stop error };
+
+    fn from(error: TableError) -> Stop {
+        match error {
+            TableError::Memory => Stop::Memory,
+            _ => Stop::Table(error),
+        }
+    }
+}
+
+impl Stop {
+    ghost use Rattle.linemap.specs.Ask.{Tells};
+
+    /// Writes the error line, where there is one. A fault of the error stream is noted and else passed over.
+    pub fn tell<W: Write>(self, err: &mut W) -> Ended
+        ensures { Tells self (W.contents err.old) (W.contents err.new) result }
+    {
+        match self {
+            Stop::Memory => fail(err, "out of memory", "").with_memory_refused(),
+            Stop::Table(error) => fail(err, "table refused: ", error.code()),
+            Stop::TooLarge => fail(err, "emit refused: ", "M2"),
+            Stop::Output(WriteFault::BrokenPipe) => Ended::with_status(0).with_write_fault(),
+            Stop::Output(WriteFault::Failed) => {
+                fail(err, "error flushing stdout", "").with_write_fault()
+            }
+        }
+    }
+}

@@ -1,0 +1,102 @@
+//! A writer in memory that can fail.
+use std::alloc::Global;
+use std::io;
+use std::io::{ErrorKind, Write};
+
+/// A writer that keeps what it takes, notes where it was flushed, and fails where it is told to.
+#[derive(Drop)]
+pub struct FakeWriter {
+    pub text: Vec<u8>,
+    /// How many bytes stood there at each flush.
+    pub flushed: Vec<usize>,
+    /// It takes so many bytes in all, and then fails.
+    pub room: usize,
+    /// It takes so many bytes in one write.
+    pub step: usize,
+    /// So many flushes succeed.
+    pub flushes: usize,
+    /// So many interruptions come before each call that goes through.
+    pub interruptions: u32,
+    pub interrupted: u32,
+    /// How it fails; without a kind a write takes nothing.
+    pub kind: Option<ErrorKind>,
+}
+
+impl FakeWriter {
+    /// A writer that takes all.
+    pub fn new(alloc: Global) -> FakeWriter {
+        FakeWriter {
+            text: Vec::new(alloc),
+            flushed: Vec::new(alloc),
+            room: usize::MAX,
+            step: usize::MAX,
+            flushes: usize::MAX,
+            interruptions: 0,
+            interrupted: 0,
+            kind: None,
+        }
+    }
+
+    /// A writer that fails so after so many bytes.
+    pub fn with_room(alloc: Global, room: usize, kind: Option<ErrorKind>) -> FakeWriter {
+        let mut writer = FakeWriter::new(alloc);
+        writer.room = room;
+        writer.kind = kind;
+        writer
+    }
+
+    /// A writer that fails so after so many flushes.
+    pub fn with_flushes(alloc: Global, flushes: usize, kind: ErrorKind) -> FakeWriter {
+        let mut writer = FakeWriter::new(alloc);
+        writer.flushes = flushes;
+        writer.kind = Some(kind);
+        writer
+    }
+
+    /// A writer that is interrupted so often before each call that goes through.
+    pub fn with_interruptions(alloc: Global, interruptions: u32) -> FakeWriter {
+        let mut writer = FakeWriter::new(alloc);
+        writer.interruptions = interruptions;
+        writer.step = 1;
+        writer
+    }
+
+    fn interrupts(&mut self) -> bool {
+        if self.interrupted < self.interruptions {
+            self.interrupted = self.interrupted.saturating_add(1);
+            return true;
+        }
+        self.interrupted = 0;
+        false
+    }
+}
+
+impl Write for FakeWriter {
+    fn write(&mut self, buf: &[u8]) -> io::Result<usize> {
+        if self.interrupts() {
+            return Err(ErrorKind::Interrupted.into());
+        }
+        let count = buf.len().min(self.step).min(self.room);
+        if count == 0 {
+            return match self.kind {
+                Some(kind) => Err(kind.into()),
+                None => Ok(0),
+            };
+        }
+        self.text.extend_from_slice(&buf[..count])?;
+        self.room -= count;
+        Ok(count)
+    }
+
+    fn flush(&mut self) -> io::Result<()> {
+        if self.interrupts() {
+            return Err(ErrorKind::Interrupted.into());
+        }
+        if self.flushes == 0 {
+            return Err(self.kind.unwrap_or(ErrorKind::Other).into());
+        }
+        self.flushes -= 1;
+        self.flushed.push(self.text.len())?;
+        Ok(())
+    }
+}
