@@ -1,0 +1,3 @@
+pub mod Takes
+pub mod Keeping
+pub mod Tables

@@ -1,0 +1,18 @@
+use Rattle.std.proofs.Common.{◌≡◌, List, Option, None}
+use Rattle.gimli_core_base.specs.View.{bytes_left}
+use Rattle.gimli_core_base.specs.Repetition.{prepend, listing_in}
+use Rattle.gimli_core_abbrev.specs.Declarations.{Declaration, by_code, repeated}
+use Rattle.gimli_core_abbrev.specs.Parsing.{declaration}
+use Rattle.gimli_core_abbrev.proofs.table.parse.Given as goal
+
+-- the declarations so far, with no code twice, and then those that are left
+abbrev pub invariant-loop-found : goal.invariant-loop-found
+invariant-loop-found g l =
+    let view = g.R.Reader.view in
+    (ds : List Declaration)
+    × (prepend ds (listing_in bytes_left declaration (view l.input)) ≡ listing_in bytes_left declaration (view l.fn.input))
+    × (l.found ≡ by_code ds)
+    × (repeated ds ≡ None)
+
+abbrev pub decreases-loop-found : goal.decreases-loop-found
+decreases-loop-found g l = bytes_left (g.R.Reader.view l.input)

@@ -1,0 +1,4 @@
+pub mod Declarations
+pub mod Parsing
+pub mod Seen
+pub mod Kept

@@ -1,0 +1,203 @@
+//! The declarations of an abbreviation table.
+
+ghost use Rattle.std.specs.Prelude.{◌≡◌, ◌==◌, map, option_map, is_some};
+ghost use Rattle.gimli_core_base.specs.Calls.{Reads, Gives};
+ghost use Rattle.gimli_core_abbrev.specs.Parsing.{implicit_const_form, implicit_const, attribute, attributes, children, declaration_of, declaration};
+ghost use Rattle.gimli_core_abbrev.specs.Seen.{seen, seen_attribute};
+
+use gimli_core_base::constants::{DW_FORM_implicit_const, DwForm};
+use gimli_core_base::error::Error;
+use gimli_core_constants::{DwAt, DwTag};
+use gimli_core_readers::Reader;
+use smallvec::SmallVec;
+use std::alloc::Global;
+
+/// The name and the form of an attribute in a declaration.
+#[derive(Clone, Copy, Debug, PartialEq, Eq)]
+pub struct AttributeSpecification {
+    name: DwAt,
+    form: DwForm,
+    implicit_const_value: Option<i64>,
+}
+
+/// The pair of zeros that ends the attributes of a declaration.
+impl Default for AttributeSpecification {
+    ghost use Rattle.std.specs.Prelude.{◌≡◌, None};
+    ghost use Rattle.gimli_core_abbrev.specs.Seen.{seen_attribute};
+
+    ghost is_default = { λ a. seen_attribute a ≡ record { name = 0; form = 0; implicit_const = None } };
+
+    fn default() -> Self {
+        AttributeSpecification {
+            name: DwAt(0),
+            form: DwForm(0),
+            implicit_const_value: None,
+        }
+    }
+}
+
+impl AttributeSpecification {
+    /// The value belongs to the form `DW_FORM_implicit_const` alone.
+    pub fn new(name: DwAt, form: DwForm, implicit_const_value: Option<i64>) -> Self
+        requires { is_some implicit_const_value ≡ (form.0 == implicit_const_form) }
+        ensures { seen_attribute result ≡ record { name = name.0; form = form.0; implicit_const = implicit_const_value } }
+    {
+        AttributeSpecification {
+            name,
+            form,
+            implicit_const_value,
+        }
+    }
+
+    pub fn name(&self) -> DwAt
+        ensures { result.0 ≡ (seen_attribute self.now).name }
+    {
+        self.name
+    }
+
+    pub fn form(&self) -> DwForm
+        ensures { result.0 ≡ (seen_attribute self.now).form }
+    {
+        self.form
+    }
+
+    /// The value that the declaration itself holds (DWARF 5, 7.5.3).
+    pub fn implicit_const_value(&self) -> Option<i64>
+        ensures { result ≡ (seen_attribute self.now).implicit_const }
+    {
+        self.implicit_const_value
+    }
+}
+
+/// What entries of one code have in common. Up to five attributes take no memory of their own.
+#[derive(Debug, Drop, PartialEq, Eq)]
+pub struct Abbreviation {
+    code: u64,
+    tag: DwTag,
+    has_children: bool,
+    attributes: SmallVec<AttributeSpecification, 5>,
+}
+
+impl Abbreviation {
+    pub fn code(&self) -> u64
+        ensures { result ≡ (seen self.now).code }
+    {
+        self.code
+    }
+
+    pub fn tag(&self) -> DwTag
+        ensures { result.0 ≡ (seen self.now).tag }
+    {
+        self.tag
+    }
+
+    /// Whether entries of this code may have children.
+    pub fn has_children(&self) -> bool
+        ensures { result ≡ (seen self.now).has_children }
+    {
+        self.has_children
+    }
+
+    /// The attributes in the order in which an entry gives their values.
+    pub fn attributes(&self) -> &[AttributeSpecification]
+        ensures { map seen_attribute result.now ≡ (seen self.now).attributes }
+    {
+        self.attributes.as_slice()
+    }
+}
+
+// ---- reading
+
+// The value that stands in a declaration behind an attribute's form.
+#[tactic(auto, unfolding(crate::specs::Parsing::implicit_const))]
+fn parse_implicit_const<R: Reader>(input: &mut R, form: DwForm) -> Result<Option<i64>, Error>
+    ensures { Reads (λ x. x) result (R.view input.old) (R.view input.new) (implicit_const form.0 (R.view input.old)) }
+{
+    if form == DW_FORM_implicit_const {
+        Ok(Some(input.read_sleb128()?))
+    } else {
+        Ok(None)
+    }
+}
+
+// An attribute, or none at the pair of zeros that ends them.
+#[tactic(auto, unfolding(crate::specs::Parsing::attribute, crate::specs::Parsing::attribute_of))]
+fn parse_attribute<R: Reader>(input: &mut R) -> Result<Option<AttributeSpecification>, Error>
+    ensures { Gives (λ a. (option_map seen_attribute a, R.view input.new)) result (attribute (R.view input.old)) }
+{
+    let name = DwAt(input.read_uleb128_u16()?);
+    let form = DwForm(input.read_uleb128_u16()?);
+    match (name.0, form.0) {
+        (0, 0) => return Ok(None),
+        (0, _) => return Err(Error::AttributeNameZero),
+        (_, 0) => return Err(Error::AttributeFormZero),
+        _ => {}
+    }
+    let implicit_const_value = parse_implicit_const(input, form)?;
+    Ok(Some(AttributeSpecification {
+        name,
+        form,
+        implicit_const_value,
+    }))
+}
+
+// The attributes of a declaration.
+#[tactic(auto, unfolding(crate::specs::Parsing::attributes))]
+fn parse_attributes<R: Reader>(
+    alloc: Global,
+    input: &mut R,
+) -> Result<SmallVec<AttributeSpecification, 5>, Error>
+    ensures { Gives (λ found. (map seen_attribute found.items, R.view input.new)) result (attributes (R.view input.old)) }
+{
+    let mut found = SmallVec::new(alloc);
+    while let Some(attribute) = parse_attribute(input)? {
+        found.push(attribute)?;
+    }
+    Ok(found)
+}
+
+// Whether children follow.
+#[tactic(auto, unfolding(crate::specs::Parsing::children))]
+fn parse_children<R: Reader>(input: &mut R) -> Result<bool, Error>
+    ensures { Gives (λ b. (b, R.view input.new)) result (children (R.view input.old)) }
+{
+    match input.read_u8()? {
+        0 => Ok(false),
+        1 => Ok(true),
+        other => Err(Error::InvalidAbbreviationChildren(other)),
+    }
+}
+
+// What follows a code.
+#[tactic(auto, unfolding(crate::specs::Parsing::declaration_of))]
+fn parse_behind<R: Reader>(alloc: Global, input: &mut R, code: u64) -> Result<Abbreviation, Error>
+    ensures { Gives (λ a. (seen a, R.view input.new)) result (declaration_of code (R.view input.old)) }
+{
+    let tag = DwTag(input.read_uleb128_u16()?);
+    if tag.0 == 0 {
+        return Err(Error::AbbreviationTagZero);
+    }
+    let has_children = parse_children(input)?;
+    let attributes = parse_attributes(alloc, input)?;
+    Ok(Abbreviation {
+        code,
+        tag,
+        has_children,
+        attributes,
+    })
+}
+
+// A declaration, or none where the table ends: at the code 0 and at the end of the bytes.
+#[tactic(auto, unfolding(crate::specs::Parsing::declaration, crate::specs::Parsing::coded_declaration))]
+pub(crate) fn parse<R: Reader>(alloc: Global, input: &mut R) -> Result<Option<Abbreviation>, Error>
+    ensures { Gives (λ a. (option_map seen a, R.view input.new)) result (declaration (R.view input.old)) }
+{
+    if input.is_empty() {
+        return Ok(None);
+    }
+    let code = input.read_uleb128()?;
+    if code == 0 {
+        return Ok(None);
+    }
+    Ok(Some(parse_behind(alloc, input, code)?))
+}

@@ -1,0 +1,10 @@
+//! Abbreviation tables: what entries of one code have in common (DWARF 5, 7.5.3).
+#![tactic(auto)]
+
+pub mod abbreviation;
+pub mod section;
+pub mod table;
+
+pub use abbreviation::{Abbreviation, AttributeSpecification};
+pub use section::DebugAbbrev;
+pub use table::Abbreviations;

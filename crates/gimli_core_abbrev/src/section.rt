@@ -1,0 +1,93 @@
+//! The section that holds abbreviation tables.
+
+ghost use Rattle.std.specs.Prelude.{◌≡◌};
+ghost use Rattle.std.specs.Fn.{FnOnceReturnsAt};
+ghost use Rattle.gimli_core_base.specs.Calls.{Gives};
+ghost use Rattle.gimli_core_abbrev.specs.Parsing.{table_at};
+
+use crate::table::{self, Abbreviations};
+use gimli_core_base::error::Error;
+use gimli_core_constants::{DebugAbbrevOffset, SectionId};
+use gimli_core_numbers::Endianity;
+use gimli_core_readers::{EndianSlice, Reader};
+use gimli_core_strings::Section;
+use std::alloc::Global;
+use std::marker::Model;
+
+/// `.debug_abbrev`: the abbreviation tables that units share (DWARF 5, 7.5.3).
+#[derive(Debug, Drop)]
+pub struct DebugAbbrev<R: Reader> {
+    section: R,
+}
+
+impl<R: Reader> Model for DebugAbbrev<R> {
+    ghost use Rattle.gimli_core_base.specs.View.{View};
+
+    ghost Value = { View };
+
+    ghost view = { λ s. R.view s.section };
+}
+
+impl<R: Reader> From<R> for DebugAbbrev<R> {
+    ghost from_gives = { λ reader section. section ≡ R.view reader };
+
+    fn from(section: R) -> Self {
+        DebugAbbrev { section }
+    }
+}
+
+impl<R: Reader> Section<R> for DebugAbbrev<R> {
+    ghost use Rattle.gimli_core_constants.specs.declared.common.SectionId.TheVariants.{DebugAbbrev};
+
+    ghost section_id = { DebugAbbrev };
+
+    ghost seen = { λ s. s };
+
+    fn id() -> SectionId {
+        SectionId::DebugAbbrev
+    }
+
+    fn reader(&self) -> &R {
+        &self.section
+    }
+
+    ghost from_reader = { λ _ _ made. made };
+}
+
+impl<'a, E: Endianity> DebugAbbrev<EndianSlice<'a, E>> {
+    /// The section that these bytes are, the first of them at identifier 0.
+    pub fn new(section: &'a [u8], endian: E) -> Self
+        ensures { result ≡ record { bytes = section.now; is_big = E.is_big endian; first = 0 } }
+    {
+        DebugAbbrev::from(EndianSlice::new(section, endian))
+    }
+}
+
+impl<R: Reader> DebugAbbrev<R> {
+    /// The section over what a function makes of its reader.
+    pub fn borrow<'a, F, S>(&'a self, f: F) -> DebugAbbrev<S>
+    where
+        F: FnOnce(&'a R) -> S,
+        S: Reader,
+        requires { F.IsAlwaysCallable f }
+        ensures { (reader : R) × (borrowed : S) × (R.view reader ≡ self.now)
+            × FnOnceReturnsAt F.FnOnce f reader borrowed × (result ≡ S.view borrowed) }
+    {
+        DebugAbbrev {
+            section: f(&self.section),
+        }
+    }
+
+    /// The table that begins at an offset.
+    pub fn abbreviations(
+        &self,
+        alloc: Global,
+        offset: DebugAbbrevOffset<R::Offset>,
+    ) -> Result<Abbreviations, Error>
+        ensures { Gives (λ t. t) result (table_at (R.Offset.count offset.0) self.now) }
+    {
+        let mut input = self.section.copy()?;
+        input.skip(offset.0)?;
+        table::parse(alloc, &mut input)
+    }
+}

@@ -1,0 +1,109 @@
+//! Abbreviation tables, by their codes.
+
+ghost use Rattle.std.specs.Prelude.{◌≡◌, ◌<◌, [], option_map, OnOk, IfErr};
+ghost use Rattle.std.specs.Ordering.{nat_cmp};
+ghost use Rattle.std.specs.BTreeMap.{insert_entry};
+ghost use Rattle.gimli_core_base.specs.Calls.{Gives};
+ghost use Rattle.gimli_core_base.specs.declared.error.Error.TheVariants.{Memory};
+ghost use Rattle.gimli_core_abbrev.specs.Declarations.{declaration_at, put};
+ghost use Rattle.gimli_core_abbrev.specs.Parsing.{table};
+ghost use Rattle.gimli_core_abbrev.specs.Seen.{seen};
+
+use crate::abbreviation::{self, Abbreviation};
+use gimli_core_base::error::Error;
+use gimli_core_readers::Reader;
+use std::alloc::Global;
+use std::collections::BTreeMap;
+use std::marker::Model;
+
+/// The declarations of an abbreviation table, by their codes. A contract sees them in the order of their codes.
+#[derive(Debug, Drop)]
+pub struct Abbreviations {
+    // The codes 1, 2, .. as far as they came in order.
+    in_order: Vec<Abbreviation>,
+    others: BTreeMap<u64, Abbreviation>,
+}
+
+impl Model for Abbreviations {
+    ghost use Rattle.std.specs.Prelude.{List, map};
+    ghost use Rattle.std.specs.Coded.{coded_list};
+    ghost use Rattle.gimli_core_abbrev.specs.Declarations.{Declaration, coded_declaration};
+    ghost use Rattle.gimli_core_abbrev.specs.Kept.{IsKept, kept};
+    ghost use Rattle.gimli_core_abbrev.specs.Seen.{seen, seen_entry};
+
+    ghost Value = { List Declaration };
+
+    ghost coded = { coded_list coded_declaration };
+
+    ghost view = { λ t. kept (map seen t.in_order.items) (map seen_entry t.others.entries) };
+
+    ghost invariant = { λ t. IsKept (map seen t.in_order.items) (map seen_entry t.others.entries) };
+}
+
+impl Abbreviations {
+    // A table without declarations.
+    fn empty(alloc: Global) -> Self
+        ensures { result ≡ [] }
+    {
+        Abbreviations {
+            in_order: Vec::new(alloc),
+            others: BTreeMap::new(alloc),
+        }
+    }
+
+    /// The declaration of a code.
+    pub fn get(&self, code: u64) -> Option<&Abbreviation>
+        ensures { option_map (λ a. seen a.now) result ≡ declaration_at code self.now }
+    {
+        if 1 <= code && code <= self.in_order.len() as u64 {
+            Some(&self.in_order[(code - 1) as usize])
+        } else {
+            self.others.get(&code)
+        }
+    }
+
+    // Puts a declaration under its code, which isn't 0 and isn't there.
+    fn put(&mut self, abbreviation: Abbreviation) -> Result<(), Error>
+        requires counts { 0 < (seen abbreviation).code }
+        requires is_new { declaration_at (seen abbreviation).code self.old ≡ None }
+        ensures ok { OnOk result (self.new ≡ put (seen abbreviation) self.old) }
+        ensures err { IfErr result (λ e. (e ≡ Memory) × (self.new ≡ self.old)) }
+    {
+        let code = abbreviation.code();
+        if code - 1 == self.in_order.len() as u64 {
+            self.in_order.push(abbreviation)?;
+        } else {
+            put_under(&mut self.others, code, abbreviation)?;
+        }
+        Ok(())
+    }
+}
+
+// Puts a declaration under a code.
+fn put_under(
+    others: &mut BTreeMap<u64, Abbreviation>,
+    code: u64,
+    abbreviation: Abbreviation,
+) -> Result<(), Error>
+    ensures ok { OnOk result (others.new.entries ≡ insert_entry nat_cmp others.old.entries code abbreviation) }
+    ensures err { IfErr result (λ e. (e ≡ Memory) × (others.new.entries ≡ others.old.entries)) }
+{
+    others.insert(code, abbreviation)?;
+    Ok(())
+}
+
+/// Reads declarations up to the code 0 or the end of the bytes.
+#[tactic(auto, unfolding(crate::specs::Parsing::table))]
+pub(crate) fn parse<R: Reader>(alloc: Global, input: &mut R) -> Result<Abbreviations, Error>
+    ensures { Gives (λ t. (t, R.view input.new)) result (table (R.view input.old)) }
+{
+    let mut found = Abbreviations::empty(alloc);
+    while let Some(abbreviation) = abbreviation::parse(alloc, input)? {
+        let code = abbreviation.code();
+        if found.get(code).is_some() {
+            return Err(Error::DuplicateAbbreviationCode(code));
+        }
+        found.put(abbreviation)?;
+    }
+    Ok(found)
+}
