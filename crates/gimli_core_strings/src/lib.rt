@@ -6,7 +6,7 @@ pub mod address_entries;
 pub mod address_sets;
 pub mod addresses;
 pub mod bases;
-mod places;
+pub mod places;
 pub mod section;
 pub mod str_offsets;
 pub mod strings;

@@ -1,8 +1,11 @@
+//! Places of a section that a base and an index lead to.
+
 ghost use Rattle.std.specs.Prelude.{◌≡◌};
 ghost use Rattle.gimli_core_base.specs.Calls.{Answers};
-ghost use Rattle.gimli_core_strings.specs.Places.{to_place};
+ghost use Rattle.gimli_core_strings.specs.Places.{to_place, string_offset_at};
 
 use gimli_core_base::error::Error;
+use gimli_core_constants::Format;
 use gimli_core_numbers::ReaderOffset;
 use gimli_core_readers::{EndianSlice, Reader};
 
@@ -24,4 +27,24 @@ pub(crate) fn behind_place<'a, R: Reader>(
     let mut input = EndianSlice::with_first_id(bytes, section.endian(), section.offset_id());
     input.skip(place as usize)?;
     Ok(input)
+}
+
+/// The offset that stands at an index behind a base, in a table of offsets (DWARF 5, 7.26, 7.28 and 7.29). Takes no
+/// memory.
+#[tactic(auto, unfolding(gimli_core_numbers::specs::Numbers::word, gimli_core_numbers::specs::Numbers::sized_offset))]
+pub fn offset_at<R: Reader>(
+    section: &R,
+    format: Format,
+    base: R::Offset,
+    index: R::Offset,
+) -> Result<R::Offset, Error>
+    ensures { Answers R.Offset.count result
+        (string_offset_at R.Offset.limit format (R.Offset.count base) (R.Offset.count index) (R.view section.now)) }
+{
+    let mut input = behind_place(section, base, index, format.word_size())?;
+    let offset = match format {
+        Format::Dwarf32 => u64::from(input.read_u32()?),
+        Format::Dwarf64 => input.read_u64()?,
+    };
+    R::Offset::from_u64(offset)
 }

@@ -3,13 +3,13 @@ ghost use Rattle.std.specs.Fn.{FnOnceReturnsAt};
 ghost use Rattle.gimli_core_base.specs.Calls.{Answers};
 ghost use Rattle.gimli_core_strings.specs.Places.{string_offset_at};
 
-use crate::places::behind_place;
+use crate::places::offset_at;
 use crate::section::Section;
 use gimli_core_base::error::Error;
 use gimli_core_constants::{
     DebugStrOffset, DebugStrOffsetsBase, DebugStrOffsetsIndex, Format, SectionId,
 };
-use gimli_core_numbers::{Endianity, ReaderOffset};
+use gimli_core_numbers::Endianity;
 use gimli_core_readers::{EndianSlice, Reader};
 use std::marker::Model;
 
@@ -78,7 +78,6 @@ impl<R: Reader> DebugStrOffsets<R> {
     }
 
     /// The offset of a string that stands at an index behind a base. Takes no memory.
-    #[tactic(auto, unfolding(gimli_core_numbers::specs::Numbers::word, gimli_core_numbers::specs::Numbers::sized_offset))]
     pub fn get_str_offset(
         &self,
         format: Format,
@@ -88,11 +87,6 @@ impl<R: Reader> DebugStrOffsets<R> {
         ensures { Answers (λ offset. R.Offset.count offset.0) result
             (string_offset_at R.Offset.limit format (R.Offset.count base.0) (R.Offset.count index.0) self.now) }
     {
-        let mut input = behind_place(&self.section, base.0, index.0, format.word_size())?;
-        let offset = match format {
-            Format::Dwarf32 => u64::from(input.read_u32()?),
-            Format::Dwarf64 => input.read_u64()?,
-        };
-        Ok(DebugStrOffset(R::Offset::from_u64(offset)?))
+        Ok(DebugStrOffset(offset_at(&self.section, format, base.0, index.0)?))
     }
 }
