@@ -1,0 +1,4 @@
+pub mod Taking
+pub mod Parts
+pub mod Units
+pub mod Sets

@@ -1,0 +1,159 @@
+//! `.debug_aranges`: sets of address ranges, end to end (DWARF 5, 6.1.2).
+
+ghost use Rattle.std.specs.Prelude.{◌≡◌, ◌≤◌, All, IfOk, length, Ok};
+ghost use Rattle.std.specs.Fn.{FnOnceReturnsAt};
+ghost use Rattle.gimli_core_base.specs.View.{bytes_left};
+ghost use Rattle.gimli_core_base.specs.Calls.{Gives};
+ghost use Rattle.gimli_core_strings.specs.Iterators.{TakesOrEnds, ComesNext};
+ghost use Rattle.gimli_units_headers.specs.Tiling.{whole_section, next_offset, Tile};
+ghost use Rattle.gimli_units_headers.specs.Aranges.{arange_set, next_set, sets_to_come, sets_of, arange_set_at, set_size};
+
+use crate::arange_set::{ArangeHeader, parse_arange_header};
+use gimli_core_base::error::Error;
+use gimli_core_constants::{DebugArangesOffset, SectionId};
+use gimli_core_numbers::{Endianity, ReaderOffset};
+use gimli_core_readers::{EndianSlice, Reader};
+use gimli_core_strings::Section;
+use std::marker::Model;
+
+/// `.debug_aranges`: which addresses belong to which unit, in a set for each unit.
+#[derive(Debug, Drop)]
+pub struct DebugAranges<R: Reader> {
+    section: R,
+}
+
+impl<R: Reader> Model for DebugAranges<R> {
+    ghost use Rattle.gimli_core_base.specs.View.{View};
+
+    ghost Value = { View };
+
+    ghost view = { λ s. R.view s.section };
+}
+
+impl<R: Reader> From<R> for DebugAranges<R> {
+    ghost from_gives = { λ reader section. section ≡ R.view reader };
+
+    fn from(section: R) -> Self {
+        DebugAranges { section }
+    }
+}
+
+impl<R: Reader> Section<R> for DebugAranges<R> {
+    ghost use Rattle.gimli_core_constants.specs.declared.common.SectionId.TheVariants.{DebugAranges};
+
+    ghost section_id = { DebugAranges };
+
+    ghost seen = { λ s. s };
+
+    fn id() -> SectionId {
+        SectionId::DebugAranges
+    }
+
+    fn reader(&self) -> &R {
+        &self.section
+    }
+
+    ghost from_reader = { λ _ _ made. made };
+}
+
+impl<'a, E: Endianity> DebugAranges<EndianSlice<'a, E>> {
+    /// The section over borrowed bytes. The first byte's identifier is 0.
+    pub fn new(section: &'a [u8], endian: E) -> Self
+        ensures { result ≡ record { bytes = section.now; is_big = E.is_big endian; first = 0 } }
+    {
+        DebugAranges::from(EndianSlice::new(section, endian))
+    }
+}
+
+impl<R: Reader> DebugAranges<R> {
+    /// The section over what a function makes of its reader.
+    pub fn borrow<'a, F, S>(&'a self, f: F) -> DebugAranges<S>
+    where
+        F: FnOnce(&'a R) -> S,
+        S: Reader,
+        requires { F.IsAlwaysCallable f }
+        ensures { (reader : R) × (borrowed : S) × (R.view reader ≡ self.now)
+            × FnOnceReturnsAt F.FnOnce f reader borrowed × (result ≡ S.view borrowed) }
+    {
+        DebugAranges {
+            section: f(&self.section),
+        }
+    }
+
+    /// The sets of the section, in order. Takes memory only where a copy of the reader does.
+    pub fn headers(&self) -> Result<ArangeHeaderIter<R>, Error>
+        ensures value { Gives (λ sets. sets) result (Ok (whole_section self.now)) }
+        // They stand end to end, from the section's start to its end or to one that can't be read.
+        ensures tile { IfOk result (λ sets. let all = sets_to_come R.Offset.limit sets in
+            Tile (arange_set R.Offset.limit) (λ s. s.offset) set_size self.now 0 all.items all.ending) }
+        ensures few { IfOk result (λ sets. length (sets_to_come R.Offset.limit sets).items ≤ bytes_left self.now) }
+    {
+        Ok(ArangeHeaderIter {
+            input: self.section.copy()?,
+            section_len: self.section.len(),
+        })
+    }
+
+    /// The set at an offset of the section. Takes memory only where a part of the reader does.
+    pub fn header(&self, offset: DebugArangesOffset<R::Offset>) -> Result<ArangeHeader<R>, Error>
+        ensures value { Gives (λ header. header) result (arange_set_at R.Offset.limit (R.Offset.count offset.0) self.now) }
+        // Where `headers` gives a set at this offset it is the same one.
+        ensures again { All (λ s. s.offset ≡ R.Offset.count offset.0 → Gives (λ header. header) result (Ok s)) (sets_of R.Offset.limit self.now) }
+    {
+        let mut input = self.section.copy()?;
+        input.skip(offset.0)?;
+        parse_arange_header(&mut input, offset)
+    }
+}
+
+/// The sets of `.debug_aranges`, from one of them on.
+#[derive(Debug, Drop)]
+pub struct ArangeHeaderIter<R: Reader> {
+    /// The bytes from the next set on.
+    input: R,
+    section_len: R::Offset,
+}
+
+impl<R: Reader> Model for ArangeHeaderIter<R> {
+    ghost use Rattle.std.specs.Prelude.{◌≤◌, length};
+    ghost use Rattle.gimli_units_headers.specs.Tiling.{SectionLeft};
+
+    ghost Value = { SectionLeft };
+
+    ghost view = { λ s. record { section_length = R.Offset.count s.section_len; left = R.view s.input } };
+
+    ghost invariant = { λ s. length (R.view s.input).bytes ≤ R.Offset.count s.section_len };
+}
+
+impl<R: Reader> ArangeHeaderIter<R> {
+    /// The next set, none at the section's end. After a set that can't be read there are no more. Takes memory only
+    /// where a part of the reader does, and moves nothing where there is none.
+    pub fn next(&mut self) -> Result<Option<ArangeHeader<R>>, Error>
+        ensures value { TakesOrEnds (λ set. set) result self.old.left self.new.left (next_set R.Offset.limit self.old) }
+        ensures section { self.new.section_length ≡ self.old.section_length }
+        ensures order { ComesNext result (sets_to_come R.Offset.limit self.old) (sets_to_come R.Offset.limit self.new) }
+    {
+        if self.input.is_empty() {
+            return Ok(None);
+        }
+        let mut input = self.input.copy()?;
+        match parse_arange_header(&mut input, self.offset()) {
+            Ok(header) => {
+                self.input = input;
+                Ok(Some(header))
+            }
+            Err(Error::Memory) => Err(Error::Memory),
+            Err(fault) => {
+                self.input.empty();
+                Err(fault)
+            }
+        }
+    }
+
+    /// The offset of the next set.
+    fn offset(&self) -> DebugArangesOffset<R::Offset>
+        ensures { R.Offset.count result.0 ≡ next_offset self.now }
+    {
+        DebugArangesOffset(self.section_len.checked_sub(self.input.len()).unwrap())
+    }
+}

@@ -1,0 +1,163 @@
+//! `.debug_info`: units, end to end (DWARF 5, 7.5.1).
+
+ghost use Rattle.std.specs.Prelude.{◌≡◌, ◌≤◌, All, IfOk, length, Ok};
+ghost use Rattle.std.specs.Fn.{FnOnceReturnsAt};
+ghost use Rattle.gimli_core_base.specs.View.{bytes_left};
+ghost use Rattle.gimli_core_base.specs.Calls.{Gives};
+ghost use Rattle.gimli_core_strings.specs.Iterators.{TakesOrEnds, ComesNext};
+ghost use Rattle.gimli_units_headers.specs.Tiling.{whole_section, next_offset, Tile};
+ghost use Rattle.gimli_units_headers.specs.UnitHeaders.{unit, next_unit, units_to_come, units_of, unit_at, length_including_self};
+
+use crate::header::{UnitHeader, parse_unit_header};
+use gimli_core_base::error::Error;
+use gimli_core_constants::SectionId;
+use gimli_core_numbers::{Endianity, ReaderOffset};
+use gimli_core_readers::{EndianSlice, Reader};
+use gimli_core_strings::Section;
+use gimli_units_base::DebugInfoOffset;
+use std::marker::Model;
+
+/// `.debug_info`: the units of a file, each a header and entries.
+#[derive(Debug, Drop)]
+pub struct DebugInfo<R: Reader> {
+    section: R,
+}
+
+impl<R: Reader> Model for DebugInfo<R> {
+    ghost use Rattle.gimli_core_base.specs.View.{View};
+
+    ghost Value = { View };
+
+    ghost view = { λ s. R.view s.section };
+}
+
+impl<R: Reader> From<R> for DebugInfo<R> {
+    ghost from_gives = { λ reader section. section ≡ R.view reader };
+
+    fn from(section: R) -> Self {
+        DebugInfo { section }
+    }
+}
+
+impl<R: Reader> Section<R> for DebugInfo<R> {
+    ghost use Rattle.gimli_core_constants.specs.declared.common.SectionId.TheVariants.{DebugInfo};
+
+    ghost section_id = { DebugInfo };
+
+    ghost seen = { λ s. s };
+
+    fn id() -> SectionId {
+        SectionId::DebugInfo
+    }
+
+    fn reader(&self) -> &R {
+        &self.section
+    }
+
+    ghost from_reader = { λ _ _ made. made };
+}
+
+impl<'a, E: Endianity> DebugInfo<EndianSlice<'a, E>> {
+    /// The section over borrowed bytes. The first byte's identifier is 0.
+    pub fn new(section: &'a [u8], endian: E) -> Self
+        ensures { result ≡ record { bytes = section.now; is_big = E.is_big endian; first = 0 } }
+    {
+        DebugInfo::from(EndianSlice::new(section, endian))
+    }
+}
+
+impl<R: Reader> DebugInfo<R> {
+    /// The section over what a function makes of its reader.
+    pub fn borrow<'a, F, S>(&'a self, f: F) -> DebugInfo<S>
+    where
+        F: FnOnce(&'a R) -> S,
+        S: Reader,
+        requires { F.IsAlwaysCallable f }
+        ensures { (reader : R) × (borrowed : S) × (R.view reader ≡ self.now)
+            × FnOnceReturnsAt F.FnOnce f reader borrowed × (result ≡ S.view borrowed) }
+    {
+        DebugInfo {
+            section: f(&self.section),
+        }
+    }
+
+    /// The units of the section, in order. Takes memory only where a copy of the reader does.
+    pub fn units(&self) -> Result<DebugInfoUnitHeadersIter<R>, Error>
+        ensures value { Gives (λ units. units) result (Ok (whole_section self.now)) }
+        // They stand end to end, from the section's start to its end or to one that can't be read.
+        ensures tile { IfOk result (λ units. let all = units_to_come R.Offset.limit units in
+            Tile (unit R.Offset.limit) (λ u. u.offset) length_including_self self.now 0 all.items all.ending) }
+        ensures few { IfOk result (λ units. length (units_to_come R.Offset.limit units).items ≤ bytes_left self.now) }
+    {
+        Ok(DebugInfoUnitHeadersIter {
+            input: self.section.copy()?,
+            section_len: self.section.len(),
+        })
+    }
+
+    /// The unit at an offset of the section. Takes memory only where a part of the reader does.
+    pub fn header_from_offset(
+        &self,
+        offset: DebugInfoOffset<R::Offset>,
+    ) -> Result<UnitHeader<R>, Error>
+        ensures value { Gives (λ header. header) result (unit_at R.Offset.limit (R.Offset.count offset.0) self.now) }
+        // Where `units` gives a unit at this offset it is the same one.
+        ensures again { All (λ u. u.offset ≡ R.Offset.count offset.0 → Gives (λ header. header) result (Ok u)) (units_of R.Offset.limit self.now) }
+    {
+        let mut input = self.section.copy()?;
+        input.skip(offset.0)?;
+        parse_unit_header(&mut input, offset)
+    }
+}
+
+/// The units of `.debug_info`, from one of them on.
+#[derive(Debug, Drop)]
+pub struct DebugInfoUnitHeadersIter<R: Reader> {
+    /// The bytes from the next unit on.
+    input: R,
+    section_len: R::Offset,
+}
+
+impl<R: Reader> Model for DebugInfoUnitHeadersIter<R> {
+    ghost use Rattle.std.specs.Prelude.{◌≤◌, length};
+    ghost use Rattle.gimli_units_headers.specs.Tiling.{SectionLeft};
+
+    ghost Value = { SectionLeft };
+
+    ghost view = { λ s. record { section_length = R.Offset.count s.section_len; left = R.view s.input } };
+
+    ghost invariant = { λ s. length (R.view s.input).bytes ≤ R.Offset.count s.section_len };
+}
+
+impl<R: Reader> DebugInfoUnitHeadersIter<R> {
+    /// The next unit, none at the section's end. After a unit that can't be read there are no more. Takes memory only
+    /// where a part of the reader does, and moves nothing where there is none.
+    pub fn next(&mut self) -> Result<Option<UnitHeader<R>>, Error>
+        ensures value { TakesOrEnds (λ unit. unit) result self.old.left self.new.left (next_unit R.Offset.limit self.old) }
+        ensures section { self.new.section_length ≡ self.old.section_length }
+        ensures order { ComesNext result (units_to_come R.Offset.limit self.old) (units_to_come R.Offset.limit self.new) }
+    {
+        if self.input.is_empty() {
+            return Ok(None);
+        }
+        let mut input = self.input.copy()?;
+        match parse_unit_header(&mut input, self.offset()) {
+            Ok(header) => {
+                self.input = input;
+                Ok(Some(header))
+            }
+            Err(Error::Memory) => Err(Error::Memory),
+            Err(fault) => {
+                self.input.empty();
+                Err(fault)
+            }
+        }
+    }
+
+    /// The offset of the next unit.
+    fn offset(&self) -> DebugInfoOffset<R::Offset>
+        ensures { R.Offset.count result.0 ≡ next_offset self.now }
+    {
+        DebugInfoOffset(self.section_len.checked_sub(self.input.len()).unwrap())
+    }
+}

@@ -1,0 +1,59 @@
+//! Offsets of `.debug_info`, counted from its begin or from that of a unit.
+
+ghost use Rattle.std.specs.Prelude.{◌≡◌, ◌+◌, ◌<◌, ℕ, option_map, Some};
+ghost use Rattle.gimli_units_headers.specs.UnitOffsets.{is_in_bounds, to_unit_offset};
+
+use crate::header::UnitHeader;
+use gimli_core_numbers::ReaderOffset;
+use gimli_core_readers::Reader;
+use gimli_units_base::{DebugInfoOffset, UnitOffset};
+
+/// What an offset of the section is in a unit of it.
+pub trait OffsetInSection<R: Reader> {
+    /// The number of the offset.
+    ghost number: { Self → ℕ };
+
+    /// The same place counted from the unit's begin, none where it isn't among the unit's entries.
+    fn to_unit_offset(&self, unit: &UnitHeader<R>) -> Option<UnitOffset<R::Offset>>
+        ensures { option_map (λ offset. R.Offset.count offset.0) result ≡ to_unit_offset unit.now (number self.now) };
+}
+
+impl<R: Reader> OffsetInSection<R> for DebugInfoOffset<R::Offset> {
+    ghost number = { λ offset. R.Offset.count offset.0 };
+
+    fn to_unit_offset(&self, unit: &UnitHeader<R>) -> Option<UnitOffset<R::Offset>> {
+        let offset = UnitOffset(self.0.checked_sub(unit.offset().0)?);
+        if unit.holds(&offset) {
+            Some(offset)
+        } else {
+            None
+        }
+    }
+}
+
+/// What an offset of a unit is in that unit and in the section.
+pub trait OffsetInUnit<R: Reader> {
+    /// The number of the offset.
+    ghost number: { Self → ℕ };
+
+    /// The offset is among the unit's entries.
+    fn is_in_bounds(&self, unit: &UnitHeader<R>) -> bool
+        ensures { result ≡ is_in_bounds unit.now (number self.now) };
+
+    /// The same place counted from the section's begin; always there, since every unit stands in `.debug_info`.
+    fn to_debug_info_offset(&self, unit: &UnitHeader<R>) -> Option<DebugInfoOffset<R::Offset>>
+        requires { unit.now.offset + number self.now < R.Offset.limit }
+        ensures { option_map (λ offset. R.Offset.count offset.0) result ≡ Some (unit.now.offset + number self.now) };
+}
+
+impl<R: Reader> OffsetInUnit<R> for UnitOffset<R::Offset> {
+    ghost number = { λ offset. R.Offset.count offset.0 };
+
+    fn is_in_bounds(&self, unit: &UnitHeader<R>) -> bool {
+        unit.holds(self)
+    }
+
+    fn to_debug_info_offset(&self, unit: &UnitHeader<R>) -> Option<DebugInfoOffset<R::Offset>> {
+        Some(unit.section_offset_of(self))
+    }
+}
