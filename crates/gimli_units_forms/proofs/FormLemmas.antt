@@ -1,0 +1,42 @@
+-- The form behind indirect ones: each number of a form takes a byte, so counting bytes never ends the search early.
+use Rattle.std.proofs.Common.{◌≡◌, ℕ, zero, suc, ◌<◌, true, false, cond, eqb, Result, Ok, Err, refl, ap, ◌∙◌, arith}
+use Rattle.gimli_core_base.specs.declared.error.Error.{Error}
+use Rattle.gimli_core_base.specs.View.{View, bytes_left}
+use Rattle.gimli_core_base.specs.Parsers.{onward}
+use Rattle.gimli_core_numbers.proofs.Sizes.{Below-unsigned_16}
+use Rattle.gimli_core_numbers.specs.Numbers.{unsigned_16}
+use Rattle.gimli_units_forms.specs.Reading.{form_within, final_form}
+
+-- steps that go on alike from a value
+pub onward_same : {S A B : Type 0} (r : Result (A × S) Error) (f g : A → S → Result (B × S) Error) → ((x : A) (s : S) → r ≡ Ok (x, s) → f x s ≡ g x s) → onward r f ≡ onward r g
+onward_same (Ok r) f g h = h r.0 r.1 refl
+onward_same (Err e) f g h = refl
+
+enough : (m n form : ℕ) (v : View) → bytes_left v < m → bytes_left v < n → form_within m form v ≡ form_within n form v
+unfolding form_within
+enough zero n form v h k = absurd (omega arith)
+enough (suc m) zero form v h k = absurd (omega arith)
+enough (suc m) (suc n) form v h k =
+    let same = onward_same (unsigned_16 v) (form_within m) (form_within n) (λ x s e.
+    let less = (Below-unsigned_16 {n = bytes_left v} v (omega arith)).left x s e in
+    enough m n x s (omega arith) (omega arith)) in
+    ap (λ (r : Result (ℕ × View) Error). cond (eqb form 0x16) r (Ok (form, v))) same
+
+-- behind indirect stands the number of a form, and what stands behind that
+pub final_form-indirect : (form : ℕ) (v : View) → eqb form 0x16 ≡ true → final_form form v ≡ onward (unsigned_16 v) final_form
+unfolding final_form form_within
+final_form-indirect form v t =
+    rw t (onward_same (unsigned_16 v) (form_within (bytes_left v)) final_form (λ x s e.
+    let less = (Below-unsigned_16 {n = bytes_left v} v (omega arith)).left x s e in
+    enough (bytes_left v) (suc (bytes_left s)) x s less (omega arith)))
+
+pub final_form-goes_on : (form n : ℕ) (v w : View) → eqb form 0x16 ≡ true → unsigned_16 v ≡ Ok (n, w) → final_form form v ≡ final_form n w
+final_form-goes_on form n v w t e = final_form-indirect form v t ∙ ap (λ (r : Result (ℕ × View) Error). onward r final_form) e
+
+pub final_form-fault : (form : ℕ) (v : View) (fault : Error) → eqb form 0x16 ≡ true → unsigned_16 v ≡ Err fault → final_form form v ≡ Err fault
+final_form-fault form v fault t e = final_form-indirect form v t ∙ ap (λ (r : Result (ℕ × View) Error). onward r final_form) e
+
+-- another form stands for itself
+pub final_form-other : (form : ℕ) (v : View) → eqb form 0x16 ≡ false → final_form form v ≡ Ok (form, v)
+unfolding final_form form_within
+final_form-other form v h = rw h refl

@@ -1,0 +1,5 @@
+pub mod FormLemmas
+pub mod PassingLemmas
+pub mod RunLemmas
+pub mod CrossingLemmas
+pub mod BehindLemmas

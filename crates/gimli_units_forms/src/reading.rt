@@ -1,0 +1,240 @@
+ghost use Rattle.std.specs.Prelude.{◌≡◌, ◌≤◌, IfOk, ◌<◌, ◌^◌, ℕ};
+ghost use Rattle.gimli_core_base.specs.Calls.{Answers, Gives, Takes};
+ghost use Rattle.gimli_core_base.specs.View.{View};
+ghost use Rattle.gimli_core_numbers.specs.Numbers.{fixed, unsigned};
+ghost use Rattle.gimli_core_abbrev.specs.Seen.{seen_attribute};
+ghost use Rattle.gimli_units_forms.specs.Reading.{number_value, is_offset_data, meaning_in, offset_meanings, FitsSpelling, FitsWidth, final_form, bytes_value, counted, value, attribute};
+ghost use Rattle.gimli_units_forms.specs.Forms.{spelling};
+ghost use Rattle.gimli_units_forms.specs.Values.{raw_value_of, raw_attribute_of};
+
+use crate::spelling::{Spelling, spelling_of};
+use crate::value::{Attribute, AttributeValue};
+use gimli_core_abbrev::AttributeSpecification;
+use gimli_core_base::constants::{
+    DW_FORM_GNU_addr_index, DW_FORM_GNU_ref_alt, DW_FORM_GNU_str_index, DW_FORM_GNU_strp_alt,
+    DW_FORM_addr, DW_FORM_addrx, DW_FORM_addrx1, DW_FORM_addrx2, DW_FORM_addrx3, DW_FORM_addrx4,
+    DW_FORM_data1, DW_FORM_data2, DW_FORM_data4, DW_FORM_data8, DW_FORM_exprloc, DW_FORM_flag,
+    DW_FORM_flag_present, DW_FORM_implicit_const, DW_FORM_indirect, DW_FORM_line_strp,
+    DW_FORM_loclistx, DW_FORM_ref_addr, DW_FORM_ref_sig8, DW_FORM_ref_sup4, DW_FORM_ref_sup8,
+    DW_FORM_ref_udata, DW_FORM_ref1, DW_FORM_ref2, DW_FORM_ref4, DW_FORM_ref8, DW_FORM_rnglistx,
+    DW_FORM_sec_offset, DW_FORM_strp, DW_FORM_strp_sup, DW_FORM_strx, DW_FORM_strx1, DW_FORM_strx2,
+    DW_FORM_strx3, DW_FORM_strx4, DW_FORM_udata, DwForm,
+};
+use gimli_core_base::error::Error;
+use gimli_core_constants::{
+    DW_AT_ranges, DW_AT_stmt_list, DebugAddrIndex, DebugLineStrOffset, DebugLocListsIndex,
+    DebugRngListsIndex, DebugStrOffset, DebugStrOffsetsIndex, DebugTypeSignature, DwAt, Encoding,
+    Format,
+};
+use gimli_core_numbers::ReaderOffset;
+use gimli_core_readers::Reader;
+use gimli_units_base::{DebugInfoOffset, Expression, UnitOffset};
+
+/// Whether data of a form stands for an offset: data of an offset's width, under `DW_AT_stmt_list` and
+/// `DW_AT_ranges`.
+fn is_offset_data_of(encoding: Encoding, name: DwAt, form: DwForm) -> bool
+    ensures { result ≡ is_offset_data encoding name.0 form.0 }
+{
+    let word_form = match encoding.format {
+        Format::Dwarf32 => DW_FORM_data4,
+        Format::Dwarf64 => DW_FORM_data8,
+    };
+    form == word_form && (name == DW_AT_stmt_list || name == DW_AT_ranges)
+}
+
+/// The value of a form that spells an offset or an index.
+fn offset_value_of<R: Reader>(form: DwForm, number: u64) -> Result<AttributeValue<R>, Error>
+    ensures { Answers (raw_value_of R.view R.Offset.count) result
+        (meaning_in offset_meanings form.0 R.Offset.limit number) }
+{
+    let offset = R::Offset::from_u64(number);
+    Ok(match form {
+        DW_FORM_ref1 | DW_FORM_ref2 | DW_FORM_ref4 | DW_FORM_ref8 | DW_FORM_ref_udata => {
+            AttributeValue::UnitRef(UnitOffset(offset?))
+        }
+        DW_FORM_ref_addr => AttributeValue::DebugInfoRef(DebugInfoOffset(offset?)),
+        DW_FORM_ref_sup4 | DW_FORM_ref_sup8 | DW_FORM_GNU_ref_alt => {
+            AttributeValue::DebugInfoRefSup(DebugInfoOffset(offset?))
+        }
+        DW_FORM_sec_offset => AttributeValue::SecOffset(offset?),
+        DW_FORM_strp => AttributeValue::DebugStrRef(DebugStrOffset(offset?)),
+        DW_FORM_strp_sup | DW_FORM_GNU_strp_alt => {
+            AttributeValue::DebugStrRefSup(DebugStrOffset(offset?))
+        }
+        DW_FORM_line_strp => AttributeValue::DebugLineStrRef(DebugLineStrOffset(offset?)),
+        DW_FORM_strx
+        | DW_FORM_strx1
+        | DW_FORM_strx2
+        | DW_FORM_strx3
+        | DW_FORM_strx4
+        | DW_FORM_GNU_str_index => {
+            AttributeValue::DebugStrOffsetsIndex(DebugStrOffsetsIndex(offset?))
+        }
+        DW_FORM_addrx
+        | DW_FORM_addrx1
+        | DW_FORM_addrx2
+        | DW_FORM_addrx3
+        | DW_FORM_addrx4
+        | DW_FORM_GNU_addr_index => AttributeValue::DebugAddrIndex(DebugAddrIndex(offset?)),
+        DW_FORM_loclistx => AttributeValue::DebugLocListsIndex(DebugLocListsIndex(offset?)),
+        DW_FORM_rnglistx => AttributeValue::DebugRngListsIndex(DebugRngListsIndex(offset?)),
+        _ => return Err(Error::UnknownForm(form)),
+    })
+}
+
+/// The value of a form that spells a number.
+#[tactic(auto, unfolding(crate::specs::Reading::number_value))]
+fn number_value_of<R: Reader>(
+    encoding: Encoding,
+    name: DwAt,
+    form: DwForm,
+    number: u64,
+) -> Result<AttributeValue<R>, Error>
+    requires { FitsSpelling (spelling encoding form.0) number }
+    ensures { Answers (raw_value_of R.view R.Offset.count) result
+        (number_value R.Offset.limit encoding name.0 form.0 number) }
+{
+    if is_offset_data_of(encoding, name, form) {
+        return Ok(AttributeValue::SecOffset(R::Offset::from_u64(number)?));
+    }
+    Ok(match form {
+        DW_FORM_addr => AttributeValue::Addr(number),
+        DW_FORM_data1 => AttributeValue::Data1(number as u8),
+        DW_FORM_data2 => AttributeValue::Data2(number as u16),
+        DW_FORM_data4 => AttributeValue::Data4(number as u32),
+        DW_FORM_data8 => AttributeValue::Data8(number),
+        DW_FORM_udata => AttributeValue::Udata(number),
+        DW_FORM_flag => AttributeValue::Flag(number != 0),
+        DW_FORM_flag_present => AttributeValue::Flag(true),
+        DW_FORM_ref_sig8 => AttributeValue::DebugTypesRef(DebugTypeSignature(number)),
+        _ => return offset_value_of(form, number),
+    })
+}
+
+/// A number of at most eight bytes.
+pub(crate) fn read_fixed<R: Reader>(reader: &mut R, width: u8) -> Result<u64, Error>
+    requires { width ≤ 8 }
+    ensures value { Answers (λ n. (n, R.view reader.new)) result (fixed width (R.view reader.old)) }
+    ensures fits { IfOk result (FitsWidth width) }
+{
+    Ok(match width {
+        1 => u64::from(reader.read_u8()?),
+        2 => u64::from(reader.read_u16()?),
+        4 => u64::from(reader.read_u32()?),
+        _ => reader.read_uint(usize::from(width))?,
+    })
+}
+
+/// The form of a value: behind `DW_FORM_indirect` stands the form's number.
+pub(crate) fn read_form<R: Reader>(reader: &mut R, form: DwForm) -> Result<DwForm, Error>
+    ensures { Answers (λ f. (f.0, R.view reader.new)) result (final_form form.0 (R.view reader.old)) }
+{
+    let mut form = form;
+    while form == DW_FORM_indirect {
+        form = DwForm(reader.read_uleb128_u16()?);
+    }
+    Ok(form)
+}
+
+/// Bytes as a value of a form.
+fn bytes_value_of<R: Reader>(form: DwForm, bytes: R) -> AttributeValue<R>
+    ensures { raw_value_of R.view R.Offset.count result ≡ bytes_value form.0 (R.view bytes) }
+{
+    if form == DW_FORM_exprloc {
+        AttributeValue::Exprloc(Expression(bytes))
+    } else {
+        AttributeValue::Block(bytes)
+    }
+}
+
+/// As many bytes as a length of so many bytes says.
+#[tactic(auto, unfolding(crate::specs::Reading::counted))]
+fn read_block<R: Reader>(reader: &mut R, width: u8) -> Result<R, Error>
+    requires { width ≤ 8 }
+    ensures { Gives (λ bytes. (R.view bytes, R.view reader.new)) result
+        (counted R.Offset.limit (fixed width) (R.view reader.old)) }
+{
+    let length = read_fixed(reader, width)?;
+    reader.split(R::Offset::from_u64(length)?)
+}
+
+/// As many bytes as an unsigned LEB128 length says.
+#[tactic(auto, unfolding(crate::specs::Reading::counted))]
+fn read_long_block<R: Reader>(reader: &mut R) -> Result<R, Error>
+    ensures { Gives (λ bytes. (R.view bytes, R.view reader.new)) result
+        (counted R.Offset.limit unsigned (R.view reader.old)) }
+{
+    let length = reader.read_uleb128()?;
+    reader.split(R::Offset::from_u64(length)?)
+}
+
+/// The value of a form that isn't `DW_FORM_indirect`.
+#[tactic(auto, unfolding(crate::specs::Reading::value))]
+fn read_value<R: Reader>(
+    reader: &mut R,
+    encoding: Encoding,
+    name: DwAt,
+    constant: Option<i64>,
+    form: DwForm,
+) -> Result<AttributeValue<R>, Error>
+    ensures { Gives (λ value. (raw_value_of R.view R.Offset.count value, R.view reader.new)) result
+        (value R.Offset.limit encoding name.0 constant form.0 (R.view reader.old)) }
+{
+    match spelling_of(encoding, form) {
+        Spelling::Address => {
+            let number = reader.read_address(encoding.address_size)?;
+            number_value_of(encoding, name, form, number)
+        }
+        Spelling::Fixed(width) => {
+            let number = read_fixed(reader, width)?;
+            number_value_of(encoding, name, form, number)
+        }
+        Spelling::Sixteen => Ok(AttributeValue::Data16(reader.read_u128()?)),
+        Spelling::Block(width) => Ok(bytes_value_of(form, read_block(reader, width)?)),
+        Spelling::LongBlock => Ok(bytes_value_of(form, read_long_block(reader)?)),
+        Spelling::Unsigned => {
+            let number = reader.read_uleb128()?;
+            number_value_of(encoding, name, form, number)
+        }
+        Spelling::Signed => Ok(AttributeValue::Sdata(reader.read_sleb128()?)),
+        Spelling::Text => Ok(AttributeValue::String(reader.read_null_terminated_slice()?)),
+        Spelling::Constant => match constant {
+            Some(constant) => Ok(AttributeValue::Sdata(constant)),
+            None => Err(Error::InvalidImplicitConst),
+        },
+        Spelling::Indirect | Spelling::Unknown => Err(Error::UnknownForm(form)),
+    }
+}
+
+/// Reads the attribute that a declaration describes, and may move the reader also where it is refused: for who reads
+/// several on a copy.
+#[tactic(auto, unfolding(crate::specs::Reading::attribute))]
+pub fn read_attribute<R: Reader>(
+    reader: &mut R,
+    encoding: Encoding,
+    specification: AttributeSpecification,
+) -> Result<Attribute<R>, Error>
+    ensures { Gives (λ a. (raw_attribute_of R.view R.Offset.count a, R.view reader.new)) result
+        (attribute R.Offset.limit encoding (seen_attribute specification) (R.view reader.old)) }
+{
+    let name = specification.name();
+    let constant = specification.implicit_const_value();
+    let form = read_form(reader, specification.form())?;
+    let value = read_value(reader, encoding, name, constant, form)?;
+    Ok(Attribute { name, form, value })
+}
+
+/// Reads the attribute that a declaration describes. A refusal leaves the reader as it was.
+pub fn parse_attribute<R: Reader>(
+    reader: &mut R,
+    encoding: Encoding,
+    specification: AttributeSpecification,
+) -> Result<Attribute<R>, Error>
+    ensures { Takes (raw_attribute_of R.view R.Offset.count) result (R.view reader.old) (R.view reader.new)
+        (attribute R.Offset.limit encoding (seen_attribute specification) (R.view reader.old)) }
+{
+    let mut rest = reader.copy()?;
+    let attribute = read_attribute(&mut rest, encoding, specification)?;
+    *reader = rest;
+    Ok(attribute)
+}

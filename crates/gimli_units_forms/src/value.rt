@@ -1,0 +1,57 @@
+use gimli_core_base::constants::DwForm;
+use gimli_core_constants::{
+    DebugAddrBase, DebugAddrIndex, DebugLineOffset, DebugLineStrOffset, DebugLocListsBase,
+    DebugLocListsIndex, DebugRngListsBase, DebugRngListsIndex, DebugStrOffset, DebugStrOffsetsBase,
+    DebugStrOffsetsIndex, DebugTypeSignature, DwAt, DwLang, DwoId, RawRangeListsOffset,
+};
+use gimli_core_readers::Reader;
+use gimli_units_base::{DebugInfoOffset, Expression, UnitOffset};
+
+/// An attribute of an entry: its name, the form in which its value is spelled, and the value.
+#[derive(Drop)]
+pub struct Attribute<R: Reader> {
+    pub(crate) name: DwAt,
+    pub(crate) form: DwForm,
+    pub(crate) value: AttributeValue<R>,
+}
+
+/// The value of an attribute.
+#[derive(Drop)]
+pub enum AttributeValue<R: Reader, Offset = <R as Reader>::Offset> {
+    /// An address of the target.
+    Addr(u64),
+    /// Bytes.
+    Block(R),
+    /// A number of one byte, whose kind the attribute's name decides.
+    Data1(u8),
+    Data2(u16),
+    Data4(u32),
+    Data8(u64),
+    Data16(u128),
+    Sdata(i64),
+    Udata(u64),
+    Exprloc(Expression<R>),
+    Flag(bool),
+    SecOffset(Offset),
+    DebugAddrBase(DebugAddrBase<Offset>),
+    DebugAddrIndex(DebugAddrIndex<Offset>),
+    UnitRef(UnitOffset<Offset>),
+    DebugInfoRef(DebugInfoOffset<Offset>),
+    DebugInfoRefSup(DebugInfoOffset<Offset>),
+    DebugLineRef(DebugLineOffset<Offset>),
+    DebugLocListsBase(DebugLocListsBase<Offset>),
+    DebugLocListsIndex(DebugLocListsIndex<Offset>),
+    RangeListsRef(RawRangeListsOffset<Offset>),
+    DebugRngListsBase(DebugRngListsBase<Offset>),
+    DebugRngListsIndex(DebugRngListsIndex<Offset>),
+    DebugTypesRef(DebugTypeSignature),
+    DebugStrRef(DebugStrOffset<Offset>),
+    DebugStrRefSup(DebugStrOffset<Offset>),
+    DebugStrOffsetsBase(DebugStrOffsetsBase<Offset>),
+    DebugStrOffsetsIndex(DebugStrOffsetsIndex<Offset>),
+    DebugLineStrRef(DebugLineStrOffset<Offset>),
+    String(R),
+    Language(DwLang),
+    FileIndex(u64),
+    DwoId(DwoId),
+}
