@@ -2,3 +2,4 @@ pub mod Declarations
 pub mod Parsing
 pub mod Seen
 pub mod Kept
+pub mod Widths

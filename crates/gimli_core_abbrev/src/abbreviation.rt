@@ -4,10 +4,18 @@ ghost use Rattle.std.specs.Prelude.{◌≡◌, ◌==◌, map, option_map, is_som
 ghost use Rattle.gimli_core_base.specs.Calls.{Reads, Gives};
 ghost use Rattle.gimli_core_abbrev.specs.Parsing.{implicit_const_form, implicit_const, attribute, attributes, children, declaration_of, declaration};
 ghost use Rattle.gimli_core_abbrev.specs.Seen.{seen, seen_attribute};
+ghost use Rattle.gimli_core_abbrev.specs.Widths.{width_of};
 
-use gimli_core_base::constants::{DW_FORM_implicit_const, DwForm};
+use gimli_core_base::constants::{
+    DW_FORM_GNU_ref_alt, DW_FORM_GNU_strp_alt, DW_FORM_addr, DW_FORM_addrx1, DW_FORM_addrx2,
+    DW_FORM_addrx3, DW_FORM_addrx4, DW_FORM_data1, DW_FORM_data2, DW_FORM_data4, DW_FORM_data8,
+    DW_FORM_data16, DW_FORM_flag, DW_FORM_flag_present, DW_FORM_implicit_const, DW_FORM_line_strp,
+    DW_FORM_ref1, DW_FORM_ref2, DW_FORM_ref4, DW_FORM_ref8, DW_FORM_ref_addr, DW_FORM_ref_sig8,
+    DW_FORM_ref_sup4, DW_FORM_ref_sup8, DW_FORM_sec_offset, DW_FORM_strp, DW_FORM_strp_sup,
+    DW_FORM_strx1, DW_FORM_strx2, DW_FORM_strx3, DW_FORM_strx4, DwForm,
+};
 use gimli_core_base::error::Error;
-use gimli_core_constants::{DwAt, DwTag};
+use gimli_core_constants::{DwAt, DwTag, Encoding};
 use gimli_core_readers::Reader;
 use smallvec::SmallVec;
 use std::alloc::Global;
@@ -66,6 +74,35 @@ impl AttributeSpecification {
         ensures { result ≡ (seen_attribute self.now).implicit_const }
     {
         self.implicit_const_value
+    }
+}
+
+impl AttributeSpecification {
+    /// The bytes of the attribute's value, where the form alone tells how many there are (DWARF 5, 7.5.6).
+    pub fn size(&self, encoding: Encoding) -> Option<usize>
+        ensures { result ≡ width_of encoding (seen_attribute self.now).form }
+    {
+        match self.form {
+            DW_FORM_addr => Some(encoding.address_size as usize),
+            DW_FORM_ref_addr if encoding.version == 2 => Some(encoding.address_size as usize),
+            DW_FORM_ref_addr
+            | DW_FORM_strp
+            | DW_FORM_sec_offset
+            | DW_FORM_strp_sup
+            | DW_FORM_line_strp
+            | DW_FORM_GNU_ref_alt
+            | DW_FORM_GNU_strp_alt => Some(encoding.format.word_size() as usize),
+            DW_FORM_flag_present | DW_FORM_implicit_const => Some(0),
+            DW_FORM_data1 | DW_FORM_flag | DW_FORM_ref1 | DW_FORM_strx1 | DW_FORM_addrx1 => Some(1),
+            DW_FORM_data2 | DW_FORM_ref2 | DW_FORM_strx2 | DW_FORM_addrx2 => Some(2),
+            DW_FORM_strx3 | DW_FORM_addrx3 => Some(3),
+            DW_FORM_data4 | DW_FORM_ref4 | DW_FORM_ref_sup4 | DW_FORM_strx4 | DW_FORM_addrx4 => {
+                Some(4)
+            }
+            DW_FORM_data8 | DW_FORM_ref8 | DW_FORM_ref_sig8 | DW_FORM_ref_sup8 => Some(8),
+            DW_FORM_data16 => Some(16),
+            _ => None,
+        }
     }
 }
 
