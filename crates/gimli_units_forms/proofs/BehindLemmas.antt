@@ -31,11 +31,11 @@ pub record Behind (v w : View) : Type 0 where
 Behind-self : (v : View) → Behind v v
 Behind-self v = record { count = 0; leads = run-zero v }
 
-Behind-Behind : (u v w : View) → Behind u v → Behind v w → Behind u w
+pub Behind-Behind : (u v w : View) → Behind u v → Behind v w → Behind u w
 Behind-Behind u v w a b = record { count = a.count + b.count; leads = run-run a.count b.count u v w a.leads b.leads }
 
 -- a step leaves what stands behind some bytes
-record Goes {A : Type 0} (p : Parser A) : Type 0 where
+pub record Goes {A : Type 0} (p : Parser A) : Type 0 where
   pub goes : (v : View) (x : A) (w : View) → p v ≡ Ok (x, w) → Behind v w
 
 Goes-onward : {A B : Type 0} (p : Parser A) (f : A → Parser B) → Goes p → ((x : A) → Goes (f x)) → Goes (p >>= f)
@@ -118,7 +118,7 @@ Goes-looked_at : (e : Encoding) (form : ℕ) → Goes (looked_at e form)
 unfolding looked_at
 Goes-looked_at e form = Goes-onward (final_form form) (λ final. look_of (plain_way e final (spelling e final))) (Goes-final_form form) (λ final. Goes-plain_way e final (spelling e final))
 
-Goes-way_of : (e : Encoding) (form : ℕ) → Goes (look_of (way_of e form))
+pub Goes-way_of : (e : Encoding) (form : ℕ) → Goes (look_of (way_of e form))
 unfolding way_of
 Goes-way_of e form = by_test (eqb form 0x16)
   where
@@ -148,12 +148,15 @@ passed_over-behind e ss v w h = (Goes-passed e ss 0).goes v tt w h
 
 -- ---- what a call that passes over attributes leaves
 
-pub passed-fewer : (e : Encoding) (ss : List Attribute) (v w : View) → passed_over e ss v ≡ done w → bytes_left w ≤ bytes_left v
-passed-fewer e ss v w h =
-    let b = passed_over-behind e ss v w h in
+-- no more bytes than there were
+pub Behind-fewer : (v w : View) → Behind v w → bytes_left w ≤ bytes_left v
+Behind-fewer v w b =
     let r = Runs-from_run b.count v w b.leads in
-    let left : bytes_left w ≡ bytes_left (after b.count v) = ap bytes_left (sym r.behind_it) in
+    let left = ap bytes_left (sym r.behind_it) in
     omega (arith, left, length-drop b.count v.bytes)
+
+pub passed-fewer : (e : Encoding) (ss : List Attribute) (v w : View) → passed_over e ss v ≡ done w → bytes_left w ≤ bytes_left v
+passed-fewer e ss v w h = Behind-fewer v w (passed_over-behind e ss v w h)
 
 -- the bytes that are no longer there were passed
 pub passed-after : (e : Encoding) (ss : List Attribute) (v w : View) (n : ℕ) → passed_over e ss v ≡ done w → n ≡ bytes_left v - bytes_left w → after n v ≡ w

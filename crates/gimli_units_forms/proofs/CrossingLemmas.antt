@@ -133,7 +133,7 @@ spelled-leads limit e name form constant Unknown v x w h = absurd cc
 -- ---- one attribute
 
 -- looking along a way leads where it leads
-look-leads : (way : Way) (v w : View) → Leads way v w → (n : ℕ) × (u : View) × (look_of way v ≡ Ok (n, u)) × (run n u ≡ done w)
+pub look-leads : (way : Way) (v w : View) → Leads way v w → (n : ℕ) × (u : View) × (look_of way v ≡ Ok (n, u)) × (run n u ≡ done w)
 look-leads (wide n) v w h = (n, v, refl, h)
 look-leads (looked look) v w h = h
 
@@ -157,7 +157,7 @@ way-leads e form final v u w h plain = by_test (eqb form 0x16) refl
         subst (λ (x : View). Leads (plain_way e form (spelling e form)) x w) (sym view_is) (subst (λ (f : ℕ). Leads (plain_way e f (spelling e f)) u w) (sym form_is) plain)
 
 -- the way past an attribute leads where reading it leads
-attribute-leads : (limit : ℕ) (e : Encoding) (s : Attribute) (v : View) (a : RawAttribute) (w : View)
+pub attribute-leads : (limit : ℕ) (e : Encoding) (s : Attribute) (v : View) (a : RawAttribute) (w : View)
     → attribute limit e s v ≡ Ok (a, w) → Leads (way_of e s.form) v w
 unfolding attribute value
 attribute-leads limit e s v a w h =

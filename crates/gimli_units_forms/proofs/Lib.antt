@@ -3,3 +3,4 @@ pub mod PassingLemmas
 pub mod RunLemmas
 pub mod CrossingLemmas
 pub mod BehindLemmas
+pub mod Sizes
