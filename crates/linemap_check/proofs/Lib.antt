@@ -1,5 +1,6 @@
 mod CallLemmas
 mod Lists
 mod OverlapLemmas
+mod PassLemmas
 mod RuleLemmas
 mod SaturationLemmas

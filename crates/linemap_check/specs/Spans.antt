@@ -1,13 +1,27 @@
 -- Ranges in the order in which their owners stand, and how they are searched.
-use Rattle.std.specs.Prelude.{ℕ, max, Bool, false, ◌||◌, nat_lt, List, [], ◌∷◌, Option, Some, None, if◌then◌else◌}
+use Rattle.std.specs.Prelude.{ℕ, max, Bool, false, ◌||◌, nat_lt, List, [], ◌∷◌, Option, Some, None, not, ◌&&◌, if◌then◌else◌}
 use Rattle.std.specs.List.{list_any}
 use Rattle.linemap_meaning.specs.Parts.{RangePart, Calls, no_calls, more_calls}
-use Rattle.linemap_meaning.specs.Conditions.{any_outside, overlap, sibling_ranges}
+use Rattle.linemap_meaning.specs.Conditions.{any_outside, is_empty_range, overlap, sibling_ranges}
+use Rattle.linemap_meaning.specs.Laws.{begins_ascend_from}
 
 -- the greatest end, where each range begins at or past the ends of those before it, the first at or past `end`
 abbrev pub ordered_end : ℕ → List RangePart → Option ℕ
 ordered_end end [] = Some end
 ordered_end end (r ∷ rs) = if nat_lt r.begin end then None else ordered_end (max end r.end) rs
+
+-- no range is empty, and each begins at or above the begin of the one before it
+abbrev pub is_ascending : List RangePart → Bool
+is_ascending rs = not (list_any is_empty_range rs) && begins_ascend_from 0 rs
+
+-- the one of two ranges that ends last
+abbrev pub later_end : RangePart → RangePart → RangePart
+later_end q r = if nat_lt q.end r.end then r else q
+
+-- the range that ends last, where none overlaps the one that ends last of those before it, the first of them `last`
+abbrev pub last_unmet : RangePart → List RangePart → Option RangePart
+last_unmet last [] = Some last
+last_unmet last (r ∷ rs) = if overlap last r then None else last_unmet (later_end last r) rs
 
 -- some range of the first list overlaps one behind it there, or one of the second list
 abbrev pub any_meets : List RangePart → List RangePart → Bool

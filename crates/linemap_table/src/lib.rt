@@ -44,8 +44,8 @@ impl Table {
         Table::check(units)
     }
 
-    /// Checks units, which a refusal drops. It takes no memory, and one pass for each rule where the ranges of units, of a unit's functions and
-    /// sequences, and of calls side by side stand in ascending order; else it may try each pair of them.
+    /// Checks units, which a refusal drops. It takes no memory, and one pass or two for each rule where the ranges of units, of a unit's functions
+    /// and sequences, and of calls side by side stand in ascending order, overlap or not; else it may try each pair of them.
     pub fn check(units: Vec<TableUnit>) -> Result<Table, TableError>
         ensures { Answers result (checked (map unit_part units.items)) }
     {

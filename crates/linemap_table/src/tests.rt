@@ -74,6 +74,7 @@ fn tells_rules_of_ranges_apart(rt: HostRuntime) -> Result<(), Fail> {
         ("B8", "[4096,4144]", "[4096,4164]"),
         ("B8", "[4096,4160]", "[4096,4120],[4120,4160]"),
         ("B9", "[4096,4144]", "[4096,4144],[4100,4104]"),
+        ("B9", "[4096,4144]", "[4096,4104],[4104,4120],[4112,4144]"),
         ("B10", "[4112,4128]", "[4112,4152]"),
         ("B11", "[4112,4128]", "[4112,4128],[4120,4124]"),
         ("B12", "\"end\":4144", "\"end\":4164"),
@@ -251,5 +252,16 @@ fn checks_a_large_table_in_order(rt: HostRuntime) -> Result<(), Fail> {
     let unit = large_unit(rt.alloc(), 100_000)?;
     let table = Table::check(vec![in rt.alloc(); unit]?)?;
     assert_eq!(rt; table.units().len(), 1);
+    Ok(())
+}
+
+#[test]
+fn refuses_a_large_table_in_order_with_an_overlap(rt: HostRuntime) -> Result<(), Fail> {
+    let mut unit = large_unit(rt.alloc(), 100_000)?;
+    unit.ranges
+        .push(range_at(99_999))
+        .map_err(AllocError::from)?;
+    let answer = Table::check(vec![in rt.alloc(); unit]?);
+    assert_eq!(rt; answer, Err(TableError::UnitsOverlap));
     Ok(())
 }
