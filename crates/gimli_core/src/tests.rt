@@ -122,18 +122,23 @@ fn strings_of_shared_bytes(rt: HostRuntime) -> Result<(), Fail> {
     Ok(())
 }
 
+// The first set of addresses of a section.
+fn first_set<R: Reader>(section: &DebugAddr<R>) -> Result<Option<AddrHeader<R>>, Error> {
+    section.headers()?.next()
+}
+
+// The first two addresses of a set.
+fn two_addresses<R: Reader>(set: &AddrHeader<R>) -> Result<(Option<u64>, Option<u64>), Error> {
+    let mut entries = set.entries()?;
+    let first = entries.next()?;
+    Ok((first, entries.next()?))
+}
+
 #[test]
 fn addresses_of_shared_bytes(rt: HostRuntime) -> Result<(), Fail> {
-    let set = b"\x0c\0\0\0\x05\0\x04\0\0\x10\0\0\x34\x12\0\0";
-    let section = DebugAddr::from(shared(set));
-    let mut headers = section.headers()?;
-    let header = headers.next()?.ok_or("no set")?;
-    assert_eq!(rt; header.length(), 12);
-    let mut entries = header.entries()?;
-    assert_eq!(rt; entries.next()?, Some(0x1000));
-    assert_eq!(rt; entries.next()?, Some(0x1234));
-    assert_eq!(rt; entries.next()?, None);
-    assert!(rt; headers.next()?.is_none());
+    let section = DebugAddr::from(shared(b"\x0c\0\0\0\x05\0\x04\0\0\x10\0\0\x34\x12\0\0"));
+    let set = first_set(&section)?.ok_or("no set")?;
+    assert_eq!(rt; two_addresses(&set)?, (Some(0x1000), Some(0x1234)));
     Ok(())
 }
 
