@@ -1,13 +1,13 @@
 //! What the words of a command line ask for.
-ghost use Rattle.std.specs.Prelude.{◌≡◌, IfOk, IfErr, IsSomeAnd, map, codes, string_bytes};
+ghost use Rattle.std.specs.Prelude.{◌≡◌, IfOk, IfErr, IsSomeAnd, Some, map, codes, string_bytes};
 ghost use Rattle.clap.specs.Words.{fault_of, found_of, kind_of, rows_of, subcommand_of, subcommand_rows_of};
 ghost use Rattle.linemap_words.specs.CommandLine.{linemap_app};
-ghost use Rattle.linemap_words.specs.Request.{HasNoRequest, IsFault, IsRefusal, IsRequestOf, LacksArguments};
+ghost use Rattle.linemap_words.specs.Request.{HoldsRequest, IsFault, IsRefusal, IsRequestOf};
 
 use crate::command_line::{ADDRESSES, TABLE, linemap_command};
 use clap::ArgMatches;
 use clap::error::ErrorKind;
-use std::alloc::{AllocError, AllocFailed, Global};
+use std::alloc::{AllocError, Global};
 use thiserror::Error;
 
 /// What the program is asked to do.
@@ -31,9 +31,6 @@ pub enum WordsError {
     /// A mistake in the words, or a request for help, in `clap`'s words.
     #[error("{0}")]
     Fault(clap::Error),
-    /// The matches name no subcommand, or lack one of its arguments.
-    #[error("linemap: no request\n")]
-    NoRequest,
 }
 
 impl From<AllocError> for WordsError {
@@ -42,16 +39,6 @@ impl From<AllocError> for WordsError {
     ghost from_gives = { λ _ e. e ≡ Memory };
 
     fn from(_error: AllocError) -> WordsError {
-        WordsError::Memory
-    }
-}
-
-impl<T: Drop> From<AllocFailed<T>> for WordsError {
-    ghost use Rattle.linemap_words.specs.declared.request.WordsError.TheVariants.{Memory};
-
-    ghost from_gives = { λ _ e. e ≡ Memory };
-
-    fn from(_error: AllocFailed<T>) -> WordsError {
         WordsError::Memory
     }
 }
@@ -66,7 +53,6 @@ impl WordsError {
         match self {
             WordsError::Memory => 1,
             WordsError::Fault(error) => { if error.use_stderr() { 2 } else { 0 } }
-            WordsError::NoRequest => 2,
         }
     }
 
@@ -76,7 +62,7 @@ impl WordsError {
     {
         match self {
             WordsError::Fault(error) => !error.use_stderr(),
-            WordsError::Memory | WordsError::NoRequest => false,
+            WordsError::Memory => false,
         }
     }
 }
@@ -90,29 +76,33 @@ pub fn read_words(alloc: Global, words: &[String]) -> Result<Request, WordsError
         (fault_of linemap_app (map string_bytes words.now))
         (subcommand_of linemap_app (map string_bytes words.now))) }
 {
-    let command = linemap_command(alloc)?;
-    let matches = match command.try_get_matches_from(words) {
+    let mut command = linemap_command(alloc)?;
+    let matches = match command.try_get_matches_from_mut(words) {
         Ok(matches) => matches,
         Err(error) => return Err(refused(error)),
     };
-    request_in(alloc, &matches)
+    match request_in(alloc, &matches)? {
+        Some(request) => Ok(request),
+        None => {
+            let kind = ErrorKind::MissingRequiredArgument;
+            Err(refused(command.error(kind, "no request")?))
+        }
+    }
 }
 
-// The request of the subcommand that the parse met.
-fn request_in(alloc: Global, matches: &ArgMatches<'_>) -> Result<Request, WordsError>
-    ensures request { IfOk result (λ request.
-        IsSomeAnd (subcommand_rows_of matches.now) (IsRequestOf request)) }
-    ensures refusal { IfErr result (λ error. HasNoRequest error (subcommand_rows_of matches.now)) }
+// The request of the subcommand that the parse met, or none where the matches lack a part of it.
+fn request_in(alloc: Global, matches: &ArgMatches<'_>) -> Result<Option<Request>, AllocError>
+    ensures { IfOk result (λ request. HoldsRequest request (subcommand_rows_of matches.now)) }
 {
     match matches.subcommand() {
         Some((name, found)) => {
             if name == "ask" {
                 ask_request(alloc, found)
             } else {
-                Err(WordsError::NoRequest)
+                Ok(None)
             }
         }
-        None => Err(WordsError::NoRequest),
+        None => Ok(None),
     }
 }
 
@@ -128,23 +118,19 @@ fn refused(error: clap::Error) -> WordsError
 }
 
 // The request of the matches of `ask`.
-fn ask_request(alloc: Global, found: &ArgMatches<'_>) -> Result<Request, WordsError>
-    ensures request { IfOk result (λ request.
-        IsRequestOf request (codes "ask", rows_of (found_of found.now))) }
-    ensures refusal { IfErr result (λ error. LacksArguments error (rows_of (found_of found.now))) }
+fn ask_request(alloc: Global, found: &ArgMatches<'_>) -> Result<Option<Request>, AllocError>
+    ensures { IfOk result (λ request.
+        HoldsRequest request (Some (codes "ask", rows_of (found_of found.now)))) }
 {
     let table = match found.get_str(TABLE) {
-        Some(table) => table,
-        None => return Err(WordsError::NoRequest),
+        Some(table) => String::from_str(alloc, table)?,
+        None => return Ok(None),
     };
-    let addresses = match found.get_strs(ADDRESSES) {
-        Some(addresses) => addresses,
-        None => return Err(WordsError::NoRequest),
+    let words = match found.get_strs(ADDRESSES) {
+        Some(addresses) => copied(alloc, addresses)?,
+        None => return Ok(None),
     };
-    Ok(Request::Ask {
-        table: String::from_str(alloc, table)?,
-        words: copied(alloc, addresses)?,
-    })
+    Ok(Some(Request::Ask { table, words }))
 }
 
 // Copies of the texts.
