@@ -2,3 +2,4 @@ pub mod Taking
 pub mod Parts
 pub mod Units
 pub mod Sets
+pub mod Memory

@@ -1,17 +1,16 @@
 -- Parts that stand end to end: they tile their section, there are no more of them than bytes, and each is found again at its offset.
-use Rattle.std.proofs.Common.{◌≡◌, ℕ, zero, suc, ◌+◌, ◌-◌, ◌<◌, ◌≤◌, ◌≢◌, Bool, true, false, cond, ltb, eqb, List, [], ◌∷◌, ◌++◌, length, drop, Option, Some, None, Result, Ok, Err, refl, sym, ◌∙◌, ap, subst, arith, length-drop}
+use Rattle.std.proofs.Common.{◌≡◌, ℕ, zero, suc, ◌+◌, ◌-◌, ◌<◌, ◌≤◌, ◌≢◌, Bool, true, false, cond, eqb, List, [], ◌∷◌, length, drop, Option, Some, None, Result, Ok, Err, refl, sym, ◌∙◌, ap, subst, arith, length-drop}
 use Rattle.std.proofs.lemmas.Bool.{eqb-true, eqb-false, le-ltb}
 use Rattle.std.proofs.lemmas.List.Elements.{All-nil, All-cons, All-weaker}
 use Rattle.std.specs.List.{All}
 use Rattle.std.specs.Result.{IfOk}
 use Rattle.gimli_core_base.specs.declared.error.Error.{Error}
-use Rattle.gimli_core_base.specs.declared.error.Error.TheVariants.{Memory}
 use Rattle.gimli_core_base.specs.View.{View, after, bytes_left, ends}
 use Rattle.gimli_core_base.specs.Parsers.{Step, Parser, onward, give, skip, value_of, ◌>>◌}
 use Rattle.gimli_core_base.specs.Calls.{Gives}
 use Rattle.gimli_core_base.specs.Repetition.{Listing, fault_of, listing_in, items_within, next_item, item_or_end, until_end}
 use Rattle.gimli_core_base.proofs.Steps.{read}
-use Rattle.gimli_core_base.proofs.Sizes.{SomeBelow-until_end, SomeBelow}
+use Rattle.gimli_core_base.proofs.Sizes.{SomeBelow-until_end}
 use Rattle.gimli_core_base.proofs.Listings.{Shrinks, listing_end, listing_item, listing_fault}
 use Rattle.gimli_core_strings.specs.Iterators.{ComesNext}
 use Rattle.gimli_units_headers.specs.Tiling.{SectionLeft, whole_section, part_of, next_part, parts_to_come, Tile}

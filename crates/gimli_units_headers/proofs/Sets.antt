@@ -1,23 +1,24 @@
 -- What is known of a set of address ranges that was read, and how its ranges follow one another.
-use Rattle.std.proofs.Common.{◌≡◌, ℕ, ◌+◌, ◌-◌, ◌*◌, ◌<◌, ◌≤◌, Bool, true, false, cond, ltb, eqb, lit<, length, List, [], ◌∷◌, Option, Some, None, Result, Ok, Err, refl, sym, ◌∙◌, ap, subst, arith, ◌||◌}
+use Rattle.std.proofs.Common.{◌≡◌, ℕ, suc, ◌+◌, ◌*◌, ◌<◌, ◌≤◌, Bool, true, false, cond, ltb, eqb, length, List, [], ◌∷◌, Option, Some, None, Result, Ok, Err, refl, sym, ◌∙◌, ap, subst, arith, ◌||◌}
 use Rattle.std.proofs.lemmas.Bool.{eqb-true}
 use Rattle.std.specs.Prelude.{IsTrue}
-use Rattle.std.specs.Result.{IsErrAnd}
+use Rattle.std.specs.Result.{IfOk, IsErrAnd}
 use Rattle.std.specs.List.{filter_map, cons_option}
 use Rattle.gimli_core_base.specs.declared.error.Error.{Error}
 use Rattle.gimli_core_base.specs.declared.error.Error.TheVariants.{UnknownVersion, UnsupportedSegmentSize}
 use Rattle.gimli_core_base.specs.View.{View, bytes_left}
-use Rattle.gimli_core_base.specs.Parsers.{Step, Parser, onward, give}
-use Rattle.gimli_core_base.specs.Repetition.{Listing, ended, prepend, listing_in}
-use Rattle.gimli_core_base.proofs.Steps.{begins, read, value_is, state_is}
-use Rattle.gimli_core_base.proofs.Sizes.{SomeBelow, SomeBelow-None, SomeBelow-cond}
+use Rattle.gimli_core_base.specs.Parsers.{onward, give}
+use Rattle.gimli_core_base.specs.Calls.{Gives}
+use Rattle.gimli_core_base.specs.Repetition.{Listing, listing_in}
+use Rattle.gimli_core_base.proofs.Steps.{begins, value_is, state_is}
+use Rattle.gimli_core_base.proofs.Sizes.{SomeBelow-None, SomeBelow-cond}
 use Rattle.gimli_core_base.proofs.Listings.{Shrinks, listing_end, listing_item}
 use Rattle.gimli_core_constants.specs.declared.common.Format.{Format}
 use Rattle.gimli_core_constants.specs.Formats.{initial_length_size}
 use Rattle.gimli_core_numbers.specs.Numbers.{is_address_size}
-use Rattle.gimli_units_headers.specs.Aranges.{ArangeSet, ArangeFields, ArangePair, PairsLeft, arange_fields, arange_padding, arange_set_in, arange_set, set_size, pair, next_pair, arange_of, unless_passed, pairs_to_come, aranges_to_come, IsFirst}
+use Rattle.gimli_units_headers.specs.Aranges.{ArangeSet, ArangePair, PairsLeft, arange_fields, arange_padding, arange_set_in, arange_set, set_size, pair, next_pair, arange_of, unless_passed, pairs_of, pairs_to_come, aranges_to_come, IsFirst}
 use Rattle.gimli_units_headers.proofs.Taking.{Took, took_left, took_both, took_same, Gave, gave, refused, gave-onward, gave-cond, gave_more, within_gave, four_at_least, fixed_took, part_took, skip_took, word_took, address_size_took, initial_length_took}
-use Rattle.gimli_units_headers.proofs.Parts.{IsPart, Parts}
+use Rattle.gimli_units_headers.proofs.Parts.{Parts, listing_few}
 
 -- ---- sets
 
@@ -153,3 +154,26 @@ first_refused (Err e) old new d h k = k ∙ ap (λ (f : Error). refusal f ∷ ne
   where
     refusal : Error → Result ArangePair Error
     refusal f = Err f
+
+-- ---- no more than bytes
+
+cons_few : {A : Type 0} (o : Option A) (xs : List A) (n : ℕ) → length xs ≤ n → length (cons_option o xs) ≤ suc n
+cons_few None xs n h = omega arith
+cons_few (Some x) xs n h = omega arith
+
+filter_map_few : {A B : Type 0} (f : A → Option B) (xs : List A) → length (filter_map f xs) ≤ length xs
+filter_map_few f [] = omega arith
+filter_map_few f (x ∷ xs) = cons_few (f x) (filter_map f xs) (length xs) (filter_map_few f xs)
+
+few_ranges : (s : PairsLeft) → IsTrue (is_address_size s.address_size) → length (aranges_to_come s) ≤ bytes_left s.left
+few_ranges s h =
+    let kept = filter_map_few (λ p. unless_passed (arange_of s.address_size p)) (pairs_to_come s) in
+    let few = listing_few (pairs_shrink s.address_size (some_size s.address_size h)) s.left in
+    omega arith
+
+-- the ranges of a set are no more than its bytes
+pub few_in_set : (set : ArangeSet) (result : Result PairsLeft Error) → IsTrue (is_address_size set.encoding.address_size) → Gives (λ s. s) result (Ok (pairs_of set)) → IfOk result (λ s. length (aranges_to_come s) ≤ bytes_left set.pairs)
+few_in_set set (Ok s) h e =
+    let is : pairs_of set ≡ s = cc in
+    subst (λ (t : PairsLeft). length (aranges_to_come t) ≤ bytes_left set.pairs) is (few_ranges (pairs_of set) h)
+few_in_set set (Err d) h e = tt

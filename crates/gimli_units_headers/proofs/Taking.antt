@@ -6,12 +6,12 @@ use Rattle.std.specs.Prelude.{IsTrue}
 use Rattle.gimli_core_base.specs.declared.error.Error.{Error}
 use Rattle.gimli_core_base.specs.declared.error.Error.TheVariants.{UnknownReservedLength, UnsupportedAddressSize}
 use Rattle.gimli_core_base.specs.View.{View, after, bytes_left, front, ends}
-use Rattle.gimli_core_base.specs.Parsers.{Step, Parser, onward, give, part, skip, lift, within, value_of}
+use Rattle.gimli_core_base.specs.Parsers.{Step, Parser, onward, part, skip, lift, within, value_of}
 use Rattle.gimli_core_base.proofs.Steps.{begins, read, value_is, state_is, value_of-Ok, lift-Ok}
 use Rattle.gimli_core_constants.specs.declared.common.Format.{Format}
 use Rattle.gimli_core_constants.specs.declared.common.Format.TheVariants.{Dwarf32, Dwarf64}
 use Rattle.gimli_core_constants.specs.Formats.{initial_length_size, word_size}
-use Rattle.gimli_core_numbers.specs.Numbers.{fixed, sized_offset, offset_below, word, length_of, initial_length, address_size, is_address_size}
+use Rattle.gimli_core_numbers.specs.Numbers.{fixed, sized_offset, offset_below, word, initial_length, address_size, is_address_size}
 
 -- behind one part and then another
 pub after_after : (m n : ℕ) (v : View) → after n (after m v) ≡ after (m + n) v

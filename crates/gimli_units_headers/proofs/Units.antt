@@ -1,19 +1,15 @@
 -- What is known of a unit that was read: its offset, the bytes that it takes, and the sizes of its header and entries.
-use Rattle.std.proofs.Common.{◌≡◌, ℕ, ◌+◌, ◌-◌, ◌<◌, ◌≤◌, ◌≢◌, Bool, true, false, cond, leb, eqb, lit<, length, take, Result, Ok, Err, refl, sym, ◌∙◌, ap, subst, arith, length-drop, length-take, ◌&&◌}
-use Rattle.std.proofs.lemmas.Bool.{and_parts, leb-true, eqb-true, ne_eqb}
+use Rattle.std.proofs.Common.{◌≡◌, ℕ, ◌+◌, ◌<◌, ◌≤◌, ◌≢◌, Bool, false, leb, eqb, length, Ok, refl, sym, ◌∙◌, ap, subst, arith, length-take, ◌&&◌}
+use Rattle.std.proofs.lemmas.Bool.{and_parts, leb-true, ne_eqb}
 use Rattle.std.specs.Prelude.{IsTrue, ◌==◌, if◌then◌else◌}
-use Rattle.gimli_core_base.specs.declared.error.Error.{Error}
 use Rattle.gimli_core_base.specs.declared.error.Error.TheVariants.{UnknownVersion, UnsupportedUnitType}
-use Rattle.gimli_core_base.specs.View.{View, after, front, bytes_left}
-use Rattle.gimli_core_base.specs.Parsers.{Step, Parser, onward, give, value_of, lift, within}
-use Rattle.gimli_core_base.proofs.Steps.{begins, read, value_is, state_is, value_of-Ok, lift-Ok}
+use Rattle.gimli_core_base.specs.View.{View, bytes_left}
 use Rattle.gimli_core_constants.specs.declared.common.Format.{Format}
-use Rattle.gimli_core_constants.specs.declared.common.Format.TheVariants.{Dwarf32, Dwarf64}
 use Rattle.gimli_core_constants.specs.Formats.{initial_length_size, word_size}
-use Rattle.gimli_core_numbers.specs.Numbers.{fixed, initial_length, word, address_size, is_address_size}
+use Rattle.gimli_core_numbers.specs.Numbers.{is_address_size}
 use Rattle.gimli_units_headers.specs.UnitHeaders.{UnitKind, compilation, type_unit, partial, skeleton, split_compilation, split_type, DebugUnit, Fields, unit_type, with_dwo_id, with_signature, kind_of_type, fields_to_4, fields_of_5, unit_fields, unit_in, unit, length_including_self, kind_size, fields_size, size_of_header, IsRead}
 use Rattle.gimli_units_headers.proofs.Taking.{Took, took_left, took_both, took_same, Gave, gave, refused, gave-onward, gave-cond, gave_more, within_gave, four_at_least, fixed_took, part_took, word_took, address_size_took, initial_length_took}
-use Rattle.gimli_units_headers.proofs.Parts.{IsPart, Parts}
+use Rattle.gimli_units_headers.proofs.Parts.{Parts}
 
 -- ---- what a type adds
 
@@ -88,7 +84,7 @@ unfolding unit_fields
 fields_are limit format v =
     gave-onward (fixed_took 2 v) (λ version s h.
     gave-cond (leb 2 version && leb version 4)
-    (λ known. let upto = leb-true version 4 (and_parts _ _ known).1 in let older : version ≢ 5 = omega arith in to_4_are limit format version v s h (ne_eqb version 5 older)) (λ _.
+    (λ known. let upto : version ≤ 4 = leb-true version 4 (and_parts (leb 2 version) (leb version 4) known).1 in let older : version ≢ 5 = omega arith in to_4_are limit format version v s h (ne_eqb version 5 older)) (λ _.
     gave-cond (eqb version 5) (λ _. of_5_are limit format v s h) (λ _. refused (UnknownVersion version))))
 
 -- ---- the unit

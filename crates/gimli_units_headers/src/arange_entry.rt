@@ -1,8 +1,8 @@
 //! The ranges of a set (DWARF 5, 6.1.2).
 
-ghost use Rattle.std.specs.Prelude.{◌≡◌, ◌≤◌, IfErr, IsOk, IsTrue, Ok, length};
-ghost use Rattle.gimli_core_base.specs.View.{bytes_left};
+ghost use Rattle.std.specs.Prelude.{◌≡◌, ◌≢◌, IsOk, IsTrue, Ok, Err};
 ghost use Rattle.gimli_core_base.specs.Calls.{Gives};
+ghost use Rattle.gimli_core_base.specs.declared.error.Error.TheVariants.{Memory};
 ghost use Rattle.gimli_core_numbers.specs.Numbers.{is_address_size};
 ghost use Rattle.gimli_units_headers.specs.Aranges.{next_pair, arange_of, aranges_to_come, pairs_left, end_of, IsFirst};
 
@@ -78,7 +78,8 @@ impl<R: Reader> Model for ArangeEntryIter<R> {
 impl<R: Reader> ArangeEntryIter<R> {
     pub(crate) fn new(entries: &R, address_size: u8) -> Result<Self, Error>
         requires { IsTrue (is_address_size address_size) }
-        ensures { Gives (λ pairs. pairs) result (Ok (pairs_left address_size (R.view entries.now))) }
+        ensures value { Gives (λ pairs. pairs) result (Ok (pairs_left address_size (R.view entries.now))) }
+        ensures free { IsTrue R.copies_freely → result ≢ Err Memory }
     {
         Ok(ArangeEntryIter {
             input: entries.copy()?,

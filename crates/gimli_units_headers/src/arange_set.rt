@@ -1,9 +1,11 @@
 //! The header of a set of address ranges (DWARF 5, 6.1.2).
 
-ghost use Rattle.std.specs.Prelude.{◌≡◌, IfOk, IsTrue, Ok};
-ghost use Rattle.gimli_core_base.specs.Calls.{Gives};
+ghost use Rattle.std.specs.Prelude.{◌≡◌, ◌≢◌, ◌≤◌, IfOk, IsTrue, Ok, Err, length};
+ghost use Rattle.gimli_core_base.specs.View.{bytes_left};
+ghost use Rattle.gimli_core_base.specs.Calls.{Answers, Gives};
+ghost use Rattle.gimli_core_base.specs.declared.error.Error.TheVariants.{Memory};
 ghost use Rattle.gimli_core_numbers.specs.Numbers.{is_address_size};
-ghost use Rattle.gimli_units_headers.specs.Aranges.{arange_set, arange_set_in, arange_fields, arange_padding, pairs_of};
+ghost use Rattle.gimli_units_headers.specs.Aranges.{arange_set, arange_set_in, arange_fields, arange_padding, pairs_of, aranges_to_come};
 ghost use Rattle.gimli_units_headers.specs.ParsedAranges.{arange_fields_of};
 
 use crate::arange_entry::ArangeEntryIter;
@@ -74,7 +76,9 @@ impl<R: Reader> ArangeHeader<R> {
 
     /// The ranges of the set, in order. Takes memory only where a copy of the reader does.
     pub fn entries(&self) -> Result<ArangeEntryIter<R>, Error>
-        ensures { Gives (λ entries. entries) result (Ok (pairs_of self.now)) }
+        ensures value { Gives (λ entries. entries) result (Ok (pairs_of self.now)) }
+        ensures free { IsTrue R.copies_freely → result ≢ Err Memory }
+        ensures few { IfOk result (λ entries. length (aranges_to_come entries) ≤ bytes_left self.now.pairs) }
     {
         ArangeEntryIter::new(&self.entries, self.encoding.address_size)
     }
@@ -93,7 +97,8 @@ pub(crate) fn parse_arange_header<R: Reader>(
     input: &mut R,
     offset: DebugArangesOffset<R::Offset>,
 ) -> Result<ArangeHeader<R>, Error>
-    ensures { Gives (λ header. (header, R.view input.new)) result (arange_set R.Offset.limit (R.Offset.count offset.0) (R.view input.old)) }
+    ensures value { Gives (λ header. (header, R.view input.new)) result (arange_set R.Offset.limit (R.Offset.count offset.0) (R.view input.old)) }
+    ensures free { IsTrue R.copies_freely → result ≢ Err Memory }
 {
     let (length, format) = input.read_initial_length()?;
     let mut entries = input.split(length)?;
@@ -110,7 +115,7 @@ pub(crate) fn parse_arange_header<R: Reader>(
 /// The fields behind the length, and the padding.
 #[tactic(auto, unfolding(crate::specs::Aranges::arange_fields))]
 fn parse_fields<R: Reader>(input: &mut R, format: Format) -> Result<ArangeFields<R::Offset>, Error>
-    ensures value { Gives (λ fields. (arange_fields_of R.Offset.count fields, R.view input.new)) result (arange_fields R.Offset.limit format (R.view input.old)) }
+    ensures value { Answers (λ fields. (arange_fields_of R.Offset.count fields, R.view input.new)) result (arange_fields R.Offset.limit format (R.view input.old)) }
     ensures address { IfOk result (λ fields. IsTrue (is_address_size fields.encoding.address_size)) }
 {
     let version = input.read_u16()?;

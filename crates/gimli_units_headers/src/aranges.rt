@@ -1,9 +1,10 @@
 //! `.debug_aranges`: sets of address ranges, end to end (DWARF 5, 6.1.2).
 
-ghost use Rattle.std.specs.Prelude.{◌≡◌, ◌≤◌, All, IfOk, length, Ok};
+ghost use Rattle.std.specs.Prelude.{◌≡◌, ◌≢◌, ◌≤◌, All, IfOk, IsTrue, length, Ok, Err};
 ghost use Rattle.std.specs.Fn.{FnOnceReturnsAt};
 ghost use Rattle.gimli_core_base.specs.View.{bytes_left};
 ghost use Rattle.gimli_core_base.specs.Calls.{Gives};
+ghost use Rattle.gimli_core_base.specs.declared.error.Error.TheVariants.{Memory};
 ghost use Rattle.gimli_core_strings.specs.Iterators.{TakesOrEnds, ComesNext};
 ghost use Rattle.gimli_units_headers.specs.Tiling.{whole_section, next_offset, Tile};
 ghost use Rattle.gimli_units_headers.specs.Aranges.{arange_set, next_set, sets_to_come, sets_of, arange_set_at, set_size};
@@ -83,6 +84,7 @@ impl<R: Reader> DebugAranges<R> {
     /// The sets of the section, in order. Takes memory only where a copy of the reader does.
     pub fn headers(&self) -> Result<ArangeHeaderIter<R>, Error>
         ensures value { Gives (λ sets. sets) result (Ok (whole_section self.now)) }
+        ensures free { IsTrue R.copies_freely → result ≢ Err Memory }
         // They stand end to end, from the section's start to its end or to one that can't be read.
         ensures tile { IfOk result (λ sets. let all = sets_to_come R.Offset.limit sets in
             Tile (arange_set R.Offset.limit) (λ s. s.offset) set_size self.now 0 all.items all.ending) }
@@ -97,6 +99,7 @@ impl<R: Reader> DebugAranges<R> {
     /// The set at an offset of the section. Takes memory only where a part of the reader does.
     pub fn header(&self, offset: DebugArangesOffset<R::Offset>) -> Result<ArangeHeader<R>, Error>
         ensures value { Gives (λ header. header) result (arange_set_at R.Offset.limit (R.Offset.count offset.0) self.now) }
+        ensures free { IsTrue R.copies_freely → result ≢ Err Memory }
         // Where `headers` gives a set at this offset it is the same one.
         ensures again { All (λ s. s.offset ≡ R.Offset.count offset.0 → Gives (λ header. header) result (Ok s)) (sets_of R.Offset.limit self.now) }
     {
@@ -130,6 +133,7 @@ impl<R: Reader> ArangeHeaderIter<R> {
     /// where a part of the reader does, and moves nothing where there is none.
     pub fn next(&mut self) -> Result<Option<ArangeHeader<R>>, Error>
         ensures value { TakesOrEnds (λ set. set) result self.old.left self.new.left (next_set R.Offset.limit self.old) }
+        ensures free { IsTrue R.copies_freely → result ≢ Err Memory }
         ensures section { self.new.section_length ≡ self.old.section_length }
         ensures order { ComesNext result (sets_to_come R.Offset.limit self.old) (sets_to_come R.Offset.limit self.new) }
     {

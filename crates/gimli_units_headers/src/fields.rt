@@ -1,7 +1,7 @@
 //! What a unit's header says behind its length (DWARF 5, 7.5.1).
 
 ghost use Rattle.std.specs.Prelude.{◌≡◌, ℕ};
-ghost use Rattle.gimli_core_base.specs.Calls.{Gives};
+ghost use Rattle.gimli_core_base.specs.Calls.{Answers};
 ghost use Rattle.gimli_units_headers.specs.UnitHeaders.{unit_type, with_signature, kind_of_type, fields_to_4, fields_of_5, unit_fields, kind_size};
 ghost use Rattle.gimli_units_headers.specs.UnitTypes.{kind_of};
 ghost use Rattle.gimli_units_headers.specs.ParsedFields.{fields_of};
@@ -64,7 +64,7 @@ pub(crate) fn parse_fields<R: Reader>(
     input: &mut R,
     format: Format,
 ) -> Result<UnitFields<R::Offset>, Error>
-    ensures { Gives (λ fields. (fields_of R.Offset.count fields, R.view input.new)) result (unit_fields R.Offset.limit format (R.view input.old)) }
+    ensures { Answers (λ fields. (fields_of R.Offset.count fields, R.view input.new)) result (unit_fields R.Offset.limit format (R.view input.old)) }
 {
     let version = input.read_u16()?;
     match version {
@@ -81,18 +81,18 @@ fn parse_fields_to_4<R: Reader>(
     format: Format,
     version: u16,
 ) -> Result<UnitFields<R::Offset>, Error>
-    ensures { Gives (λ fields. (fields_of R.Offset.count fields, R.view input.new)) result (fields_to_4 R.Offset.limit format version (R.view input.old)) }
+    ensures { Answers (λ fields. (fields_of R.Offset.count fields, R.view input.new)) result (fields_to_4 R.Offset.limit format version (R.view input.old)) }
 {
-    let debug_abbrev_offset = DebugAbbrevOffset(input.read_offset(format)?);
-    let address_size = input.read_address_size()?;
+    let offset = input.read_offset(format)?;
+    let size = input.read_address_size()?;
     Ok(UnitFields {
         encoding: Encoding {
-            address_size,
+            address_size: size,
             format,
             version,
         },
         unit_type: UnitType::Compilation,
-        debug_abbrev_offset,
+        debug_abbrev_offset: DebugAbbrevOffset(offset),
     })
 }
 
@@ -102,7 +102,7 @@ fn parse_fields_of_5<R: Reader>(
     input: &mut R,
     format: Format,
 ) -> Result<UnitFields<R::Offset>, Error>
-    ensures { Gives (λ fields. (fields_of R.Offset.count fields, R.view input.new)) result (fields_of_5 R.Offset.limit format (R.view input.old)) }
+    ensures { Answers (λ fields. (fields_of R.Offset.count fields, R.view input.new)) result (fields_of_5 R.Offset.limit format (R.view input.old)) }
 {
     let unit_type = parse_unit_type(input)?;
     let address_size = input.read_address_size()?;
@@ -122,7 +122,7 @@ fn parse_fields_of_5<R: Reader>(
 /// A unit type that the standard numbers.
 #[tactic(auto, unfolding(crate::specs::UnitHeaders::unit_type))]
 fn parse_unit_type<R: Reader>(input: &mut R) -> Result<DwUt, Error>
-    ensures { Gives (λ t. (t.0, R.view input.new)) result (unit_type (R.view input.old)) }
+    ensures { Answers (λ t. (t.0, R.view input.new)) result (unit_type (R.view input.old)) }
 {
     let unit_type = DwUt(input.read_u8()?);
     match unit_type {
@@ -143,7 +143,7 @@ fn parse_kind<R: Reader>(
     format: Format,
     unit_type: DwUt,
 ) -> Result<UnitType<R::Offset>, Error>
-    ensures { Gives (λ t. (kind_of R.Offset.count t, R.view input.new)) result (kind_of_type R.Offset.limit format unit_type.0 (R.view input.old)) }
+    ensures { Answers (λ t. (kind_of R.Offset.count t, R.view input.new)) result (kind_of_type R.Offset.limit format unit_type.0 (R.view input.old)) }
 {
     match unit_type {
         DW_UT_compile => Ok(UnitType::Compilation),

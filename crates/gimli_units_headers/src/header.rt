@@ -1,7 +1,8 @@
 //! Unit headers (DWARF 5, 7.5.1).
 
-ghost use Rattle.std.specs.Prelude.{◌≡◌, ◌+◌, ◌<◌, ◌≤◌, IsTrue, Some, option_map};
+ghost use Rattle.std.specs.Prelude.{◌≡◌, ◌≢◌, ◌+◌, ◌<◌, ◌≤◌, IsTrue, Err, Some, option_map};
 ghost use Rattle.gimli_core_base.specs.Calls.{Gives};
+ghost use Rattle.gimli_core_base.specs.declared.error.Error.TheVariants.{Memory};
 ghost use Rattle.gimli_core_numbers.specs.Numbers.{is_address_size};
 ghost use Rattle.gimli_units_base.specs.Addresses.{is_tombstone};
 ghost use Rattle.gimli_units_headers.specs.UnitHeaders.{unit, unit_in, length_including_self, header_size, size_of_header};
@@ -159,6 +160,13 @@ impl<R: Reader> UnitHeader<R> {
         UnitOffset(self.header_size())
     }
 
+    /// The bytes of the entries.
+    pub fn entries_reader(&self) -> &R
+        ensures { R.view result.now ≡ self.now.entries }
+    {
+        &self.entries
+    }
+
     /// An offset of the entries.
     pub(crate) fn holds(&self, offset: &UnitOffset<R::Offset>) -> bool
         ensures { result ≡ is_in_bounds self.now (R.Offset.count offset.now.0) }
@@ -181,7 +189,8 @@ impl<R: Reader> UnitHeader<R> {
     /// The bytes between two offsets of the entries. Takes memory only where a copy of the reader does.
     pub fn range(&self, offsets: Range<UnitOffset<R::Offset>>) -> Result<R, Error>
         requires { R.Offset.count offsets.start.0 ≤ R.Offset.count offsets.end.0 }
-        ensures { Gives R.view result (bytes_between self.now (R.Offset.count offsets.start.0) (R.Offset.count offsets.end.0)) }
+        ensures value { Gives R.view result (bytes_between self.now (R.Offset.count offsets.start.0) (R.Offset.count offsets.end.0)) }
+        ensures free { IsTrue R.copies_freely → result ≢ Err Memory }
     {
         if !self.holds(&offsets.end) {
             return Err(Error::OffsetOutOfBounds);
@@ -194,7 +203,8 @@ impl<R: Reader> UnitHeader<R> {
 
     /// The bytes from an offset of the entries on. Takes memory only where a copy of the reader does.
     pub fn range_from(&self, offsets: RangeFrom<UnitOffset<R::Offset>>) -> Result<R, Error>
-        ensures { Gives R.view result (bytes_from self.now (R.Offset.count offsets.start.0)) }
+        ensures value { Gives R.view result (bytes_from self.now (R.Offset.count offsets.start.0)) }
+        ensures free { IsTrue R.copies_freely → result ≢ Err Memory }
     {
         if !self.holds(&offsets.start) {
             return Err(Error::OffsetOutOfBounds);
@@ -206,7 +216,8 @@ impl<R: Reader> UnitHeader<R> {
 
     /// The bytes of the entries before an offset of them. Takes memory only where a copy of the reader does.
     pub fn range_to(&self, offsets: RangeTo<UnitOffset<R::Offset>>) -> Result<R, Error>
-        ensures { Gives R.view result (bytes_to self.now (R.Offset.count offsets.end.0)) }
+        ensures value { Gives R.view result (bytes_to self.now (R.Offset.count offsets.end.0)) }
+        ensures free { IsTrue R.copies_freely → result ≢ Err Memory }
     {
         if !self.holds(&offsets.end) {
             return Err(Error::OffsetOutOfBounds);
@@ -230,7 +241,8 @@ pub(crate) fn parse_unit_header<R: Reader>(
     input: &mut R,
     offset: DebugInfoOffset<R::Offset>,
 ) -> Result<UnitHeader<R>, Error>
-    ensures { Gives (λ header. (header, R.view input.new)) result (unit R.Offset.limit (R.Offset.count offset.0) (R.view input.old)) }
+    ensures value { Gives (λ header. (header, R.view input.new)) result (unit R.Offset.limit (R.Offset.count offset.0) (R.view input.old)) }
+    ensures free { IsTrue R.copies_freely → result ≢ Err Memory }
 {
     // Their number is an offset.
     let _bytes = input.as_bytes();

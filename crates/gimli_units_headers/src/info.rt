@@ -1,9 +1,10 @@
 //! `.debug_info`: units, end to end (DWARF 5, 7.5.1).
 
-ghost use Rattle.std.specs.Prelude.{◌≡◌, ◌≤◌, All, IfOk, length, Ok};
+ghost use Rattle.std.specs.Prelude.{◌≡◌, ◌≢◌, ◌≤◌, All, IfOk, IsTrue, length, Ok, Err};
 ghost use Rattle.std.specs.Fn.{FnOnceReturnsAt};
 ghost use Rattle.gimli_core_base.specs.View.{bytes_left};
 ghost use Rattle.gimli_core_base.specs.Calls.{Gives};
+ghost use Rattle.gimli_core_base.specs.declared.error.Error.TheVariants.{Memory};
 ghost use Rattle.gimli_core_strings.specs.Iterators.{TakesOrEnds, ComesNext};
 ghost use Rattle.gimli_units_headers.specs.Tiling.{whole_section, next_offset, Tile};
 ghost use Rattle.gimli_units_headers.specs.UnitHeaders.{unit, next_unit, units_to_come, units_of, unit_at, length_including_self};
@@ -84,6 +85,7 @@ impl<R: Reader> DebugInfo<R> {
     /// The units of the section, in order. Takes memory only where a copy of the reader does.
     pub fn units(&self) -> Result<DebugInfoUnitHeadersIter<R>, Error>
         ensures value { Gives (λ units. units) result (Ok (whole_section self.now)) }
+        ensures free { IsTrue R.copies_freely → result ≢ Err Memory }
         // They stand end to end, from the section's start to its end or to one that can't be read.
         ensures tile { IfOk result (λ units. let all = units_to_come R.Offset.limit units in
             Tile (unit R.Offset.limit) (λ u. u.offset) length_including_self self.now 0 all.items all.ending) }
@@ -101,6 +103,7 @@ impl<R: Reader> DebugInfo<R> {
         offset: DebugInfoOffset<R::Offset>,
     ) -> Result<UnitHeader<R>, Error>
         ensures value { Gives (λ header. header) result (unit_at R.Offset.limit (R.Offset.count offset.0) self.now) }
+        ensures free { IsTrue R.copies_freely → result ≢ Err Memory }
         // Where `units` gives a unit at this offset it is the same one.
         ensures again { All (λ u. u.offset ≡ R.Offset.count offset.0 → Gives (λ header. header) result (Ok u)) (units_of R.Offset.limit self.now) }
     {
@@ -134,6 +137,7 @@ impl<R: Reader> DebugInfoUnitHeadersIter<R> {
     /// where a part of the reader does, and moves nothing where there is none.
     pub fn next(&mut self) -> Result<Option<UnitHeader<R>>, Error>
         ensures value { TakesOrEnds (λ unit. unit) result self.old.left self.new.left (next_unit R.Offset.limit self.old) }
+        ensures free { IsTrue R.copies_freely → result ≢ Err Memory }
         ensures section { self.new.section_length ≡ self.old.section_length }
         ensures order { ComesNext result (units_to_come R.Offset.limit self.old) (units_to_come R.Offset.limit self.new) }
     {

@@ -1,6 +1,6 @@
 //! Offsets of `.debug_info`, counted from its begin or from that of a unit.
 
-ghost use Rattle.std.specs.Prelude.{◌≡◌, ◌+◌, ◌<◌, ℕ, option_map, Some};
+ghost use Rattle.std.specs.Prelude.{◌≡◌, ◌+◌, ◌<◌, ℕ, option_map, IfSome, Some};
 ghost use Rattle.gimli_units_headers.specs.UnitOffsets.{is_in_bounds, to_unit_offset};
 
 use crate::header::UnitHeader;
@@ -15,7 +15,9 @@ pub trait OffsetInSection<R: Reader> {
 
     /// The same place counted from the unit's begin, none where it isn't among the unit's entries.
     fn to_unit_offset(&self, unit: &UnitHeader<R>) -> Option<UnitOffset<R::Offset>>
-        ensures { option_map (λ offset. R.Offset.count offset.0) result ≡ to_unit_offset unit.now (number self.now) };
+        ensures value { option_map (λ offset. R.Offset.count offset.0) result ≡ to_unit_offset unit.now (number self.now) }
+        // Counted from the section's begin again it is the same number.
+        ensures back { IfSome result (λ offset. unit.now.offset + R.Offset.count offset.0 ≡ number self.now) };
 }
 
 impl<R: Reader> OffsetInSection<R> for DebugInfoOffset<R::Offset> {

@@ -1,6 +1,5 @@
 -- What is to come begins with what the next pair stands for.
-use Rattle.std.proofs.Common.{◌≡◌, ◌∷◌, rules, Ok, Err, Some, None, sym, ◌∙◌}
-use Rattle.gimli_units_headers.specs.Aranges.{aranges_to_come}
+use Rattle.std.proofs.Common.{rules, Ok, Err, Some, None, sym, ◌∙◌}
 use Rattle.gimli_units_headers.proofs.Sets.{pair_next, pair_smaller, no_pair, first_refused}
 use Rattle.gimli_units_headers.proofs.arange_entry.ArangeEntryIter.next.Goals as goal
 

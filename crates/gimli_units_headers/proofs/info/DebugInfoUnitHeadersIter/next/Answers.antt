@@ -6,7 +6,7 @@ use Rattle.gimli_units_headers.proofs.info.DebugInfoUnitHeadersIter.next.Goals a
 
 pub invariant_of-self : goal.invariant_of-self
 invariant_of-self g c =
-    part_leaves_within (units_are_parts g.R.Offset.ReaderOffset.limit) _ _ _ _ _ _ c.self.invariant c.in_ok-input.ensures.value c.in-Ok.ensures
+    part_leaves_within (units_are_parts g.R.Offset.ReaderOffset.limit) _ _ _ _ _ _ c.self.invariant c.in_ok-input.ensures.value c.in-Ok.ensures.value
 
 pub returns-then-is_empty-clause-order : goal.returns-then-is_empty-clause-order
 returns-then-is_empty-clause-order g c =
