@@ -1,0 +1,24 @@
+-- What a call of `next` promises where it hands on a refusal by `?`, and what it learns of the calls that it makes.
+use Rattle.std.proofs.Common.{◌≡◌, ◌≢◌, List, [], ◌∷◌, Option, Some, None, Result, Ok, Err, sym, ◌∙◌, ap}
+use Rattle.std.specs.Result.{IsErrAnd}
+use Rattle.gimli_core_base.specs.declared.error.Error.{Error}
+use Rattle.gimli_core_base.specs.declared.error.Error.TheVariants.{Memory}
+use Rattle.gimli_units_lists.specs.Answers.{AnswersNext, TakesNext}
+
+-- the refusal d is handed on
+pub refused_answers : {A B : Type 0} (see : A → B) (r : Result (Option A) Error) (old new : List (Result B Error)) (d : Error) → IsErrAnd r (λ e. e ≡ d) → old ≡ Err d ∷ new → AnswersNext see r old new
+refused_answers see (Ok x) old new d h k = absurd h
+refused_answers {A} {B} see (Err e) old new d h k = k ∙ ap (λ (x : Error). Err x ∷ new) (sym h)
+
+pub refused_takes : {A B : Type 0} (see : A → B) (r : Result (Option A) Error) (old new : List (Result B Error)) (d : Error) → IsErrAnd r (λ e. e ≡ d) → (d ≢ Memory → old ≡ Err d ∷ new) → (d ≡ Memory → new ≡ old) → TakesNext see r old new
+refused_takes see (Ok x) old new d h k m = absurd h
+refused_takes {A} {B} see (Err e) old new d h k m = ((λ ne. k (λ is. ne (h ∙ is)) ∙ ap (λ (x : Error). Err x ∷ new) (sym h)), (λ is. m (sym h ∙ is)))
+
+-- an item was answered
+pub answered_some : {A B : Type 0} (see : A → B) (o : Option A) (x : A) (old new : List (Result B Error)) → o ≡ Some x → AnswersNext see (Ok o) old new → old ≡ Ok (see x) ∷ new
+answered_some see None x old new is h = absurd cc
+answered_some {A} {B} see (Some y) x old new is h = let same : y ≡ x = cc in h ∙ ap (λ (z : A). Ok (see z) ∷ new) same
+
+pub taken_some : {A B : Type 0} (see : A → B) (o : Option A) (x : A) (old new : List (Result B Error)) → o ≡ Some x → TakesNext see (Ok o) old new → old ≡ Ok (see x) ∷ new
+taken_some see None x old new is h = absurd cc
+taken_some {A} {B} see (Some y) x old new is h = let same : y ≡ x = cc in h ∙ ap (λ (z : A). Ok (see z) ∷ new) same

@@ -1,0 +1,12 @@
+pub mod Next
+pub mod Taken
+pub mod RawRanges
+pub mod Running
+pub mod Free
+pub mod RangeSteps
+pub mod TakenLocations
+pub mod RawLocations
+pub mod LocationSteps
+pub mod Few
+pub mod Exits
+pub mod Tombstones

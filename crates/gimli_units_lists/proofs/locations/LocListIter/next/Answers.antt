@@ -1,0 +1,44 @@
+-- Each entry that is passed over leaves what is to come as it was.
+use Rattle.std.proofs.Common.{◌≡◌, Option, option_map, Result, Ok, Err, Some, None, sym, ◌∙◌, ap, rules}
+use Rattle.gimli_core_base.specs.declared.error.Error.{Error}
+use Rattle.gimli_core_base.specs.View.{View}
+use Rattle.gimli_units_lists.specs.declared.locations.LocationListEntry.{LocationListEntry}
+use Rattle.gimli_units_lists.specs.LocationEntries.{Location}
+use Rattle.gimli_units_lists.specs.Seen.{raw_location, location}
+use Rattle.gimli_units_lists.proofs.Exits.{refused_takes, taken_some}
+use Rattle.gimli_units_lists.proofs.LocationSteps.{location_step, location_fault, location_kept}
+use Rattle.gimli_units_lists.proofs.locations.LocListIter.next.Goals as goal
+
+abbrev refusal : {A : Type 0} → Error → Result A Error
+refusal e = Err e
+
+-- what is seen of an answer
+abbrev answer : {R E O : Type 0} → (R → View) → Option (LocationListEntry R E O) → Result (Option Location) Error
+answer view o = Ok (option_map (location view) o)
+
+pub returns-in_err-entry-clause-next : goal.returns-in_err-entry-clause-next
+returns-in_err-entry-clause-next g c =
+    refused_takes _ c.from_residual.result _ _ _ c.from_residual.ensures.1
+    (λ ne. c.loop-entry.invariant.0 ∙ location_fault g.R.Offset.ReaderOffset.limit c.loop-entry.self c.next_raw.new.self c.in_err-entry.field-0.0 (c.in_err-entry.ensures.next.0 ne) c.in_err-entry.ensures.against)
+    (λ is. location_kept g.R.Offset.ReaderOffset.limit c.loop-entry.self c.next_raw.new.self (c.in_err-entry.ensures.next.1 is) c.in_err-entry.ensures.against ∙ sym c.loop-entry.invariant.0)
+
+pub returns-in_err-location-clause-next : goal.returns-in_err-location-clause-next
+returns-in_err-location-clause-next g c =
+    let entry = taken_some (raw_location g.R.Reader.view g.R.Offset.ReaderOffset.count) c.in_ok-entry.field-0 c.in-Some.entry _ _ c.in-Some.is c.in_ok-entry.ensures.next in
+    refused_takes _ c.from_residual-in_err-location.result _ _ _ c.from_residual-in_err-location.ensures.1
+    (λ ne. c.loop-entry.invariant.0 ∙ location_step g.R.Offset.ReaderOffset.limit c.loop-entry.self c.next_raw.new.self c.convert_raw.new.self (raw_location g.R.Reader.view g.R.Offset.ReaderOffset.count c.in-Some.entry) (Err c.in_err-location.field-0.0) entry c.in_ok-entry.ensures.against c.in_err-location.ensures.value c.in_err-location.ensures.raw c.in_err-location.ensures.setting c.in_err-location.ensures.base)
+    (λ is. absurd (c.in_err-location.ensures.free (ap (λ (e : Error). refusal e) is)))
+
+pub returns-in-Some-2-clause-next : goal.returns-in-Some-2-clause-next
+returns-in-Some-2-clause-next g c =
+    let entry = taken_some (raw_location g.R.Reader.view g.R.Offset.ReaderOffset.count) c.in_ok-entry.field-0 c.in-Some.entry _ _ c.in-Some.is c.in_ok-entry.ensures.next in
+    c.loop-entry.invariant.0 ∙ location_step g.R.Offset.ReaderOffset.limit c.loop-entry.self c.next_raw.new.self c.convert_raw.new.self (raw_location g.R.Reader.view g.R.Offset.ReaderOffset.count c.in-Some.entry) (Ok (Some (location g.R.Reader.view c.in-Some-2.location))) entry c.in_ok-entry.ensures.against (c.in_ok-location.ensures.value ∙ ap (answer g.R.Reader.view) c.in-Some-2.is) c.in_ok-location.ensures.raw c.in_ok-location.ensures.setting c.in_ok-location.ensures.base
+
+pub loop-entry-preserved : goal.loop-entry-preserved
+loop-entry-preserved g c =
+    let entry = taken_some (raw_location g.R.Reader.view g.R.Offset.ReaderOffset.count) c.in_ok-entry.field-0 c.in-Some.entry _ _ c.in-Some.is c.in_ok-entry.ensures.next in (
+      c.loop-entry.invariant.0 ∙ location_step g.R.Offset.ReaderOffset.limit c.loop-entry.self c.next_raw.new.self c.convert_raw.new.self (raw_location g.R.Reader.view g.R.Offset.ReaderOffset.count c.in-Some.entry) (Ok None) entry c.in_ok-entry.ensures.against (c.in_ok-location.ensures.value ∙ ap (answer g.R.Reader.view) c.in_default-2.is) c.in_ok-location.ensures.raw c.in_ok-location.ensures.setting c.in_ok-location.ensures.base,
+      search rules,
+      search rules,
+      search rules,
+    )

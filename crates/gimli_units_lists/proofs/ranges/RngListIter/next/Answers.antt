@@ -1,0 +1,35 @@
+-- Each entry that is passed over leaves what is to come as it was.
+use Rattle.std.proofs.Common.{◌≡◌, Option, Result, Ok, Err, Some, None, ◌∙◌, ap, rules}
+use Rattle.gimli_core_base.specs.declared.error.Error.{Error}
+use Rattle.gimli_units_base.specs.declared.range.Range.{Range}
+use Rattle.gimli_units_lists.specs.Seen.{raw_entry}
+use Rattle.gimli_units_lists.proofs.Exits.{refused_answers, answered_some}
+use Rattle.gimli_units_lists.proofs.RangeSteps.{range_step, range_fault}
+use Rattle.gimli_units_lists.proofs.ranges.RngListIter.next.Goals as goal
+
+abbrev answer : Option Range → Result (Option Range) Error
+answer o = Ok o
+
+pub returns-in_err-entry-clause-next : goal.returns-in_err-entry-clause-next
+returns-in_err-entry-clause-next g c =
+    refused_answers _ c.from_residual.result _ _ _ c.from_residual.ensures.1
+    (c.loop-entry.invariant.0 ∙ range_fault g.R.Offset.ReaderOffset.limit c.loop-entry.self c.next_raw.new.self c.in_err-entry.field-0.0 c.in_err-entry.ensures.next c.in_err-entry.ensures.against)
+
+pub returns-in_err-range-clause-next : goal.returns-in_err-range-clause-next
+returns-in_err-range-clause-next g c =
+    let entry = answered_some (raw_entry g.R.Offset.ReaderOffset.count) c.in_ok-entry.field-0 c.in-Some.entry _ _ c.in-Some.is c.in_ok-entry.ensures.next in
+    refused_answers _ c.from_residual-in_err-range.result _ _ _ c.from_residual-in_err-range.ensures.1
+    (c.loop-entry.invariant.0 ∙ range_step g.R.Offset.ReaderOffset.limit c.loop-entry.self c.next_raw.new.self c.convert_raw.new.self (raw_entry g.R.Offset.ReaderOffset.count c.in-Some.entry) (Err c.in_err-range.field-0.0) entry c.in_ok-entry.ensures.against c.in_err-range.ensures.value c.in_err-range.ensures.raw c.in_err-range.ensures.setting c.in_err-range.ensures.base)
+
+pub returns-in-Some-2-clause-next : goal.returns-in-Some-2-clause-next
+returns-in-Some-2-clause-next g c =
+    let entry = answered_some (raw_entry g.R.Offset.ReaderOffset.count) c.in_ok-entry.field-0 c.in-Some.entry _ _ c.in-Some.is c.in_ok-entry.ensures.next in
+    c.loop-entry.invariant.0 ∙ range_step g.R.Offset.ReaderOffset.limit c.loop-entry.self c.next_raw.new.self c.convert_raw.new.self (raw_entry g.R.Offset.ReaderOffset.count c.in-Some.entry) (Ok (Some c.in-Some-2.range)) entry c.in_ok-entry.ensures.against (c.in_ok-range.ensures.value ∙ ap answer c.in-Some-2.is) c.in_ok-range.ensures.raw c.in_ok-range.ensures.setting c.in_ok-range.ensures.base
+
+pub loop-entry-preserved : goal.loop-entry-preserved
+loop-entry-preserved g c =
+    let entry = answered_some (raw_entry g.R.Offset.ReaderOffset.count) c.in_ok-entry.field-0 c.in-Some.entry _ _ c.in-Some.is c.in_ok-entry.ensures.next in (
+      c.loop-entry.invariant.0 ∙ range_step g.R.Offset.ReaderOffset.limit c.loop-entry.self c.next_raw.new.self c.convert_raw.new.self (raw_entry g.R.Offset.ReaderOffset.count c.in-Some.entry) (Ok None) entry c.in_ok-entry.ensures.against (c.in_ok-range.ensures.value ∙ ap answer c.in_default-2.is) c.in_ok-range.ensures.raw c.in_ok-range.ensures.setting c.in_ok-range.ensures.base,
+      search rules,
+      search rules,
+    )

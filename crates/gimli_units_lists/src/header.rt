@@ -1,0 +1,89 @@
+ghost use Rattle.std.specs.Prelude.{◌≡◌, ◌≢◌, IsTrue, Ok, Err};
+ghost use Rattle.gimli_core_base.specs.Calls.{Answers, Takes};
+ghost use Rattle.gimli_core_base.specs.declared.error.Error.TheVariants.{Memory};
+ghost use Rattle.gimli_core_strings.specs.Bases.{lists_header_size};
+ghost use Rattle.gimli_units_lists.specs.Lists.{lists_header, header_fields};
+
+use gimli_core_base::error::Error;
+use gimli_core_constants::{Encoding, Format};
+use gimli_core_readers::Reader;
+
+/// The header of a table of lists (DWARF 5, 7.28 and 7.29).
+#[derive(Clone, Copy, Debug, PartialEq, Eq)]
+pub struct ListsHeader {
+    pub encoding: Encoding,
+    /// How many offsets of lists stand behind the header.
+    pub offset_entry_count: u32,
+}
+
+impl Default for ListsHeader {
+    ghost use Rattle.gimli_units_lists.specs.Headers.{default_lists_header};
+
+    ghost is_default = { λ header. header ≡ default_lists_header };
+
+    /// That of a 32-bit table of version 5 without offsets.
+    fn default() -> Self {
+        ListsHeader {
+            encoding: Encoding {
+                format: Format::Dwarf32,
+                version: 5,
+                address_size: 0,
+            },
+            offset_entry_count: 0,
+        }
+    }
+}
+
+impl ListsHeader {
+    /// The bytes of the header.
+    pub fn size(self) -> u8
+        ensures { result ≡ lists_header_size self.encoding.format }
+    {
+        self.encoding.format.initial_length_size() + 8
+    }
+
+    /// The header at the front; behind it the rest of its table is left. Takes memory only where a copy of the reader
+    /// does.
+    pub fn parse<R: Reader>(input: &mut R) -> Result<Self, Error>
+        ensures { Takes (λ header. header) result (R.view input.old) (R.view input.new) (lists_header R.Offset.limit (R.view input.old)) }
+    {
+        let mut rest = input.copy()?;
+        let header = parse_header(&mut rest)?;
+        *input = rest;
+        Ok(header)
+    }
+}
+
+/// A length, and the fields behind it.
+#[tactic(auto, unfolding(crate::specs::Lists::lists_header))]
+fn parse_header<R: Reader>(input: &mut R) -> Result<ListsHeader, Error>
+    ensures { Answers (λ header. (header, R.view input.new)) result (lists_header R.Offset.limit (R.view input.old)) }
+{
+    let (length, format) = input.read_initial_length()?;
+    input.truncate(length)?;
+    parse_fields(input, format)
+}
+
+#[tactic(auto, unfolding(crate::specs::Lists::header_fields))]
+fn parse_fields<R: Reader>(input: &mut R, format: Format) -> Result<ListsHeader, Error>
+    ensures { Answers (λ header. (header, R.view input.new)) result (header_fields format (R.view input.old)) }
+{
+    let version = input.read_u16()?;
+    if version != 5 {
+        return Err(Error::UnknownVersion(u64::from(version)));
+    }
+    let address_size = input.read_address_size()?;
+    if input.read_u8()? != 0 {
+        return Err(Error::UnsupportedSegmentSize);
+    }
+    let offset_entry_count = input.read_u32()?;
+    let encoding = Encoding {
+        format,
+        version,
+        address_size,
+    };
+    Ok(ListsHeader {
+        encoding,
+        offset_entry_count,
+    })
+}

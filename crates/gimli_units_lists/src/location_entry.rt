@@ -1,0 +1,266 @@
+ghost use Rattle.std.specs.Prelude.{option_map, ◌≡◌};
+ghost use Rattle.gimli_core_base.specs.Calls.{Answers, Gives};
+ghost use Rattle.gimli_units_lists.specs.LocationEntries.{location_pair, location_kind, location_entry, expression, index_and_length};
+ghost use Rattle.gimli_units_lists.specs.Seen.{raw_location, raw_parts};
+
+use crate::fields::{
+    read_address_and_length, read_addresses, read_index, read_indexes, read_offsets,
+};
+use crate::range_entry::RawRngListEntry;
+use gimli_core_base::constants::DwLle;
+use gimli_core_base::error::Error;
+use gimli_core_constants::{DebugAddrIndex, Encoding};
+use gimli_core_numbers::ReaderOffset;
+use gimli_core_readers::Reader;
+use gimli_units_base::{Expression, greatest_address};
+
+/// An entry of a location list, as it stands there.
+#[derive(Debug, Drop)]
+pub enum RawLocListEntry<R: Reader> {
+    /// A range relative to the base, up to version 4 (DWARF 4, 2.6.2).
+    AddressOrOffsetPair {
+        begin: u64,
+        end: u64,
+        expression: Expression<R>,
+    },
+    /// The base of the entries behind it.
+    BaseAddress {
+        addr: u64,
+    },
+    /// The same, by the index of its address.
+    BaseAddressx {
+        addr: DebugAddrIndex<R::Offset>,
+    },
+    /// A range by the indexes of its ends.
+    StartxEndx {
+        begin: DebugAddrIndex<R::Offset>,
+        end: DebugAddrIndex<R::Offset>,
+        expression: Expression<R>,
+    },
+    /// A range by the index of its begin, and its bytes.
+    StartxLength {
+        begin: DebugAddrIndex<R::Offset>,
+        length: u64,
+        expression: Expression<R>,
+    },
+    /// A range relative to the base, from version 5 on.
+    OffsetPair {
+        begin: u64,
+        end: u64,
+        expression: Expression<R>,
+    },
+    /// The expression of all addresses that no other entry holds.
+    DefaultLocation {
+        expression: Expression<R>,
+    },
+    /// A range by its ends.
+    StartEnd {
+        begin: u64,
+        end: u64,
+        expression: Expression<R>,
+    },
+    /// A range by its begin, and its bytes.
+    StartLength {
+        begin: u64,
+        length: u64,
+        expression: Expression<R>,
+    },
+}
+
+/// The entry at the front of a list, none at its end.
+#[tactic(auto, unfolding(crate::specs::LocationEntries::location_entry))]
+pub(crate) fn parse_entry<R: Reader>(
+    input: &mut R,
+    encoding: Encoding,
+    by_kind: bool,
+) -> Result<Option<RawLocListEntry<R>>, Error>
+    ensures { Gives (λ entry. (option_map (raw_location R.view R.Offset.count) entry, R.view input.new)) result
+        (location_entry R.Offset.limit encoding by_kind (R.view input.old)) }
+{
+    if by_kind {
+        parse_kind(input, encoding)
+    } else {
+        parse_pair(input, encoding)
+    }
+}
+
+/// An entry of `.debug_loc`.
+#[tactic(auto, unfolding(crate::specs::LocationEntries::location_pair))]
+fn parse_pair<R: Reader>(
+    input: &mut R,
+    encoding: Encoding,
+) -> Result<Option<RawLocListEntry<R>>, Error>
+    ensures { Gives (λ entry. (option_map (raw_location R.view R.Offset.count) entry, R.view input.new)) result
+        (location_pair R.Offset.limit encoding (R.view input.old)) }
+{
+    let (begin, end) = read_addresses(input, encoding.address_size)?;
+    if begin == 0 && end == 0 {
+        return Ok(None);
+    }
+    if begin == greatest_address(encoding.address_size) {
+        return Ok(Some(RawLocListEntry::BaseAddress { addr: end }));
+    }
+    Ok(Some(RawLocListEntry::AddressOrOffsetPair {
+        begin,
+        end,
+        expression: parse_expression(input, encoding)?,
+    }))
+}
+
+/// An entry of `.debug_loclists`, or of `.debug_loc` in a split file.
+#[tactic(auto, unfolding(crate::specs::LocationEntries::location_kind))]
+fn parse_kind<R: Reader>(
+    input: &mut R,
+    encoding: Encoding,
+) -> Result<Option<RawLocListEntry<R>>, Error>
+    ensures { Gives (λ entry. (option_map (raw_location R.view R.Offset.count) entry, R.view input.new)) result
+        (location_kind R.Offset.limit encoding (R.view input.old)) }
+{
+    let kind = input.read_u8()?;
+    Ok(Some(match kind {
+        0 => return Ok(None),
+        1 => RawLocListEntry::BaseAddressx {
+            addr: read_index(input)?,
+        },
+        2 => {
+            let (begin, end) = read_indexes(input)?;
+            let expression = parse_expression(input, encoding)?;
+            RawLocListEntry::StartxEndx {
+                begin,
+                end,
+                expression,
+            }
+        }
+        3 => {
+            let (begin, length) = read_index_and_length(input, encoding)?;
+            let expression = parse_expression(input, encoding)?;
+            RawLocListEntry::StartxLength {
+                begin,
+                length,
+                expression,
+            }
+        }
+        4 => {
+            let (begin, end) = read_offsets(input)?;
+            let expression = parse_expression(input, encoding)?;
+            RawLocListEntry::OffsetPair {
+                begin,
+                end,
+                expression,
+            }
+        }
+        5 => RawLocListEntry::DefaultLocation {
+            expression: parse_expression(input, encoding)?,
+        },
+        6 => RawLocListEntry::BaseAddress {
+            addr: input.read_address(encoding.address_size)?,
+        },
+        7 => {
+            let (begin, end) = read_addresses(input, encoding.address_size)?;
+            let expression = parse_expression(input, encoding)?;
+            RawLocListEntry::StartEnd {
+                begin,
+                end,
+                expression,
+            }
+        }
+        8 => {
+            let (begin, length) = read_address_and_length(input, encoding.address_size)?;
+            let expression = parse_expression(input, encoding)?;
+            RawLocListEntry::StartLength {
+                begin,
+                length,
+                expression,
+            }
+        }
+        _ => return Err(Error::UnknownLocListsEntry(DwLle(kind))),
+    }))
+}
+
+/// An index and a length, whose width depends on the version.
+#[tactic(auto, unfolding(crate::specs::LocationEntries::index_and_length))]
+fn read_index_and_length<R: Reader>(
+    input: &mut R,
+    encoding: Encoding,
+) -> Result<(DebugAddrIndex<R::Offset>, u64), Error>
+    ensures { Answers (λ p. ((R.Offset.count p.0.0, p.1), R.view input.new)) result
+        (index_and_length R.Offset.limit encoding (R.view input.old)) }
+{
+    let begin = read_index(input)?;
+    let length = if encoding.version <= 4 {
+        u64::from(input.read_u32()?)
+    } else {
+        input.read_uleb128()?
+    };
+    Ok((begin, length))
+}
+
+/// The expression at the front, behind its length. Takes memory only where a part of the reader does.
+#[tactic(auto, unfolding(crate::specs::LocationEntries::expression))]
+fn parse_expression<R: Reader>(input: &mut R, encoding: Encoding) -> Result<Expression<R>, Error>
+    ensures { Gives (λ x. (R.view x.0, R.view input.new)) result (expression R.Offset.limit encoding (R.view input.old)) }
+{
+    let length = if encoding.version <= 4 {
+        R::Offset::from_u16(input.read_u16()?)
+    } else {
+        R::Offset::from_u64(input.read_uleb128()?)?
+    };
+    Ok(Expression(input.split(length)?))
+}
+
+/// An entry by what is resolved of it.
+#[derive(Drop)]
+pub(crate) enum Parts<R: Reader> {
+    /// A base.
+    Base(RawRngListEntry<R::Offset>),
+    /// A range with its expression.
+    Located(RawRngListEntry<R::Offset>, Expression<R>),
+    /// An expression for all other addresses.
+    Default(Expression<R>),
+}
+
+/// What an entry has: the entry of a range list that says the same, and the expression.
+pub(crate) fn parts_of<R: Reader>(entry: RawLocListEntry<R>) -> Parts<R>
+    ensures { raw_parts R.view R.Offset.count result ≡ raw_location R.view R.Offset.count entry }
+{
+    match entry {
+        RawLocListEntry::AddressOrOffsetPair {
+            begin,
+            end,
+            expression,
+        } => Parts::Located(
+            RawRngListEntry::AddressOrOffsetPair { begin, end },
+            expression,
+        ),
+        RawLocListEntry::BaseAddress { addr } => Parts::Base(RawRngListEntry::BaseAddress { addr }),
+        RawLocListEntry::BaseAddressx { addr } => {
+            Parts::Base(RawRngListEntry::BaseAddressx { addr })
+        }
+        RawLocListEntry::StartxEndx {
+            begin,
+            end,
+            expression,
+        } => Parts::Located(RawRngListEntry::StartxEndx { begin, end }, expression),
+        RawLocListEntry::StartxLength {
+            begin,
+            length,
+            expression,
+        } => Parts::Located(RawRngListEntry::StartxLength { begin, length }, expression),
+        RawLocListEntry::OffsetPair {
+            begin,
+            end,
+            expression,
+        } => Parts::Located(RawRngListEntry::OffsetPair { begin, end }, expression),
+        RawLocListEntry::DefaultLocation { expression } => Parts::Default(expression),
+        RawLocListEntry::StartEnd {
+            begin,
+            end,
+            expression,
+        } => Parts::Located(RawRngListEntry::StartEnd { begin, end }, expression),
+        RawLocListEntry::StartLength {
+            begin,
+            length,
+            expression,
+        } => Parts::Located(RawRngListEntry::StartLength { begin, length }, expression),
+    }
+}

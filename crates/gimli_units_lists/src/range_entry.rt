@@ -1,0 +1,133 @@
+ghost use Rattle.std.specs.Prelude.{option_map};
+ghost use Rattle.gimli_core_base.specs.Calls.{Answers};
+ghost use Rattle.gimli_units_lists.specs.RangeEntries.{range_pair, range_kind, range_entry};
+ghost use Rattle.gimli_units_lists.specs.Seen.{raw_entry};
+
+use crate::fields::{
+    read_address_and_length, read_addresses, read_index, read_indexes, read_offsets,
+};
+use gimli_core_base::constants::DwRle;
+use gimli_core_base::error::Error;
+use gimli_core_constants::{DebugAddrIndex, Encoding};
+use gimli_core_readers::Reader;
+use gimli_units_base::greatest_address;
+
+/// An entry of a range list, as it stands there.
+#[derive(Clone, Copy, Debug, PartialEq, Eq)]
+pub enum RawRngListEntry<T> {
+    /// A range relative to the base, up to version 4 (DWARF 4, 2.17.3).
+    AddressOrOffsetPair {
+        begin: u64,
+        end: u64,
+    },
+    /// The base of the entries behind it.
+    BaseAddress {
+        addr: u64,
+    },
+    /// The same, by the index of its address.
+    BaseAddressx {
+        addr: DebugAddrIndex<T>,
+    },
+    /// A range by the indexes of its ends.
+    StartxEndx {
+        begin: DebugAddrIndex<T>,
+        end: DebugAddrIndex<T>,
+    },
+    /// A range by the index of its begin, and its bytes.
+    StartxLength {
+        begin: DebugAddrIndex<T>,
+        length: u64,
+    },
+    /// A range relative to the base, from version 5 on.
+    OffsetPair {
+        begin: u64,
+        end: u64,
+    },
+    /// A range by its ends.
+    StartEnd {
+        begin: u64,
+        end: u64,
+    },
+    /// A range by its begin, and its bytes.
+    StartLength {
+        begin: u64,
+        length: u64,
+    },
+}
+
+/// The entry at the front of a list, none at its end.
+#[tactic(auto, unfolding(crate::specs::RangeEntries::range_entry))]
+pub(crate) fn parse_entry<R: Reader>(
+    input: &mut R,
+    encoding: Encoding,
+) -> Result<Option<RawRngListEntry<R::Offset>>, Error>
+    ensures { Answers (λ entry. (option_map (raw_entry R.Offset.count) entry, R.view input.new)) result
+        (range_entry R.Offset.limit encoding (R.view input.old)) }
+{
+    if encoding.version <= 4 {
+        parse_pair(input, encoding.address_size)
+    } else {
+        parse_kind(input, encoding.address_size)
+    }
+}
+
+/// An entry of `.debug_ranges`.
+#[tactic(auto, unfolding(crate::specs::RangeEntries::range_pair))]
+fn parse_pair<R: Reader>(
+    input: &mut R,
+    address_size: u8,
+) -> Result<Option<RawRngListEntry<R::Offset>>, Error>
+    ensures { Answers (λ entry. (option_map (raw_entry R.Offset.count) entry, R.view input.new)) result
+        (range_pair address_size (R.view input.old)) }
+{
+    let (begin, end) = read_addresses(input, address_size)?;
+    if begin == 0 && end == 0 {
+        return Ok(None);
+    }
+    if begin == greatest_address(address_size) {
+        return Ok(Some(RawRngListEntry::BaseAddress { addr: end }));
+    }
+    Ok(Some(RawRngListEntry::AddressOrOffsetPair { begin, end }))
+}
+
+/// An entry of `.debug_rnglists`.
+#[tactic(auto, unfolding(crate::specs::RangeEntries::range_kind))]
+fn parse_kind<R: Reader>(
+    input: &mut R,
+    address_size: u8,
+) -> Result<Option<RawRngListEntry<R::Offset>>, Error>
+    ensures { Answers (λ entry. (option_map (raw_entry R.Offset.count) entry, R.view input.new)) result
+        (range_kind R.Offset.limit address_size (R.view input.old)) }
+{
+    let kind = input.read_u8()?;
+    Ok(Some(match kind {
+        0 => return Ok(None),
+        1 => RawRngListEntry::BaseAddressx {
+            addr: read_index(input)?,
+        },
+        2 => {
+            let (begin, end) = read_indexes(input)?;
+            RawRngListEntry::StartxEndx { begin, end }
+        }
+        3 => RawRngListEntry::StartxLength {
+            begin: read_index(input)?,
+            length: input.read_uleb128()?,
+        },
+        4 => {
+            let (begin, end) = read_offsets(input)?;
+            RawRngListEntry::OffsetPair { begin, end }
+        }
+        5 => RawRngListEntry::BaseAddress {
+            addr: input.read_address(address_size)?,
+        },
+        6 => {
+            let (begin, end) = read_addresses(input, address_size)?;
+            RawRngListEntry::StartEnd { begin, end }
+        }
+        7 => {
+            let (begin, length) = read_address_and_length(input, address_size)?;
+            RawRngListEntry::StartLength { begin, length }
+        }
+        _ => return Err(Error::UnknownRangeListsEntry(DwRle(kind))),
+    }))
+}

@@ -1,0 +1,77 @@
+ghost use Rattle.std.specs.Prelude.{◌≡◌, IfOk, IfSome, unwrap_or, Ok, Err};
+ghost use Rattle.gimli_core_base.specs.Calls.{Answers};
+ghost use Rattle.gimli_units_lists.specs.Answers.{AnswersNext};
+ghost use Rattle.gimli_units_lists.specs.Entries.{base_in, range_of, IsCounted};
+ghost use Rattle.gimli_units_lists.specs.Lists.{ranges_to_come};
+ghost use Rattle.gimli_units_lists.specs.RangeEntries.{raw_ranges_to_come};
+ghost use Rattle.gimli_units_lists.specs.Seen.{raw_entry};
+
+use crate::range_entry::RawRngListEntry;
+use crate::raw_ranges::RawRngListIter;
+use crate::resolver::Resolver;
+use gimli_core_base::error::Error;
+use gimli_core_readers::Reader;
+use gimli_units_base::Range;
+use std::marker::Model;
+
+/// The ranges of a list, from one of its entries on.
+#[derive(Debug, Drop)]
+pub struct RngListIter<R: Reader> {
+    raw: RawRngListIter<R>,
+    resolver: Resolver<R>,
+}
+
+impl<R: Reader> Model for RngListIter<R> {
+    ghost use Rattle.gimli_units_lists.specs.Lists.{RangesLeft};
+
+    ghost Value = { RangesLeft };
+
+    ghost view = { λ r. record { raw = r.raw; against = r.resolver } };
+}
+
+impl<R: Reader> RngListIter<R> {
+    pub(crate) fn new(raw: RawRngListIter<R>, resolver: Resolver<R>) -> Self
+        ensures { result ≡ record { raw = raw; against = resolver } }
+    {
+        RngListIter { raw, resolver }
+    }
+
+    /// The next range, none at the list's end. An entry whose index has no address is refused in its place, and the list
+    /// goes on behind it; after an entry that can't be read there are no more. Takes no memory.
+    pub fn next(&mut self) -> Result<Option<Range>, Error>
+        ensures next { AnswersNext (λ range. range) result (ranges_to_come R.Offset.limit self.old) (ranges_to_come R.Offset.limit self.new) }
+        ensures counted { IfOk result (λ range. IfSome range (IsCounted self.old.against.setting.address_size)) }
+        ensures encoding { self.new.raw.encoding ≡ self.old.raw.encoding }
+        ensures setting { self.new.against.setting ≡ self.old.against.setting }
+    {
+        while let Some(entry) = self.next_raw()? {
+            if let Some(range) = self.convert_raw(entry)? {
+                return Ok(Some(range));
+            }
+        }
+        Ok(None)
+    }
+
+    /// The next entry as it stands, which sets no base.
+    pub fn next_raw(&mut self) -> Result<Option<RawRngListEntry<R::Offset>>, Error>
+        ensures next { AnswersNext (raw_entry R.Offset.count) result (raw_ranges_to_come R.Offset.limit self.old.raw) (raw_ranges_to_come R.Offset.limit self.new.raw) }
+        ensures encoding { self.new.raw.encoding ≡ self.old.raw.encoding }
+        ensures against { self.new.against ≡ self.old.against }
+    {
+        self.raw.next()
+    }
+
+    /// The range of an entry, none where it is passed over. An entry that isn't refused sets its base.
+    pub fn convert_raw(
+        &mut self,
+        raw_range: RawRngListEntry<R::Offset>,
+    ) -> Result<Option<Range>, Error>
+        ensures value { Answers (λ range. range) result (range_of self.old.against.setting self.old.against.base (raw_entry R.Offset.count raw_range)) }
+        ensures base { self.new.against.base ≡ unwrap_or (base_in self.old.against.setting (raw_entry R.Offset.count raw_range)) self.old.against.base }
+        ensures setting { self.new.against.setting ≡ self.old.against.setting }
+        ensures raw { self.new.raw ≡ self.old.raw }
+        ensures counted { IfOk result (λ range. IfSome range (IsCounted self.old.against.setting.address_size)) }
+    {
+        self.resolver.range(raw_range)
+    }
+}

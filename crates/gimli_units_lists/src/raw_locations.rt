@@ -1,0 +1,68 @@
+ghost use Rattle.std.specs.Prelude.{◌≡◌};
+ghost use Rattle.gimli_units_lists.specs.Answers.{TakesNext};
+ghost use Rattle.gimli_units_lists.specs.LocationEntries.{raw_locations_to_come};
+ghost use Rattle.gimli_units_lists.specs.Seen.{raw_location};
+
+use crate::location_entry::{RawLocListEntry, parse_entry};
+use gimli_core_base::error::Error;
+use gimli_core_constants::Encoding;
+use gimli_core_readers::Reader;
+use std::marker::Model;
+
+/// The entries of a location list, from one of them on.
+#[derive(Debug, Drop)]
+pub struct RawLocListIter<R: Reader> {
+    /// The bytes from the next entry on.
+    input: R,
+    encoding: Encoding,
+    /// The entries begin with their kind.
+    by_kind: bool,
+}
+
+impl<R: Reader> Model for RawLocListIter<R> {
+    ghost use Rattle.gimli_units_lists.specs.LocationEntries.{RawLocationsLeft};
+
+    ghost Value = { RawLocationsLeft };
+
+    ghost view = { λ r. record { encoding = r.encoding; by_kind = r.by_kind; left = R.view r.input } };
+}
+
+impl<R: Reader> RawLocListIter<R> {
+    pub(crate) fn new(input: R, encoding: Encoding, by_kind: bool) -> Self
+        ensures { result ≡ record { encoding = encoding; by_kind = by_kind; left = R.view input } }
+    {
+        RawLocListIter {
+            input,
+            encoding,
+            by_kind,
+        }
+    }
+
+    /// The next entry, none at the list's end. After an entry that can't be read there are no more. Takes memory only
+    /// where a part of the reader does, and moves nothing where there is none.
+    pub fn next(&mut self) -> Result<Option<RawLocListEntry<R>>, Error>
+        ensures next { TakesNext (raw_location R.view R.Offset.count) result (raw_locations_to_come R.Offset.limit self.old) (raw_locations_to_come R.Offset.limit self.new) }
+        ensures encoding { self.new.encoding ≡ self.old.encoding }
+        ensures by_kind { self.new.by_kind ≡ self.old.by_kind }
+    {
+        if self.input.is_empty() {
+            return Ok(None);
+        }
+        let mut input = self.input.copy()?;
+        match parse_entry(&mut input, self.encoding, self.by_kind) {
+            Ok(Some(entry)) => {
+                self.input = input;
+                Ok(Some(entry))
+            }
+            Ok(None) => {
+                self.input.empty();
+                Ok(None)
+            }
+            Err(Error::Memory) => Err(Error::Memory),
+            Err(fault) => {
+                self.input.empty();
+                Err(fault)
+            }
+        }
+    }
+}

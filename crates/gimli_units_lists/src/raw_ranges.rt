@@ -1,0 +1,55 @@
+ghost use Rattle.std.specs.Prelude.{◌≡◌, ◌≢◌, IsTrue, Ok, Err};
+ghost use Rattle.gimli_units_lists.specs.Answers.{AnswersNext};
+ghost use Rattle.gimli_units_lists.specs.RangeEntries.{raw_ranges_to_come};
+ghost use Rattle.gimli_units_lists.specs.Seen.{raw_entry};
+
+use crate::range_entry::{RawRngListEntry, parse_entry};
+use gimli_core_base::error::Error;
+use gimli_core_constants::Encoding;
+use gimli_core_readers::Reader;
+use std::marker::Model;
+
+/// The entries of a range list, from one of them on.
+#[derive(Debug, Drop)]
+pub struct RawRngListIter<R: Reader> {
+    /// The bytes from the next entry on.
+    input: R,
+    encoding: Encoding,
+}
+
+impl<R: Reader> Model for RawRngListIter<R> {
+    ghost use Rattle.gimli_units_lists.specs.RangeEntries.{RawRangesLeft};
+
+    ghost Value = { RawRangesLeft };
+
+    ghost view = { λ r. record { encoding = r.encoding; left = R.view r.input } };
+}
+
+impl<R: Reader> RawRngListIter<R> {
+    pub(crate) fn new(input: R, encoding: Encoding) -> Self
+        ensures { result ≡ record { encoding = encoding; left = R.view input } }
+    {
+        RawRngListIter { input, encoding }
+    }
+
+    /// The next entry, none at the list's end. After an entry that can't be read there are no more. Takes no memory.
+    pub fn next(&mut self) -> Result<Option<RawRngListEntry<R::Offset>>, Error>
+        ensures next { AnswersNext (raw_entry R.Offset.count) result (raw_ranges_to_come R.Offset.limit self.old) (raw_ranges_to_come R.Offset.limit self.new) }
+        ensures encoding { self.new.encoding ≡ self.old.encoding }
+    {
+        if self.input.is_empty() {
+            return Ok(None);
+        }
+        match parse_entry(&mut self.input, self.encoding) {
+            Ok(Some(entry)) => Ok(Some(entry)),
+            Ok(None) => {
+                self.input.empty();
+                Ok(None)
+            }
+            Err(fault) => {
+                self.input.empty();
+                Err(fault)
+            }
+        }
+    }
+}
