@@ -1,0 +1,4 @@
+pub mod Entries
+pub mod UnitEntries
+pub mod Rows
+pub mod Seen
