@@ -46,7 +46,7 @@ found_behind_0 i (x ∷ front) back code counts low =
     rw other (found_behind_0 (suc i) front back code counts.1 (omega arith))
 
 -- a look-up by the key is one by the code
-key_test : (code key : ℕ) → is_eq (nat_cmp code key) ≡ eqb key code
+pub key_test : (code key : ℕ) → is_eq (nat_cmp code key) ≡ eqb key code
 key_test code key = elim (cases_order code key) [
   | inr (inl less) ↦ ap is_eq (sym (nat_cmp_is code key Less less)) ∙ sym (ne_eqb key code (λ e. omega (arith, e)))
   | inl same ↦ ap is_eq (sym (nat_cmp_is code key Equal same)) ∙ sym (eq-eqb key code (sym same))

@@ -1,3 +1,4 @@
 pub mod Takes
 pub mod Keeping
 pub mod Tables
+pub mod Offsets

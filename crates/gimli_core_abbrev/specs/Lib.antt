@@ -3,3 +3,4 @@ pub mod Parsing
 pub mod Seen
 pub mod Kept
 pub mod Widths
+pub mod Caches

@@ -2,9 +2,14 @@
 #![tactic(auto)]
 
 pub mod abbreviation;
+pub mod cache;
 pub mod section;
 pub mod table;
 
 pub use abbreviation::{Abbreviation, AttributeSpecification};
+pub use cache::{AbbreviationsCache, AbbreviationsCacheStrategy};
 pub use section::DebugAbbrev;
 pub use table::Abbreviations;
+
+#[cfg(test)]
+mod tests;
