@@ -1,4 +1,4 @@
-ghost use Rattle.std.specs.Prelude.{◌≡◌, ℕ, ◌<◌, ◌↔◌, Some, Result, Ok, IfErr, option_map};
+ghost use Rattle.std.specs.Prelude.{◌≡◌, ℕ, ◌<◌, ◌↔◌, Some, Result, Ok, IfErr, IsOk, IsTrue, option_map};
 ghost use Rattle.gimli_core_base.specs.Calls.{Gives};
 ghost use Rattle.gimli_core_base.specs.declared.error.Error.TheVariants.{Memory};
 ghost use Rattle.gimli_units_forms.specs.Values.{RawValue, raw_value_of, raw_attribute_of};
@@ -75,7 +75,9 @@ impl<R: Reader> AttributeValue<R> {
 
     /// A copy of the bytes of an expression, which was a block before version 4.
     pub fn exprloc_value(&self) -> Result<Option<Expression<R>>, Error>
-        ensures { Gives (option_map (λ e. R.view e.0)) result (Ok (expression_of (raw_value_of R.view R.Offset.count self.now))) }
+        ensures value { Gives (option_map (λ e. R.view e.0)) result
+            (Ok (expression_of (raw_value_of R.view R.Offset.count self.now))) }
+        ensures free { IsTrue R.copies_freely → IsOk result }
     {
         match self {
             AttributeValue::Exprloc(expression) => Ok(Some(Expression(expression.0.copy()?))),
@@ -87,7 +89,9 @@ impl<R: Reader> AttributeValue<R> {
     /// A copy of the text, which stands in the entry or in `.debug_str`. None where there is none, or where it can't
     /// be read; refused for want of memory alone.
     pub fn string_value(&self, debug_str: &DebugStr<R>) -> Result<Option<R>, Error>
-        ensures value { Gives (option_map R.view) result (Ok (text_of debug_str.now (raw_value_of R.view R.Offset.count self.now))) }
+        ensures value { Gives (option_map R.view) result
+            (Ok (text_of debug_str.now (raw_value_of R.view R.Offset.count self.now))) }
+        ensures free { IsTrue R.copies_freely → IsOk result }
         ensures refused { IfErr result (λ e. e ≡ Memory) }
     {
         match self {
@@ -137,7 +141,9 @@ impl<R: Reader> AttributeValue<R> {
 impl<R: Reader> AttributeValue<R> {
     /// A second value of the same bytes. Only one that holds bytes may want memory.
     pub fn copy(&self) -> Result<AttributeValue<R>, Error>
-        ensures { Gives (raw_value_of R.view R.Offset.count) result (Ok (raw_value_of R.view R.Offset.count self.now)) }
+        ensures value { Gives (raw_value_of R.view R.Offset.count) result
+            (Ok (raw_value_of R.view R.Offset.count self.now)) }
+        ensures free { IsTrue R.copies_freely → IsOk result }
     {
         Ok(match self {
             AttributeValue::Addr(address) => AttributeValue::Addr(*address),
@@ -198,8 +204,9 @@ impl<R: Reader> Attribute<R> {
 
     /// A copy of the value as the form gives it.
     pub fn raw_value(&self) -> Result<AttributeValue<R>, Error>
-        ensures { Gives (raw_value_of R.view R.Offset.count) result
+        ensures value { Gives (raw_value_of R.view R.Offset.count) result
             (Ok (raw_attribute_of R.view R.Offset.count self.now).value) }
+        ensures free { IsTrue R.copies_freely → IsOk result }
     {
         self.value.copy()
     }
@@ -207,8 +214,9 @@ impl<R: Reader> Attribute<R> {
     /// The value that the attribute's name makes of it, and where it doesn't fit a copy of the value as the form
     /// gives it.
     pub fn value(&self) -> Result<AttributeValue<R>, Error>
-        ensures { let a = raw_attribute_of R.view R.Offset.count self.now in
+        ensures value { let a = raw_attribute_of R.view R.Offset.count self.now in
             Gives (raw_value_of R.view R.Offset.count) result (Ok (value_under a.name a.value)) }
+        ensures free { IsTrue R.copies_freely → IsOk result }
     {
         match self.value.converted_under(self.name) {
             Some(value) => Ok(value),
@@ -255,6 +263,7 @@ impl<R: Reader> Attribute<R> {
     pub fn string_value(&self, debug_str: &DebugStr<R>) -> Result<Option<R>, Error>
         ensures value { Gives (option_map R.view) result
             (Ok (text_of debug_str.now (raw_attribute_of R.view R.Offset.count self.now).value)) }
+        ensures free { IsTrue R.copies_freely → IsOk result }
         ensures refused { IfErr result (λ e. e ≡ Memory) }
     {
         self.value.string_value(debug_str)
@@ -262,8 +271,9 @@ impl<R: Reader> Attribute<R> {
 
     /// A copy of the bytes of the expression that the value is.
     pub fn exprloc_value(&self) -> Result<Option<Expression<R>>, Error>
-        ensures { Gives (option_map (λ e. R.view e.0)) result
+        ensures value { Gives (option_map (λ e. R.view e.0)) result
             (Ok (expression_of (raw_attribute_of R.view R.Offset.count self.now).value)) }
+        ensures free { IsTrue R.copies_freely → IsOk result }
     {
         self.value.exprloc_value()
     }

@@ -1,5 +1,5 @@
-ghost use Rattle.std.specs.Prelude.{◌≡◌, ◌≤◌, IfOk, ◌<◌, ◌^◌, ℕ};
-ghost use Rattle.gimli_core_base.specs.Calls.{Answers, Gives, Takes};
+ghost use Rattle.std.specs.Prelude.{◌≡◌, ◌≤◌, IfOk, IsTrue, ◌<◌, ◌^◌, ℕ};
+ghost use Rattle.gimli_core_base.specs.Calls.{Answers, Gives, Reads, Takes};
 ghost use Rattle.gimli_core_base.specs.View.{View};
 ghost use Rattle.gimli_core_numbers.specs.Numbers.{fixed, unsigned};
 ghost use Rattle.gimli_core_abbrev.specs.Seen.{seen_attribute};
@@ -151,7 +151,9 @@ fn bytes_value_of<R: Reader>(form: DwForm, bytes: R) -> AttributeValue<R>
 #[tactic(auto, unfolding(crate::specs::Reading::counted))]
 fn read_block<R: Reader>(reader: &mut R, width: u8) -> Result<R, Error>
     requires { width ≤ 8 }
-    ensures { Gives (λ bytes. (R.view bytes, R.view reader.new)) result
+    ensures value { Gives (λ bytes. (R.view bytes, R.view reader.new)) result
+        (counted R.Offset.limit (fixed width) (R.view reader.old)) }
+    ensures free { IsTrue R.copies_freely → Answers (λ bytes. (R.view bytes, R.view reader.new)) result
         (counted R.Offset.limit (fixed width) (R.view reader.old)) }
 {
     let length = read_fixed(reader, width)?;
@@ -161,7 +163,9 @@ fn read_block<R: Reader>(reader: &mut R, width: u8) -> Result<R, Error>
 /// As many bytes as an unsigned LEB128 length says.
 #[tactic(auto, unfolding(crate::specs::Reading::counted))]
 fn read_long_block<R: Reader>(reader: &mut R) -> Result<R, Error>
-    ensures { Gives (λ bytes. (R.view bytes, R.view reader.new)) result
+    ensures value { Gives (λ bytes. (R.view bytes, R.view reader.new)) result
+        (counted R.Offset.limit unsigned (R.view reader.old)) }
+    ensures free { IsTrue R.copies_freely → Answers (λ bytes. (R.view bytes, R.view reader.new)) result
         (counted R.Offset.limit unsigned (R.view reader.old)) }
 {
     let length = reader.read_uleb128()?;
@@ -177,7 +181,9 @@ fn read_value<R: Reader>(
     constant: Option<i64>,
     form: DwForm,
 ) -> Result<AttributeValue<R>, Error>
-    ensures { Gives (λ value. (raw_value_of R.view R.Offset.count value, R.view reader.new)) result
+    ensures value { Gives (λ value. (raw_value_of R.view R.Offset.count value, R.view reader.new)) result
+        (value R.Offset.limit encoding name.0 constant form.0 (R.view reader.old)) }
+    ensures free { IsTrue R.copies_freely → Answers (λ value. (raw_value_of R.view R.Offset.count value, R.view reader.new)) result
         (value R.Offset.limit encoding name.0 constant form.0 (R.view reader.old)) }
 {
     match spelling_of(encoding, form) {
@@ -214,7 +220,10 @@ pub fn read_attribute<R: Reader>(
     encoding: Encoding,
     specification: AttributeSpecification,
 ) -> Result<Attribute<R>, Error>
-    ensures { Gives (λ a. (raw_attribute_of R.view R.Offset.count a, R.view reader.new)) result
+    ensures value { Gives (λ a. (raw_attribute_of R.view R.Offset.count a, R.view reader.new)) result
+        (attribute R.Offset.limit encoding (seen_attribute specification) (R.view reader.old)) }
+    // Where copies take no memory, this takes none.
+    ensures free { IsTrue R.copies_freely → Answers (λ a. (raw_attribute_of R.view R.Offset.count a, R.view reader.new)) result
         (attribute R.Offset.limit encoding (seen_attribute specification) (R.view reader.old)) }
 {
     let name = specification.name();
@@ -230,7 +239,11 @@ pub fn parse_attribute<R: Reader>(
     encoding: Encoding,
     specification: AttributeSpecification,
 ) -> Result<Attribute<R>, Error>
-    ensures { Takes (raw_attribute_of R.view R.Offset.count) result (R.view reader.old) (R.view reader.new)
+    ensures value { Takes (raw_attribute_of R.view R.Offset.count) result (R.view reader.old) (R.view reader.new)
+        (attribute R.Offset.limit encoding (seen_attribute specification) (R.view reader.old)) }
+    // Where copies take no memory, this takes none.
+    ensures free { IsTrue R.copies_freely
+        → Reads (raw_attribute_of R.view R.Offset.count) result (R.view reader.old) (R.view reader.new)
         (attribute R.Offset.limit encoding (seen_attribute specification) (R.view reader.old)) }
 {
     let mut rest = reader.copy()?;
