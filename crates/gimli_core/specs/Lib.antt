@@ -19,3 +19,5 @@ pub use Rattle.gimli_core_abbrev.specs.Declarations
 pub use Rattle.gimli_core_abbrev.specs.Parsing
 pub use Rattle.gimli_core_abbrev.specs.Seen
 pub use Rattle.gimli_core_abbrev.specs.Kept
+pub use Rattle.gimli_core_abbrev.specs.Widths
+pub use Rattle.gimli_core_abbrev.specs.Caches

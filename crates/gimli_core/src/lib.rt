@@ -4,6 +4,8 @@
 
 pub use gimli_core_abbrev::Abbreviation;
 pub use gimli_core_abbrev::Abbreviations;
+pub use gimli_core_abbrev::AbbreviationsCache;
+pub use gimli_core_abbrev::AbbreviationsCacheStrategy;
 pub use gimli_core_abbrev::AttributeSpecification;
 pub use gimli_core_abbrev::DebugAbbrev;
 pub use gimli_core_base::constants::DW_FORM_GNU_addr_index;
