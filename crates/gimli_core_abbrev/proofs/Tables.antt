@@ -18,7 +18,7 @@ use Rattle.gimli_core_abbrev.proofs.Takes.{declarations-shrink}
 -- ---- codes
 
 -- one of the declarations has the code, or it is there already
-has_code-put : (code : ℕ) (d : Declaration) (table : List Declaration) → is_some (declaration_at code (put d table)) ≡ (eqb d.code code || is_some (declaration_at code table))
+pub has_code-put : (code : ℕ) (d : Declaration) (table : List Declaration) → is_some (declaration_at code (put d table)) ≡ (eqb d.code code || is_some (declaration_at code table))
 has_code-put code d [] = one (eqb d.code code)
   where
     one : (b : Bool) → is_some (cond b (Some d) None) ≡ (b || false)

@@ -4,3 +4,4 @@ pub mod Seen
 pub mod Kept
 pub mod Widths
 pub mod Caches
+pub mod Laws

@@ -3,6 +3,7 @@
 
 pub mod abbreviation;
 pub mod cache;
+pub mod laws;
 pub mod section;
 pub mod table;
 
