@@ -21,3 +21,4 @@ pub use Rattle.gimli_core_abbrev.specs.Seen
 pub use Rattle.gimli_core_abbrev.specs.Kept
 pub use Rattle.gimli_core_abbrev.specs.Widths
 pub use Rattle.gimli_core_abbrev.specs.Caches
+pub use Rattle.gimli_core_abbrev.specs.Laws

@@ -189,6 +189,7 @@ pub use gimli_core_strings::Section;
 
 /// What holds of the definitions, as contracts.
 pub mod laws {
+    pub use gimli_core_abbrev::laws as abbreviations;
     pub use gimli_core_numbers::laws as numbers;
     pub use gimli_core_readers::laws as readers;
 }

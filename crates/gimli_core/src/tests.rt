@@ -17,29 +17,78 @@ fn shared(bytes: &'static [u8]) -> EndianBytes<LittleEndian> {
 // ---- numbers
 
 #[test]
-fn largest_and_smallest_numbers(rt: HostRuntime) {
-    let largest = b"\xff\xff\xff\xff\xff\xff\xff\xff\xff\x01";
-    assert_eq!(rt; slice(largest).read_uleb128(), Ok(u64::MAX));
-    assert_eq!(rt; shared(largest).read_uleb128(), Ok(u64::MAX));
-    let smallest = b"\x80\x80\x80\x80\x80\x80\x80\x80\x80\x7f";
-    assert_eq!(rt; slice(smallest).read_sleb128(), Ok(i64::MIN));
-    assert_eq!(rt; shared(smallest).read_sleb128(), Ok(i64::MIN));
+fn unsigned_numbers_of_16_bits(rt: HostRuntime) {
+    for (bytes, number) in [
+        (b"\xff\xff\x03", Ok(65535)),
+        (b"\x80\x80\x04", Err(Error::BadUnsignedLeb128)),
+    ] {
+        assert_eq!(rt; leb128::read::u16(&mut slice(bytes)), number);
+        assert_eq!(rt; leb128::read::u16(&mut shared(bytes)), number);
+    }
 }
 
 #[test]
-fn numbers_that_are_too_large(rt: HostRuntime) {
-    let above = b"\xff\xff\xff\xff\xff\xff\xff\xff\xff\x02";
-    assert_eq!(rt; slice(above).read_uleb128(), Err(Error::BadUnsignedLeb128));
-    assert_eq!(rt; shared(above).read_uleb128(), Err(Error::BadUnsignedLeb128));
-    let wide = b"\x80\x80\x04";
+fn unsigned_numbers_of_64_bits(rt: HostRuntime) {
+    for (bytes, number) in [
+        (b"\xff\xff\xff\xff\xff\xff\xff\xff\xff\x01", Ok(u64::MAX)),
+        (
+            b"\xff\xff\xff\xff\xff\xff\xff\xff\xff\x02",
+            Err(Error::BadUnsignedLeb128),
+        ),
+    ] {
+        assert_eq!(rt; leb128::read::unsigned(&mut slice(bytes)), number);
+        assert_eq!(rt; leb128::read::unsigned(&mut shared(bytes)), number);
+    }
+}
+
+#[test]
+fn signed_numbers(rt: HostRuntime) {
+    for (bytes, number) in [
+        (
+            b"\x80\x80\x80\x80\x80\x80\x80\x80\x80\x7f".as_slice(),
+            i64::MIN,
+        ),
+        (b"\xff\x7e", -129),
+    ] {
+        assert_eq!(rt; leb128::read::signed(&mut slice(bytes)), Ok(number));
+        assert_eq!(rt; leb128::read::signed(&mut shared(bytes)), Ok(number));
+    }
+}
+
+#[test]
+fn a_reserved_length(rt: HostRuntime) {
+    let word = b"\xfe\xff\xff\xff";
+    let reserved = Err(Error::UnknownReservedLength(4294967294));
+    assert_eq!(rt; slice(word).read_initial_length(), reserved);
+    assert_eq!(rt; shared(word).read_initial_length(), reserved);
+}
+
+#[test]
+fn the_usual_parameters_of_special_opcodes(rt: HostRuntime) {
+    let usual = LineEncoding {
+        minimum_instruction_length: 1,
+        maximum_operations_per_instruction: 1,
+        default_is_stmt: true,
+        line_base: -5,
+        line_range: 14,
+    };
+    assert_eq!(rt; LineEncoding::default(), usual);
+}
+
+// ---- texts
+
+#[test]
+fn a_text_that_is_not_utf_8(rt: HostRuntime) -> Result<(), Fail> {
+    let text = b"a\xffb";
     assert_eq!(rt;
-        shared(wide).read_uleb128_u16(),
-        Err(Error::BadUnsignedLeb128)
+        slice(text).to_string_lossy(rt.alloc())?.as_str(),
+        "a\u{fffd}b"
     );
     assert_eq!(rt;
-        shared(b"\xfe\xff\xff\xff").read_initial_length(),
-        Err(Error::UnknownReservedLength(4294967294))
+        shared(text).to_string_lossy(rt.alloc())?.as_str(),
+        "a\u{fffd}b"
     );
+    Ok(())
 }
 
 // ---- abbreviations
@@ -48,54 +97,6 @@ fn numbers_that_are_too_large(rt: HostRuntime) {
 fn table_of<R: Reader>(alloc: Global, section: R) -> Result<Abbreviations, Error> {
     let start = DebugAbbrevOffset(R::Offset::from_u8(0));
     DebugAbbrev::from(section).abbreviations(alloc, start)
-}
-
-// The one declaration of a table: a compilation unit with a name.
-fn is_named_unit(table: &Abbreviations) -> bool {
-    let name = AttributeSpecification::new(DW_AT_name, DW_FORM_strp, None);
-    match table.get(1) {
-        Some(unit) => {
-            unit.code() == 1
-                && unit.tag() == DW_TAG_compile_unit
-                && unit.has_children()
-                && unit.attributes() == [name].as_slice()
-                && table.get(0).is_none()
-                && table.get(2).is_none()
-        }
-        None => false,
-    }
-}
-
-#[test]
-fn a_table_ends_at_a_zero_or_with_its_section(rt: HostRuntime) -> Result<(), Fail> {
-    let ended = b"\x01\x11\x01\x03\x0e\0\0\0";
-    let cut = b"\x01\x11\x01\x03\x0e\0\0";
-    assert!(rt; is_named_unit(&table_of(rt.alloc(), slice(ended))?));
-    assert!(rt; is_named_unit(&table_of(rt.alloc(), slice(cut))?));
-    assert!(rt; is_named_unit(&table_of(rt.alloc(), shared(ended))?));
-    assert!(rt; is_named_unit(&table_of(rt.alloc(), shared(cut))?));
-    Ok(())
-}
-
-#[test]
-fn tables_that_are_refused(rt: HostRuntime) {
-    for (bytes, refusal) in [
-        (b"\x01\0".as_slice(), Error::AbbreviationTagZero),
-        (b"\x11\x11\x02", Error::InvalidAbbreviationChildren(2)),
-        (b"\x01\x11\x01\0\x0e", Error::AttributeNameZero),
-        (b"\x01\x11\x01\x03\0", Error::AttributeFormZero),
-        (
-            b"\x01\x11\0\0\0\x01\x11\0\0\0",
-            Error::DuplicateAbbreviationCode(1),
-        ),
-        (
-            b"\x01\x11\0\0\0\x01\x11\x02",
-            Error::InvalidAbbreviationChildren(2),
-        ),
-    ] {
-        assert_eq!(rt; table_of(rt.alloc(), slice(bytes)).err(), Some(refusal));
-        assert_eq!(rt; table_of(rt.alloc(), shared(bytes)).err(), Some(refusal));
-    }
 }
 
 #[test]
@@ -158,4 +159,36 @@ fn places_in_shared_bytes(rt: HostRuntime) {
         ),
         Ok(DebugStrOffset(0x143))
     );
+}
+
+// ---- sections over another reader
+
+fn in_big_order(reader: &EndianSlice<'static, LittleEndian>) -> EndianSlice<'static, BigEndian> {
+    EndianSlice::new(reader.slice(), BigEndian)
+}
+
+#[test]
+fn sections_in_another_order(rt: HostRuntime) -> Result<(), Fail> {
+    let bytes = b"\x01\x11\0\0\0\0\x12\x34";
+    let table = DebugAbbrev::new(bytes, LittleEndian)
+        .borrow(in_big_order)
+        .abbreviations(rt.alloc(), DebugAbbrevOffset(0))?;
+    assert!(rt; table.get(1).is_some());
+    let text = DebugStr::new(bytes, LittleEndian)
+        .borrow(in_big_order)
+        .get_str(DebugStrOffset(0))?;
+    assert_eq!(rt; text.slice(), b"\x01\x11".as_slice());
+    let address = DebugAddr::new(bytes, LittleEndian)
+        .borrow(in_big_order)
+        .get_address(2, DebugAddrBase(6), DebugAddrIndex(0));
+    assert_eq!(rt; address, Ok(0x1234));
+    let offset = DebugStrOffsets::new(bytes, LittleEndian)
+        .borrow(in_big_order)
+        .get_str_offset(
+            Format::Dwarf32,
+            DebugStrOffsetsBase(4),
+            DebugStrOffsetsIndex(0),
+        );
+    assert_eq!(rt; offset, Ok(DebugStrOffset(0x1234)));
+    Ok(())
 }

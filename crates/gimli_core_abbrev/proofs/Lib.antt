@@ -4,3 +4,6 @@ pub mod Tables
 pub mod Offsets
 pub mod Rising
 pub mod Room
+pub mod Appended
+pub mod Followed
+pub mod Worked

@@ -1,10 +1,10 @@
 -- The codes of a table rise from above 0.
-use Rattle.std.proofs.Common.{◌≡◌, ℕ, zero, suc, ◌+◌, ◌<◌, ◌≤◌, Bool, true, false, cond, ◌||◌, eqb, ltb, List, [], ◌∷◌, ◌++◌, Option, Some, None, is_some, Result, Ok, Err, refl, sym, ap, subst, ◌∙◌, inl, inr, arith}
+use Rattle.std.proofs.Common.{◌≡◌, ℕ, zero, suc, ◌<◌, ◌≤◌, Bool, true, false, cond, ◌||◌, eqb, List, [], ◌∷◌, ◌++◌, Option, Some, None, is_some, Result, Ok, Err, refl, ap, subst, ◌∙◌, inl, inr, arith}
 use Rattle.std.proofs.lemmas.Bool.{cases_lt, ne_eqb, eqb-false, lt-ltb, le-ltb}
 use Rattle.gimli_core_base.specs.declared.error.Error.{Error}
 use Rattle.gimli_core_base.specs.View.{View, bytes_left}
-use Rattle.gimli_core_base.specs.Parsers.{Step, onward, give, value_of, skip, ◌>>◌}
-use Rattle.gimli_core_base.specs.Repetition.{Listing, items_within, listing_in, next_item, item_or_end, whole, whole_of}
+use Rattle.gimli_core_base.specs.Parsers.{onward, give, skip, ◌>>◌}
+use Rattle.gimli_core_base.specs.Repetition.{Listing, items_within, listing_in, next_item, item_or_end, whole_of}
 use Rattle.gimli_core_base.proofs.Steps.{begins, value_of-Ok, value_is, read}
 use Rattle.gimli_core_abbrev.specs.Declarations.{Declaration, declaration_at, has_code, put, put_all, by_code, repeated_behind, repeated}
 use Rattle.gimli_core_abbrev.specs.Parsing.{declaration, distinct, table_of, table, table_at}
@@ -26,7 +26,8 @@ lower : (m n : ℕ) (ds : List Declaration) → m ≤ n → Rise n ds → Rise m
 lower m n [] le rises = tt
 lower m n (d ∷ ds) le rises = (omega (arith, rises.0), rises.1)
 
-others : (b : Bool) (e : Declaration) (o : Option Declaration) → cond b (Some e) o ≡ None → (b ≡ false) × (o ≡ None)
+-- the first one isn't found, nor is one behind it
+pub others : (b : Bool) (e : Declaration) (o : Option Declaration) → cond b (Some e) o ≡ None → (b ≡ false) × (o ≡ None)
 others true e o h = absurd cc
 others false e o h = (refl, h)
 

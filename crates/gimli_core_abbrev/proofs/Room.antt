@@ -1,16 +1,15 @@
 -- A declaration takes five bytes at least, and two more for each attribute.
-use Rattle.std.proofs.Common.{◌≡◌, ℕ, zero, suc, ◌+◌, ◌-◌, ◌*◌, ◌<◌, ◌≤◌, Bool, true, false, cond, not, ◌&&◌, eqb, ltb, List, [], ◌∷◌, ◌++◌, length, sum_by, Option, Some, None, Result, Ok, Err, refl, sym, ap, subst, ◌∙◌, arith, length-drop}
-use Rattle.std.specs.Prelude.{ℤ}
+use Rattle.std.proofs.Common.{◌≡◌, ℕ, zero, suc, ◌+◌, ◌-◌, ◌*◌, ◌<◌, ◌≤◌, Bool, true, false, cond, not, ◌&&◌, eqb, ltb, List, [], ◌∷◌, length, sum_by, Option, Some, None, Result, Ok, Err, refl, sym, ap, ◌∙◌, arith, length-drop}
 use Rattle.std.proofs.lemmas.List.Sums.{sum_by-append}
 use Rattle.gimli_core_base.specs.declared.error.Error.{Error}
 use Rattle.gimli_core_base.specs.declared.error.Error.TheVariants.{AbbreviationTagZero}
 use Rattle.gimli_core_base.specs.View.{View, bytes_left, after, ends}
-use Rattle.gimli_core_base.specs.Parsers.{Step, ◌>>=◌, ◌>>◌, onward, give, branch, demand, skip}
+use Rattle.gimli_core_base.specs.Parsers.{◌>>=◌, ◌>>◌, onward, give, branch, demand, skip}
 use Rattle.gimli_core_base.specs.Repetition.{Listing, items_within, listing_in, next_item, item_or_end, whole_of}
 use Rattle.gimli_core_base.proofs.Steps.{begins, value_of-Ok, value_is, state_is}
 use Rattle.gimli_core_base.proofs.Sizes.{AtMost, Below, sizes}
-use Rattle.gimli_core_numbers.specs.Numbers.{fixed, unsigned, unsigned_16}
-use Rattle.gimli_core_numbers.proofs.Sizes.{Below-unsigned, Below-unsigned_16, Below-fixed, number_sizes}
+use Rattle.gimli_core_numbers.specs.Numbers.{unsigned, unsigned_16}
+use Rattle.gimli_core_numbers.proofs.Sizes.{Below-unsigned, Below-unsigned_16, number_sizes}
 use Rattle.gimli_core_abbrev.specs.Declarations.{Attribute, Declaration, put, put_all, by_code, repeated}
 use Rattle.gimli_core_abbrev.specs.Parsing.{implicit_const, attribute_of, attribute, attributes, children, declaration_of, coded_declaration, unless_ended, declaration, distinct, table_of, table, table_at}
 use Rattle.gimli_core_abbrev.specs.Laws.{bytes_needed}

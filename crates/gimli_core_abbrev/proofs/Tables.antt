@@ -1,13 +1,12 @@
 -- The table that a loop over the declarations collects.
-use Rattle.std.proofs.Common.{◌≡◌, ◌≢◌, ℕ, zero, suc, ◌+◌, ◌<◌, ◌≤◌, Bool, true, false, cond, not, ◌||◌, eqb, ltb, List, [], ◌∷◌, ◌++◌, Option, Some, None, is_some, option_map, Result, Ok, Err, refl, sym, ap, subst, ◌∙◌, inl, inr, arith, append_assoc}
-use Rattle.std.specs.Prelude.{find}
-use Rattle.std.proofs.lemmas.Bool.{eqb-true, eqb-false}
+use Rattle.std.proofs.Common.{◌≡◌, ℕ, ◌<◌, Bool, true, false, cond, ◌||◌, eqb, ltb, List, [], ◌∷◌, ◌++◌, Option, Some, None, is_some, option_map, Result, Ok, Err, refl, sym, ap, ◌∙◌, arith, append_assoc}
+use Rattle.std.proofs.lemmas.Bool.{eqb-false}
 use Rattle.std.proofs.lemmas.List.{append-nil}
 use Rattle.gimli_core_base.specs.declared.error.Error.{Error}
 use Rattle.gimli_core_base.specs.declared.error.Error.TheVariants.{DuplicateAbbreviationCode}
 use Rattle.gimli_core_base.specs.View.{View, bytes_left}
 use Rattle.gimli_core_base.specs.Parsers.{Step, ◌>>=◌, onward, give, branch}
-use Rattle.gimli_core_base.specs.Repetition.{Listing, ended, prepend, listing_in}
+use Rattle.gimli_core_base.specs.Repetition.{prepend, listing_in}
 use Rattle.gimli_core_base.proofs.Steps.{begins, value_is}
 use Rattle.gimli_core_base.proofs.Listings.{listing_item, listing_end, listing_fault}
 use Rattle.gimli_core_numbers.specs.Numbers.{unsigned}

@@ -1,5 +1,5 @@
 -- Each attribute and each declaration takes some of the bytes.
-use Rattle.std.proofs.Common.{◌≡◌, ℕ, ◌+◌, ◌≤◌, ◌<◌, arith, rules, eqb, List, [], ◌∷◌, Option, Some, None, zero, suc, Result, Ok, Err, refl}
+use Rattle.std.proofs.Common.{◌≡◌, ℕ, ◌≤◌, ◌<◌, arith, List, [], ◌∷◌, Option, Some, None, zero, suc, Result, Ok, Err, refl}
 use Rattle.gimli_core_base.specs.declared.error.Error.{Error}
 use Rattle.gimli_core_base.specs.View.{View, bytes_left}
 use Rattle.gimli_core_base.specs.Parsers.{Step}
@@ -71,7 +71,7 @@ declaration_of-leaves code v n h = search (arith, sizes, number_sizes, children-
 declaration_of-below : (code : ℕ) (v : View) (n : ℕ) → bytes_left v < n → Below bytes_left n (declaration_of code v)
 declaration_of-below code v n h = declaration_of-leaves code v n (omega arith)
 
-coded-shrinks : (v : View) (n : ℕ) → bytes_left v ≤ n → SomeBelow bytes_left n (coded_declaration v)
+pub coded-shrinks : (v : View) (n : ℕ) → bytes_left v ≤ n → SomeBelow bytes_left n (coded_declaration v)
 unfolding coded_declaration
 coded-shrinks v n h = search (arith, sizes, number_sizes, declaration_of-below) depth 40
 

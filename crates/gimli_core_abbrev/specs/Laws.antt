@@ -1,8 +1,13 @@
 -- What is said of whole tables.
-use Rattle.std.specs.Prelude.{◌≡◌, ℕ, ◌+◌, ◌-◌, ◌*◌, ◌≤◌, List, ◌∷◌, ◌++◌, length, sum_by, None, Ok}
-use Rattle.gimli_core_base.specs.View.{View}
+use Rattle.std.specs.Prelude.{◌≡◌, ◌≢◌, ℕ, ◌+◌, ◌-◌, ◌*◌, ◌≤◌, List, ◌∷◌, ◌++◌, length, sum_by, None, Result, Ok, Err, IsOk, IsErr}
+use Rattle.gimli_core_base.specs.declared.constants.ReaderOffsetId.{ReaderOffsetId}
+use Rattle.gimli_core_base.specs.declared.error.Error.{Error}
+use Rattle.gimli_core_base.specs.declared.error.Error.TheVariants.{UnexpectedEof}
+use Rattle.gimli_core_base.specs.View.{View, bytes_left, after}
+use Rattle.gimli_core_base.specs.Parsers.{◌>>◌, value_of, skip}
+use Rattle.gimli_core_base.specs.Repetition.{listing_in}
 use Rattle.gimli_core_abbrev.specs.Declarations.{Declaration, declaration_at}
-use Rattle.gimli_core_abbrev.specs.Parsing.{table_at}
+use Rattle.gimli_core_abbrev.specs.Parsing.{coded_declaration, declaration, table_of, table_at}
 
 -- the code 0 is in no table
 abbrev pub NoCode0 : Type 0
@@ -20,3 +25,37 @@ bytes_needed d = 5 + 2 * length d.attributes
 -- a table stands in the bytes from its offset on
 abbrev pub NeedsRoom : Type 0
 NeedsRoom = (offset : ℕ) (section : View) (table : List Declaration) → table_at offset section ≡ Ok table → sum_by bytes_needed table ≤ length section.bytes - offset
+
+-- the declarations from an offset on, in the order in which they stand
+abbrev pub declarations_at : ℕ → View → List Declaration
+declarations_at offset section = (listing_in bytes_left declaration (after offset section)).items
+
+-- a code finds in a table what it finds among the declarations as they stand
+abbrev pub FindsAsTheyStand : Type 0
+FindsAsTheyStand = (offset code : ℕ) (section : View) (table : List Declaration) → table_at offset section ≡ Ok table
+    → declaration_at code table ≡ declaration_at code (declarations_at offset section)
+
+-- the section with further bytes behind its own
+abbrev pub followed_by : List ℕ → View → View
+followed_by more section = record { bytes = section.bytes ++ more; is_big = section.is_big; first = section.first }
+
+-- the table at an offset where the code 0 alone ends it
+abbrev pub table_to_0_at : ℕ → View → Result (List Declaration) Error
+table_to_0_at offset section = value_of ((skip offset >> λ v. table_of (listing_in bytes_left coded_declaration v)) section)
+
+-- The end of the section ends the table: there is one, and none where the code 0 alone ends it.
+abbrev pub IsEndedBySection : ℕ → View → Type 0
+IsEndedBySection offset section = IsOk (table_at offset section) × IsErr (table_to_0_at offset section)
+
+-- Further bytes behind a section change no answer in which its end doesn't show: none but the refusal of a read that
+-- met the end, and a table that the end ends.
+abbrev pub AnswersStay : Type 0
+AnswersStay = (offset : ℕ) (section : View) (more : List ℕ)
+    → ((id : ReaderOffsetId) → table_at offset section ≢ Err (UnexpectedEof id))
+    → ¬ IsEndedBySection offset section
+    → table_at offset (followed_by more section) ≡ table_at offset section
+
+-- the end of a section ends a table as a code 0 behind it does
+abbrev pub EndsAsCode0 : Type 0
+EndsAsCode0 = (offset : ℕ) (section : View) (more : List ℕ) → IsEndedBySection offset section
+    → table_at offset (followed_by (0 ∷ more) section) ≡ table_at offset section

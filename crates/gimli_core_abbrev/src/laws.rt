@@ -1,6 +1,6 @@
 //! What holds of every table: each function here has an empty body, and its contract is a law.
 
-ghost use Rattle.gimli_core_abbrev.specs.Laws.{NoCode0, CodesStandOnce, NeedsRoom};
+ghost use Rattle.gimli_core_abbrev.specs.Laws.{NoCode0, CodesStandOnce, NeedsRoom, FindsAsTheyStand, AnswersStay, EndsAsCode0};
 
 /// The code 0 is in no table (DWARF 5, 7.5.3).
 pub fn no_code_0()
@@ -15,4 +15,20 @@ pub fn codes_stand_once()
 /// Five times the declarations of a table and twice their attributes are no more than the bytes from its offset on.
 pub fn needs_room()
     ensures { NeedsRoom }
+{}
+
+/// What a code finds in a table is what it finds among the declarations in the order in which they stand.
+pub fn finds_as_they_stand()
+    ensures { FindsAsTheyStand }
+{}
+
+/// Bytes behind a section change no answer but those that its end made: the refusal of a read that met the end, and a
+/// table that the end closed in place of a code 0 (DWARF 5, 7.5.3).
+pub fn answers_stay()
+    ensures { AnswersStay }
+{}
+
+/// A table that the end of its section closes is the one that a code 0 behind it closes.
+pub fn ends_as_code_0()
+    ensures { EndsAsCode0 }
 {}

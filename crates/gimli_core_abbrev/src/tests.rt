@@ -94,6 +94,28 @@ fn a_repeated_code_counts_where_its_declaration_ends(rt: HostRuntime) {
     );
 }
 
+// A declaration of six attributes without children, the last of them of this form.
+fn six(alloc: Global, form: u8) -> Result<Abbreviations, Error> {
+    let declaration = [
+        1, 0x2e, 0, 3, 8, 0x11, 1, 0x12, 7, 0x3a, 0x0b, 0x3b, 0x0b, 0x49, form, 0, 0, 0,
+    ];
+    table(alloc, &declaration)
+}
+
+#[test]
+fn declarations_are_equal_that_say_the_same(rt: HostRuntime) -> Result<(), Fail> {
+    let one = six(rt.alloc(), 0x13)?;
+    let same = six(rt.alloc(), 0x13)?;
+    let other = six(rt.alloc(), 0x10)?;
+    assert!(rt;
+        one.get(1)
+            .is_some_and(|found| found.attributes().len() == 6)
+    );
+    assert!(rt; one.get(1) == same.get(1));
+    assert!(rt; one.get(1) != other.get(1));
+    Ok(())
+}
+
 #[test]
 fn codes_come_in_any_order(rt: HostRuntime) -> Result<(), Fail> {
     let falling = table(rt.alloc(), &[3, 3, 0, 0, 0, 2, 2, 0, 0, 0, 1, 1, 0, 0, 0])?;

@@ -1,0 +1,10 @@
+pub mod Walks
+pub mod ListLemmas
+pub mod EntryLemmas
+pub mod RowParts
+pub mod RowLaws
+pub mod FoundLemmas
+pub mod ChoiceLemmas
+pub mod WalkSizes
+pub mod RowSteps
+pub mod Pushing

@@ -1,10 +1,10 @@
 -- Entries of a unit (DWARF 5, 7.5.2 and 7.5.3): each a code, and behind it the attributes that the code's declaration
 -- describes. They are a tree laid out flat: a null entry stands behind the last child of an entry that has children.
-use Rattle.std.specs.Prelude.{ℕ, ℤ, pos, ◌+ℤ◌, ◌-ℤ◌, ◌≤ℤ◌, ◌<ℤ◌, ◌-◌, ◌≤◌, ◌^◌, ◌==◌, Bool, List, Option, Some, None, Result, Ok, Err, if◌then◌else◌}
+use Rattle.std.specs.Prelude.{ℕ, ℤ, pos, ◌+ℤ◌, ◌-ℤ◌, ◌≤ℤ◌, ◌<ℤ◌, ◌-◌, ◌≤◌, ◌^◌, ◌==◌, List, Option, Some, None, Result, Ok, Err, if◌then◌else◌}
 use Rattle.gimli_core_base.specs.declared.error.Error.{Error}
 use Rattle.gimli_core_base.specs.declared.error.Error.TheVariants.{InvalidAbbreviationCode}
 use Rattle.gimli_core_base.specs.View.{View, bytes_left}
-use Rattle.gimli_core_base.specs.Parsers.{Step, Parser, ◌>>=◌, give, here, lift}
+use Rattle.gimli_core_base.specs.Parsers.{Step, Parser, ◌>>=◌, here, lift}
 use Rattle.gimli_core_constants.specs.declared.common.Encoding.{Encoding}
 use Rattle.gimli_core_numbers.specs.Numbers.{unsigned}
 use Rattle.gimli_core_abbrev.specs.Declarations.{Attribute, Declaration, declaration_at}

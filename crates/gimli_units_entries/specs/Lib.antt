@@ -1,4 +1,5 @@
 pub mod Entries
 pub mod UnitEntries
 pub mod Rows
+pub mod Laws
 pub mod Seen

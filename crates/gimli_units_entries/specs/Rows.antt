@@ -1,9 +1,9 @@
 -- The entries of a unit as rows: where each stands, how deep, what its declaration says, and its attributes.
-use Rattle.std.specs.Prelude.{ℕ, ℤ, pos, ◌==◌, Bool, false, not, List, [], ◌∷◌, ◌++◌, find, map, Option, Some, None, Result, Ok, Err, if◌then◌else◌}
+use Rattle.std.specs.Prelude.{ℕ, ℤ, ◌==◌, Bool, false, not, List, [], Option, Some, None, Result, Ok, Err, if◌then◌else◌}
 use Rattle.gimli_core_base.specs.declared.error.Error.{Error}
 use Rattle.gimli_core_base.specs.declared.error.Error.TheVariants.{NoEntryAtGivenOffset}
 use Rattle.gimli_core_base.specs.View.{bytes_left}
-use Rattle.gimli_core_base.specs.Parsers.{Step, ◌>>=◌, give, here, branch, onward, value_of}
+use Rattle.gimli_core_base.specs.Parsers.{Step, ◌>>=◌, give, here, branch, onward}
 use Rattle.gimli_core_base.specs.Repetition.{Listing, listing_in}
 use Rattle.gimli_core_abbrev.specs.Declarations.{Declaration}
 use Rattle.gimli_units_forms.specs.Values.{RawAttribute}
@@ -75,14 +75,15 @@ rows limit chosen w = listing_in (λ (x : Walk). bytes_left x.left) (row_or_end 
 abbrev pub not_null : ℕ → Row → Result Row Error
 not_null offset r = if r.tag == 0 then Err (NoEntryAtGivenOffset offset) else Ok r
 
+-- the row that was read, or its refusal
+abbrev pub not_null_in : ℕ → Result (Row × Walk) Error → Result Row Error
+not_null_in offset (Ok r) = not_null offset r.0
+not_null_in offset (Err e) = Err e
+
 -- the row of a walk, or its refusal
 abbrev pub asked : ℕ → ℕ → Result Walk Error → Result Row Error
 asked limit offset (Err e) = Err e
 asked limit offset (Ok w) = not_null_in offset (row limit w)
-  where
-    not_null_in : ℕ → Result (Row × Walk) Error → Result Row Error
-    not_null_in offset (Ok r) = not_null offset r.0
-    not_null_in offset (Err e) = Err e
 
 -- the entry at an offset of a unit, which must be among its entries
 unfoldable pub entry_at : ℕ → DebugUnit → List Declaration → ℕ → Result Row Error

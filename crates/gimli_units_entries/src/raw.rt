@@ -1,14 +1,26 @@
 //! A walk over the entries of a unit, one read at a time.
 
-ghost use Rattle.std.specs.Prelude.{◌≡◌, ◌==◌};
-ghost use Rattle.gimli_core_base.specs.View.{bytes_left};
-ghost use Rattle.gimli_units_entries.specs.Entries.{next_offset};
+ghost use Rattle.std.specs.Prelude.{◌≡◌, ◌==◌, ◌<◌, ◌≤◌, Ok, IfOk, IsTrue, OnErr, [], map, option_map};
+ghost use Rattle.gimli_core_base.specs.View.{after, bytes_left};
+ghost use Rattle.gimli_core_base.specs.Calls.{Answers, Gives, Moves, Reads};
+ghost use Rattle.gimli_core_numbers.specs.Numbers.{unsigned};
+ghost use Rattle.gimli_core_abbrev.specs.Seen.{seen, seen_attribute};
+ghost use Rattle.gimli_units_forms.specs.Values.{raw_attribute_of};
+ghost use Rattle.gimli_units_entries.specs.Entries.{IsWithin, next_offset, head, value, values, passed_over};
+ghost use Rattle.gimli_units_entries.specs.Rows.{null_at, row, present_row};
+ghost use Rattle.gimli_units_entries.specs.Seen.{entry_of, raw_attributes};
 
-use gimli_core_abbrev::Abbreviations;
+use crate::attributes::read_each;
+use crate::entry::DebuggingInformationEntry;
+use gimli_core_abbrev::{Abbreviation, Abbreviations, AttributeSpecification};
+use gimli_core_base::constants::ReaderOffsetId;
+use gimli_core_base::error::Error;
 use gimli_core_constants::Encoding;
 use gimli_core_numbers::ReaderOffset;
+use gimli_core_numbers::leb128::{self, Fault};
 use gimli_core_readers::Reader;
 use gimli_units_base::UnitOffset;
+use gimli_units_forms::{Attribute, parse_attribute, skip_attributes};
 use std::marker::Model;
 
 /// A walk over the entries of a unit: codes and attributes are read in turn.
@@ -53,7 +65,8 @@ impl<'abbrev, R: Reader> EntriesRaw<'abbrev, R> {
 
     /// The offset of the next byte in the unit.
     pub fn next_offset(&self) -> UnitOffset<R::Offset>
-        ensures { R.Offset.count result.0 ≡ next_offset self.now }
+        ensures value { R.Offset.count result.0 ≡ next_offset self.now }
+        ensures within { IsWithin self.now }
     {
         UnitOffset(self.end_offset.0.checked_sub(self.input.len()).unwrap())
     }
@@ -63,5 +76,189 @@ impl<'abbrev, R: Reader> EntriesRaw<'abbrev, R> {
         ensures { result ≡ self.now.depth }
     {
         self.depth
+    }
+
+    /// The next entry's code, as the declaration that it stands for; none for a null entry, which ends the children of
+    /// an entry (DWARF 5, 7.5.2). Takes no memory. A refusal leaves the walk as it was.
+    #[inline(always)]
+    #[tactic(auto, unfolding(crate::specs::Entries::head))]
+    pub fn read_abbreviation(&mut self) -> Result<Option<&'abbrev Abbreviation>, Error>
+        ensures { Reads (option_map (λ a. seen a.now)) result self.old self.new (head self.old) }
+    {
+        let (code, length) = code_at(&self.input)?;
+        if code == 0 {
+            self.input.advance(length);
+            self.depth -= 1;
+            return Ok(None);
+        }
+        let table = self.abbreviations;
+        let Some(abbreviation) = table.get(code) else {
+            return Err(Error::InvalidAbbreviationCode(code));
+        };
+        self.input.advance(length);
+        if abbreviation.has_children() {
+            self.depth += 1;
+        }
+        Ok(Some(abbreviation))
+    }
+
+    /// The next attribute, as its declaration describes it. A refusal leaves the walk as it was.
+    pub fn read_attribute(
+        &mut self,
+        specification: AttributeSpecification,
+    ) -> Result<Attribute<R>, Error>
+        ensures value { Moves (raw_attribute_of R.view R.Offset.count) result self.old self.new
+            (value R.Offset.limit (seen_attribute specification)) }
+        // Where copies take no memory, this takes none.
+        ensures free { IsTrue R.copies_freely
+            → Reads (raw_attribute_of R.view R.Offset.count) result self.old self.new
+            (value R.Offset.limit (seen_attribute specification) self.old) }
+    {
+        self.read_attribute_inline(specification)
+    }
+
+    /// The same as [`read_attribute`](Self::read_attribute), compiled into its caller.
+    #[inline(always)]
+    #[tactic(auto, unfolding(crate::specs::Entries::value))]
+    pub fn read_attribute_inline(
+        &mut self,
+        specification: AttributeSpecification,
+    ) -> Result<Attribute<R>, Error>
+        ensures value { Moves (raw_attribute_of R.view R.Offset.count) result self.old self.new
+            (value R.Offset.limit (seen_attribute specification)) }
+        // Where copies take no memory, this takes none.
+        ensures free { IsTrue R.copies_freely
+            → Reads (raw_attribute_of R.view R.Offset.count) result self.old self.new
+            (value R.Offset.limit (seen_attribute specification) self.old) }
+    {
+        parse_attribute(&mut self.input, self.encoding, specification)
+    }
+
+    /// Passes over the attributes that declarations describe, by their widths alone. Takes no memory. A refusal leaves
+    /// the walk as it was.
+    #[tactic(auto, unfolding(crate::specs::Entries::passed_over))]
+    pub fn skip_attributes(
+        &mut self,
+        specifications: &[AttributeSpecification],
+    ) -> Result<(), Error>
+        ensures { Reads (λ u. u) result self.old self.new
+            (passed_over (map seen_attribute specifications.now) self.old) }
+    {
+        skip_attributes(&mut self.input, self.encoding, specifications)
+    }
+
+    /// The attributes that declarations describe, read in place of those of a list, whose room they take. A refusal
+    /// leaves the walk as it was, and the list empty.
+    #[tactic(auto, unfolding(crate::specs::Entries::values))]
+    pub fn read_attributes(
+        &mut self,
+        specifications: &[AttributeSpecification],
+        attrs: &mut Vec<Attribute<R>>,
+    ) -> Result<(), Error>
+        ensures value { Moves (λ _. raw_attributes R.view R.Offset.count attrs.new.items) result self.old self.new
+            (values R.Offset.limit (map seen_attribute specifications.now)) }
+        ensures refused { OnErr result (attrs.new.items ≡ []) }
+    {
+        attrs.clear();
+        let mut rest = self.input.copy()?;
+        read_each(attrs, &mut rest, self.encoding, specifications)?;
+        self.input = rest;
+        Ok(())
+    }
+
+    /// The next entry with its attributes, read in place of another, whose room they take; answers whether it is none
+    /// of the null entries. A refusal leaves the walk as it was, and the entry null at the walk's place.
+    pub fn read_entry(&mut self, entry: &mut DebuggingInformationEntry<R>) -> Result<bool, Error>
+        ensures value { Moves (λ is_present. (is_present, entry_of R.view R.Offset.count entry.new)) result
+            self.old self.new (present_row R.Offset.limit) }
+        ensures refused { OnErr result
+            (entry_of R.view R.Offset.count entry.new ≡ null_at (next_offset self.old) self.old.depth) }
+    {
+        entry.set_null(self.next_offset(), self.next_depth());
+        *self = self.copy()?.read_into(entry)?;
+        Ok(!entry.is_null())
+    }
+
+    /// The walk behind the next entry, which is read into a null one that stands at its place. Where it is refused it
+    /// leaves that.
+    #[tactic(auto, unfolding(crate::specs::Rows::row))]
+    fn read_into(
+        mut self,
+        entry: &mut DebuggingInformationEntry<R>,
+    ) -> Result<EntriesRaw<'abbrev, R>, Error>
+        requires { entry_of R.view R.Offset.count entry.old ≡ null_at (next_offset self) self.depth }
+        ensures value { Gives (λ w. (entry_of R.view R.Offset.count entry.new, w)) result
+            (row R.Offset.limit self.entry) }
+        ensures refused { OnErr result
+            (entry_of R.view R.Offset.count entry.new ≡ entry_of R.view R.Offset.count entry.old) }
+    {
+        let Some(abbreviation) = self.read_abbreviation()? else {
+            return Ok(self);
+        };
+        let behind = self.read_values(abbreviation.attributes(), &mut entry.attrs)?;
+        entry.tag = abbreviation.tag();
+        entry.has_children = abbreviation.has_children();
+        Ok(behind)
+    }
+
+    /// The walk behind attributes, which are read in place of those of a list. Where it is refused it leaves an empty
+    /// list.
+    #[tactic(auto, unfolding(crate::specs::Entries::values))]
+    fn read_values(
+        self,
+        specifications: &[AttributeSpecification],
+        attrs: &mut Vec<Attribute<R>>,
+    ) -> Result<EntriesRaw<'abbrev, R>, Error>
+        ensures value { Gives (λ w. (raw_attributes R.view R.Offset.count attrs.new.items, w)) result
+            (values R.Offset.limit (map seen_attribute specifications.now) self.entry) }
+        ensures refused { OnErr result (attrs.new.items ≡ []) }
+    {
+        let EntriesRaw {
+            mut input,
+            encoding,
+            abbreviations,
+            end_offset,
+            depth,
+        } = self;
+        read_each(attrs, &mut input, encoding, specifications)?;
+        Ok(EntriesRaw {
+            input,
+            encoding,
+            abbreviations,
+            end_offset,
+            depth,
+        })
+    }
+
+    /// A second walk at the same place.
+    fn copy(&self) -> Result<EntriesRaw<'abbrev, R>, Error>
+        ensures { Gives (λ w. w) result (Ok self.now) }
+    {
+        Ok(EntriesRaw {
+            input: self.input.copy()?,
+            encoding: self.encoding,
+            abbreviations: self.abbreviations,
+            end_offset: self.end_offset,
+            depth: self.depth,
+        })
+    }
+}
+
+/// The code at the front, and how many bytes it takes.
+#[inline(always)]
+#[tactic(auto, unfolding(gimli_core_numbers::specs::Numbers::unsigned))]
+fn code_at<R: Reader>(input: &R) -> Result<(u64, usize), Error>
+    ensures value { Answers (λ p. (p.0, after p.1 (R.view input.now))) result (unsigned (R.view input.now)) }
+    ensures some { IfOk result (λ p. 0 < p.1) }
+    ensures within { IfOk result (λ p. p.1 ≤ bytes_left (R.view input.now)) }
+{
+    let bytes = input.as_bytes();
+    match leb128::unsigned(bytes) {
+        Ok(found) => Ok(found),
+        Err(Fault::Cut) => {
+            let end = input.offset_id().0 + bytes.len() as u64;
+            Err(Error::UnexpectedEof(ReaderOffsetId(end)))
+        }
+        Err(Fault::Bad) => Err(Error::BadUnsignedLeb128),
     }
 }

@@ -1,14 +1,19 @@
 //! The entries of a unit, by its header.
 
-ghost use Rattle.std.specs.Prelude.{option_map};
+ghost use Rattle.std.specs.Prelude.{◌≢◌, Err, IsTrue, option_map};
 ghost use Rattle.gimli_core_base.specs.Calls.{Gives};
+ghost use Rattle.gimli_core_base.specs.declared.error.Error.TheVariants.{Memory};
 ghost use Rattle.gimli_core_abbrev.specs.Parsing.{table_at};
 ghost use Rattle.gimli_units_headers.specs.UnitHeaders.{DebugUnit};
+ghost use Rattle.gimli_units_entries.specs.Rows.{entry_at};
+ghost use Rattle.gimli_units_entries.specs.Seen.{entry_of};
 ghost use Rattle.gimli_units_entries.specs.UnitEntries.{walk_from};
 
+use crate::entry::DebuggingInformationEntry;
 use crate::raw::EntriesRaw;
 use gimli_core_abbrev::{Abbreviations, DebugAbbrev};
 use gimli_core_base::error::Error;
+use gimli_core_numbers::ReaderOffset;
 use gimli_core_readers::Reader;
 use gimli_units_base::UnitOffset;
 use gimli_units_headers::UnitHeader;
@@ -26,6 +31,16 @@ pub trait UnitEntries<R: Reader> {
         debug_abbrev: &DebugAbbrev<R>,
     ) -> Result<Abbreviations, Error>
         ensures { Gives (λ t. t) result (table_at (unit self.now).abbrev_offset debug_abbrev.now) };
+
+    /// The entry at an offset, which must be among the unit's entries and no null entry there.
+    fn entry(
+        &self,
+        alloc: Global,
+        abbreviations: &Abbreviations,
+        offset: UnitOffset<R::Offset>,
+    ) -> Result<DebuggingInformationEntry<R>, Error>
+        ensures { Gives (entry_of R.view R.Offset.count) result
+            (entry_at R.Offset.limit (unit self.now) abbreviations.now (R.Offset.count offset.0)) };
 }
 
 impl<R: Reader> UnitEntries<R> for UnitHeader<R> {
@@ -38,6 +53,24 @@ impl<R: Reader> UnitEntries<R> for UnitHeader<R> {
     ) -> Result<Abbreviations, Error> {
         debug_abbrev.abbreviations(alloc, self.debug_abbrev_offset())
     }
+
+    #[tactic(auto, unfolding(crate::specs::Rows::entry_at))]
+    fn entry(
+        &self,
+        alloc: Global,
+        abbreviations: &Abbreviations,
+        offset: UnitOffset<R::Offset>,
+    ) -> Result<DebuggingInformationEntry<R>, Error>
+        ensures { Gives (entry_of R.view R.Offset.count) result
+            (entry_at R.Offset.limit self.now abbreviations.now (R.Offset.count offset.0)) }
+    {
+        let mut entries = entries_raw(self, abbreviations, Some(offset))?;
+        let mut entry = DebuggingInformationEntry::null(alloc);
+        if !entries.read_entry(&mut entry)? {
+            return Err(Error::NoEntryAtGivenOffset(offset.0.into_u64()));
+        }
+        Ok(entry)
+    }
 }
 
 /// The walk over the entries from an offset on, which must be among the unit's entries, or over all of them. Takes memory
@@ -47,8 +80,9 @@ pub fn entries_raw<'abbrev, R: Reader>(
     abbreviations: &'abbrev Abbreviations,
     offset: Option<UnitOffset<R::Offset>>,
 ) -> Result<EntriesRaw<'abbrev, R>, Error>
-    ensures { Gives (λ entries. entries) result
+    ensures value { Gives (λ entries. entries) result
         (walk_from unit.now abbreviations.now (option_map (λ o. R.Offset.count o.0) offset)) }
+    ensures free { IsTrue R.copies_freely → result ≢ Err Memory }
 {
     let input = match offset {
         Some(offset) => unit.range_from(offset..)?,

@@ -8,7 +8,7 @@ pub mod spelling;
 pub mod value;
 
 pub use passing::skip_attributes;
-pub use reading::{parse_attribute, read_attribute};
+pub use reading::{parse_attribute, push_attribute, read_attribute};
 pub use spelling::{Spelling, spelling_of};
 pub use value::{Attribute, AttributeValue};
 

@@ -17,6 +17,7 @@ use gimli_core_constants::Encoding;
 use gimli_core_readers::{EndianSlice, Reader};
 
 /// The width of a form's value, where it doesn't depend on the bytes.
+#[inline(always)]
 #[tactic(auto, unfolding(crate::specs::Passing::way_of))]
 fn fixed_width(encoding: Encoding, form: DwForm) -> Option<u8>
     ensures { result ≡ width_of (way_of encoding form.0) }
@@ -78,6 +79,7 @@ fn look<R: Reader>(place: &mut R, encoding: Encoding, form: DwForm) -> Result<u6
 }
 
 /// Passes over one value behind a run, and tells the run behind it.
+#[inline(always)]
 fn pass_value<R: Reader>(
     place: &mut R,
     encoding: Encoding,

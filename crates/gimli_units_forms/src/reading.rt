@@ -1,4 +1,5 @@
-ghost use Rattle.std.specs.Prelude.{◌≡◌, ◌≤◌, IfOk, IsTrue, ◌<◌, ◌^◌, ℕ};
+ghost use Rattle.std.specs.Prelude.{◌≡◌, ◌≤◌, ◌++◌, ◌∷◌, [], map, IfOk, IsTrue, ◌<◌, ◌^◌, ℕ};
+ghost use Rattle.gimli_core_base.specs.Parsers.{mapped};
 ghost use Rattle.gimli_core_base.specs.Calls.{Answers, Gives, Reads, Takes};
 ghost use Rattle.gimli_core_base.specs.View.{View};
 ghost use Rattle.gimli_core_numbers.specs.Numbers.{fixed, unsigned};
@@ -32,6 +33,7 @@ use gimli_units_base::{DebugInfoOffset, Expression, UnitOffset};
 
 /// Whether data of a form stands for an offset: data of an offset's width, under `DW_AT_stmt_list` and
 /// `DW_AT_ranges`.
+#[inline(always)]
 fn is_offset_data_of(encoding: Encoding, name: DwAt, form: DwForm) -> bool
     ensures { result ≡ is_offset_data encoding name.0 form.0 }
 {
@@ -43,6 +45,7 @@ fn is_offset_data_of(encoding: Encoding, name: DwAt, form: DwForm) -> bool
 }
 
 /// The value of a form that spells an offset or an index.
+#[inline(always)]
 fn offset_value_of<R: Reader>(form: DwForm, number: u64) -> Result<AttributeValue<R>, Error>
     ensures { Answers (raw_value_of R.view R.Offset.count) result
         (meaning_in offset_meanings form.0 R.Offset.limit number) }
@@ -84,6 +87,7 @@ fn offset_value_of<R: Reader>(form: DwForm, number: u64) -> Result<AttributeValu
 
 /// The value of a form that spells a number.
 #[tactic(auto, unfolding(crate::specs::Reading::number_value))]
+#[inline(always)]
 fn number_value_of<R: Reader>(
     encoding: Encoding,
     name: DwAt,
@@ -112,6 +116,7 @@ fn number_value_of<R: Reader>(
 }
 
 /// A number of at most eight bytes.
+#[inline(always)]
 pub(crate) fn read_fixed<R: Reader>(reader: &mut R, width: u8) -> Result<u64, Error>
     requires { width ≤ 8 }
     ensures value { Answers (λ n. (n, R.view reader.new)) result (fixed width (R.view reader.old)) }
@@ -126,6 +131,7 @@ pub(crate) fn read_fixed<R: Reader>(reader: &mut R, width: u8) -> Result<u64, Er
 }
 
 /// The form of a value: behind `DW_FORM_indirect` stands the form's number.
+#[inline(always)]
 pub(crate) fn read_form<R: Reader>(reader: &mut R, form: DwForm) -> Result<DwForm, Error>
     ensures { Answers (λ f. (f.0, R.view reader.new)) result (final_form form.0 (R.view reader.old)) }
 {
@@ -212,9 +218,65 @@ fn read_value<R: Reader>(
     }
 }
 
+// What is done with the name, the form and the value of the attribute that a declaration describes. The commonest forms
+// have arms of their own, so that what is made of the value is made at once.
+macro_rules! with_attribute {
+    ($reader:ident, $encoding:ident, $specification:ident, |$name:ident, $form:ident, $value:ident| $done:expr) => {{
+        let $name = $specification.name();
+        let constant = $specification.implicit_const_value();
+        let $form = read_form($reader, $specification.form())?;
+        match $form {
+            DW_FORM_addr => {
+                let number = $reader.read_address($encoding.address_size)?;
+                let $value = number_value_of($encoding, $name, DW_FORM_addr, number)?;
+                $done
+            }
+            DW_FORM_data1 => {
+                let number = u64::from($reader.read_u8()?);
+                let $value = number_value_of($encoding, $name, DW_FORM_data1, number)?;
+                $done
+            }
+            DW_FORM_data2 => {
+                let number = u64::from($reader.read_u16()?);
+                let $value = number_value_of($encoding, $name, DW_FORM_data2, number)?;
+                $done
+            }
+            DW_FORM_data4 => {
+                let number = u64::from($reader.read_u32()?);
+                let $value = number_value_of($encoding, $name, DW_FORM_data4, number)?;
+                $done
+            }
+            DW_FORM_ref4 => {
+                let number = u64::from($reader.read_u32()?);
+                let $value = number_value_of($encoding, $name, DW_FORM_ref4, number)?;
+                $done
+            }
+            DW_FORM_udata => {
+                let number = $reader.read_uleb128()?;
+                let $value = number_value_of($encoding, $name, DW_FORM_udata, number)?;
+                $done
+            }
+            DW_FORM_strp => {
+                let number = read_fixed($reader, $encoding.format.word_size())?;
+                let $value = number_value_of($encoding, $name, DW_FORM_strp, number)?;
+                $done
+            }
+            DW_FORM_sec_offset => {
+                let number = read_fixed($reader, $encoding.format.word_size())?;
+                let $value = number_value_of($encoding, $name, DW_FORM_sec_offset, number)?;
+                $done
+            }
+            _ => {
+                let $value = read_value($reader, $encoding, $name, constant, $form)?;
+                $done
+            }
+        }
+    }};
+}
+
 /// Reads the attribute that a declaration describes, and may move the reader also where it is refused: for who reads
 /// several on a copy.
-#[tactic(auto, unfolding(crate::specs::Reading::attribute))]
+#[tactic(auto, unfolding(crate::specs::Reading::attribute, crate::specs::Reading::value))]
 pub fn read_attribute<R: Reader>(
     reader: &mut R,
     encoding: Encoding,
@@ -226,14 +288,35 @@ pub fn read_attribute<R: Reader>(
     ensures free { IsTrue R.copies_freely → Answers (λ a. (raw_attribute_of R.view R.Offset.count a, R.view reader.new)) result
         (attribute R.Offset.limit encoding (seen_attribute specification) (R.view reader.old)) }
 {
-    let name = specification.name();
-    let constant = specification.implicit_const_value();
-    let form = read_form(reader, specification.form())?;
-    let value = read_value(reader, encoding, name, constant, form)?;
-    Ok(Attribute { name, form, value })
+    with_attribute!(
+        reader,
+        encoding,
+        specification,
+        |name, form, value| Ok(Attribute { name, form, value })
+    )
+}
+
+/// Reads the attribute that a declaration describes behind those of a list, and may move the reader also where it is
+/// refused.
+#[tactic(auto, unfolding(crate::specs::Reading::attribute, crate::specs::Reading::value))]
+pub fn push_attribute<R: Reader>(
+    attributes: &mut Vec<Attribute<R>>,
+    reader: &mut R,
+    encoding: Encoding,
+    specification: AttributeSpecification,
+) -> Result<(), Error>
+    ensures { Gives (λ _. (map (raw_attribute_of R.view R.Offset.count) attributes.new.items, R.view reader.new)) result
+        (mapped (λ a. map (raw_attribute_of R.view R.Offset.count) attributes.old.items ++ a ∷ [])
+        (attribute R.Offset.limit encoding (seen_attribute specification)) (R.view reader.old)) }
+{
+    with_attribute!(reader, encoding, specification, |name, form, value| {
+        attributes.push(Attribute { name, form, value })?;
+        Ok(())
+    })
 }
 
 /// Reads the attribute that a declaration describes. A refusal leaves the reader as it was.
+#[inline(always)]
 pub fn parse_attribute<R: Reader>(
     reader: &mut R,
     encoding: Encoding,

@@ -3,3 +3,4 @@ pub mod Parts
 pub mod Units
 pub mod Sets
 pub mod Memory
+pub mod Passed

@@ -117,7 +117,7 @@ pair_next old new p r h same e resolved =
     ∙ ap (λ (n : ℕ). cons_option (unless_passed r) (ranges_of n (listing_in bytes_left (next_pair n) new.left))) (sym same)
 
 -- where there is no pair, nothing is read
-none_moves : (size : ℕ) (v w : View) → next_pair size v ≡ Ok (None, w) → w ≡ v
+pub none_moves : (size : ℕ) (v w : View) → next_pair size v ≡ Ok (None, w) → w ≡ v
 unfolding next_pair
 none_moves size v w e = at (ltb (bytes_left v) (2 * size)) e
   where

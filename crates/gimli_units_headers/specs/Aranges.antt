@@ -1,6 +1,6 @@
 -- Address ranges (DWARF 5, 6.1.2 and 7.21): sets laid end to end, each a header and pairs of an address and a length.
-use Rattle.std.specs.Prelude.{◌≡◌, ℕ, ◌+◌, ◌-◌, ◌*◌, ◌^◌, ◌%◌, ◌==◌, ◌&&◌, ◌||◌, nat_lt, List, [], ◌∷◌, Option, Some, None, Result, Ok, Err, if◌then◌else◌}
-use Rattle.std.specs.List.{filter_map}
+use Rattle.std.specs.Prelude.{◌≡◌, ℕ, ◌+◌, ◌-◌, ◌*◌, ◌^◌, ◌%◌, ◌==◌, ◌&&◌, ◌||◌, nat_lt, List, [], ◌∷◌, ◌++◌, Option, Some, None, Result, Ok, Err, if◌then◌else◌}
+use Rattle.std.specs.List.{All, filter_map}
 use Rattle.gimli_core_base.specs.declared.error.Error.{Error}
 use Rattle.gimli_core_base.specs.declared.error.Error.TheVariants.{UnknownVersion, UnsupportedSegmentSize, AddressOverflow}
 use Rattle.gimli_core_base.specs.View.{View, bytes_left}
@@ -138,6 +138,16 @@ abbrev pub IsFirst : {A : Type 0} → Result (Option A) Error → List (Result A
 IsFirst (Ok None) old new = (old ≡ []) × (new ≡ [])
 IsFirst (Ok (Some x)) old new = old ≡ Ok x ∷ new
 IsFirst (Err e) old new = old ≡ Err e ∷ new
+
+-- Between two places of a set all pairs stand for none.
+abbrev pub PassedOver : ℕ → List ArangePair → List ArangePair → Type 0
+PassedOver size old new = (passed : List ArangePair) × (old ≡ passed ++ new) × All (λ p. arange_of size p ≡ Ok None) passed
+
+-- The pair that a call answers about is the first that isn't passed over, and the pairs behind it are left.
+abbrev pub Consumes : ℕ → Result (Option ArangePair) Error → List ArangePair → List ArangePair → Type 0
+Consumes size (Ok None) old new = PassedOver size old [] × (new ≡ [])
+Consumes size (Ok (Some x)) old new = (p : ArangePair) × PassedOver size old (p ∷ new) × (arange_of size p ≡ Ok (Some x))
+Consumes size (Err e) old new = (p : ArangePair) × PassedOver size old (p ∷ new) × (arange_of size p ≡ Err e)
 
 -- the end of a pair's addresses, modulo 2 ^ 64: exact where the address size holds it
 abbrev pub end_of : ArangePair → ℕ

@@ -4,7 +4,7 @@ ghost use Rattle.std.specs.Prelude.{◌≡◌, ◌≢◌, IsOk, IsTrue, Ok, Err}
 ghost use Rattle.gimli_core_base.specs.Calls.{Gives};
 ghost use Rattle.gimli_core_base.specs.declared.error.Error.TheVariants.{Memory};
 ghost use Rattle.gimli_core_numbers.specs.Numbers.{is_address_size};
-ghost use Rattle.gimli_units_headers.specs.Aranges.{next_pair, arange_of, aranges_to_come, pairs_left, end_of, IsFirst};
+ghost use Rattle.gimli_units_headers.specs.Aranges.{next_pair, arange_of, aranges_to_come, pairs_to_come, pairs_left, end_of, Consumes, IsFirst};
 
 use gimli_core_base::error::Error;
 use gimli_core_readers::Reader;
@@ -91,6 +91,8 @@ impl<R: Reader> ArangeEntryIter<R> {
     /// the ranges go on behind it. Takes no memory.
     pub fn next(&mut self) -> Result<Option<ArangeEntry>, Error>
         ensures order { IsFirst result (aranges_to_come self.old) (aranges_to_come self.new) }
+        // No pair behind the one that is answered is touched, so that `next_raw` may go on.
+        ensures pairs { Consumes self.old.address_size result (pairs_to_come self.old) (pairs_to_come self.new) }
         ensures size { self.new.address_size ≡ self.old.address_size }
     {
         while let Some(raw) = self.next_raw()? {

@@ -202,56 +202,6 @@ fn sets_stand_one_after_the_other(rt: HostRuntime) -> Result<(), Fail> {
     Ok(())
 }
 
-// The first pair stands behind the padding: its address begins with the byte at this place of its set.
-fn first_address(header: &[u8]) -> Result<Option<u64>, Error> {
-    match DebugAranges::new(header, LittleEndian).headers()?.next()? {
-        Some(set) => Ok(set.entries()?.next_raw()?.map(|pair| pair.address())),
-        None => Ok(None),
-    }
-}
-
-#[test]
-fn the_first_pair_stands_at_a_multiple_of_its_size(rt: HostRuntime) {
-    // Address size 8, 32-bit format: four bytes of padding.
-    let wide = [
-        0x1c, 0, 0, 0, 2, 0, 0, 0, 0, 0, 8, 0, 1, 1, 1, 1, //
-        2, 0, 0, 0, 0, 0, 0, 0, 3, 0, 0, 0, 0, 0, 0, 0,
-    ];
-    assert_eq!(rt; first_address(&wide), Ok(Some(2)));
-    // Address size 8, 64-bit format: eight bytes.
-    let wide_64 = [
-        0xff, 0xff, 0xff, 0xff, 0x24, 0, 0, 0, 0, 0, 0, 0, 2, 0, 0, 0, 0, 0, 0, 0, 0, 0, 8, 0, //
-        1, 1, 1, 1, 1, 1, 1, 1, 2, 0, 0, 0, 0, 0, 0, 0, 3, 0, 0, 0, 0, 0, 0, 0,
-    ];
-    assert_eq!(rt; first_address(&wide_64), Ok(Some(2)));
-    // Address size 4, 32-bit format: four bytes.
-    let narrow = [
-        0x14, 0, 0, 0, 2, 0, 0, 0, 0, 0, 4, 0, 1, 1, 1, 1, 2, 0, 0, 0, 3, 0, 0, 0,
-    ];
-    assert_eq!(rt; first_address(&narrow), Ok(Some(2)));
-    // Address size 4, 64-bit format: none.
-    let narrow_64 = [
-        0xff, 0xff, 0xff, 0xff, 0x14, 0, 0, 0, 0, 0, 0, 0, 2, 0, 0, 0, 0, 0, 0, 0, 0, 0, 4, 0, //
-        2, 0, 0, 0, 3, 0, 0, 0,
-    ];
-    assert_eq!(rt; first_address(&narrow_64), Ok(Some(2)));
-}
-
-#[test]
-fn a_sum_past_the_address_size_is_refused_in_its_place(rt: HostRuntime) -> Result<(), Fail> {
-    let bytes = [
-        0x1d, 0, 0, 0, 2, 0, 0, 0, 0, 0, 4, 0, 0, 0, 0, 0, //
-        0, 0, 0, 0, 0, 0, 0, 0, 1, 2, 3, 0x84, 5, 6, 7, 0x88, 9,
-    ];
-    let section = DebugAranges::new(&bytes, LittleEndian);
-    let set = section.headers()?.next()?.ok_or("no set")?;
-    let mut entries = set.entries()?;
-    assert_eq!(rt; entries.next(), Err(Error::AddressOverflow));
-    assert_eq!(rt; entries.next(), Ok(None));
-    assert_eq!(rt; entries.next(), Ok(None));
-    Ok(())
-}
-
 #[test]
 fn pairs_that_stand_for_nothing_are_passed_over(rt: HostRuntime) -> Result<(), Fail> {
     let bytes = [

@@ -1,20 +1,23 @@
--- The address of an index is never refused for want of memory.
+-- What is defined of bytes alone is never refused for want of memory: steps, fields, the address of an index.
 use Rattle.std.proofs.Common.{◌≡◌, ℕ, ◌+◌, ◌*◌, Bool, true, false, cond, ltb, ◌^◌, length, Result, Ok, Err, ap, ◌∙◌}
 use Rattle.gimli_core_base.specs.declared.error.Error.{Error}
-use Rattle.gimli_core_base.specs.declared.error.Error.TheVariants.{Memory, UnsupportedAddressSize, OffsetSumOverflow}
+use Rattle.gimli_core_base.specs.declared.error.Error.TheVariants.{Memory, BadUnsignedLeb128}
 use Rattle.gimli_core_base.specs.Calls.{Answers}
 use Rattle.gimli_core_base.specs.View.{View, ends}
-use Rattle.gimli_core_base.specs.Parsers.{Step, onward, lift, skip, value_of}
-use Rattle.gimli_core_numbers.specs.Numbers.{fixed, address, is_address_size}
+use Rattle.gimli_core_base.specs.Parsers.{Step, Parser, onward, lift, skip, part, value_of}
+use Rattle.gimli_core_numbers.specs.declared.leb128.Fault.{Fault}
+use Rattle.gimli_core_numbers.specs.declared.leb128.Fault.TheVariants.{Cut, Bad}
+use Rattle.gimli_core_numbers.specs.Leb128.{unsigned_at}
+use Rattle.gimli_core_numbers.specs.Numbers.{fixed, unsigned, behind, address, is_address_size, offset_below}
 use Rattle.gimli_core_strings.specs.Places.{place_of_index, to_place, address_at}
+use Rattle.gimli_core_strings.proofs.MemoryLemmas.{IsFree}
+use Rattle.gimli_units_lists.specs.Fields.{both, index, indexes, offsets, addresses, address_and_length}
 
--- not refused for want of memory
-abbrev pub IsFree : {A : Type 0} → Result A Error → Type 0
-IsFree r = r ≡ Err Memory → ⊥
+-- ---- steps
 
-free-onward : {S A B : Type 0} (r : Result (A × S) Error) (f : A → Step S B) → IsFree r → ((x : A) (s : S) → IsFree (f x s)) → IsFree (onward r f)
-free-onward (Ok r) f h k = k r.0 r.1
-free-onward {S} {A} {B} (Err e) f h k = λ is. let same : e ≡ Memory = is_refusal e is in h (ap refusal same)
+pub free-onward : {S A B : Type 0} {r : Result (A × S) Error} {f : A → Step S B} → IsFree r → ((x : A) (s : S) → IsFree (f x s)) → IsFree (onward r f)
+free-onward {r = Ok r} {f = f} h k = k r.0 r.1
+free-onward {S = S} {A = A} {B = B} {r = Err e} {f = f} h k = λ is. let same : e ≡ Memory = is_refusal e is in h (ap refusal same)
   where
     refusal : Error → Result (A × S) Error
     refusal d = Err d
@@ -25,9 +28,9 @@ free-onward {S} {A} {B} (Err e) f h k = λ is. let same : e ≡ Memory = is_refu
     is_refusal : (d : Error) → after_refusal d ≡ Err Memory → d ≡ Memory
     is_refusal d h = cc
 
-free-value_of : {S A : Type 0} (r : Result (A × S) Error) → IsFree r → IsFree (value_of r)
-free-value_of (Ok r) h = λ is. absurd cc
-free-value_of {S} {A} (Err e) h = λ is. let same : e ≡ Memory = is_refusal e is in h (ap refusal same)
+pub free-value_of : {S A : Type 0} {r : Result (A × S) Error} → IsFree r → IsFree (value_of r)
+free-value_of {r = Ok r} h = λ is. absurd cc
+free-value_of {S = S} {A = A} {r = Err e} h = λ is. let same : e ≡ Memory = is_refusal e is in h (ap refusal same)
   where
     refusal : Error → Result (A × S) Error
     refusal d = Err d
@@ -38,7 +41,7 @@ free-value_of {S} {A} (Err e) h = λ is. let same : e ≡ Memory = is_refusal e 
     is_refusal : (d : Error) → after_refusal d ≡ Err Memory → d ≡ Memory
     is_refusal d h = cc
 
-free-lift : {S A : Type 0} (r : Result A Error) (s : S) → IsFree r → IsFree (lift r s)
+pub free-lift : {S A : Type 0} (r : Result A Error) (s : S) → IsFree r → IsFree (lift r s)
 free-lift (Ok x) s h = λ is. absurd cc
 free-lift {S} {A} (Err e) s h = λ is. let same : e ≡ Memory = is_refusal e is in h (ap refusal same)
   where
@@ -51,42 +54,105 @@ free-lift {S} {A} (Err e) s h = λ is. let same : e ≡ Memory = is_refusal e is
     is_refusal : (d : Error) → lifted d ≡ Err Memory → d ≡ Memory
     is_refusal d k = cc
 
-free-cond : {A : Type 0} (b : Bool) (x y : Result A Error) → IsFree x → IsFree y → IsFree (cond b x y)
-free-cond true x y h k = h
-free-cond false x y h k = k
+pub free-cond : {A : Type 0} (b : Bool) {x y : Result A Error} → IsFree x → IsFree y → IsFree (cond b x y)
+free-cond true h k = h
+free-cond false h k = k
 
-free-Ok : {A : Type 0} (x : A) → IsFree {A = A} (Ok x)
+pub free-Ok : {A : Type 0} (x : A) → IsFree {A = A} (Ok x)
 free-Ok x = λ h. absurd cc
 
 free-ends : {A : Type 0} (v : View) → IsFree {A = A} (Err (ends v))
 free-ends v = λ h. absurd cc
 
-free-size : {A : Type 0} (n : ℕ) → IsFree {A = A} (Err (UnsupportedAddressSize n))
-free-size n = λ h. absurd cc
+-- an answer that is the definition's is as free
+pub free_answer : {A B : Type 0} (see : A → B) (r : Result A Error) (d : Result B Error) → Answers see r d → IsFree d → IsFree r
+free_answer see (Ok x) d h free = λ is. absurd cc
+free_answer {A} {B} see (Err e) d h free = λ is. let same : e ≡ Memory = is_refusal e is in free (h ∙ ap refusal same)
+  where
+    refusal : Error → Result B Error
+    refusal y = Err y
 
-free-sum : {A : Type 0} → IsFree {A = A} (Err OffsetSumOverflow)
-free-sum = λ h. absurd cc
+    answered : Error → Result A Error
+    answered y = Err y
 
-free-address : (size : ℕ) (v : View) → IsFree (address size v)
-unfolding address fixed
-free-address size v =
-    free-cond (is_address_size size) _ _ (free-cond (ltb (length v.bytes) size) _ _ (free-ends v) (free-Ok _)) (free-size size)
+    is_refusal : (y : Error) → answered y ≡ Err Memory → y ≡ Memory
+    is_refusal y k = cc
+
+-- the same of a refusal that is handed on
+pub free_refusal : {A B : Type 0} (e : Error) (d : Result B Error) → d ≡ Err e → IsFree d → IsFree {A = A} (Err e)
+free_refusal {A} {B} e d h free = λ is. let same : e ≡ Memory = is_refusal e is in free (h ∙ ap refusal same)
+  where
+    refusal : Error → Result B Error
+    refusal y = Err y
+
+    handed_on : Error → Result A Error
+    handed_on y = Err y
+
+    is_refusal : (y : Error) → handed_on y ≡ Err Memory → y ≡ Memory
+    is_refusal y k = cc
+
+-- ---- numbers
+
+pub free-fixed : (n : ℕ) (v : View) → IsFree (fixed n v)
+unfolding fixed
+free-fixed n v = free-cond (ltb (length v.bytes) n) (free-ends v) (free-Ok _)
+
+free-behind : (v : View) (r : Result (ℕ × ℕ) Fault) → IsFree (behind BadUnsignedLeb128 v r)
+free-behind v (Ok found) = λ h. absurd cc
+free-behind v (Err Cut) = λ h. absurd cc
+free-behind v (Err Bad) = λ h. absurd cc
+
+pub free-unsigned : (v : View) → IsFree (unsigned v)
+unfolding unsigned
+free-unsigned v = free-behind v (unsigned_at 10 (2 ^ 64) v.bytes)
+
+pub free-address : (size : ℕ) (v : View) → IsFree (address size v)
+unfolding address
+free-address size v = free-cond (is_address_size size) (free-fixed size v) (λ h. absurd cc)
+
+pub free-offset : (limit n : ℕ) → IsFree (offset_below limit n)
+free-offset limit n = free-cond (ltb n limit) (free-Ok n) (λ h. absurd cc)
+
+pub free-skip : (n : ℕ) (v : View) → IsFree (skip n v)
+free-skip n v = free-cond (ltb (length v.bytes) n) (free-ends v) (free-Ok _)
+
+pub free-part : (n : ℕ) (v : View) → IsFree (part n v)
+free-part n v = free-cond (ltb (length v.bytes) n) (free-ends v) (free-Ok _)
+
+-- ---- fields
+
+pub free-both : {A B : Type 0} {p : Parser A} {q : Parser B} → ((v : View) → IsFree (p v)) → ((v : View) → IsFree (q v)) → (v : View) → IsFree (both p q v)
+free-both h k v = free-onward (h v) (λ x s. free-onward (k s) (λ y t. free-Ok _))
+
+pub free-index : (limit : ℕ) (v : View) → IsFree (index limit v)
+unfolding index
+free-index limit v = free-onward (free-unsigned v) (λ n s. free-lift (offset_below limit n) s (free-offset limit n))
+
+pub free-indexes : (limit : ℕ) (v : View) → IsFree (indexes limit v)
+unfolding indexes
+free-indexes limit v = free-both (free-index limit) (free-index limit) v
+
+pub free-offsets : (v : View) → IsFree (offsets v)
+unfolding offsets
+free-offsets v = free-both free-unsigned free-unsigned v
+
+pub free-addresses : (size : ℕ) (v : View) → IsFree (addresses size v)
+unfolding addresses
+free-addresses size v = free-both (free-address size) (free-address size) v
+
+pub free-address_and_length : (size : ℕ) (v : View) → IsFree (address_and_length size v)
+unfolding address_and_length
+free-address_and_length size v = free-both (free-address size) free-unsigned v
+
+-- ---- the address of an index
 
 free-place : (base index width : ℕ) → IsFree (place_of_index base index width)
-free-place base index width = free-cond (ltb (base + index * width) (2 ^ 64)) _ _ (free-Ok (base + index * width)) free-sum
+free-place base index width = free-cond (ltb (base + index * width) (2 ^ 64)) (free-Ok (base + index * width)) (λ h. absurd cc)
 
-free-skip : (n : ℕ) (v : View) → IsFree (skip n v)
-free-skip n v = free-cond (ltb (length v.bytes) n) _ _ (free-ends v) (free-Ok _)
-
-free-to_place : (base index width : ℕ) (v : View) → IsFree (to_place base index width v)
+pub free-to_place : (base index width : ℕ) (v : View) → IsFree (to_place base index width v)
 free-to_place base index width v =
-    free-onward (lift (place_of_index base index width) v) skip (free-lift (place_of_index base index width) v (free-place base index width)) free-skip
+    free-onward (free-lift (place_of_index base index width) v (free-place base index width)) free-skip
 
 pub free-address_at : (size base index : ℕ) (v : View) → IsFree (address_at size base index v)
 free-address_at size base index v =
-    free-value_of _ (free-onward (to_place base index size v) _ (free-to_place base index size v) (λ x s. free-address size s))
-
--- an answer that is the definition's is as free
-pub free_answer : {A : Type 0} (r : Result A Error) (d : Result A Error) → Answers (λ x. x) r d → IsFree d → IsFree r
-free_answer (Ok x) d h free = λ is. absurd cc
-free_answer {A} (Err e) d h free = λ is. free (h ∙ is)
+    free-value_of (free-onward (free-to_place base index size v) (λ x s. free-address size s))

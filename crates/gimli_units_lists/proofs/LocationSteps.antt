@@ -1,5 +1,5 @@
 -- How the locations of a list go on by an entry, and end.
-use Rattle.std.proofs.Common.{◌≡◌, ℕ, List, [], ◌∷◌, ◌++◌, unwrap_or, Option, Some, None, Result, Ok, Err, refl, sym, ◌∙◌, ap}
+use Rattle.std.proofs.Common.{◌≡◌, ℕ, [], ◌∷◌, ◌++◌, unwrap_or, Option, Result, Ok, Err, sym, ◌∙◌, ap}
 use Rattle.gimli_core_base.specs.declared.error.Error.{Error}
 use Rattle.gimli_units_lists.specs.LocationEntries.{RawLocation, Location, location_base_in, location_of, raw_locations_to_come}
 use Rattle.gimli_units_lists.specs.Answers.{unless_passed, resolved}

@@ -1,9 +1,9 @@
 -- What an iterator over entries answers next, by what it reads at the front.
-use Rattle.std.proofs.Common.{◌≡◌, ℕ, ◌≤◌, Bool, true, false, cond, eqb, List, [], ◌∷◌, ◌++◌, map, length, Option, Some, None, Result, Ok, Err, refl, sym, ◌∙◌, ap}
+use Rattle.std.proofs.Common.{◌≡◌, ℕ, ◌≤◌, Bool, true, false, cond, eqb, List, [], ◌∷◌, length, Option, Some, None, Result, Ok, Err, sym, ◌∙◌, ap}
 use Rattle.gimli_core_base.specs.declared.error.Error.{Error}
 use Rattle.gimli_core_base.specs.View.{View, bytes_left}
 use Rattle.gimli_core_base.specs.Parsers.{Parser}
-use Rattle.gimli_core_base.specs.Repetition.{Listing, listing_in, next_item}
+use Rattle.gimli_core_base.specs.Repetition.{listing_in, next_item}
 use Rattle.gimli_core_base.proofs.Sizes.{SomeBelow, SomeBelow-cond, SomeBelow-None}
 use Rattle.gimli_core_base.proofs.Listings.{Shrinks, listing_next}
 use Rattle.gimli_units_lists.specs.Answers.{answers_of}

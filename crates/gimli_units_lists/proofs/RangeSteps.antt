@@ -1,9 +1,9 @@
 -- How the ranges of a list go on by an entry, and end.
-use Rattle.std.proofs.Common.{◌≡◌, ℕ, List, [], ◌∷◌, ◌++◌, unwrap_or, Option, Some, None, Result, Ok, Err, refl, sym, ◌∙◌, ap}
+use Rattle.std.proofs.Common.{◌≡◌, ℕ, [], ◌∷◌, ◌++◌, unwrap_or, Option, Result, Ok, Err, sym, ◌∙◌, ap}
 use Rattle.gimli_core_base.specs.declared.error.Error.{Error}
 use Rattle.gimli_units_base.specs.declared.range.Range.{Range}
 use Rattle.gimli_units_lists.specs.Answers.{unless_passed, resolved}
-use Rattle.gimli_units_lists.specs.Entries.{RawEntry, Setting, base_in, range_of}
+use Rattle.gimli_units_lists.specs.Entries.{RawEntry, base_in, range_of}
 use Rattle.gimli_units_lists.specs.RangeEntries.{raw_ranges_to_come}
 use Rattle.gimli_units_lists.specs.Lists.{Resolving, RangesLeft, ranges_to_come}
 use Rattle.gimli_units_lists.proofs.Running.{resolved_next}

@@ -1,5 +1,5 @@
 -- What an iterator over the entries of a location list answers next.
-use Rattle.std.proofs.Common.{◌≡◌, ℕ, Bool, true, false, eqb, List, [], ◌∷◌, length, Option, Some, None, Result, Ok, Err, sym, ◌∙◌, ap}
+use Rattle.std.proofs.Common.{◌≡◌, ℕ, Bool, true, false, eqb, [], ◌∷◌, length, Some, None, Ok, Err, sym, ◌∙◌, ap}
 use Rattle.gimli_core_base.specs.declared.error.Error.{Error}
 use Rattle.gimli_core_base.specs.View.{View}
 use Rattle.gimli_core_constants.specs.declared.common.Encoding.{Encoding}

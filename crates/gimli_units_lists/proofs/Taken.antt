@@ -1,10 +1,9 @@
 -- Each entry takes a byte; and where addresses were read, their size is one that addresses have.
-use Rattle.std.proofs.Common.{◌≡◌, ℕ, ◌+◌, ◌<◌, ◌≤◌, Bool, true, false, cond, IsTrue, Option, Some, None, Result, Ok, Err, refl, arith, rules, eqb}
+use Rattle.std.proofs.Common.{◌≡◌, ℕ, ◌<◌, ◌≤◌, Bool, true, false, cond, IsTrue, Ok, Err, refl, arith, eqb}
 use Rattle.std.proofs.lemmas.Bool.Decides.{nat_tests}
-use Rattle.gimli_core_base.specs.declared.error.Error.{Error}
 use Rattle.gimli_core_base.specs.declared.error.Error.TheVariants.{UnsupportedAddressSize}
 use Rattle.gimli_core_base.specs.View.{View, bytes_left}
-use Rattle.gimli_core_base.specs.Parsers.{Parser, onward}
+use Rattle.gimli_core_base.specs.Parsers.{Parser}
 use Rattle.gimli_core_base.proofs.Steps.{begins}
 use Rattle.gimli_core_base.proofs.Sizes.{Below, AtMost, SomeBelow, SomeBelow-Below, Below-Ok, Below-Err, Below-onward, Below-cond, sizes}
 use Rattle.gimli_core_numbers.specs.Numbers.{fixed, unsigned, address, is_address_size}

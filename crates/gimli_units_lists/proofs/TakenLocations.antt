@@ -1,14 +1,13 @@
 -- Each entry of a location list takes a byte.
-use Rattle.std.proofs.Common.{◌≡◌, ℕ, ◌+◌, ◌<◌, ◌≤◌, Bool, Option, Some, None, Result, Ok, Err, arith, eqb, leb}
-use Rattle.gimli_core_base.specs.declared.error.Error.{Error}
+use Rattle.std.proofs.Common.{ℕ, ◌<◌, ◌≤◌, Bool, Option, Some, None, arith, eqb, leb}
 use Rattle.gimli_core_base.specs.View.{View, bytes_left}
 use Rattle.gimli_core_base.specs.Parsers.{Parser, onward, give}
-use Rattle.gimli_core_base.proofs.Sizes.{Below, AtMost, SomeBelow, AtMost-part, SomeBelow-Below, Below-Ok, Below-Err, Below-lt, Below-lift, Below-onward, Below-cond}
+use Rattle.gimli_core_base.proofs.Sizes.{Below, SomeBelow, AtMost-part, SomeBelow-Below, Below-Ok, Below-Err, Below-lt, Below-lift, Below-onward, Below-cond}
 use Rattle.gimli_core_constants.specs.declared.common.Encoding.{Encoding}
-use Rattle.gimli_core_numbers.specs.Numbers.{fixed, unsigned, address, offset_below}
+use Rattle.gimli_core_numbers.specs.Numbers.{address, offset_below}
 use Rattle.gimli_core_numbers.proofs.Sizes.{Below-fixed, Below-unsigned}
 use Rattle.gimli_units_lists.specs.Entries.{RawEntry, address_or_offset_pair, base_address, base_addressx, startx_endx, startx_length, offset_pair, start_end, start_length}
-use Rattle.gimli_units_lists.specs.Fields.{both, index, indexes, offsets, addresses, address_and_length}
+use Rattle.gimli_units_lists.specs.Fields.{index, indexes, offsets, addresses, address_and_length}
 use Rattle.gimli_units_lists.specs.RangeEntries.{pair_entry}
 use Rattle.gimli_units_lists.specs.LocationEntries.{RawLocation, located, one, two, expression_length, indexed_length, expression, index_and_length, pair_location, location_pair, location_kind, location_entry}
 use Rattle.gimli_units_lists.proofs.Next.{Takes}

@@ -1,7 +1,7 @@
 -- The fields of entries of range lists and location lists (DWARF 5, 2.6.2 and 2.17.3).
-use Rattle.std.specs.Prelude.{ℕ, ◌==◌, length, Option, Some, None, Result, Ok, Err, if◌then◌else◌}
+use Rattle.std.specs.Prelude.{ℕ, ◌==◌, length, Option, None, Ok, if◌then◌else◌}
 use Rattle.gimli_core_base.specs.Parsers.{Parser, ◌>>=◌, give, lift}
-use Rattle.gimli_core_numbers.specs.Numbers.{fixed, unsigned, address, offset_below}
+use Rattle.gimli_core_numbers.specs.Numbers.{unsigned, address, offset_below}
 
 -- An entry, or none at the entry that ends a list. A section that ends where an entry would begin ends the list too.
 abbrev pub entry_or_end : {A : Type 0} → Parser (Option A) → Parser (Option A)

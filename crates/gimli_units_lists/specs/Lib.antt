@@ -5,4 +5,5 @@ pub mod RangeEntries
 pub mod LocationEntries
 pub mod Seen
 pub mod Lists
+pub mod Progress
 pub mod Headers

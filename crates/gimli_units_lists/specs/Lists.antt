@@ -1,5 +1,5 @@
 -- The sections of range lists and location lists, and the lists in them (DWARF 5, 7.25, 7.28 and 7.29).
-use Rattle.std.specs.Prelude.{ℕ, ◌+◌, ◌^◌, ◌==◌, nat_lt, nat_le, Bool, true, false, List, Option, option_map, Result, Ok, Err, if◌then◌else◌}
+use Rattle.std.specs.Prelude.{ℕ, ◌+◌, ◌^◌, ◌==◌, nat_lt, nat_le, Bool, true, List, Option, option_map, Result, Ok, Err, if◌then◌else◌}
 use Rattle.gimli_core_base.specs.declared.error.Error.{Error}
 use Rattle.gimli_core_base.specs.declared.error.Error.TheVariants.{OffsetSumOverflow, UnknownVersion, UnsupportedSegmentSize}
 use Rattle.std.specs.Option.{option_or}

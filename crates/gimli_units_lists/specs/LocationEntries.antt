@@ -1,5 +1,5 @@
 -- Location lists as bytes: `.debug_loc` up to version 4 (DWARF 4, 2.6.2), `.debug_loclists` from 5 on (DWARF 5, 7.29).
-use Rattle.std.specs.Prelude.{ℕ, ◌-◌, ◌^◌, ◌==◌, nat_le, Bool, List, Option, Some, None, Result, Ok, Err, if◌then◌else◌}
+use Rattle.std.specs.Prelude.{ℕ, ◌-◌, ◌^◌, ◌==◌, nat_le, Bool, List, Option, Some, None, Result, Ok, Err}
 use Rattle.gimli_core_base.specs.declared.error.Error.{Error}
 use Rattle.gimli_core_base.specs.declared.error.Error.TheVariants.{UnknownLocListsEntry}
 use Rattle.gimli_core_base.specs.View.{View, bytes_left}
@@ -9,7 +9,7 @@ use Rattle.gimli_core_constants.specs.declared.common.Encoding.{Encoding}
 use Rattle.gimli_core_numbers.specs.Numbers.{fixed, unsigned, address, offset_below}
 use Rattle.gimli_units_base.specs.declared.range.Range.{Range}
 use Rattle.gimli_units_lists.specs.Answers.{answers_of}
-use Rattle.gimli_units_lists.specs.Entries.{RawEntry, address_or_offset_pair, base_address, base_addressx, startx_endx, startx_length, offset_pair, start_end, start_length, Setting, base_in, range_of}
+use Rattle.gimli_units_lists.specs.Entries.{RawEntry, base_address, base_addressx, startx_endx, startx_length, offset_pair, start_end, start_length, Setting, base_in, range_of}
 use Rattle.gimli_units_lists.specs.Fields.{entry_or_end, both, index, indexes, offsets, addresses, address_and_length}
 use Rattle.gimli_units_lists.specs.RangeEntries.{pair_entry}
 

@@ -1,5 +1,5 @@
 -- Entries as contracts see them: their indexes as numbers, their expressions as bytes.
-use Rattle.std.specs.Prelude.{ℕ, Option, option_map}
+use Rattle.std.specs.Prelude.{ℕ}
 use Rattle.gimli_core_base.specs.View.{View}
 use Rattle.gimli_units_lists.specs.declared.range_entry.RawRngListEntry.{RawRngListEntry}
 use Rattle.gimli_units_lists.specs.declared.range_entry.RawRngListEntry.TheVariants.{AddressOrOffsetPair, BaseAddress, BaseAddressx, StartxEndx, StartxLength, OffsetPair, StartEnd, StartLength}

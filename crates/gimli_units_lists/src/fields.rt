@@ -9,7 +9,8 @@ use gimli_core_readers::Reader;
 /// An index into the addresses.
 #[tactic(auto, unfolding(crate::specs::Fields::index))]
 pub(crate) fn read_index<R: Reader>(input: &mut R) -> Result<DebugAddrIndex<R::Offset>, Error>
-    ensures { Answers (λ index. (R.Offset.count index.0, R.view input.new)) result (index R.Offset.limit (R.view input.old)) }
+    ensures { Answers (λ index. (R.Offset.count index.0, R.view input.new)) result
+        (index R.Offset.limit (R.view input.old)) }
 {
     let index = input.read_uleb128()?;
     Ok(DebugAddrIndex(R::Offset::from_u64(index)?))
@@ -20,7 +21,8 @@ pub(crate) fn read_index<R: Reader>(input: &mut R) -> Result<DebugAddrIndex<R::O
 pub(crate) fn read_indexes<R: Reader>(
     input: &mut R,
 ) -> Result<(DebugAddrIndex<R::Offset>, DebugAddrIndex<R::Offset>), Error>
-    ensures { Answers (λ p. ((R.Offset.count p.0.0, R.Offset.count p.1.0), R.view input.new)) result (indexes R.Offset.limit (R.view input.old)) }
+    ensures { Answers (λ p. ((R.Offset.count p.0.0, R.Offset.count p.1.0), R.view input.new)) result
+        (indexes R.Offset.limit (R.view input.old)) }
 {
     let begin = read_index(input)?;
     let end = read_index(input)?;

@@ -45,7 +45,9 @@ impl ListsHeader {
     /// The header at the front; behind it the rest of its table is left. Takes memory only where a copy of the reader
     /// does.
     pub fn parse<R: Reader>(input: &mut R) -> Result<Self, Error>
-        ensures { Takes (λ header. header) result (R.view input.old) (R.view input.new) (lists_header R.Offset.limit (R.view input.old)) }
+        ensures value { Takes (λ header. header) result (R.view input.old) (R.view input.new)
+            (lists_header R.Offset.limit (R.view input.old)) }
+        ensures free { IsTrue R.copies_freely → result ≢ Err Memory }
     {
         let mut rest = input.copy()?;
         let header = parse_header(&mut rest)?;

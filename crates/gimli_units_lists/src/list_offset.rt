@@ -1,4 +1,6 @@
+ghost use Rattle.std.specs.Prelude.{◌≡◌, ◌≢◌, Err};
 ghost use Rattle.gimli_core_base.specs.Calls.{Answers};
+ghost use Rattle.gimli_core_base.specs.declared.error.Error.TheVariants.{Memory};
 ghost use Rattle.gimli_units_lists.specs.Lists.{list_offset_at};
 
 use gimli_core_base::error::Error;
@@ -14,8 +16,9 @@ pub(crate) fn list_offset<R: Reader>(
     base: R::Offset,
     index: R::Offset,
 ) -> Result<R::Offset, Error>
-    ensures { Answers R.Offset.count result
+    ensures value { Answers R.Offset.count result
         (list_offset_at R.Offset.limit format (R.Offset.count base) (R.Offset.count index) (R.view section.now)) }
+    ensures free { result ≢ Err Memory }
 {
     let offset = offset_at(section, format, base, index)?;
     let sum = base

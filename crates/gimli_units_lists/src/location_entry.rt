@@ -1,5 +1,6 @@
-ghost use Rattle.std.specs.Prelude.{option_map, ◌≡◌};
+ghost use Rattle.std.specs.Prelude.{option_map, ◌≡◌, ◌≢◌, IsTrue, Err};
 ghost use Rattle.gimli_core_base.specs.Calls.{Answers, Gives};
+ghost use Rattle.gimli_core_base.specs.declared.error.Error.TheVariants.{Memory};
 ghost use Rattle.gimli_units_lists.specs.LocationEntries.{location_pair, location_kind, location_entry, expression, index_and_length};
 ghost use Rattle.gimli_units_lists.specs.Seen.{raw_location, raw_parts};
 
@@ -74,8 +75,9 @@ pub(crate) fn parse_entry<R: Reader>(
     encoding: Encoding,
     by_kind: bool,
 ) -> Result<Option<RawLocListEntry<R>>, Error>
-    ensures { Gives (λ entry. (option_map (raw_location R.view R.Offset.count) entry, R.view input.new)) result
+    ensures value { Gives (λ entry. (option_map (raw_location R.view R.Offset.count) entry, R.view input.new)) result
         (location_entry R.Offset.limit encoding by_kind (R.view input.old)) }
+    ensures free { IsTrue R.copies_freely → result ≢ Err Memory }
 {
     if by_kind {
         parse_kind(input, encoding)
@@ -90,8 +92,10 @@ fn parse_pair<R: Reader>(
     input: &mut R,
     encoding: Encoding,
 ) -> Result<Option<RawLocListEntry<R>>, Error>
-    ensures { Gives (λ entry. (option_map (raw_location R.view R.Offset.count) entry, R.view input.new)) result
+    ensures value { Gives (λ entry. (option_map (raw_location R.view R.Offset.count) entry, R.view input.new)) result
         (location_pair R.Offset.limit encoding (R.view input.old)) }
+    ensures free { IsTrue R.copies_freely → Answers (λ entry. (option_map (raw_location R.view R.Offset.count) entry, R.view input.new))
+        result (location_pair R.Offset.limit encoding (R.view input.old)) }
 {
     let (begin, end) = read_addresses(input, encoding.address_size)?;
     if begin == 0 && end == 0 {
@@ -113,8 +117,10 @@ fn parse_kind<R: Reader>(
     input: &mut R,
     encoding: Encoding,
 ) -> Result<Option<RawLocListEntry<R>>, Error>
-    ensures { Gives (λ entry. (option_map (raw_location R.view R.Offset.count) entry, R.view input.new)) result
+    ensures value { Gives (λ entry. (option_map (raw_location R.view R.Offset.count) entry, R.view input.new)) result
         (location_kind R.Offset.limit encoding (R.view input.old)) }
+    ensures free { IsTrue R.copies_freely → Answers (λ entry. (option_map (raw_location R.view R.Offset.count) entry, R.view input.new))
+        result (location_kind R.Offset.limit encoding (R.view input.old)) }
 {
     let kind = input.read_u8()?;
     Ok(Some(match kind {
@@ -198,7 +204,9 @@ fn read_index_and_length<R: Reader>(
 /// The expression at the front, behind its length. Takes memory only where a part of the reader does.
 #[tactic(auto, unfolding(crate::specs::LocationEntries::expression))]
 fn parse_expression<R: Reader>(input: &mut R, encoding: Encoding) -> Result<Expression<R>, Error>
-    ensures { Gives (λ x. (R.view x.0, R.view input.new)) result (expression R.Offset.limit encoding (R.view input.old)) }
+    ensures value { Gives (λ x. (R.view x.0, R.view input.new)) result (expression R.Offset.limit encoding (R.view input.old)) }
+    ensures free { IsTrue R.copies_freely → Answers (λ x. (R.view x.0, R.view input.new)) result
+        (expression R.Offset.limit encoding (R.view input.old)) }
 {
     let length = if encoding.version <= 4 {
         R::Offset::from_u16(input.read_u16()?)

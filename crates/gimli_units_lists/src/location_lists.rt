@@ -38,6 +38,7 @@ impl<R: Reader> Model for LocationLists<R> {
 }
 
 impl<R: Reader> LocationLists<R> {
+    /// The lists in these two sections.
     pub fn new(debug_loc: DebugLoc<R>, debug_loclists: DebugLocLists<R>) -> Self
         ensures { result ≡ record { debug_loc = debug_loc; debug_loclists = debug_loclists } }
     {
@@ -150,8 +151,9 @@ impl<R: Reader> LocationLists<R> {
         base: DebugLocListsBase<R::Offset>,
         index: DebugLocListsIndex<R::Offset>,
     ) -> Result<LocationListsOffset<R::Offset>, Error>
-        ensures { Answers (λ offset. R.Offset.count offset.0) result
+        ensures value { Answers (λ offset. R.Offset.count offset.0) result
             (list_offset_at R.Offset.limit unit_encoding.format (R.Offset.count base.0) (R.Offset.count index.0) self.now.debug_loclists) }
+        ensures free { result ≢ Err Memory }
     {
         let section = self.debug_loclists.reader();
         Ok(LocationListsOffset(list_offset(section, unit_encoding.format, base.0, index.0)?))

@@ -1,9 +1,10 @@
-ghost use Rattle.std.specs.Prelude.{◌≡◌, ◌≢◌, IfOk, IfSome, unwrap_or, option_map, Err};
+ghost use Rattle.std.specs.Prelude.{◌≡◌, ◌≢◌, IsTrue, IfOk, IfSome, unwrap_or, option_map, Err};
 ghost use Rattle.gimli_core_base.specs.Calls.{Answers};
 ghost use Rattle.gimli_core_base.specs.declared.error.Error.TheVariants.{Memory};
 ghost use Rattle.gimli_units_lists.specs.Answers.{TakesNext};
 ghost use Rattle.gimli_units_lists.specs.Entries.{IsCounted};
 ghost use Rattle.gimli_units_lists.specs.Lists.{locations_to_come};
+ghost use Rattle.gimli_units_lists.specs.Progress.{TakesLocation};
 ghost use Rattle.gimli_units_lists.specs.LocationEntries.{raw_locations_to_come, location_base_in, location_of};
 ghost use Rattle.gimli_units_lists.specs.Seen.{raw_location, location};
 
@@ -46,13 +47,17 @@ impl<R: Reader> LocListIter<R> {
 
     /// The next location, none at the list's end. An entry whose index has no address is refused in its place, and the
     /// list goes on behind it; after an entry that can't be read there are no more. Takes memory only where a part of the
-    /// reader does.
+    /// reader does; where there is none, all that was to come is still to come.
     pub fn next(&mut self) -> Result<Option<LocationListEntry<R>>, Error>
-        ensures next { TakesNext (location R.view) result (locations_to_come R.Offset.limit self.old) (locations_to_come R.Offset.limit self.new) }
+        ensures next { TakesNext (location R.view) result
+            (locations_to_come R.Offset.limit self.old) (locations_to_come R.Offset.limit self.new) }
+        // The entries up to the one that stands for the answer are taken.
+        ensures taken { TakesLocation (location R.view) R.Offset.limit result self.old self.new }
         ensures counted { IfOk result (λ found. IfSome found (λ l. IsCounted self.old.against.setting.address_size l.range)) }
         ensures encoding { self.new.raw.encoding ≡ self.old.raw.encoding }
         ensures by_kind { self.new.raw.by_kind ≡ self.old.raw.by_kind }
         ensures setting { self.new.against.setting ≡ self.old.against.setting }
+        ensures free { IsTrue R.copies_freely → result ≢ Err Memory }
     {
         while let Some(entry) = self.next_raw()? {
             if let Some(location) = self.convert_raw(entry)? {
@@ -64,10 +69,12 @@ impl<R: Reader> LocListIter<R> {
 
     /// The next entry as it stands, which sets no base.
     pub fn next_raw(&mut self) -> Result<Option<RawLocListEntry<R>>, Error>
-        ensures next { TakesNext (raw_location R.view R.Offset.count) result (raw_locations_to_come R.Offset.limit self.old.raw) (raw_locations_to_come R.Offset.limit self.new.raw) }
+        ensures next { TakesNext (raw_location R.view R.Offset.count) result
+            (raw_locations_to_come R.Offset.limit self.old.raw) (raw_locations_to_come R.Offset.limit self.new.raw) }
         ensures encoding { self.new.raw.encoding ≡ self.old.raw.encoding }
         ensures by_kind { self.new.raw.by_kind ≡ self.old.raw.by_kind }
         ensures against { self.new.against ≡ self.old.against }
+        ensures free { IsTrue R.copies_freely → result ≢ Err Memory }
     {
         self.raw.next()
     }
@@ -77,8 +84,10 @@ impl<R: Reader> LocListIter<R> {
         &mut self,
         entry: RawLocListEntry<R>,
     ) -> Result<Option<LocationListEntry<R>>, Error>
-        ensures value { Answers (option_map (location R.view)) result (location_of self.old.against.setting self.old.against.base (raw_location R.view R.Offset.count entry)) }
-        ensures base { self.new.against.base ≡ unwrap_or (location_base_in self.old.against.setting (raw_location R.view R.Offset.count entry)) self.old.against.base }
+        ensures value { Answers (option_map (location R.view)) result
+            (location_of self.old.against.setting self.old.against.base (raw_location R.view R.Offset.count entry)) }
+        ensures base { self.new.against.base
+            ≡ unwrap_or (location_base_in self.old.against.setting (raw_location R.view R.Offset.count entry)) self.old.against.base }
         ensures setting { self.new.against.setting ≡ self.old.against.setting }
         ensures raw { self.new.raw ≡ self.old.raw }
         ensures counted { IfOk result (λ found. IfSome found (λ l. IsCounted self.old.against.setting.address_size l.range)) }

@@ -38,6 +38,7 @@ impl<R: Reader> Model for RangeLists<R> {
 }
 
 impl<R: Reader> RangeLists<R> {
+    /// The lists in these two sections.
     pub fn new(debug_ranges: DebugRanges<R>, debug_rnglists: DebugRngLists<R>) -> Self
         ensures { result ≡ record { debug_ranges = debug_ranges; debug_rnglists = debug_rnglists } }
     {
@@ -47,18 +48,21 @@ impl<R: Reader> RangeLists<R> {
         }
     }
 
+    /// The section of units up to version 4.
     pub fn debug_ranges(&self) -> &DebugRanges<R>
         ensures { result.now ≡ self.now.debug_ranges }
     {
         &self.debug_ranges
     }
 
+    /// Puts another section in the place of `.debug_ranges`, as that of the main file for a split unit.
     pub fn set_debug_ranges(&mut self, debug_ranges: DebugRanges<R>)
         ensures { self.new ≡ record { debug_ranges = debug_ranges; debug_rnglists = self.old.debug_rnglists } }
     {
         self.debug_ranges = debug_ranges;
     }
 
+    /// The section of units from version 5 on.
     pub fn debug_rnglists(&self) -> &DebugRngLists<R>
         ensures { result.now ≡ self.now.debug_rnglists }
     {
@@ -116,8 +120,9 @@ impl<R: Reader> RangeLists<R> {
         base: DebugRngListsBase<R::Offset>,
         index: DebugRngListsIndex<R::Offset>,
     ) -> Result<RangeListsOffset<R::Offset>, Error>
-        ensures { Answers (λ offset. R.Offset.count offset.0) result
+        ensures value { Answers (λ offset. R.Offset.count offset.0) result
             (list_offset_at R.Offset.limit unit_encoding.format (R.Offset.count base.0) (R.Offset.count index.0) self.now.debug_rnglists) }
+        ensures free { result ≢ Err Memory }
     {
         let section = self.debug_rnglists.reader();
         Ok(RangeListsOffset(list_offset(section, unit_encoding.format, base.0, index.0)?))

@@ -1,8 +1,10 @@
-ghost use Rattle.std.specs.Prelude.{◌≡◌, IfOk, IfSome, unwrap_or, Ok, Err};
+ghost use Rattle.std.specs.Prelude.{◌≡◌, ◌≢◌, IfOk, IfSome, unwrap_or, Ok, Err};
 ghost use Rattle.gimli_core_base.specs.Calls.{Answers};
+ghost use Rattle.gimli_core_base.specs.declared.error.Error.TheVariants.{Memory};
 ghost use Rattle.gimli_units_lists.specs.Answers.{AnswersNext};
 ghost use Rattle.gimli_units_lists.specs.Entries.{base_in, range_of, IsCounted};
 ghost use Rattle.gimli_units_lists.specs.Lists.{ranges_to_come};
+ghost use Rattle.gimli_units_lists.specs.Progress.{TakesRange};
 ghost use Rattle.gimli_units_lists.specs.RangeEntries.{raw_ranges_to_come};
 ghost use Rattle.gimli_units_lists.specs.Seen.{raw_entry};
 
@@ -39,10 +41,14 @@ impl<R: Reader> RngListIter<R> {
     /// The next range, none at the list's end. An entry whose index has no address is refused in its place, and the list
     /// goes on behind it; after an entry that can't be read there are no more. Takes no memory.
     pub fn next(&mut self) -> Result<Option<Range>, Error>
-        ensures next { AnswersNext (λ range. range) result (ranges_to_come R.Offset.limit self.old) (ranges_to_come R.Offset.limit self.new) }
+        ensures next { AnswersNext (λ range. range) result
+            (ranges_to_come R.Offset.limit self.old) (ranges_to_come R.Offset.limit self.new) }
+        // The entries up to the one that stands for the answer are taken.
+        ensures taken { TakesRange R.Offset.limit result self.old self.new }
         ensures counted { IfOk result (λ range. IfSome range (IsCounted self.old.against.setting.address_size)) }
         ensures encoding { self.new.raw.encoding ≡ self.old.raw.encoding }
         ensures setting { self.new.against.setting ≡ self.old.against.setting }
+        ensures free { result ≢ Err Memory }
     {
         while let Some(entry) = self.next_raw()? {
             if let Some(range) = self.convert_raw(entry)? {
@@ -54,9 +60,11 @@ impl<R: Reader> RngListIter<R> {
 
     /// The next entry as it stands, which sets no base.
     pub fn next_raw(&mut self) -> Result<Option<RawRngListEntry<R::Offset>>, Error>
-        ensures next { AnswersNext (raw_entry R.Offset.count) result (raw_ranges_to_come R.Offset.limit self.old.raw) (raw_ranges_to_come R.Offset.limit self.new.raw) }
+        ensures next { AnswersNext (raw_entry R.Offset.count) result
+            (raw_ranges_to_come R.Offset.limit self.old.raw) (raw_ranges_to_come R.Offset.limit self.new.raw) }
         ensures encoding { self.new.raw.encoding ≡ self.old.raw.encoding }
         ensures against { self.new.against ≡ self.old.against }
+        ensures free { result ≢ Err Memory }
     {
         self.raw.next()
     }
@@ -66,11 +74,14 @@ impl<R: Reader> RngListIter<R> {
         &mut self,
         raw_range: RawRngListEntry<R::Offset>,
     ) -> Result<Option<Range>, Error>
-        ensures value { Answers (λ range. range) result (range_of self.old.against.setting self.old.against.base (raw_entry R.Offset.count raw_range)) }
-        ensures base { self.new.against.base ≡ unwrap_or (base_in self.old.against.setting (raw_entry R.Offset.count raw_range)) self.old.against.base }
+        ensures value { Answers (λ range. range) result
+            (range_of self.old.against.setting self.old.against.base (raw_entry R.Offset.count raw_range)) }
+        ensures base { self.new.against.base
+            ≡ unwrap_or (base_in self.old.against.setting (raw_entry R.Offset.count raw_range)) self.old.against.base }
         ensures setting { self.new.against.setting ≡ self.old.against.setting }
         ensures raw { self.new.raw ≡ self.old.raw }
         ensures counted { IfOk result (λ range. IfSome range (IsCounted self.old.against.setting.address_size)) }
+        ensures free { result ≢ Err Memory }
     {
         self.resolver.range(raw_range)
     }

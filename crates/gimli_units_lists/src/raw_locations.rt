@@ -1,4 +1,5 @@
-ghost use Rattle.std.specs.Prelude.{◌≡◌};
+ghost use Rattle.std.specs.Prelude.{◌≡◌, ◌≢◌, IsTrue, Err};
+ghost use Rattle.gimli_core_base.specs.declared.error.Error.TheVariants.{Memory};
 ghost use Rattle.gimli_units_lists.specs.Answers.{TakesNext};
 ghost use Rattle.gimli_units_lists.specs.LocationEntries.{raw_locations_to_come};
 ghost use Rattle.gimli_units_lists.specs.Seen.{raw_location};
@@ -41,9 +42,11 @@ impl<R: Reader> RawLocListIter<R> {
     /// The next entry, none at the list's end. After an entry that can't be read there are no more. Takes memory only
     /// where a part of the reader does, and moves nothing where there is none.
     pub fn next(&mut self) -> Result<Option<RawLocListEntry<R>>, Error>
-        ensures next { TakesNext (raw_location R.view R.Offset.count) result (raw_locations_to_come R.Offset.limit self.old) (raw_locations_to_come R.Offset.limit self.new) }
+        ensures next { TakesNext (raw_location R.view R.Offset.count) result
+            (raw_locations_to_come R.Offset.limit self.old) (raw_locations_to_come R.Offset.limit self.new) }
         ensures encoding { self.new.encoding ≡ self.old.encoding }
         ensures by_kind { self.new.by_kind ≡ self.old.by_kind }
+        ensures free { IsTrue R.copies_freely → result ≢ Err Memory }
     {
         if self.input.is_empty() {
             return Ok(None);

@@ -1,4 +1,5 @@
 ghost use Rattle.std.specs.Prelude.{◌≡◌, ◌≢◌, IsTrue, Ok, Err};
+ghost use Rattle.gimli_core_base.specs.declared.error.Error.TheVariants.{Memory};
 ghost use Rattle.gimli_units_lists.specs.Answers.{AnswersNext};
 ghost use Rattle.gimli_units_lists.specs.RangeEntries.{raw_ranges_to_come};
 ghost use Rattle.gimli_units_lists.specs.Seen.{raw_entry};
@@ -34,8 +35,10 @@ impl<R: Reader> RawRngListIter<R> {
 
     /// The next entry, none at the list's end. After an entry that can't be read there are no more. Takes no memory.
     pub fn next(&mut self) -> Result<Option<RawRngListEntry<R::Offset>>, Error>
-        ensures next { AnswersNext (raw_entry R.Offset.count) result (raw_ranges_to_come R.Offset.limit self.old) (raw_ranges_to_come R.Offset.limit self.new) }
+        ensures next { AnswersNext (raw_entry R.Offset.count) result
+            (raw_ranges_to_come R.Offset.limit self.old) (raw_ranges_to_come R.Offset.limit self.new) }
         ensures encoding { self.new.encoding ≡ self.old.encoding }
+        ensures free { result ≢ Err Memory }
     {
         if self.input.is_empty() {
             return Ok(None);

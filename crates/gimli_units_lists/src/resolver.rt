@@ -44,7 +44,8 @@ impl<R: Reader> Resolver<R> {
         debug_addr_base: DebugAddrBase<R::Offset>,
     ) -> Result<Self, Error>
         requires { IsTrue (is_address_size encoding.address_size) }
-        ensures value { Gives (λ r. r) result (Ok (from_low_pc encoding base_address (R.Offset.count debug_addr_base.0) debug_addr.now)) }
+        ensures value { Gives (λ r. r) result
+            (Ok (from_low_pc encoding base_address (R.Offset.count debug_addr_base.0) debug_addr.now)) }
         ensures free { IsTrue R.copies_freely → IsOk result }
     {
         Ok(Resolver {
@@ -60,8 +61,10 @@ impl<R: Reader> Resolver<R> {
         &mut self,
         entry: RawRngListEntry<R::Offset>,
     ) -> Result<Option<Range>, Error>
-        ensures value { Answers (λ range. range) result (range_of self.old.setting self.old.base (raw_entry R.Offset.count entry)) }
-        ensures base { self.new.base ≡ unwrap_or (base_in self.old.setting (raw_entry R.Offset.count entry)) self.old.base }
+        ensures value { Answers (λ range. range) result
+            (range_of self.old.setting self.old.base (raw_entry R.Offset.count entry)) }
+        ensures base { self.new.base
+            ≡ unwrap_or (base_in self.old.setting (raw_entry R.Offset.count entry)) self.old.base }
         ensures setting { self.new.setting ≡ self.old.setting }
         ensures counted { IfOk result (λ range. IfSome range (IsCounted self.old.setting.address_size)) }
         ensures free { result ≢ Err Memory }

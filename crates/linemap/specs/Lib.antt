@@ -1,3 +1,4 @@
+pub use Rattle.addr2line_paths.specs.Paths
 pub use Rattle.linemap_meaning.specs.Answers
 pub use Rattle.linemap_meaning.specs.ChainLaws
 pub use Rattle.linemap_meaning.specs.Conditions

@@ -9,10 +9,11 @@ mod path;
 mod places;
 mod stretches;
 
+pub use addr2line_paths::join;
 pub use answer::{PlainFrame, PlainLocation, PlainRow};
 pub use calls::frames;
 pub use lines::{location_line, word_line};
-pub use path::{file_text, join};
+pub use path::file_text;
 pub use places::location;
 pub use stretches::rows;
 

@@ -1,4 +1,4 @@
-use crate::{PlainLocation, PlainRow, frames, join, location, location_line, rows, word_line};
+use crate::{PlainLocation, PlainRow, frames, location, location_line, rows, word_line};
 use linemap_meaning::table::{
     TableCall, TableFile, TableFunction, TableRange, TableRow, TableSequence, TableUnit,
 };
@@ -180,15 +180,6 @@ fn a_row_in_no_function_is_one_frame(rt: HostRuntime) -> Result<(), Fail> {
         found[0].location,
         Some(place(alloc, "/usr/include/x.h", 9, 1)?)
     );
-    Ok(())
-}
-
-#[test]
-fn texts_are_joined_by_their_kind_of_slash(rt: HostRuntime) -> Result<(), Fail> {
-    let alloc = rt.alloc();
-    for (path, name, joined) in [("C:\\p", "a.c", "C:\\p\\a.c"), ("/w", "/w", "/w")] {
-        assert_eq!(rt; join(text(alloc, path)?, name)?.as_str(), joined);
-    }
     Ok(())
 }
 

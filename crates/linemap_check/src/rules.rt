@@ -8,9 +8,9 @@ ghost use Rattle.linemap_meaning.specs.Views.{unit_part};
 use crate::functions::{has_call_outside, has_calls_overlap, has_deep_calls};
 use crate::overlaps::any_overlap;
 use crate::sequences::any_bad_rows;
-use crate::texts::is_rooted;
 use crate::units;
 use crate::units::{EmptyRange, NoRange, any_ranges};
+use addr2line_paths::is_rooted;
 use linemap_meaning::rule::Rule;
 use linemap_meaning::table::TableUnit;
 

@@ -1,9 +1,8 @@
 //! The tests of texts.
 
-ghost use Rattle.std.specs.Prelude.{◌≡◌, ◌||◌, map, slice_index};
+ghost use Rattle.std.specs.Prelude.{◌≡◌, ◌||◌, map};
 ghost use Rattle.std.specs.List.{list_any};
 ghost use Rattle.linemap_meaning.specs.Conditions.{is_bad_text};
-ghost use Rattle.linemap_meaning.specs.FileText.{is_rooted, is_slash};
 ghost use Rattle.linemap_meaning.specs.Views.{file_part};
 
 use linemap_meaning::table::TableFile;
@@ -21,21 +20,4 @@ pub fn any_bad_file(files: &[TableFile]) -> bool
         (λ f. is_bad_text f.directory || is_bad_text f.name) (map file_part files.now) }
 {
     files.iter().any(|file| is_bad_text(&file.directory) || is_bad_text(&file.name))
-}
-
-/// Whether a text begins with a slash of either kind, or with a drive's letter, colon and slash.
-pub fn is_rooted(text: &str) -> bool
-    ensures { result ≡ is_rooted text.now }
-{
-    let bytes = text.as_bytes();
-    is_slash_at(bytes, 0) || (bytes.get(1) == Some(&b':') && is_slash_at(bytes, 2))
-}
-
-fn is_slash_at(bytes: &[u8], index: usize) -> bool
-    ensures { result ≡ is_slash (slice_index bytes.now index) }
-{
-    match bytes.get(index) {
-        Some(byte) => *byte == b'/' || *byte == b'\\',
-        None => false,
-    }
 }

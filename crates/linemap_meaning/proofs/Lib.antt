@@ -9,6 +9,5 @@ pub mod Ranges
 pub mod Sound
 pub mod Stretches
 pub mod TableStretches
-pub mod Texts
 pub mod ViewLemmas
 mod Worked

@@ -2,7 +2,6 @@
 use Rattle.std.proofs.Common.{◌≡◌, ℕ, ◌-◌, ◌^◌, List, [], ◌∷◌, ◌++◌, Option, Some, None, refl, codes, true, false}
 use Rattle.std.specs.Fmt.{digits}
 use Rattle.linemap_meaning.specs.Parts.{RangePart, RowPart, Calls, no_calls, more_calls, FunctionPart, UnitPart}
-use Rattle.linemap_meaning.specs.FileText.{join}
 use Rattle.linemap_meaning.specs.Conditions.{first_broken}
 use Rattle.linemap_meaning.specs.Weight.{table_weight}
 use Rattle.linemap_meaning.specs.Targets.{fits, is_target}
@@ -173,19 +172,7 @@ ends_the_other_way_round = refl
 no_stretch : stretches_between doubled 0 0 ≡ []
 no_stretch = refl
 
--- ---- texts
-
-drive_joined : join (codes "C:\\p") (codes "a.c") ≡ codes "C:\\p\\a.c"
-drive_joined = refl
-
-root_swallows : join (codes "/w") (codes "/w") ≡ codes "/w"
-root_swallows = refl
-
-empty_takes_directly : join [] (codes "a.c") ≡ codes "a.c"
-empty_takes_directly = refl
-
-slash_stays_single : join (codes "/w/") (codes "a.c") ≡ codes "/w/a.c"
-slash_stays_single = refl
+-- ---- words
 
 words_of_a_number : (word_address (codes "1000") ≡ Some 0x1000) × (word_address (codes "0x1030") ≡ Some 0x1030) × (word_address (codes "0x+fF") ≡ Some 0xff) × (word_address (codes "ffffffffffffffff") ≡ Some (2 ^ 64 - 1))
 words_of_a_number = (refl, refl, refl, refl)

@@ -2,7 +2,7 @@
 use Rattle.std.specs.Prelude.{◌≡◌, ℕ, ◌+◌, ◌-◌, ◌^◌, max, Bool, false, not, ◌&&◌, ◌||◌, ◌==◌, nat_lt, nat_le, List, [], ◌∷◌, ◌++◌, length, flat_map, find, Option, None, if◌then◌else◌}
 use Rattle.std.specs.List.{list_any}
 use Rattle.linemap_meaning.specs.Parts.{RangePart, RowPart, SequencePart, Site, Calls, no_calls, more_calls, UnitPart}
-use Rattle.linemap_meaning.specs.FileText.{is_rooted}
+use Rattle.addr2line_paths.specs.Paths.{is_rooted}
 use Rattle.linemap_meaning.specs.declared.rule.Rule.{Rule}
 use Rattle.linemap_meaning.specs.declared.rule.Rule.TheVariants.{EmptyRange, Bounds, NoRange, UnitsOverlap, FunctionOutside, FunctionsOverlap, CallOutside, CallsOverlap, SequenceOutside, SequencesOverlap, Rows, LineOrColumn, FileNumber, Text, NotRooted, Nesting}
 

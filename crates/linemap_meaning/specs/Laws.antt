@@ -2,7 +2,6 @@
 use Rattle.std.specs.Prelude.{◌≡◌, ◌≤◌, ℕ, Bool, true, false, not, ◌&&◌, nat_le, List, [], ◌∷◌, length, filter, Contains}
 use Rattle.std.specs.List.{list_any}
 use Rattle.linemap_meaning.specs.Parts.{RangePart, UnitPart}
-use Rattle.linemap_meaning.specs.FileText.{is_rooted, join}
 use Rattle.linemap_meaning.specs.Conditions.{is_empty_range, any_overlap, span, IsSound}
 use Rattle.linemap_meaning.specs.Meaning.{any_holds}
 
@@ -39,9 +38,3 @@ OneFunction =
 
 abbrev pub OneSequence : Type 0
 OneSequence = (us : List UnitPart) (u : UnitPart) (a : ℕ) → IsSound us → Contains us u → length (filter (λ s. any_holds a (span s)) u.sequences) ≤ 1
-
--- ---- texts
-
--- a text with a root swallows what it is joined to
-abbrev pub RootSwallows : Type 0
-RootSwallows = (path text : List ℕ) → is_rooted text ≡ true → join path text ≡ text

@@ -5,7 +5,7 @@ ghost use Rattle.linemap_meaning.specs.ChainLaws.{ChainGoesDown, OneWayDown};
 ghost use Rattle.linemap_meaning.specs.FrameLaws.{FileThere, FirstFrame, FramesAtCalls, FramesInOrder, NoFrame, RowThere};
 ghost use Rattle.linemap_meaning.specs.Targets.{SoundFits8};
 ghost use Rattle.linemap_meaning.specs.StretchLaws.{OrderKeepsAll, StretchesAnswer, StretchesAscend};
-ghost use Rattle.linemap_meaning.specs.Laws.{FollowingApart, NeighboursSuffice, OneFunction, OneSequence, OneUnit, RootSwallows};
+ghost use Rattle.linemap_meaning.specs.Laws.{FollowingApart, NeighboursSuffice, OneFunction, OneSequence, OneUnit};
 
 /// Of ranges that ascend by their begins, some two overlap exactly where two neighbours do.
 pub fn neighbours_suffice()
@@ -30,11 +30,6 @@ pub fn one_function()
 /// The same of a unit's sequences.
 pub fn one_sequence()
     ensures { OneSequence }
-{}
-
-/// A text with a root stands for itself, whatever path it is joined to.
-pub fn root_swallows()
-    ensures { RootSwallows }
 {}
 
 /// The chain of calls is a way down through calls that hold the address, as far as it goes.

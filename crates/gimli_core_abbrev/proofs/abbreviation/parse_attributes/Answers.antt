@@ -1,9 +1,7 @@
-use Rattle.std.proofs.Common.{rules, map, ◌≡◌, ℕ, ◌+◌, List, arith, refl}
-use Rattle.gimli_core_base.specs.Calls.{Gives}
-use Rattle.gimli_core_base.specs.View.{bytes_left}
+use Rattle.std.proofs.Common.{rules}
 use Rattle.gimli_core_base.proofs.Calls.{Gives_refused}
 use Rattle.gimli_core_base.proofs.Listings.{all_of_fault, all_of_end, listing_push, item_smaller}
-use Rattle.gimli_core_abbrev.specs.Parsing.{attribute, attributes}
+use Rattle.gimli_core_abbrev.specs.Parsing.{attributes}
 use Rattle.gimli_core_abbrev.specs.Seen.{seen_attribute}
 use Rattle.gimli_core_abbrev.proofs.Takes.{attributes-shrink}
 use Rattle.gimli_core_abbrev.proofs.abbreviation.parse_attributes.Goals as goal

@@ -1,12 +1,10 @@
-use Rattle.std.proofs.Common.{rules, ◌≡◌, ℕ, Bool, true, false, Option, None, Result, Err, List, ◌++◌, ◌∷◌, [], ap, sym, ◌∙◌, is_some}
+use Rattle.std.proofs.Common.{rules, ◌≡◌, ℕ, true, None, Result, Err, List, ◌++◌, ◌∷◌, [], ap, sym, ◌∙◌, is_some}
 use Rattle.gimli_core_base.specs.declared.error.Error.{Error}
 use Rattle.gimli_core_base.specs.declared.error.Error.TheVariants.{DuplicateAbbreviationCode}
 use Rattle.gimli_core_base.specs.View.{View}
-use Rattle.gimli_core_base.specs.Calls.{Gives}
 use Rattle.gimli_core_base.proofs.Calls.{Gives_refused}
 use Rattle.gimli_core_base.proofs.Listings.{item_smaller}
 use Rattle.gimli_core_abbrev.specs.Declarations.{Declaration, declaration_at, by_code, put}
-use Rattle.gimli_core_abbrev.specs.Parsing.{declaration}
 use Rattle.gimli_core_abbrev.specs.Seen.{seen}
 use Rattle.gimli_core_abbrev.proofs.Takes.{declarations-shrink}
 use Rattle.gimli_core_abbrev.proofs.Tables.{table_fault, table_end, table_repeated, listing_further, repeated_push, put_all-push, declaration-coded, is_some-map, none_there}

@@ -1,4 +1,4 @@
-use Rattle.std.proofs.Common.{◌≡◌, List, Option, None}
+use Rattle.std.proofs.Common.{◌≡◌, List, None}
 use Rattle.gimli_core_base.specs.View.{bytes_left}
 use Rattle.gimli_core_base.specs.Repetition.{prepend, listing_in}
 use Rattle.gimli_core_abbrev.specs.Declarations.{Declaration, by_code, repeated}

@@ -1,4 +1,4 @@
-use Rattle.std.proofs.Common.{◌≡◌, ◌∙◌, ap, ℕ, eqb, Bool, cond, List, map, Option, Some, None}
+use Rattle.std.proofs.Common.{◌∙◌, ap, ℕ, eqb, Bool, cond, List, map, Some, None}
 use Rattle.std.specs.List.{list_any}
 use Rattle.gimli_core_constants.specs.declared.common.DebugAbbrevOffset.{DebugAbbrevOffset}
 use Rattle.gimli_core_abbrev.specs.Parsing.{table_at}

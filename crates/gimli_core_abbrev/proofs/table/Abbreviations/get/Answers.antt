@@ -1,4 +1,4 @@
-use Rattle.std.proofs.Common.{rules, ◌≡◌, ◌≤◌, ◌∙◌, arith, ap, refl, Option, Some, None, option_map, Bor}
+use Rattle.std.proofs.Common.{◌≡◌, ◌∙◌, arith, ap, refl, Option, Some, None, option_map, Bor}
 use Rattle.std.specs.Option.{option_copied}
 use Rattle.gimli_core_abbrev.specs.declared.abbreviation.Abbreviation.{Abbreviation}
 use Rattle.gimli_core_abbrev.specs.Declarations.{declaration_at}

@@ -1,9 +1,9 @@
-use Rattle.std.proofs.Common.{◌≡◌, ◌+◌, ℕ, List, map, length, ap, arith, ◌∙◌}
+use Rattle.std.proofs.Common.{◌≡◌, ℕ, List, map, ap, arith, ◌∙◌}
 use Rattle.std.specs.Ordering.{nat_cmp}
 use Rattle.std.specs.BTreeMap.{insert_entry}
 use Rattle.gimli_core_abbrev.specs.declared.abbreviation.Abbreviation.{Abbreviation}
 use Rattle.gimli_core_abbrev.specs.Declarations.{put, declaration_at}
-use Rattle.gimli_core_abbrev.specs.Kept.{kept, IsKept}
+use Rattle.gimli_core_abbrev.specs.Kept.{kept}
 use Rattle.gimli_core_abbrev.specs.Seen.{seen, seen_entry}
 use Rattle.gimli_core_abbrev.proofs.Keeping.{push_kept, insert_kept}
 use Rattle.gimli_core_abbrev.proofs.table.Abbreviations.put.Goals as goal

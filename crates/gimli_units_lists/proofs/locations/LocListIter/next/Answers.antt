@@ -1,12 +1,13 @@
 -- Each entry that is passed over leaves what is to come as it was.
-use Rattle.std.proofs.Common.{◌≡◌, Option, option_map, Result, Ok, Err, Some, None, sym, ◌∙◌, ap, rules}
+use Rattle.std.proofs.Common.{Option, option_map, Result, Ok, Err, Some, None, refl, sym, ◌∙◌, ap, rules}
 use Rattle.gimli_core_base.specs.declared.error.Error.{Error}
 use Rattle.gimli_core_base.specs.View.{View}
 use Rattle.gimli_units_lists.specs.declared.locations.LocationListEntry.{LocationListEntry}
 use Rattle.gimli_units_lists.specs.LocationEntries.{Location}
 use Rattle.gimli_units_lists.specs.Seen.{raw_location, location}
-use Rattle.gimli_units_lists.proofs.Exits.{refused_takes, taken_some}
+use Rattle.gimli_units_lists.proofs.Exits.{refused_takes, refused_location, taken_some}
 use Rattle.gimli_units_lists.proofs.LocationSteps.{location_step, location_fault, location_kept}
+use Rattle.gimli_units_lists.proofs.ProgressLemmas.{passes_none, location_passes, location_stops, location_stops_at_fault, locations_passed_all}
 use Rattle.gimli_units_lists.proofs.locations.LocListIter.next.Goals as goal
 
 abbrev refusal : {A : Type 0} → Error → Result A Error
@@ -41,4 +42,26 @@ loop-entry-preserved g c =
       search rules,
       search rules,
       search rules,
+      location_passes g.R.Offset.ReaderOffset.limit c.args.self.now c.loop-entry.self c.next_raw.new.self c.convert_raw.new.self (raw_location g.R.Reader.view g.R.Offset.ReaderOffset.count c.in-Some.entry) c.loop-entry.invariant.4 c.loop-entry.invariant.3 entry c.in_ok-entry.ensures.against (c.in_ok-location.ensures.value ∙ ap (answer g.R.Reader.view) c.in_default-2.is) c.in_ok-location.ensures.raw c.in_ok-location.ensures.base,
     )
+
+pub loop-entry-init : goal.loop-entry-init
+loop-entry-init g c = (refl, refl, refl, refl, passes_none _ _ _ _)
+
+pub returns-in_err-entry-clause-taken : goal.returns-in_err-entry-clause-taken
+returns-in_err-entry-clause-taken g c =
+    refused_location _ g.R.Offset.ReaderOffset.limit c.from_residual.result c.args.self.now c.next_raw.new.self _ c.from_residual.ensures.1
+    (λ ne. location_stops_at_fault g.R.Offset.ReaderOffset.limit c.args.self.now c.loop-entry.self c.next_raw.new.self c.in_err-entry.field-0.0 c.loop-entry.invariant.4 (c.in_err-entry.ensures.next.0 ne) c.in_err-entry.ensures.against)
+    (λ is. locations_passed_all g.R.Offset.ReaderOffset.limit c.args.self.now c.loop-entry.self c.next_raw.new.self c.loop-entry.invariant.4 (sym (c.in_err-entry.ensures.next.1 is)) c.in_err-entry.ensures.against)
+
+pub returns-in_err-location-clause-taken : goal.returns-in_err-location-clause-taken
+returns-in_err-location-clause-taken g c =
+    let entry = taken_some (raw_location g.R.Reader.view g.R.Offset.ReaderOffset.count) c.in_ok-entry.field-0 c.in-Some.entry _ _ c.in-Some.is c.in_ok-entry.ensures.next in
+    refused_location _ g.R.Offset.ReaderOffset.limit c.from_residual-in_err-location.result c.args.self.now c.convert_raw.new.self _ c.from_residual-in_err-location.ensures.1
+    (λ ne. location_stops g.R.Offset.ReaderOffset.limit c.args.self.now c.loop-entry.self c.next_raw.new.self c.convert_raw.new.self (raw_location g.R.Reader.view g.R.Offset.ReaderOffset.count c.in-Some.entry) (Err c.in_err-location.field-0.0) (Err c.in_err-location.field-0.0) refl c.loop-entry.invariant.4 c.loop-entry.invariant.3 entry c.in_ok-entry.ensures.against c.in_err-location.ensures.value c.in_err-location.ensures.raw c.in_err-location.ensures.base)
+    (λ is. absurd (c.in_err-location.ensures.free (ap (λ (e : Error). refusal e) is)))
+
+pub returns-in-Some-2-clause-taken : goal.returns-in-Some-2-clause-taken
+returns-in-Some-2-clause-taken g c =
+    let entry = taken_some (raw_location g.R.Reader.view g.R.Offset.ReaderOffset.count) c.in_ok-entry.field-0 c.in-Some.entry _ _ c.in-Some.is c.in_ok-entry.ensures.next in
+    location_stops g.R.Offset.ReaderOffset.limit c.args.self.now c.loop-entry.self c.next_raw.new.self c.convert_raw.new.self (raw_location g.R.Reader.view g.R.Offset.ReaderOffset.count c.in-Some.entry) (Ok (Some (location g.R.Reader.view c.in-Some-2.location))) (Ok (location g.R.Reader.view c.in-Some-2.location)) refl c.loop-entry.invariant.4 c.loop-entry.invariant.3 entry c.in_ok-entry.ensures.against (c.in_ok-location.ensures.value ∙ ap (answer g.R.Reader.view) c.in-Some-2.is) c.in_ok-location.ensures.raw c.in_ok-location.ensures.base

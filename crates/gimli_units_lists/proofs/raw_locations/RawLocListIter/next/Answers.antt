@@ -1,8 +1,7 @@
 -- Each answer is what was to come.
-use Rattle.std.proofs.Common.{rules, refl}
-use Rattle.gimli_units_lists.specs.LocationEntries.{RawLocationsLeft}
+use Rattle.std.proofs.Common.{rules}
 use Rattle.gimli_units_lists.specs.Seen.{raw_location}
-use Rattle.gimli_units_lists.proofs.RawLocations.{SameList, raw_none, raw_item, raw_end, raw_fault}
+use Rattle.gimli_units_lists.proofs.RawLocations.{raw_none, raw_item, raw_end, raw_fault}
 use Rattle.gimli_units_lists.proofs.raw_locations.RawLocListIter.next.Goals as goal
 
 pub returns-then-is_empty-clause-next : goal.returns-then-is_empty-clause-next

@@ -1,8 +1,9 @@
 -- Each answer is what was to come.
-use Rattle.std.proofs.Common.{rules, refl}
-use Rattle.gimli_units_lists.specs.RangeEntries.{RawRangesLeft}
+use Rattle.std.proofs.Common.{rules}
 use Rattle.gimli_units_lists.specs.Seen.{raw_entry}
 use Rattle.gimli_units_lists.proofs.RawRanges.{raw_none, raw_item, raw_end, raw_fault}
+use Rattle.gimli_units_lists.proofs.Free.{free_refusal}
+use Rattle.gimli_units_lists.proofs.FreeEntries.{free-range_entry}
 use Rattle.gimli_units_lists.proofs.raw_ranges.RawRngListIter.next.Goals as goal
 
 pub returns-then-is_empty-clause-next : goal.returns-then-is_empty-clause-next
@@ -26,3 +27,6 @@ returns-in-Err-clause-next g c =
     raw_fault g.R.Offset.ReaderOffset.limit c.args.self.now
     (record { encoding = c.self.inside.encoding; left = g.R.Reader.view c.empty-in-Err.new.self })
     c.in-Err.fault (search rules) (search rules) (search rules) (search rules)
+
+pub returns-in-Err-clause-free : goal.returns-in-Err-clause-free
+returns-in-Err-clause-free g c = free_refusal c.in-Err.fault _ c.in-Err.ensures (free-range_entry _ _ _)

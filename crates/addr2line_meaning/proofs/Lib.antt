@@ -1,0 +1,5 @@
+pub mod Apart
+pub mod Folded
+pub mod Ordered
+pub mod Rows
+mod Worked

@@ -1,0 +1,4 @@
+pub mod Contexts
+pub mod FileTexts
+pub mod UnitLines
+pub mod UnitRanges

@@ -1,0 +1,5 @@
+use Rattle.gimli_core_abbrev.proofs.Followed.{answers_stay}
+use Rattle.gimli_core_abbrev.proofs.laws.answers_stay.Goals as goal
+
+pub returns : goal.returns
+returns c = answers_stay

@@ -1,0 +1,4 @@
+pub mod Bases
+pub mod Caches
+pub mod Roots
+pub mod Loading

@@ -1,0 +1,4 @@
+pub mod Attributes
+pub mod Sections
+pub mod Splitting
+pub mod UnitFacts

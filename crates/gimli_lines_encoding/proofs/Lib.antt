@@ -1,0 +1,11 @@
+pub mod Steps
+pub mod Moves
+pub mod Programs
+pub mod MoveBytes
+pub mod Written
+pub mod RowTests
+pub mod Again
+pub mod Decoded
+pub mod Pushed
+pub mod ReadBack
+pub mod Few

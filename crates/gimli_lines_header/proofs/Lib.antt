@@ -1,0 +1,7 @@
+pub mod Numbers
+pub mod Loops
+pub mod Takes
+pub mod Chains
+pub mod Fields
+pub mod Rooms
+pub mod Places

@@ -1,0 +1,5 @@
+use Rattle.gimli_lines_header.proofs.Places.{lengths_place}
+use Rattle.gimli_lines_header.proofs.laws.lengths_place.Goals as goal
+
+pub returns : goal.returns
+returns c = lengths_place

@@ -1,0 +1,71 @@
+-- The tables of directories and files in a header (DWARF 5, 6.2.4; up to version 4: DWARF 4, 6.2.4).
+use Rattle.std.specs.Prelude.{ℕ, ◌==◌, nat_le, List, [], Option, Some, None}
+use Rattle.gimli_core_base.specs.View.{View, bytes_left}
+use Rattle.gimli_core_base.specs.Parsers.{Parser, ◌>>=◌, give, branch, null_terminated}
+use Rattle.gimli_core_base.specs.Repetition.{all_of, times}
+use Rattle.gimli_core_constants.specs.declared.common.Encoding.{Encoding}
+use Rattle.gimli_core_numbers.specs.Numbers.{unsigned}
+use Rattle.gimli_units_forms.specs.Values.{RawValue, string}
+use Rattle.gimli_lines_header.specs.declared.formats.FileEntryFormat.{FileEntryFormat}
+use Rattle.gimli_lines_header.specs.Files.{FileFacts, file_in}
+use Rattle.gimli_lines_header.specs.Entries.{entry_formats, directory_entry, file_entry}
+
+-- ---- up to version 4: texts, up to an empty one
+
+-- a directory, or none at the empty text
+unfoldable pub directory_text : Parser (Option RawValue)
+directory_text = do
+  text ← null_terminated
+  branch (bytes_left text == 0) (give None) (give (Some (string text)))
+
+-- what stands behind the path of a file: the number of its directory, the time of its last modification, its size
+unfoldable pub file_behind : View → Parser FileFacts
+file_behind path = do
+  directory_index ← unsigned
+  timestamp ← unsigned
+  size ← unsigned
+  give (file_in path directory_index timestamp size)
+
+-- a file, or none at the empty path
+unfoldable pub file_text : Parser (Option FileFacts)
+file_text = do
+  path ← null_terminated
+  branch (bytes_left path == 0) (give None) (file_behind path >>= λ file. give (Some file))
+
+unfoldable pub directory_texts : Parser (List RawValue)
+directory_texts = all_of bytes_left directory_text
+
+unfoldable pub file_texts : Parser (List FileFacts)
+file_texts = all_of bytes_left file_text
+
+-- ---- in version 5: formats, and as many entries as a number says
+
+unfoldable pub directory_entries : ℕ → Encoding → List FileEntryFormat → Parser (List RawValue)
+directory_entries limit e formats = do
+  count ← unsigned
+  times count (directory_entry limit e formats)
+
+unfoldable pub file_entries : ℕ → Encoding → List FileEntryFormat → Parser (List FileFacts)
+file_entries limit e formats = do
+  count ← unsigned
+  times count (file_entry limit e formats)
+
+-- ---- in every version: the formats, none up to version 4, and what they describe
+
+unfoldable pub directories_of_5 : ℕ → Encoding → Parser (List FileEntryFormat × List RawValue)
+directories_of_5 limit e = do
+  formats ← entry_formats
+  directories ← directory_entries limit e formats
+  give (formats, directories)
+
+unfoldable pub directories : ℕ → Encoding → Parser (List FileEntryFormat × List RawValue)
+directories limit e = branch (nat_le e.version 4) (directory_texts >>= λ texts. give ([], texts)) (directories_of_5 limit e)
+
+unfoldable pub files_of_5 : ℕ → Encoding → Parser (List FileEntryFormat × List FileFacts)
+files_of_5 limit e = do
+  formats ← entry_formats
+  files ← file_entries limit e formats
+  give (formats, files)
+
+unfoldable pub files : ℕ → Encoding → Parser (List FileEntryFormat × List FileFacts)
+files limit e = branch (nat_le e.version 4) (file_texts >>= λ texts. give ([], texts)) (files_of_5 limit e)

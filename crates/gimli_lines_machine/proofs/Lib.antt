@@ -1,0 +1,4 @@
+pub mod Worked
+pub mod Kept
+pub mod KeptNumbers
+pub mod KeptInstructions

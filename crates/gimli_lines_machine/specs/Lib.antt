@@ -1,0 +1,4 @@
+pub mod Instructions
+pub mod Machine
+pub mod Runs
+pub mod Decoding

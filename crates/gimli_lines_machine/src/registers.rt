@@ -1,0 +1,172 @@
+//! The registers, and what the operations of instructions make of them.
+
+ghost use Rattle.std.specs.Prelude.{◌≡◌, ◌+◌, ◌≤◌, IsTrue};
+ghost use Rattle.gimli_core_base.specs.Calls.{Answers};
+ghost use Rattle.gimli_core_numbers.specs.Numbers.{is_address_size};
+ghost use Rattle.gimli_lines_machine.specs.Machine.{start, line_moved, line_advance, operation_advance, address_within, advanced, advanced_by, addressed, cleared, with_line, Becomes, IsSound};
+
+use crate::rules::LineRules;
+use gimli_core_base::error::Error;
+use gimli_units_base::{greatest_address, least_tombstone};
+
+/// The registers of the state machine (DWARF 5, 6.2.2).
+#[derive(Clone, Copy, Debug, PartialEq, Eq, Hash)]
+pub struct Registers {
+    pub address: u64,
+    /// The operation within the instruction at the address.
+    pub op_index: u64,
+    pub file: u64,
+    /// From 1 on; 0 for an address of no line.
+    pub line: u64,
+    /// From 1 on; 0 for the left edge.
+    pub column: u64,
+    pub is_stmt: bool,
+    pub basic_block: bool,
+    pub end_sequence: bool,
+    pub prologue_end: bool,
+    pub epilogue_begin: bool,
+    pub isa: u64,
+    pub discriminator: u64,
+    /// Rows aren't shown: the last address that was set stands for none.
+    pub is_hidden: bool,
+}
+
+impl Registers {
+    /// The registers at the start of a sequence (DWARF 5, table 6.4).
+    pub fn start(rules: LineRules) -> Self
+        ensures { result ≡ start rules }
+    {
+        Registers {
+            address: 0,
+            op_index: 0,
+            file: 1,
+            line: 1,
+            column: 0,
+            is_stmt: rules.line_encoding.default_is_stmt,
+            basic_block: false,
+            end_sequence: false,
+            prologue_end: false,
+            epilogue_begin: false,
+            isa: 0,
+            discriminator: 0,
+            is_hidden: false,
+        }
+    }
+
+    /// Moves the line: past 64 bits it wraps, and there is none below 0.
+    pub fn advance_line(&mut self, lines: i64)
+        ensures { self.new ≡ with_line (line_moved self.old.line lines) self.old }
+    {
+        self.line = moved(self.line, lines);
+    }
+
+    /// Moves the address and the operation by so many operations (DWARF 5, 6.2.5.1). Refused, nothing changes.
+    pub fn advance_operations(&mut self, rules: LineRules, operations: u64) -> Result<(), Error>
+        requires { IsSound rules }
+        ensures { Becomes result self.old self.new (advanced rules operations self.old) }
+    {
+        if self.is_hidden {
+            return Ok(());
+        }
+        let operations = self.op_index.wrapping_add(operations);
+        let maximum = u64::from(rules.line_encoding.maximum_operations_per_instruction);
+        let length = u64::from(rules.line_encoding.minimum_instruction_length);
+        let advance = length.wrapping_mul(operations / maximum);
+        self.address = sum_within(self.address, advance, rules.encoding.address_size)?;
+        self.op_index = operations % maximum;
+        Ok(())
+    }
+
+    /// Moves the address by so many bytes. Refused, nothing changes.
+    pub fn advance_bytes(&mut self, rules: LineRules, bytes: u16) -> Result<(), Error>
+        requires { IsSound rules }
+        ensures { Becomes result self.old self.new (advanced_by rules bytes self.old) }
+    {
+        if self.is_hidden {
+            return Ok(());
+        }
+        self.address = sum_within(self.address, u64::from(bytes), rules.encoding.address_size)?;
+        self.op_index = 0;
+        Ok(())
+    }
+
+    /// Moves the address by the operations of a special opcode.
+    pub fn advance_as(&mut self, rules: LineRules, opcode: u8) -> Result<(), Error>
+        requires { IsSound rules }
+        ensures { Becomes result self.old self.new (advanced rules (operation_advance rules opcode) self.old) }
+    {
+        let adjusted = opcode.saturating_sub(rules.opcode_base);
+        self.advance_operations(rules, u64::from(adjusted / rules.line_encoding.line_range))
+    }
+
+    /// Moves the line and the address as a special opcode says (DWARF 5, 6.2.5.1): those below the first one do as it
+    /// does. Refused, nothing changes.
+    pub fn advance_both(&mut self, rules: LineRules, opcode: u8) -> Result<(), Error>
+        requires { IsSound rules }
+        ensures { Becomes result self.old self.new (advanced rules (operation_advance rules opcode) (with_line (line_moved self.old.line (line_advance rules opcode)) self.old)) }
+    {
+        self.advance_as(rules, opcode)?;
+        self.advance_line(lines_of(rules, opcode));
+        Ok(())
+    }
+
+    /// Sets the address, or hides the rows up to the next one: those of an address that goes back or stands for none.
+    pub fn set_address(&mut self, rules: LineRules, address: u64)
+        requires { IsSound rules }
+        ensures { self.new ≡ addressed rules address self.old }
+    {
+        if address < self.address || least_tombstone(rules.encoding.address_size) <= address {
+            self.is_hidden = true;
+        } else {
+            self.address = address;
+            self.op_index = 0;
+            self.is_hidden = false;
+        }
+    }
+
+    /// Clears what holds for one row alone; behind the end of a sequence all is as at its start.
+    pub fn clear(&mut self, rules: LineRules)
+        ensures { self.new ≡ cleared rules self.old }
+    {
+        if self.end_sequence {
+            *self = Registers::start(rules);
+        } else {
+            self.basic_block = false;
+            self.prologue_end = false;
+            self.epilogue_begin = false;
+            self.discriminator = 0;
+        }
+    }
+}
+
+// A line, moved.
+fn moved(line: u64, lines: i64) -> u64
+    ensures { result ≡ line_moved line lines }
+{
+    if lines < 0 {
+        line.saturating_sub(lines.unsigned_abs())
+    } else {
+        line.wrapping_add(lines.unsigned_abs())
+    }
+}
+
+// How many lines a special opcode stands for.
+fn lines_of(rules: LineRules, opcode: u8) -> i64
+    requires { IsSound rules }
+    ensures { result ≡ line_advance rules opcode }
+{
+    let adjusted = opcode.saturating_sub(rules.opcode_base);
+    let lines = adjusted % rules.line_encoding.line_range;
+    i64::from(rules.line_encoding.line_base) + i64::from(lines)
+}
+
+// The sum of an address and an advance, where it is an address of the size.
+fn sum_within(address: u64, advance: u64, address_size: u8) -> Result<u64, Error>
+    requires { IsTrue (is_address_size address_size) }
+    ensures { Answers (λ a. a) result (address_within address_size (address + advance)) }
+{
+    match address.checked_add(advance) {
+        Some(sum) if sum <= greatest_address(address_size) => Ok(sum),
+        _ => Err(Error::AddressOverflow),
+    }
+}

@@ -1,0 +1,11 @@
+use Rattle.std.proofs.Common.{[]}
+use Rattle.gimli_core_base.specs.View.{bytes_left}
+use Rattle.gimli_lines_rows.specs.Rows.{Path}
+use Rattle.gimli_lines_rows.proofs.rows.LineRows.advance.Given as goal
+
+-- no row was shown on the way so far
+abbrev pub invariant-loop-is_shown : goal.invariant-loop-is_shown
+invariant-loop-is_shown g l = Path g.R.Offset.ReaderOffset.limit l.fn.self [] l.self
+
+abbrev pub decreases-loop-is_shown : goal.decreases-loop-is_shown
+decreases-loop-is_shown g l = bytes_left l.self.left

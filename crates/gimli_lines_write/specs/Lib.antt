@@ -1,0 +1,3 @@
+pub mod Headers
+pub mod Seen
+pub mod Units

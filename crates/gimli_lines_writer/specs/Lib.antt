@@ -1,0 +1,3 @@
+pub mod ErrorText
+pub mod Written
+pub mod Numbers

@@ -1,0 +1,52 @@
+-- The bytes that are written of numbers, addresses and lengths (DWARF 5, 7.1, 7.3 and 7.4).
+use Rattle.std.specs.Prelude.{ℕ, ℤ, pos, negsuc, ◌+◌, ◌-◌, ◌*◌, ◌^◌, nat_lt, Bool, List, [], ◌∷◌, Result, Ok, Err, if◌then◌else◌}
+use Rattle.gimli_core_constants.specs.declared.common.Format.{Format}
+use Rattle.gimli_core_constants.specs.declared.common.Format.TheVariants.{Dwarf32, Dwarf64}
+use Rattle.gimli_core_numbers.specs.Fixed.{spelled}
+use Rattle.gimli_core_numbers.specs.Numbers.{is_address_size}
+use Rattle.gimli_lines_writer.specs.declared.error.Error.{Error}
+use Rattle.gimli_lines_writer.specs.declared.error.Error.TheVariants.{ValueTooLarge, UnsupportedWordSize, InitialLengthOverflow, InvalidAddress}
+use Rattle.gimli_lines_writer.specs.declared.address.Address.{Address}
+use Rattle.gimli_lines_writer.specs.declared.address.Address.TheVariants.{Constant, Symbol}
+
+-- a number in so many bytes, where they are 1, 2, 4 or 8 and hold it
+abbrev pub sized : Bool → ℕ → ℕ → Result (List ℕ) Error
+sized is_big size n =
+    if is_address_size size then (if nat_lt n (256 ^ size) then Ok (spelled is_big size n) else Err ValueTooLarge)
+    else Err UnsupportedWordSize
+
+-- half of what so many bytes can spell is above any number of this size, below 0 too
+abbrev pub fits_signed : ℕ → ℤ → Bool
+fits_signed size (pos n) = nat_lt (2 * n) (256 ^ size)
+fits_signed size (negsuc n) = nat_lt (2 * n) (256 ^ size)
+
+-- two's complement: below 0 a number is spelled as what it lacks to 256 ^ size
+abbrev pub complement : ℕ → ℤ → ℕ
+complement size (pos n) = n
+complement size (negsuc n) = 256 ^ size - (n + 1)
+
+-- a signed number in so many bytes, where they are 1, 2, 4 or 8 and hold it
+abbrev pub signed_sized : Bool → ℕ → ℤ → Result (List ℕ) Error
+signed_sized is_big size z =
+    if is_address_size size then (if fits_signed size z then Ok (spelled is_big size (complement size z)) else Err ValueTooLarge)
+    else Err UnsupportedWordSize
+
+-- the number of an address, where it is known now
+abbrev pub constant_of : Address → Result ℕ Error
+constant_of (Constant n) = Ok n
+constant_of (Symbol _ _) = Err InvalidAddress
+
+-- the bytes of an address that is written as a number
+abbrev pub address_bytes : Bool → ℕ → Result ℕ Error → Result (List ℕ) Error
+address_bytes is_big size (Ok n) = sized is_big size n
+address_bytes is_big size (Err e) = Err e
+
+-- the bytes in front of a length: the escape of 64-bit DWARF
+abbrev pub escape : Format → List ℕ
+escape Dwarf32 = []
+escape Dwarf64 = 255 ∷ 255 ∷ 255 ∷ 255 ∷ []
+
+-- the bytes of a length: those from 0xfffffff0 on are reserved in 32-bit DWARF
+abbrev pub length_bytes : Bool → Format → ℕ → Result (List ℕ) Error
+length_bytes is_big Dwarf32 n = if nat_lt n 0xfffffff0 then Ok (spelled is_big 4 n) else Err InitialLengthOverflow
+length_bytes is_big Dwarf64 n = sized is_big 8 n

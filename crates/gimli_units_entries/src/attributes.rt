@@ -1,0 +1,50 @@
+//! The attributes of an entry, read one after the other.
+
+ghost use Rattle.std.specs.Prelude.{◌≡◌, [], map, OnErr};
+ghost use Rattle.gimli_core_base.specs.Calls.{Gives};
+ghost use Rattle.gimli_core_abbrev.specs.Seen.{seen_attribute};
+ghost use Rattle.gimli_units_forms.specs.Reading.{attributes};
+ghost use Rattle.gimli_units_entries.specs.Seen.{raw_attributes};
+
+use gimli_core_abbrev::AttributeSpecification;
+use gimli_core_base::error::Error;
+use gimli_core_constants::Encoding;
+use gimli_core_readers::Reader;
+use gimli_units_forms::{Attribute, push_attribute};
+
+/// Reads the attributes that declarations describe in place of those of a list. Where it is refused it leaves what it
+/// read so far, and a reader that may have moved.
+fn fill<R: Reader>(
+    attrs: &mut Vec<Attribute<R>>,
+    input: &mut R,
+    encoding: Encoding,
+    specifications: &[AttributeSpecification],
+) -> Result<(), Error>
+    ensures { Gives (λ _. (raw_attributes R.view R.Offset.count attrs.new.items, R.view input.new)) result
+        (attributes R.Offset.limit encoding (map seen_attribute specifications.now) (R.view input.old)) }
+{
+    attrs.clear();
+    for specification in specifications {
+        push_attribute(attrs, input, encoding, *specification)?;
+    }
+    Ok(())
+}
+
+/// Reads the attributes that declarations describe in place of those of a list, whose room it takes. Where it is refused
+/// it leaves an empty list, and a reader that may have moved.
+pub(crate) fn read_each<R: Reader>(
+    attrs: &mut Vec<Attribute<R>>,
+    input: &mut R,
+    encoding: Encoding,
+    specifications: &[AttributeSpecification],
+) -> Result<(), Error>
+    ensures value { Gives (λ _. (raw_attributes R.view R.Offset.count attrs.new.items, R.view input.new)) result
+        (attributes R.Offset.limit encoding (map seen_attribute specifications.now) (R.view input.old)) }
+    ensures refused { OnErr result (attrs.new.items ≡ []) }
+{
+    let read = fill(attrs, input, encoding, specifications);
+    if read.is_err() {
+        attrs.clear();
+    }
+    read
+}

@@ -1,0 +1,4 @@
+pub mod Sequences
+pub mod Below
+pub mod Places
+pub mod Units

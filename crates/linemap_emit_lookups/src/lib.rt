@@ -1,0 +1,4 @@
+//! Lookups over debug information that says what a table says.
+#![tactic(auto)]
+
+pub mod laws;

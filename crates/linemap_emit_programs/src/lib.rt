@@ -1,0 +1,7 @@
+//! Line number programs that say what a table's unit says.
+#![tactic(auto)]
+
+pub mod header;
+pub mod laws;
+
+pub use header::write_program;
