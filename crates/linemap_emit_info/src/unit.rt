@@ -15,7 +15,11 @@ use gimli_lines_writer::{EndianVec, Error, Writer};
 use std::alloc::Global;
 
 /// Writes a length, behind the escape of 64-bit DWARF (DWARF 5, 7.4). Refused only where no memory is found.
-pub fn write_length(w: &mut EndianVec<RunTimeEndian>, format: Format, length: u64) -> Result<(), Error>
+pub fn write_length(
+    w: &mut EndianVec<RunTimeEndian>,
+    format: Format,
+    length: u64,
+) -> Result<(), Error>
     requires { length < length_limit format }
     ensures { Appends result w.old w.new (spelled_length format w.old.is_big length) }
 {
