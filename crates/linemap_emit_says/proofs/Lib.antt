@@ -1,0 +1,5 @@
+pub mod Growing
+pub mod Texts
+pub mod Lists
+pub mod Programs
+pub mod Units
