@@ -204,8 +204,8 @@ impl<R: Reader> Unit<R> {
         root.attr_value(name)
     }
 
-    /// The first entry.
-    fn root(&self, alloc: Global) -> Result<DebuggingInformationEntry<R>, Error>
+    /// The unit's root: its first entry, with its attributes. Refused is one that is missing, null or can't be read.
+    pub fn root(&self, alloc: Global) -> Result<DebuggingInformationEntry<R>, Error>
         ensures { Gives (entry_of R.view R.Offset.count) result (root R.Offset.limit self.now.header self.now.table) }
     {
         root_entry(alloc, &self.header, &self.abbreviations)

@@ -1,6 +1,7 @@
 //! The headers of line number programs (DWARF 5, 6.2.4), versions 2 to 5.
 #![tactic(auto)]
 
+mod copies;
 mod entries;
 pub mod file;
 pub mod formats;

@@ -201,3 +201,18 @@ fn each_fault_is_told(rt: HostRuntime) -> Result<(), Fail> {
     }
     Ok(())
 }
+
+#[test]
+fn a_copy_has_files_of_its_own(rt: HostRuntime) -> Result<(), Fail> {
+    let header = header_of_5(rt.alloc())?;
+    let mut copy = header.copy()?;
+    let file = header.file(0).ok_or("no file 0")?;
+    copy.add_file(file.copy()?)?;
+    assert!(rt; header.file(1).is_none());
+    let file = copy.file(1).ok_or("no file 1")?;
+    assert!(rt; is_text(file.path_name(), b"a.c"));
+    assert!(rt; file.source().is_some_and(|source| is_text(source, b"int")));
+    assert_eq!(rt; copy.raw_program_buf()?.as_bytes(), [1].as_slice());
+    assert!(rt; copy.file_has_md5() && copy.directory(1).is_some());
+    Ok(())
+}

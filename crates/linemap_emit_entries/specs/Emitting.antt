@@ -80,6 +80,10 @@ with_root line_program u st =
 abbrev pub with_unit : ℕ → UnitPart → Emitting → Emitting
 with_unit line_program u st = with_entry EndOfChildren (with_functions u.functions (with_root line_program u st))
 
+-- no unit at hand
+abbrev pub without_entries : Emitting → Emitting
+without_entries st = record st { entries = [] }
+
 -- ---- what can be emitted
 
 -- texts without a zero byte, and ranges that can be written in an address size

@@ -1,12 +1,13 @@
 //! Entries as they are emitted.
 
 ghost use Rattle.std.specs.Prelude.{◌≡◌, ◌<◌, ◌+◌, ◌^◌, [], All, ◌≢◌, map, string_bytes, OnOk, IfOk, IfErr, true};
-ghost use Rattle.gimli_lines_tables.specs.Texts.{IsText};
+ghost use Rattle.gimli_lines_tables.specs.Texts.{IsText, section_of};
 ghost use Rattle.gimli_lines_writer.specs.declared.error.Error.TheVariants.{Memory};
 ghost use Rattle.linemap_meaning.specs.Views.{range_part, call_part, calls_part, function_part, unit_part};
 ghost use Rattle.gimli_core_numbers.specs.Numbers.{is_address_size};
+ghost use Rattle.linemap_emit_info.specs.Written.{Appends};
 ghost use Rattle.linemap_emit_ranges.specs.Ranges.{AllWritable};
-ghost use Rattle.linemap_emit_entries.specs.Emitting.{range_written, text_offset, with_name, with_list, list_offset, with_entry, has_calls, closed, with_head, with_call, CanEmit, CanEmitCalls, CanEmitFunctions, CanEmitUnit, with_calls, with_function, with_functions, with_root, with_unit};
+ghost use Rattle.linemap_emit_entries.specs.Emitting.{range_written, text_offset, with_name, with_list, list_offset, with_entry, has_calls, closed, with_head, with_call, CanEmit, CanEmitCalls, CanEmitFunctions, CanEmitUnit, with_calls, with_function, with_functions, with_root, with_unit, without_entries};
 
 use gimli_core_constants::Encoding;
 use gimli_core_numbers::RunTimeEndian;
@@ -195,6 +196,34 @@ impl Emitter {
         self.root(alloc, unit, line_program)?;
         self.functions(alloc, &unit.functions)?;
         self.entry(Entry::EndOfChildren)
+    }
+
+    /// The entries of the unit at hand, lent.
+    pub fn entries(&self) -> &[Entry]
+        ensures { result.now ≡ self.now.entries }
+    {
+        self.entries.as_slice()
+    }
+
+    /// Leaves the unit at hand: its entries are forgotten, and their room serves the next ones. It takes no memory.
+    pub fn clear_entries(&mut self)
+        ensures { self.new ≡ without_entries self.old }
+    {
+        self.entries.clear();
+    }
+
+    /// Writes the texts of all units, as the string section holds them. Refused only where no memory is found.
+    pub fn write_strings(&self, w: &mut EndianVec<RunTimeEndian>) -> Result<(), Error>
+        ensures { Appends result w.old w.new (section_of self.now.texts) }
+    {
+        self.strings.write(w)
+    }
+
+    /// The range lists of all units. All else is let go.
+    pub fn into_ranges(self) -> EndianVec<RunTimeEndian>
+        ensures { result ≡ self.ranges }
+    {
+        self.ranges
     }
 }
 

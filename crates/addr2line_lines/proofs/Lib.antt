@@ -1,0 +1,5 @@
+pub mod Headers
+pub mod Lines
+pub mod Programs
+pub mod Pushed
+pub mod Texts

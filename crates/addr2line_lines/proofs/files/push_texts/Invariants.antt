@@ -1,0 +1,11 @@
+use Rattle.std.proofs.Common.{◌≡◌, map, drop}
+use Rattle.std.specs.String.{string_bytes}
+use Rattle.addr2line_sections.specs.FileTexts.{each, text_of_file}
+use Rattle.addr2line_lines.proofs.Texts.{behind}
+use Rattle.addr2line_lines.proofs.files.push_texts.Given as goal
+
+-- the texts so far, and behind them those of the files that are left, are all
+abbrev pub invariant-loop-file : goal.invariant-loop-file
+invariant-loop-file g l =
+    let text = text_of_file g.R.Offset.ReaderOffset.limit l.unit.dwarf.now l.unit.unit.now l.header in
+    behind (map string_bytes l.texts.items) (each text (drop l.file-index l.files)) ≡ behind (map string_bytes l.fn.texts.items) (each text l.files)

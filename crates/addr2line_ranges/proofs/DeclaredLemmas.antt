@@ -1,0 +1,44 @@
+-- What a root's facts declare, from the last of each kind.
+use Rattle.std.proofs.Common.{◌≡◌, ℕ, List, Option, Some, None, Result, Ok, Err, refl, ap, ◌∙◌}
+use Rattle.gimli_core_base.specs.declared.error.Error.{Error}
+use Rattle.gimli_units_base.specs.declared.range.Range.{Range}
+use Rattle.gimli_units_forms.specs.Values.{RawAttribute}
+use Rattle.gimli_dwarf_facts.specs.Attributes.{and_then}
+use Rattle.gimli_dwarf_facts.specs.Sections.{Sections}
+use Rattle.gimli_dwarf_facts.specs.UnitFacts.{UnitFacts}
+use Rattle.addr2line_meaning.specs.Lines.{Lines}
+use Rattle.addr2line_sections.specs.FileTexts.{each}
+use Rattle.addr2line_sections.specs.UnitRanges.{RangeFact, fact_of, list_in, last_of, range_of_root, declared_ranges, or_else, ranges_of_lines, ranges_of_attributes}
+use Rattle.addr2line_ranges.specs.Facts.{LastFacts, last_facts, facts_of, ranges_by, declared_by}
+
+-- facts answered, and ranges
+abbrev pub found : LastFacts → Result LastFacts Error
+found last = Ok last
+
+abbrev pub declared : List Range → Result (List Range) Error
+declared rs = Ok rs
+
+module _ (limit : ℕ) (s : Sections) (u : UnitFacts) where
+  by_list : (facts : List RangeFact) (list : Option (Option ℕ)) → declared_ranges limit s u facts list ≡ ranges_by limit s u (range_of_root facts) list
+  by_list facts None = refl
+  by_list facts (Some None) = refl
+  by_list facts (Some (Some offset)) = refl
+
+  by_last : (facts : Result (List RangeFact) Error) (last : LastFacts) → and_then facts (λ fs. Ok (last_facts fs)) ≡ found last
+      → and_then facts (λ fs. declared_ranges limit s u fs (last_of list_in fs)) ≡ declared_by limit s u last
+  by_last (Ok fs) last h = let same : last_facts fs ≡ last = cc in by_list fs (last_of list_in fs) ∙ ap (declared_by limit s u) same
+  by_last (Err e) last h = cc
+
+  and_last : (facts : Result (List RangeFact) Error) (f : List RangeFact → Result (List Range) Error) (k : List Range → Result (List Range) Error)
+      → and_then facts (λ fs. and_then (f fs) k) ≡ and_then (and_then facts f) k
+  and_last (Ok fs) f k = refl
+  and_last (Err e) f k = refl
+
+  -- the ranges of attributes with these last facts, which declare these ranges
+  pub ranges-found : (lines : Result Lines Error) (attributes : List RawAttribute) (last : LastFacts) (rs : List Range) → facts_of limit s u.bases attributes ≡ found last
+      → declared_by limit s u last ≡ declared rs → ranges_of_attributes limit s u lines attributes ≡ declared (or_else rs (ranges_of_lines lines))
+  ranges-found lines attributes last rs h k =
+      let facts : Result (List RangeFact) Error = each (fact_of limit s u.bases) attributes in
+      let ends : List Range → Result (List Range) Error = λ rs. Ok (or_else rs (ranges_of_lines lines)) in
+      and_last facts (λ fs. declared_ranges limit s u fs (last_of list_in fs)) ends
+      ∙ ap (λ r. and_then r ends) (by_last facts last h ∙ k)

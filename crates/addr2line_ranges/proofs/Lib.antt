@@ -1,0 +1,3 @@
+pub mod DeclaredLemmas
+pub mod FactLemmas
+pub mod Last

@@ -1,0 +1,63 @@
+-- What is kept of the facts of a root: the last of each kind.
+use Rattle.std.specs.Prelude.{ℕ, List, Option, Some, None, option_map, Result, Ok}
+use Rattle.std.specs.Option.{option_or}
+use Rattle.gimli_core_base.specs.declared.error.Error.{Error}
+use Rattle.gimli_units_base.specs.declared.range.Range.{Range}
+use Rattle.gimli_units_forms.specs.Values.{RawAttribute}
+use Rattle.gimli_dwarf_facts.specs.Attributes.{Bases, and_then}
+use Rattle.gimli_dwarf_facts.specs.Sections.{Sections}
+use Rattle.gimli_dwarf_facts.specs.UnitFacts.{UnitFacts}
+use Rattle.addr2line_sections.specs.FileTexts.{each}
+use Rattle.addr2line_sections.specs.UnitRanges.{RangeFact, begins_at, ends_at, is_so_long, has_list, says_nothing, begin_in, end_in, size_in, list_in, last_of, fact_of, low_to_high, or_else, ranges_of_aranges}
+use Rattle.addr2line_ranges.specs.Lists.{listed_ranges}
+use Rattle.addr2line_ranges.specs.declared.fact.Fact.{Fact}
+use Rattle.addr2line_ranges.specs.declared.fact.Fact.TheVariants.{BeginsAt, EndsAt, IsSoLong, HasList, SaysNothing}
+
+-- a fact, whose offset is seen by a function
+abbrev pub range_fact : {O : Type 0} → (O → ℕ) → Fact O → RangeFact
+range_fact count (BeginsAt a) = begins_at a
+range_fact count (EndsAt a) = ends_at a
+range_fact count (IsSoLong n) = is_so_long n
+range_fact count (HasList list) = has_list (option_map (λ o. count o.0) list)
+range_fact count SaysNothing = says_nothing
+
+-- the last fact of each kind
+pub record LastFacts : Type 0 where
+  pub begin : Option ℕ
+  pub end : Option ℕ
+  pub size : Option ℕ
+  pub list : Option (Option ℕ)
+
+-- before the first fact
+abbrev pub no_facts : LastFacts
+no_facts = record { begin = None; end = None; size = None; list = None }
+
+-- those behind one more fact
+abbrev pub with_fact : RangeFact → LastFacts → LastFacts
+with_fact f last = record {
+  begin = option_or (begin_in f) last.begin;
+  end = option_or (end_in f) last.end;
+  size = option_or (size_in f) last.size;
+  list = option_or (list_in f) last.list;
+}
+
+-- those of all facts
+abbrev pub last_facts : List RangeFact → LastFacts
+last_facts facts = record { begin = last_of begin_in facts; end = last_of end_in facts; size = last_of size_in facts; list = last_of list_in facts }
+
+-- those of all attributes, or the first refusal
+abbrev pub facts_of : ℕ → Sections → Bases → List RawAttribute → Result LastFacts Error
+facts_of limit s b attributes = and_then (each (fact_of limit s b) attributes) (λ facts. Ok (last_facts facts))
+
+-- what the last of low_pc and high_pc say
+abbrev pub root_range : LastFacts → List Range
+root_range last = low_to_high last.begin last.end last.size
+
+-- by the last list, if there is one; else the address ranges, and where they are none these
+abbrev pub ranges_by : ℕ → Sections → UnitFacts → List Range → Option (Option ℕ) → Result (List Range) Error
+ranges_by limit s u others (Some (Some offset)) = listed_ranges limit s u offset
+ranges_by limit s u others _ = Ok (or_else (ranges_of_aranges limit s u.header.offset) others)
+
+-- what is declared by the last facts of a root
+abbrev pub declared_by : ℕ → Sections → UnitFacts → LastFacts → Result (List Range) Error
+declared_by limit s u last = ranges_by limit s u (root_range last) last.list

@@ -1,0 +1,5 @@
+pub mod Answers
+pub mod Lines
+pub mod Served
+pub mod Steps
+pub mod Units

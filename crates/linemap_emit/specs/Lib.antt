@@ -1,0 +1,5 @@
+pub mod Targets
+pub mod Refusals
+pub mod Sections
+pub mod Steps
+pub mod Answers

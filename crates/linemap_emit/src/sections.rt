@@ -1,0 +1,61 @@
+//! Sections that were emitted.
+
+ghost use Rattle.std.specs.Prelude.{◌≡◌};
+
+use gimli_core_constants::SectionId;
+use std::marker::Model;
+
+/// The bytes of the sections that are emitted, in memory.
+#[derive(Debug, Drop)]
+pub struct Sections {
+    debug_abbrev: Vec<u8>,
+    debug_info: Vec<u8>,
+    debug_line: Vec<u8>,
+    debug_ranges: Vec<u8>,
+    debug_str: Vec<u8>,
+}
+
+impl Model for Sections {
+    ghost use Rattle.linemap_emit.specs.Sections.{SectionBytes};
+
+    ghost Value = { SectionBytes };
+
+    ghost view = { λ s. record { debug_abbrev = s.debug_abbrev.items; debug_info = s.debug_info.items; debug_line = s.debug_line.items; debug_ranges = s.debug_ranges.items; debug_str = s.debug_str.items } };
+}
+
+impl Sections {
+    ghost use Rattle.linemap_emit.specs.Sections.{bytes_of};
+
+    // The sections of these bytes.
+    pub(crate) fn new(
+        debug_abbrev: Vec<u8>,
+        debug_info: Vec<u8>,
+        debug_line: Vec<u8>,
+        debug_ranges: Vec<u8>,
+        debug_str: Vec<u8>,
+    ) -> Self
+        ensures { result ≡ record { debug_abbrev = debug_abbrev.items; debug_info = debug_info.items; debug_line = debug_line.items; debug_ranges = debug_ranges.items; debug_str = debug_str.items } }
+    {
+        Sections {
+            debug_abbrev,
+            debug_info,
+            debug_line,
+            debug_ranges,
+            debug_str,
+        }
+    }
+
+    /// The bytes of a section, lent: none where nothing is emitted into it.
+    pub fn get(&self, id: SectionId) -> &[u8]
+        ensures { result.now ≡ bytes_of id self.now }
+    {
+        match id {
+            SectionId::DebugAbbrev => &self.debug_abbrev,
+            SectionId::DebugInfo => &self.debug_info,
+            SectionId::DebugLine => &self.debug_line,
+            SectionId::DebugRanges => &self.debug_ranges,
+            SectionId::DebugStr => &self.debug_str,
+            _ => &[],
+        }
+    }
+}
