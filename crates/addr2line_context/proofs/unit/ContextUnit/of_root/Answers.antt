@@ -1,0 +1,15 @@
+use Rattle.std.proofs.lemmas.Result.{err_from_is_err_and}
+use Rattle.gimli_units_entries.specs.Seen.{raw_attributes}
+use Rattle.addr2line_context.proofs.Parts.{ranges_refused}
+use Rattle.addr2line_context.proofs.unit.ContextUnit.of_root.Goals as goal
+
+pub returns-in_err-ranges : goal.returns-in_err-ranges
+returns-in_err-ranges g c =
+    let p = err_from_is_err_and c.from_residual.result c.from_residual.ensures.1 in
+    rw (p.1, p.2) (λ m. ranges_refused g.R.Offset.ReaderOffset.limit c.args.dwarf.now c.args.unit c.args.lines
+    (raw_attributes g.R.Reader.view g.R.Offset.ReaderOffset.count c.args.attributes.now) _ (c.in_err-ranges.ensures m))
+
+pub returns-in_err-language : goal.returns-in_err-language
+returns-in_err-language g c =
+    let p = err_from_is_err_and c.from_residual-in_err-language.result c.from_residual-in_err-language.ensures.1 in
+    rw (p.1, p.2) (λ m. cc (c.in_err-language.ensures m))
