@@ -1,9 +1,9 @@
 //! Places looked up in the lines of all units.
 
-ghost use Rattle.std.specs.Prelude.{◌≡◌, ◌<◌, Some, length, slice_get, IfOk, IfSome};
+ghost use Rattle.std.specs.Prelude.{◌≡◌, ◌<◌, Some, length, slice_get, option_map, IfOk, IfSome};
 ghost use Rattle.gimli_core_base.specs.Calls.{Gives};
 ghost use Rattle.addr2line_lookup.specs.Units.{UnitPlaces, ranges_of, location_of, answer_at};
-ghost use Rattle.addr2line_lookup.specs.Found.{place_in_some, place_found, ArePlacing};
+ghost use Rattle.addr2line_lookup.specs.Found.{place_in_some, place_found, placing_unit, ArePlacing};
 
 use crate::found::FoundLines;
 use crate::lines::Lines;
@@ -54,6 +54,7 @@ pub fn find_lines<U: UnitLines>(
     requires { ranges.now ≡ ranges_of (U.units units.now) }
     ensures place { Gives (place_found probe) result (location_of (U.units units.now) probe) }
     ensures found { IfOk result (λ o. IfSome o (λ f. ArePlacing (U.units units.now) probe f.unit f.lines)) }
+    ensures first { IfOk result (λ o. option_map (λ f. f.unit) o ≡ placing_unit (U.units units.now) probe) }
 {
     let mut covering = ranges.covering(probe);
     while let Some(range) = covering.next() {

@@ -48,6 +48,9 @@ doubled = unit (range 0x10 0x30) (row 0x10 1 ∷ row 0x10 2 ∷ row 0x20 3 ∷ e
 last_of_one_address : location doubled 0x10 ≡ Ok (Some (place 2))
 last_of_one_address = refl
 
+last_of_three : location (unit (range 0x10 0x30) (row 0x10 1 ∷ row 0x10 2 ∷ row 0x10 3 ∷ end_row 0x30 ∷ []) ∷ []) 0x10 ≡ Ok (Some (place 3))
+last_of_three = refl
+
 last_row : location doubled 0x2f ≡ Ok (Some (place 3))
 last_row = refl
 
@@ -56,6 +59,16 @@ at_the_end = refl
 
 at_the_last_address : location doubled (2 ^ 64 - 1) ≡ Ok None
 at_the_last_address = refl
+
+-- where the sequence ends before the unit's range does
+abbrev ended_within : List Unit_of
+ended_within = unit (range 0x10 0x40) (row 0x10 1 ∷ end_row 0x30 ∷ []) ∷ []
+
+below_the_end_of_a_sequence : location ended_within 0x2f ≡ Ok (Some (place 1))
+below_the_end_of_a_sequence = refl
+
+at_the_end_of_a_sequence : location ended_within 0x30 ≡ Ok None
+at_the_end_of_a_sequence = refl
 
 both_stretches : between doubled 0x18 0x21 ≡ record { items = stretch 0x10 0x10 2 ∷ stretch 0x20 0x10 3 ∷ []; ending = Ok tt }
 both_stretches = refl
@@ -83,6 +96,16 @@ no_length_going_back = refl
 
 before_the_first_above : location backwards 0x28 ≡ Ok (Some (place 1))
 before_the_first_above = refl
+
+-- below the row that is above all others, and at it and behind it up to the end
+abbrev backwards_within : List Unit_of
+backwards_within = unit (range 0x10 0x200) (row 0x10 1 ∷ row 0x100 2 ∷ row 0x20 3 ∷ end_row 0x200 ∷ []) ∷ []
+
+before_the_row_above : location backwards_within 0xff ≡ Ok (Some (place 1))
+before_the_row_above = refl
+
+behind_all_rows_the_last : location backwards_within 0x100 ≡ Ok (Some (place 3))
+behind_all_rows_the_last = refl
 
 -- ---- sequences
 
@@ -129,6 +152,9 @@ ranges = range 0 50 ∷ range 10 20 ∷ range 10 15 ∷ []
 
 begins_last : holder (λ r. r) 12 ranges ≡ Some (range 10 20)
 begins_last = refl
+
+ends_here : holder (λ r. r) 20 ranges ≡ None
+ends_here = refl
 
 ended_already : holder (λ r. r) 30 ranges ≡ None
 ended_already = refl

@@ -1,3 +1,4 @@
 pub mod Last
+pub mod Loads
 pub mod RootLemmas
 pub mod Parts

@@ -13,3 +13,6 @@ pub use dwarf::Dwarf;
 pub use holders::{DebugMacinfo, DebugMacro, DebugNames, DebugTypes};
 pub use unit::Unit;
 pub use unit_ref::UnitRef;
+
+#[cfg(test)]
+mod tests;

@@ -1,16 +1,19 @@
 //! All sections of a file, from a function that gives them.
 
-ghost use Rattle.std.specs.Prelude.{◌≡◌, Ok, Err, IfOk, IfErr};
-ghost use Rattle.gimli_core_base.specs.View.{View};
-ghost use Rattle.gimli_core_constants.specs.declared.common.SectionId.{SectionId};
-ghost use Rattle.gimli_dwarf.specs.Loading.{loaded};
+ghost use Rattle.std.specs.Prelude.{◌≡◌, ◌⊎◌, IfOk, IfErr, OnOk, OnErr, alloc_error};
+ghost use Rattle.gimli_core_base.specs.declared.error.Error.TheVariants.{Memory};
+ghost use Rattle.gimli_dwarf_facts.specs.Sections.{Sections};
+ghost use Rattle.gimli_dwarf.specs.Loading.{Loads, RefusesToLoad, with_supplement};
 
 use crate::dwarf::Dwarf;
-use gimli_core_abbrev::{AbbreviationsCache, DebugAbbrev};
-use gimli_core_constants::{DwarfFileType, SectionId};
+use gimli_core_abbrev::{AbbreviationsCache, AbbreviationsCacheStrategy, DebugAbbrev};
+use gimli_core_base::error::Error;
+use gimli_core_constants::{DebugAbbrevOffset, DwarfFileType, SectionId};
 use gimli_core_readers::Reader;
+use gimli_units_headers::DebugInfoUnitHeadersIter;
 use gimli_units_lists::{LocationLists, RangeLists};
-use std::alloc::Global;
+use std::alloc::{AllocError, Global};
+use std::rc::Rc;
 
 impl<R: Reader> Dwarf<R> {
     /// The sections that a function gives, each asked for once, as those of a main file without a supplement; or the function's
@@ -18,12 +21,9 @@ impl<R: Reader> Dwarf<R> {
     pub fn load<F, E>(alloc: Global, mut section: F) -> Result<Self, E>
     where
         F: FnMut(SectionId) -> Result<R, E>,
-        requires { (state : F) (id : SectionId) → F.pre state id }
-        // Where what it gives for a section is seen alike whatever was asked before, the sections are these.
-        ensures value { (given : SectionId → View)
-            → ((before after : F) (id : SectionId) (reader : R) → F.step before id (Ok reader) after → R.view reader ≡ given id)
-            → IfOk result (λ dwarf. dwarf ≡ loaded given) }
-        ensures refused { IfErr result (λ e. (before after : F) × (id : SectionId) × F.step before id (Err e) after) }
+        requires { F.IsAlwaysCallable section }
+        ensures loaded { IfOk result (λ dwarf. Loads F.step R.view section dwarf) }
+        ensures refused { IfErr result (λ e. RefusesToLoad F.step R.view section e) }
     {
         let debug_abbrev = section(SectionId::DebugAbbrev)?;
         let debug_addr = section(SectionId::DebugAddr)?;
@@ -60,5 +60,71 @@ impl<R: Reader> Dwarf<R> {
             sup: None,
             abbreviations_cache: AbbreviationsCache::new(alloc),
         })
+    }
+
+    /// Takes the sections that a function gives, as `load` does, for the supplement's, in place of those that were there. It takes
+    /// memory once, for what shares them; where that is refused the error is made of an `AllocError`.
+    pub fn load_sup<F, E>(&mut self, alloc: Global, section: F) -> Result<(), E>
+    where
+        F: FnMut(SectionId) -> Result<R, E>,
+        E: From<AllocError>,
+        requires { F.IsAlwaysCallable section }
+        ensures ok { OnOk result ((supplement : Sections) × Loads F.step R.view section supplement
+            × (self.new ≡ with_supplement supplement self.old)) }
+        ensures unchanged { OnErr result (self.new ≡ self.old) }
+        ensures refused { IfErr result (λ e. RefusesToLoad F.step R.view section e
+            ⊎ ((supplement : Sections) × Loads F.step R.view section supplement × E.from_gives alloc_error e)) }
+    {
+        let supplement = Dwarf::load(alloc, section)?;
+        match Rc::new(alloc, supplement) {
+            Ok(supplement) => {
+                self.sup = Some(supplement);
+                Ok(())
+            }
+            Err(_) => Err(E::from(AllocError)),
+        }
+    }
+
+    /// Keeps the abbreviation tables of the file's units that a strategy asks for, in place of what was kept. A unit that can't
+    /// be read ends the units. The only refusal is want of memory.
+    pub fn populate_abbreviations_cache(
+        &mut self,
+        alloc: Global,
+        strategy: AbbreviationsCacheStrategy,
+    ) -> Result<(), Error>
+        ensures unchanged { self.new ≡ self.old }
+        ensures memory { IfErr result (λ e. e ≡ Memory) }
+    {
+        let offsets = TableOffsets {
+            units: Some(self.units()?),
+        };
+        self.abbreviations_cache
+            .populate(alloc, strategy, &self.debug_abbrev, offsets)
+    }
+}
+
+/// The offsets of the abbreviation tables of units, in order, up to the first unit that can't be read.
+#[derive(Drop)]
+struct TableOffsets<R: Reader> {
+    units: Option<DebugInfoUnitHeadersIter<R>>,
+}
+
+impl<R: Reader> Iterator for TableOffsets<R> {
+    ghost use Rattle.std.specs.Iterator.{at_most};
+    ghost use Rattle.gimli_dwarf.specs.Loading.{offsets_left};
+
+    type Item = Result<DebugAbbrevOffset<R::Offset>, Error>;
+
+    ghost remaining = { λ s. at_most (offsets_left R.Offset.limit s.units) };
+
+    fn next(&mut self) -> Option<Self::Item> {
+        match self.units.as_mut()?.next() {
+            Ok(Some(header)) => Some(Ok(header.debug_abbrev_offset())),
+            Ok(None) => None,
+            Err(fault) => {
+                self.units = None;
+                Some(Err(fault))
+            }
+        }
     }
 }

@@ -63,4 +63,16 @@ impl<'a, R: Reader> UnitRef<'a, R> {
     {
         self.dwarf.attr_ranges_offset(self.unit, attr)
     }
+
+    /// The walk over the unit's entries from an offset on, which must be among them, or over all of them.
+    pub fn entries_raw(
+        &self,
+        offset: Option<UnitOffset<R::Offset>>,
+    ) -> Result<EntriesRaw<'a, R>, Error>
+        ensures { Gives (λ entries. entries) result
+            (walk_from self.now.unit.now.header self.now.unit.now.table (option_map (λ o. R.Offset.count o.0) offset)) }
+    {
+        let unit = self.unit;
+        entries_raw(&unit.header, &unit.abbreviations, offset)
+    }
 }

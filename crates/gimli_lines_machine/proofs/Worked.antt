@@ -55,6 +55,24 @@ hidden_end : shown_rows {F = DefinedFile} (run_of rules (
     ≡ at_line 0x10 1 ∷ at_line 0x100 2 ∷ at_line 0x20 3 ∷ record (at_line 0x30 3) { end_sequence = true } ∷ []
 hidden_end = refl
 
+-- a program of opcode 55 alone
+special_55_row : shown_rows {F = DefinedFile} (run_of rules (special 55 ∷ [])).items ≡ at_line 3 4 ∷ []
+special_55_row = refl
+
+-- a row at address 1, an address that goes back to 0, and a row that it hides: the line moves, and the address doesn't
+abbrev back_to_0 : List Instruction
+back_to_0 = set_address 1 ∷ copy ∷ set_address 0 ∷ special 55 ∷ []
+
+row_behind_is_hidden : shown_rows (run_of rules back_to_0).items ≡ at_line 1 1 ∷ []
+row_behind_is_hidden = refl
+
+address_stays : (run_of rules back_to_0).ending ≡ Ok (record (at_line 1 4) { is_hidden = true })
+address_stays = refl
+
+-- it hides none behind an address that doesn't go back
+back_and_forth : shown_rows {F = DefinedFile} (run_of rules (set_address 1 ∷ copy ∷ set_address 0 ∷ copy ∷ set_address 1 ∷ special 55 ∷ [])).items ≡ at_line 1 1 ∷ at_line 4 4 ∷ []
+back_and_forth = refl
+
 -- ---- operations of an instruction: 5 of 3 each from operation 2 on are two instructions of 4 bytes and operation 1
 
 abbrev wide : LineRules

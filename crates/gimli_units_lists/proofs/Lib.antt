@@ -13,3 +13,4 @@ pub mod Few
 pub mod Exits
 pub mod ProgressLemmas
 pub mod Tombstones
+mod Worked

@@ -1,9 +1,11 @@
 -- What `ask` prints, and what it leaves where it stops before its end.
-use Rattle.std.specs.Prelude.{◌≡◌, ◌^◌, ℕ, List, [], true, false, ⊤, Option, Result, Ok, Err, codes, nat_lt, if◌then◌else◌}
+use Rattle.std.specs.Prelude.{◌≡◌, ◌≤◌, ◌^◌, ℕ, List, [], true, false, ⊤, Option, Result, Ok, Err, codes, nat_lt, if◌then◌else◌}
 use Rattle.std.specs.Io.KnownBytes.{Keeps}
 use Rattle.linemap_meaning.specs.Parts.{UnitPart}
 use Rattle.linemap_meaning.specs.Answers.{ask_text}
 use Rattle.linemap_meaning.specs.Weight.{table_weight}
+use Rattle.linemap_emit.specs.declared.error.EmitError.{EmitError}
+use Rattle.linemap_emit.specs.declared.error.EmitError.TheVariants.{Memory as NoRoom, TooLarge as TooHeavy}
 use Rattle.linemap_output.specs.ErrorLine.{Fails, error_line}
 use Rattle.linemap_output.specs.declared.ended.Ended.{Ended}
 use Rattle.linemap_output.specs.declared.writing.WriteFault.TheVariants.{BrokenPipe, Failed}
@@ -46,6 +48,18 @@ IsClean e = (e.memory ≡ false) × (e.read ≡ false) × (e.write ≡ false)
 abbrev pub table_stop : TableError → Stop
 table_stop NoMemory = Memory
 table_stop e = Table e
+
+-- a table that is too large is told apart from want of memory
+abbrev pub emission_stop : EmitError → Stop
+emission_stop NoRoom = Memory
+emission_stop TooHeavy = TooLarge
+
+-- emission stops for want of memory, or where a table is too heavy
+abbrev pub EmissionStops : List UnitPart → Stop → Type 0
+EmissionStops us Memory = ⊤
+EmissionStops us (Table e) = ⊥
+EmissionStops us TooLarge = 2 ^ 31 ≤ table_weight us
+EmissionStops us (Output fault) = ⊥
 
 -- only want of memory and a fault of the writer stop the answers
 abbrev pub StopsWriting : Stop → Type 0

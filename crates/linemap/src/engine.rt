@@ -1,25 +1,31 @@
 //! The program `ask`, over any two writers.
-ghost use Rattle.std.specs.Prelude.{◌≡◌, ◌∷◌, ◌++◌, [], Any, IfErr, IfOk, OnOk, codes, false, map, string_bytes};
+ghost use Rattle.std.specs.Prelude.{◌≡◌, ◌∷◌, ◌++◌, ◌<◌, ◌^◌, [], Any, IfErr, IfOk, List, OnOk, codes, false, map, string_bytes};
 ghost use Rattle.std.specs.Io.KnownBytes.{Appends};
-ghost use Rattle.linemap_meaning.specs.Answers.{ask_text, word_text};
-ghost use Rattle.linemap_meaning.specs.Views.{unit_part};
+ghost use Rattle.linemap_meaning.specs.Answers.{ask_text};
+ghost use Rattle.linemap_meaning.specs.Parts.{UnitPart};
+ghost use Rattle.linemap_meaning.specs.Weight.{table_weight};
+ghost use Rattle.linemap_table.specs.Units.{units_of};
+ghost use Rattle.linemap_emit.specs.Answers.{AreAnswers};
+ghost use Rattle.linemap_emit.specs.Targets.{is_big_of};
+ghost use Rattle.linemap_places.specs.Texts.{NeverRefuses, word_text, words_text};
 ghost use Rattle.linemap_output.specs.Writing.{AppendsFront};
 ghost use Rattle.linemap_output.specs.ErrorLine.{error_line};
-ghost use Rattle.linemap.specs.Ask.{IsClean, StopsAt, StopsWriting, printed};
+ghost use Rattle.linemap.specs.Ask.{EmissionStops, IsClean, StopsAt, StopsWriting, printed};
 
 use crate::stop::Stop;
-use linemap_answers::word_line;
-use linemap_meaning::table::TableUnit;
+use addr2line_context::Context;
+use gimli_core_constants::Format;
+use gimli_core_readers::Reader;
+use linemap_emit::{Sections, Target, emit_sections};
 use linemap_output::{Ended, flush, write_text};
+use linemap_places::{context_of, dwarf_of, word_line};
 use linemap_table::Table;
 use std::alloc::{AllocError, Global};
 use std::io::Write;
 
-/// The weight from which on a table is too large.
-const WEIGHT_LIMIT: u64 = 1 << 31;
-
-/// Answers each word by a line, flushed before the next one is worked out. Text that is no table, and a
-/// table that is too large, are refused by an error line. A fault of the error stream sets `write` in the
+/// Answers each word by a line, flushed before the next one is worked out. The answers are read from the table's debug
+/// information, emitted as version 4 in 32-bit DWARF. Text that is no table, and a table that is too large, are refused by
+/// an error line. A fault of the error stream sets `write` in the
 /// answer and changes nothing else.
 pub fn ask<O: Write, E: Write>(
     alloc: Global,
@@ -45,7 +51,7 @@ pub fn ask<O: Write, E: Write>(
     }
 }
 
-// Reads the table and writes the answers.
+// Reads the table, emits its sections and writes the answers.
 fn answer<W: Write>(alloc: Global, text: &[u8], words: &[String], out: &mut W) -> Result<(), Stop>
     ensures whole { let p = printed text.now (map string_bytes words.now) in OnOk result
         (Appends (W.contents out.old) (W.contents out.new) p.out × (p.err ≡ []) × (p.status ≡ 0)) }
@@ -54,56 +60,96 @@ fn answer<W: Write>(alloc: Global, text: &[u8], words: &[String], out: &mut W) -
     ensures stop { IfErr result (StopsAt (printed text.now (map string_bytes words.now))) }
 {
     let table = Table::read(alloc, text)?;
-    if table.weight() >= WEIGHT_LIMIT {
-        return Err(Stop::TooLarge);
-    }
-    write_answers(alloc, table.units(), words, out)
+    let sections = sections_of(alloc, &table)?;
+    write_places(alloc, &sections, words, out)
 }
 
-// Writes a line for each word.
-fn write_answers<W: Write>(
+// What sections are emitted for: version 4, the least significant byte first.
+fn target() -> Target
+    ensures { is_big_of result ≡ false }
+{
+    Target::new(4, Format::Dwarf32, 8, false).unwrap()
+}
+
+// The sections of a table.
+fn sections_of(alloc: Global, table: &Table) -> Result<Sections, Stop>
+    ensures answers { IfOk result (λ s. AreAnswers false s (units_of table.now)) }
+    ensures light { OnOk result (table_weight (units_of table.now) < 2 ^ 31) }
+    ensures refused { IfErr result (EmissionStops (units_of table.now)) }
+{
+    Ok(emit_sections(alloc, table, target())?)
+}
+
+// Writes a line for each word, from the sections of a table.
+fn write_places<W: Write>(
     alloc: Global,
-    units: &[TableUnit],
+    sections: &Sections,
     words: &[String],
     out: &mut W,
 ) -> Result<(), Stop>
+    requires { (us : List UnitPart) × AreAnswers false sections.now us }
+    ensures whole { (us : List UnitPart) → AreAnswers false sections.now us → OnOk result
+        (Appends (W.contents out.old) (W.contents out.new) (ask_text us (map string_bytes words.now))) }
+    ensures front { (us : List UnitPart) → AreAnswers false sections.now us →
+        AppendsFront (W.contents out.old) (W.contents out.new) (ask_text us (map string_bytes words.now)) }
+    ensures stop { IfErr result StopsWriting }
+{
+    let dwarf = dwarf_of(alloc, sections, target().endian());
+    let context = context_of(alloc, &dwarf)?;
+    write_answers(alloc, &context, words, out)
+}
+
+// Writes a line for each word.
+fn write_answers<R: Reader, W: Write>(
+    alloc: Global,
+    context: &Context<R>,
+    words: &[String],
+    out: &mut W,
+) -> Result<(), Stop>
+    requires { NeverRefuses context.now }
     ensures whole { OnOk result (Appends (W.contents out.old) (W.contents out.new)
-        (ask_text (map unit_part units.now) (map string_bytes words.now))) }
+        (words_text context.now (map string_bytes words.now))) }
     ensures front { AppendsFront (W.contents out.old) (W.contents out.new)
-        (ask_text (map unit_part units.now) (map string_bytes words.now)) }
+        (words_text context.now (map string_bytes words.now)) }
     ensures stop { IfErr result StopsWriting }
 {
     for word in words {
-        write_answer(alloc, units, word, out)?;
+        write_answer(alloc, context, word, out)?;
     }
     Ok(())
 }
 
 // Writes the line for a word, and flushes.
-fn write_answer<W: Write>(
+fn write_answer<R: Reader, W: Write>(
     alloc: Global,
-    units: &[TableUnit],
+    context: &Context<R>,
     word: &str,
     out: &mut W,
 ) -> Result<(), Stop>
+    requires { NeverRefuses context.now }
     ensures whole { OnOk result (Appends (W.contents out.old) (W.contents out.new)
-        (word_text (map unit_part units.now) word.now ++ 10 ∷ [])) }
+        (word_text context.now word.now ++ 10 ∷ [])) }
     ensures front { AppendsFront (W.contents out.old) (W.contents out.new)
-        (word_text (map unit_part units.now) word.now ++ 10 ∷ []) }
+        (word_text context.now word.now ++ 10 ∷ []) }
     ensures stop { IfErr result StopsWriting }
 {
-    let line = answer_line(alloc, units, word)?;
+    let line = answer_line(alloc, context, word)?;
     write_text(out, &line)?;
     flush(out)?;
     Ok(())
 }
 
 // The line for a word, with its end.
-fn answer_line(alloc: Global, units: &[TableUnit], word: &str) -> Result<String, AllocError>
+fn answer_line<R: Reader>(
+    alloc: Global,
+    context: &Context<R>,
+    word: &str,
+) -> Result<String, AllocError>
+    requires { NeverRefuses context.now }
     ensures { IfOk result (λ line.
-        string_bytes line ≡ word_text (map unit_part units.now) word.now ++ 10 ∷ []) }
+        string_bytes line ≡ word_text context.now word.now ++ 10 ∷ []) }
 {
-    let mut line = word_line(alloc, units, word)?;
+    let mut line = word_line(alloc, context, word)?;
     line.push('\n')?;
     Ok(line)
 }

@@ -1,6 +1,7 @@
 //! Why an answer stopped, and how the program tells it.
 ghost use Rattle.std.specs.Prelude.{◌≡◌};
 
+use linemap_emit::EmitError;
 use linemap_output::{Ended, WriteFault, fail};
 use linemap_table::error::TableError;
 use std::alloc::AllocError;
@@ -48,6 +49,19 @@ impl From<TableError> for Stop {
         match error {
             TableError::Memory => Stop::Memory,
             _ => Stop::Table(error),
+        }
+    }
+}
+
+impl From<EmitError> for Stop {
+    ghost use Rattle.linemap.specs.Ask.{emission_stop};
+
+    ghost from_gives = { λ error stop. stop ≡ emission_stop error };
+
+    fn from(error: EmitError) -> Stop {
+        match error {
+            EmitError::Memory => Stop::Memory,
+            EmitError::TooLarge => Stop::TooLarge,
         }
     }
 }

@@ -1,10 +1,8 @@
-use Rattle.std.proofs.Common.{map}
 use Rattle.std.specs.Io.KnownBytes.{Appends}
-use Rattle.linemap_meaning.specs.Views.{unit_part}
 use Rattle.linemap.proofs.AskLemmas.{answers_to}
 use Rattle.linemap.proofs.engine.write_answers.Given as goal
 
 -- the words so far are answered
 abbrev pub invariant-loop-word : goal.invariant-loop-word
 invariant-loop-word g l = Appends (g.W.Write.contents l.fn.out) (g.W.Write.contents l.out)
-    (answers_to (map unit_part l.units) l.words l.word-index)
+    (answers_to l.context l.words l.word-index)

@@ -1,0 +1,854 @@
+use Rattle.std.proofs.Common.{[], ◌∷◌, refl, rules, of_calls}
+use Rattle.std.proofs.lemmas.Result.{err_from_is_err_and}
+use Rattle.gimli_core_constants.specs.declared.common.SectionId.TheVariants.{DebugAbbrev, DebugAddr, DebugAranges, DebugInfo, DebugLine, DebugLineStr, DebugLoc, DebugLocLists, DebugMacinfo, DebugMacro, DebugNames, DebugRanges, DebugRngLists, DebugStr, DebugStrOffsets, DebugTypes}
+use Rattle.gimli_dwarf.proofs.Loads.{given_in, gives, refuses}
+use Rattle.gimli_dwarf.proofs.dwarf.Dwarf.load.Goals as goal
+
+pub returns-in_err-debug_abbrev-clause-refused : goal.returns-in_err-debug_abbrev-clause-refused
+returns-in_err-debug_abbrev-clause-refused g c =
+    let view = g.R.Reader.view in
+    let given = given_in ([]) in
+    let p = err_from_is_err_and c.from_residual.result c.from_residual.ensures.1 in
+    rw (p.1, p.2) (record {
+      given = given;
+      front = [];
+      id = DebugAbbrev;
+      rest = DebugAddr ∷ DebugAranges ∷ DebugInfo ∷ DebugLine ∷ DebugLineStr ∷ DebugLoc ∷ DebugLocLists ∷ DebugMacinfo ∷ DebugMacro ∷ DebugNames ∷ DebugRanges ∷ DebugRngLists ∷ DebugStr ∷ DebugStrOffsets ∷ DebugTypes ∷ [];
+      between = c.args.section;
+      behind = c.section.new.self;
+      order = refl;
+      calls = refl;
+      refusal = refuses (goal.F-step g) view c.args.section DebugAbbrev c.section.result c.section.new.self c.in_err-debug_abbrev.field-0.0 c.section.ensures c.in_err-debug_abbrev.was;
+    })
+
+pub returns-in_err-debug_addr-clause-refused : goal.returns-in_err-debug_addr-clause-refused
+returns-in_err-debug_addr-clause-refused g c =
+    let view = g.R.Reader.view in
+    let given = given_in (view c.in_ok-debug_abbrev.debug_abbrev ∷ []) in
+    let give = gives (goal.F-step g) view given in
+    let p = err_from_is_err_and c.from_residual-in_err-debug_addr.result c.from_residual-in_err-debug_addr.ensures.1 in
+    rw (p.1, p.2) (record {
+      given = given;
+      front = DebugAbbrev ∷ [];
+      id = DebugAddr;
+      rest = DebugAranges ∷ DebugInfo ∷ DebugLine ∷ DebugLineStr ∷ DebugLoc ∷ DebugLocLists ∷ DebugMacinfo ∷ DebugMacro ∷ DebugNames ∷ DebugRanges ∷ DebugRngLists ∷ DebugStr ∷ DebugStrOffsets ∷ DebugTypes ∷ [];
+      between = c.section.new.self;
+      behind = c.section-2.new.self;
+      order = refl;
+      calls = (
+        c.section.new.self,
+        give c.args.section DebugAbbrev c.section.result c.section.new.self c.in_ok-debug_abbrev.debug_abbrev c.section.ensures c.in_ok-debug_abbrev.was refl,
+        refl,
+      );
+      refusal = refuses (goal.F-step g) view c.section.new.self DebugAddr c.section-2.result c.section-2.new.self c.in_err-debug_addr.field-0.0 c.section-2.ensures c.in_err-debug_addr.was;
+    })
+
+pub returns-in_err-debug_aranges-clause-refused : goal.returns-in_err-debug_aranges-clause-refused
+returns-in_err-debug_aranges-clause-refused g c =
+    let view = g.R.Reader.view in
+    let given = given_in (view c.in_ok-debug_abbrev.debug_abbrev ∷ view c.in_ok-debug_addr.debug_addr ∷ []) in
+    let give = gives (goal.F-step g) view given in
+    let p = err_from_is_err_and c.from_residual-in_err-debug_aranges.result c.from_residual-in_err-debug_aranges.ensures.1 in
+    rw (p.1, p.2) (record {
+      given = given;
+      front = DebugAbbrev ∷ DebugAddr ∷ [];
+      id = DebugAranges;
+      rest = DebugInfo ∷ DebugLine ∷ DebugLineStr ∷ DebugLoc ∷ DebugLocLists ∷ DebugMacinfo ∷ DebugMacro ∷ DebugNames ∷ DebugRanges ∷ DebugRngLists ∷ DebugStr ∷ DebugStrOffsets ∷ DebugTypes ∷ [];
+      between = c.section-2.new.self;
+      behind = c.section-3.new.self;
+      order = refl;
+      calls = (
+        c.section.new.self,
+        give c.args.section DebugAbbrev c.section.result c.section.new.self c.in_ok-debug_abbrev.debug_abbrev c.section.ensures c.in_ok-debug_abbrev.was refl,
+        (
+          c.section-2.new.self,
+          give c.section.new.self DebugAddr c.section-2.result c.section-2.new.self c.in_ok-debug_addr.debug_addr c.section-2.ensures c.in_ok-debug_addr.was refl,
+          refl,
+        ),
+      );
+      refusal = refuses (goal.F-step g) view c.section-2.new.self DebugAranges c.section-3.result c.section-3.new.self c.in_err-debug_aranges.field-0.0 c.section-3.ensures c.in_err-debug_aranges.was;
+    })
+
+pub returns-in_err-debug_info-clause-refused : goal.returns-in_err-debug_info-clause-refused
+returns-in_err-debug_info-clause-refused g c =
+    let view = g.R.Reader.view in
+    let given = given_in (view c.in_ok-debug_abbrev.debug_abbrev ∷ view c.in_ok-debug_addr.debug_addr ∷ view c.in_ok-debug_aranges.debug_aranges ∷ []) in
+    let give = gives (goal.F-step g) view given in
+    let p = err_from_is_err_and c.from_residual-in_err-debug_info.result c.from_residual-in_err-debug_info.ensures.1 in
+    rw (p.1, p.2) (record {
+      given = given;
+      front = DebugAbbrev ∷ DebugAddr ∷ DebugAranges ∷ [];
+      id = DebugInfo;
+      rest = DebugLine ∷ DebugLineStr ∷ DebugLoc ∷ DebugLocLists ∷ DebugMacinfo ∷ DebugMacro ∷ DebugNames ∷ DebugRanges ∷ DebugRngLists ∷ DebugStr ∷ DebugStrOffsets ∷ DebugTypes ∷ [];
+      between = c.section-3.new.self;
+      behind = c.section-4.new.self;
+      order = refl;
+      calls = (
+        c.section.new.self,
+        give c.args.section DebugAbbrev c.section.result c.section.new.self c.in_ok-debug_abbrev.debug_abbrev c.section.ensures c.in_ok-debug_abbrev.was refl,
+        (
+          c.section-2.new.self,
+          give c.section.new.self DebugAddr c.section-2.result c.section-2.new.self c.in_ok-debug_addr.debug_addr c.section-2.ensures c.in_ok-debug_addr.was refl,
+          (
+            c.section-3.new.self,
+            give c.section-2.new.self DebugAranges c.section-3.result c.section-3.new.self c.in_ok-debug_aranges.debug_aranges c.section-3.ensures c.in_ok-debug_aranges.was refl,
+            refl,
+          ),
+        ),
+      );
+      refusal = refuses (goal.F-step g) view c.section-3.new.self DebugInfo c.section-4.result c.section-4.new.self c.in_err-debug_info.field-0.0 c.section-4.ensures c.in_err-debug_info.was;
+    })
+
+pub returns-in_err-debug_line-clause-refused : goal.returns-in_err-debug_line-clause-refused
+returns-in_err-debug_line-clause-refused g c =
+    let view = g.R.Reader.view in
+    let given = given_in (view c.in_ok-debug_abbrev.debug_abbrev ∷ view c.in_ok-debug_addr.debug_addr ∷ view c.in_ok-debug_aranges.debug_aranges ∷ view c.in_ok-debug_info.debug_info ∷ []) in
+    let give = gives (goal.F-step g) view given in
+    let p = err_from_is_err_and c.from_residual-in_err-debug_line.result c.from_residual-in_err-debug_line.ensures.1 in
+    rw (p.1, p.2) (record {
+      given = given;
+      front = DebugAbbrev ∷ DebugAddr ∷ DebugAranges ∷ DebugInfo ∷ [];
+      id = DebugLine;
+      rest = DebugLineStr ∷ DebugLoc ∷ DebugLocLists ∷ DebugMacinfo ∷ DebugMacro ∷ DebugNames ∷ DebugRanges ∷ DebugRngLists ∷ DebugStr ∷ DebugStrOffsets ∷ DebugTypes ∷ [];
+      between = c.section-4.new.self;
+      behind = c.section-5.new.self;
+      order = refl;
+      calls = (
+        c.section.new.self,
+        give c.args.section DebugAbbrev c.section.result c.section.new.self c.in_ok-debug_abbrev.debug_abbrev c.section.ensures c.in_ok-debug_abbrev.was refl,
+        (
+          c.section-2.new.self,
+          give c.section.new.self DebugAddr c.section-2.result c.section-2.new.self c.in_ok-debug_addr.debug_addr c.section-2.ensures c.in_ok-debug_addr.was refl,
+          (
+            c.section-3.new.self,
+            give c.section-2.new.self DebugAranges c.section-3.result c.section-3.new.self c.in_ok-debug_aranges.debug_aranges c.section-3.ensures c.in_ok-debug_aranges.was refl,
+            (
+              c.section-4.new.self,
+              give c.section-3.new.self DebugInfo c.section-4.result c.section-4.new.self c.in_ok-debug_info.debug_info c.section-4.ensures c.in_ok-debug_info.was refl,
+              refl,
+            ),
+          ),
+        ),
+      );
+      refusal = refuses (goal.F-step g) view c.section-4.new.self DebugLine c.section-5.result c.section-5.new.self c.in_err-debug_line.field-0.0 c.section-5.ensures c.in_err-debug_line.was;
+    })
+
+pub returns-in_err-debug_line_str-clause-refused : goal.returns-in_err-debug_line_str-clause-refused
+returns-in_err-debug_line_str-clause-refused g c =
+    let view = g.R.Reader.view in
+    let given = given_in (view c.in_ok-debug_abbrev.debug_abbrev ∷ view c.in_ok-debug_addr.debug_addr ∷ view c.in_ok-debug_aranges.debug_aranges ∷ view c.in_ok-debug_info.debug_info ∷ view c.in_ok-debug_line.debug_line ∷ []) in
+    let give = gives (goal.F-step g) view given in
+    let p = err_from_is_err_and c.from_residual-in_err-debug_line_str.result c.from_residual-in_err-debug_line_str.ensures.1 in
+    rw (p.1, p.2) (record {
+      given = given;
+      front = DebugAbbrev ∷ DebugAddr ∷ DebugAranges ∷ DebugInfo ∷ DebugLine ∷ [];
+      id = DebugLineStr;
+      rest = DebugLoc ∷ DebugLocLists ∷ DebugMacinfo ∷ DebugMacro ∷ DebugNames ∷ DebugRanges ∷ DebugRngLists ∷ DebugStr ∷ DebugStrOffsets ∷ DebugTypes ∷ [];
+      between = c.section-5.new.self;
+      behind = c.section-6.new.self;
+      order = refl;
+      calls = (
+        c.section.new.self,
+        give c.args.section DebugAbbrev c.section.result c.section.new.self c.in_ok-debug_abbrev.debug_abbrev c.section.ensures c.in_ok-debug_abbrev.was refl,
+        (
+          c.section-2.new.self,
+          give c.section.new.self DebugAddr c.section-2.result c.section-2.new.self c.in_ok-debug_addr.debug_addr c.section-2.ensures c.in_ok-debug_addr.was refl,
+          (
+            c.section-3.new.self,
+            give c.section-2.new.self DebugAranges c.section-3.result c.section-3.new.self c.in_ok-debug_aranges.debug_aranges c.section-3.ensures c.in_ok-debug_aranges.was refl,
+            (
+              c.section-4.new.self,
+              give c.section-3.new.self DebugInfo c.section-4.result c.section-4.new.self c.in_ok-debug_info.debug_info c.section-4.ensures c.in_ok-debug_info.was refl,
+              (
+                c.section-5.new.self,
+                give c.section-4.new.self DebugLine c.section-5.result c.section-5.new.self c.in_ok-debug_line.debug_line c.section-5.ensures c.in_ok-debug_line.was refl,
+                refl,
+              ),
+            ),
+          ),
+        ),
+      );
+      refusal = refuses (goal.F-step g) view c.section-5.new.self DebugLineStr c.section-6.result c.section-6.new.self c.in_err-debug_line_str.field-0.0 c.section-6.ensures c.in_err-debug_line_str.was;
+    })
+
+pub returns-in_err-debug_loc-clause-refused : goal.returns-in_err-debug_loc-clause-refused
+returns-in_err-debug_loc-clause-refused g c =
+    let view = g.R.Reader.view in
+    let given = given_in (view c.in_ok-debug_abbrev.debug_abbrev ∷ view c.in_ok-debug_addr.debug_addr ∷ view c.in_ok-debug_aranges.debug_aranges ∷ view c.in_ok-debug_info.debug_info ∷ view c.in_ok-debug_line.debug_line ∷ view c.in_ok-debug_line_str.debug_line_str ∷ []) in
+    let give = gives (goal.F-step g) view given in
+    let p = err_from_is_err_and c.from_residual-in_err-debug_loc.result c.from_residual-in_err-debug_loc.ensures.1 in
+    rw (p.1, p.2) (record {
+      given = given;
+      front = DebugAbbrev ∷ DebugAddr ∷ DebugAranges ∷ DebugInfo ∷ DebugLine ∷ DebugLineStr ∷ [];
+      id = DebugLoc;
+      rest = DebugLocLists ∷ DebugMacinfo ∷ DebugMacro ∷ DebugNames ∷ DebugRanges ∷ DebugRngLists ∷ DebugStr ∷ DebugStrOffsets ∷ DebugTypes ∷ [];
+      between = c.section-6.new.self;
+      behind = c.section-7.new.self;
+      order = refl;
+      calls = (
+        c.section.new.self,
+        give c.args.section DebugAbbrev c.section.result c.section.new.self c.in_ok-debug_abbrev.debug_abbrev c.section.ensures c.in_ok-debug_abbrev.was refl,
+        (
+          c.section-2.new.self,
+          give c.section.new.self DebugAddr c.section-2.result c.section-2.new.self c.in_ok-debug_addr.debug_addr c.section-2.ensures c.in_ok-debug_addr.was refl,
+          (
+            c.section-3.new.self,
+            give c.section-2.new.self DebugAranges c.section-3.result c.section-3.new.self c.in_ok-debug_aranges.debug_aranges c.section-3.ensures c.in_ok-debug_aranges.was refl,
+            (
+              c.section-4.new.self,
+              give c.section-3.new.self DebugInfo c.section-4.result c.section-4.new.self c.in_ok-debug_info.debug_info c.section-4.ensures c.in_ok-debug_info.was refl,
+              (
+                c.section-5.new.self,
+                give c.section-4.new.self DebugLine c.section-5.result c.section-5.new.self c.in_ok-debug_line.debug_line c.section-5.ensures c.in_ok-debug_line.was refl,
+                (
+                  c.section-6.new.self,
+                  give c.section-5.new.self DebugLineStr c.section-6.result c.section-6.new.self c.in_ok-debug_line_str.debug_line_str c.section-6.ensures c.in_ok-debug_line_str.was refl,
+                  refl,
+                ),
+              ),
+            ),
+          ),
+        ),
+      );
+      refusal = refuses (goal.F-step g) view c.section-6.new.self DebugLoc c.section-7.result c.section-7.new.self c.in_err-debug_loc.field-0.0 c.section-7.ensures c.in_err-debug_loc.was;
+    })
+
+pub returns-in_err-debug_loclists-clause-refused : goal.returns-in_err-debug_loclists-clause-refused
+returns-in_err-debug_loclists-clause-refused g c =
+    let view = g.R.Reader.view in
+    let given = given_in (view c.in_ok-debug_abbrev.debug_abbrev ∷ view c.in_ok-debug_addr.debug_addr ∷ view c.in_ok-debug_aranges.debug_aranges ∷ view c.in_ok-debug_info.debug_info ∷ view c.in_ok-debug_line.debug_line ∷ view c.in_ok-debug_line_str.debug_line_str ∷ view c.in_ok-debug_loc.debug_loc ∷ []) in
+    let give = gives (goal.F-step g) view given in
+    let p = err_from_is_err_and c.from_residual-in_err-debug_loclists.result c.from_residual-in_err-debug_loclists.ensures.1 in
+    rw (p.1, p.2) (record {
+      given = given;
+      front = DebugAbbrev ∷ DebugAddr ∷ DebugAranges ∷ DebugInfo ∷ DebugLine ∷ DebugLineStr ∷ DebugLoc ∷ [];
+      id = DebugLocLists;
+      rest = DebugMacinfo ∷ DebugMacro ∷ DebugNames ∷ DebugRanges ∷ DebugRngLists ∷ DebugStr ∷ DebugStrOffsets ∷ DebugTypes ∷ [];
+      between = c.section-7.new.self;
+      behind = c.section-8.new.self;
+      order = refl;
+      calls = (
+        c.section.new.self,
+        give c.args.section DebugAbbrev c.section.result c.section.new.self c.in_ok-debug_abbrev.debug_abbrev c.section.ensures c.in_ok-debug_abbrev.was refl,
+        (
+          c.section-2.new.self,
+          give c.section.new.self DebugAddr c.section-2.result c.section-2.new.self c.in_ok-debug_addr.debug_addr c.section-2.ensures c.in_ok-debug_addr.was refl,
+          (
+            c.section-3.new.self,
+            give c.section-2.new.self DebugAranges c.section-3.result c.section-3.new.self c.in_ok-debug_aranges.debug_aranges c.section-3.ensures c.in_ok-debug_aranges.was refl,
+            (
+              c.section-4.new.self,
+              give c.section-3.new.self DebugInfo c.section-4.result c.section-4.new.self c.in_ok-debug_info.debug_info c.section-4.ensures c.in_ok-debug_info.was refl,
+              (
+                c.section-5.new.self,
+                give c.section-4.new.self DebugLine c.section-5.result c.section-5.new.self c.in_ok-debug_line.debug_line c.section-5.ensures c.in_ok-debug_line.was refl,
+                (
+                  c.section-6.new.self,
+                  give c.section-5.new.self DebugLineStr c.section-6.result c.section-6.new.self c.in_ok-debug_line_str.debug_line_str c.section-6.ensures c.in_ok-debug_line_str.was refl,
+                  (
+                    c.section-7.new.self,
+                    give c.section-6.new.self DebugLoc c.section-7.result c.section-7.new.self c.in_ok-debug_loc.debug_loc c.section-7.ensures c.in_ok-debug_loc.was refl,
+                    refl,
+                  ),
+                ),
+              ),
+            ),
+          ),
+        ),
+      );
+      refusal = refuses (goal.F-step g) view c.section-7.new.self DebugLocLists c.section-8.result c.section-8.new.self c.in_err-debug_loclists.field-0.0 c.section-8.ensures c.in_err-debug_loclists.was;
+    })
+
+pub returns-in_err-debug_macinfo-clause-refused : goal.returns-in_err-debug_macinfo-clause-refused
+returns-in_err-debug_macinfo-clause-refused g c =
+    let view = g.R.Reader.view in
+    let given = given_in (view c.in_ok-debug_abbrev.debug_abbrev ∷ view c.in_ok-debug_addr.debug_addr ∷ view c.in_ok-debug_aranges.debug_aranges ∷ view c.in_ok-debug_info.debug_info ∷ view c.in_ok-debug_line.debug_line ∷ view c.in_ok-debug_line_str.debug_line_str ∷ view c.in_ok-debug_loc.debug_loc ∷ view c.in_ok-debug_loclists.debug_loclists ∷ []) in
+    let give = gives (goal.F-step g) view given in
+    let p = err_from_is_err_and c.from_residual-in_err-debug_macinfo.result c.from_residual-in_err-debug_macinfo.ensures.1 in
+    rw (p.1, p.2) (record {
+      given = given;
+      front = DebugAbbrev ∷ DebugAddr ∷ DebugAranges ∷ DebugInfo ∷ DebugLine ∷ DebugLineStr ∷ DebugLoc ∷ DebugLocLists ∷ [];
+      id = DebugMacinfo;
+      rest = DebugMacro ∷ DebugNames ∷ DebugRanges ∷ DebugRngLists ∷ DebugStr ∷ DebugStrOffsets ∷ DebugTypes ∷ [];
+      between = c.section-8.new.self;
+      behind = c.section-9.new.self;
+      order = refl;
+      calls = (
+        c.section.new.self,
+        give c.args.section DebugAbbrev c.section.result c.section.new.self c.in_ok-debug_abbrev.debug_abbrev c.section.ensures c.in_ok-debug_abbrev.was refl,
+        (
+          c.section-2.new.self,
+          give c.section.new.self DebugAddr c.section-2.result c.section-2.new.self c.in_ok-debug_addr.debug_addr c.section-2.ensures c.in_ok-debug_addr.was refl,
+          (
+            c.section-3.new.self,
+            give c.section-2.new.self DebugAranges c.section-3.result c.section-3.new.self c.in_ok-debug_aranges.debug_aranges c.section-3.ensures c.in_ok-debug_aranges.was refl,
+            (
+              c.section-4.new.self,
+              give c.section-3.new.self DebugInfo c.section-4.result c.section-4.new.self c.in_ok-debug_info.debug_info c.section-4.ensures c.in_ok-debug_info.was refl,
+              (
+                c.section-5.new.self,
+                give c.section-4.new.self DebugLine c.section-5.result c.section-5.new.self c.in_ok-debug_line.debug_line c.section-5.ensures c.in_ok-debug_line.was refl,
+                (
+                  c.section-6.new.self,
+                  give c.section-5.new.self DebugLineStr c.section-6.result c.section-6.new.self c.in_ok-debug_line_str.debug_line_str c.section-6.ensures c.in_ok-debug_line_str.was refl,
+                  (
+                    c.section-7.new.self,
+                    give c.section-6.new.self DebugLoc c.section-7.result c.section-7.new.self c.in_ok-debug_loc.debug_loc c.section-7.ensures c.in_ok-debug_loc.was refl,
+                    (
+                      c.section-8.new.self,
+                      give c.section-7.new.self DebugLocLists c.section-8.result c.section-8.new.self c.in_ok-debug_loclists.debug_loclists c.section-8.ensures c.in_ok-debug_loclists.was refl,
+                      refl,
+                    ),
+                  ),
+                ),
+              ),
+            ),
+          ),
+        ),
+      );
+      refusal = refuses (goal.F-step g) view c.section-8.new.self DebugMacinfo c.section-9.result c.section-9.new.self c.in_err-debug_macinfo.field-0.0 c.section-9.ensures c.in_err-debug_macinfo.was;
+    })
+
+pub returns-in_err-debug_macro-clause-refused : goal.returns-in_err-debug_macro-clause-refused
+returns-in_err-debug_macro-clause-refused g c =
+    let view = g.R.Reader.view in
+    let given = given_in (view c.in_ok-debug_abbrev.debug_abbrev ∷ view c.in_ok-debug_addr.debug_addr ∷ view c.in_ok-debug_aranges.debug_aranges ∷ view c.in_ok-debug_info.debug_info ∷ view c.in_ok-debug_line.debug_line ∷ view c.in_ok-debug_line_str.debug_line_str ∷ view c.in_ok-debug_loc.debug_loc ∷ view c.in_ok-debug_loclists.debug_loclists ∷ view c.in_ok-debug_macinfo.debug_macinfo ∷ []) in
+    let give = gives (goal.F-step g) view given in
+    let p = err_from_is_err_and c.from_residual-in_err-debug_macro.result c.from_residual-in_err-debug_macro.ensures.1 in
+    rw (p.1, p.2) (record {
+      given = given;
+      front = DebugAbbrev ∷ DebugAddr ∷ DebugAranges ∷ DebugInfo ∷ DebugLine ∷ DebugLineStr ∷ DebugLoc ∷ DebugLocLists ∷ DebugMacinfo ∷ [];
+      id = DebugMacro;
+      rest = DebugNames ∷ DebugRanges ∷ DebugRngLists ∷ DebugStr ∷ DebugStrOffsets ∷ DebugTypes ∷ [];
+      between = c.section-9.new.self;
+      behind = c.section-10.new.self;
+      order = refl;
+      calls = (
+        c.section.new.self,
+        give c.args.section DebugAbbrev c.section.result c.section.new.self c.in_ok-debug_abbrev.debug_abbrev c.section.ensures c.in_ok-debug_abbrev.was refl,
+        (
+          c.section-2.new.self,
+          give c.section.new.self DebugAddr c.section-2.result c.section-2.new.self c.in_ok-debug_addr.debug_addr c.section-2.ensures c.in_ok-debug_addr.was refl,
+          (
+            c.section-3.new.self,
+            give c.section-2.new.self DebugAranges c.section-3.result c.section-3.new.self c.in_ok-debug_aranges.debug_aranges c.section-3.ensures c.in_ok-debug_aranges.was refl,
+            (
+              c.section-4.new.self,
+              give c.section-3.new.self DebugInfo c.section-4.result c.section-4.new.self c.in_ok-debug_info.debug_info c.section-4.ensures c.in_ok-debug_info.was refl,
+              (
+                c.section-5.new.self,
+                give c.section-4.new.self DebugLine c.section-5.result c.section-5.new.self c.in_ok-debug_line.debug_line c.section-5.ensures c.in_ok-debug_line.was refl,
+                (
+                  c.section-6.new.self,
+                  give c.section-5.new.self DebugLineStr c.section-6.result c.section-6.new.self c.in_ok-debug_line_str.debug_line_str c.section-6.ensures c.in_ok-debug_line_str.was refl,
+                  (
+                    c.section-7.new.self,
+                    give c.section-6.new.self DebugLoc c.section-7.result c.section-7.new.self c.in_ok-debug_loc.debug_loc c.section-7.ensures c.in_ok-debug_loc.was refl,
+                    (
+                      c.section-8.new.self,
+                      give c.section-7.new.self DebugLocLists c.section-8.result c.section-8.new.self c.in_ok-debug_loclists.debug_loclists c.section-8.ensures c.in_ok-debug_loclists.was refl,
+                      (
+                        c.section-9.new.self,
+                        give c.section-8.new.self DebugMacinfo c.section-9.result c.section-9.new.self c.in_ok-debug_macinfo.debug_macinfo c.section-9.ensures c.in_ok-debug_macinfo.was refl,
+                        refl,
+                      ),
+                    ),
+                  ),
+                ),
+              ),
+            ),
+          ),
+        ),
+      );
+      refusal = refuses (goal.F-step g) view c.section-9.new.self DebugMacro c.section-10.result c.section-10.new.self c.in_err-debug_macro.field-0.0 c.section-10.ensures c.in_err-debug_macro.was;
+    })
+
+pub returns-in_err-debug_names-clause-refused : goal.returns-in_err-debug_names-clause-refused
+returns-in_err-debug_names-clause-refused g c =
+    let view = g.R.Reader.view in
+    let given = given_in (view c.in_ok-debug_abbrev.debug_abbrev ∷ view c.in_ok-debug_addr.debug_addr ∷ view c.in_ok-debug_aranges.debug_aranges ∷ view c.in_ok-debug_info.debug_info ∷ view c.in_ok-debug_line.debug_line ∷ view c.in_ok-debug_line_str.debug_line_str ∷ view c.in_ok-debug_loc.debug_loc ∷ view c.in_ok-debug_loclists.debug_loclists ∷ view c.in_ok-debug_macinfo.debug_macinfo ∷ view c.in_ok-debug_macro.debug_macro ∷ []) in
+    let give = gives (goal.F-step g) view given in
+    let p = err_from_is_err_and c.from_residual-in_err-debug_names.result c.from_residual-in_err-debug_names.ensures.1 in
+    rw (p.1, p.2) (record {
+      given = given;
+      front = DebugAbbrev ∷ DebugAddr ∷ DebugAranges ∷ DebugInfo ∷ DebugLine ∷ DebugLineStr ∷ DebugLoc ∷ DebugLocLists ∷ DebugMacinfo ∷ DebugMacro ∷ [];
+      id = DebugNames;
+      rest = DebugRanges ∷ DebugRngLists ∷ DebugStr ∷ DebugStrOffsets ∷ DebugTypes ∷ [];
+      between = c.section-10.new.self;
+      behind = c.section-11.new.self;
+      order = refl;
+      calls = (
+        c.section.new.self,
+        give c.args.section DebugAbbrev c.section.result c.section.new.self c.in_ok-debug_abbrev.debug_abbrev c.section.ensures c.in_ok-debug_abbrev.was refl,
+        (
+          c.section-2.new.self,
+          give c.section.new.self DebugAddr c.section-2.result c.section-2.new.self c.in_ok-debug_addr.debug_addr c.section-2.ensures c.in_ok-debug_addr.was refl,
+          (
+            c.section-3.new.self,
+            give c.section-2.new.self DebugAranges c.section-3.result c.section-3.new.self c.in_ok-debug_aranges.debug_aranges c.section-3.ensures c.in_ok-debug_aranges.was refl,
+            (
+              c.section-4.new.self,
+              give c.section-3.new.self DebugInfo c.section-4.result c.section-4.new.self c.in_ok-debug_info.debug_info c.section-4.ensures c.in_ok-debug_info.was refl,
+              (
+                c.section-5.new.self,
+                give c.section-4.new.self DebugLine c.section-5.result c.section-5.new.self c.in_ok-debug_line.debug_line c.section-5.ensures c.in_ok-debug_line.was refl,
+                (
+                  c.section-6.new.self,
+                  give c.section-5.new.self DebugLineStr c.section-6.result c.section-6.new.self c.in_ok-debug_line_str.debug_line_str c.section-6.ensures c.in_ok-debug_line_str.was refl,
+                  (
+                    c.section-7.new.self,
+                    give c.section-6.new.self DebugLoc c.section-7.result c.section-7.new.self c.in_ok-debug_loc.debug_loc c.section-7.ensures c.in_ok-debug_loc.was refl,
+                    (
+                      c.section-8.new.self,
+                      give c.section-7.new.self DebugLocLists c.section-8.result c.section-8.new.self c.in_ok-debug_loclists.debug_loclists c.section-8.ensures c.in_ok-debug_loclists.was refl,
+                      (
+                        c.section-9.new.self,
+                        give c.section-8.new.self DebugMacinfo c.section-9.result c.section-9.new.self c.in_ok-debug_macinfo.debug_macinfo c.section-9.ensures c.in_ok-debug_macinfo.was refl,
+                        (
+                          c.section-10.new.self,
+                          give c.section-9.new.self DebugMacro c.section-10.result c.section-10.new.self c.in_ok-debug_macro.debug_macro c.section-10.ensures c.in_ok-debug_macro.was refl,
+                          refl,
+                        ),
+                      ),
+                    ),
+                  ),
+                ),
+              ),
+            ),
+          ),
+        ),
+      );
+      refusal = refuses (goal.F-step g) view c.section-10.new.self DebugNames c.section-11.result c.section-11.new.self c.in_err-debug_names.field-0.0 c.section-11.ensures c.in_err-debug_names.was;
+    })
+
+pub returns-in_err-debug_ranges-clause-refused : goal.returns-in_err-debug_ranges-clause-refused
+returns-in_err-debug_ranges-clause-refused g c =
+    let view = g.R.Reader.view in
+    let given = given_in (view c.in_ok-debug_abbrev.debug_abbrev ∷ view c.in_ok-debug_addr.debug_addr ∷ view c.in_ok-debug_aranges.debug_aranges ∷ view c.in_ok-debug_info.debug_info ∷ view c.in_ok-debug_line.debug_line ∷ view c.in_ok-debug_line_str.debug_line_str ∷ view c.in_ok-debug_loc.debug_loc ∷ view c.in_ok-debug_loclists.debug_loclists ∷ view c.in_ok-debug_macinfo.debug_macinfo ∷ view c.in_ok-debug_macro.debug_macro ∷ view c.in_ok-debug_names.debug_names ∷ []) in
+    let give = gives (goal.F-step g) view given in
+    let p = err_from_is_err_and c.from_residual-in_err-debug_ranges.result c.from_residual-in_err-debug_ranges.ensures.1 in
+    rw (p.1, p.2) (record {
+      given = given;
+      front = DebugAbbrev ∷ DebugAddr ∷ DebugAranges ∷ DebugInfo ∷ DebugLine ∷ DebugLineStr ∷ DebugLoc ∷ DebugLocLists ∷ DebugMacinfo ∷ DebugMacro ∷ DebugNames ∷ [];
+      id = DebugRanges;
+      rest = DebugRngLists ∷ DebugStr ∷ DebugStrOffsets ∷ DebugTypes ∷ [];
+      between = c.section-11.new.self;
+      behind = c.section-12.new.self;
+      order = refl;
+      calls = (
+        c.section.new.self,
+        give c.args.section DebugAbbrev c.section.result c.section.new.self c.in_ok-debug_abbrev.debug_abbrev c.section.ensures c.in_ok-debug_abbrev.was refl,
+        (
+          c.section-2.new.self,
+          give c.section.new.self DebugAddr c.section-2.result c.section-2.new.self c.in_ok-debug_addr.debug_addr c.section-2.ensures c.in_ok-debug_addr.was refl,
+          (
+            c.section-3.new.self,
+            give c.section-2.new.self DebugAranges c.section-3.result c.section-3.new.self c.in_ok-debug_aranges.debug_aranges c.section-3.ensures c.in_ok-debug_aranges.was refl,
+            (
+              c.section-4.new.self,
+              give c.section-3.new.self DebugInfo c.section-4.result c.section-4.new.self c.in_ok-debug_info.debug_info c.section-4.ensures c.in_ok-debug_info.was refl,
+              (
+                c.section-5.new.self,
+                give c.section-4.new.self DebugLine c.section-5.result c.section-5.new.self c.in_ok-debug_line.debug_line c.section-5.ensures c.in_ok-debug_line.was refl,
+                (
+                  c.section-6.new.self,
+                  give c.section-5.new.self DebugLineStr c.section-6.result c.section-6.new.self c.in_ok-debug_line_str.debug_line_str c.section-6.ensures c.in_ok-debug_line_str.was refl,
+                  (
+                    c.section-7.new.self,
+                    give c.section-6.new.self DebugLoc c.section-7.result c.section-7.new.self c.in_ok-debug_loc.debug_loc c.section-7.ensures c.in_ok-debug_loc.was refl,
+                    (
+                      c.section-8.new.self,
+                      give c.section-7.new.self DebugLocLists c.section-8.result c.section-8.new.self c.in_ok-debug_loclists.debug_loclists c.section-8.ensures c.in_ok-debug_loclists.was refl,
+                      (
+                        c.section-9.new.self,
+                        give c.section-8.new.self DebugMacinfo c.section-9.result c.section-9.new.self c.in_ok-debug_macinfo.debug_macinfo c.section-9.ensures c.in_ok-debug_macinfo.was refl,
+                        (
+                          c.section-10.new.self,
+                          give c.section-9.new.self DebugMacro c.section-10.result c.section-10.new.self c.in_ok-debug_macro.debug_macro c.section-10.ensures c.in_ok-debug_macro.was refl,
+                          (
+                            c.section-11.new.self,
+                            give c.section-10.new.self DebugNames c.section-11.result c.section-11.new.self c.in_ok-debug_names.debug_names c.section-11.ensures c.in_ok-debug_names.was refl,
+                            refl,
+                          ),
+                        ),
+                      ),
+                    ),
+                  ),
+                ),
+              ),
+            ),
+          ),
+        ),
+      );
+      refusal = refuses (goal.F-step g) view c.section-11.new.self DebugRanges c.section-12.result c.section-12.new.self c.in_err-debug_ranges.field-0.0 c.section-12.ensures c.in_err-debug_ranges.was;
+    })
+
+pub returns-in_err-debug_rnglists-clause-refused : goal.returns-in_err-debug_rnglists-clause-refused
+returns-in_err-debug_rnglists-clause-refused g c =
+    let view = g.R.Reader.view in
+    let given = given_in (view c.in_ok-debug_abbrev.debug_abbrev ∷ view c.in_ok-debug_addr.debug_addr ∷ view c.in_ok-debug_aranges.debug_aranges ∷ view c.in_ok-debug_info.debug_info ∷ view c.in_ok-debug_line.debug_line ∷ view c.in_ok-debug_line_str.debug_line_str ∷ view c.in_ok-debug_loc.debug_loc ∷ view c.in_ok-debug_loclists.debug_loclists ∷ view c.in_ok-debug_macinfo.debug_macinfo ∷ view c.in_ok-debug_macro.debug_macro ∷ view c.in_ok-debug_names.debug_names ∷ view c.in_ok-debug_ranges.debug_ranges ∷ []) in
+    let give = gives (goal.F-step g) view given in
+    let p = err_from_is_err_and c.from_residual-in_err-debug_rnglists.result c.from_residual-in_err-debug_rnglists.ensures.1 in
+    rw (p.1, p.2) (record {
+      given = given;
+      front = DebugAbbrev ∷ DebugAddr ∷ DebugAranges ∷ DebugInfo ∷ DebugLine ∷ DebugLineStr ∷ DebugLoc ∷ DebugLocLists ∷ DebugMacinfo ∷ DebugMacro ∷ DebugNames ∷ DebugRanges ∷ [];
+      id = DebugRngLists;
+      rest = DebugStr ∷ DebugStrOffsets ∷ DebugTypes ∷ [];
+      between = c.section-12.new.self;
+      behind = c.section-13.new.self;
+      order = refl;
+      calls = (
+        c.section.new.self,
+        give c.args.section DebugAbbrev c.section.result c.section.new.self c.in_ok-debug_abbrev.debug_abbrev c.section.ensures c.in_ok-debug_abbrev.was refl,
+        (
+          c.section-2.new.self,
+          give c.section.new.self DebugAddr c.section-2.result c.section-2.new.self c.in_ok-debug_addr.debug_addr c.section-2.ensures c.in_ok-debug_addr.was refl,
+          (
+            c.section-3.new.self,
+            give c.section-2.new.self DebugAranges c.section-3.result c.section-3.new.self c.in_ok-debug_aranges.debug_aranges c.section-3.ensures c.in_ok-debug_aranges.was refl,
+            (
+              c.section-4.new.self,
+              give c.section-3.new.self DebugInfo c.section-4.result c.section-4.new.self c.in_ok-debug_info.debug_info c.section-4.ensures c.in_ok-debug_info.was refl,
+              (
+                c.section-5.new.self,
+                give c.section-4.new.self DebugLine c.section-5.result c.section-5.new.self c.in_ok-debug_line.debug_line c.section-5.ensures c.in_ok-debug_line.was refl,
+                (
+                  c.section-6.new.self,
+                  give c.section-5.new.self DebugLineStr c.section-6.result c.section-6.new.self c.in_ok-debug_line_str.debug_line_str c.section-6.ensures c.in_ok-debug_line_str.was refl,
+                  (
+                    c.section-7.new.self,
+                    give c.section-6.new.self DebugLoc c.section-7.result c.section-7.new.self c.in_ok-debug_loc.debug_loc c.section-7.ensures c.in_ok-debug_loc.was refl,
+                    (
+                      c.section-8.new.self,
+                      give c.section-7.new.self DebugLocLists c.section-8.result c.section-8.new.self c.in_ok-debug_loclists.debug_loclists c.section-8.ensures c.in_ok-debug_loclists.was refl,
+                      (
+                        c.section-9.new.self,
+                        give c.section-8.new.self DebugMacinfo c.section-9.result c.section-9.new.self c.in_ok-debug_macinfo.debug_macinfo c.section-9.ensures c.in_ok-debug_macinfo.was refl,
+                        (
+                          c.section-10.new.self,
+                          give c.section-9.new.self DebugMacro c.section-10.result c.section-10.new.self c.in_ok-debug_macro.debug_macro c.section-10.ensures c.in_ok-debug_macro.was refl,
+                          (
+                            c.section-11.new.self,
+                            give c.section-10.new.self DebugNames c.section-11.result c.section-11.new.self c.in_ok-debug_names.debug_names c.section-11.ensures c.in_ok-debug_names.was refl,
+                            (
+                              c.section-12.new.self,
+                              give c.section-11.new.self DebugRanges c.section-12.result c.section-12.new.self c.in_ok-debug_ranges.debug_ranges c.section-12.ensures c.in_ok-debug_ranges.was refl,
+                              refl,
+                            ),
+                          ),
+                        ),
+                      ),
+                    ),
+                  ),
+                ),
+              ),
+            ),
+          ),
+        ),
+      );
+      refusal = refuses (goal.F-step g) view c.section-12.new.self DebugRngLists c.section-13.result c.section-13.new.self c.in_err-debug_rnglists.field-0.0 c.section-13.ensures c.in_err-debug_rnglists.was;
+    })
+
+pub returns-in_err-debug_str-clause-refused : goal.returns-in_err-debug_str-clause-refused
+returns-in_err-debug_str-clause-refused g c =
+    let view = g.R.Reader.view in
+    let given = given_in (view c.in_ok-debug_abbrev.debug_abbrev ∷ view c.in_ok-debug_addr.debug_addr ∷ view c.in_ok-debug_aranges.debug_aranges ∷ view c.in_ok-debug_info.debug_info ∷ view c.in_ok-debug_line.debug_line ∷ view c.in_ok-debug_line_str.debug_line_str ∷ view c.in_ok-debug_loc.debug_loc ∷ view c.in_ok-debug_loclists.debug_loclists ∷ view c.in_ok-debug_macinfo.debug_macinfo ∷ view c.in_ok-debug_macro.debug_macro ∷ view c.in_ok-debug_names.debug_names ∷ view c.in_ok-debug_ranges.debug_ranges ∷ view c.in_ok-debug_rnglists.debug_rnglists ∷ []) in
+    let give = gives (goal.F-step g) view given in
+    let p = err_from_is_err_and c.from_residual-in_err-debug_str.result c.from_residual-in_err-debug_str.ensures.1 in
+    rw (p.1, p.2) (record {
+      given = given;
+      front = DebugAbbrev ∷ DebugAddr ∷ DebugAranges ∷ DebugInfo ∷ DebugLine ∷ DebugLineStr ∷ DebugLoc ∷ DebugLocLists ∷ DebugMacinfo ∷ DebugMacro ∷ DebugNames ∷ DebugRanges ∷ DebugRngLists ∷ [];
+      id = DebugStr;
+      rest = DebugStrOffsets ∷ DebugTypes ∷ [];
+      between = c.section-13.new.self;
+      behind = c.section-14.new.self;
+      order = refl;
+      calls = (
+        c.section.new.self,
+        give c.args.section DebugAbbrev c.section.result c.section.new.self c.in_ok-debug_abbrev.debug_abbrev c.section.ensures c.in_ok-debug_abbrev.was refl,
+        (
+          c.section-2.new.self,
+          give c.section.new.self DebugAddr c.section-2.result c.section-2.new.self c.in_ok-debug_addr.debug_addr c.section-2.ensures c.in_ok-debug_addr.was refl,
+          (
+            c.section-3.new.self,
+            give c.section-2.new.self DebugAranges c.section-3.result c.section-3.new.self c.in_ok-debug_aranges.debug_aranges c.section-3.ensures c.in_ok-debug_aranges.was refl,
+            (
+              c.section-4.new.self,
+              give c.section-3.new.self DebugInfo c.section-4.result c.section-4.new.self c.in_ok-debug_info.debug_info c.section-4.ensures c.in_ok-debug_info.was refl,
+              (
+                c.section-5.new.self,
+                give c.section-4.new.self DebugLine c.section-5.result c.section-5.new.self c.in_ok-debug_line.debug_line c.section-5.ensures c.in_ok-debug_line.was refl,
+                (
+                  c.section-6.new.self,
+                  give c.section-5.new.self DebugLineStr c.section-6.result c.section-6.new.self c.in_ok-debug_line_str.debug_line_str c.section-6.ensures c.in_ok-debug_line_str.was refl,
+                  (
+                    c.section-7.new.self,
+                    give c.section-6.new.self DebugLoc c.section-7.result c.section-7.new.self c.in_ok-debug_loc.debug_loc c.section-7.ensures c.in_ok-debug_loc.was refl,
+                    (
+                      c.section-8.new.self,
+                      give c.section-7.new.self DebugLocLists c.section-8.result c.section-8.new.self c.in_ok-debug_loclists.debug_loclists c.section-8.ensures c.in_ok-debug_loclists.was refl,
+                      (
+                        c.section-9.new.self,
+                        give c.section-8.new.self DebugMacinfo c.section-9.result c.section-9.new.self c.in_ok-debug_macinfo.debug_macinfo c.section-9.ensures c.in_ok-debug_macinfo.was refl,
+                        (
+                          c.section-10.new.self,
+                          give c.section-9.new.self DebugMacro c.section-10.result c.section-10.new.self c.in_ok-debug_macro.debug_macro c.section-10.ensures c.in_ok-debug_macro.was refl,
+                          (
+                            c.section-11.new.self,
+                            give c.section-10.new.self DebugNames c.section-11.result c.section-11.new.self c.in_ok-debug_names.debug_names c.section-11.ensures c.in_ok-debug_names.was refl,
+                            (
+                              c.section-12.new.self,
+                              give c.section-11.new.self DebugRanges c.section-12.result c.section-12.new.self c.in_ok-debug_ranges.debug_ranges c.section-12.ensures c.in_ok-debug_ranges.was refl,
+                              (
+                                c.section-13.new.self,
+                                give c.section-12.new.self DebugRngLists c.section-13.result c.section-13.new.self c.in_ok-debug_rnglists.debug_rnglists c.section-13.ensures c.in_ok-debug_rnglists.was refl,
+                                refl,
+                              ),
+                            ),
+                          ),
+                        ),
+                      ),
+                    ),
+                  ),
+                ),
+              ),
+            ),
+          ),
+        ),
+      );
+      refusal = refuses (goal.F-step g) view c.section-13.new.self DebugStr c.section-14.result c.section-14.new.self c.in_err-debug_str.field-0.0 c.section-14.ensures c.in_err-debug_str.was;
+    })
+
+pub returns-in_err-debug_str_offsets-clause-refused : goal.returns-in_err-debug_str_offsets-clause-refused
+returns-in_err-debug_str_offsets-clause-refused g c =
+    let view = g.R.Reader.view in
+    let given = given_in (view c.in_ok-debug_abbrev.debug_abbrev ∷ view c.in_ok-debug_addr.debug_addr ∷ view c.in_ok-debug_aranges.debug_aranges ∷ view c.in_ok-debug_info.debug_info ∷ view c.in_ok-debug_line.debug_line ∷ view c.in_ok-debug_line_str.debug_line_str ∷ view c.in_ok-debug_loc.debug_loc ∷ view c.in_ok-debug_loclists.debug_loclists ∷ view c.in_ok-debug_macinfo.debug_macinfo ∷ view c.in_ok-debug_macro.debug_macro ∷ view c.in_ok-debug_names.debug_names ∷ view c.in_ok-debug_ranges.debug_ranges ∷ view c.in_ok-debug_rnglists.debug_rnglists ∷ view c.in_ok-debug_str.debug_str ∷ []) in
+    let give = gives (goal.F-step g) view given in
+    let p = err_from_is_err_and c.from_residual-in_err-debug_str_offsets.result c.from_residual-in_err-debug_str_offsets.ensures.1 in
+    rw (p.1, p.2) (record {
+      given = given;
+      front = DebugAbbrev ∷ DebugAddr ∷ DebugAranges ∷ DebugInfo ∷ DebugLine ∷ DebugLineStr ∷ DebugLoc ∷ DebugLocLists ∷ DebugMacinfo ∷ DebugMacro ∷ DebugNames ∷ DebugRanges ∷ DebugRngLists ∷ DebugStr ∷ [];
+      id = DebugStrOffsets;
+      rest = DebugTypes ∷ [];
+      between = c.section-14.new.self;
+      behind = c.section-15.new.self;
+      order = refl;
+      calls = (
+        c.section.new.self,
+        give c.args.section DebugAbbrev c.section.result c.section.new.self c.in_ok-debug_abbrev.debug_abbrev c.section.ensures c.in_ok-debug_abbrev.was refl,
+        (
+          c.section-2.new.self,
+          give c.section.new.self DebugAddr c.section-2.result c.section-2.new.self c.in_ok-debug_addr.debug_addr c.section-2.ensures c.in_ok-debug_addr.was refl,
+          (
+            c.section-3.new.self,
+            give c.section-2.new.self DebugAranges c.section-3.result c.section-3.new.self c.in_ok-debug_aranges.debug_aranges c.section-3.ensures c.in_ok-debug_aranges.was refl,
+            (
+              c.section-4.new.self,
+              give c.section-3.new.self DebugInfo c.section-4.result c.section-4.new.self c.in_ok-debug_info.debug_info c.section-4.ensures c.in_ok-debug_info.was refl,
+              (
+                c.section-5.new.self,
+                give c.section-4.new.self DebugLine c.section-5.result c.section-5.new.self c.in_ok-debug_line.debug_line c.section-5.ensures c.in_ok-debug_line.was refl,
+                (
+                  c.section-6.new.self,
+                  give c.section-5.new.self DebugLineStr c.section-6.result c.section-6.new.self c.in_ok-debug_line_str.debug_line_str c.section-6.ensures c.in_ok-debug_line_str.was refl,
+                  (
+                    c.section-7.new.self,
+                    give c.section-6.new.self DebugLoc c.section-7.result c.section-7.new.self c.in_ok-debug_loc.debug_loc c.section-7.ensures c.in_ok-debug_loc.was refl,
+                    (
+                      c.section-8.new.self,
+                      give c.section-7.new.self DebugLocLists c.section-8.result c.section-8.new.self c.in_ok-debug_loclists.debug_loclists c.section-8.ensures c.in_ok-debug_loclists.was refl,
+                      (
+                        c.section-9.new.self,
+                        give c.section-8.new.self DebugMacinfo c.section-9.result c.section-9.new.self c.in_ok-debug_macinfo.debug_macinfo c.section-9.ensures c.in_ok-debug_macinfo.was refl,
+                        (
+                          c.section-10.new.self,
+                          give c.section-9.new.self DebugMacro c.section-10.result c.section-10.new.self c.in_ok-debug_macro.debug_macro c.section-10.ensures c.in_ok-debug_macro.was refl,
+                          (
+                            c.section-11.new.self,
+                            give c.section-10.new.self DebugNames c.section-11.result c.section-11.new.self c.in_ok-debug_names.debug_names c.section-11.ensures c.in_ok-debug_names.was refl,
+                            (
+                              c.section-12.new.self,
+                              give c.section-11.new.self DebugRanges c.section-12.result c.section-12.new.self c.in_ok-debug_ranges.debug_ranges c.section-12.ensures c.in_ok-debug_ranges.was refl,
+                              (
+                                c.section-13.new.self,
+                                give c.section-12.new.self DebugRngLists c.section-13.result c.section-13.new.self c.in_ok-debug_rnglists.debug_rnglists c.section-13.ensures c.in_ok-debug_rnglists.was refl,
+                                (
+                                  c.section-14.new.self,
+                                  give c.section-13.new.self DebugStr c.section-14.result c.section-14.new.self c.in_ok-debug_str.debug_str c.section-14.ensures c.in_ok-debug_str.was refl,
+                                  refl,
+                                ),
+                              ),
+                            ),
+                          ),
+                        ),
+                      ),
+                    ),
+                  ),
+                ),
+              ),
+            ),
+          ),
+        ),
+      );
+      refusal = refuses (goal.F-step g) view c.section-14.new.self DebugStrOffsets c.section-15.result c.section-15.new.self c.in_err-debug_str_offsets.field-0.0 c.section-15.ensures c.in_err-debug_str_offsets.was;
+    })
+
+pub returns-in_err-debug_types-clause-refused : goal.returns-in_err-debug_types-clause-refused
+returns-in_err-debug_types-clause-refused g c =
+    let view = g.R.Reader.view in
+    let given = given_in (view c.in_ok-debug_abbrev.debug_abbrev ∷ view c.in_ok-debug_addr.debug_addr ∷ view c.in_ok-debug_aranges.debug_aranges ∷ view c.in_ok-debug_info.debug_info ∷ view c.in_ok-debug_line.debug_line ∷ view c.in_ok-debug_line_str.debug_line_str ∷ view c.in_ok-debug_loc.debug_loc ∷ view c.in_ok-debug_loclists.debug_loclists ∷ view c.in_ok-debug_macinfo.debug_macinfo ∷ view c.in_ok-debug_macro.debug_macro ∷ view c.in_ok-debug_names.debug_names ∷ view c.in_ok-debug_ranges.debug_ranges ∷ view c.in_ok-debug_rnglists.debug_rnglists ∷ view c.in_ok-debug_str.debug_str ∷ view c.in_ok-debug_str_offsets.debug_str_offsets ∷ []) in
+    let give = gives (goal.F-step g) view given in
+    let p = err_from_is_err_and c.from_residual-in_err-debug_types.result c.from_residual-in_err-debug_types.ensures.1 in
+    rw (p.1, p.2) (record {
+      given = given;
+      front = DebugAbbrev ∷ DebugAddr ∷ DebugAranges ∷ DebugInfo ∷ DebugLine ∷ DebugLineStr ∷ DebugLoc ∷ DebugLocLists ∷ DebugMacinfo ∷ DebugMacro ∷ DebugNames ∷ DebugRanges ∷ DebugRngLists ∷ DebugStr ∷ DebugStrOffsets ∷ [];
+      id = DebugTypes;
+      rest = [];
+      between = c.section-15.new.self;
+      behind = c.section-16.new.self;
+      order = refl;
+      calls = (
+        c.section.new.self,
+        give c.args.section DebugAbbrev c.section.result c.section.new.self c.in_ok-debug_abbrev.debug_abbrev c.section.ensures c.in_ok-debug_abbrev.was refl,
+        (
+          c.section-2.new.self,
+          give c.section.new.self DebugAddr c.section-2.result c.section-2.new.self c.in_ok-debug_addr.debug_addr c.section-2.ensures c.in_ok-debug_addr.was refl,
+          (
+            c.section-3.new.self,
+            give c.section-2.new.self DebugAranges c.section-3.result c.section-3.new.self c.in_ok-debug_aranges.debug_aranges c.section-3.ensures c.in_ok-debug_aranges.was refl,
+            (
+              c.section-4.new.self,
+              give c.section-3.new.self DebugInfo c.section-4.result c.section-4.new.self c.in_ok-debug_info.debug_info c.section-4.ensures c.in_ok-debug_info.was refl,
+              (
+                c.section-5.new.self,
+                give c.section-4.new.self DebugLine c.section-5.result c.section-5.new.self c.in_ok-debug_line.debug_line c.section-5.ensures c.in_ok-debug_line.was refl,
+                (
+                  c.section-6.new.self,
+                  give c.section-5.new.self DebugLineStr c.section-6.result c.section-6.new.self c.in_ok-debug_line_str.debug_line_str c.section-6.ensures c.in_ok-debug_line_str.was refl,
+                  (
+                    c.section-7.new.self,
+                    give c.section-6.new.self DebugLoc c.section-7.result c.section-7.new.self c.in_ok-debug_loc.debug_loc c.section-7.ensures c.in_ok-debug_loc.was refl,
+                    (
+                      c.section-8.new.self,
+                      give c.section-7.new.self DebugLocLists c.section-8.result c.section-8.new.self c.in_ok-debug_loclists.debug_loclists c.section-8.ensures c.in_ok-debug_loclists.was refl,
+                      (
+                        c.section-9.new.self,
+                        give c.section-8.new.self DebugMacinfo c.section-9.result c.section-9.new.self c.in_ok-debug_macinfo.debug_macinfo c.section-9.ensures c.in_ok-debug_macinfo.was refl,
+                        (
+                          c.section-10.new.self,
+                          give c.section-9.new.self DebugMacro c.section-10.result c.section-10.new.self c.in_ok-debug_macro.debug_macro c.section-10.ensures c.in_ok-debug_macro.was refl,
+                          (
+                            c.section-11.new.self,
+                            give c.section-10.new.self DebugNames c.section-11.result c.section-11.new.self c.in_ok-debug_names.debug_names c.section-11.ensures c.in_ok-debug_names.was refl,
+                            (
+                              c.section-12.new.self,
+                              give c.section-11.new.self DebugRanges c.section-12.result c.section-12.new.self c.in_ok-debug_ranges.debug_ranges c.section-12.ensures c.in_ok-debug_ranges.was refl,
+                              (
+                                c.section-13.new.self,
+                                give c.section-12.new.self DebugRngLists c.section-13.result c.section-13.new.self c.in_ok-debug_rnglists.debug_rnglists c.section-13.ensures c.in_ok-debug_rnglists.was refl,
+                                (
+                                  c.section-14.new.self,
+                                  give c.section-13.new.self DebugStr c.section-14.result c.section-14.new.self c.in_ok-debug_str.debug_str c.section-14.ensures c.in_ok-debug_str.was refl,
+                                  (
+                                    c.section-15.new.self,
+                                    give c.section-14.new.self DebugStrOffsets c.section-15.result c.section-15.new.self c.in_ok-debug_str_offsets.debug_str_offsets c.section-15.ensures c.in_ok-debug_str_offsets.was refl,
+                                    refl,
+                                  ),
+                                ),
+                              ),
+                            ),
+                          ),
+                        ),
+                      ),
+                    ),
+                  ),
+                ),
+              ),
+            ),
+          ),
+        ),
+      );
+      refusal = refuses (goal.F-step g) view c.section-15.new.self DebugTypes c.section-16.result c.section-16.new.self c.in_err-debug_types.field-0.0 c.section-16.ensures c.in_err-debug_types.was;
+    })
+
+pub section-requires-16 : goal.section-requires-16
+section-requires-16 g c =
+    let half : goal.F-IsAlwaysCallable g c.section-8.new.self = search of_calls in
+    let last : goal.F-IsAlwaysCallable g c.section-15.new.self = search (of_calls, half) in
+    search (of_calls, last)
+
+pub returns-clause-loaded : goal.returns-clause-loaded
+returns-clause-loaded g c =
+    let view = g.R.Reader.view in
+    let given = given_in (view c.in_ok-debug_abbrev.debug_abbrev ∷ view c.in_ok-debug_addr.debug_addr ∷ view c.in_ok-debug_aranges.debug_aranges ∷ view c.in_ok-debug_info.debug_info ∷ view c.in_ok-debug_line.debug_line ∷ view c.in_ok-debug_line_str.debug_line_str ∷ view c.in_ok-debug_loc.debug_loc ∷ view c.in_ok-debug_loclists.debug_loclists ∷ view c.in_ok-debug_macinfo.debug_macinfo ∷ view c.in_ok-debug_macro.debug_macro ∷ view c.in_ok-debug_names.debug_names ∷ view c.in_ok-debug_ranges.debug_ranges ∷ view c.in_ok-debug_rnglists.debug_rnglists ∷ view c.in_ok-debug_str.debug_str ∷ view c.in_ok-debug_str_offsets.debug_str_offsets ∷ view c.in_ok-debug_types.debug_types ∷ []) in
+    let give = gives (goal.F-step g) view given in
+    record {
+      given = given;
+      behind = c.section-16.new.self;
+      calls = (
+        c.section.new.self,
+        give c.args.section DebugAbbrev c.section.result c.section.new.self c.in_ok-debug_abbrev.debug_abbrev c.section.ensures c.in_ok-debug_abbrev.was refl,
+        (
+          c.section-2.new.self,
+          give c.section.new.self DebugAddr c.section-2.result c.section-2.new.self c.in_ok-debug_addr.debug_addr c.section-2.ensures c.in_ok-debug_addr.was refl,
+          (
+            c.section-3.new.self,
+            give c.section-2.new.self DebugAranges c.section-3.result c.section-3.new.self c.in_ok-debug_aranges.debug_aranges c.section-3.ensures c.in_ok-debug_aranges.was refl,
+            (
+              c.section-4.new.self,
+              give c.section-3.new.self DebugInfo c.section-4.result c.section-4.new.self c.in_ok-debug_info.debug_info c.section-4.ensures c.in_ok-debug_info.was refl,
+              (
+                c.section-5.new.self,
+                give c.section-4.new.self DebugLine c.section-5.result c.section-5.new.self c.in_ok-debug_line.debug_line c.section-5.ensures c.in_ok-debug_line.was refl,
+                (
+                  c.section-6.new.self,
+                  give c.section-5.new.self DebugLineStr c.section-6.result c.section-6.new.self c.in_ok-debug_line_str.debug_line_str c.section-6.ensures c.in_ok-debug_line_str.was refl,
+                  (
+                    c.section-7.new.self,
+                    give c.section-6.new.self DebugLoc c.section-7.result c.section-7.new.self c.in_ok-debug_loc.debug_loc c.section-7.ensures c.in_ok-debug_loc.was refl,
+                    (
+                      c.section-8.new.self,
+                      give c.section-7.new.self DebugLocLists c.section-8.result c.section-8.new.self c.in_ok-debug_loclists.debug_loclists c.section-8.ensures c.in_ok-debug_loclists.was refl,
+                      (
+                        c.section-9.new.self,
+                        give c.section-8.new.self DebugMacinfo c.section-9.result c.section-9.new.self c.in_ok-debug_macinfo.debug_macinfo c.section-9.ensures c.in_ok-debug_macinfo.was refl,
+                        (
+                          c.section-10.new.self,
+                          give c.section-9.new.self DebugMacro c.section-10.result c.section-10.new.self c.in_ok-debug_macro.debug_macro c.section-10.ensures c.in_ok-debug_macro.was refl,
+                          (
+                            c.section-11.new.self,
+                            give c.section-10.new.self DebugNames c.section-11.result c.section-11.new.self c.in_ok-debug_names.debug_names c.section-11.ensures c.in_ok-debug_names.was refl,
+                            (
+                              c.section-12.new.self,
+                              give c.section-11.new.self DebugRanges c.section-12.result c.section-12.new.self c.in_ok-debug_ranges.debug_ranges c.section-12.ensures c.in_ok-debug_ranges.was refl,
+                              (
+                                c.section-13.new.self,
+                                give c.section-12.new.self DebugRngLists c.section-13.result c.section-13.new.self c.in_ok-debug_rnglists.debug_rnglists c.section-13.ensures c.in_ok-debug_rnglists.was refl,
+                                (
+                                  c.section-14.new.self,
+                                  give c.section-13.new.self DebugStr c.section-14.result c.section-14.new.self c.in_ok-debug_str.debug_str c.section-14.ensures c.in_ok-debug_str.was refl,
+                                  (
+                                    c.section-15.new.self,
+                                    give c.section-14.new.self DebugStrOffsets c.section-15.result c.section-15.new.self c.in_ok-debug_str_offsets.debug_str_offsets c.section-15.ensures c.in_ok-debug_str_offsets.was refl,
+                                    (
+                                      c.section-16.new.self,
+                                      give c.section-15.new.self DebugTypes c.section-16.result c.section-16.new.self c.in_ok-debug_types.debug_types c.section-16.ensures c.in_ok-debug_types.was refl,
+                                      refl,
+                                    ),
+                                  ),
+                                ),
+                              ),
+                            ),
+                          ),
+                        ),
+                      ),
+                    ),
+                  ),
+                ),
+              ),
+            ),
+          ),
+        ),
+      );
+      are = search rules;
+    }

@@ -1,0 +1,22 @@
+//! The context over a table's sections.
+
+ghost use Rattle.std.specs.Prelude.{◌≡◌, Ok, IsOk, IfOk};
+ghost use Rattle.addr2line_sections.specs.Contexts.{context};
+
+use addr2line_context::Context;
+use gimli_core_base::error::Error;
+use gimli_core_readers::Reader;
+use gimli_dwarf::Dwarf;
+use std::alloc::{AllocError, Global};
+
+/// The context over sections that have one: nothing but want of memory is refused.
+pub fn context_of<R: Reader>(alloc: Global, dwarf: &Dwarf<R>) -> Result<Context<R>, AllocError>
+    requires { IsOk (context R.Offset.limit dwarf.now) }
+    ensures { IfOk result (λ c. context R.Offset.limit dwarf.now ≡ Ok c) }
+{
+    match Context::from_dwarf(alloc, dwarf) {
+        Ok(context) => Ok(context),
+        Err(Error::Memory) => Err(AllocError),
+        Err(_) => unreachable!(),
+    }
+}
