@@ -2,6 +2,9 @@
 //! readers. A checksum of each measurement goes to standard output, its time to standard error. Usage: units [BYTES]
 use std::time::Instant;
 
+mod numbers;
+use numbers::{leb128, mix, signed_leb128};
+
 // ---- the bytes, by the rule of crates/gimli_units_bench/src/generated.rt
 
 const ABBREVIATIONS: &[u8] = &[
@@ -182,10 +185,6 @@ fn address(source: &mut Source, bytes: &mut Vec<u8>) {
 
 // ---- numbers
 
-fn mix(sum: u64, number: u64) -> u64 {
-    sum.wrapping_mul(31).wrapping_add(number)
-}
-
 fn take<const N: usize>(bytes: &[u8], at: &mut usize) -> Option<[u8; N]> {
     let taken = bytes.get(*at..*at + N)?.try_into().ok()?;
     *at += N;
@@ -194,39 +193,6 @@ fn take<const N: usize>(bytes: &[u8], at: &mut usize) -> Option<[u8; N]> {
 
 fn word(bytes: &[u8], at: &mut usize) -> Option<u64> {
     Some(u32::from_le_bytes(take(bytes, at)?).into())
-}
-
-fn leb128(bytes: &[u8], at: &mut usize) -> Option<u64> {
-    let (mut number, mut shift) = (0, 0);
-    loop {
-        let byte = *bytes.get(*at)?;
-        if shift == 63 && byte > 1 {
-            return None;
-        }
-        *at += 1;
-        number |= u64::from(byte & 0x7f) << shift;
-        if byte < 0x80 {
-            return Some(number);
-        }
-        shift += 7;
-    }
-}
-
-fn signed_leb128(bytes: &[u8], at: &mut usize) -> Option<i64> {
-    let (mut number, mut shift) = (0, 0);
-    loop {
-        let byte = *bytes.get(*at)?;
-        if shift == 63 && byte != 0 && byte != 0x7f {
-            return None;
-        }
-        *at += 1;
-        number |= i64::from(byte & 0x7f) << shift;
-        shift += 7;
-        if byte < 0x80 {
-            let negative = byte & 0x40 != 0 && shift < 64;
-            return Some(if negative { number | -1 << shift } else { number });
-        }
-    }
 }
 
 fn skip_leb128(bytes: &[u8], at: &mut usize) -> Option<()> {
@@ -324,7 +290,7 @@ fn entries(unit: &[u8]) -> Option<&[u8]> {
     unit.get(12..4 + length)
 }
 
-fn read(unit: &[u8]) -> Option<u64> {
+fn walk(unit: &[u8], mut entry: impl FnMut(u64, &Declaration, &[u8], &mut usize) -> Option<u64>) -> Option<u64> {
     let (table, bytes) = (table(ABBREVIATIONS)?, entries(unit)?);
     let (mut sum, mut at) = (0, 0);
     while at < bytes.len() {
@@ -333,13 +299,19 @@ fn read(unit: &[u8]) -> Option<u64> {
             sum = mix(sum, 0);
             continue;
         }
-        let declaration = table.get(code as usize - 1)?;
-        sum = mix(sum, declaration.tag.into());
-        for (_name, form) in &declaration.attributes {
-            sum = mix(sum, number_of(&value(bytes, &mut at, *form)?));
-        }
+        sum = entry(sum, table.get(code as usize - 1)?, bytes, &mut at)?;
     }
     Some(sum)
+}
+
+fn read(unit: &[u8]) -> Option<u64> {
+    walk(unit, |sum, declaration, bytes, at| {
+        let mut sum = mix(sum, declaration.tag.into());
+        for (_name, form) in &declaration.attributes {
+            sum = mix(sum, number_of(&value(bytes, at, *form)?));
+        }
+        Some(sum)
+    })
 }
 
 struct Attribute<'a> {
@@ -417,24 +389,12 @@ fn pass(bytes: &[u8], at: &mut usize, form: u16) -> Option<()> {
 }
 
 fn passed(unit: &[u8]) -> Option<u64> {
-    let (table, bytes) = (table(ABBREVIATIONS)?, entries(unit)?);
-    let (mut sum, mut at) = (0, 0);
-    while at < bytes.len() {
-        let code = leb128(bytes, &mut at)?;
-        if code == 0 {
-            sum = mix(sum, 0);
-            continue;
-        }
-        let declaration = table.get(code as usize - 1)?;
+    walk(unit, |sum, declaration, bytes, at| {
         for (_name, form) in &declaration.attributes {
-            pass(bytes, &mut at, *form)?;
+            pass(bytes, at, *form)?;
         }
-        if at > bytes.len() {
-            return None;
-        }
-        sum = mix(sum, declaration.tag.into());
-    }
-    Some(sum)
+        (*at <= bytes.len()).then_some(mix(sum, declaration.tag.into()))
+    })
 }
 
 // ---- lists of ranges

@@ -1,31 +1,11 @@
--- The last of what elements give, found by a loop that keeps the last so far.
-use Rattle.std.proofs.Common.{◌≡◌, ℕ, ◌+◌, ◌<◌, List, length, get_or, drop, map, Option, Some, None, option_map, Result, Ok, refl, sym, ap, ◌∙◌}
-use Rattle.std.specs.List.{filter_map, last_or, cons_option}
+-- The last of what elements give, where what a step kept is known by an equation.
+use Rattle.std.proofs.Common.{◌≡◌, ℕ, ◌+◌, ◌<◌, List, length, get_or, Option, option_map, ap, ◌∙◌}
 use Rattle.std.specs.Option.{option_or}
-use Rattle.std.proofs.lemmas.List.{at_drop_more}
-use Rattle.gimli_core_base.specs.declared.error.Error.{Error}
+use Rattle.gimli_dwarf.proofs.Last.{gave, from_place}
+use Rattle.gimli_dwarf.proofs.Last as last
 
--- a value answered
-abbrev pub gave : {N : Type 0} → N → Result N Error
-gave x = Ok x
-
-module _ {X Y A N : Type 0} (view : X → Y) (see : A → N) (F : Y → Option N) where
-  -- what was found, and what the elements from a place on give
-  abbrev pub from_place : Option A → List X → ℕ → Option N
-  from_place found xs i = last_or (option_map see found) (filter_map F (map view (drop i xs)))
-
-  later : (found next : Option A) (rest : List N) → last_or (option_map see (option_or next found)) rest ≡ last_or (option_map see found) (cons_option (option_map see next) rest)
-  later found None rest = refl
-  later found (Some x) rest = refl
-
-  -- one step on, what all give is the same
-  pub from_place-more : (found next kept : Option A) (xs : List X) (i : ℕ) (x : X) (all : Option N) → i < length xs → x ≡ get_or xs i x
-      → gave (F (view x)) ≡ gave (option_map see next) → kept ≡ option_or next found → from_place found xs i ≡ all → from_place kept xs (i + 1) ≡ all
-  from_place-more found next kept xs i x all below here gives is before =
-      let same : F (view x) ≡ option_map see next = cc in
-      ap (λ o. from_place o xs (i + 1)) is
-      ∙ later found next (filter_map F (map view (drop (i + 1) xs)))
-      ∙ ap (λ o. last_or (option_map see found) (cons_option o (filter_map F (map view (drop (i + 1) xs))))) (sym same)
-      ∙ ap (λ y. last_or (option_map see found) (cons_option (F (view y)) (filter_map F (map view (drop (i + 1) xs))))) here
-      ∙ sym (at_drop_more (λ (ys : List X). last_or (option_map see found) (filter_map F (map view ys))) xs i x below)
-      ∙ before
+-- one step on, what all give is the same
+pub from_place-more : {X Y A N : Type 0} (view : X → Y) (see : A → N) (F : Y → Option N) (found next kept : Option A) (xs : List X) (i : ℕ) (x : X) (all : Option N) → i < length xs → x ≡ get_or xs i x
+    → gave (F (view x)) ≡ gave (option_map see next) → kept ≡ option_or next found → from_place view see F found xs i ≡ all → from_place view see F kept xs (i + 1) ≡ all
+from_place-more view see F found next kept xs i x all below here gives is before =
+    ap (λ o. from_place view see F o xs (i + 1)) is ∙ last.from_place-more view see F found next xs i x below here gives ∙ before

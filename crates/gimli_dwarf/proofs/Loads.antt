@@ -1,5 +1,6 @@
 -- What calls for sections gave.
-use Rattle.std.proofs.Common.{◌≡◌, ℕ, List, [], ◌∷◌, get_or, Result, Ok, Err, false, refl, sym, ap, subst, ◌∙◌}
+use Rattle.std.proofs.Common.{◌≡◌, ℕ, List, [], ◌∷◌, ◌++◌, get_or, Result, Ok, Err, false, refl, sym, ap, subst, ◌∙◌}
+use Rattle.std.specs.Prelude.{take}
 use Rattle.gimli_core_base.specs.View.{View}
 use Rattle.gimli_core_constants.specs.declared.common.SectionId.{SectionId}
 use Rattle.gimli_core_constants.specs.declared.common.SectionId.TheVariants.{DebugAbbrev, DebugAddr, DebugAranges, DebugInfo, DebugLine, DebugLineStr, DebugLoc, DebugLocLists, DebugMacinfo, DebugMacro, DebugNames, DebugRanges, DebugRngLists, DebugStr, DebugStrOffsets, DebugTypes}
@@ -30,9 +31,14 @@ abbrev pub given_in : List View → SectionId → View
 given_in views id = get_or views (place id) (record { bytes = []; is_big = false; first = 0 })
 
 module _ {F R E : Type 0} (step : F → SectionId → Result R E → F → Type 0) (view : R → View) where
-  -- a call that answered a reader
-  pub gives : (given : SectionId → View) (p : F) (id : SectionId) (o : Result R E) (q : F) (x : R) → step p id o q → o ≡ Ok x → view x ≡ given id → GivesSection step view given p id q
-  gives given p id o q x s is v = (x, subst (λ r. step p id r q) is s, v)
+  -- one more call behind others
+  behind : (given : SectionId → View) (ids : List SectionId) (p : F) (id : SectionId) (q r : F) → GivesSections step view given p ids q → GivesSection step view given q id r → GivesSections step view given p (ids ++ id ∷ []) r
+  behind given [] p id q r same s = (r, subst (λ x. GivesSection step view given x id r) (sym same) s, refl)
+  behind given (i ∷ ids) p id q r h s = (h.0, h.1, behind given ids h.0 id q r h.2 s)
+
+  -- a call that answered a reader, behind the calls for the first n sections
+  pub called : (given : SectionId → View) (n : ℕ) (p : F) (id : SectionId) (q : F) (o : Result R E) (r : F) (x : R) → step q id o r → o ≡ Ok x → view x ≡ given id → GivesSections step view given p (take n asked) q → GivesSections step view given p (take n asked ++ id ∷ []) r
+  called given n p id q o r x s is v h = behind given (take n asked) p id q r h (x, subst (λ r'. step q id r' r) is s, v)
 
   -- a call that answered a refusal
   pub refuses : (p : F) (id : SectionId) (o : Result R E) (q : F) (e : E) → step p id o q → o ≡ Err e → step p id (Err e) q

@@ -10,7 +10,7 @@ use Rattle.linemap_meaning.specs.Parts.{UnitPart}
 use Rattle.linemap_meaning.specs.Weight.{table_weight}
 use Rattle.linemap_output.specs.Writing.{AppendsFront}
 use Rattle.linemap_table.specs.Answer.{table_in}
-use Rattle.linemap_emit.specs.Sections.{SectionBytes}
+use Rattle.linemap_emit_tables.specs.Sections.{SectionBytes}
 use Rattle.linemap_emit.specs.Answers.{AreAnswers}
 use Rattle.linemap_places.specs.Laws.{AnswersWords, file_of}
 use Rattle.linemap_places.proofs.Words.{words_answered_by, is_read}

@@ -16,7 +16,7 @@ ghost use Rattle.linemap_emit_rows.specs.Sound.{CanTell};
 ghost use Rattle.linemap_emit_tables.specs.Emission.{program_of, no_units, emission};
 ghost use Rattle.linemap_emit_tables.specs.Fitting.{IsServed, AllUnitsFit};
 ghost use Rattle.linemap_emit.specs.Targets.{encoding_of, is_big, is_big_of};
-ghost use Rattle.linemap_emit.specs.Sections.{emitted_sections};
+ghost use Rattle.linemap_emit_tables.specs.Sections.{emitted_sections};
 ghost use Rattle.linemap_emit.specs.Steps.{CanTake, ProgramFits, Stands, with_unit_written};
 
 use crate::sections::Sections;
@@ -194,8 +194,12 @@ fn all_emitted(alloc: Global, target: Target, units: &[TableUnit]) -> Result<Emi
     Ok(emitted)
 }
 
-/// The sections of units that fit. Refused only where no memory is found.
-pub fn emit_units(alloc: Global, units: &[TableUnit], target: Target) -> Result<Sections, Error>
+// The sections of units that fit. Refused only where no memory is found.
+pub(crate) fn emit_units(
+    alloc: Global,
+    units: &[TableUnit],
+    target: Target,
+) -> Result<Sections, Error>
     requires { AllUnitsFit (encoding_of target) (is_big_of target) (map unit_part units.now) no_units }
     ensures ok { IfOk result (λ s. s ≡ emitted_sections (encoding_of target) (is_big_of target) (map unit_part units.now)) }
     ensures refused { IfErr result (λ e. e ≡ Memory) }

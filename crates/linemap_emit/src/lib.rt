@@ -7,7 +7,6 @@ mod sections;
 mod tables;
 mod target;
 
-pub use emission::emit_units;
 pub use error::EmitError;
 pub use sections::Sections;
 pub use tables::emit_sections;

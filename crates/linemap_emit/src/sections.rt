@@ -16,7 +16,7 @@ pub struct Sections {
 }
 
 impl Model for Sections {
-    ghost use Rattle.linemap_emit.specs.Sections.{SectionBytes};
+    ghost use Rattle.linemap_emit_tables.specs.Sections.{SectionBytes};
 
     ghost Value = { SectionBytes };
 

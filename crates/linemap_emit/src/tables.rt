@@ -4,7 +4,7 @@ ghost use Rattle.std.specs.Prelude.{◌≡◌, ◌≤◌, ◌^◌, ◌↔◌, If
 ghost use Rattle.linemap_meaning.specs.Weight.{table_weight};
 ghost use Rattle.linemap_table.specs.Units.{units_of};
 ghost use Rattle.linemap_emit.specs.Targets.{encoding_of, is_big_of};
-ghost use Rattle.linemap_emit.specs.Sections.{emitted_sections};
+ghost use Rattle.linemap_emit_tables.specs.Sections.{emitted_sections};
 ghost use Rattle.linemap_emit.specs.Answers.{AreAnswers};
 
 use crate::emission::emit_units;

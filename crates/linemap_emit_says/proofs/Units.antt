@@ -18,7 +18,8 @@ use Rattle.linemap_emit_programs.specs.Programs.{texts_told}
 use Rattle.linemap_emit_programs.proofs.Files.{numbered_again}
 use Rattle.linemap_emit_entries.specs.Emitting.{Emitting, range_written, text_offset, with_name, with_root}
 use Rattle.linemap_emit_units.specs.Emitted.{IsText, SaysUnit, AllSay, SayTable}
-use Rattle.linemap_emit_tables.specs.Emission.{Emission, HoldEmission, no_units, before_entries, behind_entries, with_emitted, with_all_emitted, emission}
+use Rattle.linemap_emit_tables.specs.Sections.{HoldEmission}
+use Rattle.linemap_emit_tables.specs.Emission.{Emission, no_units, before_entries, behind_entries, with_emitted, with_all_emitted, emission}
 use Rattle.linemap_emit_tables.specs.Fitting.{IsServed, UnitFits, AllUnitsFit, IsInUtf8, AllInUtf8}
 use Rattle.linemap_emit_says.proofs.Growing.{TextsStay, texts_stay_on, Grows, root_grows, Extends, extends_by_nothing, extends_on, all_extend, entries_of_all, units_are}
 use Rattle.linemap_emit_says.proofs.Texts.{text_stays, all_hold, text_is}

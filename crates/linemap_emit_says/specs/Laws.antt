@@ -6,7 +6,8 @@ use Rattle.linemap_meaning.specs.Conditions.{IsSound}
 use Rattle.linemap_meaning.specs.Parts.{UnitPart}
 use Rattle.linemap_emit_units.specs.Emitted.{SayTable}
 use Rattle.linemap_emit_units.specs.Laws.{AnswersTable}
-use Rattle.linemap_emit_tables.specs.Emission.{HoldEmission, no_units, emission}
+use Rattle.linemap_emit_tables.specs.Emission.{no_units, emission}
+use Rattle.linemap_emit_tables.specs.Sections.{HoldEmission}
 use Rattle.linemap_emit_tables.specs.Fitting.{IsServed, AllUnitsFit, AllInUtf8}
 
 -- Sections that hold what was emitted say what the table says.

@@ -1,19 +1,12 @@
 -- What is emitted of a table's units, one after the other: line number programs, entries, texts and range lists.
-use Rattle.std.specs.Prelude.{◌≡◌, ℕ, Bool, List, [], ◌∷◌, ◌++◌, length, Result, Ok, Err}
-use Rattle.gimli_core_base.specs.View.{bytes_left}
-use Rattle.gimli_core_constants.specs.declared.common.DwarfFileType.TheVariants.{Main}
+use Rattle.std.specs.Prelude.{ℕ, Bool, List, [], ◌∷◌, ◌++◌, length, Result, Ok, Err}
 use Rattle.gimli_core_constants.specs.declared.common.Encoding.{Encoding}
 use Rattle.gimli_lines_writer.specs.declared.error.Error.{Error}
 use Rattle.gimli_lines_writer.specs.Numbers.{constant_of}
-use Rattle.gimli_lines_tables.specs.Texts.{section_of}
 use Rattle.gimli_lines_encoding.specs.Rows.{first_row}
 use Rattle.gimli_lines_encoding.specs.Entries.{entries_bytes}
-use Rattle.gimli_dwarf_facts.specs.Sections.{Sections}
 use Rattle.linemap_meaning.specs.Parts.{UnitPart}
 use Rattle.linemap_emit_info.specs.declared.entry.Entry.{Entry}
-use Rattle.linemap_emit_info.specs.Entries.{spelled_declarations}
-use Rattle.linemap_emit_info.specs.Laws.{bytes_at}
-use Rattle.linemap_emit_info.specs.Units.{spelled_units}
 use Rattle.linemap_emit_entries.specs.Emitting.{Emitting, with_unit}
 use Rattle.linemap_emit_lines.specs.Headers.{spelled_program}
 use Rattle.linemap_emit_rows.specs.Rows.{rules_written, sequences_written}
@@ -67,19 +60,3 @@ with_all_emitted e is_big (u ∷ us) st = with_all_emitted e is_big us (with_emi
 -- what is emitted of a table
 abbrev pub emission : Encoding → Bool → List UnitPart → Emission
 emission e is_big us = with_all_emitted e is_big us no_units
-
--- Sections of a main file without supplement that hold what was emitted, each from some identifier on, up to version 4.
-pub record HoldEmission (e : Encoding) (is_big : Bool) (st : Emission) (s : Sections) : Type 0 where
-  pub abbrev_first : ℕ
-  pub info_first : ℕ
-  pub line_first : ℕ
-  pub ranges_first : ℕ
-  pub str_first : ℕ
-  pub abbrev_is : s.file.debug_abbrev ≡ bytes_at is_big abbrev_first (spelled_declarations e)
-  pub info_is : s.file.debug_info ≡ bytes_at is_big info_first (spelled_units e is_big st.units)
-  pub line_is : s.file.debug_line ≡ bytes_at is_big line_first st.lines
-  pub ranges_is : s.file.ranges.debug_ranges ≡ bytes_at is_big ranges_first st.ranges
-  pub str_is : s.file.debug_str ≡ bytes_at is_big str_first (section_of st.texts)
-  pub no_aranges : bytes_left s.file.debug_aranges ≡ 0
-  pub is_main : s.file.file_type ≡ Main
-  pub is_alone : s.supplements ≡ []

@@ -1,2 +1,3 @@
 pub mod Emission
 pub mod Fitting
+pub mod Sections

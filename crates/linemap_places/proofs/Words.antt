@@ -8,8 +8,8 @@ use Rattle.linemap_meaning.specs.Meaning as table
 use Rattle.linemap_meaning.specs.Parts.{UnitPart}
 use Rattle.linemap_emit_lookups.specs.Told.{place_told}
 use Rattle.linemap_emit_units.specs.Laws.{AnswersTable}
-use Rattle.linemap_emit.specs.Sections.{SectionBytes}
-use Rattle.linemap_emit.specs.Answers.{AreAnswers, Hold}
+use Rattle.linemap_emit_tables.specs.Sections.{SectionBytes, Hold}
+use Rattle.linemap_emit.specs.Answers.{AreAnswers}
 use Rattle.linemap_places.specs.Texts.{NeverRefuses, text_of_place, text_of_answer, text_of_address, word_text, words_text}
 use Rattle.linemap_places.specs.Laws.{AnswersWords, WordsAnswered, file_of}
 

@@ -6,7 +6,8 @@ use Rattle.linemap_meaning.specs.Answers.{ask_text}
 use Rattle.linemap_meaning.specs.Parts.{UnitPart}
 use Rattle.linemap_emit_info.specs.Laws.{bytes_at}
 use Rattle.gimli_dwarf.specs.Loading.{loaded}
-use Rattle.linemap_emit.specs.Sections.{SectionBytes, bytes_of}
+use Rattle.linemap_emit_tables.specs.Sections.{SectionBytes}
+use Rattle.linemap_emit.specs.Sections.{bytes_of}
 use Rattle.linemap_emit.specs.Answers.{AreAnswers}
 use Rattle.linemap_places.specs.Texts.{NeverRefuses, words_text}
 

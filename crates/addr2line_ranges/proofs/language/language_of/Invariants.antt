@@ -4,7 +4,7 @@ use Rattle.gimli_units_forms.specs.Values.{raw_attribute_of}
 use Rattle.gimli_units_entries.specs.Seen.{raw_attributes}
 use Rattle.gimli_dwarf_facts.specs.UnitFacts.{fitting}
 use Rattle.addr2line_sections.specs.UnitRanges.{language_of, is_language, language_in}
-use Rattle.addr2line_ranges.proofs.Last.{from_place}
+use Rattle.gimli_dwarf.proofs.Last.{from_place}
 use Rattle.addr2line_ranges.proofs.language.language_of.Given as goal
 
 abbrev pub invariant-loop-attribute : goal.invariant-loop-attribute

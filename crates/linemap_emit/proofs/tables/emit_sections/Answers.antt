@@ -6,7 +6,7 @@ use Rattle.linemap_meaning.specs.Weight.{table_weight}
 use Rattle.linemap_table.specs.Units.{units_of}
 use Rattle.linemap_emit.specs.Targets.{encoding_of, is_big_of}
 use Rattle.linemap_emit.specs.Answers.{AreAnswers}
-use Rattle.linemap_emit.specs.Sections.{SectionBytes}
+use Rattle.linemap_emit_tables.specs.Sections.{SectionBytes}
 use Rattle.linemap_emit.proofs.Answers.{light_fits, light_answers}
 use Rattle.linemap_emit.proofs.tables.emit_sections.Goals as goal
 
