@@ -1,6 +1,11 @@
 //! What goes across the crates below, over readers of borrowed and of shared bytes. The helpers have no contracts, so
 //! that the tests carry no facts from call to call.
 
+mod abbrev;
+mod numbers;
+mod readers;
+mod strings;
+
 use super::*;
 use bytes::Bytes;
 use std::alloc::Global;

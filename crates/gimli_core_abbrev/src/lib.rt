@@ -11,6 +11,3 @@ pub use abbreviation::{Abbreviation, AttributeSpecification};
 pub use cache::{AbbreviationsCache, AbbreviationsCacheStrategy};
 pub use section::DebugAbbrev;
 pub use table::Abbreviations;
-
-#[cfg(test)]
-mod tests;

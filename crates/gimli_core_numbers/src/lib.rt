@@ -8,6 +8,3 @@ pub mod order;
 
 pub use offset::ReaderOffset;
 pub use order::{BigEndian, Endianity, LittleEndian, RunTimeEndian};
-
-#[cfg(test)]
-mod tests;

@@ -11,6 +11,3 @@ mod text;
 pub use reader::{Reader, read_u8_array};
 pub use shared::EndianBytes;
 pub use slice::EndianSlice;
-
-#[cfg(test)]
-mod tests;

@@ -18,6 +18,3 @@ pub use bases::DefaultBase;
 pub use section::Section;
 pub use str_offsets::DebugStrOffsets;
 pub use strings::{DebugLineStr, DebugStr};
-
-#[cfg(test)]
-mod tests;

@@ -17,6 +17,3 @@ pub use entry::LineEntry;
 pub use file_id::FileId;
 pub use instruction::LineInstruction;
 pub use row::LineRow;
-
-#[cfg(test)]
-mod tests;

@@ -15,6 +15,3 @@ pub use file::FileEntry;
 pub use formats::FileEntryFormat;
 pub use header::LineProgramHeader;
 pub use section::DebugLine;
-
-#[cfg(test)]
-mod tests;

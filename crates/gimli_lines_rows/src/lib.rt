@@ -11,6 +11,3 @@ pub use program::{CompleteLineProgram, IncompleteLineProgram, LineProgram, LineP
 pub use row::{ColumnType, LineRow};
 pub use rows::LineRows;
 pub use sequence::LineSequence;
-
-#[cfg(test)]
-mod tests;

@@ -8,6 +8,3 @@ mod texts;
 
 pub use line_string::LineString;
 pub use string_tables::{LineStringId, LineStringTable, StringId, StringTable};
-
-#[cfg(test)]
-mod tests;

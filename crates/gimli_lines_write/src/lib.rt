@@ -6,6 +6,3 @@ pub mod unit;
 
 pub use header::FileText;
 pub use unit::write_unit;
-
-#[cfg(test)]
-mod tests;

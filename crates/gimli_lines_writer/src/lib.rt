@@ -11,6 +11,3 @@ pub use address::Address;
 pub use endian_vec::EndianVec;
 pub use error::Error;
 pub use writer::{InitialLengthOffset, Writer};
-
-#[cfg(test)]
-mod tests;

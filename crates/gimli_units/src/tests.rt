@@ -1,6 +1,11 @@
 //! What goes across the crates below, over readers of borrowed and of shared bytes. The helpers have no contracts, so
 //! that the tests carry no facts from call to call.
 
+mod entries;
+mod forms;
+mod headers;
+mod lists;
+
 use super::*;
 use bytes::Bytes;
 use gimli_core::{

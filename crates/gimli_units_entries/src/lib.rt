@@ -10,6 +10,3 @@ pub mod unit;
 pub use entry::DebuggingInformationEntry;
 pub use raw::EntriesRaw;
 pub use unit::{UnitEntries, entries_raw};
-
-#[cfg(test)]
-mod tests;

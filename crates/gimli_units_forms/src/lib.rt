@@ -11,6 +11,3 @@ pub use passing::skip_attributes;
 pub use reading::{parse_attribute, push_attribute, read_attribute};
 pub use spelling::{Spelling, spelling_of};
 pub use value::{Attribute, AttributeValue};
-
-#[cfg(test)]
-mod tests;

@@ -16,6 +16,3 @@ pub use fields::UnitType;
 pub use header::UnitHeader;
 pub use info::{DebugInfo, DebugInfoUnitHeadersIter};
 pub use offset::{OffsetInSection, OffsetInUnit};
-
-#[cfg(test)]
-mod tests;

@@ -15,8 +15,6 @@ pub mod ranges;
 pub mod raw_locations;
 pub mod raw_ranges;
 mod resolver;
-#[cfg(test)]
-mod tests;
 
 pub use header::ListsHeader;
 pub use location_entry::RawLocListEntry;

@@ -1,0 +1,4 @@
+pub mod Elements
+pub mod Laws
+pub mod Names
+pub mod Views

@@ -1,0 +1,9 @@
+//! Headers, programs and rows by hand, over readers of borrowed and of shared bytes, and what is written. The helpers have no contracts,
+//! so that the tests carry no facts from call to call.
+
+mod encoding;
+mod header;
+mod rows;
+mod tables;
+mod unit;
+mod writer;
