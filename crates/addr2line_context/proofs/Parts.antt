@@ -1,5 +1,5 @@
 -- A unit of a context, and a context, from their parts.
-use Rattle.std.proofs.Common.{◌≡◌, ℕ, Bool, false, List, [], Option, Some, None, Result, Ok, Err, refl, sym, ap, ◌∙◌, slice_get, map, option_map, if◌then◌else◌}
+use Rattle.std.proofs.Common.{◌≡◌, ℕ, Bool, false, List, [], ◌∷◌, Option, Some, None, Result, Ok, Err, refl, sym, ap, ◌∙◌, slice_get, map, option_map, length, arith, if◌then◌else◌}
 use Rattle.std.proofs.lemmas.Option.{slice_get-map}
 use Rattle.gimli_core_base.specs.declared.error.Error.{Error}
 use Rattle.gimli_core_base.specs.Repetition.{fault_of}
@@ -22,6 +22,7 @@ use Rattle.addr2line_lookup.specs.Ranged.{covering_ranges}
 use Rattle.addr2line_lookup.specs.Units.{answer_of, answer_at}
 use Rattle.addr2line_lookup.proofs.Answered.{all_answered}
 use Rattle.addr2line_lookup.proofs.Seen.{places_of_seen}
+use Rattle.addr2line_context.specs.FileContexts.{FileContext, file_context, all_lines, lines_read}
 use Rattle.addr2line_context.specs.Kept.{places_of, ordered_ranges}
 
 -- ---- a unit
@@ -91,12 +92,57 @@ with_units limit s units = and_then (units_of_supplement limit (supplement s)) (
 abbrev with_sets : ℕ → Sections → Option Error → Result Context Error
 with_sets limit s fault = unless fault (and_then (units_of_file limit s) (with_units limit s))
 
+abbrev with_sections : Sections → Context → Result FileContext Error
+with_sections s c = Ok (record { sections = s; context = c })
+
 module _ (limit : ℕ) (s : Sections) where
   abbrev fault_of_sets : Option Error
   fault_of_sets = fault_of (sets_to_come limit (whole_section s.file.debug_aranges))
 
   -- refused by none of its parts
-  pub context_found : (units : List ContextUnit) (supplement_units : List UnitFacts) → fault_of_sets ≡ None → units_of_file limit s ≡ Ok units
+  context_found : (units : List ContextUnit) (supplement_units : List UnitFacts) → fault_of_sets ≡ None → units_of_file limit s ≡ Ok units
       → units_of_supplement limit (supplement s) ≡ Ok supplement_units → context limit s ≡ Ok (record { units = units; supplement_units = supplement_units })
   context_found units supplement_units sound file h =
       ap (with_sets limit s) sound ∙ ap (λ r. and_then r (with_units limit s)) file ∙ ap (λ r. and_then r (with_supplement units)) h
+
+  pub file_context_found : (units : List ContextUnit) (supplement_units : List UnitFacts) → fault_of_sets ≡ None → units_of_file limit s ≡ Ok units
+      → units_of_supplement limit (supplement s) ≡ Ok supplement_units
+      → file_context limit s ≡ Ok (record { sections = s; context = record { units = units; supplement_units = supplement_units } })
+  file_context_found units supplement_units sound file h =
+      ap (λ r. and_then r (with_sections s)) (context_found units supplement_units sound file h)
+
+  -- refused by the last of them
+  pub supplement_refused : (units : List ContextUnit) (e : Error) → fault_of_sets ≡ None → units_of_file limit s ≡ Ok units
+      → units_of_supplement limit (supplement s) ≡ Err e → file_context limit s ≡ Err e
+  supplement_refused units e sound file h =
+      ap (λ r. and_then r (with_sections s))
+      (ap (with_sets limit s) sound ∙ ap (λ r. and_then r (with_units limit s)) file ∙ ap (λ r. and_then r (with_supplement units)) h)
+
+-- ---- all lines
+
+-- whether they could be read
+abbrev done : {A : Type 0} → Result A Error → Result (Unit {0}) Error
+done r = and_then r (λ lines. Ok tt)
+
+abbrev one_more : Lines → Result (List Lines) Error → Result (List Lines) Error
+one_more l r = and_then r (λ ls. Ok (l ∷ ls))
+
+given_lines : (l : Lines) (r : Result (List Lines) Error) → done (one_more l r) ≡ done r
+given_lines l (Ok ls) = refl
+given_lines l (Err e) = refl
+
+-- lines that can be read refuse nothing
+pub lines_behind : (units : List ContextUnit) (u : ContextUnit) (us : List ContextUnit) (l : Lines) → units ≡ u ∷ us → Ok l ≡ u.lines
+    → lines_read units ≡ lines_read us
+lines_behind units u us l whole is =
+    ap lines_read whole ∙ ap (λ r. done (and_then r (λ y. one_more y (all_lines us)))) (sym is) ∙ given_lines l (all_lines us)
+
+-- others refuse all
+pub lines_refused : (units : List ContextUnit) (u : ContextUnit) (us : List ContextUnit) (e : Error) → units ≡ u ∷ us → Err e ≡ u.lines
+    → lines_read units ≡ Err e
+lines_refused units u us e whole is = ap lines_read whole ∙ ap (λ r. done (and_then r (λ y. one_more y (all_lines us)))) (sym is)
+
+-- no units refuse nothing
+pub no_lines_left : (units : List ContextUnit) → length units ≡ 0 → lines_read units ≡ Ok tt
+no_lines_left [] h = refl
+no_lines_left (u ∷ us) h = absurd (omega arith)

@@ -1,1 +1,3 @@
+pub mod FileContexts
 pub mod Kept
+pub mod Seen

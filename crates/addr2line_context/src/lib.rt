@@ -4,12 +4,16 @@
 mod answers;
 pub mod context;
 mod headers;
+pub mod location_range;
 mod order;
+mod parsing;
+mod sections;
 mod supplement;
 pub mod unit;
 mod units;
 
 pub use context::Context;
+pub use location_range::LocationRangeIter;
 pub use unit::ContextUnit;
 
 #[cfg(test)]

@@ -66,7 +66,7 @@ fn context_of(alloc: Global, sections: Sections) -> Result<Context<Slice>, Error
         Ok(EndianSlice::new(sections.get(id), LittleEndian))
     };
     let dwarf = Dwarf::load(alloc, section)?;
-    Context::from_dwarf(alloc, &dwarf)
+    Context::from_dwarf(alloc, dwarf)
 }
 
 // The number of units, that of the supplement's, and of the first unit the language, the begin and the end of its first range.

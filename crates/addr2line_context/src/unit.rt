@@ -11,6 +11,7 @@ ghost use Rattle.addr2line_sections.specs.UnitLines.{lines_of_unit};
 ghost use Rattle.addr2line_sections.specs.UnitRanges.{is_partial};
 ghost use Rattle.addr2line_lookup.specs.Places.{place_of};
 
+use addr2line_between::KeptUnit;
 use addr2line_lines::lines_of_unit;
 use addr2line_lookup::{Lines, Location};
 use addr2line_ranges::{language_of, ranges_of_attributes};
@@ -126,6 +127,19 @@ impl<R: Reader> ContextUnit<R> {
     {
         match &self.lines {
             Ok(lines) => Ok(lines.find_location(probe)),
+            Err(error) => Err(*error),
+        }
+    }
+}
+
+impl<R: Reader> KeptUnit for ContextUnit<R> {
+    ghost use Rattle.addr2line_context.specs.Kept.{places_of};
+
+    ghost places = { places_of };
+
+    fn lines(&self) -> Result<&Lines, Error> {
+        match &self.lines {
+            Ok(lines) => Ok(lines),
             Err(error) => Err(*error),
         }
     }

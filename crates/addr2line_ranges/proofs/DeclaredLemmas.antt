@@ -9,7 +9,8 @@ use Rattle.gimli_dwarf_facts.specs.UnitFacts.{UnitFacts}
 use Rattle.addr2line_meaning.specs.Lines.{Lines}
 use Rattle.addr2line_sections.specs.FileTexts.{each}
 use Rattle.addr2line_sections.specs.UnitRanges.{RangeFact, fact_of, list_in, last_of, range_of_root, declared_ranges, or_else, ranges_of_lines, ranges_of_attributes}
-use Rattle.addr2line_ranges.specs.Facts.{LastFacts, last_facts, facts_of, ranges_by, declared_by}
+use Rattle.addr2line_entries.specs.EntryRanges.{ranges_of_facts, ranges_of_entry}
+use Rattle.addr2line_ranges.specs.Facts.{LastFacts, last_facts, facts_of, ranges_by, declared_by, entry_ranges_in, entry_ranges_by}
 
 -- facts answered, and ranges
 abbrev pub found : LastFacts → Result LastFacts Error
@@ -42,3 +43,20 @@ module _ (limit : ℕ) (s : Sections) (u : UnitFacts) where
       let ends : List Range → Result (List Range) Error = λ rs. Ok (or_else rs (ranges_of_lines lines)) in
       and_last facts (λ fs. declared_ranges limit s u fs (last_of list_in fs)) ends
       ∙ ap (λ r. and_then r ends) (by_last facts last h ∙ k)
+
+  -- ---- an entry that is no root
+
+  entry_by_list : (facts : List RangeFact) (list : Option (Option ℕ)) → ranges_of_facts limit s u facts list ≡ entry_ranges_in limit s u (range_of_root facts) list
+  entry_by_list facts None = refl
+  entry_by_list facts (Some None) = refl
+  entry_by_list facts (Some (Some offset)) = refl
+
+  entry_by_last : (facts : Result (List RangeFact) Error) (last : LastFacts) → and_then facts (λ fs. Ok (last_facts fs)) ≡ found last
+      → and_then facts (λ fs. ranges_of_facts limit s u fs (last_of list_in fs)) ≡ entry_ranges_by limit s u last
+  entry_by_last (Ok fs) last h = let same : last_facts fs ≡ last = cc in entry_by_list fs (last_of list_in fs) ∙ ap (entry_ranges_by limit s u) same
+  entry_by_last (Err e) last h = cc
+
+  -- the ranges of an entry whose attributes have these last facts
+  pub entry_ranges-found : (attributes : List RawAttribute) (last : LastFacts) → facts_of limit s u.bases attributes ≡ found last
+      → ranges_of_entry limit s u attributes ≡ entry_ranges_by limit s u last
+  entry_ranges-found attributes last h = entry_by_last (each (fact_of limit s u.bases) attributes) last h

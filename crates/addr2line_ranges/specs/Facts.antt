@@ -61,3 +61,12 @@ ranges_by limit s u others _ = Ok (or_else (ranges_of_aranges limit s u.header.o
 -- what is declared by the last facts of a root
 abbrev pub declared_by : ℕ → Sections → UnitFacts → LastFacts → Result (List Range) Error
 declared_by limit s u last = ranges_by limit s u (root_range last) last.list
+
+-- the ranges of an entry that is no root: by the last list, if there is one, and else what low_pc and high_pc say
+abbrev pub entry_ranges_in : ℕ → Sections → UnitFacts → List Range → Option (Option ℕ) → Result (List Range) Error
+entry_ranges_in limit s u others (Some (Some offset)) = listed_ranges limit s u offset
+entry_ranges_in limit s u others _ = Ok others
+
+-- by the last facts of an entry
+abbrev pub entry_ranges_by : ℕ → Sections → UnitFacts → LastFacts → Result (List Range) Error
+entry_ranges_by limit s u last = entry_ranges_in limit s u (root_range last) last.list

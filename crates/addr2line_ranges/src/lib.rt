@@ -10,7 +10,7 @@ mod ranges;
 
 pub use aranges::check_aranges;
 pub use language::language_of;
-pub use ranges::ranges_of_attributes;
+pub use ranges::{ranges_of_attributes, ranges_of_entry};
 
 #[cfg(test)]
 mod tests;

@@ -6,7 +6,8 @@ ghost use Rattle.gimli_core_base.specs.Calls.{Gives};
 ghost use Rattle.gimli_units_entries.specs.Seen.{raw_attributes};
 ghost use Rattle.addr2line_meaning.specs.Lines.{range_of};
 ghost use Rattle.addr2line_sections.specs.UnitRanges.{if_filled, low_to_high, or_else, ranges_of_aranges, ranges_of_lines, ranges_of_attributes};
-ghost use Rattle.addr2line_ranges.specs.Facts.{root_range, declared_by};
+ghost use Rattle.addr2line_entries.specs.EntryRanges.{ranges_of_entry};
+ghost use Rattle.addr2line_ranges.specs.Facts.{root_range, declared_by, entry_ranges_by};
 
 use crate::aranges::{push_if_any, ranges_of_aranges};
 use crate::facts::{LastFacts, facts_of};
@@ -123,4 +124,44 @@ pub fn ranges_of_attributes<R: Reader>(
     let facts = facts_of(dwarf, unit, attributes)?;
     let declared = declared_ranges(alloc, dwarf, unit, &facts)?;
     or_lines(alloc, declared, lines)
+}
+
+/// A range as a list, if there is one.
+fn listed(alloc: Global, range: Option<Range>) -> Result<Vec<Range>, Error>
+    ensures { Gives (λ v. v.items) result (Ok (option_to_list range)) }
+{
+    let mut ranges = Vec::new(alloc);
+    push_if_any(&mut ranges, range)?;
+    Ok(ranges)
+}
+
+/// What an entry with these facts declares: its range list, or else what low_pc and high_pc say.
+fn entry_ranges<R: Reader>(
+    alloc: Global,
+    dwarf: &Dwarf<R>,
+    unit: &Unit<R>,
+    facts: &LastFacts<R::Offset>,
+) -> Result<Vec<Range>, Error>
+    ensures { Gives (λ v. v.items) result (entry_ranges_by R.Offset.limit dwarf.now unit.now facts.now) }
+{
+    if let Some(Some(offset)) = facts.list {
+        listed_ranges(alloc, dwarf, unit, offset)
+    } else {
+        listed(alloc, root_range(facts))
+    }
+}
+
+/// The ranges of an entry with these attributes, as a function or a call has them: its range list, or else what low_pc and high_pc
+/// say. Refused is an attribute whose address or list can't be read, the first of them, and then a range list.
+pub fn ranges_of_entry<R: Reader>(
+    alloc: Global,
+    dwarf: &Dwarf<R>,
+    unit: &Unit<R>,
+    attributes: &[Attribute<R>],
+) -> Result<Vec<Range>, Error>
+    ensures { Gives (λ v. v.items) result
+        (ranges_of_entry R.Offset.limit dwarf.now unit.now (raw_attributes R.view R.Offset.count attributes.now)) }
+{
+    let facts = facts_of(dwarf, unit, attributes)?;
+    entry_ranges(alloc, dwarf, unit, &facts)
 }

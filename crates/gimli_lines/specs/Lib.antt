@@ -19,5 +19,11 @@ pub use Rattle.gimli_lines_tables.specs.LineStrings
 pub use Rattle.gimli_lines_encoding.specs.Rows as RowsWritten
 pub use Rattle.gimli_lines_encoding.specs.Entries as EntriesWritten
 pub use Rattle.gimli_lines_encoding.specs.ReadBack
-pub use Rattle.gimli_lines_write.specs.Headers as HeadersWritten
-pub use Rattle.gimli_lines_write.specs.Units
+pub use Rattle.gimli_lines_fields.specs.Texts as TextsWritten
+pub use Rattle.gimli_lines_fields.specs.Fields
+pub use Rattle.gimli_lines_fields.specs.Headers as HeadersWritten
+pub use Rattle.gimli_lines_files.specs.Kept
+pub use Rattle.gimli_lines_unit.specs.Told
+pub use Rattle.gimli_lines_unit.specs.Units
+pub use Rattle.gimli_lines_again.specs.ReadBack as UnitsAgain
+pub use Rattle.gimli_lines_program.specs.Programs as ProgramsBuilt

@@ -3,7 +3,7 @@
 
 mod encoding;
 mod header;
+mod program;
 mod rows;
 mod tables;
-mod unit;
 mod writer;

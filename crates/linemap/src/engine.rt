@@ -95,7 +95,7 @@ fn write_places<W: Write>(
     ensures stop { IfErr result StopsWriting }
 {
     let dwarf = dwarf_of(alloc, sections, target().endian());
-    let context = context_of(alloc, &dwarf)?;
+    let context = context_of(alloc, dwarf)?;
     write_answers(alloc, &context, words, out)
 }
 
@@ -106,11 +106,11 @@ fn write_answers<R: Reader, W: Write>(
     words: &[String],
     out: &mut W,
 ) -> Result<(), Stop>
-    requires { NeverRefuses context.now }
+    requires { NeverRefuses context.now.context }
     ensures whole { OnOk result (Appends (W.contents out.old) (W.contents out.new)
-        (words_text context.now (map string_bytes words.now))) }
+        (words_text context.now.context (map string_bytes words.now))) }
     ensures front { AppendsFront (W.contents out.old) (W.contents out.new)
-        (words_text context.now (map string_bytes words.now)) }
+        (words_text context.now.context (map string_bytes words.now)) }
     ensures stop { IfErr result StopsWriting }
 {
     for word in words {
@@ -126,11 +126,11 @@ fn write_answer<R: Reader, W: Write>(
     word: &str,
     out: &mut W,
 ) -> Result<(), Stop>
-    requires { NeverRefuses context.now }
+    requires { NeverRefuses context.now.context }
     ensures whole { OnOk result (Appends (W.contents out.old) (W.contents out.new)
-        (word_text context.now word.now ++ 10 ∷ [])) }
+        (word_text context.now.context word.now ++ 10 ∷ [])) }
     ensures front { AppendsFront (W.contents out.old) (W.contents out.new)
-        (word_text context.now word.now ++ 10 ∷ []) }
+        (word_text context.now.context word.now ++ 10 ∷ []) }
     ensures stop { IfErr result StopsWriting }
 {
     let line = answer_line(alloc, context, word)?;
@@ -145,9 +145,9 @@ fn answer_line<R: Reader>(
     context: &Context<R>,
     word: &str,
 ) -> Result<String, AllocError>
-    requires { NeverRefuses context.now }
+    requires { NeverRefuses context.now.context }
     ensures { IfOk result (λ line.
-        string_bytes line ≡ word_text context.now word.now ++ 10 ∷ []) }
+        string_bytes line ≡ word_text context.now.context word.now ++ 10 ∷ []) }
 {
     let mut line = word_line(alloc, context, word)?;
     line.push('\n')?;

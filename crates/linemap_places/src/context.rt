@@ -10,9 +10,9 @@ use gimli_dwarf::Dwarf;
 use std::alloc::{AllocError, Global};
 
 /// The context over sections that have one: nothing but want of memory is refused.
-pub fn context_of<R: Reader>(alloc: Global, dwarf: &Dwarf<R>) -> Result<Context<R>, AllocError>
-    requires { IsOk (context R.Offset.limit dwarf.now) }
-    ensures { IfOk result (λ c. context R.Offset.limit dwarf.now ≡ Ok c) }
+pub fn context_of<R: Reader>(alloc: Global, dwarf: Dwarf<R>) -> Result<Context<R>, AllocError>
+    requires { IsOk (context R.Offset.limit dwarf) }
+    ensures { IfOk result (λ c. context R.Offset.limit dwarf ≡ Ok c.context) }
 {
     match Context::from_dwarf(alloc, dwarf) {
         Ok(context) => Ok(context),

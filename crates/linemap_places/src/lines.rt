@@ -31,8 +31,8 @@ pub fn place_line(alloc: Global, place: Option<Location<'_>>) -> Result<String, 
 
 // The place of an address, where none is refused.
 fn place_at<R: Reader>(context: &Context<R>, address: u64) -> Option<Location<'_>>
-    requires { NeverRefuses context.now }
-    ensures { text_of_place (option_map place_of result) ≡ text_of_answer (location context.now address) }
+    requires { NeverRefuses context.now.context }
+    ensures { text_of_place (option_map place_of result) ≡ text_of_answer (location context.now.context address) }
 {
     match context.find_location(address) {
         Ok(place) => place,
@@ -47,8 +47,8 @@ pub fn word_line<R: Reader>(
     context: &Context<R>,
     word: &str,
 ) -> Result<String, AllocError>
-    requires { NeverRefuses context.now }
-    ensures { IfOk result (λ line. string_bytes line ≡ word_text context.now word.now) }
+    requires { NeverRefuses context.now.context }
+    ensures { IfOk result (λ line. string_bytes line ≡ word_text context.now.context word.now) }
 {
     let place = match read_address(word) {
         Some(address) => place_at(context, address),

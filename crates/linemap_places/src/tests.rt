@@ -29,7 +29,7 @@ fn sections_of(alloc: Global, text: &[u8]) -> Result<Sections, &'static str> {
 
 fn line_in(
     alloc: Global,
-    dwarf: &Dwarf<EndianSlice<'_, RunTimeEndian>>,
+    dwarf: Dwarf<EndianSlice<'_, RunTimeEndian>>,
     address: u64,
 ) -> Result<String, &'static str> {
     let Ok(context) = Context::from_dwarf(alloc, dwarf) else {
@@ -59,7 +59,7 @@ fn line_with(
     }
     let mut dwarf = dwarf_of(alloc, &sections, RunTimeEndian::Little);
     dwarf.debug_line = EndianSlice::new(&bytes, RunTimeEndian::Little).into();
-    line_in(alloc, &dwarf, address)
+    line_in(alloc, dwarf, address)
 }
 
 // Byte 54 is the special opcode of the first row, 22: four lines more, and no address.

@@ -1,0 +1,21 @@
+//! The lines of all units.
+
+ghost use Rattle.std.specs.Prelude.{◌≡◌};
+ghost use Rattle.addr2line_context.specs.FileContexts.{lines_read};
+
+use crate::unit::ContextUnit;
+use addr2line_between::KeptUnit;
+use gimli_core_base::error::Error;
+use gimli_core_readers::Reader;
+
+/// Whether the lines of all units can be read, or else the first refusal.
+pub(crate) fn check_lines<R: Reader>(units: &[ContextUnit<R>]) -> Result<(), Error>
+    ensures { result ≡ lines_read units.now }
+{
+    let mut left = units;
+    while let Some((unit, rest)) = left.split_first() {
+        unit.lines()?;
+        left = rest;
+    }
+    Ok(())
+}

@@ -1,0 +1,59 @@
+//! A context of sections that are handed in one by one.
+
+ghost use Rattle.std.specs.Prelude.{◌≡◌, Ok};
+ghost use Rattle.gimli_core_base.specs.Calls.{Gives};
+ghost use Rattle.addr2line_context.specs.FileContexts.{file_context, main_file};
+
+use crate::context::Context;
+use gimli_core_abbrev::{AbbreviationsCache, DebugAbbrev};
+use gimli_core_base::error::Error;
+use gimli_core_constants::DwarfFileType;
+use gimli_core_readers::Reader;
+use gimli_core_strings::{DebugAddr, DebugLineStr, DebugStr, DebugStrOffsets};
+use gimli_dwarf::Dwarf;
+use gimli_lines_header::DebugLine;
+use gimli_units_headers::{DebugAranges, DebugInfo};
+use gimli_units_lists::{DebugRanges, DebugRngLists, LocationLists, RangeLists};
+use std::alloc::Global;
+
+impl<R: Reader> Context<R> {
+    /// The context of a main file without a supplement, from its sections; a copy of the last stands for each that isn't named.
+    pub fn from_sections(
+        alloc: Global,
+        debug_abbrev: DebugAbbrev<R>,
+        debug_addr: DebugAddr<R>,
+        debug_aranges: DebugAranges<R>,
+        debug_info: DebugInfo<R>,
+        debug_line: DebugLine<R>,
+        debug_line_str: DebugLineStr<R>,
+        debug_ranges: DebugRanges<R>,
+        debug_rnglists: DebugRngLists<R>,
+        debug_str: DebugStr<R>,
+        debug_str_offsets: DebugStrOffsets<R>,
+        default_section: R,
+    ) -> Result<Self, Error>
+        ensures { Gives (λ c. c) result (file_context R.Offset.limit (main_file debug_abbrev debug_addr debug_aranges debug_info
+            debug_line debug_line_str debug_ranges debug_rnglists debug_str debug_str_offsets (R.view default_section))) }
+    {
+        let sections = Dwarf {
+            debug_abbrev,
+            debug_addr,
+            debug_aranges,
+            debug_info,
+            debug_line,
+            debug_line_str,
+            debug_macinfo: default_section.copy()?.into(),
+            debug_macro: default_section.copy()?.into(),
+            debug_names: default_section.copy()?.into(),
+            debug_str,
+            debug_str_offsets,
+            debug_types: default_section.copy()?.into(),
+            locations: LocationLists::new(default_section.copy()?.into(), default_section.into()),
+            ranges: RangeLists::new(debug_ranges, debug_rnglists),
+            file_type: DwarfFileType::Main,
+            sup: None,
+            abbreviations_cache: AbbreviationsCache::new(alloc),
+        };
+        Context::from_dwarf(alloc, sections)
+    }
+}

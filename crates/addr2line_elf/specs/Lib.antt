@@ -1,0 +1,9 @@
+pub mod Refusals
+pub mod Loading
+pub mod Classes
+pub mod Headers
+pub mod Texts
+pub mod Images
+pub mod Entries
+pub mod Symbols
+pub mod Debug

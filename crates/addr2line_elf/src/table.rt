@@ -1,0 +1,232 @@
+//! The table of an image's sections.
+
+ghost use Rattle.std.specs.Prelude.{◌≡◌, ◌+◌, ◌*◌, ◌<◌, ◌≤◌, [], MatchBool};
+ghost use Rattle.gimli_core_base.specs.View.{bytes_left};
+ghost use Rattle.gimli_core_base.specs.Parsers.{value_of};
+ghost use Rattle.gimli_core_base.specs.Repetition.{times};
+ghost use Rattle.gimli_core_base.specs.Calls.{Answers, Gives};
+ghost use Rattle.addr2line_elf.specs.Classes.{is_big, section_header_size};
+ghost use Rattle.addr2line_elf.specs.Headers.{file_header, section_header, header_at, headers_at};
+ghost use Rattle.addr2line_elf.specs.Loading.{read_in, Loads};
+ghost use Rattle.addr2line_elf.specs.Images.{contents, linked, count_of, names_of, table, sections_of};
+
+use crate::class::Class;
+use crate::error::LoadError;
+use crate::headers::{FileHeader, SectionHeader};
+use crate::reading::{in_file, input_at, input_of, nothing_of, part_at};
+use bytes::Bytes;
+use gimli_core_base::constants::ReaderOffsetId;
+use gimli_core_base::error::Error;
+use gimli_core_numbers::RunTimeEndian;
+use gimli_core_readers::{EndianBytes, EndianSlice, Reader};
+use std::alloc::Global;
+
+/// A section that has no bytes in the file.
+pub(crate) const SHT_NOBITS: u32 = 8;
+
+/// The index that names no section.
+const SHN_UNDEF: u32 = 0;
+
+/// The index that says that the first section header holds an index.
+const SHN_XINDEX: u16 = 0xffff;
+
+/// The sections of an image, in order, and the texts of their names.
+#[derive(Debug, Drop)]
+pub(crate) struct SectionTable {
+    pub headers: Vec<SectionHeader>,
+    pub names: EndianBytes<RunTimeEndian>,
+}
+
+/// The header of the file. Takes no memory.
+#[tactic(auto, using(crate::proofs::Refused::Loads_answered, crate::proofs::Refused::Loads_given))]
+pub(crate) fn parse_file_header(
+    file: &EndianBytes<RunTimeEndian>,
+    class: Class,
+) -> Result<FileHeader, LoadError>
+    ensures { Loads (λ header. header) result (read_in file.now (file_header class)) }
+{
+    in_file(FileHeader::parse(&mut input_of(file), class))
+}
+
+/// The sections that the file's header leads to.
+#[tactic(auto, using(crate::proofs::Refused::Loads_answered, crate::proofs::Refused::Loads_given))]
+pub(crate) fn parse_sections(
+    alloc: Global,
+    file: &EndianBytes<RunTimeEndian>,
+    class: Class,
+    header: &FileHeader,
+) -> Result<SectionTable, LoadError>
+    ensures { Loads (λ sections. record { headers = sections.headers.items; names = sections.names }) result
+        (sections_of class header.now file.now) }
+{
+    if header.table_offset == 0 {
+        return Ok(SectionTable {
+            headers: Vec::new(alloc),
+            names: in_file(nothing_of(file))?,
+        });
+    }
+    if header.entry_size != class.section_header_size() {
+        return Err(LoadError::UnsupportedElf);
+    }
+    parse_table(alloc, file, class, header)
+}
+
+// The headers of the table, and the section with their names.
+fn parse_table(
+    alloc: Global,
+    file: &EndianBytes<RunTimeEndian>,
+    class: Class,
+    header: &FileHeader,
+) -> Result<SectionTable, LoadError>
+    ensures { Loads (λ sections. record { headers = sections.headers.items; names = sections.names }) result
+        (table class header.now file.now) }
+{
+    let first = parse_first(file, class, header.table_offset)?;
+    let count = section_count(header, &first);
+    let headers = parse_all(alloc, file, class, header.table_offset, count)?;
+    let names = linked(file, &headers, names_index(header, &first))?;
+    Ok(SectionTable { headers, names })
+}
+
+// The number of section headers.
+fn section_count(header: &FileHeader, first: &SectionHeader) -> u64
+    ensures { result ≡ count_of header.now first.now }
+{
+    if header.count == 0 {
+        first.size
+    } else {
+        u64::from(header.count)
+    }
+}
+
+// The index of the section with the sections' names.
+fn names_index(header: &FileHeader, first: &SectionHeader) -> u32
+    ensures { result ≡ names_of header.now first.now }
+{
+    if header.names == SHN_XINDEX {
+        first.link
+    } else {
+        u32::from(header.names)
+    }
+}
+
+// The first section header, which stands at an offset.
+#[tactic(auto, using(crate::proofs::Refused::Loads_answered, crate::proofs::Refused::Loads_given))]
+fn parse_first(
+    file: &EndianBytes<RunTimeEndian>,
+    class: Class,
+    offset: u64,
+) -> Result<SectionHeader, LoadError>
+    ensures { Loads (λ header. header) result (read_in file.now (header_at class offset)) }
+{
+    in_file(read_first(file, class, offset))
+}
+
+fn read_first(
+    file: &EndianBytes<RunTimeEndian>,
+    class: Class,
+    offset: u64,
+) -> Result<SectionHeader, Error>
+    ensures { Answers (λ header. header) result (value_of (header_at class offset file.now)) }
+{
+    SectionHeader::parse(&mut input_at(file, offset)?, class)
+}
+
+// So many section headers, which begin at an offset.
+#[tactic(auto, using(crate::proofs::Refused::Loads_given))]
+fn parse_all(
+    alloc: Global,
+    file: &EndianBytes<RunTimeEndian>,
+    class: Class,
+    offset: u64,
+    count: u64,
+) -> Result<Vec<SectionHeader>, LoadError>
+    ensures { Loads (λ headers. headers.items) result (read_in file.now (headers_at class offset count)) }
+{
+    if !has_room(file, class, offset, count) {
+        return Err(LoadError::Truncated);
+    }
+    in_file(read_all(alloc, file, class, offset, count))
+}
+
+// A file holds so many section headers from an offset on. Asked first, so that no memory is taken for a count that lies.
+fn has_room(file: &EndianBytes<RunTimeEndian>, class: Class, offset: u64, count: u64) -> bool
+    ensures { MatchBool result (offset + count * section_header_size class ≤ bytes_left file.now)
+        (bytes_left file.now < offset + count * section_header_size class) }
+{
+    let len = file.as_bytes().len() as u64;
+    let Some(size) = count.checked_mul(u64::from(class.section_header_size())) else {
+        return false;
+    };
+    let Some(end) = size.checked_add(offset) else {
+        return false;
+    };
+    end <= len
+}
+
+fn read_all(
+    alloc: Global,
+    file: &EndianBytes<RunTimeEndian>,
+    class: Class,
+    offset: u64,
+    count: u64,
+) -> Result<Vec<SectionHeader>, Error>
+    ensures { Gives (λ headers. headers.items) result (value_of (headers_at class offset count file.now)) }
+{
+    read_headers(alloc, &mut input_at(file, offset)?, class, count)
+}
+
+// The next section headers.
+fn read_headers(
+    alloc: Global,
+    input: &mut EndianSlice<'_, RunTimeEndian>,
+    class: Class,
+    count: u64,
+) -> Result<Vec<SectionHeader>, Error>
+    ensures { Gives (λ headers. (headers.items, input.new)) result (times count (section_header class) input.old) }
+{
+    let mut headers = Vec::new(alloc);
+    for _index in 0..count {
+        headers.push(SectionHeader::parse(input, class)?)?;
+    }
+    Ok(headers)
+}
+
+/// The bytes of the section that an index names: none where it names none.
+#[tactic(auto, using(crate::proofs::Refused::Loads_answered, crate::proofs::Refused::Loads_given))]
+pub(crate) fn linked(
+    file: &EndianBytes<RunTimeEndian>,
+    headers: &[SectionHeader],
+    index: u32,
+) -> Result<EndianBytes<RunTimeEndian>, LoadError>
+    ensures { Loads (λ view. view) result (linked index headers.now file.now) }
+{
+    if index == SHN_UNDEF {
+        return in_file(nothing_of(file));
+    }
+    match headers.get(index as usize) {
+        Some(header) => contents(file, header),
+        None => Err(LoadError::Truncated),
+    }
+}
+
+/// The bytes of a section.
+#[tactic(auto, using(crate::proofs::Refused::Loads_answered, crate::proofs::Refused::Loads_given))]
+pub(crate) fn contents(
+    file: &EndianBytes<RunTimeEndian>,
+    header: &SectionHeader,
+) -> Result<EndianBytes<RunTimeEndian>, LoadError>
+    ensures { Loads (λ view. view) result (contents header.now file.now) }
+{
+    if header.section_type == SHT_NOBITS {
+        return Ok(no_bytes(file.endian(), header.offset));
+    }
+    in_file(part_at(file, header.offset, header.size))
+}
+
+// No bytes, at a place of the file.
+fn no_bytes(endian: RunTimeEndian, first: u64) -> EndianBytes<RunTimeEndian>
+    ensures { result ≡ record { bytes = []; is_big = is_big endian; first = first } }
+{
+    EndianBytes::with_first_id(Bytes::new(), endian, ReaderOffsetId(first))
+}

@@ -1,0 +1,4 @@
+pub mod Chains
+pub mod Holders
+pub mod Levels
+mod Worked

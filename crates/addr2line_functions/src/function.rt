@@ -1,0 +1,38 @@
+//! A function of a unit.
+
+ghost use Rattle.std.specs.Prelude.{◌≡◌};
+
+use gimli_core_numbers::ReaderOffset;
+use gimli_units_base::{Range, UnitOffset};
+use std::marker::Model;
+
+/// A function of a unit that has a range: where its entry stands, and its ranges (DWARF 5, 3.3).
+#[derive(Drop)]
+pub struct Function<O: ReaderOffset> {
+    pub(crate) offset: UnitOffset<O>,
+    pub(crate) ranges: Vec<Range>,
+}
+
+impl<O: ReaderOffset> Model for Function<O> {
+    ghost use Rattle.addr2line_entries.specs.Functions.{Function as FunctionPart};
+
+    ghost Value = { FunctionPart };
+
+    ghost view = { λ f. record { offset = O.count f.offset.0; ranges = f.ranges.items } };
+}
+
+impl<O: ReaderOffset> Function<O> {
+    /// The offset of its entry in the unit.
+    pub fn offset(&self) -> UnitOffset<O>
+        ensures { O.count result.0 ≡ self.now.offset }
+    {
+        self.offset
+    }
+
+    /// Its ranges, in order of appearance.
+    pub fn ranges(&self) -> &[Range]
+        ensures { result.now ≡ self.now.ranges }
+    {
+        self.ranges.as_slice()
+    }
+}

@@ -1,0 +1,149 @@
+//! The functions of a unit.
+
+ghost use Rattle.std.specs.Prelude.{◌≡◌, ◌++◌, [], option_map, option_to_list, slice_get, Ok};
+ghost use Rattle.gimli_core_base.specs.Calls.{Gives};
+ghost use Rattle.addr2line_entries.specs.Functions.{functions_of_unit, function_at, function_number};
+ghost use Rattle.addr2line_functions.specs.Reading.{row_seen};
+ghost use Rattle.addr2line_functions.specs.Steps.{if_ranged, function_in, function_behind, functions_from};
+
+use crate::function::Function;
+use crate::latest::{latest_among, number_holding};
+use crate::row::{EntryRow, entries_of, next_row};
+use addr2line_ranges::ranges_of_entry;
+use gimli_core_base::error::Error;
+use gimli_core_constants::DW_TAG_subprogram;
+use gimli_core_numbers::ReaderOffset;
+use gimli_core_readers::Reader;
+use gimli_dwarf::{Dwarf, Unit};
+use gimli_units_base::{Range, UnitOffset};
+use gimli_units_entries::EntriesRaw;
+use gimli_units_forms::Attribute;
+use std::alloc::Global;
+use std::marker::Model;
+
+/// The functions of a unit that have a range, in order of appearance.
+#[derive(Drop)]
+pub struct Functions<O: ReaderOffset> {
+    functions: Vec<Function<O>>,
+}
+
+impl<O: ReaderOffset> Model for Functions<O> {
+    ghost use Rattle.std.specs.Prelude.{List};
+    ghost use Rattle.addr2line_entries.specs.Functions.{Function as FunctionPart};
+
+    ghost Value = { List FunctionPart };
+
+    ghost view = { λ f. f.functions.items };
+}
+
+impl<O: ReaderOffset> Functions<O> {
+    /// The functions. A function's number is its place among them, from 0 on.
+    pub fn functions(&self) -> &[Function<O>]
+        ensures { result.now ≡ self.now }
+    {
+        self.functions.as_slice()
+    }
+
+    /// The number of the function that an address is in. Where several functions have it, it is that of the range that begins last,
+    /// of these that of the one that ends last, of these that of the last. It takes no memory.
+    pub fn find_address(&self, probe: u64) -> Option<usize>
+        ensures { result ≡ function_number self.now probe }
+    {
+        let functions = self.functions.as_slice();
+        let mut found = None;
+        for (number, function) in functions.iter().enumerate() {
+            found = latest_among(found, number, function.ranges(), probe);
+        }
+        number_holding(found, probe)
+    }
+
+    /// The function that an address is in. It takes no memory.
+    pub fn function_at(&self, probe: u64) -> Option<&Function<O>>
+        ensures { option_map (λ f. f.now) result ≡ function_at self.now probe }
+    {
+        let number = self.find_address(probe)?;
+        numbered(self.functions(), number)
+    }
+}
+
+/// The function of a number.
+fn numbered<O: ReaderOffset>(functions: &[Function<O>], number: usize) -> Option<&Function<O>>
+    ensures { option_map (λ f. f.now) result ≡ slice_get functions.now number }
+{
+    functions.get(number)
+}
+
+/// A function, if it has a range.
+fn if_ranged<O: ReaderOffset>(offset: UnitOffset<O>, ranges: Vec<Range>) -> Option<Function<O>>
+    ensures { result ≡ if_ranged (record { offset = O.count offset.0; ranges = ranges.items }) }
+{
+    if ranges.is_empty() {
+        None
+    } else {
+        Some(Function { offset, ranges })
+    }
+}
+
+/// The function of an entry with these attributes, or none where the entry is none, or has no range.
+fn function_in<R: Reader>(
+    alloc: Global,
+    dwarf: &Dwarf<R>,
+    unit: &Unit<R>,
+    row: EntryRow<R::Offset>,
+    attributes: &[Attribute<R>],
+) -> Result<Option<Function<R::Offset>>, Error>
+    ensures { Gives (λ f. f) result
+        (function_in R.Offset.limit dwarf.now unit.now (row_seen R.view R.Offset.count row attributes.now)) }
+{
+    if row.tag != DW_TAG_subprogram {
+        return Ok(None);
+    }
+    let ranges = ranges_of_entry(alloc, dwarf, unit, attributes)?;
+    Ok(if_ranged(row.offset, ranges))
+}
+
+/// The function of the next entry, if that is one that has a range.
+fn next_function<R: Reader>(
+    alloc: Global,
+    dwarf: &Dwarf<R>,
+    unit: &Unit<R>,
+    entries: &mut EntriesRaw<'_, R>,
+    attributes: &mut Vec<Attribute<R>>,
+) -> Result<Option<Function<R::Offset>>, Error>
+    ensures { Gives (λ f. (f, entries.new)) result (function_behind R.Offset.limit dwarf.now unit.now entries.old) }
+{
+    let row = next_row(entries, Some(DW_TAG_subprogram), attributes)?;
+    function_in(alloc, dwarf, unit, row, attributes)
+}
+
+/// Appends a function, if there is one.
+fn push_if_any<O: ReaderOffset>(
+    functions: &mut Vec<Function<O>>,
+    function: Option<Function<O>>,
+) -> Result<(), Error>
+    ensures { Gives (λ _. functions.new.items) result (Ok (functions.old.items ++ option_to_list function)) }
+{
+    if let Some(function) = function {
+        functions.push(function)?;
+    }
+    Ok(())
+}
+
+/// The functions of a unit that have a range. Of its entries those of functions are read, all others are passed over; the first that
+/// can't be, and the first function whose ranges can't be read, refuses all.
+pub fn functions_of_unit<R: Reader>(
+    alloc: Global,
+    dwarf: &Dwarf<R>,
+    unit: &Unit<R>,
+) -> Result<Functions<R::Offset>, Error>
+    ensures { Gives (λ f. f) result (functions_of_unit R.Offset.limit dwarf.now unit.now) }
+{
+    let mut entries = entries_of(unit, None)?;
+    let mut attributes = Vec::new(alloc);
+    let mut functions = Vec::new(alloc);
+    while !entries.is_empty() {
+        let next = next_function(alloc, dwarf, unit, &mut entries, &mut attributes)?;
+        push_if_any(&mut functions, next)?;
+    }
+    Ok(Functions { functions })
+}

@@ -1,0 +1,5 @@
+use Rattle.addr2line_names.proofs.LawLemmas.{chains}
+use Rattle.addr2line_names.proofs.laws.chains_are_limited.Goals as goal
+
+pub returns : goal.returns
+returns c = λ limit known h form v first further name leads to. chains limit known h form v first further name leads to

@@ -1,0 +1,30 @@
+//! The attributes that names are made of (DWARF 5, 2.15, 2.22 and 7.5.4).
+
+ghost use Rattle.std.specs.Prelude.{◌≡◌};
+ghost use Rattle.gimli_dwarf_facts.specs.UnitFacts.{is_name};
+ghost use Rattle.addr2line_names.specs.Entries.{is_linkage_name, is_reference};
+
+use gimli_core_constants::{
+    DW_AT_MIPS_linkage_name, DW_AT_abstract_origin, DW_AT_linkage_name, DW_AT_name,
+    DW_AT_specification, DwAt,
+};
+
+pub(crate) fn is_name(name: DwAt) -> bool
+    ensures { result ≡ is_name name.0 }
+{
+    name == DW_AT_name
+}
+
+/// The standard's linkage name, or the one of older compilers.
+pub(crate) fn is_linkage_name(name: DwAt) -> bool
+    ensures { result ≡ is_linkage_name name.0 }
+{
+    name == DW_AT_linkage_name || name == DW_AT_MIPS_linkage_name
+}
+
+/// A reference to the entry that this one is an instance of, or that it completes.
+pub(crate) fn is_reference(name: DwAt) -> bool
+    ensures { result ≡ is_reference name.0 }
+{
+    name == DW_AT_abstract_origin || name == DW_AT_specification
+}

@@ -1,0 +1,99 @@
+//! The units that hold entries.
+
+ghost use Rattle.std.specs.Prelude.{◌≡◌, Ok, option_map};
+ghost use Rattle.gimli_core_base.specs.Calls.{Gives};
+ghost use Rattle.gimli_units_forms.specs.Meanings.{value_under};
+ghost use Rattle.gimli_units_forms.specs.Values.{raw_attribute_of, raw_value_of};
+ghost use Rattle.gimli_dwarf_facts.specs.UnitFacts.{UnitFacts, fitting};
+ghost use Rattle.addr2line_names.specs.Entries.{is_linkage_name, text_of};
+
+use crate::attributes::is_linkage_name;
+use crate::file::DebugFile;
+use gimli_core_base::error::Error;
+use gimli_core_numbers::ReaderOffset;
+use gimli_core_readers::Reader;
+use gimli_dwarf::{Dwarf, Unit};
+use gimli_units_forms::{Attribute, AttributeValue};
+use std::marker::Model;
+
+/// What has a unit: lists of such may be searched for the unit that a reference leads to.
+pub trait HasUnit<R: Reader> {
+    ghost facts: { Self → UnitFacts };
+
+    fn unit(&self) -> &Unit<R>
+        ensures { result.now ≡ facts self.now };
+}
+
+impl<R: Reader> HasUnit<R> for Unit<R> {
+    ghost facts = { λ u. u };
+
+    fn unit(&self) -> &Unit<R> {
+        self
+    }
+}
+
+/// The unit that holds an entry, with the sections of its file.
+#[derive(Drop)]
+pub struct HoldingUnit<'a, R: Reader> {
+    pub file: DebugFile,
+    pub dwarf: &'a Dwarf<R>,
+    pub unit: &'a Unit<R>,
+}
+
+impl<'a, R: Reader> Model for HoldingUnit<'a, R> {
+    ghost use Rattle.addr2line_names.specs.References.{HoldingUnit as Holder};
+
+    ghost Value = { Holder };
+
+    ghost view = { λ h. record { file = h.file; sections = h.dwarf.now; facts = h.unit.now } };
+}
+
+impl<'a, R: Reader> HoldingUnit<'a, R> {
+    pub fn new(file: DebugFile, dwarf: &'a Dwarf<R>, unit: &'a Unit<R>) -> Self
+        ensures { result ≡ record { file = file; sections = dwarf.now; facts = unit.now } }
+    {
+        HoldingUnit { file, dwarf, unit }
+    }
+
+    /// The same unit again.
+    pub(crate) fn again(&self) -> HoldingUnit<'a, R>
+        ensures { result ≡ self.now }
+    {
+        HoldingUnit {
+            file: self.file,
+            dwarf: self.dwarf,
+            unit: self.unit,
+        }
+    }
+
+    /// The text that a value of an attribute of one of the unit's entries stands for, where it can be read.
+    fn text_of(&self, value: AttributeValue<R>) -> Result<Option<R>, Error>
+        ensures { Gives (option_map R.view) result (Ok (text_of R.Offset.limit self.now (raw_value_of R.view R.Offset.count value))) }
+    {
+        match self.dwarf.attr_string(self.unit, value) {
+            Ok(text) => Ok(Some(text)),
+            Err(Error::Memory) => Err(Error::Memory),
+            Err(_) => Ok(None),
+        }
+    }
+
+    /// The text of an attribute of one of the unit's entries, where it can be read. The only refusal is want of memory.
+    pub(crate) fn text(&self, attribute: &Attribute<R>) -> Result<Option<R>, Error>
+        ensures { let a = raw_attribute_of R.view R.Offset.count attribute.now in
+            Gives (option_map R.view) result (Ok (text_of R.Offset.limit self.now (value_under a.name a.value))) }
+    {
+        self.text_of(attribute.value()?)
+    }
+
+    /// The linkage name that an attribute gives, if it is one that can be read.
+    pub(crate) fn linkage_name(&self, attribute: &Attribute<R>) -> Result<Option<R>, Error>
+        ensures { Gives (option_map R.view) result (Ok (fitting (text_of R.Offset.limit self.now) is_linkage_name
+            (raw_attribute_of R.view R.Offset.count attribute.now))) }
+    {
+        if is_linkage_name(attribute.name()) {
+            self.text(attribute)
+        } else {
+            Ok(None)
+        }
+    }
+}

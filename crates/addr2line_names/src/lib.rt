@@ -1,0 +1,18 @@
+//! The names of functions and of inlined calls, which references lead to in other entries, in other units and in a supplement.
+#![tactic(auto)]
+
+mod attributes;
+mod entry;
+pub mod file;
+pub mod holder;
+pub mod laws;
+pub mod names;
+mod naming;
+mod references;
+
+pub use file::DebugFile;
+pub use holder::{HasUnit, HoldingUnit};
+pub use names::KnownUnits;
+
+#[cfg(test)]
+mod tests;

@@ -1,0 +1,4 @@
+pub mod Texts
+pub mod Fields
+pub mod Headers
+pub mod Laws

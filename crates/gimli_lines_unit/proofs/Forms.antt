@@ -1,0 +1,10 @@
+-- The form of a text doesn't depend on what its tables hold.
+use Rattle.std.proofs.Common.{◌≡◌, ℕ, List, [], refl}
+use Rattle.gimli_lines_files.specs.Kept.{Text, in_header, of_strings, of_line_strings}
+use Rattle.gimli_lines_fields.specs.Texts.{form_of}
+use Rattle.gimli_lines_unit.specs.Told.{written}
+
+pub same_form : (strings line_strings : List (List ℕ)) (t : Text) → form_of (written strings line_strings t) ≡ form_of (written [] [] t)
+same_form strings line_strings (in_header bytes) = refl
+same_form strings line_strings (of_strings place) = refl
+same_form strings line_strings (of_line_strings place) = refl

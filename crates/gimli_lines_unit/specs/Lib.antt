@@ -1,0 +1,3 @@
+pub mod Told
+pub mod Bytes
+pub mod Units

@@ -1,3 +1,0 @@
-pub mod Headers
-pub mod Seen
-pub mod Units
