@@ -19,7 +19,6 @@ pub use Rattle.gimli_lines_write_unit.specs.HeaderTexts
 pub use Rattle.gimli_lines_write_unit.specs.FileTables
 pub use Rattle.gimli_lines_write_unit.specs.LineStrings
 pub use Rattle.gimli_lines_write_unit.specs.StringSections
-pub use Rattle.gimli_lines_write_unit.specs.contracts
 pub use Rattle.gimli_lines_write_unit.specs.HeaderContents
 pub use Rattle.gimli_lines_write_unit.specs.UnitBytes
 pub use Rattle.gimli_lines_write_unit.specs.declared.details.FileDetails

@@ -12,7 +12,7 @@ ghost use Rattle.gimli_lines_write_laws.specs.HeaderContents.{GainsEmpty};
 ghost use Rattle.gimli_lines_write_laws.specs.RowsBuilding.{with_sequence, with_address, with_entry};
 ghost use Rattle.std.specs.Borrow.{Lends, sem};
 ghost use Rattle.gimli_lines_write_program.specs.contracts.program.LineProgram.{the_row};
-ghost use Rattle.gimli_lines_write_laws.specs.contracts.file.FileInfo.{the_row as info_row};
+ghost use Rattle.gimli_lines_write_tables.specs.contracts.file.FileInfo.{the_row as info_row};
 
 use crate::text_checks::{are_known, are_paths_known, are_sources_known};
 use gimli_lines_write_laws::{

@@ -26,7 +26,6 @@ pub use Rattle.gimli_lines_write_spec.specs.HeaderTexts
 pub use Rattle.gimli_lines_write_tables.specs.FileTables
 pub use Rattle.gimli_lines_write_tables.specs.LineStrings
 pub use Rattle.gimli_lines_write_tables.specs.StringSections
-pub use Rattle.gimli_lines_write_tables.specs.contracts
 pub mod HeaderContents
 pub mod HeaderBytes
 pub mod UnitBytes
