@@ -8,7 +8,7 @@ use numbers::{leb128, mix, signed_leb128};
 const TABLE: usize = 1024;
 const DECLARATIONS: u8 = 63;
 
-// ---- the bytes, by the rule of crates/gimli_core_bench/src/generated.rt
+// ---- the bytes, by the rule of crates/linemap_bench/src/source.rt and core_bytes.rt
 
 struct Source(u64);
 

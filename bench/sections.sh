@@ -3,10 +3,8 @@
 # into an object file; readelf and (where it is there) llvm-dwarfdump read it without complaint, and the rows that readelf decodes are the table's.
 set -euo pipefail
 top="$(dirname "$(dirname "$(readlink -f "$0")")")"
-crate="$top/crates/linemap_sections"
-(cd "$crate" && rt run -- a.json .debug_line >/dev/null 2>&1 || true)
-program="$crate/out/linemap_sections"
-[ -x "$program" ] || { echo "the program could not be built: cd crates/linemap_sections && rt run" >&2; exit 1; }
+program="$top/crates/linemap_bench/out/linemap_bench"
+"$top/tools/build" linemap_bench
 folder="$(mktemp -d)"
 trap 'rm -rf "$folder"' EXIT
 
@@ -26,7 +24,7 @@ for name in a thin; do
     echo | as -o "$folder/$name.o" -
     add=()
     for section in .debug_abbrev .debug_info .debug_line .debug_ranges .debug_str; do
-        "$program" "$table" "$section" >"$folder/$name$section"
+        "$program" sections "$table" "$section" >"$folder/$name$section"
         add+=(--add-section "$section=$folder/$name$section" --set-section-flags "$section=readonly,debug")
     done
     objcopy "${add[@]}" "$folder/$name.o"

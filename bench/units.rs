@@ -5,7 +5,7 @@ use std::time::Instant;
 mod numbers;
 use numbers::{leb128, mix, signed_leb128};
 
-// ---- the bytes, by the rule of crates/gimli_units_bench/src/generated.rt
+// ---- the bytes, by the rule of crates/linemap_bench/src/source.rt and units_bytes.rt
 
 const ABBREVIATIONS: &[u8] = &[
     // A compilation unit: name, comp_dir, low_pc, high_pc, language, stmt_list.
@@ -283,7 +283,7 @@ fn number_of(value: &Value<'_>) -> u64 {
     }
 }
 
-// The bytes of the entries, behind the header.
+// The bytes of the entries, after the header.
 fn entries(unit: &[u8]) -> Option<&[u8]> {
     let mut at = 0;
     let length = word(unit, &mut at)? as usize;
@@ -373,7 +373,7 @@ fn whole(unit: &[u8]) -> Option<u64> {
     Some(sum)
 }
 
-fn pass(bytes: &[u8], at: &mut usize, form: u16) -> Option<()> {
+fn skip(bytes: &[u8], at: &mut usize, form: u16) -> Option<()> {
     *at += match form {
         0x01 | 0x07 => 8,
         0x05 | 0x12 => 2,
@@ -388,10 +388,10 @@ fn pass(bytes: &[u8], at: &mut usize, form: u16) -> Option<()> {
     Some(())
 }
 
-fn passed(unit: &[u8]) -> Option<u64> {
+fn skipped(unit: &[u8]) -> Option<u64> {
     walk(unit, |sum, declaration, bytes, at| {
         for (_name, form) in &declaration.attributes {
-            pass(bytes, at, *form)?;
+            skip(bytes, at, *form)?;
         }
         (*at <= bytes.len()).then_some(mix(sum, declaration.tag.into()))
     })
@@ -463,6 +463,6 @@ fn main() {
     let (lists, addresses) = (lists(count), addresses());
     report("read", || read(&unit));
     report("whole", || whole(&unit));
-    report("passed", || passed(&unit));
+    report("skipped", || skipped(&unit));
     report("ranges", || ranges(count, &lists, &addresses));
 }

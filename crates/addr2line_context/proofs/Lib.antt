@@ -1,3 +1,3 @@
-pub mod Ordering
-pub mod Parts
-pub mod Reading
+pub mod ContextOrder
+pub mod ContextParts
+pub mod ContextReading

@@ -1,10 +1,10 @@
 //! A context, and the places that it knows.
 
 ghost use Rattle.std.specs.Prelude.{◌≡◌, Ok, option_map};
-ghost use Rattle.gimli_core_base.specs.Calls.{Answers, Gives};
-ghost use Rattle.addr2line_sections.specs.Contexts.{location, stretches};
-ghost use Rattle.addr2line_lookup.specs.Places.{place_of};
-ghost use Rattle.addr2line_context.specs.FileContexts.{file_context, lines_read};
+ghost use Rattle.addr2line_units.specs.Calls.{ReturnsAs, Returns, ReturnsOrNoMemory};
+ghost use Rattle.addr2line_units.specs.Contexts.{location, stretches};
+ghost use Rattle.addr2line_units.specs.BorrowedLocations.{location_value};
+ghost use Rattle.addr2line_context.specs.FileContexts.{file_context, all_lines_or_refusal};
 
 use crate::answers::first_answer;
 use crate::location_range::LocationRangeIter;
@@ -13,18 +13,14 @@ use crate::parsing::check_lines;
 use crate::supplement::units_of_supplement;
 use crate::unit::ContextUnit;
 use crate::units::units_of_file;
-use addr2line_lookup::{Location, UnitRanges};
-use addr2line_ranges::check_aranges;
-use gimli_core_base::error::Error;
-use gimli_core_readers::Reader;
-use gimli_dwarf::{Dwarf, Unit};
+use addr2line_units::{Dwarf, Error, Location, Reader, Unit, UnitRanges, check_aranges};
 use std::alloc::Global;
 use std::marker::Model;
 use std::rc::Rc;
 
-/// What lookups go over: a file's sections, the units of the file, numbered by their places among those that are kept, each
-/// with its ranges, its language and its lines, and the units of the file's supplement. A unit of types is not kept, nor is
-/// one that is refused.
+/// What lookups go over: a file's sections, the units of the file, numbered from 0 on, each with
+/// its ranges, its language and its lines, and the units of the file's supplement. Units of types
+/// and units that are refused are left out.
 #[derive(Drop)]
 pub struct Context<R: Reader> {
     sections: Rc<Dwarf<R>>,
@@ -37,7 +33,7 @@ pub struct Context<R: Reader> {
 impl<R: Reader> Model for Context<R> {
     ghost use Rattle.std.specs.Prelude.{◌≡◌};
     ghost use Rattle.addr2line_context.specs.FileContexts.{FileContext};
-    ghost use Rattle.addr2line_context.specs.Kept.{ordered_ranges};
+    ghost use Rattle.addr2line_context.specs.ContextUnits.{ordered_ranges};
 
     ghost Value = { FileContext };
 
@@ -50,9 +46,10 @@ impl<R: Reader> Model for Context<R> {
 }
 
 impl<R: Reader> Context<R> {
-    /// The context of a file's sections. It takes memory for what shares them, and else is `from_arc_dwarf`.
+    /// The context of a file's sections. It takes memory for what shares them, and else is
+    /// `from_arc_dwarf`.
     pub fn from_dwarf(alloc: Global, sections: Dwarf<R>) -> Result<Self, Error>
-        ensures { Gives (λ c. c) result (file_context R.Offset.limit sections) }
+        ensures { ReturnsOrNoMemory result (file_context R.Offset.limit sections) }
     {
         match Rc::new(alloc, sections) {
             Ok(sections) => Context::from_arc_dwarf(alloc, sections),
@@ -60,11 +57,11 @@ impl<R: Reader> Context<R> {
         }
     }
 
-    /// The context of a file's sections, which it keeps. All lines are read here. Refused, beside want of memory, by a header
-    /// of `.debug_aranges`, by what stands first in `.debug_info` of a kept unit's ranges and a header, or by a header of the
-    /// supplement, in this order.
+    /// The context of a file's sections, which it keeps. All lines are read here. Refused, besides
+    /// out of memory, by a header of `.debug_aranges`, by the first fault in `.debug_info`, of a
+    /// unit's ranges or of a header, or by a header of the supplement, in this order.
     pub fn from_arc_dwarf(alloc: Global, sections: Rc<Dwarf<R>>) -> Result<Self, Error>
-        ensures { Gives (λ c. c) result (file_context R.Offset.limit sections.value) }
+        ensures { ReturnsOrNoMemory result (file_context R.Offset.limit sections.value) }
     {
         let dwarf = sections.as_ref();
         check_aranges(dwarf)?;
@@ -79,7 +76,7 @@ impl<R: Reader> Context<R> {
         })
     }
 
-    /// The sections that the context stands over.
+    /// The sections of the context.
     pub fn sections(&self) -> &Rc<Dwarf<R>>
         ensures { result.now.value ≡ self.now.sections }
     {
@@ -100,23 +97,24 @@ impl<R: Reader> Context<R> {
         self.supplement_units.as_slice()
     }
 
-    /// The place of an address: of the units with a range over it, by the ranges' ends, the first that has a place for it. A
-    /// unit whose lines were refused ends the search with that refusal. It takes no memory.
+    /// The place of an address: of the units with a range over it, by the ranges' ends, the first
+    /// that has a place for it. A unit whose lines were refused ends the search with that refusal.
+    /// It takes no memory.
     pub fn find_location(&self, probe: u64) -> Result<Option<Location<'_>>, Error>
-        ensures { Answers (option_map place_of) result (location self.now.context probe) }
+        ensures { ReturnsAs (option_map location_value) result (location self.now.context probe) }
     {
         first_answer(self.units.as_slice(), &self.ranges, probe)
     }
 
-    /// The stretches of addresses between two ends, with their places: of the units with a range there, in the order in which
-    /// lookups ask them, those of their rows between the ends, both clipped to that range. It takes no memory; the iterator
-    /// does.
+    /// The stretches of addresses between two ends, with their places: of the units with a range
+    /// there, in the order in which lookups ask them, those of their rows between the ends, both
+    /// clipped to that range. It takes no memory; the iterator does.
     pub fn find_location_range(
         &self,
         probe_low: u64,
         probe_high: u64,
     ) -> Result<LocationRangeIter<'_, R>, Error>
-        ensures { Answers (λ found. found) result (Ok (stretches self.now.context probe_low probe_high)) }
+        ensures { Returns result (Ok (stretches self.now.context probe_low probe_high)) }
     {
         let alloc = *self.units.allocator();
         Ok(LocationRangeIter::new(
@@ -128,10 +126,11 @@ impl<R: Reader> Context<R> {
         ))
     }
 
-    /// Whether the lines of all units can be read, or else the first refusal, by the units' numbers. They were read when the
-    /// context was made, so it takes no memory and changes nothing.
+    /// Whether the lines of all units can be read, or else the first refusal, by the units'
+    /// numbers. They were read when the context was made, so it takes no memory and changes
+    /// nothing.
     pub fn parse_lines(&self) -> Result<(), Error>
-        ensures { result ≡ lines_read self.now.context.units }
+        ensures { result ≡ all_lines_or_refusal self.now.context.units }
     {
         check_lines(self.units.as_slice())
     }

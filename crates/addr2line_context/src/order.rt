@@ -1,16 +1,14 @@
 //! The ranges of a context's units, in the order in which lookups ask the units.
 
 ghost use Rattle.std.specs.Prelude.{◌≡◌, IfOk, IfErr};
-ghost use Rattle.gimli_core_base.specs.declared.error.Error.TheVariants.{Memory};
-ghost use Rattle.addr2line_context.specs.Kept.{ordered_ranges};
+ghost use Rattle.addr2line_units.specs.Error.TheVariants.{Memory};
+ghost use Rattle.addr2line_context.specs.ContextUnits.{ordered_ranges};
 
 use crate::unit::ContextUnit;
-use addr2line_lookup::{UnitRanges, UnitRangesBuilder};
-use gimli_core_base::error::Error;
-use gimli_core_readers::Reader;
+use addr2line_units::{Error, Reader, UnitRanges, UnitRangesBuilder};
 use std::alloc::Global;
 
-/// The ranges of units, in the order in which lookups ask them. The only refusal is want of memory.
+// The ranges of units, in the order in which lookups ask them. The only refusal is out of memory.
 pub(crate) fn ordered_ranges<R: Reader>(
     alloc: Global,
     units: &[ContextUnit<R>],

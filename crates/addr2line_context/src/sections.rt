@@ -1,23 +1,19 @@
 //! A context of sections that are handed in one by one.
 
-ghost use Rattle.std.specs.Prelude.{◌≡◌, Ok};
-ghost use Rattle.gimli_core_base.specs.Calls.{Gives};
+ghost use Rattle.addr2line_units.specs.Calls.{ReturnsOrNoMemory};
 ghost use Rattle.addr2line_context.specs.FileContexts.{file_context, main_file};
 
 use crate::context::Context;
-use gimli_core_abbrev::{AbbreviationsCache, DebugAbbrev};
-use gimli_core_base::error::Error;
-use gimli_core_constants::DwarfFileType;
-use gimli_core_readers::Reader;
-use gimli_core_strings::{DebugAddr, DebugLineStr, DebugStr, DebugStrOffsets};
-use gimli_dwarf::Dwarf;
-use gimli_lines_header::DebugLine;
-use gimli_units_headers::{DebugAranges, DebugInfo};
-use gimli_units_lists::{DebugRanges, DebugRngLists, LocationLists, RangeLists};
+use addr2line_units::{
+    AbbreviationsCache, DebugAbbrev, DebugAddr, DebugAranges, DebugInfo, DebugLine, DebugLineStr,
+    DebugRanges, DebugRngLists, DebugStr, DebugStrOffsets, Dwarf, DwarfFileType, Error,
+    LocationLists, RangeLists, Reader,
+};
 use std::alloc::Global;
 
 impl<R: Reader> Context<R> {
-    /// The context of a main file without a supplement, from its sections; a copy of the last stands for each that isn't named.
+    /// The context of a main file without a supplement, from its sections; a copy of the last
+    /// stands for each that isn't named.
     pub fn from_sections(
         alloc: Global,
         debug_abbrev: DebugAbbrev<R>,
@@ -32,8 +28,10 @@ impl<R: Reader> Context<R> {
         debug_str_offsets: DebugStrOffsets<R>,
         default_section: R,
     ) -> Result<Self, Error>
-        ensures { Gives (λ c. c) result (file_context R.Offset.limit (main_file debug_abbrev debug_addr debug_aranges debug_info
-            debug_line debug_line_str debug_ranges debug_rnglists debug_str debug_str_offsets (R.view default_section))) }
+        ensures { ReturnsOrNoMemory result
+            (file_context R.Offset.limit (main_file debug_abbrev debug_addr debug_aranges debug_info
+            debug_line debug_line_str debug_ranges debug_rnglists debug_str debug_str_offsets
+            (R.view default_section))) }
     {
         let sections = Dwarf {
             debug_abbrev,

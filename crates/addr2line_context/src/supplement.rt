@@ -2,19 +2,17 @@
 
 ghost use Rattle.std.specs.Prelude.{◌≡◌, ◌++◌, OnOk, IfErr};
 ghost use Rattle.std.specs.Option.{option_to_list};
-ghost use Rattle.gimli_core_base.specs.Calls.{Gives};
-ghost use Rattle.gimli_core_base.specs.declared.error.Error.TheVariants.{Memory};
-ghost use Rattle.gimli_dwarf_facts.specs.Sections.{supplement};
-ghost use Rattle.addr2line_sections.specs.Contexts.{units_of_supplement};
-ghost use Rattle.addr2line_context.specs.Kept.{readable_units};
+ghost use Rattle.addr2line_units.specs.Calls.{ReturnsAsOrNoMemory};
+ghost use Rattle.addr2line_units.specs.Error.TheVariants.{Memory};
+ghost use Rattle.addr2line_units.specs.DwarfSections.{supplement};
+ghost use Rattle.addr2line_units.specs.Contexts.{units_of_supplement};
+ghost use Rattle.addr2line_context.specs.ContextUnits.{readable_units};
 
 use crate::headers::readable_unit;
-use gimli_core_base::error::Error;
-use gimli_core_readers::Reader;
-use gimli_dwarf::{Dwarf, Unit};
+use addr2line_units::{Dwarf, Error, Reader, Unit};
 use std::alloc::Global;
 
-/// Appends a unit, if there is one.
+// Appends a unit, if there is one.
 fn push_unit<R: Reader>(units: &mut Vec<Unit<R>>, unit: Option<Unit<R>>) -> Result<(), Error>
     ensures ok { OnOk result (units.new.items ≡ units.old.items ++ option_to_list unit) }
     ensures refused { IfErr result (λ e. e ≡ Memory) }
@@ -25,9 +23,10 @@ fn push_unit<R: Reader>(units: &mut Vec<Unit<R>>, unit: Option<Unit<R>>) -> Resu
     Ok(())
 }
 
-/// The units of a file that can be read. Refused by a header that can't be read.
+// The units of a file that can be read. Refused by a header that can't be read.
 fn readable_units<R: Reader>(alloc: Global, dwarf: &Dwarf<R>) -> Result<Vec<Unit<R>>, Error>
-    ensures { Gives (λ units. units.items) result (readable_units R.Offset.limit dwarf.now) }
+    ensures { ReturnsAsOrNoMemory (λ units. units.items) result
+        (readable_units R.Offset.limit dwarf.now) }
 {
     let mut units = Vec::new(alloc);
     let mut headers = dwarf.units()?;
@@ -38,12 +37,13 @@ fn readable_units<R: Reader>(alloc: Global, dwarf: &Dwarf<R>) -> Result<Vec<Unit
     Ok(units)
 }
 
-/// The units of a file's supplement that can be read; none where it has no supplement.
+// The units of a file's supplement that can be read; none where it has no supplement.
 pub(crate) fn units_of_supplement<R: Reader>(
     alloc: Global,
     dwarf: &Dwarf<R>,
 ) -> Result<Vec<Unit<R>>, Error>
-    ensures { Gives (λ units. units.items) result (units_of_supplement R.Offset.limit (supplement dwarf.now)) }
+    ensures { ReturnsAsOrNoMemory (λ units. units.items) result
+        (units_of_supplement R.Offset.limit (supplement dwarf.now)) }
 {
     match &dwarf.sup {
         Some(sup) => readable_units(alloc, sup),

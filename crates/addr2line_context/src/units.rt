@@ -1,19 +1,17 @@
-//! The units of a file that are kept, read one after the other.
+//! The units of a context, read one after the other.
 
 ghost use Rattle.std.specs.Prelude.{◌≡◌, ◌++◌, OnOk, IfErr};
 ghost use Rattle.std.specs.Option.{option_to_list};
-ghost use Rattle.gimli_core_base.specs.Calls.{Gives};
-ghost use Rattle.gimli_core_base.specs.declared.error.Error.TheVariants.{Memory};
-ghost use Rattle.addr2line_sections.specs.Contexts.{units_of_file};
+ghost use Rattle.addr2line_units.specs.Calls.{ReturnsAsOrNoMemory};
+ghost use Rattle.addr2line_units.specs.Error.TheVariants.{Memory};
+ghost use Rattle.addr2line_units.specs.Contexts.{units_of_file};
 
 use crate::headers::context_unit;
 use crate::unit::ContextUnit;
-use gimli_core_base::error::Error;
-use gimli_core_readers::Reader;
-use gimli_dwarf::Dwarf;
+use addr2line_units::{Dwarf, Error, Reader};
 use std::alloc::Global;
 
-/// Appends a unit, if there is one.
+// Appends a unit, if there is one.
 fn push_unit<R: Reader>(
     units: &mut Vec<ContextUnit<R>>,
     unit: Option<ContextUnit<R>>,
@@ -27,13 +25,14 @@ fn push_unit<R: Reader>(
     Ok(())
 }
 
-/// The units of a file that are kept. Refused by the first refusal of a kept unit's ranges, or by a header that can't be read,
-/// which ends the units.
+// A context's units of a file. Refused by the first refusal of such a unit's ranges, or by a
+// header that can't be read, which ends the units.
 pub(crate) fn units_of_file<R: Reader>(
     alloc: Global,
     dwarf: &Dwarf<R>,
 ) -> Result<Vec<ContextUnit<R>>, Error>
-    ensures { Gives (λ units. units.items) result (units_of_file R.Offset.limit dwarf.now) }
+    ensures { ReturnsAsOrNoMemory (λ units. units.items) result
+        (units_of_file R.Offset.limit dwarf.now) }
 {
     let mut units = Vec::new(alloc);
     let mut headers = dwarf.units()?;

@@ -1,10 +1,10 @@
-pub mod Dots
-pub mod Grammar
-pub mod Joined
-pub mod Numbers
-pub mod Parts
-pub mod Plain
-pub mod Reading
-pub mod Suffixes
-pub mod Whole
-mod Worked
+pub mod DotPairs
+pub mod PathGrammar
+pub mod ElementLists
+pub mod DigitTexts
+pub mod ElementParts
+pub mod PlainElements
+pub mod PathSteps
+pub mod LlvmSuffixes
+pub mod WholeNames
+mod LegacyNameExamples

@@ -1,4 +1,4 @@
-pub mod Elements
-pub mod Laws
-pub mod Names
-pub mod Views
+pub mod LegacyElements
+pub mod LegacyNameLaws
+pub mod LegacyNames
+pub mod LegacyPathView

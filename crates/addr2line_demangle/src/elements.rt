@@ -1,10 +1,11 @@
-//! What an element of a path stands for.
+//! The text of an element of a path.
 
 ghost use Rattle.std.specs.Prelude.{◌≡◌, ◌++◌, option_map, OnOk, string_bytes};
-ghost use Rattle.addr2line_demangle.specs.Elements.{dots, is_lower_hexadecimal, shown, numbered, sign_of, character_of, replaced, without_underscore, element_text};
+ghost use Rattle.addr2line_demangle.specs.LegacyElements.{dots_as_colons, is_lower_hexadecimal, visible_character, character_by_number, sign_of, character_of, first_replacement, without_underscore, element_text};
 
 use std::alloc::AllocError;
 
+// Whether all bytes are '0' to '9' and 'a' to 'f'.
 fn is_lower_hexadecimal(digits: &str) -> bool
     ensures { result ≡ is_lower_hexadecimal digits.now }
 {
@@ -14,9 +15,9 @@ fn is_lower_hexadecimal(digits: &str) -> bool
         .all(|b| matches!(b, b'0'..=b'9' | b'a'..=b'f'))
 }
 
-/// The character of a number, unless it is none or a control character.
-fn shown(number: u32) -> Option<char>
-    ensures { result ≡ shown number }
+// The character of a number, unless there is none or it is a control character.
+fn visible_character(number: u32) -> Option<char>
+    ensures { result ≡ visible_character number }
 {
     match char::from_u32(number) {
         Some(character) if !character.is_control() => Some(character),
@@ -24,19 +25,20 @@ fn shown(number: u32) -> Option<char>
     }
 }
 
-/// The character whose number stands there in hexadecimal digits.
-fn numbered(digits: &str) -> Option<char>
-    ensures { result ≡ numbered digits.now }
+// The character whose number these hexadecimal digits are.
+fn character_by_number(digits: &str) -> Option<char>
+    ensures { result ≡ character_by_number digits.now }
 {
     if !is_lower_hexadecimal(digits) {
         return None;
     }
     match u32::from_str_radix(digits, 16) {
-        Ok(number) => shown(number),
+        Ok(number) => visible_character(number),
         Err(_) => None,
     }
 }
 
+// The character of a sign's word.
 fn sign(word: &str) -> Option<char>
     ensures { result ≡ sign_of word.now }
 {
@@ -53,27 +55,29 @@ fn sign(word: &str) -> Option<char>
     }
 }
 
-/// The character that a word between dollar signs stands for.
+// The character that a word between dollar signs means.
 fn character(word: &str) -> Option<char>
     ensures { result ≡ character_of word.now }
 {
     match word.as_bytes() {
-        [b'u', ..] => numbered(&word[1..]),
+        [b'u', ..] => character_by_number(&word[1..]),
         _ => sign(word),
     }
 }
 
-/// Behind a dollar sign: the character of the word up to the next one, and what stands behind that.
-fn replaced(behind: &str) -> Option<(char, &str)>
-    ensures { option_map (λ r. record { character = r.0; behind = r.1.now }) result ≡ replaced behind.now }
+// After a dollar sign: the character of the word up to the next one, and the text after that.
+fn first_replacement(text: &str) -> Option<(char, &str)>
+    ensures { option_map (λ r. record { character = r.0; rest = r.1.now }) result
+        ≡ first_replacement text.now }
 {
-    let (word, behind) = behind.split_once('$')?;
+    let (word, rest) = text.split_once('$')?;
     match character(word) {
-        Some(character) => Some((character, behind)),
+        Some(character) => Some((character, rest)),
         None => None,
     }
 }
 
+// The element without an underscore before a dollar sign at its start.
 fn without_underscore(element: &str) -> &str
     ensures { result.now ≡ without_underscore element.now }
 {
@@ -83,34 +87,36 @@ fn without_underscore(element: &str) -> &str
     }
 }
 
-/// Appends a plain part, with two colons for each two dots.
+// Appends a plain part, with two colons in place of each two dots.
 fn push_plain(text: &mut String, plain: &str) -> Result<(), AllocError>
-    ensures { OnOk result (string_bytes text.new ≡ string_bytes text.old ++ dots plain.now) }
+    ensures { OnOk result
+        (string_bytes text.new ≡ string_bytes text.old ++ dots_as_colons plain.now) }
 {
     let mut rest = plain;
-    while let Some((front, back)) = rest.split_once("..") {
-        text.push_str(front)?;
+    while let Some((before, after)) = rest.split_once("..") {
+        text.push_str(before)?;
         text.push_str("::")?;
-        rest = back;
+        rest = after;
     }
     text.push_str(rest)
 }
 
-/// Appends what an element stands for.
+/// Appends the text of an element.
 pub(crate) fn push_element(text: &mut String, element: &str) -> Result<(), AllocError>
-    ensures { OnOk result (string_bytes text.new ≡ string_bytes text.old ++ element_text element.now) }
+    ensures { OnOk result
+        (string_bytes text.new ≡ string_bytes text.old ++ element_text element.now) }
 {
     let mut rest = without_underscore(element);
-    while let Some((plain, behind)) = rest.split_once('$') {
+    while let Some((plain, tail)) = rest.split_once('$') {
         push_plain(text, plain)?;
-        match replaced(behind) {
+        match first_replacement(tail) {
             Some((character, after)) => {
                 text.push(character)?;
                 rest = after;
             }
             None => {
                 text.push('$')?;
-                return text.push_str(behind);
+                return text.push_str(tail);
             }
         }
     }

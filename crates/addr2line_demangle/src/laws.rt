@@ -1,6 +1,6 @@
-//! What follows from the definitions of names. Each function is a law: it does nothing, and its contract is proved.
+//! Laws of legacy names. Each function does nothing; its contract is the law, and it is proved.
 
-ghost use Rattle.addr2line_demangle.specs.Laws.{PathsAreRead, OnlyPathsAreRead, PlainElementsStay};
+ghost use Rattle.addr2line_demangle.specs.LegacyNameLaws.{PathsAreRead, OnlyPathsAreRead, PlainElementsAreUnchanged};
 
 /// A path is read as it was written.
 pub fn paths_are_read()
@@ -12,7 +12,7 @@ pub fn only_paths_are_read()
     ensures { OnlyPathsAreRead }
 {}
 
-/// An element without dollar signs and dots stands for itself.
-pub fn plain_elements_stay()
-    ensures { PlainElementsStay }
+/// The text of an element without dollar signs and dots is the element.
+pub fn plain_elements_are_unchanged()
+    ensures { PlainElementsAreUnchanged }
 {}

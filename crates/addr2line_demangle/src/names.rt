@@ -1,20 +1,21 @@
-//! Names as linkers know them, and the texts that they stand for.
+//! Names as linkers know them, and the texts that they mean.
 
-ghost use Rattle.std.specs.Prelude.{◌≡◌, ◌++◌, ℕ, map, flat_map, Ok, OnOk, option_map, string_bytes};
+ghost use Rattle.std.specs.Prelude.{◌≡◌, ◌++◌, map, Ok, OnOk, option_map, string_bytes};
 ghost use Rattle.std.specs.Char.{is_ascii_graphic, is_ascii_hexdigit};
 ghost use Rattle.std.specs.List.{list_all};
 ghost use Rattle.std.specs.Cow.{cow_str_bytes};
-ghost use Rattle.gimli_core_base.specs.Calls.{Gives};
-ghost use Rattle.addr2line_demangle.specs.Names.{is_mark, without_llvm, path_bytes, is_hash, without_hash, is_suffix, joined, path_text, rust_text, demangled, demangled_or_name};
-ghost use Rattle.addr2line_demangle.specs.Views.{path_view};
+ghost use Rattle.gimli_core_base.specs.Calls.{ReturnsAsOrNoMemory};
+ghost use Rattle.addr2line_demangle.specs.LegacyNames.{is_mark, without_llvm, path_bytes, is_hash, without_hash, is_suffix, elements_text, path_text, rust_text, demangle, demangle_or_name};
+ghost use Rattle.addr2line_demangle.specs.LegacyPathView.{path_view};
 
 use crate::elements::push_element;
 use crate::paths::{Path, read_path};
 use gimli_core_base::error::Error;
-use gimli_core_constants::{DW_LANG_Rust, DwLang};
+use gimli_core_base::{DW_LANG_Rust, DwLang};
 use std::alloc::{AllocError, Global};
 use std::borrow::CowStr;
 
+// Whether all bytes are such as the compiler's marks have.
 fn is_mark(text: &str) -> bool
     ensures { result ≡ is_mark text.now }
 {
@@ -23,17 +24,17 @@ fn is_mark(text: &str) -> bool
         .all(|b| matches!(b, b'A'..=b'F' | b'0'..=b'9' | b'@'))
 }
 
-/// The name up to a suffix `.llvm.` of the compiler's.
+// The name up to the compiler's suffix `.llvm.`.
 fn without_llvm(name: &str) -> &str
     ensures { result.now ≡ without_llvm name.now }
 {
     match name.rsplit_once(".llvm.") {
-        Some((front, mark)) => { if is_mark(mark) { front } else { name } }
+        Some((before, mark)) => { if is_mark(mark) { before } else { name } }
         None => name,
     }
 }
 
-/// What stands behind the prefix of a legacy name.
+// The text after the prefix of a legacy name.
 fn path_bytes(name: &str) -> Option<&str>
     ensures { option_map (λ p. p.now) result ≡ path_bytes name.now }
 {
@@ -52,6 +53,7 @@ fn is_graphic(text: &[u8]) -> bool
     text.iter().all(|b| b.is_ascii_graphic())
 }
 
+// Whether a text is empty, or a dot and visible bytes.
 fn is_suffix(suffix: &str) -> bool
     ensures { result ≡ is_suffix suffix.now }
 {
@@ -68,6 +70,7 @@ fn is_hexadecimal(digits: &[u8]) -> bool
     digits.iter().all(|b| b.is_ascii_hexdigit())
 }
 
+// Whether an element is the compiler's hash.
 fn is_hash(element: &str) -> bool
     ensures { result ≡ is_hash element.now }
 {
@@ -77,7 +80,7 @@ fn is_hash(element: &str) -> bool
     }
 }
 
-/// The elements without a hash at the end.
+// The elements without a hash at the end.
 fn without_hash<'a, 'b>(elements: &'b [&'a str]) -> &'b [&'a str]
     ensures { map (λ e. e.now) result.now ≡ without_hash (map (λ e. e.now) elements.now) }
 {
@@ -87,9 +90,10 @@ fn without_hash<'a, 'b>(elements: &'b [&'a str]) -> &'b [&'a str]
     }
 }
 
-/// Appends the elements' texts, with two colons between each two.
+// Appends the elements' texts, with two colons between each two.
 fn push_elements(text: &mut String, elements: &[&str]) -> Result<(), AllocError>
-    ensures { OnOk result (string_bytes text.new ≡ string_bytes text.old ++ joined (map (λ e. e.now) elements.now)) }
+    ensures { OnOk result (string_bytes text.new ≡ string_bytes text.old
+        ++ elements_text (map (λ e. e.now) elements.now)) }
 {
     if let [first, others @ ..] = elements {
         push_element(text, first)?;
@@ -101,9 +105,10 @@ fn push_elements(text: &mut String, elements: &[&str]) -> Result<(), AllocError>
     Ok(())
 }
 
-/// What a path of one element or more stands for.
+// The text of a path of one element or more.
 fn path_text(alloc: Global, path: &Path) -> Result<Option<String>, Error>
-    ensures { Gives (option_map string_bytes) result (Ok (path_text (path_view path.now))) }
+    ensures { ReturnsAsOrNoMemory (option_map string_bytes) result
+        (Ok (path_text (path_view path.now))) }
 {
     if path.elements.is_empty() || !is_suffix(path.suffix) {
         return Ok(None);
@@ -114,8 +119,9 @@ fn path_text(alloc: Global, path: &Path) -> Result<Option<String>, Error>
     Ok(Some(text))
 }
 
+// The text of a legacy Rust name.
 fn rust_text(alloc: Global, name: &str) -> Result<Option<String>, Error>
-    ensures { Gives (option_map string_bytes) result (Ok (rust_text name.now)) }
+    ensures { ReturnsAsOrNoMemory (option_map string_bytes) result (Ok (rust_text name.now)) }
 {
     if !name.is_ascii() {
         return Ok(None);
@@ -129,10 +135,12 @@ fn rust_text(alloc: Global, name: &str) -> Result<Option<String>, Error>
     }
 }
 
-/// The text that a name of a language stands for; none where it stands for no other. Names of Rust are read in their legacy
-/// form, and those of other languages (DWARF 5, 7.12) not at all. Refused only where memory can't be had.
+/// The text of a name of a language, if it has one beside the name itself. Names of Rust are read
+/// in their legacy form; those of other languages (DWARF 5, 7.12) have none. The only error is out
+/// of memory.
 pub fn demangle(alloc: Global, name: &str, language: DwLang) -> Result<Option<String>, Error>
-    ensures { Gives (option_map string_bytes) result (Ok (demangled language.0 name.now)) }
+    ensures { ReturnsAsOrNoMemory (option_map string_bytes) result
+        (Ok (demangle language.0 name.now)) }
 {
     if language == DW_LANG_Rust {
         rust_text(alloc, name)
@@ -141,14 +149,15 @@ pub fn demangle(alloc: Global, name: &str, language: DwLang) -> Result<Option<St
     }
 }
 
-/// The text that a name stands for, or the name itself where it stands for no other. Without a language it is read as a name
-/// of Rust. Refused only where memory can't be had.
+/// The text of a name, or the name itself where it has no other. Without a language it is read as a
+/// name of Rust. The only error is out of memory.
 pub fn demangle_auto<'a>(
     alloc: Global,
     name: CowStr<'a, Global>,
     language: Option<DwLang>,
 ) -> Result<CowStr<'a, Global>, Error>
-    ensures { Gives cow_str_bytes result (Ok (demangled_or_name (option_map (λ l. l.0) language) (cow_str_bytes name.entry))) }
+    ensures { ReturnsAsOrNoMemory cow_str_bytes result (Ok
+        (demangle_or_name (option_map (λ l. l.0) language) (cow_str_bytes name.entry))) }
 {
     match demangle(alloc, name.as_str(), language.unwrap_or(DW_LANG_Rust))? {
         Some(text) => Ok(CowStr::Owned(text)),

@@ -1,6 +1,6 @@
-pub mod Refused
-pub mod Loops
-pub mod Highest
-pub mod Names
-pub mod Choice
-pub mod Room
+pub mod Loads
+pub mod CountedReads
+pub mod HighestSymbols
+pub mod SymbolNames
+pub mod FirstHighestSymbol
+pub mod SectionTableRoom

@@ -1,9 +1,10 @@
 //! The two classes of ELF files.
 
 ghost use Rattle.std.specs.Prelude.{◌≡◌, ◌<◌, ◌≤◌};
-ghost use Rattle.addr2line_elf.specs.Classes.{word_size, section_header_size, symbol_size};
+ghost use Rattle.addr2line_elf.specs.ElfClasses.{word_size, section_header_size, symbol_size};
 
-/// The class of an ELF file: its addresses, offsets and sizes have 32 bits or 64 (System V ABI, "ELF Header").
+/// The class of an ELF file: its addresses, offsets and sizes have 32 bits or 64 (System V ABI,
+/// "ELF Header").
 #[derive(Clone, Copy, Debug, PartialEq, Eq)]
 pub enum Class {
     Elf32,

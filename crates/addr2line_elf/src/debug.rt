@@ -1,19 +1,17 @@
 //! The sections of debugging information of an ELF file.
 
 ghost use Rattle.std.specs.Prelude.{◌≡◌};
-ghost use Rattle.addr2line_elf.specs.Loading.{Loads};
-ghost use Rattle.addr2line_elf.specs.Debug.{is_read, is_read_split, main_section, split_section};
+ghost use Rattle.addr2line_elf.specs.ImageLoading.{LoadsOrNoMemory};
+ghost use Rattle.addr2line_elf.specs.ElfDebugSections.{is_read, is_read_split, main_section, split_section};
 
 use crate::elf::Elf;
 use crate::error::LoadError;
-use gimli_core_constants::SectionId;
-use gimli_core_numbers::RunTimeEndian;
-use gimli_core_readers::EndianBytes;
+use gimli_core_readers::{EndianBytes, RunTimeEndian, SectionId};
 
 impl Elf {
-    /// A section of a main file: its bytes where lookups read it, else none.
+    /// A section of a main file: its bytes if lookups read it, else none.
     pub fn debug_section(&self, id: SectionId) -> Result<EndianBytes<RunTimeEndian>, LoadError>
-        ensures { Loads (λ view. view) result (main_section id self.now) }
+        ensures { LoadsOrNoMemory result (main_section id self.now) }
     {
         if is_read(id) {
             self.section(id.name())
@@ -22,9 +20,9 @@ impl Elf {
         }
     }
 
-    /// A section of a split file (DWARF 5, 7.3.2): its bytes where lookups read it, else none.
+    /// A section of a split file (DWARF 5, 7.3.2): its bytes if lookups read it, else none.
     pub fn dwo_section(&self, id: SectionId) -> Result<EndianBytes<RunTimeEndian>, LoadError>
-        ensures { Loads (λ view. view) result (split_section id self.now) }
+        ensures { LoadsOrNoMemory result (split_section id self.now) }
     {
         if !is_read_split(id) {
             return self.no_section();
@@ -36,7 +34,7 @@ impl Elf {
     }
 }
 
-// Lookups read this section of a main file.
+// Whether lookups read this section of a main file.
 fn is_read(id: SectionId) -> bool
     ensures { result ≡ is_read id }
 {
@@ -55,7 +53,7 @@ fn is_read(id: SectionId) -> bool
     )
 }
 
-// Lookups read this section of a split file.
+// Whether lookups read this section of a split file.
 fn is_read_split(id: SectionId) -> bool
     ensures { result ≡ is_read_split id }
 {

@@ -2,39 +2,27 @@
 
 ghost use Rattle.std.specs.Prelude.{◌≡◌, ◌<◌, ◌==◌, ◌+◌, IfSome, Ok, length, drop, option_map};
 ghost use Rattle.std.specs.List.{slice_get, position, list_any};
-ghost use Rattle.gimli_core_base.specs.View.{front};
-ghost use Rattle.addr2line_elf.specs.Classes.{is_big};
-ghost use Rattle.addr2line_elf.specs.Loading.{Loads};
-ghost use Rattle.addr2line_elf.specs.Texts.{is_text};
-ghost use Rattle.addr2line_elf.specs.Images.{image_of, image_in, name_of, index_named, changes, waits_for_relocation, plain_contents, debug_contents, section_named, addresses, section_range};
-ghost use Rattle.addr2line_elf.specs.Symbols.{symbols_of};
+ghost use Rattle.gimli_core_readers.specs.View.{prefix};
+ghost use Rattle.addr2line_elf.specs.ElfClasses.{is_big};
+ghost use Rattle.addr2line_elf.specs.ImageLoading.{LoadsOrNoMemory};
+ghost use Rattle.addr2line_elf.specs.ElfTexts.{is_text};
+ghost use Rattle.addr2line_elf.specs.ElfImages.{image_of, image_in, name_of, index_named, changes, waits_for_relocation, plain_contents, debug_contents, section_named, addresses, section_range};
+ghost use Rattle.addr2line_elf.specs.ElfSymbols.{symbols_of};
 
 use crate::class::Class;
+use crate::constants::{ET_REL, SHF_COMPRESSED, SHT_NOBITS, SHT_REL, SHT_RELA};
 use crate::error::LoadError;
 use crate::headers::SectionHeader;
 use crate::identification::identify;
 use crate::reading::{in_file, nothing_of};
 use crate::symbols::{Symbols, symbol_table};
-use crate::table::{SHT_NOBITS, contents, linked, parse_file_header, parse_sections};
+use crate::table::{contents, linked_contents, parse_file_header, parse_sections};
 use crate::texts::text_at;
 use bytes::Bytes;
-use gimli_core_numbers::RunTimeEndian;
-use gimli_core_readers::{EndianBytes, Reader};
+use gimli_core_readers::{EndianBytes, Reader, RunTimeEndian};
 use std::alloc::Global;
 use std::marker::Model;
 use std::ops::Range;
-
-/// A file that is yet to be linked.
-const ET_REL: u16 = 1;
-
-/// A section of relocations with addends.
-const SHT_RELA: u32 = 4;
-
-/// A section of relocations without addends.
-const SHT_REL: u32 = 9;
-
-/// The flag of a compressed section.
-const SHF_COMPRESSED: u64 = 0x800;
 
 /// An ELF file whose headers are read.
 #[derive(Debug, Drop)]
@@ -43,22 +31,28 @@ pub struct Elf {
     class: Class,
     file_type: u16,
     sections: Vec<SectionHeader>,
-    /// The texts of the sections' names.
+    // The bytes of the section with the sections' names.
     names: EndianBytes<RunTimeEndian>,
 }
 
 impl Model for Elf {
-    ghost use Rattle.addr2line_elf.specs.Images.{Image};
+    ghost use Rattle.addr2line_elf.specs.ElfImages.{Image};
 
     ghost Value = { Image };
 
-    ghost view = { λ e. record { file = e.file; class = e.class; file_type = e.file_type; sections = e.sections.items; names = e.names } };
+    ghost view = { λ e. record {
+      file = e.file;
+      class = e.class;
+      file_type = e.file_type;
+      sections = e.sections.items;
+      names = e.names;
+    } };
 }
 
 impl Elf {
     /// Reads the headers of a file. Takes memory for a list of them, and shares the file's bytes.
     pub fn parse(alloc: Global, file: Bytes) -> Result<Elf, LoadError>
-        ensures { Loads (λ elf. elf) result (image_of file) }
+        ensures { LoadsOrNoMemory result (image_of file) }
     {
         let (class, endian) = identify(file.as_slice())?;
         Elf::parse_image(alloc, EndianBytes::new(file, endian), class)
@@ -70,7 +64,7 @@ impl Elf {
         file: EndianBytes<RunTimeEndian>,
         class: Class,
     ) -> Result<Elf, LoadError>
-        ensures { Loads (λ elf. elf) result (image_in class file) }
+        ensures { LoadsOrNoMemory result (image_in class file) }
     {
         let header = parse_file_header(&file, class)?;
         let table = parse_sections(alloc, &file, class, &header)?;
@@ -90,11 +84,12 @@ impl Elf {
         self.file.endian()
     }
 
-    /// The bytes of the debugging section of a name, each with its place in the file as identifier: none where no section has
-    /// the name, or where it has no bytes in the file. Takes a little memory, and shares the bytes.
-    #[tactic(auto, using(crate::proofs::Refused::Loads_answered, crate::proofs::Refused::Loads_given))]
+    /// The bytes of the debugging section of a name, each with its offset in the file as
+    /// identifier: none where no section has the name, or where it has no bytes in the file. Takes
+    /// a little memory, and shares the bytes. It looks at each section.
+    #[tactic(auto, using(crate::proofs::Loads::of_returned, crate::proofs::Loads::of_read))]
     pub fn section(&self, name: &str) -> Result<EndianBytes<RunTimeEndian>, LoadError>
-        ensures { Loads (λ view. view) result (section_named name.now self.now) }
+        ensures { LoadsOrNoMemory result (section_named name.now self.now) }
     {
         match self.index_of(name.as_bytes()) {
             Some(index) => self.debug_contents(index),
@@ -103,16 +98,17 @@ impl Elf {
     }
 
     /// No bytes, as of a section that isn't there.
-    #[tactic(auto, using(crate::proofs::Refused::Loads_answered, crate::proofs::Refused::Loads_given))]
+    #[tactic(auto, using(crate::proofs::Loads::of_returned, crate::proofs::Loads::of_read))]
     pub(crate) fn no_section(&self) -> Result<EndianBytes<RunTimeEndian>, LoadError>
-        ensures { Loads (λ view. view) result (Ok (front 0 self.now.file)) }
+        ensures { LoadsOrNoMemory result (Ok (prefix 0 self.now.file)) }
     {
         in_file(nothing_of(&self.file))
     }
 
-    /// The addresses of the first section of a name, if the last of them is one of 64 bits.
+    /// The addresses of the first section of a name, if its end is an address of 64 bits.
     pub fn get_section_range(&self, name: &[u8]) -> Option<Range<u64>>
-        ensures { option_map (λ range. (range.start, range.end)) result ≡ section_range name.now self.now }
+        ensures { option_map (λ range. (range.start, range.end)) result
+            ≡ section_range name.now self.now }
     {
         let index = self.index_of(name)?;
         let section = self.sections[index];
@@ -120,32 +116,33 @@ impl Elf {
         Some(section.address..end)
     }
 
-    /// The symbols that count. Takes memory for a list of all symbols.
-    #[tactic(auto, using(crate::proofs::Refused::Loads_answered, crate::proofs::Refused::Loads_given))]
+    /// The symbols that have a name and are defined in the file, data and functions. Takes memory
+    /// for a list of all symbols.
+    #[tactic(auto, using(crate::proofs::Loads::of_returned, crate::proofs::Loads::of_read))]
     pub fn symbols(&self, alloc: Global) -> Result<Symbols, LoadError>
-        ensures { Loads (λ symbols. symbols) result (symbols_of self.now) }
+        ensures { LoadsOrNoMemory result (symbols_of self.now) }
     {
         match symbol_table(&self.sections) {
             Some(section) => {
                 let table = contents(&self.file, section)?;
-                let texts = linked(&self.file, &self.sections, section.link)?;
+                let texts = linked_contents(&self.file, &self.sections, section.link)?;
                 Symbols::read(alloc, self.class, &table, texts)
             }
             None => Ok(Symbols::none(alloc, in_file(nothing_of(&self.file))?)),
         }
     }
 
-    // The index of the first section of a name, that at index 0 left out.
+    // The index of the first section of a name; the section at index 0 is skipped.
     fn index_of(&self, name: &[u8]) -> Option<usize>
         ensures value { result ≡ index_named name.now self.now }
         ensures within { IfSome result (λ index. index < length self.now.sections) }
     {
-        let place = self.place_among(self.sections.get(1..)?, name)?;
-        Some(place + 1)
+        let index = self.index_among(self.sections.get(1..)?, name)?;
+        Some(index + 1)
     }
 
-    // The place of the first of these sections that has a name.
-    fn place_among(&self, sections: &[SectionHeader], name: &[u8]) -> Option<usize>
+    // The index of the first of these sections that has a name.
+    fn index_among(&self, sections: &[SectionHeader], name: &[u8]) -> Option<usize>
         ensures { result ≡ position (λ h. is_text (name_of h self.now) name.now) sections.now }
     {
         sections
@@ -153,7 +150,7 @@ impl Elf {
             .position(|section| self.is_named(section, name))
     }
 
-    // A section has a name.
+    // Whether a section has a name.
     fn is_named(&self, section: &SectionHeader, name: &[u8]) -> bool
         ensures { result ≡ is_text (name_of section.now self.now) name.now }
     {
@@ -166,7 +163,8 @@ impl Elf {
     // The bytes of a section that is read as debugging information.
     fn debug_contents(&self, index: usize) -> Result<EndianBytes<RunTimeEndian>, LoadError>
         requires { index < length self.now.sections }
-        ensures { Loads (λ view. view) result (debug_contents index (slice_get self.now.sections index) self.now) }
+        ensures { LoadsOrNoMemory result
+            (debug_contents index (slice_get self.now.sections index) self.now) }
     {
         let section = &self.sections[index];
         if section.section_type == SHT_NOBITS {
@@ -182,7 +180,7 @@ impl Elf {
         index: usize,
         section: &SectionHeader,
     ) -> Result<EndianBytes<RunTimeEndian>, LoadError>
-        ensures { Loads (λ view. view) result (plain_contents index section.now self.now) }
+        ensures { LoadsOrNoMemory result (plain_contents index section.now self.now) }
     {
         let view = contents(&self.file, section)?;
         if section.flags & SHF_COMPRESSED != 0 {
@@ -194,7 +192,7 @@ impl Elf {
         Ok(view)
     }
 
-    // A section of relocations changes this one, in a file that is yet to be linked.
+    // Whether a section of relocations changes this one, in a file that is yet to be linked.
     fn waits_for_relocation(&self, index: usize) -> bool
         ensures { result ≡ waits_for_relocation index self.now }
     {
@@ -202,14 +200,14 @@ impl Elf {
     }
 }
 
-// One of the sections changes the one at an index.
+// Whether one of the sections changes the one at an index.
 fn any_changes(sections: &[SectionHeader], index: usize) -> bool
     ensures { result ≡ list_any (changes index) sections.now }
 {
     sections.iter().any(|section| changes(section, index))
 }
 
-// A section of relocations changes the section at an index.
+// Whether this is a section of relocations that changes the section at an index.
 fn changes(section: &SectionHeader, index: usize) -> bool
     ensures { result ≡ changes index section.now }
 {

@@ -1,35 +1,33 @@
 //! Entries of a symbol table (System V ABI, "Symbol Table").
 
-ghost use Rattle.gimli_core_base.specs.Calls.{Answers};
-ghost use Rattle.addr2line_elf.specs.Entries.{symbol_entry, entry_of_32, entry_of_64};
+ghost use Rattle.gimli_core_readers.specs.Calls.{ReturnsAs};
+ghost use Rattle.addr2line_elf.specs.SymbolEntries.{symbol_entry, entry_of_32, entry_of_64};
 
 use crate::class::Class;
-use gimli_core_base::error::Error;
-use gimli_core_numbers::RunTimeEndian;
-use gimli_core_readers::{EndianSlice, Reader};
+use gimli_core_readers::{EndianSlice, Error, Reader, RunTimeEndian};
 
 /// A symbol as its table describes it.
 #[derive(Clone, Copy, Debug, PartialEq, Eq)]
 pub struct SymbolEntry {
     /// Where the symbol's name begins in the section of names.
     pub name: u32,
-    /// What the symbol stands for, in the low half, and where it is seen.
+    /// The symbol's type, in the low four bits, and its binding (STB_*), in the high four.
     pub info: u8,
     /// The index of the section that defines it; 0 where none here does.
     pub section: u16,
     /// The address of the symbol.
     pub value: u64,
-    /// The bytes of what it stands for; 0 where that isn't known.
+    /// Its size in bytes; 0 where that isn't known.
     pub size: u64,
 }
 
 impl SymbolEntry {
-    /// The entry at the front.
+    /// The next entry.
     pub(crate) fn parse(
         input: &mut EndianSlice<'_, RunTimeEndian>,
         class: Class,
     ) -> Result<SymbolEntry, Error>
-        ensures { Answers (λ entry. (entry, input.new)) result (symbol_entry class input.old) }
+        ensures { ReturnsAs (λ entry. (entry, input.new)) result (symbol_entry class input.old) }
     {
         match class {
             Class::Elf32 => SymbolEntry::parse_32(input),
@@ -37,9 +35,9 @@ impl SymbolEntry {
         }
     }
 
-    #[tactic(auto, unfolding(crate::specs::Entries::entry_of_32))]
+    #[tactic(auto, unfolding(crate::specs::SymbolEntries::entry_of_32))]
     fn parse_32(input: &mut EndianSlice<'_, RunTimeEndian>) -> Result<SymbolEntry, Error>
-        ensures { Answers (λ entry. (entry, input.new)) result (entry_of_32 input.old) }
+        ensures { ReturnsAs (λ entry. (entry, input.new)) result (entry_of_32 input.old) }
     {
         let name = input.read_u32()?;
         let value = u64::from(input.read_u32()?);
@@ -56,9 +54,9 @@ impl SymbolEntry {
         })
     }
 
-    #[tactic(auto, unfolding(crate::specs::Entries::entry_of_64))]
+    #[tactic(auto, unfolding(crate::specs::SymbolEntries::entry_of_64))]
     fn parse_64(input: &mut EndianSlice<'_, RunTimeEndian>) -> Result<SymbolEntry, Error>
-        ensures { Answers (λ entry. (entry, input.new)) result (entry_of_64 input.old) }
+        ensures { ReturnsAs (λ entry. (entry, input.new)) result (entry_of_64 input.old) }
     {
         let name = input.read_u32()?;
         let info = input.read_u8()?;

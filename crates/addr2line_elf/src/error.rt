@@ -1,35 +1,35 @@
 //! Why an image isn't loaded.
 
-use gimli_core_base::error::Error;
+use gimli_core_readers::Error;
 use std::alloc::{AllocError, AllocFailed};
 use std::fmt;
 
-/// Why an image isn't loaded. Displayed as `L` and the number that stands beside each refusal.
+/// Why an image isn't loaded. Displayed as the letter and the number beside each case.
 #[derive(Clone, Copy, Debug, PartialEq, Eq)]
 pub enum LoadError {
-    /// L1: Memory could not be had.
+    /// L1: out of memory.
     Memory,
-    /// L2: The file can't be read.
+    /// L2: the file can't be read.
     Io,
-    /// L3: The bytes don't begin as those of an ELF file do.
+    /// L3: the bytes don't begin as those of an ELF file do.
     NotElf,
-    /// L4: An ELF file of a class, an order of bytes or a size of section headers that isn't read.
+    /// L4: an ELF file of a class, a byte order or a section header size that isn't supported.
     UnsupportedElf,
-    /// L5: The file ends before a header, a section or a table does.
+    /// L5: the file ends before a header, a section or a table does.
     Truncated,
-    /// L6: A section of debugging information is compressed.
+    /// L6: a section of debugging information is compressed.
     CompressedSection,
-    /// L7: A section of debugging information waits for a linker to fill in its addresses.
+    /// L7: a linker has yet to fill in the addresses of a section of debugging information.
     NeedsRelocation,
-    /// L8: The debugging information isn't read.
+    /// L8: the debugging information can't be read.
     Dwarf(Error),
 }
 
 impl From<Error> for LoadError {
     ghost use Rattle.std.specs.Prelude.{◌≡◌};
-    ghost use Rattle.addr2line_elf.specs.Refusals.{told};
+    ghost use Rattle.addr2line_elf.specs.LoadErrors.{load_error_of};
 
-    ghost from_gives = { λ error refused. refused ≡ told error };
+    ghost from_gives = { λ error refused. refused ≡ load_error_of error };
 
     fn from(error: Error) -> LoadError {
         match error {
@@ -63,7 +63,7 @@ impl<T: Drop> From<AllocFailed<T>> for LoadError {
 
 impl fmt::Display for LoadError {
     ghost use Rattle.std.specs.Prelude.{Some};
-    ghost use Rattle.addr2line_elf.specs.Refusals.{text_of};
+    ghost use Rattle.addr2line_elf.specs.LoadErrors.{text_of};
 
     ghost output = { λ e. Some (text_of e) };
 

@@ -1,24 +1,25 @@
-//! The headers of an ELF file: that of the file, and those of its sections (System V ABI, "ELF Header" and "Sections").
+//! The headers of an ELF file: that of the file, and those of its sections (System V ABI, "ELF
+//! Header" and "Sections").
 
-ghost use Rattle.gimli_core_base.specs.Calls.{Answers};
-ghost use Rattle.addr2line_elf.specs.Headers.{file_header, section_header};
+ghost use Rattle.gimli_core_readers.specs.Calls.{ReturnsAs};
+ghost use Rattle.addr2line_elf.specs.ElfHeaders.{file_header, section_header};
 
 use crate::class::Class;
-use gimli_core_base::error::Error;
-use gimli_core_numbers::RunTimeEndian;
-use gimli_core_readers::{EndianSlice, Reader};
+use gimli_core_readers::{EndianSlice, Error, Reader, RunTimeEndian};
 
-/// What is read of a file's header, behind its identification.
+/// What is read of a file's header, after its identification.
 #[derive(Clone, Copy, Debug, PartialEq, Eq)]
 pub struct FileHeader {
+    /// The type of the file (ET_*).
     pub file_type: u16,
-    /// Where the section headers stand; 0 where there are none.
+    /// The offset of the section headers; 0 where there are none.
     pub table_offset: u64,
     /// The bytes of a section header.
     pub entry_size: u16,
     /// The number of section headers; 0 where the first of them holds it.
     pub count: u16,
-    /// The index of the section with the sections' names; 0xffff where the first section header holds it.
+    /// The index of the section with the sections' names; 0xffff where the first section header
+    /// holds it.
     pub names: u16,
 }
 
@@ -27,27 +28,30 @@ pub struct FileHeader {
 pub struct SectionHeader {
     /// Where the section's name begins in the section of names.
     pub name: u32,
+    /// The type of the section (SHT_*).
     pub section_type: u32,
+    /// Its flags (SHF_*).
     pub flags: u64,
     /// The address of the first byte where the program runs.
     pub address: u64,
-    /// The place of the first byte in the file.
+    /// The offset of the first byte in the file.
     pub offset: u64,
+    /// The number of its bytes, in the file or, where it has none there, in memory.
     pub size: u64,
-    /// The index of a section that this one needs, as a table of symbols the section of their names.
+    /// The index of a section that this one needs: of a symbol table, the section with its names.
     pub link: u32,
-    /// For relocations the index of the section that they change.
+    /// Of relocations, the index of the section that they change.
     pub info: u32,
 }
 
 impl FileHeader {
-    /// The header at the front of a file.
-    #[tactic(auto, unfolding(crate::specs::Headers::file_header))]
+    /// The header at the start of a file.
+    #[tactic(auto, unfolding(crate::specs::ElfHeaders::file_header))]
     pub(crate) fn parse(
         input: &mut EndianSlice<'_, RunTimeEndian>,
         class: Class,
     ) -> Result<FileHeader, Error>
-        ensures { Answers (λ header. (header, input.new)) result (file_header class input.old) }
+        ensures { ReturnsAs (λ header. (header, input.new)) result (file_header class input.old) }
     {
         let word_size = class.word_size();
         input.skip(16)?;
@@ -71,13 +75,14 @@ impl FileHeader {
 }
 
 impl SectionHeader {
-    /// The section header at the front.
-    #[tactic(auto, unfolding(crate::specs::Headers::section_header))]
+    /// The next section header.
+    #[tactic(auto, unfolding(crate::specs::ElfHeaders::section_header))]
     pub(crate) fn parse(
         input: &mut EndianSlice<'_, RunTimeEndian>,
         class: Class,
     ) -> Result<SectionHeader, Error>
-        ensures { Answers (λ header. (header, input.new)) result (section_header class input.old) }
+        ensures { ReturnsAs (λ header. (header, input.new)) result
+            (section_header class input.old) }
     {
         let word_size = class.word_size();
         let name = input.read_u32()?;

@@ -1,11 +1,13 @@
-//! What holds of every image: each function here has an empty body, and its contract is a law.
+//! Laws of symbols. Each function does nothing; its contract is the law, and it is proved.
 
 ghost use Rattle.std.specs.Prelude.{◌≡◌, ℕ, List, Some, None};
-ghost use Rattle.addr2line_elf.specs.Symbols.{NamedSymbol, symbol_at, EachHolding, IsFirstHighest};
+ghost use Rattle.addr2line_elf.specs.ElfSymbols.{NamedSymbol, symbol_at, EachHolding, IsFirstHighest};
 
-/// The symbol of an address holds it; no other one that does stands higher, and none before it as high. There is none where no
-/// symbol holds the address.
+/// The symbol of an address holds it. No other one that does has a higher address, and none before
+/// it as high a one. There is none where no symbol holds the address.
 pub fn the_symbol_of_an_address()
-    ensures found { (address : ℕ) (symbols : List NamedSymbol) (s : NamedSymbol) → symbol_at address symbols ≡ Some s → IsFirstHighest address symbols s }
-    ensures none { (address : ℕ) (symbols : List NamedSymbol) → symbol_at address symbols ≡ None → EachHolding address (λ _. ⊥) symbols }
+    ensures found { (address : ℕ) (symbols : List NamedSymbol) (s : NamedSymbol)
+        → symbol_at address symbols ≡ Some s → IsFirstHighest address symbols s }
+    ensures none { (address : ℕ) (symbols : List NamedSymbol)
+        → symbol_at address symbols ≡ None → EachHolding address (λ _. ⊥) symbols }
 {}

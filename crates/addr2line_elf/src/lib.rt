@@ -1,8 +1,9 @@
-//! ELF files as a loader of debugging information reads them: their sections by name, their symbols, and why they are
-//! refused.
+//! ELF files as a loader of debugging information reads them: their sections by name, their
+//! symbols, and why they are refused.
 #![tactic(auto)]
 
 pub mod class;
+mod constants;
 mod debug;
 pub mod elf;
 pub mod entries;
@@ -18,6 +19,3 @@ mod texts;
 pub use elf::Elf;
 pub use error::LoadError;
 pub use symbols::{Symbol, Symbols};
-
-#[cfg(test)]
-mod tests;

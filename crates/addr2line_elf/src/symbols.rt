@@ -2,40 +2,27 @@
 
 ghost use Rattle.std.specs.Prelude.{◌≡◌, ◌==◌, option_map};
 ghost use Rattle.std.specs.List.{find};
-ghost use Rattle.gimli_core_base.specs.Parsers.{value_of};
-ghost use Rattle.gimli_core_base.specs.Calls.{Gives};
-ghost use Rattle.gimli_core_base.specs.Repetition.{times};
-ghost use Rattle.addr2line_elf.specs.Entries.{symbol_entry};
-ghost use Rattle.addr2line_elf.specs.Loading.{Loads};
-ghost use Rattle.addr2line_elf.specs.Texts.{text_at};
-ghost use Rattle.addr2line_elf.specs.Symbols.{is_defined, as_name, symbol_of, symbol_table, first_of, entries_in, symbols_in, covers, if_holds, higher, symbol_at};
+ghost use Rattle.gimli_core_readers.specs.Parsers.{value_of};
+ghost use Rattle.gimli_core_readers.specs.Calls.{ReturnsAsOrNoMemory};
+ghost use Rattle.gimli_core_readers.specs.Repetition.{times};
+ghost use Rattle.addr2line_elf.specs.SymbolEntries.{symbol_entry};
+ghost use Rattle.addr2line_elf.specs.ImageLoading.{LoadsAsOrNoMemory, LoadsOrNoMemory};
+ghost use Rattle.addr2line_elf.specs.ElfTexts.{text_at};
+ghost use Rattle.addr2line_elf.specs.ElfSymbols.{is_defined, as_name, symbol_of, symbol_table, section_or, entries_in, symbols_in, covers, if_holds, higher, symbol_at};
 
 use crate::class::Class;
+use crate::constants::{SHN_UNDEF, SHT_DYNSYM, SHT_SYMTAB, STT_FUNC};
 use crate::entries::SymbolEntry;
 use crate::error::LoadError;
 use crate::headers::SectionHeader;
 use crate::reading::{in_file, input_of};
 use crate::texts::text_at;
-use gimli_core_base::error::Error;
-use gimli_core_numbers::RunTimeEndian;
-use gimli_core_readers::{EndianBytes, EndianSlice, Reader};
+use gimli_core_readers::{EndianBytes, EndianSlice, Error, Reader, RunTimeEndian};
 use std::alloc::Global;
 use std::marker::Model;
 use std::str;
 
-/// A section with all symbols.
-const SHT_SYMTAB: u32 = 2;
-
-/// A section with the symbols of dynamic linking.
-const SHT_DYNSYM: u32 = 11;
-
-/// The section of a symbol that isn't defined here.
-const SHN_UNDEF: u16 = 0;
-
-/// The last of the types that are looked up: none, a datum, a function.
-const STT_FUNC: u8 = 2;
-
-/// A symbol: its name, and the address of its first byte.
+/// A symbol: its name, the address of its first byte, and its size in bytes.
 #[derive(Debug, Drop)]
 pub struct Symbol<'a> {
     name: &'a str,
@@ -44,7 +31,7 @@ pub struct Symbol<'a> {
 }
 
 impl<'a> Model for Symbol<'a> {
-    ghost use Rattle.addr2line_elf.specs.Symbols.{NamedSymbol};
+    ghost use Rattle.addr2line_elf.specs.ElfSymbols.{NamedSymbol};
 
     ghost Value = { NamedSymbol };
 
@@ -52,12 +39,14 @@ impl<'a> Model for Symbol<'a> {
 }
 
 impl<'a> Symbol<'a> {
+    /// Its name, as the file has it.
     pub fn name(&self) -> &'a str
         ensures { result.now ≡ self.now.name }
     {
         self.name
     }
 
+    /// The address of its first byte where the program is linked to run.
     pub fn address(&self) -> u64
         ensures { result ≡ self.now.address }
     {
@@ -65,8 +54,8 @@ impl<'a> Symbol<'a> {
     }
 }
 
-/// The symbols of an image that count: those of a section of the image, without a type or of a datum or a function, with a
-/// name.
+/// The symbols of an image that are defined in one of its sections, have a name, and are data,
+/// functions or without a type.
 #[derive(Debug, Drop)]
 pub struct Symbols {
     entries: Vec<SymbolEntry>,
@@ -76,8 +65,8 @@ pub struct Symbols {
 impl Model for Symbols {
     ghost use Rattle.std.specs.Prelude.{List};
     ghost use Rattle.std.specs.List.{filter_map};
-    ghost use Rattle.addr2line_elf.specs.Symbols.{NamedSymbol};
-    ghost use Rattle.addr2line_elf.specs.Symbols.{symbol_of};
+    ghost use Rattle.addr2line_elf.specs.ElfSymbols.{NamedSymbol};
+    ghost use Rattle.addr2line_elf.specs.ElfSymbols.{symbol_of};
 
     ghost Value = { List NamedSymbol };
 
@@ -104,13 +93,14 @@ impl Symbols {
         table: &EndianBytes<RunTimeEndian>,
         texts: EndianBytes<RunTimeEndian>,
     ) -> Result<Symbols, LoadError>
-        ensures { Loads (λ symbols. symbols) result (symbols_in class table.now texts) }
+        ensures { LoadsOrNoMemory result (symbols_in class table.now texts) }
     {
         let entries = read_entries(alloc, class, table)?;
         Ok(Symbols { entries, texts })
     }
 
-    /// The symbol that holds an address: of several the one of the greatest address, and of these the first.
+    /// The symbol that holds an address: of several the one of the greatest address, and of these
+    /// the first. It looks at each symbol.
     pub fn find(&self, address: u64) -> Option<Symbol<'_>>
         ensures { result ≡ symbol_at address self.now }
     {
@@ -123,26 +113,28 @@ impl Symbols {
     }
 }
 
-// So many entries as a table has room for.
-#[tactic(auto, using(crate::proofs::Refused::Loads_answered, crate::proofs::Refused::Loads_given))]
+// As many entries as a table has room for.
+#[tactic(auto, using(crate::proofs::Loads::of_returned, crate::proofs::Loads::of_read))]
 fn read_entries(
     alloc: Global,
     class: Class,
     table: &EndianBytes<RunTimeEndian>,
 ) -> Result<Vec<SymbolEntry>, LoadError>
-    ensures { Loads (λ entries. entries.items) result (entries_in class table.now) }
+    ensures { LoadsAsOrNoMemory (λ entries. entries.items) result (entries_in class table.now) }
 {
     let count = table.as_bytes().len() / class.symbol_size();
     in_file(read_counted(alloc, table, class, count))
 }
 
+// That many entries from the start of a table.
 fn read_counted(
     alloc: Global,
     table: &EndianBytes<RunTimeEndian>,
     class: Class,
     count: usize,
 ) -> Result<Vec<SymbolEntry>, Error>
-    ensures { Gives (λ entries. entries.items) result (value_of (times count (symbol_entry class) table.now)) }
+    ensures { ReturnsAsOrNoMemory (λ entries. entries.items) result
+        (value_of (times count (symbol_entry class) table.now)) }
 {
     read_next(alloc, &mut input_of(table), class, count)
 }
@@ -154,7 +146,8 @@ fn read_next(
     class: Class,
     count: usize,
 ) -> Result<Vec<SymbolEntry>, Error>
-    ensures { Gives (λ entries. (entries.items, input.new)) result (times count (symbol_entry class) input.old) }
+    ensures { ReturnsAsOrNoMemory (λ entries. (entries.items, input.new)) result
+        (times count (symbol_entry class) input.old) }
 {
     let mut entries = Vec::new(alloc);
     for _index in 0..count {
@@ -173,15 +166,17 @@ pub(crate) fn symbol_table(sections: &[SectionHeader]) -> Option<&SectionHeader>
     }
 }
 
+// The first section of a type.
 fn first_of_type(sections: &[SectionHeader], section_type: u32) -> Option<&SectionHeader>
-    ensures { option_map (λ section. section.now) result ≡ find (λ h. h.section_type == section_type) sections.now }
+    ensures { option_map (λ section. section.now) result
+        ≡ find (λ h. h.section_type == section_type) sections.now }
 {
     sections
         .iter()
         .find(|section| section.section_type == section_type)
 }
 
-// The symbol of an entry, if it counts and holds an address.
+// The symbol of an entry, if it has one that holds an address.
 fn candidate<'a>(texts: &'a [u8], entry: &SymbolEntry, address: u64) -> Option<Symbol<'a>>
     ensures { result ≡ if_holds address (symbol_of texts.now entry.now) }
 {
@@ -191,7 +186,8 @@ fn candidate<'a>(texts: &'a [u8], entry: &SymbolEntry, address: u64) -> Option<S
     symbol_of(texts, entry)
 }
 
-// So many bytes from a begin on hold an address, or all, where the size is 0.
+// Whether an address is among the bytes of a size from an address on; where the size is 0, these
+// are all from there on.
 fn covers(begin: u64, size: u64, address: u64) -> bool
     ensures { result ≡ covers begin size address }
 {
@@ -215,7 +211,7 @@ fn higher<'a>(first: Option<Symbol<'a>>, other: Option<Symbol<'a>>) -> Option<Sy
     }
 }
 
-// The symbol of an entry, if it counts.
+// The symbol of an entry, if it is defined and has a name.
 fn symbol_of<'a>(texts: &'a [u8], entry: &SymbolEntry) -> Option<Symbol<'a>>
     ensures { result ≡ symbol_of texts.now entry.now }
 {
@@ -230,6 +226,8 @@ fn symbol_of<'a>(texts: &'a [u8], entry: &SymbolEntry) -> Option<Symbol<'a>>
     })
 }
 
+// Whether a section of the image defines the symbol, and it is a datum, a function or without a
+// type.
 fn is_defined(entry: &SymbolEntry) -> bool
     ensures { result ≡ is_defined entry.now }
 {
@@ -237,7 +235,7 @@ fn is_defined(entry: &SymbolEntry) -> bool
 }
 
 // The text as a name: UTF-8, and not empty.
-#[tactic(auto, using(crate::proofs::Names::name_yes, crate::proofs::Names::name_no))]
+#[tactic(auto, using(crate::proofs::SymbolNames::name_yes, crate::proofs::SymbolNames::name_no))]
 fn name_of(text: &[u8]) -> Option<&str>
     ensures { option_map (λ name. name.now) result ≡ as_name text.now }
 {

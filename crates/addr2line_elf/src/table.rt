@@ -1,36 +1,25 @@
 //! The table of an image's sections.
 
 ghost use Rattle.std.specs.Prelude.{◌≡◌, ◌+◌, ◌*◌, ◌<◌, ◌≤◌, [], MatchBool};
-ghost use Rattle.gimli_core_base.specs.View.{bytes_left};
-ghost use Rattle.gimli_core_base.specs.Parsers.{value_of};
-ghost use Rattle.gimli_core_base.specs.Repetition.{times};
-ghost use Rattle.gimli_core_base.specs.Calls.{Answers, Gives};
-ghost use Rattle.addr2line_elf.specs.Classes.{is_big, section_header_size};
-ghost use Rattle.addr2line_elf.specs.Headers.{file_header, section_header, header_at, headers_at};
-ghost use Rattle.addr2line_elf.specs.Loading.{read_in, Loads};
-ghost use Rattle.addr2line_elf.specs.Images.{contents, linked, count_of, names_of, table, sections_of};
+ghost use Rattle.gimli_core_readers.specs.View.{bytes_left};
+ghost use Rattle.gimli_core_readers.specs.Parsers.{value_of};
+ghost use Rattle.gimli_core_readers.specs.Repetition.{times};
+ghost use Rattle.gimli_core_readers.specs.Calls.{Returns, ReturnsAsOrNoMemory};
+ghost use Rattle.addr2line_elf.specs.ElfClasses.{is_big, section_header_size};
+ghost use Rattle.addr2line_elf.specs.ElfHeaders.{file_header, section_header, header_at, headers_at};
+ghost use Rattle.addr2line_elf.specs.ImageLoading.{read_in, LoadsAsOrNoMemory, LoadsOrNoMemory};
+ghost use Rattle.addr2line_elf.specs.ElfImages.{contents, linked_contents, section_count, names_index, table, sections_of};
 
 use crate::class::Class;
+use crate::constants::{SHN_UNDEF, SHN_XINDEX, SHT_NOBITS};
 use crate::error::LoadError;
 use crate::headers::{FileHeader, SectionHeader};
 use crate::reading::{in_file, input_at, input_of, nothing_of, part_at};
 use bytes::Bytes;
-use gimli_core_base::constants::ReaderOffsetId;
-use gimli_core_base::error::Error;
-use gimli_core_numbers::RunTimeEndian;
-use gimli_core_readers::{EndianBytes, EndianSlice, Reader};
+use gimli_core_readers::{EndianBytes, EndianSlice, Error, Reader, ReaderOffsetId, RunTimeEndian};
 use std::alloc::Global;
 
-/// A section that has no bytes in the file.
-pub(crate) const SHT_NOBITS: u32 = 8;
-
-/// The index that names no section.
-const SHN_UNDEF: u32 = 0;
-
-/// The index that says that the first section header holds an index.
-const SHN_XINDEX: u16 = 0xffff;
-
-/// The sections of an image, in order, and the texts of their names.
+/// The sections of an image, in order, and the bytes of the section with their names.
 #[derive(Debug, Drop)]
 pub(crate) struct SectionTable {
     pub headers: Vec<SectionHeader>,
@@ -38,25 +27,26 @@ pub(crate) struct SectionTable {
 }
 
 /// The header of the file. Takes no memory.
-#[tactic(auto, using(crate::proofs::Refused::Loads_answered, crate::proofs::Refused::Loads_given))]
+#[tactic(auto, using(crate::proofs::Loads::of_returned, crate::proofs::Loads::of_read))]
 pub(crate) fn parse_file_header(
     file: &EndianBytes<RunTimeEndian>,
     class: Class,
 ) -> Result<FileHeader, LoadError>
-    ensures { Loads (λ header. header) result (read_in file.now (file_header class)) }
+    ensures { LoadsOrNoMemory result (read_in file.now (file_header class)) }
 {
     in_file(FileHeader::parse(&mut input_of(file), class))
 }
 
 /// The sections that the file's header leads to.
-#[tactic(auto, using(crate::proofs::Refused::Loads_answered, crate::proofs::Refused::Loads_given))]
+#[tactic(auto, using(crate::proofs::Loads::of_returned, crate::proofs::Loads::of_read))]
 pub(crate) fn parse_sections(
     alloc: Global,
     file: &EndianBytes<RunTimeEndian>,
     class: Class,
     header: &FileHeader,
 ) -> Result<SectionTable, LoadError>
-    ensures { Loads (λ sections. record { headers = sections.headers.items; names = sections.names }) result
+    ensures { LoadsAsOrNoMemory
+        (λ sections. record { headers = sections.headers.items; names = sections.names }) result
         (sections_of class header.now file.now) }
 {
     if header.table_offset == 0 {
@@ -78,19 +68,20 @@ fn parse_table(
     class: Class,
     header: &FileHeader,
 ) -> Result<SectionTable, LoadError>
-    ensures { Loads (λ sections. record { headers = sections.headers.items; names = sections.names }) result
+    ensures { LoadsAsOrNoMemory
+        (λ sections. record { headers = sections.headers.items; names = sections.names }) result
         (table class header.now file.now) }
 {
     let first = parse_first(file, class, header.table_offset)?;
     let count = section_count(header, &first);
     let headers = parse_all(alloc, file, class, header.table_offset, count)?;
-    let names = linked(file, &headers, names_index(header, &first))?;
+    let names = linked_contents(file, &headers, names_index(header, &first))?;
     Ok(SectionTable { headers, names })
 }
 
 // The number of section headers.
 fn section_count(header: &FileHeader, first: &SectionHeader) -> u64
-    ensures { result ≡ count_of header.now first.now }
+    ensures { result ≡ section_count header.now first.now }
 {
     if header.count == 0 {
         first.size
@@ -101,7 +92,7 @@ fn section_count(header: &FileHeader, first: &SectionHeader) -> u64
 
 // The index of the section with the sections' names.
 fn names_index(header: &FileHeader, first: &SectionHeader) -> u32
-    ensures { result ≡ names_of header.now first.now }
+    ensures { result ≡ names_index header.now first.now }
 {
     if header.names == SHN_XINDEX {
         first.link
@@ -110,14 +101,14 @@ fn names_index(header: &FileHeader, first: &SectionHeader) -> u32
     }
 }
 
-// The first section header, which stands at an offset.
-#[tactic(auto, using(crate::proofs::Refused::Loads_answered, crate::proofs::Refused::Loads_given))]
+// The first section header, which is at an offset.
+#[tactic(auto, using(crate::proofs::Loads::of_returned, crate::proofs::Loads::of_read))]
 fn parse_first(
     file: &EndianBytes<RunTimeEndian>,
     class: Class,
     offset: u64,
 ) -> Result<SectionHeader, LoadError>
-    ensures { Loads (λ header. header) result (read_in file.now (header_at class offset)) }
+    ensures { LoadsOrNoMemory result (read_in file.now (header_at class offset)) }
 {
     in_file(read_first(file, class, offset))
 }
@@ -127,13 +118,13 @@ fn read_first(
     class: Class,
     offset: u64,
 ) -> Result<SectionHeader, Error>
-    ensures { Answers (λ header. header) result (value_of (header_at class offset file.now)) }
+    ensures { Returns result (value_of (header_at class offset file.now)) }
 {
     SectionHeader::parse(&mut input_at(file, offset)?, class)
 }
 
-// So many section headers, which begin at an offset.
-#[tactic(auto, using(crate::proofs::Refused::Loads_given))]
+// The given number of section headers, which begin at an offset.
+#[tactic(auto, using(crate::proofs::Loads::of_read))]
 fn parse_all(
     alloc: Global,
     file: &EndianBytes<RunTimeEndian>,
@@ -141,7 +132,8 @@ fn parse_all(
     offset: u64,
     count: u64,
 ) -> Result<Vec<SectionHeader>, LoadError>
-    ensures { Loads (λ headers. headers.items) result (read_in file.now (headers_at class offset count)) }
+    ensures { LoadsAsOrNoMemory (λ headers. headers.items) result
+        (read_in file.now (headers_at class offset count)) }
 {
     if !has_room(file, class, offset, count) {
         return Err(LoadError::Truncated);
@@ -149,7 +141,8 @@ fn parse_all(
     in_file(read_all(alloc, file, class, offset, count))
 }
 
-// A file holds so many section headers from an offset on. Asked first, so that no memory is taken for a count that lies.
+// Whether a file has that many section headers from an offset on. Asked first, so that no memory is
+// taken for a false count.
 fn has_room(file: &EndianBytes<RunTimeEndian>, class: Class, offset: u64, count: u64) -> bool
     ensures { MatchBool result (offset + count * section_header_size class ≤ bytes_left file.now)
         (bytes_left file.now < offset + count * section_header_size class) }
@@ -171,7 +164,8 @@ fn read_all(
     offset: u64,
     count: u64,
 ) -> Result<Vec<SectionHeader>, Error>
-    ensures { Gives (λ headers. headers.items) result (value_of (headers_at class offset count file.now)) }
+    ensures { ReturnsAsOrNoMemory (λ headers. headers.items) result
+        (value_of (headers_at class offset count file.now)) }
 {
     read_headers(alloc, &mut input_at(file, offset)?, class, count)
 }
@@ -183,7 +177,8 @@ fn read_headers(
     class: Class,
     count: u64,
 ) -> Result<Vec<SectionHeader>, Error>
-    ensures { Gives (λ headers. (headers.items, input.new)) result (times count (section_header class) input.old) }
+    ensures { ReturnsAsOrNoMemory (λ headers. (headers.items, input.new)) result
+        (times count (section_header class) input.old) }
 {
     let mut headers = Vec::new(alloc);
     for _index in 0..count {
@@ -192,16 +187,16 @@ fn read_headers(
     Ok(headers)
 }
 
-/// The bytes of the section that an index names: none where it names none.
-#[tactic(auto, using(crate::proofs::Refused::Loads_answered, crate::proofs::Refused::Loads_given))]
-pub(crate) fn linked(
+/// The bytes of the section that an index names; none where it names no section.
+#[tactic(auto, using(crate::proofs::Loads::of_returned, crate::proofs::Loads::of_read))]
+pub(crate) fn linked_contents(
     file: &EndianBytes<RunTimeEndian>,
     headers: &[SectionHeader],
     index: u32,
 ) -> Result<EndianBytes<RunTimeEndian>, LoadError>
-    ensures { Loads (λ view. view) result (linked index headers.now file.now) }
+    ensures { LoadsOrNoMemory result (linked_contents index headers.now file.now) }
 {
-    if index == SHN_UNDEF {
+    if index == u32::from(SHN_UNDEF) {
         return in_file(nothing_of(file));
     }
     match headers.get(index as usize) {
@@ -211,12 +206,12 @@ pub(crate) fn linked(
 }
 
 /// The bytes of a section.
-#[tactic(auto, using(crate::proofs::Refused::Loads_answered, crate::proofs::Refused::Loads_given))]
+#[tactic(auto, using(crate::proofs::Loads::of_returned, crate::proofs::Loads::of_read))]
 pub(crate) fn contents(
     file: &EndianBytes<RunTimeEndian>,
     header: &SectionHeader,
 ) -> Result<EndianBytes<RunTimeEndian>, LoadError>
-    ensures { Loads (λ view. view) result (contents header.now file.now) }
+    ensures { LoadsOrNoMemory result (contents header.now file.now) }
 {
     if header.section_type == SHT_NOBITS {
         return Ok(no_bytes(file.endian(), header.offset));

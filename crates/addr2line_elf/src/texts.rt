@@ -1,25 +1,26 @@
-//! Texts of a section of texts.
+//! Texts of a string table.
 
 ghost use Rattle.std.specs.Prelude.{◌≡◌, ◌==◌, option_map};
 ghost use Rattle.std.specs.List.{position};
-ghost use Rattle.addr2line_elf.specs.Texts.{ended_text, text_at};
+ghost use Rattle.addr2line_elf.specs.ElfTexts.{text_before_zero, text_at};
 
-/// The bytes from an offset on up to a zero byte. There are none where no zero byte follows.
+/// The bytes from an offset up to a zero byte, if there is one.
 pub(crate) fn text_at(texts: &[u8], offset: u32) -> Option<&[u8]>
     ensures { option_map (λ text. text.now) result ≡ text_at texts.now offset }
 {
-    ended_text(texts.get(offset as usize..)?)
+    text_before_zero(texts.get(offset as usize..)?)
 }
 
 // The bytes before the first zero byte.
-fn ended_text(bytes: &[u8]) -> Option<&[u8]>
-    ensures { option_map (λ text. text.now) result ≡ ended_text bytes.now }
+fn text_before_zero(bytes: &[u8]) -> Option<&[u8]>
+    ensures { option_map (λ text. text.now) result ≡ text_before_zero bytes.now }
 {
-    let len = place_of_zero(bytes)?;
+    let len = index_of_zero(bytes)?;
     Some(&bytes[..len])
 }
 
-fn place_of_zero(bytes: &[u8]) -> Option<usize>
+// The index of the first zero byte.
+fn index_of_zero(bytes: &[u8]) -> Option<usize>
     ensures { result ≡ position (λ b. b == 0) bytes.now }
 {
     bytes.iter().position(|byte| *byte == 0)

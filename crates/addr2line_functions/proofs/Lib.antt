@@ -1,3 +1,10 @@
-pub mod Holding
-pub mod Numbers
-pub mod FunctionSteps
+pub mod LatestNumbered
+pub mod PairNumbers
+pub mod FunctionEntrySteps
+pub mod NestingLemmas
+pub mod CallEntrySteps
+pub mod CallCounts
+pub mod ChainSteps
+pub mod UnsignedValues
+pub mod FunctionRowSteps
+pub mod FrameLists

@@ -1,3 +1,10 @@
-pub mod Reading
-pub mod Numbered
-pub mod Steps
+pub use Rattle.addr2line_names.specs.EntryNamings
+pub use Rattle.addr2line_names.specs.EntryReferences
+pub use Rattle.addr2line_names.specs.FunctionNames
+pub mod EntryRowViews
+pub mod RangesByNumber
+pub mod NextFunctions
+pub mod CallNesting
+pub mod RangesAtDepth
+pub mod NextFrames
+pub mod NamingUnits

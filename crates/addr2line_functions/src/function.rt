@@ -2,11 +2,10 @@
 
 ghost use Rattle.std.specs.Prelude.{◌≡◌};
 
-use gimli_core_numbers::ReaderOffset;
-use gimli_units_base::{Range, UnitOffset};
+use gimli_units_entries::{Range, ReaderOffset, UnitOffset};
 use std::marker::Model;
 
-/// A function of a unit that has a range: where its entry stands, and its ranges (DWARF 5, 3.3).
+/// A function of a unit that has a range: the offset of its entry, and its ranges (DWARF 5, 3.3).
 #[derive(Drop)]
 pub struct Function<O: ReaderOffset> {
     pub(crate) offset: UnitOffset<O>,
@@ -14,7 +13,7 @@ pub struct Function<O: ReaderOffset> {
 }
 
 impl<O: ReaderOffset> Model for Function<O> {
-    ghost use Rattle.addr2line_entries.specs.Functions.{Function as FunctionPart};
+    ghost use Rattle.addr2line_units.specs.Functions.{Function as FunctionPart};
 
     ghost Value = { FunctionPart };
 

@@ -1,23 +1,19 @@
 //! The functions of a unit.
 
 ghost use Rattle.std.specs.Prelude.{◌≡◌, ◌++◌, [], option_map, option_to_list, slice_get, Ok};
-ghost use Rattle.gimli_core_base.specs.Calls.{Gives};
-ghost use Rattle.addr2line_entries.specs.Functions.{functions_of_unit, function_at, function_number};
-ghost use Rattle.addr2line_functions.specs.Reading.{row_seen};
-ghost use Rattle.addr2line_functions.specs.Steps.{if_ranged, function_in, function_behind, functions_from};
+ghost use Rattle.gimli_units_entries.specs.Calls.{ReturnsAsOrNoMemory, ReturnsOrNoMemory};
+ghost use Rattle.addr2line_units.specs.Functions.{functions_of_unit, function_at, function_number};
+ghost use Rattle.addr2line_functions.specs.EntryRowViews.{row_view};
+ghost use Rattle.addr2line_functions.specs.NextFunctions.{if_has_range, function_of_row, next_function, functions_from};
 
 use crate::function::Function;
 use crate::latest::{latest_among, number_holding};
 use crate::row::{EntryRow, entries_of, next_row};
-use addr2line_ranges::ranges_of_entry;
-use gimli_core_base::error::Error;
-use gimli_core_constants::DW_TAG_subprogram;
-use gimli_core_numbers::ReaderOffset;
-use gimli_core_readers::Reader;
-use gimli_dwarf::{Dwarf, Unit};
-use gimli_units_base::{Range, UnitOffset};
-use gimli_units_entries::EntriesRaw;
-use gimli_units_forms::Attribute;
+use addr2line_names::{Dwarf, Unit};
+use addr2line_units::ranges_of_entry;
+use gimli_units_entries::{
+    Attribute, DW_TAG_subprogram, EntriesRaw, Error, Range, Reader, ReaderOffset, UnitOffset,
+};
 use std::alloc::Global;
 use std::marker::Model;
 
@@ -29,7 +25,7 @@ pub struct Functions<O: ReaderOffset> {
 
 impl<O: ReaderOffset> Model for Functions<O> {
     ghost use Rattle.std.specs.Prelude.{List};
-    ghost use Rattle.addr2line_entries.specs.Functions.{Function as FunctionPart};
+    ghost use Rattle.addr2line_units.specs.Functions.{Function as FunctionPart};
 
     ghost Value = { List FunctionPart };
 
@@ -37,15 +33,16 @@ impl<O: ReaderOffset> Model for Functions<O> {
 }
 
 impl<O: ReaderOffset> Functions<O> {
-    /// The functions. A function's number is its place among them, from 0 on.
+    /// The functions. A function's number is its index among them.
     pub fn functions(&self) -> &[Function<O>]
         ensures { result.now ≡ self.now }
     {
         self.functions.as_slice()
     }
 
-    /// The number of the function that an address is in. Where several functions have it, it is that of the range that begins last,
-    /// of these that of the one that ends last, of these that of the last. It takes no memory.
+    /// The number of the function that an address is in. Where several functions have it, it is
+    /// that of the range that begins last, of these that of the one that ends last, of these that
+    /// of the last. It looks at each range, and takes no memory.
     pub fn find_address(&self, probe: u64) -> Option<usize>
         ensures { result ≡ function_number self.now probe }
     {
@@ -57,25 +54,28 @@ impl<O: ReaderOffset> Functions<O> {
         number_holding(found, probe)
     }
 
-    /// The function that an address is in. It takes no memory.
+    /// The function that an address is in. It looks at each range, and takes no memory.
     pub fn function_at(&self, probe: u64) -> Option<&Function<O>>
         ensures { option_map (λ f. f.now) result ≡ function_at self.now probe }
     {
         let number = self.find_address(probe)?;
-        numbered(self.functions(), number)
+        function_of_number(self.functions(), number)
     }
 }
 
-/// The function of a number.
-fn numbered<O: ReaderOffset>(functions: &[Function<O>], number: usize) -> Option<&Function<O>>
+// The function of a number.
+fn function_of_number<O: ReaderOffset>(
+    functions: &[Function<O>],
+    number: usize,
+) -> Option<&Function<O>>
     ensures { option_map (λ f. f.now) result ≡ slice_get functions.now number }
 {
     functions.get(number)
 }
 
-/// A function, if it has a range.
-fn if_ranged<O: ReaderOffset>(offset: UnitOffset<O>, ranges: Vec<Range>) -> Option<Function<O>>
-    ensures { result ≡ if_ranged (record { offset = O.count offset.0; ranges = ranges.items }) }
+// A function, if it has a range.
+fn if_has_range<O: ReaderOffset>(offset: UnitOffset<O>, ranges: Vec<Range>) -> Option<Function<O>>
+    ensures { result ≡ if_has_range (record { offset = O.count offset.0; ranges = ranges.items }) }
 {
     if ranges.is_empty() {
         None
@@ -84,25 +84,26 @@ fn if_ranged<O: ReaderOffset>(offset: UnitOffset<O>, ranges: Vec<Range>) -> Opti
     }
 }
 
-/// The function of an entry with these attributes, or none where the entry is none, or has no range.
-fn function_in<R: Reader>(
+// The function of an entry with these attributes, if it is a function that has a range.
+fn function_of_row<R: Reader>(
     alloc: Global,
     dwarf: &Dwarf<R>,
     unit: &Unit<R>,
     row: EntryRow<R::Offset>,
     attributes: &[Attribute<R>],
 ) -> Result<Option<Function<R::Offset>>, Error>
-    ensures { Gives (λ f. f) result
-        (function_in R.Offset.limit dwarf.now unit.now (row_seen R.view R.Offset.count row attributes.now)) }
+    ensures { ReturnsOrNoMemory result
+        (function_of_row R.Offset.limit dwarf.now unit.now
+        (row_view R.view R.Offset.count row attributes.now)) }
 {
     if row.tag != DW_TAG_subprogram {
         return Ok(None);
     }
     let ranges = ranges_of_entry(alloc, dwarf, unit, attributes)?;
-    Ok(if_ranged(row.offset, ranges))
+    Ok(if_has_range(row.offset, ranges))
 }
 
-/// The function of the next entry, if that is one that has a range.
+// The function of the next entry, if it is a function that has a range.
 fn next_function<R: Reader>(
     alloc: Global,
     dwarf: &Dwarf<R>,
@@ -110,18 +111,20 @@ fn next_function<R: Reader>(
     entries: &mut EntriesRaw<'_, R>,
     attributes: &mut Vec<Attribute<R>>,
 ) -> Result<Option<Function<R::Offset>>, Error>
-    ensures { Gives (λ f. (f, entries.new)) result (function_behind R.Offset.limit dwarf.now unit.now entries.old) }
+    ensures { ReturnsAsOrNoMemory (λ f. (f, entries.new)) result
+        (next_function R.Offset.limit dwarf.now unit.now entries.old) }
 {
     let row = next_row(entries, Some(DW_TAG_subprogram), attributes)?;
-    function_in(alloc, dwarf, unit, row, attributes)
+    function_of_row(alloc, dwarf, unit, row, attributes)
 }
 
-/// Appends a function, if there is one.
+// Appends a function, if there is one.
 fn push_if_any<O: ReaderOffset>(
     functions: &mut Vec<Function<O>>,
     function: Option<Function<O>>,
 ) -> Result<(), Error>
-    ensures { Gives (λ _. functions.new.items) result (Ok (functions.old.items ++ option_to_list function)) }
+    ensures { ReturnsAsOrNoMemory (λ _. functions.new.items) result
+        (Ok (functions.old.items ++ option_to_list function)) }
 {
     if let Some(function) = function {
         functions.push(function)?;
@@ -129,14 +132,15 @@ fn push_if_any<O: ReaderOffset>(
     Ok(())
 }
 
-/// The functions of a unit that have a range. Of its entries those of functions are read, all others are passed over; the first that
-/// can't be, and the first function whose ranges can't be read, refuses all.
+/// The functions of a unit that have a range. Of its entries those of functions are read and all
+/// others skipped. The first entry that can't be read or skipped, and the first function whose
+/// ranges can't be read, is the error.
 pub fn functions_of_unit<R: Reader>(
     alloc: Global,
     dwarf: &Dwarf<R>,
     unit: &Unit<R>,
 ) -> Result<Functions<R::Offset>, Error>
-    ensures { Gives (λ f. f) result (functions_of_unit R.Offset.limit dwarf.now unit.now) }
+    ensures { ReturnsOrNoMemory result (functions_of_unit R.Offset.limit dwarf.now unit.now) }
 {
     let mut entries = entries_of(unit, None)?;
     let mut attributes = Vec::new(alloc);

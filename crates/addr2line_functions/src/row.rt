@@ -1,34 +1,28 @@
-//! Entries read one after the other, where one tag is chosen whose attributes are read.
+//! Entries read one after the other, where the attributes of one tag's entries are read.
 
 ghost use Rattle.std.specs.Prelude.{option_map};
-ghost use Rattle.gimli_core_base.specs.Calls.{Gives};
-ghost use Rattle.gimli_units_entries.specs.Rows.{row_choosing};
+ghost use Rattle.gimli_units_entries.specs.Calls.{ReturnsAsOrNoMemory, ReturnsOrNoMemory};
+ghost use Rattle.gimli_units_entries.specs.EntryRows.{row_choosing};
 ghost use Rattle.gimli_units_entries.specs.UnitEntries.{walk_from};
-ghost use Rattle.addr2line_functions.specs.Reading.{is_chosen, row_seen};
+ghost use Rattle.addr2line_functions.specs.EntryRowViews.{is_chosen, row_view};
 
-use gimli_core_base::error::Error;
-use gimli_core_constants::DwTag;
-use gimli_core_numbers::ReaderOffset;
-use gimli_core_readers::Reader;
-use gimli_dwarf::Unit;
-use gimli_units_base::UnitOffset;
-use gimli_units_entries::EntriesRaw;
+use addr2line_names::Unit;
 use gimli_units_entries::unit::entries_raw;
-use gimli_units_forms::Attribute;
+use gimli_units_entries::{Attribute, DwTag, EntriesRaw, Error, Reader, ReaderOffset, UnitOffset};
 
-/// The walk over the entries of a unit from an offset on, which must be among them, or over all of them.
+/// The walk over the entries of a unit: from an offset on, which must be among them, or over all.
 pub fn entries_of<R: Reader>(
     unit: &Unit<R>,
     offset: Option<UnitOffset<R::Offset>>,
 ) -> Result<EntriesRaw<'_, R>, Error>
-    ensures { Gives (λ entries. entries) result
+    ensures { ReturnsOrNoMemory result
         (walk_from unit.now.header unit.now.table (option_map (λ o. R.Offset.count o.0) offset)) }
 {
     entries_raw(&unit.header, &unit.abbreviations, offset)
 }
 
-/// An entry without its attributes: where it stands, how deep below the one where the walk began, and what its declaration says. A
-/// null entry has the tag 0.
+/// An entry without its attributes: its offset, how deep it is below the one where the walk began,
+/// and what its declaration states. A null entry has the tag 0.
 #[derive(Clone, Copy)]
 pub struct EntryRow<O: ReaderOffset> {
     pub offset: UnitOffset<O>,
@@ -37,15 +31,16 @@ pub struct EntryRow<O: ReaderOffset> {
     pub has_children: bool,
 }
 
-/// The next entry. Where its tag is the chosen one its attributes are read in place of those of a list; else they are passed over,
-/// by their widths alone, and the list is empty (DWARF 5, 7.5.3).
-#[tactic(auto, unfolding(gimli_units_entries::specs::Rows::row_choosing))]
+/// The next entry. If its tag is the chosen one its attributes replace those of a list; else they
+/// are skipped by their widths alone, and the list is empty (DWARF 5, 7.5.3).
+#[tactic(auto, unfolding(gimli_units_entries::specs::EntryRows::row_choosing))]
 pub fn next_row<R: Reader>(
     entries: &mut EntriesRaw<'_, R>,
     chosen: Option<DwTag>,
     attributes: &mut Vec<Attribute<R>>,
 ) -> Result<EntryRow<R::Offset>, Error>
-    ensures { Gives (λ row. (row_seen R.view R.Offset.count row attributes.new.items, entries.new)) result
+    ensures { ReturnsAsOrNoMemory
+        (λ row. (row_view R.view R.Offset.count row attributes.new.items, entries.new)) result
         (row_choosing R.Offset.limit (is_chosen chosen) entries.old) }
 {
     let offset = entries.next_offset();

@@ -1,6 +1,7 @@
-pub mod Below
-pub mod Found
-pub mod Behind
-pub mod Namings
-pub mod LawLemmas
-pub mod UnitLaws
+pub use Rattle.gimli_dwarf.proofs.LastAttributes
+pub mod LastUnitBelow
+pub mod NameSteps
+pub mod ReferenceChains
+pub mod NamingSteps
+pub mod FunctionNameLemmas
+pub mod UnitOffsetLemmas

@@ -1,5 +1,7 @@
-pub mod References
-pub mod Entries
-pub mod Names
-pub mod Seen
-pub mod Laws
+pub use Rattle.gimli_dwarf.specs.DwarfSections
+pub use Rattle.gimli_dwarf.specs.UnitFacts
+pub mod EntryReferences
+pub mod EntryNamings
+pub mod FunctionNames
+pub mod NamingView
+pub mod FunctionNameLaws

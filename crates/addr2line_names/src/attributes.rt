@@ -1,14 +1,15 @@
 //! The attributes that names are made of (DWARF 5, 2.15, 2.22 and 7.5.4).
 
 ghost use Rattle.std.specs.Prelude.{◌≡◌};
-ghost use Rattle.gimli_dwarf_facts.specs.UnitFacts.{is_name};
-ghost use Rattle.addr2line_names.specs.Entries.{is_linkage_name, is_reference};
+ghost use Rattle.gimli_dwarf.specs.UnitFacts.{is_name};
+ghost use Rattle.addr2line_names.specs.EntryNamings.{is_linkage_name, is_reference};
 
-use gimli_core_constants::{
+use gimli_dwarf::{
     DW_AT_MIPS_linkage_name, DW_AT_abstract_origin, DW_AT_linkage_name, DW_AT_name,
     DW_AT_specification, DwAt,
 };
 
+/// The name of an entry.
 pub(crate) fn is_name(name: DwAt) -> bool
     ensures { result ≡ is_name name.0 }
 {

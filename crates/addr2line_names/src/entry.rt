@@ -1,12 +1,10 @@
 //! Entries that references lead to.
 
 use crate::holder::HoldingUnit;
-use gimli_core_numbers::ReaderOffset;
-use gimli_core_readers::Reader;
-use gimli_units_base::UnitOffset;
+use gimli_dwarf::{Reader, ReaderOffset, UnitOffset};
 use std::marker::Model;
 
-/// An entry that a reference leads to. Whether there is one at its offset is seen where it is read.
+/// An entry that a reference leads to. Whether there is one at its offset shows when it is read.
 #[derive(Drop)]
 pub(crate) struct ReferredEntry<'a, R: Reader> {
     pub holder: HoldingUnit<'a, R>,
@@ -14,7 +12,7 @@ pub(crate) struct ReferredEntry<'a, R: Reader> {
 }
 
 impl<'a, R: Reader> Model for ReferredEntry<'a, R> {
-    ghost use Rattle.addr2line_names.specs.References.{ReferredEntry as Entry};
+    ghost use Rattle.addr2line_names.specs.EntryReferences.{ReferredEntry as Entry};
 
     ghost Value = { Entry };
 

@@ -1,4 +1,4 @@
-/// Which of a context's files something stands in.
+/// Which of a context's files something is in.
 #[derive(Clone, Copy, Debug, PartialEq, Eq)]
 pub enum DebugFile {
     /// The main file.

@@ -1,25 +1,22 @@
 //! The units that hold entries.
 
 ghost use Rattle.std.specs.Prelude.{◌≡◌, Ok, option_map};
-ghost use Rattle.gimli_core_base.specs.Calls.{Gives};
-ghost use Rattle.gimli_units_forms.specs.Meanings.{value_under};
-ghost use Rattle.gimli_units_forms.specs.Values.{raw_attribute_of, raw_value_of};
-ghost use Rattle.gimli_dwarf_facts.specs.UnitFacts.{UnitFacts, fitting};
-ghost use Rattle.addr2line_names.specs.Entries.{is_linkage_name, text_of};
+ghost use Rattle.gimli_dwarf.specs.Calls.{ReturnsAsOrNoMemory};
+ghost use Rattle.gimli_dwarf.specs.AttributeMeanings.{value_under};
+ghost use Rattle.gimli_dwarf.specs.AttributeValues.{raw_attribute_of, raw_value_of};
+ghost use Rattle.gimli_dwarf.specs.UnitFacts.{UnitFacts, value_of_kind};
+ghost use Rattle.addr2line_names.specs.EntryNamings.{is_linkage_name, text_of};
 
 use crate::attributes::is_linkage_name;
 use crate::file::DebugFile;
-use gimli_core_base::error::Error;
-use gimli_core_numbers::ReaderOffset;
-use gimli_core_readers::Reader;
-use gimli_dwarf::{Dwarf, Unit};
-use gimli_units_forms::{Attribute, AttributeValue};
+use gimli_dwarf::{Attribute, AttributeValue, Dwarf, Error, Reader, ReaderOffset, Unit};
 use std::marker::Model;
 
-/// What has a unit: lists of such may be searched for the unit that a reference leads to.
+/// A value with a unit. A list of them can be searched for the unit that a reference leads to.
 pub trait HasUnit<R: Reader> {
     ghost facts: { Self → UnitFacts };
 
+    /// The unit.
     fn unit(&self) -> &Unit<R>
         ensures { result.now ≡ facts self.now };
 }
@@ -41,7 +38,7 @@ pub struct HoldingUnit<'a, R: Reader> {
 }
 
 impl<'a, R: Reader> Model for HoldingUnit<'a, R> {
-    ghost use Rattle.addr2line_names.specs.References.{HoldingUnit as Holder};
+    ghost use Rattle.addr2line_names.specs.EntryReferences.{HoldingUnit as Holder};
 
     ghost Value = { Holder };
 
@@ -55,8 +52,8 @@ impl<'a, R: Reader> HoldingUnit<'a, R> {
         HoldingUnit { file, dwarf, unit }
     }
 
-    /// The same unit again.
-    pub(crate) fn again(&self) -> HoldingUnit<'a, R>
+    /// The same unit in the same file.
+    pub(crate) fn same_unit(&self) -> HoldingUnit<'a, R>
         ensures { result ≡ self.now }
     {
         HoldingUnit {
@@ -66,9 +63,10 @@ impl<'a, R: Reader> HoldingUnit<'a, R> {
         }
     }
 
-    /// The text that a value of an attribute of one of the unit's entries stands for, where it can be read.
+    // The text of a value of an attribute of one of the unit's entries, where it can be read.
     fn text_of(&self, value: AttributeValue<R>) -> Result<Option<R>, Error>
-        ensures { Gives (option_map R.view) result (Ok (text_of R.Offset.limit self.now (raw_value_of R.view R.Offset.count value))) }
+        ensures { ReturnsAsOrNoMemory (option_map R.view) result
+            (Ok (text_of R.Offset.limit self.now (raw_value_of R.view R.Offset.count value))) }
     {
         match self.dwarf.attr_string(self.unit, value) {
             Ok(text) => Ok(Some(text)),
@@ -77,17 +75,20 @@ impl<'a, R: Reader> HoldingUnit<'a, R> {
         }
     }
 
-    /// The text of an attribute of one of the unit's entries, where it can be read. The only refusal is want of memory.
+    /// The text of an attribute of one of the unit's entries, where it can be read. The only error
+    /// is out of memory.
     pub(crate) fn text(&self, attribute: &Attribute<R>) -> Result<Option<R>, Error>
         ensures { let a = raw_attribute_of R.view R.Offset.count attribute.now in
-            Gives (option_map R.view) result (Ok (text_of R.Offset.limit self.now (value_under a.name a.value))) }
+            ReturnsAsOrNoMemory (option_map R.view) result
+            (Ok (text_of R.Offset.limit self.now (value_under a.name a.value))) }
     {
         self.text_of(attribute.value()?)
     }
 
-    /// The linkage name that an attribute gives, if it is one that can be read.
+    /// The linkage name in an attribute, if it is one that can be read.
     pub(crate) fn linkage_name(&self, attribute: &Attribute<R>) -> Result<Option<R>, Error>
-        ensures { Gives (option_map R.view) result (Ok (fitting (text_of R.Offset.limit self.now) is_linkage_name
+        ensures { ReturnsAsOrNoMemory (option_map R.view) result
+            (Ok (value_of_kind (text_of R.Offset.limit self.now) is_linkage_name
             (raw_attribute_of R.view R.Offset.count attribute.now))) }
     {
         if is_linkage_name(attribute.name()) {

@@ -1,4 +1,5 @@
-//! The names of functions and of inlined calls, which references lead to in other entries, in other units and in a supplement.
+//! The names of functions and of inlined calls, which references lead to in other entries, in other
+//! units and in a supplement.
 #![tactic(auto)]
 
 mod attributes;
@@ -11,8 +12,6 @@ mod naming;
 mod references;
 
 pub use file::DebugFile;
+pub use gimli_dwarf::{Dwarf, Unit};
 pub use holder::{HasUnit, HoldingUnit};
 pub use names::KnownUnits;
-
-#[cfg(test)]
-mod tests;

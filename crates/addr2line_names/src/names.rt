@@ -1,31 +1,26 @@
 //! The names of entries.
 
 ghost use Rattle.std.specs.Prelude.{◌≡◌, map, option_map};
-ghost use Rattle.gimli_core_base.specs.Calls.{Answers, Gives};
-ghost use Rattle.gimli_dwarf_facts.specs.Sections.{supplement};
-ghost use Rattle.gimli_units_forms.specs.Values.{raw_value_of, raw_attribute_of};
-ghost use Rattle.gimli_units_entries.specs.Seen.{raw_attributes};
-ghost use Rattle.addr2line_names.specs.References.{referred, units_in, entry_among, entry_in_supplement};
-ghost use Rattle.addr2line_names.specs.Names.{name_behind, name_given, name_with, name_of, most_references};
+ghost use Rattle.gimli_dwarf.specs.Calls.{ReturnsAs, Returns, ReturnsAsOrNoMemory};
+ghost use Rattle.gimli_dwarf.specs.DwarfSections.{supplement};
+ghost use Rattle.gimli_dwarf.specs.AttributeValues.{raw_value_of, raw_attribute_of};
+ghost use Rattle.gimli_dwarf.specs.EntryViews.{raw_attributes};
+ghost use Rattle.addr2line_names.specs.EntryReferences.{referred_entry, units_in, entry_among, entry_in_supplement};
+ghost use Rattle.addr2line_names.specs.FunctionNames.{name_by_reference, name_of_attribute, name_with, name_of, most_references};
 
 use crate::attributes::{is_linkage_name, is_name, is_reference};
 use crate::entry::ReferredEntry;
 use crate::file::DebugFile;
 use crate::holder::{HasUnit, HoldingUnit};
-use crate::naming::Naming;
+use crate::naming::EntryNaming;
 use crate::references::{entry_among, supplement_of};
-use gimli_core_base::error::Error;
-use gimli_core_numbers::ReaderOffset;
-use gimli_core_readers::Reader;
-use gimli_dwarf::Unit;
-use gimli_units_base::DebugInfoOffset;
-use gimli_units_forms::{Attribute, AttributeValue};
+use gimli_dwarf::{Attribute, AttributeValue, DebugInfoOffset, Error, Reader, ReaderOffset, Unit};
 use std::marker::Model;
 
-/// A chain has at most so many references.
+// A chain has at most this number of references.
 const MOST_REFERENCES: u32 = 16;
 
-/// The units among which names are looked for: those kept of the main file, and those kept of its supplement.
+/// The units among which names are looked for: those of the main file, and those of its supplement.
 #[derive(Drop)]
 pub struct KnownUnits<'a, R: Reader, U: HasUnit<R>> {
     pub units: &'a [U],
@@ -34,11 +29,14 @@ pub struct KnownUnits<'a, R: Reader, U: HasUnit<R>> {
 
 impl<'a, R: Reader, U: HasUnit<R>> Model for KnownUnits<'a, R, U> {
     ghost use Rattle.std.specs.Prelude.{map};
-    ghost use Rattle.addr2line_names.specs.References.{KnownUnits as Known};
+    ghost use Rattle.addr2line_names.specs.EntryReferences.{KnownUnits as Known};
 
     ghost Value = { Known };
 
-    ghost view = { λ n. record { units = map U.facts n.units.now; supplement_units = n.supplement_units.now } };
+    ghost view = { λ n. record {
+      units = map U.facts n.units.now;
+      supplement_units = n.supplement_units.now;
+    } };
 }
 
 impl<'a, R: Reader, U: HasUnit<R>> KnownUnits<'a, R, U> {
@@ -52,14 +50,16 @@ impl<'a, R: Reader, U: HasUnit<R>> KnownUnits<'a, R, U> {
         }
     }
 
-    /// The entry at an offset of the section of a file's units. An entry of a split file refers to none in this way.
+    // The entry at an offset of the section of a file's units. An entry of a split file refers to
+    // none in this way.
     fn entry_in_file(
         &self,
         holder: &HoldingUnit<'a, R>,
         offset: DebugInfoOffset<R::Offset>,
     ) -> Result<ReferredEntry<'a, R>, Error>
-        ensures { Answers (λ e. e) result
-            (entry_among holder.now.file holder.now.sections (units_in holder.now.file self.now) (R.Offset.count offset.0)) }
+        ensures { Returns result
+            (entry_among holder.now.file holder.now.sections (units_in holder.now.file self.now)
+            (R.Offset.count offset.0)) }
     {
         match holder.file {
             DebugFile::Primary => entry_among(holder.file, holder.dwarf, self.units, offset),
@@ -70,14 +70,16 @@ impl<'a, R: Reader, U: HasUnit<R>> KnownUnits<'a, R, U> {
         }
     }
 
-    /// The entry at an offset of the section of the supplement's units; none where the entry's file has no supplement.
+    // The entry at an offset of the section of the supplement's units; none where the entry's file
+    // has no supplement.
     fn entry_in_supplement(
         &self,
         holder: &HoldingUnit<'a, R>,
         offset: DebugInfoOffset<R::Offset>,
     ) -> Result<Option<ReferredEntry<'a, R>>, Error>
-        ensures { Answers (option_map (λ e. e)) result
-            (entry_in_supplement self.now (R.Offset.count offset.0) (supplement holder.now.sections)) }
+        ensures { ReturnsAs (option_map (λ e. e)) result
+            (entry_in_supplement self.now (R.Offset.count offset.0)
+            (supplement holder.now.sections)) }
     {
         match supplement_of(holder.dwarf) {
             Some(sup) => Ok(Some(entry_among(
@@ -90,17 +92,18 @@ impl<'a, R: Reader, U: HasUnit<R>> KnownUnits<'a, R, U> {
         }
     }
 
-    /// The entry that a value refers to, if it is a reference.
-    fn referred(
+    // The entry that a value refers to, if it is a reference.
+    fn referred_entry(
         &self,
         holder: &HoldingUnit<'a, R>,
         value: &AttributeValue<R>,
     ) -> Result<Option<ReferredEntry<'a, R>>, Error>
-        ensures { Answers (option_map (λ e. e)) result (referred self.now holder.now (raw_value_of R.view R.Offset.count value.now)) }
+        ensures { ReturnsAs (option_map (λ e. e)) result
+            (referred_entry self.now holder.now (raw_value_of R.view R.Offset.count value.now)) }
     {
         match value {
             AttributeValue::UnitRef(offset) => Ok(Some(ReferredEntry {
-                holder: holder.again(),
+                holder: holder.same_unit(),
                 offset: *offset,
             })),
             AttributeValue::DebugInfoRef(offset) => Ok(Some(self.entry_in_file(holder, *offset)?)),
@@ -109,79 +112,90 @@ impl<'a, R: Reader, U: HasUnit<R>> KnownUnits<'a, R, U> {
         }
     }
 
-    /// The name that lies behind a value, if at most so many references lead there.
-    fn name_behind(
+    // The name that a value leads to by at most a number of references.
+    fn name_by_reference(
         &self,
         holder: &HoldingUnit<'a, R>,
         value: &AttributeValue<R>,
         left: u32,
     ) -> Result<Option<R>, Error>
-        ensures { Gives (option_map R.view) result
-            (name_behind R.Offset.limit self.now left holder.now (raw_value_of R.view R.Offset.count value.now)) }
+        ensures { ReturnsAsOrNoMemory (option_map R.view) result
+            (name_by_reference R.Offset.limit self.now left holder.now
+            (raw_value_of R.view R.Offset.count value.now)) }
     {
         if left == 0 {
             return Ok(None);
         }
-        let Some(entry) = self.referred(holder, value)? else {
+        let Some(entry) = self.referred_entry(holder, value)? else {
             return Ok(None);
         };
         match entry.naming()? {
-            Naming::Named(name) => Ok(Some(name)),
-            Naming::Refers(next) => self.name_behind(&entry.holder, &next, left - 1),
-            Naming::Unnamed => Ok(None),
+            EntryNaming::ByName(name) => Ok(Some(name)),
+            EntryNaming::ByReference(next) => self.name_by_reference(
+                &entry.holder,
+                &next,
+                left - 1,
+            ),
+            EntryNaming::Nameless => Ok(None),
         }
     }
 
-    /// The name that an attribute gives: one that can be read, or the one behind a reference.
-    fn name_given(
+    // The name by one attribute: one that can be read, or that which a reference leads to.
+    fn name_of_attribute(
         &self,
         holder: &HoldingUnit<'a, R>,
         attribute: &Attribute<R>,
     ) -> Result<Option<R>, Error>
-        ensures { Gives (option_map R.view) result (name_given R.Offset.limit holder.now
-            (name_behind R.Offset.limit self.now most_references holder.now) (raw_attribute_of R.view R.Offset.count attribute.now)) }
+        ensures { ReturnsAsOrNoMemory (option_map R.view) result
+            (name_of_attribute R.Offset.limit holder.now
+            (name_by_reference R.Offset.limit self.now most_references holder.now)
+            (raw_attribute_of R.view R.Offset.count attribute.now)) }
     {
         let name = attribute.name();
         if is_linkage_name(name) || is_name(name) {
             holder.text(attribute)
         } else if is_reference(name) {
-            self.name_behind(holder, &attribute.value()?, MOST_REFERENCES)
+            self.name_by_reference(holder, &attribute.value()?, MOST_REFERENCES)
         } else {
             Ok(None)
         }
     }
 
-    /// The name by what was found and one more attribute: a later linkage name counts in place of what was found, and nothing
-    /// else does.
+    // The name by those of some attributes and one more: a later linkage name counts in place of an
+    // earlier name, and nothing else does.
     fn name_with(
         &self,
         holder: &HoldingUnit<'a, R>,
         found: Option<R>,
         attribute: &Attribute<R>,
     ) -> Result<Option<R>, Error>
-        ensures { Gives (option_map R.view) result (name_with R.Offset.limit holder.now
-            (name_behind R.Offset.limit self.now most_references holder.now) (option_map R.view found) (raw_attribute_of R.view R.Offset.count attribute.now)) }
+        ensures { ReturnsAsOrNoMemory (option_map R.view) result
+            (name_with R.Offset.limit holder.now
+            (name_by_reference R.Offset.limit self.now most_references holder.now)
+            (option_map R.view found) (raw_attribute_of R.view R.Offset.count attribute.now)) }
     {
         if is_linkage_name(attribute.name()) {
             Ok(holder.text(attribute)?.or(found))
         } else {
             match found {
                 Some(name) => Ok(Some(name)),
-                None => self.name_given(holder, attribute),
+                None => self.name_of_attribute(holder, attribute),
             }
         }
     }
 
-    /// The name of a function or an inlined call whose entry has these attributes: the last linkage name that can be read, or else
-    /// the first name that its names and references give, in their order. A reference is followed where no name stands before it;
-    /// its refusal refuses. At most 16 references are followed one behind the other.
+    /// The name of a function or an inlined call whose entry has these attributes: the last linkage
+    /// name that can be read, or else the first name that its names and references give, in their
+    /// order. A reference is followed where no name is before it; an error there is the result. At
+    /// most 16 references are followed one after the other.
     pub fn name_of(
         &self,
         holder: &HoldingUnit<'a, R>,
         attributes: &[Attribute<R>],
     ) -> Result<Option<R>, Error>
-        ensures { Gives (option_map R.view) result
-            (name_of R.Offset.limit self.now holder.now (raw_attributes R.view R.Offset.count attributes.now)) }
+        ensures { ReturnsAsOrNoMemory (option_map R.view) result
+            (name_of R.Offset.limit self.now holder.now
+            (raw_attributes R.view R.Offset.count attributes.now)) }
     {
         let mut found = None;
         for attribute in attributes {

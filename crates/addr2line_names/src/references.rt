@@ -1,33 +1,29 @@
 //! Where references by offsets of a section lead.
 
 ghost use Rattle.std.specs.Prelude.{◌≡◌, map, option_map};
-ghost use Rattle.gimli_core_base.specs.Calls.{Answers};
-ghost use Rattle.gimli_dwarf_facts.specs.Sections.{supplement};
-ghost use Rattle.addr2line_names.specs.References.{begins_below, unit_below, entry_among};
+ghost use Rattle.gimli_dwarf.specs.Calls.{Returns};
+ghost use Rattle.gimli_dwarf.specs.DwarfSections.{supplement};
+ghost use Rattle.addr2line_names.specs.EntryReferences.{begins_below, unit_below, entry_among};
 
 use crate::entry::ReferredEntry;
 use crate::file::DebugFile;
 use crate::holder::{HasUnit, HoldingUnit};
-use gimli_core_base::error::Error;
-use gimli_core_numbers::ReaderOffset;
-use gimli_core_readers::Reader;
-use gimli_dwarf::{Dwarf, Unit};
-use gimli_units_base::DebugInfoOffset;
-use gimli_units_headers::OffsetInSection;
+use gimli_dwarf::{DebugInfoOffset, Dwarf, Error, OffsetInSection, Reader, ReaderOffset, Unit};
 
-/// Whether a unit begins below an offset of its section.
+// Whether a unit begins below an offset of its section.
 fn begins_below<R: Reader>(unit: &Unit<R>, offset: DebugInfoOffset<R::Offset>) -> bool
     ensures { result ≡ begins_below (R.Offset.count offset.0) unit.now }
 {
     unit.header.offset().0.into_u64() < offset.0.into_u64()
 }
 
-/// The last unit that begins below an offset of the section.
+// The last unit that begins below an offset of the section.
 fn unit_below<'a, R: Reader, U: HasUnit<R>>(
     units: &'a [U],
     offset: DebugInfoOffset<R::Offset>,
 ) -> Option<&'a Unit<R>>
-    ensures { option_map (λ u. u.now) result ≡ unit_below (R.Offset.count offset.0) (map U.facts units.now) }
+    ensures { option_map (λ u. u.now) result
+        ≡ unit_below (R.Offset.count offset.0) (map U.facts units.now) }
 {
     let mut left = units;
     while let Some((unit, before)) = left.split_last() {
@@ -40,14 +36,16 @@ fn unit_below<'a, R: Reader, U: HasUnit<R>>(
     None
 }
 
-/// The entry at an offset of the section that these units are of.
+/// The entry at an offset of the section of these units. It looks at the units from the last one
+/// back.
 pub(crate) fn entry_among<'a, R: Reader, U: HasUnit<R>>(
     file: DebugFile,
     dwarf: &'a Dwarf<R>,
     units: &'a [U],
     offset: DebugInfoOffset<R::Offset>,
 ) -> Result<ReferredEntry<'a, R>, Error>
-    ensures { Answers (λ e. e) result (entry_among file dwarf.now (map U.facts units.now) (R.Offset.count offset.0)) }
+    ensures { Returns result
+        (entry_among file dwarf.now (map U.facts units.now) (R.Offset.count offset.0)) }
 {
     let refusal = Error::NoEntryAtGivenOffset(offset.0.into_u64());
     let unit = unit_below(units, offset).ok_or(refusal)?;

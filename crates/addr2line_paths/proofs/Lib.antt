@@ -1,2 +1,2 @@
-pub mod Texts
-mod Worked
+pub mod FilePathLemmas
+mod FilePathExamples

@@ -1,2 +1,2 @@
-pub mod Paths
-pub mod Laws
+pub mod FilePaths
+pub mod FilePathLaws

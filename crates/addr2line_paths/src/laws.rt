@@ -1,13 +1,13 @@
-//! What follows from the definition of joined texts. Each function is a law: it does nothing, and its contract is proved.
+//! Laws of joined texts. Each function does nothing; its contract is the law, and it is proved.
 
-ghost use Rattle.addr2line_paths.specs.Laws.{RootSwallows, TextsStay};
+ghost use Rattle.addr2line_paths.specs.FilePathLaws.{RootedTextReplacesPath, Utf8TextIsUnchanged};
 
-/// A text with a root stands for itself, whatever path it is joined to.
-pub fn root_swallows()
-    ensures { RootSwallows }
+/// A text with a root replaces whatever path it is joined to.
+pub fn rooted_text_replaces_path()
+    ensures { RootedTextReplacesPath }
 {}
 
-/// Of texts that are UTF-8 nothing is replaced before they are joined.
-pub fn texts_stay()
-    ensures { TextsStay }
+/// In texts that are UTF-8 nothing is replaced before they are joined.
+pub fn utf8_text_is_unchanged()
+    ensures { Utf8TextIsUnchanged }
 {}

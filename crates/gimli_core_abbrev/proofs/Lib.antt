@@ -1,9 +1,14 @@
-pub mod Takes
-pub mod Keeping
-pub mod Tables
-pub mod Offsets
-pub mod Rising
-pub mod Room
-pub mod Appended
-pub mod Followed
-pub mod Worked
+pub use Rattle.gimli_core_readers.proofs.NumberReadSizes
+pub use Rattle.gimli_core_readers.proofs.StepParts
+pub use Rattle.gimli_core_readers.proofs.StepSizes
+pub use Rattle.gimli_core_readers.proofs.ViewCuts
+pub mod DeclarationSizes
+pub mod TableInsertion
+pub mod TableCollection
+pub mod RepeatedOffsets
+pub mod RisingCodes
+pub mod TableRoom
+pub mod AppendedBytes
+pub mod SectionEnds
+pub mod TableEndExamples
+mod CachedTables

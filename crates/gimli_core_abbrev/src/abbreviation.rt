@@ -1,22 +1,20 @@
 //! The declarations of an abbreviation table.
 
 ghost use Rattle.std.specs.Prelude.{◌≡◌, ◌==◌, map, option_map, is_some};
-ghost use Rattle.gimli_core_base.specs.Calls.{Reads, Gives};
-ghost use Rattle.gimli_core_abbrev.specs.Parsing.{implicit_const_form, implicit_const, attribute, attributes, children, declaration_of, declaration};
-ghost use Rattle.gimli_core_abbrev.specs.Seen.{seen, seen_attribute};
-ghost use Rattle.gimli_core_abbrev.specs.Widths.{width_of};
+ghost use Rattle.gimli_core_readers.specs.Calls.{Reads, ReturnsAsOrNoMemory};
+ghost use Rattle.gimli_core_abbrev.specs.TableParsing.{implicit_const_form, implicit_const, attribute, attributes, children, declaration_of, declaration};
+ghost use Rattle.gimli_core_abbrev.specs.AbbreviationViews.{declaration_view, attribute_view};
+ghost use Rattle.gimli_core_abbrev.specs.FormWidths.{width_of};
 
-use gimli_core_base::constants::{
+use gimli_core_readers::{
     DW_FORM_GNU_ref_alt, DW_FORM_GNU_strp_alt, DW_FORM_addr, DW_FORM_addrx1, DW_FORM_addrx2,
     DW_FORM_addrx3, DW_FORM_addrx4, DW_FORM_data1, DW_FORM_data2, DW_FORM_data4, DW_FORM_data8,
     DW_FORM_data16, DW_FORM_flag, DW_FORM_flag_present, DW_FORM_implicit_const, DW_FORM_line_strp,
     DW_FORM_ref_addr, DW_FORM_ref_sig8, DW_FORM_ref_sup4, DW_FORM_ref_sup8, DW_FORM_ref1,
     DW_FORM_ref2, DW_FORM_ref4, DW_FORM_ref8, DW_FORM_sec_offset, DW_FORM_strp, DW_FORM_strp_sup,
-    DW_FORM_strx1, DW_FORM_strx2, DW_FORM_strx3, DW_FORM_strx4, DwForm,
+    DW_FORM_strx1, DW_FORM_strx2, DW_FORM_strx3, DW_FORM_strx4, DwAt, DwForm, DwTag, Encoding,
+    Error, Reader,
 };
-use gimli_core_base::error::Error;
-use gimli_core_constants::{DwAt, DwTag, Encoding};
-use gimli_core_readers::Reader;
 use smallvec::SmallVec;
 use std::alloc::Global;
 
@@ -31,9 +29,10 @@ pub struct AttributeSpecification {
 /// The pair of zeros that ends the attributes of a declaration.
 impl Default for AttributeSpecification {
     ghost use Rattle.std.specs.Prelude.{◌≡◌, None};
-    ghost use Rattle.gimli_core_abbrev.specs.Seen.{seen_attribute};
+    ghost use Rattle.gimli_core_abbrev.specs.AbbreviationViews.{attribute_view};
 
-    ghost is_default = { λ a. seen_attribute a ≡ record { name = 0; form = 0; implicit_const = None } };
+    ghost is_default = { λ a. attribute_view a ≡ record
+        { name = 0; form = 0; implicit_const = None } };
 
     fn default() -> Self {
         AttributeSpecification {
@@ -48,7 +47,8 @@ impl AttributeSpecification {
     /// The value belongs to the form `DW_FORM_implicit_const` alone.
     pub fn new(name: DwAt, form: DwForm, implicit_const_value: Option<i64>) -> Self
         requires { is_some implicit_const_value ≡ (form.0 == implicit_const_form) }
-        ensures { seen_attribute result ≡ record { name = name.0; form = form.0; implicit_const = implicit_const_value } }
+        ensures { attribute_view result
+            ≡ record { name = name.0; form = form.0; implicit_const = implicit_const_value } }
     {
         AttributeSpecification {
             name,
@@ -58,29 +58,30 @@ impl AttributeSpecification {
     }
 
     pub fn name(&self) -> DwAt
-        ensures { result.0 ≡ (seen_attribute self.now).name }
+        ensures { result.0 ≡ (attribute_view self.now).name }
     {
         self.name
     }
 
     pub fn form(&self) -> DwForm
-        ensures { result.0 ≡ (seen_attribute self.now).form }
+        ensures { result.0 ≡ (attribute_view self.now).form }
     {
         self.form
     }
 
     /// The value that the declaration itself holds (DWARF 5, 7.5.3).
     pub fn implicit_const_value(&self) -> Option<i64>
-        ensures { result ≡ (seen_attribute self.now).implicit_const }
+        ensures { result ≡ (attribute_view self.now).implicit_const }
     {
         self.implicit_const_value
     }
 }
 
 impl AttributeSpecification {
-    /// The bytes of the attribute's value, where the form alone tells how many there are (DWARF 5, 7.5.6).
+    /// The bytes of the attribute's value, where the form alone tells how many there are (DWARF 5,
+    /// 7.5.6).
     pub fn size(&self, encoding: Encoding) -> Option<usize>
-        ensures { result ≡ width_of encoding (seen_attribute self.now).form }
+        ensures { result ≡ width_of encoding (attribute_view self.now).form }
     {
         match self.form {
             DW_FORM_addr => Some(encoding.address_size as usize),
@@ -117,27 +118,27 @@ pub struct Abbreviation {
 
 impl Abbreviation {
     pub fn code(&self) -> u64
-        ensures { result ≡ (seen self.now).code }
+        ensures { result ≡ (declaration_view self.now).code }
     {
         self.code
     }
 
     pub fn tag(&self) -> DwTag
-        ensures { result.0 ≡ (seen self.now).tag }
+        ensures { result.0 ≡ (declaration_view self.now).tag }
     {
         self.tag
     }
 
     /// Whether entries of this code may have children.
     pub fn has_children(&self) -> bool
-        ensures { result ≡ (seen self.now).has_children }
+        ensures { result ≡ (declaration_view self.now).has_children }
     {
         self.has_children
     }
 
     /// The attributes in the order in which an entry gives their values.
     pub fn attributes(&self) -> &[AttributeSpecification]
-        ensures { map seen_attribute result.now ≡ (seen self.now).attributes }
+        ensures { map attribute_view result.now ≡ (declaration_view self.now).attributes }
     {
         self.attributes.as_slice()
     }
@@ -145,10 +146,11 @@ impl Abbreviation {
 
 // ---- reading
 
-// The value that stands in a declaration behind an attribute's form.
-#[tactic(auto, unfolding(crate::specs::Parsing::implicit_const))]
+// The value that a declaration itself has, after an attribute's form.
+#[tactic(auto, unfolding(crate::specs::TableParsing::implicit_const))]
 fn parse_implicit_const<R: Reader>(input: &mut R, form: DwForm) -> Result<Option<i64>, Error>
-    ensures { Reads (λ x. x) result (R.view input.old) (R.view input.new) (implicit_const form.0 (R.view input.old)) }
+    ensures { Reads result (R.view input.old) (R.view input.new)
+        (implicit_const form.0 (R.view input.old)) }
 {
     if form == DW_FORM_implicit_const {
         Ok(Some(input.read_sleb128()?))
@@ -158,9 +160,10 @@ fn parse_implicit_const<R: Reader>(input: &mut R, form: DwForm) -> Result<Option
 }
 
 // An attribute, or none at the pair of zeros that ends them.
-#[tactic(auto, unfolding(crate::specs::Parsing::attribute, crate::specs::Parsing::attribute_of))]
+#[tactic(auto, unfolding(crate::specs::TableParsing::attribute, crate::specs::TableParsing::attribute_of))]
 fn parse_attribute<R: Reader>(input: &mut R) -> Result<Option<AttributeSpecification>, Error>
-    ensures { Gives (λ a. (option_map seen_attribute a, R.view input.new)) result (attribute (R.view input.old)) }
+    ensures { ReturnsAsOrNoMemory (λ a. (option_map attribute_view a, R.view input.new)) result
+        (attribute (R.view input.old)) }
 {
     let name = DwAt(input.read_uleb128_u16()?);
     let form = DwForm(input.read_uleb128_u16()?);
@@ -179,12 +182,13 @@ fn parse_attribute<R: Reader>(input: &mut R) -> Result<Option<AttributeSpecifica
 }
 
 // The attributes of a declaration.
-#[tactic(auto, unfolding(crate::specs::Parsing::attributes))]
+#[tactic(auto, unfolding(crate::specs::TableParsing::attributes))]
 fn parse_attributes<R: Reader>(
     alloc: Global,
     input: &mut R,
 ) -> Result<SmallVec<AttributeSpecification, 5>, Error>
-    ensures { Gives (λ found. (map seen_attribute found.items, R.view input.new)) result (attributes (R.view input.old)) }
+    ensures { ReturnsAsOrNoMemory (λ found. (map attribute_view found.items, R.view input.new))
+        result (attributes (R.view input.old)) }
 {
     let mut found = SmallVec::new(alloc);
     while let Some(attribute) = parse_attribute(input)? {
@@ -194,9 +198,10 @@ fn parse_attributes<R: Reader>(
 }
 
 // Whether children follow.
-#[tactic(auto, unfolding(crate::specs::Parsing::children))]
+#[tactic(auto, unfolding(crate::specs::TableParsing::children))]
 fn parse_children<R: Reader>(input: &mut R) -> Result<bool, Error>
-    ensures { Gives (λ b. (b, R.view input.new)) result (children (R.view input.old)) }
+    ensures { ReturnsAsOrNoMemory (λ b. (b, R.view input.new)) result
+        (children (R.view input.old)) }
 {
     match input.read_u8()? {
         0 => Ok(false),
@@ -206,9 +211,14 @@ fn parse_children<R: Reader>(input: &mut R) -> Result<bool, Error>
 }
 
 // What follows a code.
-#[tactic(auto, unfolding(crate::specs::Parsing::declaration_of))]
-fn parse_behind<R: Reader>(alloc: Global, input: &mut R, code: u64) -> Result<Abbreviation, Error>
-    ensures { Gives (λ a. (seen a, R.view input.new)) result (declaration_of code (R.view input.old)) }
+#[tactic(auto, unfolding(crate::specs::TableParsing::declaration_of))]
+fn parse_after_code<R: Reader>(
+    alloc: Global,
+    input: &mut R,
+    code: u64,
+) -> Result<Abbreviation, Error>
+    ensures { ReturnsAsOrNoMemory (λ a. (declaration_view a, R.view input.new)) result
+        (declaration_of code (R.view input.old)) }
 {
     let tag = DwTag(input.read_uleb128_u16()?);
     if tag.0 == 0 {
@@ -225,9 +235,10 @@ fn parse_behind<R: Reader>(alloc: Global, input: &mut R, code: u64) -> Result<Ab
 }
 
 // A declaration, or none where the table ends: at the code 0 and at the end of the bytes.
-#[tactic(auto, unfolding(crate::specs::Parsing::declaration, crate::specs::Parsing::coded_declaration))]
+#[tactic(auto, unfolding(crate::specs::TableParsing::declaration, crate::specs::TableParsing::coded_declaration))]
 pub(crate) fn parse<R: Reader>(alloc: Global, input: &mut R) -> Result<Option<Abbreviation>, Error>
-    ensures { Gives (λ a. (option_map seen a, R.view input.new)) result (declaration (R.view input.old)) }
+    ensures { ReturnsAsOrNoMemory (λ a. (option_map declaration_view a, R.view input.new)) result
+        (declaration (R.view input.old)) }
 {
     if input.is_empty() {
         return Ok(None);
@@ -236,5 +247,5 @@ pub(crate) fn parse<R: Reader>(alloc: Global, input: &mut R) -> Result<Option<Ab
     if code == 0 {
         return Ok(None);
     }
-    Ok(Some(parse_behind(alloc, input, code)?))
+    Ok(Some(parse_after_code(alloc, input, code)?))
 }

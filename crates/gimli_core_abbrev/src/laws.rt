@@ -1,34 +1,36 @@
 //! What holds of every table: each function here has an empty body, and its contract is a law.
 
-ghost use Rattle.gimli_core_abbrev.specs.Laws.{NoCode0, CodesStandOnce, NeedsRoom, FindsAsTheyStand, AnswersStay, EndsAsCode0};
+ghost use Rattle.gimli_core_abbrev.specs.TableLaws.{NoCode0, CodesOccurOnce, NeedsRoom, FindsInByteOrder, AnswersStay, EndsAsCode0};
 
 /// The code 0 is in no table (DWARF 5, 7.5.3).
 pub fn no_code_0()
     ensures { NoCode0 }
 {}
 
-/// Each code of a table stands in it once (DWARF 5, 7.5.3).
-pub fn codes_stand_once()
-    ensures { CodesStandOnce }
+/// Each code of a table occurs in it once (DWARF 5, 7.5.3).
+pub fn codes_occur_once()
+    ensures { CodesOccurOnce }
 {}
 
-/// Five times the declarations of a table and twice their attributes are no more than the bytes from its offset on.
+/// Five times the declarations of a table and twice their attributes are no more than the bytes
+/// from its offset on.
 pub fn needs_room()
     ensures { NeedsRoom }
 {}
 
-/// What a code finds in a table is what it finds among the declarations in the order in which they stand.
-pub fn finds_as_they_stand()
-    ensures { FindsAsTheyStand }
+/// What a code finds in a table is what it finds among the declarations in the order of
+/// the bytes.
+pub fn finds_in_byte_order()
+    ensures { FindsInByteOrder }
 {}
 
-/// Bytes behind a section change no answer but those that its end made: the refusal of a read that met the end, and a
-/// table that the end closed in place of a code 0 (DWARF 5, 7.5.3).
+/// Bytes after a section change no answer but those that its end made: the refusal of a read that
+/// met the end, and a table that the end closed in place of a code 0 (DWARF 5, 7.5.3).
 pub fn answers_stay()
     ensures { AnswersStay }
 {}
 
-/// A table that the end of its section closes is the one that a code 0 behind it closes.
+/// A table that the end of its section closes is the one that a code 0 after it closes.
 pub fn ends_as_code_0()
     ensures { EndsAsCode0 }
 {}

@@ -2,15 +2,13 @@
 
 ghost use Rattle.std.specs.Prelude.{◌≡◌};
 ghost use Rattle.std.specs.Fn.{FnOnceReturnsAt};
-ghost use Rattle.gimli_core_base.specs.Calls.{Gives};
-ghost use Rattle.gimli_core_abbrev.specs.Parsing.{table_at};
+ghost use Rattle.gimli_core_readers.specs.Calls.{ReturnsOrNoMemory};
+ghost use Rattle.gimli_core_abbrev.specs.TableParsing.{table_at};
 
 use crate::table::{self, Abbreviations};
-use gimli_core_base::error::Error;
-use gimli_core_constants::{DebugAbbrevOffset, SectionId};
-use gimli_core_numbers::Endianity;
-use gimli_core_readers::{EndianSlice, Reader};
-use gimli_core_strings::Section;
+use gimli_core_readers::{
+    DebugAbbrevOffset, EndianSlice, Endianity, Error, Reader, Section, SectionId,
+};
 use std::alloc::Global;
 use std::marker::Model;
 
@@ -21,7 +19,7 @@ pub struct DebugAbbrev<R: Reader> {
 }
 
 impl<R: Reader> Model for DebugAbbrev<R> {
-    ghost use Rattle.gimli_core_base.specs.View.{View};
+    ghost use Rattle.gimli_core_readers.specs.View.{View};
 
     ghost Value = { View };
 
@@ -37,11 +35,11 @@ impl<R: Reader> From<R> for DebugAbbrev<R> {
 }
 
 impl<R: Reader> Section<R> for DebugAbbrev<R> {
-    ghost use Rattle.gimli_core_constants.specs.declared.common.SectionId.TheVariants.{DebugAbbrev};
+    ghost use Rattle.gimli_core_readers.specs.SectionId.TheVariants.{DebugAbbrev};
 
     ghost section_id = { DebugAbbrev };
 
-    ghost seen = { λ s. s };
+    ghost section_view = { λ s. s };
 
     fn id() -> SectionId {
         SectionId::DebugAbbrev
@@ -84,7 +82,7 @@ impl<R: Reader> DebugAbbrev<R> {
         alloc: Global,
         offset: DebugAbbrevOffset<R::Offset>,
     ) -> Result<Abbreviations, Error>
-        ensures { Gives (λ t. t) result (table_at (R.Offset.count offset.0) self.now) }
+        ensures { ReturnsOrNoMemory result (table_at (R.Offset.count offset.0) self.now) }
     {
         let mut input = self.section.copy()?;
         input.skip(offset.0)?;

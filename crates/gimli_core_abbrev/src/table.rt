@@ -3,20 +3,20 @@
 ghost use Rattle.std.specs.Prelude.{◌≡◌, ◌<◌, [], option_map, OnOk, IfErr};
 ghost use Rattle.std.specs.Ordering.{nat_cmp};
 ghost use Rattle.std.specs.BTreeMap.{insert_entry};
-ghost use Rattle.gimli_core_base.specs.Calls.{Gives};
-ghost use Rattle.gimli_core_base.specs.declared.error.Error.TheVariants.{Memory};
+ghost use Rattle.gimli_core_readers.specs.Calls.{ReturnsAsOrNoMemory};
+ghost use Rattle.gimli_core_readers.specs.Error.TheVariants.{Memory};
 ghost use Rattle.gimli_core_abbrev.specs.Declarations.{declaration_at, put};
-ghost use Rattle.gimli_core_abbrev.specs.Parsing.{table};
-ghost use Rattle.gimli_core_abbrev.specs.Seen.{seen};
+ghost use Rattle.gimli_core_abbrev.specs.TableParsing.{table};
+ghost use Rattle.gimli_core_abbrev.specs.AbbreviationViews.{declaration_view};
 
 use crate::abbreviation::{self, Abbreviation};
-use gimli_core_base::error::Error;
-use gimli_core_readers::Reader;
+use gimli_core_readers::{Error, Reader};
 use std::alloc::Global;
 use std::collections::BTreeMap;
 use std::marker::Model;
 
-/// The declarations of an abbreviation table, by their codes. A contract sees them in the order of their codes.
+/// The declarations of an abbreviation table, by their codes. A contract sees them in the order of
+/// their codes.
 #[derive(Debug, Drop)]
 pub struct Abbreviations {
     // The codes 1, 2, .. as far as they came in order.
@@ -27,17 +27,19 @@ pub struct Abbreviations {
 impl Model for Abbreviations {
     ghost use Rattle.std.specs.Prelude.{List, map};
     ghost use Rattle.std.specs.Coded.{coded_list};
-    ghost use Rattle.gimli_core_abbrev.specs.Declarations.{Declaration, coded_declaration};
-    ghost use Rattle.gimli_core_abbrev.specs.Kept.{IsKept, kept};
-    ghost use Rattle.gimli_core_abbrev.specs.Seen.{seen, seen_entry};
+    ghost use Rattle.gimli_core_abbrev.specs.Declarations.{Declaration, declaration_coding};
+    ghost use Rattle.gimli_core_abbrev.specs.TableLayout.{IsLayout, all_declarations};
+    ghost use Rattle.gimli_core_abbrev.specs.AbbreviationViews.{declaration_view, entry_view};
 
     ghost Value = { List Declaration };
 
-    ghost coded = { coded_list coded_declaration };
+    ghost coded = { coded_list declaration_coding };
 
-    ghost view = { λ t. kept (map seen t.in_order.items) (map seen_entry t.others.entries) };
+    ghost view = { λ t. all_declarations (map declaration_view t.in_order.items)
+        (map entry_view t.others.entries) };
 
-    ghost invariant = { λ t. IsKept (map seen t.in_order.items) (map seen_entry t.others.entries) };
+    ghost invariant = { λ t. IsLayout (map declaration_view t.in_order.items)
+        (map entry_view t.others.entries) };
 }
 
 impl Abbreviations {
@@ -53,7 +55,7 @@ impl Abbreviations {
 
     /// The declaration of a code.
     pub fn get(&self, code: u64) -> Option<&Abbreviation>
-        ensures { option_map (λ a. seen a.now) result ≡ declaration_at code self.now }
+        ensures { option_map (λ a. declaration_view a.now) result ≡ declaration_at code self.now }
     {
         if 1 <= code && code <= self.in_order.len() as u64 {
             Some(&self.in_order[(code - 1) as usize])
@@ -64,9 +66,9 @@ impl Abbreviations {
 
     // Puts a declaration under its code, which isn't 0 and isn't there.
     fn put(&mut self, abbreviation: Abbreviation) -> Result<(), Error>
-        requires counts { 0 < (seen abbreviation).code }
-        requires is_new { declaration_at (seen abbreviation).code self.old ≡ None }
-        ensures ok { OnOk result (self.new ≡ put (seen abbreviation) self.old) }
+        requires counts { 0 < (declaration_view abbreviation).code }
+        requires is_new { declaration_at (declaration_view abbreviation).code self.old ≡ None }
+        ensures ok { OnOk result (self.new ≡ put (declaration_view abbreviation) self.old) }
         ensures err { IfErr result (λ e. (e ≡ Memory) × (self.new ≡ self.old)) }
     {
         let code = abbreviation.code();
@@ -85,7 +87,8 @@ fn put_under(
     code: u64,
     abbreviation: Abbreviation,
 ) -> Result<(), Error>
-    ensures ok { OnOk result (others.new.entries ≡ insert_entry nat_cmp others.old.entries code abbreviation) }
+    ensures ok { OnOk result (others.new.entries ≡ insert_entry nat_cmp others.old.entries code
+        abbreviation) }
     ensures err { IfErr result (λ e. (e ≡ Memory) × (others.new.entries ≡ others.old.entries)) }
 {
     others.insert(code, abbreviation)?;
@@ -93,9 +96,9 @@ fn put_under(
 }
 
 /// Reads declarations up to the code 0 or the end of the bytes.
-#[tactic(auto, unfolding(crate::specs::Parsing::table))]
+#[tactic(auto, unfolding(crate::specs::TableParsing::table))]
 pub(crate) fn parse<R: Reader>(alloc: Global, input: &mut R) -> Result<Abbreviations, Error>
-    ensures { Gives (λ t. (t, R.view input.new)) result (table (R.view input.old)) }
+    ensures { ReturnsAsOrNoMemory (λ t. (t, R.view input.new)) result (table (R.view input.old)) }
 {
     let mut found = Abbreviations::empty(alloc);
     while let Some(abbreviation) = abbreviation::parse(alloc, input)? {

@@ -1,7 +1,7 @@
 -- How n items go on by one: what a loop that counts needs.
 use Rattle.std.proofs.Common.{◌≡◌, ℕ, suc, List, [], ◌∷◌, ◌++◌, Result, Ok, Err, refl, sym, ◌∙◌, ap, append_assoc, append-nil}
 use Rattle.gimli_core_base.specs.declared.error.Error.{Error}
-use Rattle.gimli_core_base.specs.Parsers.{Step, onward, give}
+use Rattle.gimli_core_base.specs.Parsers.{Step, proceed, give}
 use Rattle.gimli_core_base.specs.Repetition.{times}
 
 -- further items in front of those that are read
@@ -9,7 +9,8 @@ abbrev pub behind : {S A : Type 0} → List A → Result (List A × S) Error →
 behind xs (Ok r) = Ok (xs ++ r.0, r.1)
 behind xs (Err e) = Err e
 
-behind-onward : {S A : Type 0} (xs : List A) (x : A) (r : Result (List A × S) Error) → behind xs (onward r (λ ys. give (x ∷ ys))) ≡ behind (xs ++ x ∷ []) r
+behind-onward : {S A : Type 0} (xs : List A) (x : A) (r : Result (List A × S) Error)
+    → behind xs (proceed r (λ ys. give (x ∷ ys))) ≡ behind (xs ++ x ∷ []) r
 behind-onward {S} {A} xs x (Ok r) = ap (λ (zs : List A). read zs r.1) (sym (append_assoc xs (x ∷ []) r.0))
   where
     read : List A → S → Result (List A × S) Error
@@ -17,17 +18,19 @@ behind-onward {S} {A} xs x (Ok r) = ap (λ (zs : List A). read zs r.1) (sym (app
 behind-onward xs x (Err e) = refl
 
 -- an item that is read goes behind those in front
-pub times_item : {S A : Type 0} (p : Step S A) (n : ℕ) (xs : List A) (x : A) (s t : S) → p s ≡ Ok (x, t) → behind xs (times (suc n) p s) ≡ behind (xs ++ x ∷ []) (times n p t)
+pub times_item : {S A : Type 0} (p : Step S A) (n : ℕ) (xs : List A) (x : A) (s t : S) → p s ≡ Ok (x, t)
+    → behind xs (times (suc n) p s) ≡ behind (xs ++ x ∷ []) (times n p t)
 unfolding times
 times_item {S} {A} p n xs x s t e =
-    ap (λ (r : Result (A × S) Error). behind xs (onward r (λ y u. onward (times n p u) (λ ys. give (y ∷ ys))))) e
+    ap (λ (r : Result (A × S) Error). behind xs (proceed r (λ y u. proceed (times n p u) (λ ys. give (y ∷ ys))))) e
     ∙ behind-onward xs x (times n p t)
 
 -- an item that can't be read ends them
-pub times_fault : {S A : Type 0} (p : Step S A) (n : ℕ) (xs : List A) (s : S) (d : Error) → p s ≡ Err d → behind xs (times (suc n) p s) ≡ Err d
+pub times_fault : {S A : Type 0} (p : Step S A) (n : ℕ) (xs : List A) (s : S) (d : Error) → p s ≡ Err d
+    → behind xs (times (suc n) p s) ≡ Err d
 unfolding times
 times_fault {S} {A} p n xs s d e =
-    ap (λ (r : Result (A × S) Error). behind xs (onward r (λ y u. onward (times n p u) (λ ys. give (y ∷ ys))))) e
+    ap (λ (r : Result (A × S) Error). behind xs (proceed r (λ y u. proceed (times n p u) (λ ys. give (y ∷ ys))))) e
 
 -- after the last item nothing is left to read
 pub times_end : {S A : Type 0} (p : Step S A) (xs : List A) (s : S) → behind xs (times 0 p s) ≡ Ok (xs, s)

@@ -1,5 +1,13 @@
 pub mod ErrorText
 pub mod View
+pub mod Results
 pub mod Parsers
 pub mod Calls
 pub mod Repetition
+pub mod FormatSizes
+pub mod LineDefaults
+pub mod SectionNames
+pub mod Fixed
+pub mod Leb128
+pub mod NumberParsers
+pub mod Spelling

@@ -2,10 +2,10 @@ use crate::constants::{DwForm, DwLle, DwRle, DwUt, ReaderOffsetId};
 use std::alloc::{AllocError, AllocFailed};
 use std::fmt;
 
-/// Why something wasn't read. Displayed as `E` and the number that stands beside each refusal.
+/// Why something wasn't read. Displayed as `E` and the number that each refusal has here.
 #[derive(Clone, Copy, Debug, PartialEq, Eq)]
 pub enum Error {
-    /// E1: Memory could not be had.
+    /// E1: Out of memory.
     Memory,
     /// E2: The bytes end before a value does; where the read that failed began.
     UnexpectedEof(ReaderOffsetId),
@@ -27,7 +27,7 @@ pub enum Error {
     AttributeFormZero,
     /// E11: A children byte other than 0 or 1 (DWARF 5, 7.5.3).
     InvalidAbbreviationChildren(u8),
-    /// E12: An abbreviation code that stands twice in its table (DWARF 5, 7.5.3).
+    /// E12: An abbreviation code that occurs twice in its table (DWARF 5, 7.5.3).
     DuplicateAbbreviationCode(u64),
     /// E13: An entry's code that its unit's abbreviation table lacks (DWARF 5, 7.5.2).
     InvalidAbbreviationCode(u64),

@@ -1,27 +1,26 @@
-//! What every reader can do, whatever keeps its bytes.
+//! What every reader can do, wherever its bytes are.
 
 ghost use Rattle.std.specs.Prelude.{◌≡◌, ◌≢◌, ◌+◌, ◌<◌, ◌≤◌, ℕ, ◌==◌, Bool, length, option_map, IsTrue, IsOk, IfOk, OnErr, MatchResult};
 ghost use Rattle.std.specs.Int.{w8, w16, w32, w64};
 ghost use Rattle.std.specs.Str.Lossy.{utf8_lossy};
 ghost use Rattle.std.specs.Cow.{cow_slice_items, cow_str_bytes};
-ghost use Rattle.gimli_core_base.specs.View.{View, after, front, ends, place_of};
-ghost use Rattle.gimli_core_base.specs.Parsers.{mapped, value_of, part, skip, truncated, found, null_terminated};
-ghost use Rattle.gimli_core_base.specs.Calls.{Reads, Takes, Gives, Answers};
-ghost use Rattle.gimli_core_numbers.specs.Numbers.{fixed, fixed_signed, skipped, unsigned, unsigned_32, unsigned_16, signed, address_size, address, is_address_size, sized_offset, word, initial_length, string_fault};
-ghost use Rattle.gimli_core_readers.specs.Reading.{IsPlaced, Holds, utf8_of};
+ghost use Rattle.gimli_core_base.specs.View.{View, after, prefix, unexpected_end, index_of};
+ghost use Rattle.gimli_core_base.specs.Parsers.{map_value, value_of, part, skip, truncate, find_byte, null_terminated};
+ghost use Rattle.gimli_core_base.specs.Calls.{ReadsAs, Reads, ReadsAsOrNoMemory, ReturnsAsOrNoMemory, ReturnsAs};
+ghost use Rattle.gimli_core_base.specs.NumberParsers.{fixed, fixed_signed, skip_leb, unsigned, unsigned_32, unsigned_16, signed, address_size, address, is_address_size, sized_offset, word, initial_length, string_fault};
+ghost use Rattle.gimli_core_readers.specs.Readers.{IsPlaced, Holds, utf8_of};
 ghost use Rattle.gimli_core_base.specs.declared.error.Error.TheVariants.{Memory, BadUnsignedLeb128};
-ghost use Rattle.gimli_core_numbers.specs.declared.leb128.Fault.TheVariants.{Cut};
+ghost use Rattle.gimli_core_base.specs.declared.leb128.Fault.TheVariants.{Cut};
 
 use crate::text::{lossy_text_of, position_of, text_of};
 use gimli_core_base::constants::ReaderOffsetId;
 use gimli_core_base::error::Error;
-use gimli_core_constants::Format;
-use gimli_core_numbers::leb128::Fault;
-use gimli_core_numbers::{Endianity, ReaderOffset, leb128};
+use gimli_core_base::leb128::Fault;
+use gimli_core_base::{Endianity, Format, ReaderOffset, leb128};
 use std::alloc::Global;
 use std::borrow::{CowSlice, CowStr};
 
-/// Bytes in an order, read from the front. A read that is refused moves nothing.
+/// Bytes in an order, read from the first on. A refused read changes nothing.
 pub trait Reader: Drop {
     type Endian: Endianity;
 
@@ -36,7 +35,7 @@ pub trait Reader: Drop {
     fn endian(&self) -> Self::Endian
         ensures { Self.Endian.is_big result ≡ (view self.now).is_big };
 
-    /// The bytes left.
+    /// The bytes that are left.
     fn as_bytes(&self) -> &[u8]
         ensures value { result.now ≡ (view self.now).bytes }
         ensures placed { IsPlaced Self.Offset.limit (view self.now) };
@@ -45,18 +44,19 @@ pub trait Reader: Drop {
     fn offset_id(&self) -> ReaderOffsetId
         ensures { result.0 ≡ (view self.now).first };
 
-    /// Passes over bytes that are there.
+    /// Skips bytes that are there.
     fn advance(&mut self, count: usize)
         requires { count ≤ length (view self.old).bytes }
         ensures { view self.new ≡ after count (view self.old) };
 
-    /// Keeps the first bytes alone.
+    /// Drops all but the first bytes.
     fn truncate(&mut self, len: Self::Offset) -> Result<(), Error>
-        ensures { Reads (λ x. x) result (view self.old) (view self.new) (truncated (Self.Offset.count len) (view self.old)) };
+        ensures { Reads result (view self.old) (view self.new)
+            (truncate (Self.Offset.count len) (view self.old)) };
 
     /// A second reader of the same bytes.
     fn copy(&self) -> Result<Self, Error>
-        ensures value { Gives view result (Ok (view self.now)) }
+        ensures value { ReturnsAsOrNoMemory view result (Ok (view self.now)) }
         ensures free { IsTrue copies_freely → IsOk result };
 
     /// How many bytes are left.
@@ -74,14 +74,14 @@ pub trait Reader: Drop {
         self.as_bytes().is_empty()
     }
 
-    /// Keeps no byte, and the place.
+    /// Drops all bytes; the identifier stays.
     final fn empty(&mut self)
-        ensures { view self.new ≡ front 0 (view self.old) }
+        ensures { view self.new ≡ prefix 0 (view self.old) }
     {
         self.truncate(Self::Offset::from_u8(0)).unwrap();
     }
 
-    /// How far the first byte left is behind that of `base`, which holds this reader's bytes.
+    /// The distance from `base`'s first byte to this reader's; `base` has this reader's bytes.
     final fn offset_from(&self, base: &Self) -> Self::Offset
         requires { Holds (view base.now) (view self.now) }
         ensures { Self.Offset.count result + (view base.now).first ≡ (view self.now).first }
@@ -93,7 +93,7 @@ pub trait Reader: Drop {
 
     /// The place that an identifier names, the end included.
     final fn lookup_offset_id(&self, id: ReaderOffsetId) -> Option<Self::Offset>
-        ensures { option_map Self.Offset.count result ≡ place_of id.0 (view self.now) }
+        ensures { option_map Self.Offset.count result ≡ index_of id.0 (view self.now) }
     {
         let first = self.offset_id().0;
         let count = self.as_bytes().len() as u64;
@@ -106,7 +106,7 @@ pub trait Reader: Drop {
 
     /// The place of the first byte that equals this one.
     final fn find(&self, byte: u8) -> Result<Self::Offset, Error>
-        ensures { Answers Self.Offset.count result (found byte (view self.now)) }
+        ensures { ReturnsAs Self.Offset.count result (find_byte byte (view self.now)) }
     {
         match position_of(self.as_bytes(), byte) {
             Some(place) => Ok(Self::Offset::from_u64(place as u64).unwrap()),
@@ -114,9 +114,10 @@ pub trait Reader: Drop {
         }
     }
 
-    /// Passes over the next bytes.
+    /// Skips the next bytes.
     final fn skip(&mut self, len: Self::Offset) -> Result<(), Error>
-        ensures { Reads (λ x. x) result (view self.old) (view self.new) (skip (Self.Offset.count len) (view self.old)) }
+        ensures { Reads result (view self.old) (view self.new)
+            (skip (Self.Offset.count len) (view self.old)) }
     {
         let count = len.into_u64();
         need(self, count)?;
@@ -126,7 +127,8 @@ pub trait Reader: Drop {
 
     /// The next bytes, as a reader of their own.
     final fn split(&mut self, len: Self::Offset) -> Result<Self, Error>
-        ensures value { Takes view result (view self.old) (view self.new) (part (Self.Offset.count len) (view self.old)) }
+        ensures value { ReadsAsOrNoMemory view result (view self.old) (view self.new)
+            (part (Self.Offset.count len) (view self.old)) }
         ensures free { IsTrue copies_freely → result ≢ Err Memory }
     {
         need(self, len.into_u64())?;
@@ -138,7 +140,8 @@ pub trait Reader: Drop {
 
     /// Reads as many bytes as the buffer holds.
     final fn read_slice(&mut self, buf: &mut [u8]) -> Result<(), Error>
-        ensures read { Reads (λ _. buf.new) result (view self.old) (view self.new) (mapped (λ v. v.bytes) (part (length buf.old)) (view self.old)) }
+        ensures read { ReadsAs (λ _. buf.new) result (view self.old) (view self.new)
+            (map_value (λ v. v.bytes) (part (length buf.old)) (view self.old)) }
         ensures refused { OnErr result (buf.new ≡ buf.old) }
     {
         let count = buf.len();
@@ -148,9 +151,9 @@ pub trait Reader: Drop {
         Ok(())
     }
 
-    #[tactic(auto, unfolding(gimli_core_numbers::specs::Numbers::fixed))]
+    #[tactic(auto, unfolding(gimli_core_base::specs::NumberParsers::fixed))]
     final fn read_u8(&mut self) -> Result<u8, Error>
-        ensures { Reads (λ x. x) result (view self.old) (view self.new) (fixed 1 (view self.old)) }
+        ensures { Reads result (view self.old) (view self.new) (fixed 1 (view self.old)) }
     {
         need(self, 1)?;
         let value = self.as_bytes()[0];
@@ -158,16 +161,16 @@ pub trait Reader: Drop {
         Ok(value)
     }
 
-    #[tactic(auto, unfolding(gimli_core_numbers::specs::Numbers::fixed_signed))]
+    #[tactic(auto, unfolding(gimli_core_base::specs::NumberParsers::fixed_signed))]
     final fn read_i8(&mut self) -> Result<i8, Error>
-        ensures { Reads (λ x. x) result (view self.old) (view self.new) (fixed_signed w8 (view self.old)) }
+        ensures { Reads result (view self.old) (view self.new) (fixed_signed w8 (view self.old)) }
     {
         Ok(self.read_u8()?.cast_signed())
     }
 
-    #[tactic(auto, unfolding(gimli_core_numbers::specs::Numbers::fixed))]
+    #[tactic(auto, unfolding(gimli_core_base::specs::NumberParsers::fixed))]
     final fn read_u16(&mut self) -> Result<u16, Error>
-        ensures { Reads (λ x. x) result (view self.old) (view self.new) (fixed 2 (view self.old)) }
+        ensures { Reads result (view self.old) (view self.new) (fixed 2 (view self.old)) }
     {
         need(self, 2)?;
         let value = self.endian().read_u16(self.as_bytes());
@@ -175,16 +178,16 @@ pub trait Reader: Drop {
         Ok(value)
     }
 
-    #[tactic(auto, unfolding(gimli_core_numbers::specs::Numbers::fixed_signed))]
+    #[tactic(auto, unfolding(gimli_core_base::specs::NumberParsers::fixed_signed))]
     final fn read_i16(&mut self) -> Result<i16, Error>
-        ensures { Reads (λ x. x) result (view self.old) (view self.new) (fixed_signed w16 (view self.old)) }
+        ensures { Reads result (view self.old) (view self.new) (fixed_signed w16 (view self.old)) }
     {
         Ok(self.read_u16()?.cast_signed())
     }
 
-    #[tactic(auto, unfolding(gimli_core_numbers::specs::Numbers::fixed))]
+    #[tactic(auto, unfolding(gimli_core_base::specs::NumberParsers::fixed))]
     final fn read_u32(&mut self) -> Result<u32, Error>
-        ensures { Reads (λ x. x) result (view self.old) (view self.new) (fixed 4 (view self.old)) }
+        ensures { Reads result (view self.old) (view self.new) (fixed 4 (view self.old)) }
     {
         need(self, 4)?;
         let value = self.endian().read_u32(self.as_bytes());
@@ -192,16 +195,16 @@ pub trait Reader: Drop {
         Ok(value)
     }
 
-    #[tactic(auto, unfolding(gimli_core_numbers::specs::Numbers::fixed_signed))]
+    #[tactic(auto, unfolding(gimli_core_base::specs::NumberParsers::fixed_signed))]
     final fn read_i32(&mut self) -> Result<i32, Error>
-        ensures { Reads (λ x. x) result (view self.old) (view self.new) (fixed_signed w32 (view self.old)) }
+        ensures { Reads result (view self.old) (view self.new) (fixed_signed w32 (view self.old)) }
     {
         Ok(self.read_u32()?.cast_signed())
     }
 
-    #[tactic(auto, unfolding(gimli_core_numbers::specs::Numbers::fixed))]
+    #[tactic(auto, unfolding(gimli_core_base::specs::NumberParsers::fixed))]
     final fn read_u64(&mut self) -> Result<u64, Error>
-        ensures { Reads (λ x. x) result (view self.old) (view self.new) (fixed 8 (view self.old)) }
+        ensures { Reads result (view self.old) (view self.new) (fixed 8 (view self.old)) }
     {
         need(self, 8)?;
         let value = self.endian().read_u64(self.as_bytes());
@@ -209,16 +212,16 @@ pub trait Reader: Drop {
         Ok(value)
     }
 
-    #[tactic(auto, unfolding(gimli_core_numbers::specs::Numbers::fixed_signed))]
+    #[tactic(auto, unfolding(gimli_core_base::specs::NumberParsers::fixed_signed))]
     final fn read_i64(&mut self) -> Result<i64, Error>
-        ensures { Reads (λ x. x) result (view self.old) (view self.new) (fixed_signed w64 (view self.old)) }
+        ensures { Reads result (view self.old) (view self.new) (fixed_signed w64 (view self.old)) }
     {
         Ok(self.read_u64()?.cast_signed())
     }
 
-    #[tactic(auto, unfolding(gimli_core_numbers::specs::Numbers::fixed))]
+    #[tactic(auto, unfolding(gimli_core_base::specs::NumberParsers::fixed))]
     final fn read_u128(&mut self) -> Result<u128, Error>
-        ensures { Reads (λ x. x) result (view self.old) (view self.new) (fixed 16 (view self.old)) }
+        ensures { Reads result (view self.old) (view self.new) (fixed 16 (view self.old)) }
     {
         need(self, 16)?;
         let value = self.endian().read_u128(self.as_bytes());
@@ -227,10 +230,10 @@ pub trait Reader: Drop {
     }
 
     /// A number of at most eight bytes.
-    #[tactic(auto, unfolding(gimli_core_numbers::specs::Numbers::fixed))]
+    #[tactic(auto, unfolding(gimli_core_base::specs::NumberParsers::fixed))]
     final fn read_uint(&mut self, count: usize) -> Result<u64, Error>
         requires { count ≤ 8 }
-        ensures { Reads (λ x. x) result (view self.old) (view self.new) (fixed count (view self.old)) }
+        ensures { Reads result (view self.old) (view self.new) (fixed count (view self.old)) }
     {
         need(self, count as u64)?;
         let value = self.endian().read_uint(&self.as_bytes()[..count]);
@@ -238,9 +241,10 @@ pub trait Reader: Drop {
         Ok(value)
     }
 
-    /// The bytes up to a zero byte, which is passed over too.
+    /// The bytes before the first zero byte, which is skipped too.
     final fn read_null_terminated_slice(&mut self) -> Result<Self, Error>
-        ensures value { Takes view result (view self.old) (view self.new) (null_terminated (view self.old)) }
+        ensures value { ReadsAsOrNoMemory view result (view self.old) (view self.new)
+            (null_terminated (view self.old)) }
         ensures free { IsTrue copies_freely → result ≢ Err Memory }
     {
         let len = self.find(0)?;
@@ -249,10 +253,10 @@ pub trait Reader: Drop {
         Ok(text)
     }
 
-    /// Passes over a LEB128 number of any length (DWARF 5, 7.6).
-    #[tactic(auto, unfolding(gimli_core_numbers::specs::Numbers::skipped))]
+    /// Skips a LEB128 number of any length (DWARF 5, 7.6).
+    #[tactic(auto, unfolding(gimli_core_base::specs::NumberParsers::skip_leb))]
     final fn skip_leb128(&mut self) -> Result<(), Error>
-        ensures { Reads (λ x. x) result (view self.old) (view self.new) (skipped (view self.old)) }
+        ensures { Reads result (view self.old) (view self.new) (skip_leb (view self.old)) }
     {
         match leb128::skip(self.as_bytes()) {
             Some(len) => {
@@ -264,9 +268,9 @@ pub trait Reader: Drop {
     }
 
     /// An unsigned LEB128 number (DWARF 5, 7.6).
-    #[tactic(auto, unfolding(gimli_core_numbers::specs::Numbers::unsigned))]
+    #[tactic(auto, unfolding(gimli_core_base::specs::NumberParsers::unsigned))]
     final fn read_uleb128(&mut self) -> Result<u64, Error>
-        ensures { Reads (λ x. x) result (view self.old) (view self.new) (unsigned (view self.old)) }
+        ensures { Reads result (view self.old) (view self.new) (unsigned (view self.old)) }
     {
         match leb128::unsigned(self.as_bytes()) {
             Ok((value, len)) => {
@@ -279,9 +283,9 @@ pub trait Reader: Drop {
     }
 
     /// An unsigned LEB128 number of 32 bits.
-    #[tactic(auto, unfolding(gimli_core_numbers::specs::Numbers::unsigned_32, gimli_core_numbers::specs::Numbers::unsigned))]
+    #[tactic(auto, unfolding(gimli_core_base::specs::NumberParsers::unsigned_32, gimli_core_base::specs::NumberParsers::unsigned))]
     final fn read_uleb128_u32(&mut self) -> Result<u32, Error>
-        ensures { Reads (λ x. x) result (view self.old) (view self.new) (unsigned_32 (view self.old)) }
+        ensures { Reads result (view self.old) (view self.new) (unsigned_32 (view self.old)) }
     {
         match leb128::unsigned(self.as_bytes()) {
             Ok((value, len)) => {
@@ -295,9 +299,9 @@ pub trait Reader: Drop {
     }
 
     /// An unsigned LEB128 number of 16 bits, in at most three bytes.
-    #[tactic(auto, unfolding(gimli_core_numbers::specs::Numbers::unsigned_16))]
+    #[tactic(auto, unfolding(gimli_core_base::specs::NumberParsers::unsigned_16))]
     final fn read_uleb128_u16(&mut self) -> Result<u16, Error>
-        ensures { Reads (λ x. x) result (view self.old) (view self.new) (unsigned_16 (view self.old)) }
+        ensures { Reads result (view self.old) (view self.new) (unsigned_16 (view self.old)) }
     {
         match leb128::unsigned_16(self.as_bytes()) {
             Ok((value, len)) => {
@@ -310,9 +314,9 @@ pub trait Reader: Drop {
     }
 
     /// A signed LEB128 number (DWARF 5, 7.6).
-    #[tactic(auto, unfolding(gimli_core_numbers::specs::Numbers::signed))]
+    #[tactic(auto, unfolding(gimli_core_base::specs::NumberParsers::signed))]
     final fn read_sleb128(&mut self) -> Result<i64, Error>
-        ensures { Reads (λ x. x) result (view self.old) (view self.new) (signed (view self.old)) }
+        ensures { Reads result (view self.old) (view self.new) (signed (view self.old)) }
     {
         match leb128::signed(self.as_bytes()) {
             Ok((value, len)) => {
@@ -325,9 +329,9 @@ pub trait Reader: Drop {
     }
 
     /// The size of an address: 1, 2, 4 or 8.
-    #[tactic(auto, unfolding(gimli_core_numbers::specs::Numbers::address_size, gimli_core_numbers::specs::Numbers::fixed))]
+    #[tactic(auto, unfolding(gimli_core_base::specs::NumberParsers::address_size, gimli_core_base::specs::NumberParsers::fixed))]
     final fn read_address_size(&mut self) -> Result<u8, Error>
-        ensures { Reads (λ x. x) result (view self.old) (view self.new) (address_size (view self.old)) }
+        ensures { Reads result (view self.old) (view self.new) (address_size (view self.old)) }
     {
         need(self, 1)?;
         let size = self.as_bytes()[0];
@@ -341,9 +345,10 @@ pub trait Reader: Drop {
     }
 
     /// An address of this size.
-    #[tactic(auto, unfolding(gimli_core_numbers::specs::Numbers::address))]
+    #[tactic(auto, unfolding(gimli_core_base::specs::NumberParsers::address))]
     final fn read_address(&mut self, address_size: u8) -> Result<u64, Error>
-        ensures { Reads (λ x. x) result (view self.old) (view self.new) (address address_size (view self.old)) }
+        ensures { Reads result (view self.old) (view self.new)
+            (address address_size (view self.old)) }
     {
         match address_size {
             1 | 2 | 4 | 8 => self.read_uint(address_size as usize),
@@ -352,10 +357,11 @@ pub trait Reader: Drop {
     }
 
     /// An offset of 1, 2, 4 or 8 bytes.
-    #[tactic(auto, unfolding(gimli_core_numbers::specs::Numbers::sized_offset, gimli_core_numbers::specs::Numbers::fixed))]
+    #[tactic(auto, unfolding(gimli_core_base::specs::NumberParsers::sized_offset, gimli_core_base::specs::NumberParsers::fixed))]
     final fn read_sized_offset(&mut self, size: u8) -> Result<Self::Offset, Error>
         requires { IsTrue (is_address_size size) }
-        ensures { Reads Self.Offset.count result (view self.old) (view self.new) (sized_offset Self.Offset.limit size (view self.old)) }
+        ensures { ReadsAs Self.Offset.count result (view self.old) (view self.new)
+            (sized_offset Self.Offset.limit size (view self.old)) }
     {
         let count = size as usize;
         need(self, u64::from(size))?;
@@ -366,31 +372,35 @@ pub trait Reader: Drop {
     }
 
     /// A number of a format's size: four bytes or eight (DWARF 5, 7.4).
-    #[tactic(auto, unfolding(gimli_core_numbers::specs::Numbers::word))]
+    #[tactic(auto, unfolding(gimli_core_base::specs::NumberParsers::word))]
     final fn read_word(&mut self, format: Format) -> Result<Self::Offset, Error>
-        ensures { Reads Self.Offset.count result (view self.old) (view self.new) (word Self.Offset.limit format (view self.old)) }
+        ensures { ReadsAs Self.Offset.count result (view self.old) (view self.new)
+            (word Self.Offset.limit format (view self.old)) }
     {
         self.read_sized_offset(format.word_size())
     }
 
     /// A length of a format's size.
     final fn read_length(&mut self, format: Format) -> Result<Self::Offset, Error>
-        ensures { Reads Self.Offset.count result (view self.old) (view self.new) (word Self.Offset.limit format (view self.old)) }
+        ensures { ReadsAs Self.Offset.count result (view self.old) (view self.new)
+            (word Self.Offset.limit format (view self.old)) }
     {
         self.read_word(format)
     }
 
     /// An offset of a format's size.
     final fn read_offset(&mut self, format: Format) -> Result<Self::Offset, Error>
-        ensures { Reads Self.Offset.count result (view self.old) (view self.new) (word Self.Offset.limit format (view self.old)) }
+        ensures { ReadsAs Self.Offset.count result (view self.old) (view self.new)
+            (word Self.Offset.limit format (view self.old)) }
     {
         self.read_word(format)
     }
 
-    /// A length and the format that it shows (DWARF 5, 7.4).
-    #[tactic(auto, unfolding(gimli_core_numbers::specs::Numbers::initial_length, gimli_core_numbers::specs::Numbers::fixed, gimli_core_numbers::specs::Numbers::sized_offset))]
+    /// An initial length and its format (DWARF 5, 7.4).
+    #[tactic(auto, unfolding(gimli_core_base::specs::NumberParsers::initial_length, gimli_core_base::specs::NumberParsers::fixed, gimli_core_base::specs::NumberParsers::sized_offset))]
     final fn read_initial_length(&mut self) -> Result<(Self::Offset, Format), Error>
-        ensures { Reads (λ p. (Self.Offset.count p.0, p.1)) result (view self.old) (view self.new) (initial_length Self.Offset.limit (view self.old)) }
+        ensures { ReadsAs (λ p. (Self.Offset.count p.0, p.1)) result (view self.old) (view self.new)
+            (initial_length Self.Offset.limit (view self.old)) }
     {
         need(self, 4)?;
         let word = self.endian().read_u32(self.as_bytes());
@@ -410,31 +420,32 @@ pub trait Reader: Drop {
 
     /// The bytes left, lent.
     final fn to_slice(&self) -> Result<CowSlice<'_, u8>, Error>
-        ensures { Answers cow_slice_items result (Ok (view self.now).bytes) }
+        ensures { ReturnsAs cow_slice_items result (Ok (view self.now).bytes) }
     {
         Ok(CowSlice::Borrowed(self.as_bytes()))
     }
 
     /// The bytes left as a text, lent.
     final fn to_string(&self) -> Result<CowStr<'_>, Error>
-        ensures { Answers cow_str_bytes result (utf8_of (view self.now).bytes) }
+        ensures { ReturnsAs cow_str_bytes result (utf8_of (view self.now).bytes) }
     {
         Ok(CowStr::Borrowed(text_of(self.as_bytes())?))
     }
 
-    /// The bytes left as a text, in which each sequence that isn't UTF-8 is U+FFFD. Takes memory for such a text
-    /// alone.
+    /// The bytes left as a text, in which each sequence that isn't UTF-8 is U+FFFD. Takes memory
+    /// for such a text alone.
     final fn to_string_lossy(&self, alloc: Global) -> Result<CowStr<'_>, Error>
-        ensures { Gives cow_str_bytes result (Ok (utf8_lossy (view self.now).bytes)) }
+        ensures { ReturnsAsOrNoMemory cow_str_bytes result (Ok (utf8_lossy (view self.now).bytes)) }
     {
         lossy_text_of(alloc, self.as_bytes())
     }
 }
 
-// A read of so many bytes would not end past the last byte.
+// Refused unless `count` bytes are left.
 fn need<R: Reader>(reader: &R, count: u64) -> Result<(), Error>
     ensures { MatchResult result (λ _. count ≤ length (R.view reader.now).bytes)
-        (λ e. (length (R.view reader.now).bytes < count) × (e ≡ ends (R.view reader.now))) }
+        (λ e. (length (R.view reader.now).bytes < count)
+        × (e ≡ unexpected_end (R.view reader.now))) }
 {
     if (reader.as_bytes().len() as u64) < count {
         return Err(Error::UnexpectedEof(reader.offset_id()));
@@ -450,11 +461,12 @@ fn end_of<R: Reader>(reader: &R) -> Error
     Error::UnexpectedEof(ReaderOffsetId(reader.offset_id().0 + count))
 }
 
-// The length behind the first four bytes.
-#[tactic(auto, unfolding(gimli_core_numbers::specs::Numbers::sized_offset, gimli_core_numbers::specs::Numbers::fixed))]
+// The length after the first four bytes.
+#[tactic(auto, unfolding(gimli_core_base::specs::NumberParsers::sized_offset, gimli_core_base::specs::NumberParsers::fixed))]
 fn long_length<R: Reader>(reader: &R) -> Result<R::Offset, Error>
     requires { 4 ≤ length (R.view reader.now).bytes }
-    ensures { Answers R.Offset.count result (value_of (sized_offset R.Offset.limit 8 (after 4 (R.view reader.now)))) }
+    ensures { ReturnsAs R.Offset.count result
+        (value_of (sized_offset R.Offset.limit 8 (after 4 (R.view reader.now)))) }
 {
     let bytes = &reader.as_bytes()[4..];
     if bytes.len() < 8 {
@@ -465,7 +477,8 @@ fn long_length<R: Reader>(reader: &R) -> Result<R::Offset, Error>
 
 /// The next `N` bytes.
 pub fn read_u8_array<const N: usize, R: Reader>(reader: &mut R) -> Result<[u8; N], Error>
-    ensures { Reads (λ bytes. bytes) result (R.view reader.old) (R.view reader.new) (mapped (λ v. v.bytes) (part N) (R.view reader.old)) }
+    ensures { Reads result (R.view reader.old) (R.view reader.new)
+        (map_value (λ v. v.bytes) (part N) (R.view reader.old)) }
 {
     let mut bytes = [0; N];
     reader.read_slice(&mut bytes)?;

@@ -2,16 +2,17 @@
 
 ghost use Rattle.std.specs.Prelude.{◌≡◌, ◌+◌, ◌<◌, ◌≤◌, ◌^◌, Bool, false, length, IsOk, IsTrue};
 ghost use Rattle.gimli_core_base.specs.View.{View};
-ghost use Rattle.gimli_core_base.specs.Calls.{Gives};
+ghost use Rattle.gimli_core_base.specs.Calls.{ReturnsAsOrNoMemory};
 
 use crate::reader::Reader;
 use bytes::Bytes;
+use gimli_core_base::Endianity;
 use gimli_core_base::constants::ReaderOffsetId;
 use gimli_core_base::error::Error;
-use gimli_core_numbers::Endianity;
 use std::marker::Model;
 
-/// Shared bytes in an order, read from the front. A copy shares the bytes, and takes a little memory.
+/// Shared bytes in an order, read from the first on. A copy shares the bytes, and takes a little
+/// memory.
 #[derive(Debug, Drop)]
 pub struct EndianBytes<E: Endianity> {
     bytes: Bytes,

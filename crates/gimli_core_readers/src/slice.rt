@@ -5,22 +5,22 @@ ghost use Rattle.std.specs.Str.Lossy.{utf8_lossy};
 ghost use Rattle.std.specs.Cow.{cow_str_bytes};
 ghost use Rattle.std.specs.List.{position};
 ghost use Rattle.std.specs.Cmp.{partial_equiv_from_equiv};
-ghost use Rattle.gimli_core_base.specs.View.{View, after, front};
-ghost use Rattle.gimli_core_base.specs.Calls.{Answers, Gives};
-ghost use Rattle.gimli_core_readers.specs.Reading.{IsPlaced, Holds, utf8_of, is_same, same_laws, hashed, hashed_alike};
+ghost use Rattle.gimli_core_base.specs.View.{View, after, prefix};
+ghost use Rattle.gimli_core_base.specs.Calls.{ReturnsAs, ReturnsAsOrNoMemory};
+ghost use Rattle.gimli_core_readers.specs.Readers.{IsPlaced, Holds, utf8_of, is_same, same_laws, hash_bytes, equal_hash_alike};
 
 use crate::reader::Reader;
 use crate::text::{lossy_text_of, position_of, text_of};
+use gimli_core_base::Endianity;
 use gimli_core_base::constants::ReaderOffsetId;
 use gimli_core_base::error::Error;
-use gimli_core_numbers::Endianity;
 use std::alloc::Global;
 use std::borrow::CowStr;
 use std::hash::{Hash, Hasher};
 use std::marker::Model;
 use std::ops::{Range, RangeFrom, RangeTo};
 
-/// Borrowed bytes in an order, read from the front.
+/// Borrowed bytes in an order, read from the first on.
 #[derive(Debug, Drop)]
 pub struct EndianSlice<'a, E: Endianity> {
     slice: &'a [u8],
@@ -34,7 +34,8 @@ impl<'a, E: Endianity> Model for EndianSlice<'a, E> {
 
     ghost Value = { View };
 
-    ghost view = { λ a. record { bytes = a.slice.now; is_big = E.is_big a.endian; first = a.first } };
+    ghost view = { λ a. record
+        { bytes = a.slice.now; is_big = E.is_big a.endian; first = a.first } };
 
     ghost invariant = { λ a. a.first + length a.slice.now < 2 ^ 64 };
 }
@@ -72,7 +73,7 @@ impl<'a, E: Endianity> EndianSlice<'a, E> {
     /// The bytes before a place, and those from it on.
     pub fn split_at(&self, place: usize) -> (EndianSlice<'a, E>, EndianSlice<'a, E>)
         requires { place ≤ length self.now.bytes }
-        ensures front { result.0 ≡ front place self.now }
+        ensures front { result.0 ≡ prefix place self.now }
         ensures back { result.1 ≡ after place self.now }
     {
         (self.range_to(..place), self.range_from(place..))
@@ -82,7 +83,7 @@ impl<'a, E: Endianity> EndianSlice<'a, E> {
     pub fn range(&self, places: Range<usize>) -> EndianSlice<'a, E>
         requires in_order { places.start ≤ places.end }
         requires within { places.end ≤ length self.now.bytes }
-        ensures { result ≡ after places.start (front places.end self.now) }
+        ensures { result ≡ after places.start (prefix places.end self.now) }
     {
         self.range_to(..places.end).range_from(places.start..)
     }
@@ -102,7 +103,7 @@ impl<'a, E: Endianity> EndianSlice<'a, E> {
     /// The bytes before a place.
     pub fn range_to(&self, places: RangeTo<usize>) -> EndianSlice<'a, E>
         requires { places.end ≤ length self.now.bytes }
-        ensures { result ≡ front places.end self.now }
+        ensures { result ≡ prefix places.end self.now }
     {
         EndianSlice {
             slice: &self.slice[..places.end],
@@ -118,7 +119,7 @@ impl<'a, E: Endianity> EndianSlice<'a, E> {
         position_of(self.slice, byte)
     }
 
-    /// How far the first byte left is behind that of `base`, which holds this reader's bytes.
+    /// The distance from `base`'s first byte to this reader's; `base` has this reader's bytes.
     pub fn offset_from(&self, base: &EndianSlice<'a, E>) -> usize
         requires { Holds base.now self.now }
         ensures { result + base.now.first ≡ self.now.first }
@@ -128,21 +129,21 @@ impl<'a, E: Endianity> EndianSlice<'a, E> {
 
     /// The bytes left as a text.
     pub fn to_string(&self) -> Result<&'a str, Error>
-        ensures { Answers (λ s. s.now) result (utf8_of self.now.bytes) }
+        ensures { ReturnsAs (λ s. s.now) result (utf8_of self.now.bytes) }
     {
         text_of(self.slice)
     }
 
-    /// The bytes left as a text, in which each sequence that isn't UTF-8 is U+FFFD. Takes memory for such a text
-    /// alone.
+    /// The bytes left as a text, in which each sequence that isn't UTF-8 is U+FFFD. Takes memory
+    /// for such a text alone.
     pub fn to_string_lossy(&self, alloc: Global) -> Result<CowStr<'a>, Error>
-        ensures { Gives cow_str_bytes result (Ok (utf8_lossy self.now.bytes)) }
+        ensures { ReturnsAsOrNoMemory cow_str_bytes result (Ok (utf8_lossy self.now.bytes)) }
     {
         lossy_text_of(alloc, self.slice)
     }
 }
 
-/// Equal bytes in one order, wherever they stand.
+/// The same bytes in the same order, whatever their identifiers.
 impl<'a, E: Endianity> PartialEq for EndianSlice<'a, E> {
     ghost eq = { is_same };
 
@@ -158,9 +159,9 @@ impl<'a, E: Endianity> Eq for EndianSlice<'a, E> {
 }
 
 impl<'a, E: Endianity> Hash for EndianSlice<'a, E> {
-    ghost hash_input = { hashed };
+    ghost hash_input = { hash_bytes };
 
-    ghost respects_eq = { hashed_alike.fed };
+    ghost respects_eq = { equal_hash_alike.fed };
 
     fn hash<H: Hasher>(&self, state: &mut H) {
         self.slice.hash(state);

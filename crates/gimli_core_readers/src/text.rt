@@ -4,8 +4,8 @@ ghost use Rattle.std.specs.Prelude.{◌≡◌, ◌==◌};
 ghost use Rattle.std.specs.List.{position};
 ghost use Rattle.std.specs.Str.Lossy.{utf8_lossy};
 ghost use Rattle.std.specs.Cow.{cow_str_bytes};
-ghost use Rattle.gimli_core_base.specs.Calls.{Answers, Gives};
-ghost use Rattle.gimli_core_readers.specs.Reading.{utf8_of};
+ghost use Rattle.gimli_core_base.specs.Calls.{ReturnsAs, ReturnsAsOrNoMemory};
+ghost use Rattle.gimli_core_readers.specs.Readers.{utf8_of};
 
 use gimli_core_base::error::Error;
 use std::alloc::Global;
@@ -13,9 +13,9 @@ use std::borrow::CowStr;
 use std::str;
 
 // The bytes as a text, where they are UTF-8.
-#[tactic(auto, using(crate::proofs::Texts::utf8_yes, crate::proofs::Texts::utf8_no))]
+#[tactic(auto, using(crate::proofs::Utf8Texts::utf8_yes, crate::proofs::Utf8Texts::utf8_no))]
 pub fn text_of(bytes: &[u8]) -> Result<&str, Error>
-    ensures { Answers (λ s. s.now) result (utf8_of bytes.now) }
+    ensures { ReturnsAs (λ s. s.now) result (utf8_of bytes.now) }
 {
     match str::from_utf8(bytes) {
         Ok(text) => Ok(text),
@@ -24,9 +24,9 @@ pub fn text_of(bytes: &[u8]) -> Result<&str, Error>
 }
 
 // The bytes as a text, lent where they are UTF-8.
-#[tactic(auto, using(crate::proofs::Texts::lossy_same))]
+#[tactic(auto, using(crate::proofs::Utf8Texts::lossy_same))]
 pub fn lossy_text_of(alloc: Global, bytes: &[u8]) -> Result<CowStr<'_>, Error>
-    ensures { Gives cow_str_bytes result (Ok (utf8_lossy bytes.now)) }
+    ensures { ReturnsAsOrNoMemory cow_str_bytes result (Ok (utf8_lossy bytes.now)) }
 {
     match str::from_utf8(bytes) {
         Ok(text) => Ok(CowStr::Borrowed(text)),

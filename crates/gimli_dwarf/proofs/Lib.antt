@@ -1,4 +1,5 @@
-pub mod Last
-pub mod Loads
+pub use Rattle.gimli_dwarf_spec.proofs.RefusedCalls
+pub mod LastAttributes
+pub mod SectionCalls
 pub mod RootLemmas
-pub mod Parts
+pub mod UnitSteps

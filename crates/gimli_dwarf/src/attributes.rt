@@ -1,30 +1,29 @@
 //! What values of attributes stand for in their sections.
 
-ghost use Rattle.std.specs.Prelude.{◌≡◌, ◌≢◌, ◌≤◌, length, IsTrue, IfOk, option_map, Err};
-ghost use Rattle.gimli_core_base.specs.View.{bytes_left};
-ghost use Rattle.gimli_core_base.specs.Calls.{Answers, Gives};
-ghost use Rattle.gimli_core_base.specs.declared.error.Error.TheVariants.{Memory};
-ghost use Rattle.gimli_units_forms.specs.Values.{raw_value_of};
-ghost use Rattle.gimli_units_lists.specs.Lists.{ranges_to_come};
-ghost use Rattle.gimli_dwarf_facts.specs.Attributes.{attr_string, indexed_address, attr_address, ranges_offset_from_raw, ranges_offset, attr_ranges_offset, ranges};
+ghost use Rattle.std.specs.Prelude.{◌≢◌, ◌≤◌, length, IsTrue, IfOk, option_map, Err};
+ghost use Rattle.gimli_dwarf_spec.specs.View.{bytes_left};
+ghost use Rattle.gimli_dwarf_spec.specs.Calls.{ReturnsAs, Returns, ReturnsAsOrNoMemory, ReturnsOrNoMemory};
+ghost use Rattle.gimli_dwarf_spec.specs.Error.TheVariants.{Memory};
+ghost use Rattle.gimli_dwarf_spec.specs.AttributeValues.{raw_value_of};
+ghost use Rattle.gimli_dwarf_spec.specs.ListSections.{ranges_to_come};
+ghost use Rattle.gimli_dwarf_spec.specs.Attributes.{attr_string, indexed_address, attr_address, ranges_offset_from_raw, ranges_offset, attr_ranges_offset, ranges};
 
 use crate::dwarf::Dwarf;
 use crate::unit::Unit;
-use gimli_core_base::error::Error;
-use gimli_core_constants::{
-    DebugAddrIndex, DebugRngListsIndex, DwarfFileType, RangeListsOffset, RawRangeListsOffset,
+use gimli_dwarf_spec::{
+    AttributeValue, DebugAddrIndex, DebugRngListsIndex, DwarfFileType, Error, RangeListsOffset,
+    RawRangeListsOffset, Reader, ReaderOffset, RngListIter,
 };
-use gimli_core_numbers::ReaderOffset;
-use gimli_core_readers::Reader;
-use gimli_units_forms::AttributeValue;
-use gimli_units_lists::RngListIter;
 
 impl<R: Reader> Dwarf<R> {
-    /// The text that a value of one of the unit's attributes stands for (DWARF 5, 7.5.5): one in the entry, in `.debug_str`, in
-    /// `.debug_line_str`, by an index, or in the supplement's `.debug_str`; else `ExpectedStringAttributeValue`. Takes memory only
-    /// where a copy of the reader does.
+    /// The text that a value of one of the unit's attributes stands for (DWARF 5, 7.5.5): one in
+    /// the entry, in `.debug_str`, in `.debug_line_str`, by an index, or in the supplement's
+    /// `.debug_str`; else `ExpectedStringAttributeValue`. Takes memory only where a copy of the
+    /// reader does.
     pub fn attr_string(&self, unit: &Unit<R>, attr: AttributeValue<R>) -> Result<R, Error>
-        ensures { Gives R.view result (attr_string R.Offset.limit self.now unit.now.bases (raw_value_of R.view R.Offset.count attr)) }
+        ensures { ReturnsAsOrNoMemory R.view result
+            (attr_string R.Offset.limit self.now unit.now.bases
+            (raw_value_of R.view R.Offset.count attr)) }
     {
         match attr {
             AttributeValue::String(string) => Ok(string),
@@ -44,19 +43,22 @@ impl<R: Reader> Dwarf<R> {
 
     /// The address that an index stands for (DWARF 5, 7.27). Takes no memory.
     pub fn address(&self, unit: &Unit<R>, index: DebugAddrIndex<R::Offset>) -> Result<u64, Error>
-        ensures { Answers (λ address. address) result (indexed_address self.now unit.now.bases (R.Offset.count index.0)) }
+        ensures { Returns result
+            (indexed_address self.now unit.now.bases (R.Offset.count index.0)) }
     {
         let size = unit.header.address_size();
         self.debug_addr.get_address(size, unit.addr_base, index)
     }
 
-    /// The address that a value of an attribute stands for, if it is one, of itself or by an index. Takes no memory.
+    /// The address that a value of an attribute stands for, if it is one, of itself or by an index.
+    /// Takes no memory.
     pub fn attr_address(
         &self,
         unit: &Unit<R>,
         attr: AttributeValue<R>,
     ) -> Result<Option<u64>, Error>
-        ensures { Answers (λ address. address) result (attr_address self.now unit.now.bases (raw_value_of R.view R.Offset.count attr)) }
+        ensures { Returns result
+            (attr_address self.now unit.now.bases (raw_value_of R.view R.Offset.count attr)) }
     {
         match &attr {
             AttributeValue::Addr(address) => Ok(Some(*address)),
@@ -65,15 +67,17 @@ impl<R: Reader> Dwarf<R> {
         }
     }
 
-    /// The offset of a range list as one of its section: in a split file up to version 4 it counts from the base that the main
-    /// file's unit names. Refused is a sum that passes 64 bits or isn't an offset. Takes no memory.
+    /// The offset of a range list as one of its section: in a split file up to version 4 it counts
+    /// from the base that the main file's unit names. Refused is a sum that passes 64 bits or isn't
+    /// an offset. Takes no memory.
     pub fn ranges_offset_from_raw(
         &self,
         unit: &Unit<R>,
         offset: RawRangeListsOffset<R::Offset>,
     ) -> Result<RangeListsOffset<R::Offset>, Error>
-        ensures { Answers (λ o. R.Offset.count o.0) result
-            (ranges_offset_from_raw R.Offset.limit self.now unit.now.bases (R.Offset.count offset.0)) }
+        ensures { ReturnsAs (λ o. R.Offset.count o.0) result
+            (ranges_offset_from_raw R.Offset.limit self.now unit.now.bases
+            (R.Offset.count offset.0)) }
     {
         if self.file_type == DwarfFileType::Dwo && unit.header.version() < 5 {
             let sum = unit
@@ -94,21 +98,23 @@ impl<R: Reader> Dwarf<R> {
         unit: &Unit<R>,
         index: DebugRngListsIndex<R::Offset>,
     ) -> Result<RangeListsOffset<R::Offset>, Error>
-        ensures { Answers (λ o. R.Offset.count o.0) result
+        ensures { ReturnsAs (λ o. R.Offset.count o.0) result
             (ranges_offset R.Offset.limit self.now unit.now.bases (R.Offset.count index.0)) }
     {
         let encoding = unit.header.encoding();
         self.ranges.get_offset(encoding, unit.rnglists_base, index)
     }
 
-    /// The offset of the range list that a value of an attribute stands for, if it stands for one. Takes no memory.
+    /// The offset of the range list that a value of an attribute stands for, if it stands for one.
+    /// Takes no memory.
     pub fn attr_ranges_offset(
         &self,
         unit: &Unit<R>,
         attr: AttributeValue<R>,
     ) -> Result<Option<RangeListsOffset<R::Offset>>, Error>
-        ensures { Answers (option_map (λ o. R.Offset.count o.0)) result
-            (attr_ranges_offset R.Offset.limit self.now unit.now.bases (raw_value_of R.view R.Offset.count attr)) }
+        ensures { ReturnsAs (option_map (λ o. R.Offset.count o.0)) result
+            (attr_ranges_offset R.Offset.limit self.now unit.now.bases
+            (raw_value_of R.view R.Offset.count attr)) }
     {
         match &attr {
             AttributeValue::RangeListsRef(offset) => {
@@ -127,10 +133,12 @@ impl<R: Reader> Dwarf<R> {
         unit: &Unit<R>,
         offset: RangeListsOffset<R::Offset>,
     ) -> Result<RngListIter<R>, Error>
-        ensures value { Gives (λ ranges. ranges) result (ranges self.now unit.now.bases (R.Offset.count offset.0)) }
+        ensures value { ReturnsOrNoMemory result
+            (ranges self.now unit.now.bases (R.Offset.count offset.0)) }
         ensures free { IsTrue R.copies_freely → result ≢ Err Memory }
         // There are no more of them, refusals among them, than bytes.
-        ensures few { IfOk result (λ ranges. length (ranges_to_come R.Offset.limit ranges) ≤ bytes_left ranges.raw.left) }
+        ensures few { IfOk result
+            (λ ranges. length (ranges_to_come R.Offset.limit ranges) ≤ bytes_left ranges.raw.left) }
     {
         let encoding = unit.header.encoding();
         self.ranges.ranges(

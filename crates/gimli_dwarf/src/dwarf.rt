@@ -1,32 +1,30 @@
 //! All sections of a file.
 
 ghost use Rattle.std.specs.Prelude.{◌≡◌, ◌≢◌, IsTrue, OnOk, OnErr, IfErr, option_map, Ok, Err};
-ghost use Rattle.gimli_core_base.specs.Calls.{Answers, Gives};
-ghost use Rattle.gimli_core_base.specs.declared.error.Error.TheVariants.{Memory};
-ghost use Rattle.gimli_core_strings.specs.Places.{string_at};
-ghost use Rattle.gimli_core_abbrev.specs.Parsing.{table_at};
-ghost use Rattle.gimli_units_headers.specs.Tiling.{whole_section};
-ghost use Rattle.gimli_dwarf_facts.specs.Attributes.{supplement_string};
-ghost use Rattle.gimli_dwarf_facts.specs.Sections.{supplement};
-ghost use Rattle.gimli_dwarf_facts.specs.Splitting.{split_from};
-ghost use Rattle.gimli_dwarf_facts.specs.UnitFacts.{unit_facts};
+ghost use Rattle.gimli_dwarf_spec.specs.Calls.{ReturnsAsOrNoMemory, ReturnsOrNoMemory};
+ghost use Rattle.gimli_dwarf_spec.specs.Error.TheVariants.{Memory};
+ghost use Rattle.gimli_dwarf_spec.specs.SectionReads.{string_at};
+ghost use Rattle.gimli_dwarf_spec.specs.TableParsing.{table_at};
+ghost use Rattle.gimli_dwarf_spec.specs.Tiling.{whole_section};
+ghost use Rattle.gimli_dwarf_spec.specs.Attributes.{supplement_string};
+ghost use Rattle.gimli_dwarf_spec.specs.DwarfSections.{supplement};
+ghost use Rattle.gimli_dwarf_spec.specs.Splitting.{split_from};
+ghost use Rattle.gimli_dwarf_spec.specs.UnitFacts.{unit_facts};
 
 use crate::holders::{DebugMacinfo, DebugMacro, DebugNames, DebugTypes};
 use crate::unit::Unit;
-use gimli_core_abbrev::{Abbreviations, AbbreviationsCache, DebugAbbrev};
-use gimli_core_base::error::Error;
-use gimli_core_constants::{DebugAbbrevOffset, DebugStrOffset, DwarfFileType};
-use gimli_core_readers::Reader;
-use gimli_core_strings::{DebugAddr, DebugLineStr, DebugStr, DebugStrOffsets, Section};
-use gimli_lines_header::DebugLine;
-use gimli_units_headers::{DebugAranges, DebugInfo, DebugInfoUnitHeadersIter, UnitHeader};
-use gimli_units_lists::{DebugRanges, LocationLists, RangeLists};
+use gimli_dwarf_spec::{
+    Abbreviations, AbbreviationsCache, DebugAbbrev, DebugAbbrevOffset, DebugAddr, DebugAranges,
+    DebugInfo, DebugInfoUnitHeadersIter, DebugLine, DebugLineStr, DebugRanges, DebugStr,
+    DebugStrOffset, DebugStrOffsets, DwarfFileType, Error, LocationLists, RangeLists, Reader,
+    Section, UnitHeader,
+};
 use std::alloc::Global;
 use std::marker::Model;
 use std::rc::Rc;
 
-/// All sections of a file, and those of its supplement, if it has one (DWARF 5, 7.3.6). The cache keeps abbreviation tables of
-/// this file's own `.debug_abbrev`, or nothing.
+/// All sections of a file, and those of its supplement, if it has one (DWARF 5, 7.3.6). The cache
+/// keeps abbreviation tables of this file's own `.debug_abbrev`, or nothing.
 #[derive(Drop)]
 pub struct Dwarf<R: Reader> {
     pub debug_abbrev: DebugAbbrev<R>,
@@ -50,8 +48,8 @@ pub struct Dwarf<R: Reader> {
 
 impl<R: Reader> Model for Dwarf<R> {
     ghost use Rattle.std.specs.Prelude.{option_map, length};
-    ghost use Rattle.gimli_dwarf_facts.specs.Sections.{Sections, sections_of};
-    ghost use Rattle.gimli_dwarf.specs.Caches.{KeepsOwn};
+    ghost use Rattle.gimli_dwarf_spec.specs.DwarfSections.{Sections, sections_of};
+    ghost use Rattle.gimli_dwarf.specs.OwnCaches.{KeepsOwn};
 
     ghost Value = { Sections };
 
@@ -85,14 +83,17 @@ impl<R: Reader> Model for Dwarf<R> {
 impl<R: Reader> Dwarf<R> {
     /// The string at an offset of `.debug_str`. Takes memory only where a copy of the reader does.
     pub fn string(&self, offset: DebugStrOffset<R::Offset>) -> Result<R, Error>
-        ensures { Gives R.view result (string_at (R.Offset.count offset.0) self.now.file.debug_str) }
+        ensures { ReturnsAsOrNoMemory R.view result
+            (string_at (R.Offset.count offset.0) self.now.file.debug_str) }
     {
         self.debug_str.get_str(offset)
     }
 
-    /// The string at an offset of the supplement's `.debug_str`; `ExpectedStringAttributeValue` where there is no supplement.
+    // The string at an offset of the supplement's `.debug_str`; `ExpectedStringAttributeValue`
+    // where there is no supplement.
     pub(crate) fn supplement_string(&self, offset: DebugStrOffset<R::Offset>) -> Result<R, Error>
-        ensures { Gives R.view result (supplement_string (R.Offset.count offset.0) (supplement self.now)) }
+        ensures { ReturnsAsOrNoMemory R.view result
+            (supplement_string (R.Offset.count offset.0) (supplement self.now)) }
     {
         match &self.sup {
             Some(sup) => sup.string(offset),
@@ -102,7 +103,7 @@ impl<R: Reader> Dwarf<R> {
 
     /// The headers of the file's units, in order (DWARF 5, 7.5.1).
     pub fn units(&self) -> Result<DebugInfoUnitHeadersIter<R>, Error>
-        ensures value { Gives (λ units. units) result (Ok (whole_section self.now.file.debug_info)) }
+        ensures value { ReturnsOrNoMemory result (Ok (whole_section self.now.file.debug_info)) }
         ensures free { IsTrue R.copies_freely → result ≢ Err Memory }
     {
         self.debug_info.units()
@@ -110,25 +111,26 @@ impl<R: Reader> Dwarf<R> {
 
     /// The unit of a header, with the facts of its root.
     pub fn unit(&self, alloc: Global, header: UnitHeader<R>) -> Result<Unit<R>, Error>
-        ensures { Gives (λ u. u) result (unit_facts R.Offset.limit self.now header) }
+        ensures { ReturnsOrNoMemory result (unit_facts R.Offset.limit self.now header) }
     {
         Unit::new(alloc, self, header)
     }
 
-    /// The abbreviation table at an offset, from the cache where it is kept there.
+    // The abbreviation table at an offset, from the cache if it is there.
     pub(crate) fn abbreviations(
         &self,
         alloc: Global,
         offset: DebugAbbrevOffset<R::Offset>,
     ) -> Result<Rc<Abbreviations>, Error>
-        ensures { Gives (λ t. t.value) result (table_at (R.Offset.count offset.0) self.now.file.debug_abbrev) }
+        ensures { ReturnsAsOrNoMemory (λ t. t.value) result
+            (table_at (R.Offset.count offset.0) self.now.file.debug_abbrev) }
     {
         self.abbreviations_cache
             .get(alloc, &self.debug_abbrev, offset)
     }
 
-    /// Makes this a split file of a main file: its addresses, its range lists of old versions and its supplement are the main
-    /// file's (DWARF 5, 7.3.2). The only refusal is want of memory.
+    /// Makes this a split file of a main file: its addresses, its range lists of old versions and
+    /// its supplement are the main file's (DWARF 5, 7.3.2). The only refusal is out of memory.
     pub fn make_dwo(&mut self, parent: &Dwarf<R>) -> Result<(), Error>
         ensures ok { OnOk result (self.new ≡ split_from parent.now self.old) }
         ensures unchanged { OnErr result (self.new ≡ self.old) }

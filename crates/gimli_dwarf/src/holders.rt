@@ -1,8 +1,6 @@
-//! Sections that are held for whoever reads them.
+//! Sections that are not read here: they are there for others to read.
 
-use gimli_core_constants::SectionId;
-use gimli_core_readers::Reader;
-use gimli_core_strings::Section;
+use gimli_dwarf_spec::{Reader, Section, SectionId};
 use std::marker::Model;
 
 /// `.debug_macinfo`: macro information up to version 4 (DWARF 4, 6.3). It is held, and not read.
@@ -12,7 +10,7 @@ pub struct DebugMacinfo<R: Reader> {
 }
 
 impl<R: Reader> Model for DebugMacinfo<R> {
-    ghost use Rattle.gimli_core_base.specs.View.{View};
+    ghost use Rattle.gimli_dwarf_spec.specs.View.{View};
 
     ghost Value = { View };
 
@@ -30,11 +28,11 @@ impl<R: Reader> From<R> for DebugMacinfo<R> {
 }
 
 impl<R: Reader> Section<R> for DebugMacinfo<R> {
-    ghost use Rattle.gimli_core_constants.specs.declared.common.SectionId.TheVariants.{DebugMacinfo};
+    ghost use Rattle.gimli_dwarf_spec.specs.SectionId.TheVariants.{DebugMacinfo};
 
     ghost section_id = { DebugMacinfo };
 
-    ghost seen = { λ s. s };
+    ghost section_view = { λ s. s };
 
     fn id() -> SectionId {
         SectionId::DebugMacinfo
@@ -54,7 +52,7 @@ pub struct DebugMacro<R: Reader> {
 }
 
 impl<R: Reader> Model for DebugMacro<R> {
-    ghost use Rattle.gimli_core_base.specs.View.{View};
+    ghost use Rattle.gimli_dwarf_spec.specs.View.{View};
 
     ghost Value = { View };
 
@@ -72,11 +70,11 @@ impl<R: Reader> From<R> for DebugMacro<R> {
 }
 
 impl<R: Reader> Section<R> for DebugMacro<R> {
-    ghost use Rattle.gimli_core_constants.specs.declared.common.SectionId.TheVariants.{DebugMacro};
+    ghost use Rattle.gimli_dwarf_spec.specs.SectionId.TheVariants.{DebugMacro};
 
     ghost section_id = { DebugMacro };
 
-    ghost seen = { λ s. s };
+    ghost section_view = { λ s. s };
 
     fn id() -> SectionId {
         SectionId::DebugMacro
@@ -96,7 +94,7 @@ pub struct DebugNames<R: Reader> {
 }
 
 impl<R: Reader> Model for DebugNames<R> {
-    ghost use Rattle.gimli_core_base.specs.View.{View};
+    ghost use Rattle.gimli_dwarf_spec.specs.View.{View};
 
     ghost Value = { View };
 
@@ -114,11 +112,11 @@ impl<R: Reader> From<R> for DebugNames<R> {
 }
 
 impl<R: Reader> Section<R> for DebugNames<R> {
-    ghost use Rattle.gimli_core_constants.specs.declared.common.SectionId.TheVariants.{DebugNames};
+    ghost use Rattle.gimli_dwarf_spec.specs.SectionId.TheVariants.{DebugNames};
 
     ghost section_id = { DebugNames };
 
-    ghost seen = { λ s. s };
+    ghost section_view = { λ s. s };
 
     fn id() -> SectionId {
         SectionId::DebugNames
@@ -138,7 +136,7 @@ pub struct DebugTypes<R: Reader> {
 }
 
 impl<R: Reader> Model for DebugTypes<R> {
-    ghost use Rattle.gimli_core_base.specs.View.{View};
+    ghost use Rattle.gimli_dwarf_spec.specs.View.{View};
 
     ghost Value = { View };
 
@@ -156,11 +154,11 @@ impl<R: Reader> From<R> for DebugTypes<R> {
 }
 
 impl<R: Reader> Section<R> for DebugTypes<R> {
-    ghost use Rattle.gimli_core_constants.specs.declared.common.SectionId.TheVariants.{DebugTypes};
+    ghost use Rattle.gimli_dwarf_spec.specs.SectionId.TheVariants.{DebugTypes};
 
     ghost section_id = { DebugTypes };
 
-    ghost seen = { λ s. s };
+    ghost section_view = { λ s. s };
 
     fn id() -> SectionId {
         SectionId::DebugTypes

@@ -1,4 +1,5 @@
-//! All sections of a file together: texts, addresses and range lists of attributes, and units with the facts of their roots.
+//! All sections of a file together: texts, addresses and range lists of attributes, and units with
+//! the facts of their roots.
 #![tactic(auto)]
 
 mod attributes;
@@ -10,9 +11,12 @@ pub mod unit;
 pub mod unit_ref;
 
 pub use dwarf::Dwarf;
+pub use gimli_dwarf_spec::{
+    Attribute, AttributeSpecification, AttributeValue, DW_AT_MIPS_linkage_name,
+    DW_AT_abstract_origin, DW_AT_linkage_name, DW_AT_name, DW_AT_specification, DebugInfoOffset,
+    DebugRanges, DebugRngLists, DwAt, EntriesRaw, Error, LocationLists, OffsetInSection,
+    RangeLists, Reader, ReaderOffset, RngListIter, UnitOffset, entries_raw,
+};
 pub use holders::{DebugMacinfo, DebugMacro, DebugNames, DebugTypes};
 pub use unit::Unit;
 pub use unit_ref::UnitRef;
-
-#[cfg(test)]
-mod tests;

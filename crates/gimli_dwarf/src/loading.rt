@@ -1,23 +1,21 @@
-//! All sections of a file, from a function that gives them.
+//! All sections of a file, from a function that loads each.
 
 ghost use Rattle.std.specs.Prelude.{◌≡◌, ◌⊎◌, IfOk, IfErr, OnOk, OnErr, alloc_error};
-ghost use Rattle.gimli_core_base.specs.declared.error.Error.TheVariants.{Memory};
-ghost use Rattle.gimli_dwarf_facts.specs.Sections.{Sections};
-ghost use Rattle.gimli_dwarf.specs.Loading.{Loads, RefusesToLoad, with_supplement};
+ghost use Rattle.gimli_dwarf_spec.specs.Error.TheVariants.{Memory};
+ghost use Rattle.gimli_dwarf_spec.specs.DwarfSections.{Sections};
+ghost use Rattle.gimli_dwarf.specs.SectionLoading.{Loads, RefusesToLoad, with_supplement};
 
 use crate::dwarf::Dwarf;
-use gimli_core_abbrev::{AbbreviationsCache, AbbreviationsCacheStrategy, DebugAbbrev};
-use gimli_core_base::error::Error;
-use gimli_core_constants::{DebugAbbrevOffset, DwarfFileType, SectionId};
-use gimli_core_readers::Reader;
-use gimli_units_headers::DebugInfoUnitHeadersIter;
-use gimli_units_lists::{LocationLists, RangeLists};
+use gimli_dwarf_spec::{
+    AbbreviationsCache, AbbreviationsCacheStrategy, DebugAbbrev, DebugAbbrevOffset,
+    DebugInfoUnitHeadersIter, DwarfFileType, Error, LocationLists, RangeLists, Reader, SectionId,
+};
 use std::alloc::{AllocError, Global};
 use std::rc::Rc;
 
 impl<R: Reader> Dwarf<R> {
-    /// The sections that a function gives, each asked for once, as those of a main file without a supplement; or the function's
-    /// first refusal. It takes no memory itself.
+    /// The sections that a function loads, each asked for once, as those of a main file without a
+    /// supplement; or the function's first refusal. It takes no memory itself.
     pub fn load<F, E>(alloc: Global, mut section: F) -> Result<Self, E>
     where
         F: FnMut(SectionId) -> Result<R, E>,
@@ -62,8 +60,9 @@ impl<R: Reader> Dwarf<R> {
         })
     }
 
-    /// Takes the sections that a function gives, as `load` does, for the supplement's, in place of those that were there. It takes
-    /// memory once, for what shares them; where that is refused the error is made of an `AllocError`.
+    /// Takes the sections that a function loads, as `load` does, as the supplement's, in place of
+    /// those before. It takes memory once, for what shares them; where that is refused the error is
+    /// made of an `AllocError`.
     pub fn load_sup<F, E>(&mut self, alloc: Global, section: F) -> Result<(), E>
     where
         F: FnMut(SectionId) -> Result<R, E>,
@@ -73,7 +72,8 @@ impl<R: Reader> Dwarf<R> {
             × (self.new ≡ with_supplement supplement self.old)) }
         ensures unchanged { OnErr result (self.new ≡ self.old) }
         ensures refused { IfErr result (λ e. RefusesToLoad F.step R.view section e
-            ⊎ ((supplement : Sections) × Loads F.step R.view section supplement × E.from_gives alloc_error e)) }
+            ⊎ ((supplement : Sections) × Loads F.step R.view section supplement
+            × E.from_gives alloc_error e)) }
     {
         let supplement = Dwarf::load(alloc, section)?;
         match Rc::new(alloc, supplement) {
@@ -85,8 +85,8 @@ impl<R: Reader> Dwarf<R> {
         }
     }
 
-    /// Keeps the abbreviation tables of the file's units that a strategy asks for, in place of what was kept. A unit that can't
-    /// be read ends the units. The only refusal is want of memory.
+    /// Keeps the abbreviation tables of the file's units that a strategy asks for, in place of
+    /// those before. A unit that can't be read ends the units. The only refusal is out of memory.
     pub fn populate_abbreviations_cache(
         &mut self,
         alloc: Global,
@@ -103,7 +103,8 @@ impl<R: Reader> Dwarf<R> {
     }
 }
 
-/// The offsets of the abbreviation tables of units, in order, up to the first unit that can't be read.
+// The offsets of the abbreviation tables of units, in order, up to the first unit that can't be
+// read.
 #[derive(Drop)]
 struct TableOffsets<R: Reader> {
     units: Option<DebugInfoUnitHeadersIter<R>>,
@@ -111,7 +112,7 @@ struct TableOffsets<R: Reader> {
 
 impl<R: Reader> Iterator for TableOffsets<R> {
     ghost use Rattle.std.specs.Iterator.{at_most};
-    ghost use Rattle.gimli_dwarf.specs.Loading.{offsets_left};
+    ghost use Rattle.gimli_dwarf.specs.SectionLoading.{offsets_left};
 
     type Item = Result<DebugAbbrevOffset<R::Offset>, Error>;
 

@@ -1,32 +1,28 @@
 //! What the root entry of a unit says.
 
 ghost use Rattle.std.specs.Prelude.{◌≡◌, ◌==◌, Ok, option_map, unwrap_or};
-ghost use Rattle.gimli_core_base.specs.Calls.{Gives};
-ghost use Rattle.gimli_units_forms.specs.Values.{raw_value_of, raw_attribute_of};
-ghost use Rattle.gimli_units_entries.specs.Seen.{entry_of, raw_attributes};
-ghost use Rattle.gimli_dwarf_facts.specs.UnitFacts.{root, fitting, last_fitting, any_value, last_value};
-ghost use Rattle.gimli_dwarf.specs.Bases.{names_base, offset_of_base};
+ghost use Rattle.gimli_dwarf_spec.specs.Calls.{ReturnsAsOrNoMemory};
+ghost use Rattle.gimli_dwarf_spec.specs.AttributeValues.{raw_value_of, raw_attribute_of};
+ghost use Rattle.gimli_dwarf_spec.specs.EntryViews.{entry_of, raw_attributes};
+ghost use Rattle.gimli_dwarf_spec.specs.UnitFacts.{root, value_of_kind, last_value_of_kind, any_value, last_value};
+ghost use Rattle.gimli_dwarf.specs.RootBases.{names_base, offset_of_base};
 
-use gimli_core_abbrev::Abbreviations;
-use gimli_core_base::error::Error;
-use gimli_core_constants::{
-    DW_AT_GNU_addr_base, DW_AT_GNU_ranges_base, DW_AT_addr_base, DW_AT_loclists_base,
-    DW_AT_rnglists_base, DW_AT_stmt_list, DW_AT_str_offsets_base, DwAt,
+use gimli_dwarf_spec::{
+    Abbreviations, Attribute, AttributeValue, DW_AT_GNU_addr_base, DW_AT_GNU_ranges_base,
+    DW_AT_addr_base, DW_AT_loclists_base, DW_AT_rnglists_base, DW_AT_stmt_list,
+    DW_AT_str_offsets_base, DebuggingInformationEntry, DwAt, Error, Reader, UnitHeader,
+    entries_raw,
 };
-use gimli_core_readers::Reader;
-use gimli_units_entries::DebuggingInformationEntry;
-use gimli_units_entries::unit::entries_raw;
-use gimli_units_forms::{Attribute, AttributeValue};
-use gimli_units_headers::UnitHeader;
 use std::alloc::Global;
 
-/// The first entry of a unit; `MissingUnitDie` where it is null or there is none.
+// The first entry of a unit; `MissingUnitDie` where it is null or there is none.
 pub(crate) fn root_entry<R: Reader>(
     alloc: Global,
     header: &UnitHeader<R>,
     abbreviations: &Abbreviations,
 ) -> Result<DebuggingInformationEntry<R>, Error>
-    ensures { Gives (entry_of R.view R.Offset.count) result (root R.Offset.limit header.now abbreviations.now) }
+    ensures { ReturnsAsOrNoMemory (entry_of R.view R.Offset.count) result
+        (root R.Offset.limit header.now abbreviations.now) }
 {
     let mut entries = entries_raw(header, abbreviations, None)?;
     if entries.is_empty() {
@@ -39,7 +35,8 @@ pub(crate) fn root_entry<R: Reader>(
     Ok(entry)
 }
 
-/// An offset that a root names for its unit: of its line number program, or of the first entry of a table.
+// An offset that a root names for its unit: of its line number program, or of the first entry of a
+// table.
 #[derive(Clone, Copy)]
 pub(crate) enum Base {
     Line,
@@ -63,7 +60,8 @@ impl Base {
     }
 
     fn offset_in<R: Reader>(self, value: &AttributeValue<R>) -> Option<R::Offset>
-        ensures { option_map R.Offset.count result ≡ offset_of_base self (raw_value_of R.view R.Offset.count value.now) }
+        ensures { option_map R.Offset.count result
+            ≡ offset_of_base self (raw_value_of R.view R.Offset.count value.now) }
     {
         match self {
             Base::Line => match value {
@@ -90,10 +88,11 @@ impl Base {
     }
 }
 
-/// The offset in an attribute, where it is one that names the base, and fits it.
+// The offset in an attribute, where it is one that names the base, and fits it.
 fn offset_of<R: Reader>(attr: &Attribute<R>, base: Base) -> Result<Option<R::Offset>, Error>
-    ensures { Gives (option_map R.Offset.count) result
-        (Ok (fitting (offset_of_base base) (names_base base) (raw_attribute_of R.view R.Offset.count attr.now))) }
+    ensures { ReturnsAsOrNoMemory (option_map R.Offset.count) result
+        (Ok (value_of_kind (offset_of_base base) (names_base base)
+        (raw_attribute_of R.view R.Offset.count attr.now))) }
 {
     if base.is_named(attr.name()) {
         Ok(base.offset_in(&attr.value()?))
@@ -102,13 +101,14 @@ fn offset_of<R: Reader>(attr: &Attribute<R>, base: Base) -> Result<Option<R::Off
     }
 }
 
-/// The last offset that attributes name.
+// The last offset that attributes name.
 pub(crate) fn last_offset<R: Reader>(
     attrs: &[Attribute<R>],
     base: Base,
 ) -> Result<Option<R::Offset>, Error>
-    ensures { Gives (option_map R.Offset.count) result
-        (Ok (last_fitting (offset_of_base base) (names_base base) (raw_attributes R.view R.Offset.count attrs.now))) }
+    ensures { ReturnsAsOrNoMemory (option_map R.Offset.count) result
+        (Ok (last_value_of_kind (offset_of_base base) (names_base base)
+        (raw_attributes R.view R.Offset.count attrs.now))) }
 {
     let mut found = None;
     for attr in attrs {
@@ -117,22 +117,24 @@ pub(crate) fn last_offset<R: Reader>(
     Ok(found)
 }
 
-/// The last offset that attributes name, or another where they name none.
+// The last offset that attributes name, or another where they name none.
 pub(crate) fn offset_or<R: Reader>(
     attrs: &[Attribute<R>],
     base: Base,
     default: R::Offset,
 ) -> Result<R::Offset, Error>
-    ensures { Gives R.Offset.count result (Ok (unwrap_or
-        (last_fitting (offset_of_base base) (names_base base) (raw_attributes R.view R.Offset.count attrs.now)) (R.Offset.count default))) }
+    ensures { ReturnsAsOrNoMemory R.Offset.count result (Ok (unwrap_or
+        (last_value_of_kind (offset_of_base base) (names_base base)
+        (raw_attributes R.view R.Offset.count attrs.now)) (R.Offset.count default))) }
 {
     Ok(last_offset(attrs, base)?.unwrap_or(default))
 }
 
-/// The value of an attribute, where it has this name.
+// The value of an attribute, where it has this name.
 fn value_of<R: Reader>(attr: &Attribute<R>, name: DwAt) -> Result<Option<AttributeValue<R>>, Error>
-    ensures { Gives (option_map (raw_value_of R.view R.Offset.count)) result
-        (Ok (fitting any_value (λ n. n == name.0) (raw_attribute_of R.view R.Offset.count attr.now))) }
+    ensures { ReturnsAsOrNoMemory (option_map (raw_value_of R.view R.Offset.count)) result
+        (Ok (value_of_kind any_value (λ n. n == name.0)
+        (raw_attribute_of R.view R.Offset.count attr.now))) }
 {
     if attr.name() == name {
         Ok(Some(attr.value()?))
@@ -141,12 +143,12 @@ fn value_of<R: Reader>(attr: &Attribute<R>, name: DwAt) -> Result<Option<Attribu
     }
 }
 
-/// The value of the last attribute of a name.
+// The value of the last attribute of a name.
 pub(crate) fn last_value<R: Reader>(
     attrs: &[Attribute<R>],
     name: DwAt,
 ) -> Result<Option<AttributeValue<R>>, Error>
-    ensures { Gives (option_map (raw_value_of R.view R.Offset.count)) result
+    ensures { ReturnsAsOrNoMemory (option_map (raw_value_of R.view R.Offset.count)) result
         (Ok (last_value (λ n. n == name.0) (raw_attributes R.view R.Offset.count attrs.now))) }
 {
     let mut found = None;

@@ -2,45 +2,38 @@
 
 ghost use Rattle.std.specs.Prelude.{◌≡◌, ◌==◌, Ok, option_map, option_and_then};
 ghost use Rattle.std.specs.Option.{option_or};
-ghost use Rattle.gimli_core_base.specs.Calls.{Gives};
-ghost use Rattle.gimli_units_forms.specs.Values.{raw_value_of};
-ghost use Rattle.gimli_units_entries.specs.Seen.{entry_of, raw_attributes};
-ghost use Rattle.gimli_dwarf_facts.specs.Splitting.{relocated_from};
-ghost use Rattle.gimli_dwarf_facts.specs.UnitFacts.{unit_facts, root, dwo_name, dwo_name_number, facts_of, readable_text, address_or_0, line_header_of, dwo_id_in, dwo_id_of, last_value, last_fitting, line_reference_of, is_stmt_list, is_low_pc, is_dwo_id};
-ghost use Rattle.gimli_dwarf.specs.Roots.{bare_facts, named_facts, line_unit, placed_facts};
+ghost use Rattle.gimli_dwarf_spec.specs.Calls.{ReturnsAsOrNoMemory, ReturnsOrNoMemory};
+ghost use Rattle.gimli_dwarf_spec.specs.AttributeValues.{raw_value_of};
+ghost use Rattle.gimli_dwarf_spec.specs.EntryViews.{entry_of, raw_attributes};
+ghost use Rattle.gimli_dwarf_spec.specs.Splitting.{relocated_from};
+ghost use Rattle.gimli_dwarf_spec.specs.UnitFacts.{unit_facts, root, dwo_name, dwo_name_number, facts_of, readable_text, address_or_0, line_header_of, dwo_id_in, dwo_id_of, last_value, last_value_of_kind, line_reference_of, is_stmt_list, is_low_pc, is_dwo_id};
+ghost use Rattle.gimli_dwarf.specs.Roots.{facts_without_texts, facts_with_texts, line_unit, facts_with_program};
 
 use crate::dwarf::Dwarf;
 use crate::root::{Base, last_offset, last_value, offset_or, root_entry};
-use gimli_core_abbrev::Abbreviations;
-use gimli_core_base::error::Error;
-use gimli_core_constants::{
-    DW_AT_GNU_dwo_id, DW_AT_GNU_dwo_name, DW_AT_comp_dir, DW_AT_dwo_name, DW_AT_low_pc, DW_AT_name,
-    DebugAddrBase, DebugLineOffset, DebugLocListsBase, DebugRngListsBase, DebugStrOffsetsBase,
-    DwAt, DwarfFileType, DwoId,
+use gimli_dwarf_spec::{
+    Abbreviations, Attribute, AttributeValue, DW_AT_GNU_dwo_id, DW_AT_GNU_dwo_name, DW_AT_comp_dir,
+    DW_AT_dwo_name, DW_AT_low_pc, DW_AT_name, DebugAddrBase, DebugLineOffset, DebugLocListsBase,
+    DebugRngListsBase, DebugStrOffsetsBase, DebuggingInformationEntry, DefaultBase, DwAt,
+    DwarfFileType, DwoId, Error, LineProgramHeader, Reader, ReaderOffset, UnitHeader, UnitType,
 };
-use gimli_core_numbers::ReaderOffset;
-use gimli_core_readers::Reader;
-use gimli_core_strings::DefaultBase;
-use gimli_lines_header::LineProgramHeader;
-use gimli_units_entries::DebuggingInformationEntry;
-use gimli_units_forms::{Attribute, AttributeValue};
-use gimli_units_headers::{UnitHeader, UnitType};
 use std::alloc::Global;
 use std::marker::Model;
 use std::rc::Rc;
 
-/// The version whose attribute names a split file; GNU's did so before it.
+// The version whose attribute names a split file; GNU's did so before it.
 const FIRST_WITH_DWO_NAME: u16 = 5;
 
-/// A unit: its header, the declarations of its entries, and what its root entry says (DWARF 5, 3.1.1). A name or directory
-/// that can't be read is none.
+/// A unit: its header, the declarations of its entries, and what its root entry says (DWARF 5,
+/// 3.1.1). A name or directory that can't be read is none.
 #[derive(Drop)]
 pub struct Unit<R: Reader> {
     pub header: UnitHeader<R>,
     pub abbreviations: Rc<Abbreviations>,
     pub name: Option<R>,
     pub comp_dir: Option<R>,
-    /// Where the unit begins, and what addresses in its lists count from; 0 where the root doesn't say.
+    /// Where the unit begins, and what addresses in its lists count from; 0 where the root doesn't
+    /// say.
     pub low_pc: u64,
     pub str_offsets_base: DebugStrOffsetsBase<R::Offset>,
     pub addr_base: DebugAddrBase<R::Offset>,
@@ -53,7 +46,7 @@ pub struct Unit<R: Reader> {
 
 impl<R: Reader> Model for Unit<R> {
     ghost use Rattle.std.specs.Prelude.{option_map};
-    ghost use Rattle.gimli_dwarf_facts.specs.UnitFacts.{UnitFacts};
+    ghost use Rattle.gimli_dwarf_spec.specs.UnitFacts.{UnitFacts};
 
     ghost Value = { UnitFacts };
 
@@ -76,17 +69,17 @@ impl<R: Reader> Model for Unit<R> {
 }
 
 impl<R: Reader> Unit<R> {
-    /// A unit of a file, with the facts of its root. Refused is a unit whose declarations can't be read, whose root is missing or
-    /// can't be read, or whose line header or `low_pc` is refused.
+    /// A unit of a file, with the facts of its root. Refused is a unit whose declarations can't be
+    /// read, whose root is missing or can't be read, or whose line header or `low_pc` is refused.
     pub fn new(alloc: Global, dwarf: &Dwarf<R>, header: UnitHeader<R>) -> Result<Self, Error>
-        ensures { Gives (λ u. u) result (unit_facts R.Offset.limit dwarf.now header) }
+        ensures { ReturnsOrNoMemory result (unit_facts R.Offset.limit dwarf.now header) }
     {
         let abbreviations = dwarf.abbreviations(alloc, header.debug_abbrev_offset())?;
         let root = root_entry(alloc, &header, &abbreviations)?;
         Unit::of_root(alloc, dwarf, header, abbreviations, root.attrs())
     }
 
-    /// A unit whose root has these attributes.
+    // A unit whose root has these attributes.
     fn of_root(
         alloc: Global,
         dwarf: &Dwarf<R>,
@@ -94,22 +87,25 @@ impl<R: Reader> Unit<R> {
         abbreviations: Rc<Abbreviations>,
         attrs: &[Attribute<R>],
     ) -> Result<Self, Error>
-        ensures { Gives (λ u. u) result
-            (facts_of R.Offset.limit dwarf.now header abbreviations.value (raw_attributes R.view R.Offset.count attrs.now)) }
+        ensures { ReturnsOrNoMemory result
+            (facts_of R.Offset.limit dwarf.now header abbreviations.value
+            (raw_attributes R.view R.Offset.count attrs.now)) }
     {
-        let unit = Unit::bare(dwarf.file_type, header, abbreviations, attrs)?;
+        let unit = Unit::without_texts(dwarf.file_type, header, abbreviations, attrs)?;
         let unit = unit.with_texts(dwarf, attrs)?;
         unit.with_program(alloc, dwarf, attrs)
     }
 
-    /// A unit with the bases that its root names, and its identifier.
-    fn bare(
+    // A unit with the bases that its root names, and its identifier.
+    fn without_texts(
         file_type: DwarfFileType,
         header: UnitHeader<R>,
         abbreviations: Rc<Abbreviations>,
         attrs: &[Attribute<R>],
     ) -> Result<Self, Error>
-        ensures { Gives (λ u. u) result (Ok (bare_facts file_type header abbreviations.value (raw_attributes R.view R.Offset.count attrs.now))) }
+        ensures { ReturnsOrNoMemory result
+            (Ok (facts_without_texts file_type header abbreviations.value
+            (raw_attributes R.view R.Offset.count attrs.now))) }
     {
         let encoding = header.encoding();
         let strings = DebugStrOffsetsBase::default_for_encoding_and_file(encoding, file_type);
@@ -135,9 +131,11 @@ impl<R: Reader> Unit<R> {
         })
     }
 
-    /// The unit with its name and its directory.
+    // The unit with its name and its directory.
     fn with_texts(mut self, dwarf: &Dwarf<R>, attrs: &[Attribute<R>]) -> Result<Self, Error>
-        ensures { Gives (λ u. u) result (Ok (named_facts R.Offset.limit dwarf.now self (raw_attributes R.view R.Offset.count attrs.now))) }
+        ensures { ReturnsOrNoMemory result
+            (Ok (facts_with_texts R.Offset.limit dwarf.now self
+            (raw_attributes R.view R.Offset.count attrs.now))) }
     {
         let name = self.text(dwarf, attrs, DW_AT_name)?;
         let comp_dir = self.text(dwarf, attrs, DW_AT_comp_dir)?;
@@ -146,23 +144,26 @@ impl<R: Reader> Unit<R> {
         Ok(self)
     }
 
-    /// The text of the last attribute of a name, if it can be read.
+    // The text of the last attribute of a name, if it can be read.
     fn text(&self, dwarf: &Dwarf<R>, attrs: &[Attribute<R>], name: DwAt) -> Result<Option<R>, Error>
-        ensures { Gives (option_map R.view) result (Ok (readable_text R.Offset.limit dwarf.now self.now.bases
+        ensures { ReturnsAsOrNoMemory (option_map R.view) result
+            (Ok (readable_text R.Offset.limit dwarf.now self.now.bases
             (last_value (λ n. n == name.0) (raw_attributes R.view R.Offset.count attrs.now)))) }
     {
         let value = last_value(attrs, name)?;
         dwarf.text_of(self, value)
     }
 
-    /// The unit with the header of its line number program, and the address that it begins at.
+    // The unit with the header of its line number program, and the address that it begins at.
     fn with_program(
         mut self,
         alloc: Global,
         dwarf: &Dwarf<R>,
         attrs: &[Attribute<R>],
     ) -> Result<Self, Error>
-        ensures { Gives (λ u. u) result (placed_facts R.Offset.limit dwarf.now self (raw_attributes R.view R.Offset.count attrs.now)) }
+        ensures { ReturnsOrNoMemory result
+            (facts_with_program R.Offset.limit dwarf.now self
+            (raw_attributes R.view R.Offset.count attrs.now)) }
     {
         let line_program = self.line_header(alloc, dwarf, attrs)?;
         let low_pc = self.begin(dwarf, attrs)?;
@@ -171,47 +172,52 @@ impl<R: Reader> Unit<R> {
         Ok(self)
     }
 
-    /// The header of the line number program that the last fitting attribute names.
+    // The header of the line number program that the last fitting attribute names.
     fn line_header(
         &self,
         alloc: Global,
         dwarf: &Dwarf<R>,
         attrs: &[Attribute<R>],
     ) -> Result<Option<LineProgramHeader<R>>, Error>
-        ensures { Gives (λ h. h) result (line_header_of R.Offset.limit dwarf.now (line_unit self.now)
-            (last_fitting line_reference_of is_stmt_list (raw_attributes R.view R.Offset.count attrs.now))) }
+        ensures { ReturnsOrNoMemory result
+            (line_header_of R.Offset.limit dwarf.now (line_unit self.now)
+            (last_value_of_kind line_reference_of is_stmt_list
+            (raw_attributes R.view R.Offset.count attrs.now))) }
     {
         let line = last_offset(attrs, Base::Line)?;
         dwarf.line_header(alloc, &self.header, line, &self.comp_dir, &self.name)
     }
 
-    /// The address that the unit begins at; 0 where its root doesn't say.
+    // The address that the unit begins at; 0 where its root doesn't say.
     fn begin(&self, dwarf: &Dwarf<R>, attrs: &[Attribute<R>]) -> Result<u64, Error>
-        ensures { Gives (λ a. a) result (address_or_0 dwarf.now self.now.bases
+        ensures { ReturnsOrNoMemory result (address_or_0 dwarf.now self.now.bases
             (last_value is_low_pc (raw_attributes R.view R.Offset.count attrs.now))) }
     {
         let value = last_value(attrs, DW_AT_low_pc)?;
         dwarf.address_of(self, value)
     }
 
-    /// The value that names the file of the unit's split part, if the root has one (DWARF 5, 3.1.2; before version 5 GNU's
-    /// attribute).
+    /// The value that names the file of the unit's split part, if the root has one (DWARF 5, 3.1.2;
+    /// before version 5 GNU's attribute).
     pub fn dwo_name(&self, alloc: Global) -> Result<Option<AttributeValue<R>>, Error>
-        ensures { Gives (option_map (raw_value_of R.view R.Offset.count)) result (dwo_name R.Offset.limit self.now) }
+        ensures { ReturnsAsOrNoMemory (option_map (raw_value_of R.view R.Offset.count)) result
+            (dwo_name R.Offset.limit self.now) }
     {
         let root = self.root(alloc)?;
         let name = self.split_name();
         root.attr_value(name)
     }
 
-    /// The unit's root: its first entry, with its attributes. Refused is one that is missing, null or can't be read.
+    /// The unit's root: its first entry, with its attributes. Refused is one that is missing, null
+    /// or can't be read.
     pub fn root(&self, alloc: Global) -> Result<DebuggingInformationEntry<R>, Error>
-        ensures { Gives (entry_of R.view R.Offset.count) result (root R.Offset.limit self.now.header self.now.table) }
+        ensures { ReturnsAsOrNoMemory (entry_of R.view R.Offset.count) result
+            (root R.Offset.limit self.now.header self.now.table) }
     {
         root_entry(alloc, &self.header, &self.abbreviations)
     }
 
-    /// The attribute that names the file of the unit's split part.
+    // The attribute that names the file of the unit's split part.
     fn split_name(&self) -> DwAt
         ensures { result.0 ≡ dwo_name_number self.now.header.encoding }
     {
@@ -222,8 +228,9 @@ impl<R: Reader> Unit<R> {
         }
     }
 
-    /// Takes from the main file's unit what a split unit doesn't say: where it begins, its addresses, and below version 5 its
-    /// range lists (DWARF 5, 3.1.3; before it GNU's split files).
+    /// Takes from the main file's unit what a split unit doesn't say: where it begins, its
+    /// addresses, and below version 5 its range lists (DWARF 5, 3.1.3; before it GNU's split
+    /// files).
     pub fn copy_relocated_attributes(&mut self, other: &Unit<R>)
         ensures { self.new ≡ relocated_from other.now self.old }
     {
@@ -235,9 +242,10 @@ impl<R: Reader> Unit<R> {
     }
 }
 
-/// The identifier that a value is.
+// The identifier that a value is.
 fn named_dwo_id<R: Reader>(value: Option<AttributeValue<R>>) -> Option<DwoId>
-    ensures { option_map (λ id. id.0) result ≡ option_and_then dwo_id_of (option_map (raw_value_of R.view R.Offset.count) value) }
+    ensures { option_map (λ id. id.0) result
+        ≡ option_and_then dwo_id_of (option_map (raw_value_of R.view R.Offset.count) value) }
 {
     match value {
         Some(AttributeValue::DwoId(id)) => Some(id),
@@ -245,13 +253,15 @@ fn named_dwo_id<R: Reader>(value: Option<AttributeValue<R>>) -> Option<DwoId>
     }
 }
 
-/// The identifier that a unit shares with another file's unit: of its header, or else of its root.
+// The identifier that a unit shares with another file's unit: of its header, or else of its root.
 fn dwo_id_of<R: Reader>(
     header: &UnitHeader<R>,
     attrs: &[Attribute<R>],
 ) -> Result<Option<DwoId>, Error>
-    ensures { Gives (option_map (λ id. id.0)) result (Ok (option_or (dwo_id_in header.now.kind)
-        (option_and_then dwo_id_of (last_value is_dwo_id (raw_attributes R.view R.Offset.count attrs.now))))) }
+    ensures { ReturnsAsOrNoMemory (option_map (λ id. id.0)) result
+        (Ok (option_or (dwo_id_in header.now.kind)
+        (option_and_then dwo_id_of
+        (last_value is_dwo_id (raw_attributes R.view R.Offset.count attrs.now))))) }
 {
     match header.type_() {
         UnitType::Skeleton(id) | UnitType::SplitCompilation(id) => Ok(Some(id)),
@@ -259,9 +269,9 @@ fn dwo_id_of<R: Reader>(
     }
 }
 
-/// A copy of a reader, if there is one.
+// A copy of a reader, if there is one.
 fn copy_of<R: Reader>(reader: &Option<R>) -> Result<Option<R>, Error>
-    ensures { Gives (option_map R.view) result (Ok (option_map R.view reader.now)) }
+    ensures { ReturnsAsOrNoMemory (option_map R.view) result (Ok (option_map R.view reader.now)) }
 {
     match reader {
         Some(reader) => Ok(Some(reader.copy()?)),
@@ -270,10 +280,11 @@ fn copy_of<R: Reader>(reader: &Option<R>) -> Result<Option<R>, Error>
 }
 
 impl<R: Reader> Dwarf<R> {
-    /// The text of a value, if there is one and it can be read.
+    // The text of a value, if there is one and it can be read.
     fn text_of(&self, unit: &Unit<R>, value: Option<AttributeValue<R>>) -> Result<Option<R>, Error>
-        ensures { Gives (option_map R.view) result
-            (Ok (readable_text R.Offset.limit self.now unit.now.bases (option_map (raw_value_of R.view R.Offset.count) value))) }
+        ensures { ReturnsAsOrNoMemory (option_map R.view) result
+            (Ok (readable_text R.Offset.limit self.now unit.now.bases
+            (option_map (raw_value_of R.view R.Offset.count) value))) }
     {
         let Some(value) = value else {
             return Ok(None);
@@ -285,9 +296,11 @@ impl<R: Reader> Dwarf<R> {
         }
     }
 
-    /// The address of a value; 0 where there is none.
+    // The address of a value; 0 where there is none.
     fn address_of(&self, unit: &Unit<R>, value: Option<AttributeValue<R>>) -> Result<u64, Error>
-        ensures { Gives (λ a. a) result (address_or_0 self.now unit.now.bases (option_map (raw_value_of R.view R.Offset.count) value)) }
+        ensures { ReturnsOrNoMemory result
+            (address_or_0 self.now unit.now.bases
+            (option_map (raw_value_of R.view R.Offset.count) value)) }
     {
         let Some(value) = value else {
             return Ok(0);
@@ -295,7 +308,7 @@ impl<R: Reader> Dwarf<R> {
         Ok(self.attr_address(unit, value)?.unwrap_or(0))
     }
 
-    /// The header of the line number program at an offset, if there is one.
+    // The header of the line number program at an offset, if there is one.
     fn line_header(
         &self,
         alloc: Global,
@@ -304,8 +317,12 @@ impl<R: Reader> Dwarf<R> {
         comp_dir: &Option<R>,
         name: &Option<R>,
     ) -> Result<Option<LineProgramHeader<R>>, Error>
-        ensures { Gives (λ h. h) result (line_header_of R.Offset.limit self.now
-            (record { address_bytes = header.now.encoding.address_size; directory = option_map R.view comp_dir.now; name = option_map R.view name.now })
+        ensures { ReturnsOrNoMemory result (line_header_of R.Offset.limit self.now
+            (record {
+              address_bytes = header.now.encoding.address_size;
+              directory = option_map R.view comp_dir.now;
+              name = option_map R.view name.now;
+            })
             (option_map R.Offset.count offset)) }
     {
         let Some(offset) = offset else {

@@ -1,21 +1,17 @@
-//! A unit with the sections that it stands in.
+//! A unit with the sections of its file.
 
 ghost use Rattle.std.specs.Prelude.{◌≡◌, option_map};
-ghost use Rattle.gimli_core_base.specs.Calls.{Answers, Gives};
-ghost use Rattle.gimli_units_forms.specs.Values.{raw_value_of};
-ghost use Rattle.gimli_units_entries.specs.UnitEntries.{walk_from};
-ghost use Rattle.gimli_dwarf_facts.specs.Attributes.{attr_string, indexed_address, attr_ranges_offset, ranges};
+ghost use Rattle.gimli_dwarf_spec.specs.Calls.{ReturnsAs, Returns, ReturnsAsOrNoMemory, ReturnsOrNoMemory};
+ghost use Rattle.gimli_dwarf_spec.specs.AttributeValues.{raw_value_of};
+ghost use Rattle.gimli_dwarf_spec.specs.UnitEntries.{walk_from};
+ghost use Rattle.gimli_dwarf_spec.specs.Attributes.{attr_string, indexed_address, attr_ranges_offset, ranges};
 
 use crate::dwarf::Dwarf;
 use crate::unit::Unit;
-use gimli_core_base::error::Error;
-use gimli_core_constants::{DebugAddrIndex, RangeListsOffset};
-use gimli_core_readers::Reader;
-use gimli_units_base::UnitOffset;
-use gimli_units_entries::EntriesRaw;
-use gimli_units_entries::unit::entries_raw;
-use gimli_units_forms::AttributeValue;
-use gimli_units_lists::RngListIter;
+use gimli_dwarf_spec::{
+    AttributeValue, DebugAddrIndex, EntriesRaw, Error, RangeListsOffset, Reader, RngListIter,
+    UnitOffset, entries_raw,
+};
 
 /// A unit and the sections of its file. Each call is the sections' call for that unit.
 #[derive(Drop)]
@@ -34,43 +30,51 @@ impl<'a, R: Reader> UnitRef<'a, R> {
 
     /// The address that an index stands for (DWARF 5, 7.27). Takes no memory.
     pub fn address(&self, index: DebugAddrIndex<R::Offset>) -> Result<u64, Error>
-        ensures { Answers (λ a. a) result (indexed_address self.now.dwarf.now self.now.unit.now.bases (R.Offset.count index.0)) }
+        ensures { Returns result
+            (indexed_address self.now.dwarf.now self.now.unit.now.bases (R.Offset.count index.0)) }
     {
         self.dwarf.address(self.unit, index)
     }
 
     /// The text that a value of one of the unit's attributes stands for.
     pub fn attr_string(&self, attr: AttributeValue<R>) -> Result<R, Error>
-        ensures { Gives R.view result (attr_string R.Offset.limit self.now.dwarf.now self.now.unit.now.bases (raw_value_of R.view R.Offset.count attr)) }
+        ensures { ReturnsAsOrNoMemory R.view result
+            (attr_string R.Offset.limit self.now.dwarf.now self.now.unit.now.bases
+            (raw_value_of R.view R.Offset.count attr)) }
     {
         self.dwarf.attr_string(self.unit, attr)
     }
 
     /// The ranges of the list at an offset.
     pub fn ranges(&self, offset: RangeListsOffset<R::Offset>) -> Result<RngListIter<R>, Error>
-        ensures { Gives (λ r. r) result (ranges self.now.dwarf.now self.now.unit.now.bases (R.Offset.count offset.0)) }
+        ensures { ReturnsOrNoMemory result
+            (ranges self.now.dwarf.now self.now.unit.now.bases (R.Offset.count offset.0)) }
     {
         self.dwarf.ranges(self.unit, offset)
     }
 
-    /// The offset of the range list that a value of an attribute stands for, if it stands for one. Takes no memory.
+    /// The offset of the range list that a value of an attribute stands for, if it stands for one.
+    /// Takes no memory.
     pub fn attr_ranges_offset(
         &self,
         attr: AttributeValue<R>,
     ) -> Result<Option<RangeListsOffset<R::Offset>>, Error>
-        ensures { Answers (option_map (λ o. R.Offset.count o.0)) result
-            (attr_ranges_offset R.Offset.limit self.now.dwarf.now self.now.unit.now.bases (raw_value_of R.view R.Offset.count attr)) }
+        ensures { ReturnsAs (option_map (λ o. R.Offset.count o.0)) result
+            (attr_ranges_offset R.Offset.limit self.now.dwarf.now self.now.unit.now.bases
+            (raw_value_of R.view R.Offset.count attr)) }
     {
         self.dwarf.attr_ranges_offset(self.unit, attr)
     }
 
-    /// The walk over the unit's entries from an offset on, which must be among them, or over all of them.
+    /// The walk over the unit's entries from an offset on, which must be among them, or over all of
+    /// them.
     pub fn entries_raw(
         &self,
         offset: Option<UnitOffset<R::Offset>>,
     ) -> Result<EntriesRaw<'a, R>, Error>
-        ensures { Gives (λ entries. entries) result
-            (walk_from self.now.unit.now.header self.now.unit.now.table (option_map (λ o. R.Offset.count o.0) offset)) }
+        ensures { ReturnsOrNoMemory result
+            (walk_from self.now.unit.now.header self.now.unit.now.table
+            (option_map (λ o. R.Offset.count o.0) offset)) }
     {
         let unit = self.unit;
         entries_raw(&unit.header, &unit.abbreviations, offset)

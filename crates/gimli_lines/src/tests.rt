@@ -1,9 +1,6 @@
-//! Headers, programs and rows by hand, over readers of borrowed and of shared bytes, and what is written. The helpers have no contracts,
-//! so that the tests carry no facts from call to call.
+//! What `gimli_cases` can't ask: files that are added, instructions by themselves, and programs and
+//! tables as they are built and written. The helpers have no contracts, so that the tests carry no
+//! facts from call to call.
 
-mod encoding;
-mod header;
-mod program;
-mod rows;
-mod tables;
-mod writer;
+mod reading;
+mod writing;

@@ -1,22 +1,22 @@
 //! Copies of headers, whose programs add files of their own while they run.
 
 ghost use Rattle.std.specs.Prelude.{map, option_map, Ok};
-ghost use Rattle.gimli_core_base.specs.Calls.{Gives};
-ghost use Rattle.gimli_units_forms.specs.Values.{raw_value_of};
+ghost use Rattle.gimli_units_headers.specs.Calls.{ReturnsAsOrNoMemory, ReturnsOrNoMemory};
+ghost use Rattle.gimli_units_forms.specs.AttributeValues.{raw_value_of};
 
 use crate::file::FileEntry;
 use crate::formats::FileEntryFormat;
 use crate::header::LineProgramHeader;
-use gimli_core_base::error::Error;
-use gimli_core_readers::Reader;
 use gimli_units_forms::AttributeValue;
+use gimli_units_headers::{Error, Reader};
 use std::alloc::Global;
 
 // A copy of a value, if there is one.
 fn copy_of_value<R: Reader>(
     value: &Option<AttributeValue<R>>,
 ) -> Result<Option<AttributeValue<R>>, Error>
-    ensures { Gives (option_map (raw_value_of R.view R.Offset.count)) result (Ok (option_map (raw_value_of R.view R.Offset.count) value.now)) }
+    ensures { ReturnsAsOrNoMemory (option_map (raw_value_of R.view R.Offset.count)) result
+        (Ok (option_map (raw_value_of R.view R.Offset.count) value.now)) }
 {
     match value {
         Some(value) => Ok(Some(value.copy()?)),
@@ -29,7 +29,7 @@ fn copies_of_formats(
     alloc: Global,
     formats: &[FileEntryFormat],
 ) -> Result<Vec<FileEntryFormat>, Error>
-    ensures { Gives (λ copies. copies.items) result (Ok formats.now) }
+    ensures { ReturnsAsOrNoMemory (λ copies. copies.items) result (Ok formats.now) }
 {
     Ok(formats.to_vec(alloc)?)
 }
@@ -39,7 +39,8 @@ fn copies_of_values<R: Reader>(
     alloc: Global,
     values: &[AttributeValue<R>],
 ) -> Result<Vec<AttributeValue<R>>, Error>
-    ensures { Gives (λ copies. map (raw_value_of R.view R.Offset.count) copies.items) result (Ok (map (raw_value_of R.view R.Offset.count) values.now)) }
+    ensures { ReturnsAsOrNoMemory (λ copies. map (raw_value_of R.view R.Offset.count) copies.items)
+        result (Ok (map (raw_value_of R.view R.Offset.count) values.now)) }
 {
     let mut copies = Vec::new(alloc);
     for value in values {
@@ -53,7 +54,7 @@ fn copies_of_files<R: Reader>(
     alloc: Global,
     files: &[FileEntry<R>],
 ) -> Result<Vec<FileEntry<R>>, Error>
-    ensures { Gives (λ copies. copies.items) result (Ok files.now) }
+    ensures { ReturnsAsOrNoMemory (λ copies. copies.items) result (Ok files.now) }
 {
     let mut copies = Vec::new(alloc);
     for file in files {
@@ -64,7 +65,7 @@ fn copies_of_files<R: Reader>(
 
 // A copy of a file, if there is one.
 fn copy_of_file<R: Reader>(file: &Option<FileEntry<R>>) -> Result<Option<FileEntry<R>>, Error>
-    ensures { Gives (λ copy. copy) result (Ok file.now) }
+    ensures { ReturnsOrNoMemory result (Ok file.now) }
 {
     match file {
         Some(file) => Ok(Some(file.copy()?)),
@@ -75,7 +76,7 @@ fn copy_of_file<R: Reader>(file: &Option<FileEntry<R>>) -> Result<Option<FileEnt
 impl<R: Reader> FileEntry<R> {
     /// A second entry that says the same. Takes memory only where a copy of the reader does.
     pub fn copy(&self) -> Result<Self, Error>
-        ensures { Gives (λ copy. copy) result (Ok self.now) }
+        ensures { ReturnsOrNoMemory result (Ok self.now) }
     {
         Ok(FileEntry {
             path_name: self.path_name.copy()?,
@@ -91,7 +92,7 @@ impl<R: Reader> FileEntry<R> {
 impl<R: Reader> LineProgramHeader<R> {
     /// A second header that says the same. Takes memory for its tables.
     pub fn copy(&self) -> Result<Self, Error>
-        ensures { Gives (λ copy. copy) result (Ok self.now) }
+        ensures { ReturnsOrNoMemory result (Ok self.now) }
     {
         let alloc = *self.file_names.allocator();
         let standard_opcode_lengths = self.standard_opcode_lengths.copy()?;

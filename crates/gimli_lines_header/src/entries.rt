@@ -1,27 +1,21 @@
 //! The entries of directories and files in version 5.
 
 ghost use Rattle.std.specs.Prelude.{◌≡◌, [], ◌∷◌};
-ghost use Rattle.gimli_core_base.specs.Calls.{Gives};
-ghost use Rattle.gimli_units_forms.specs.Values.{raw_value_of};
-ghost use Rattle.gimli_lines_header.specs.Entries.{is_entry_form, entry_value, digest_of, nothing_said, said, entry, directory_entry, file_entry};
+ghost use Rattle.gimli_units_headers.specs.Calls.{ReturnsAsOrNoMemory};
+ghost use Rattle.gimli_units_forms.specs.AttributeValues.{raw_value_of};
+ghost use Rattle.gimli_lines_header.specs.TableEntries.{is_entry_form, entry_value, digest_of, no_facts, facts_after, entry, directory_entry, file_entry};
 
 use crate::file::FileEntry;
 use crate::formats::FileEntryFormat;
-use gimli_core_abbrev::AttributeSpecification;
-use gimli_core_base::constants::{
+use gimli_units_forms::{AttributeSpecification, AttributeValue, read_attribute};
+use gimli_units_headers::{
     DW_FORM_block, DW_FORM_block1, DW_FORM_block2, DW_FORM_block4, DW_FORM_data1, DW_FORM_data2,
     DW_FORM_data4, DW_FORM_data8, DW_FORM_data16, DW_FORM_flag, DW_FORM_line_strp, DW_FORM_sdata,
     DW_FORM_sec_offset, DW_FORM_string, DW_FORM_strp, DW_FORM_strp_sup, DW_FORM_strx,
-    DW_FORM_strx1, DW_FORM_strx2, DW_FORM_strx3, DW_FORM_strx4, DW_FORM_udata, DwForm,
+    DW_FORM_strx1, DW_FORM_strx2, DW_FORM_strx3, DW_FORM_strx4, DW_FORM_udata, DW_LNCT_LLVM_source,
+    DW_LNCT_MD5, DW_LNCT_directory_index, DW_LNCT_path, DW_LNCT_size, DW_LNCT_timestamp, DwAt,
+    DwForm, DwLnct, Encoding, Endianity, Error, Reader,
 };
-use gimli_core_base::error::Error;
-use gimli_core_constants::{
-    DW_LNCT_LLVM_source, DW_LNCT_MD5, DW_LNCT_directory_index, DW_LNCT_path, DW_LNCT_size,
-    DW_LNCT_timestamp, DwAt, DwLnct, Encoding,
-};
-use gimli_core_numbers::Endianity;
-use gimli_core_readers::Reader;
-use gimli_units_forms::{AttributeValue, read_attribute};
 use std::marker::Model;
 
 // A form that fields may have: the value of each takes a byte at least.
@@ -56,13 +50,14 @@ fn is_entry_form(form: DwForm) -> bool
 }
 
 // The value of a field.
-#[tactic(auto, unfolding(crate::specs::Entries::entry_value))]
+#[tactic(auto, unfolding(crate::specs::TableEntries::entry_value))]
 fn parse_value<R: Reader>(
     input: &mut R,
     encoding: Encoding,
     form: DwForm,
 ) -> Result<AttributeValue<R>, Error>
-    ensures { Gives (λ value. (raw_value_of R.view R.Offset.count value, R.view input.new)) result
+    ensures { ReturnsAsOrNoMemory (λ value.
+        (raw_value_of R.view R.Offset.count value, R.view input.new)) result
         (entry_value R.Offset.limit encoding form.0 (R.view input.old)) }
 {
     if !is_entry_form(form) {
@@ -74,7 +69,8 @@ fn parse_value<R: Reader>(
 
 // The sixteen bytes of a digest.
 fn digest_of<R: Reader>(value: &AttributeValue<R>, endian: R::Endian) -> Option<[u8; 16]>
-    ensures { result ≡ digest_of (R.Endian.is_big endian) (raw_value_of R.view R.Offset.count value.now) }
+    ensures { result ≡ digest_of (R.Endian.is_big endian)
+        (raw_value_of R.view R.Offset.count value.now) }
 {
     match value {
         AttributeValue::Data16(number) => Some(if endian.is_big_endian() {
@@ -108,8 +104,8 @@ pub(crate) struct EntryFields<R: Reader> {
 
 impl<R: Reader> Model for EntryFields<R> {
     ghost use Rattle.std.specs.Prelude.{option_map};
-    ghost use Rattle.gimli_units_forms.specs.Values.{raw_value_of};
-    ghost use Rattle.gimli_lines_header.specs.Entries.{EntryFacts};
+    ghost use Rattle.gimli_units_forms.specs.AttributeValues.{raw_value_of};
+    ghost use Rattle.gimli_lines_header.specs.TableEntries.{EntryFacts};
 
     ghost Value = { EntryFacts };
 
@@ -126,7 +122,7 @@ impl<R: Reader> Model for EntryFields<R> {
 impl<R: Reader> EntryFields<R> {
     // Nothing is said yet.
     fn none() -> Self
-        ensures { result ≡ nothing_said }
+        ensures { result ≡ no_facts }
     {
         EntryFields {
             path: None,
@@ -140,8 +136,9 @@ impl<R: Reader> EntryFields<R> {
 
     // Takes what a further field says.
     fn take(&mut self, content_type: DwLnct, value: AttributeValue<R>, endian: R::Endian)
-        ensures { self.new ≡ said (R.Endian.is_big endian) self.old
-            (record { content = content_type.0; value = raw_value_of R.view R.Offset.count value } ∷ []) }
+        ensures { self.new ≡ facts_after (R.Endian.is_big endian) self.old
+            (record { content = content_type.0; value = raw_value_of R.view R.Offset.count value }
+            ∷ []) }
     {
         match content_type {
             DW_LNCT_path => self.path = Some(value),
@@ -160,13 +157,14 @@ impl<R: Reader> EntryFields<R> {
 }
 
 // The fields of an entry.
-#[tactic(auto, unfolding(crate::specs::Entries::entry))]
+#[tactic(auto, unfolding(crate::specs::TableEntries::entry))]
 fn parse_fields<R: Reader>(
     input: &mut R,
     encoding: Encoding,
     formats: &[FileEntryFormat],
 ) -> Result<EntryFields<R>, Error>
-    ensures { Gives (λ fields. (fields, R.view input.new)) result (entry R.Offset.limit encoding formats.now (R.view input.old)) }
+    ensures { ReturnsAsOrNoMemory (λ fields. (fields, R.view input.new)) result
+        (entry R.Offset.limit encoding formats.now (R.view input.old)) }
 {
     let endian = input.endian();
     let mut fields = EntryFields::none();
@@ -178,13 +176,14 @@ fn parse_fields<R: Reader>(
 }
 
 /// A directory: the path of an entry.
-#[tactic(auto, unfolding(crate::specs::Entries::directory_entry))]
+#[tactic(auto, unfolding(crate::specs::TableEntries::directory_entry))]
 pub(crate) fn parse_directory<R: Reader>(
     input: &mut R,
     encoding: Encoding,
     formats: &[FileEntryFormat],
 ) -> Result<AttributeValue<R>, Error>
-    ensures { Gives (λ path. (raw_value_of R.view R.Offset.count path, R.view input.new)) result
+    ensures { ReturnsAsOrNoMemory (λ path.
+        (raw_value_of R.view R.Offset.count path, R.view input.new)) result
         (directory_entry R.Offset.limit encoding formats.now (R.view input.old)) }
 {
     let fields = parse_fields(input, encoding, formats)?;
@@ -192,13 +191,14 @@ pub(crate) fn parse_directory<R: Reader>(
 }
 
 /// A file.
-#[tactic(auto, unfolding(crate::specs::Entries::file_entry))]
+#[tactic(auto, unfolding(crate::specs::TableEntries::file_entry))]
 pub(crate) fn parse_file<R: Reader>(
     input: &mut R,
     encoding: Encoding,
     formats: &[FileEntryFormat],
 ) -> Result<FileEntry<R>, Error>
-    ensures { Gives (λ file. (file, R.view input.new)) result (file_entry R.Offset.limit encoding formats.now (R.view input.old)) }
+    ensures { ReturnsAsOrNoMemory (λ file. (file, R.view input.new)) result
+        (file_entry R.Offset.limit encoding formats.now (R.view input.old)) }
 {
     let fields = parse_fields(input, encoding, formats)?;
     Ok(FileEntry {

@@ -1,16 +1,15 @@
 //! The files of a line number program.
 
 ghost use Rattle.std.specs.Prelude.{◌≡◌, option_map};
-ghost use Rattle.gimli_core_base.specs.Calls.{Answers};
-ghost use Rattle.gimli_units_forms.specs.Values.{raw_value_of};
-ghost use Rattle.gimli_lines_header.specs.Files.{file_named};
-ghost use Rattle.gimli_lines_header.specs.Headers.{directory_at};
-ghost use Rattle.gimli_lines_header.specs.Tables.{file_behind};
+ghost use Rattle.gimli_units_headers.specs.Calls.{ReturnsAs};
+ghost use Rattle.gimli_units_forms.specs.AttributeValues.{raw_value_of};
+ghost use Rattle.gimli_lines_header.specs.LineFiles.{file_named};
+ghost use Rattle.gimli_lines_header.specs.LineHeaders.{directory_at};
+ghost use Rattle.gimli_lines_header.specs.HeaderTables.{file_after_path};
 
 use crate::header::LineProgramHeader;
-use gimli_core_base::error::Error;
-use gimli_core_readers::Reader;
 use gimli_units_forms::AttributeValue;
+use gimli_units_headers::{Error, Reader};
 use std::marker::Model;
 
 /// A file that rows name by its number (DWARF 5, 6.2.4.1).
@@ -26,8 +25,8 @@ pub struct FileEntry<R: Reader> {
 
 impl<R: Reader> Model for FileEntry<R> {
     ghost use Rattle.std.specs.Prelude.{option_map};
-    ghost use Rattle.gimli_units_forms.specs.Values.{raw_value_of};
-    ghost use Rattle.gimli_lines_header.specs.Files.{FileFacts};
+    ghost use Rattle.gimli_units_forms.specs.AttributeValues.{raw_value_of};
+    ghost use Rattle.gimli_lines_header.specs.LineFiles.{FileFacts};
 
     ghost Value = { FileFacts };
 
@@ -56,10 +55,12 @@ impl<R: Reader> FileEntry<R> {
         }
     }
 
-    /// The file of a path up to version 4: the number of its directory, its time and its size stand behind the path.
-    #[tactic(auto, unfolding(crate::specs::Tables::file_behind))]
+    /// The file of a path up to version 4: the number of its directory, its time and its size
+    /// follow the path.
+    #[tactic(auto, unfolding(crate::specs::HeaderTables::file_after_path))]
     pub fn parse(input: &mut R, path_name: R) -> Result<Self, Error>
-        ensures { Answers (λ file. (file, R.view input.new)) result (file_behind (R.view path_name) (R.view input.old)) }
+        ensures { ReturnsAs (λ file. (file, R.view input.new)) result
+            (file_after_path (R.view path_name) (R.view input.old)) }
     {
         let directory_index = input.read_uleb128()?;
         let timestamp = input.read_uleb128()?;
@@ -93,12 +94,14 @@ impl<R: Reader> FileEntry<R> {
         &self,
         header: &'header LineProgramHeader<R>,
     ) -> Option<&'header AttributeValue<R>>
-        ensures { option_map (λ d. raw_value_of R.view R.Offset.count d.now) result ≡ directory_at header.now self.now.directory_index }
+        ensures { option_map (λ d. raw_value_of R.view R.Offset.count d.now) result
+            ≡ directory_at header.now self.now.directory_index }
     {
         header.directory(self.directory_index)
     }
 
-    /// When the file was modified, 0 where it isn't known. What the number counts is the producer's choice.
+    /// When the file was modified, 0 where it isn't known. What the number counts is the producer's
+    /// choice.
     pub fn timestamp(&self) -> u64
         ensures { result ≡ self.now.timestamp }
     {
@@ -135,7 +138,8 @@ impl<R: Reader> FileEntry<R> {
 
     /// The text of the file, which LLVM may put into the header.
     pub fn source(&self) -> Option<&AttributeValue<R>>
-        ensures { option_map (λ s. raw_value_of R.view R.Offset.count s.now) result ≡ self.now.source }
+        ensures { option_map (λ s. raw_value_of R.view R.Offset.count s.now) result
+            ≡ self.now.source }
     {
         self.source.as_ref()
     }

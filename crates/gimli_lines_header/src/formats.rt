@@ -1,18 +1,15 @@
 //! The formats of directory and file entries in version 5.
 
 ghost use Rattle.std.specs.Prelude.{◌≡◌};
-ghost use Rattle.gimli_core_base.specs.Calls.{Answers, Gives};
-ghost use Rattle.gimli_core_base.specs.Repetition.{times};
-ghost use Rattle.gimli_lines_header.specs.Entries.{entry_format, entry_formats, has_one_path};
+ghost use Rattle.gimli_units_headers.specs.Calls.{ReturnsAs, ReturnsAsOrNoMemory};
+ghost use Rattle.gimli_units_headers.specs.Repetition.{times};
+ghost use Rattle.gimli_lines_header.specs.TableEntries.{entry_format, entry_formats, has_one_path};
 
-use gimli_core_base::constants::DwForm;
-use gimli_core_base::error::Error;
-use gimli_core_constants::{DW_LNCT_path, DwLnct};
-use gimli_core_readers::Reader;
+use gimli_units_headers::{DW_LNCT_path, DwForm, DwLnct, Error, Reader};
 use std::alloc::Global;
 
-/// What a field of directory or file entries holds, and the form of its values (DWARF 5, 6.2.4.1). Contents from 0xffff on are
-/// kept as 0xffff, which the standard doesn't number.
+/// What a field of directory or file entries holds, and the form of its values (DWARF 5, 6.2.4.1).
+/// Contents from 0xffff on are kept as 0xffff, which the standard doesn't number.
 #[derive(Clone, Copy, Debug, PartialEq, Eq)]
 pub struct FileEntryFormat {
     pub content_type: DwLnct,
@@ -20,9 +17,10 @@ pub struct FileEntryFormat {
 }
 
 // A format.
-#[tactic(auto, unfolding(crate::specs::Entries::entry_format))]
+#[tactic(auto, unfolding(crate::specs::TableEntries::entry_format))]
 fn parse_format<R: Reader>(input: &mut R) -> Result<FileEntryFormat, Error>
-    ensures { Answers (λ format. (format, R.view input.new)) result (entry_format (R.view input.old)) }
+    ensures { ReturnsAs (λ format. (format, R.view input.new)) result
+        (entry_format (R.view input.old)) }
 {
     let content = input.read_uleb128()?;
     let form = DwForm(input.read_uleb128_u16()?);
@@ -32,13 +30,14 @@ fn parse_format<R: Reader>(input: &mut R) -> Result<FileEntryFormat, Error>
     })
 }
 
-// So many formats.
+// `count` formats.
 fn parse_counted<R: Reader>(
     alloc: Global,
     input: &mut R,
     count: u8,
 ) -> Result<Vec<FileEntryFormat>, Error>
-    ensures { Gives (λ formats. (formats.items, R.view input.new)) result (times count entry_format (R.view input.old)) }
+    ensures { ReturnsAsOrNoMemory (λ formats. (formats.items, R.view input.new)) result
+        (times count entry_format (R.view input.old)) }
 {
     let mut formats = Vec::new(alloc);
     for _field in 0..count {
@@ -59,9 +58,10 @@ fn lists_one_path(formats: &[FileEntryFormat]) -> bool
 }
 
 /// The formats of directory entries, or of file entries.
-#[tactic(auto, unfolding(crate::specs::Entries::entry_formats))]
+#[tactic(auto, unfolding(crate::specs::TableEntries::entry_formats))]
 pub(crate) fn parse<R: Reader>(alloc: Global, input: &mut R) -> Result<Vec<FileEntryFormat>, Error>
-    ensures { Gives (λ formats. (formats.items, R.view input.new)) result (entry_formats (R.view input.old)) }
+    ensures { ReturnsAsOrNoMemory (λ formats. (formats.items, R.view input.new)) result
+        (entry_formats (R.view input.old)) }
 {
     let count = input.read_u8()?;
     let formats = parse_counted(alloc, input, count)?;

@@ -2,23 +2,21 @@
 
 ghost use Rattle.std.specs.Prelude.{◌≡◌, ◌≢◌, ◌+◌, ◌<◌, ◌≤◌, Bool, false, IsTrue, Ok, Err, map, OnOk, IfErr, option_map};
 ghost use Rattle.std.specs.Option.{option_copied};
-ghost use Rattle.gimli_core_base.specs.View.{bytes_left};
-ghost use Rattle.gimli_core_base.specs.Calls.{Gives};
-ghost use Rattle.gimli_core_base.specs.declared.error.Error.TheVariants.{Memory};
-ghost use Rattle.gimli_core_numbers.specs.Numbers.{is_address_size};
-ghost use Rattle.gimli_units_forms.specs.Values.{raw_value_of};
-ghost use Rattle.gimli_lines_header.specs.Files.{timestamp_content, size_content, md5_content, source_content, has_content};
-ghost use Rattle.gimli_lines_header.specs.Headers.{numbered, directory_at, file_at, files_have, with_file};
+ghost use Rattle.gimli_units_headers.specs.View.{bytes_left};
+ghost use Rattle.gimli_units_headers.specs.Calls.{ReturnsAsOrNoMemory};
+ghost use Rattle.gimli_units_headers.specs.Error.TheVariants.{Memory};
+ghost use Rattle.gimli_units_headers.specs.NumberParsers.{is_address_size};
+ghost use Rattle.gimli_units_forms.specs.AttributeValues.{raw_value_of};
+ghost use Rattle.gimli_lines_header.specs.LineFiles.{timestamp_content, size_content, md5_content, source_content, has_content};
+ghost use Rattle.gimli_lines_header.specs.LineHeaders.{item_at, directory_at, file_at, files_have, with_file};
 
 use crate::file::FileEntry;
 use crate::formats::FileEntryFormat;
-use gimli_core_base::error::Error;
-use gimli_core_constants::{
-    DW_LNCT_LLVM_source, DW_LNCT_MD5, DW_LNCT_size, DW_LNCT_timestamp, DebugLineOffset, DwLnct,
-    Encoding, Format, LineEncoding,
-};
-use gimli_core_readers::Reader;
 use gimli_units_forms::AttributeValue;
+use gimli_units_headers::{
+    DW_LNCT_LLVM_source, DW_LNCT_MD5, DW_LNCT_size, DW_LNCT_timestamp, DebugLineOffset, DwLnct,
+    Encoding, Error, Format, LineEncoding, Reader,
+};
 use std::marker::Model;
 
 /// The header of a line number program, and the bytes of the program.
@@ -42,8 +40,8 @@ pub struct LineProgramHeader<R: Reader> {
 
 impl<R: Reader> Model for LineProgramHeader<R> {
     ghost use Rattle.std.specs.Prelude.{map, option_map};
-    ghost use Rattle.gimli_units_forms.specs.Values.{raw_value_of};
-    ghost use Rattle.gimli_lines_header.specs.Headers.{LineHeader, IsRead};
+    ghost use Rattle.gimli_units_forms.specs.AttributeValues.{raw_value_of};
+    ghost use Rattle.gimli_lines_header.specs.LineHeaders.{LineHeader, IsWellFormed};
 
     ghost Value = { LineHeader };
 
@@ -64,7 +62,7 @@ impl<R: Reader> Model for LineProgramHeader<R> {
       unit_file = h.comp_file;
     } };
 
-    ghost invariant = { λ h. IsRead (record {
+    ghost invariant = { λ h. IsWellFormed (record {
       offset = R.Offset.count h.offset.0;
       unit_length = R.Offset.count h.unit_length;
       encoding = h.encoding;
@@ -90,7 +88,7 @@ impl<R: Reader> LineProgramHeader<R> {
         self.offset
     }
 
-    /// The bytes of the header and the program behind the length.
+    /// The bytes of the header and the program after the length.
     pub fn unit_length(&self) -> R::Offset
         ensures { R.Offset.count result ≡ self.now.unit_length }
     {
@@ -114,7 +112,7 @@ impl<R: Reader> LineProgramHeader<R> {
         self.encoding.version
     }
 
-    /// The bytes from behind this field to the program.
+    /// The bytes from after this field to the program.
     pub fn header_length(&self) -> R::Offset
         ensures { R.Offset.count result ≡ self.now.header_length }
     {
@@ -129,6 +127,7 @@ impl<R: Reader> LineProgramHeader<R> {
         self.encoding.address_size
     }
 
+    /// The format of the header's lengths and offsets: 32-bit or 64-bit DWARF.
     pub fn format(&self) -> Format
         ensures { result ≡ self.now.encoding.format }
     {
@@ -207,7 +206,8 @@ impl<R: Reader> LineProgramHeader<R> {
         self.directory_entry_format.as_slice()
     }
 
-    /// The directories that the header lists: up to version 4 from number 1 on, in version 5 from number 0 on.
+    /// The directories that the header lists: up to version 4 from number 1 on, in version 5 from
+    /// number 0 on.
     pub fn include_directories(&self) -> &[AttributeValue<R>]
         ensures { map (raw_value_of R.view R.Offset.count) result.now ≡ self.now.directories }
     {
@@ -221,8 +221,8 @@ impl<R: Reader> LineProgramHeader<R> {
         self.file_name_entry_format.as_slice()
     }
 
-    /// The files that the header lists, and those that were added: up to version 4 from number 1 on, in version 5 from number 0
-    /// on.
+    /// The files that the header lists, and those that were added: up to version 4 from number 1
+    /// on, in version 5 from number 0 on.
     pub fn file_names(&self) -> &[FileEntry<R>]
         ensures { result.now ≡ self.now.files }
     {
@@ -238,7 +238,7 @@ impl<R: Reader> LineProgramHeader<R> {
 
     /// A copy of the bytes of the program. Takes memory only where a copy of the reader does.
     pub fn raw_program_buf(&self) -> Result<R, Error>
-        ensures value { Gives R.view result (Ok self.now.program) }
+        ensures value { ReturnsAsOrNoMemory R.view result (Ok self.now.program) }
         ensures free { IsTrue R.copies_freely → result ≢ Err Memory }
     {
         self.program_buf.copy()
@@ -249,12 +249,13 @@ impl<R: Reader> LineProgramHeader<R> {
 
 impl<R: Reader> LineProgramHeader<R> {
     /// The directory of a number. Up to version 4 directory 0 is the unit's, where it is known.
-    #[tactic(auto, using(crate::proofs::Numbers::numbered_map))]
+    #[tactic(auto, using(crate::proofs::NumberedItems::item_at_map))]
     pub fn directory(&self, directory: u64) -> Option<&AttributeValue<R>>
-        ensures { option_map (λ d. raw_value_of R.view R.Offset.count d.now) result ≡ directory_at self.now directory }
+        ensures { option_map (λ d. raw_value_of R.view R.Offset.count d.now) result
+            ≡ directory_at self.now directory }
     {
         let unit_directory = self.comp_dir.as_ref();
-        numbered(
+        item_at(
             self.encoding.version,
             unit_directory,
             &self.include_directories,
@@ -267,11 +268,11 @@ impl<R: Reader> LineProgramHeader<R> {
         ensures { option_copied result ≡ file_at self.now file }
     {
         let unit_file = self.comp_file.as_ref();
-        numbered(self.encoding.version, unit_file, &self.file_names, file)
+        item_at(self.encoding.version, unit_file, &self.file_names, file)
     }
 
-    /// A further file behind the others, as an instruction up to version 4 may define one. Refused, the header is
-    /// unchanged.
+    /// A further file after the others, as an instruction up to version 4 may define one. Refused,
+    /// the header is unchanged.
     pub fn add_file(&mut self, file: FileEntry<R>) -> Result<(), Error>
         ensures ok { OnOk result (self.new ≡ with_file file self.old) }
         ensures err { IfErr result (λ e. (e ≡ Memory) × (self.new ≡ self.old)) }
@@ -311,14 +312,9 @@ impl<R: Reader> LineProgramHeader<R> {
     }
 }
 
-// What stands under a number: up to version 4 from number 1 on, and number 0 is the unit's.
-fn numbered<'a, T>(
-    version: u16,
-    zeroth: Option<&'a T>,
-    items: &'a [T],
-    number: u64,
-) -> Option<&'a T>
-    ensures { option_copied result ≡ numbered version (option_copied zeroth.entry) items.now number }
+// The item of a number: up to version 4 from number 1 on, and number 0 is the unit's.
+fn item_at<'a, T>(version: u16, zeroth: Option<&'a T>, items: &'a [T], number: u64) -> Option<&'a T>
+    ensures { option_copied result ≡ item_at version (option_copied zeroth.entry) items.now number }
 {
     if version > 4 {
         items.get(number as usize)

@@ -13,5 +13,13 @@ mod tables;
 
 pub use file::FileEntry;
 pub use formats::FileEntryFormat;
+pub use gimli_units_forms::{
+    Abbreviations, AbbreviationsCache, AbbreviationsCacheStrategy, Attribute,
+    AttributeSpecification, AttributeValue, DebugAbbrev,
+};
+pub use gimli_units_headers::{
+    ArangeEntry, ArangeEntryIter, ArangeHeader, ArangeHeaderIter, DebugAranges, DebugInfo,
+    DebugInfoUnitHeadersIter, OffsetInSection, UnitHeader, UnitType,
+};
 pub use header::LineProgramHeader;
 pub use section::DebugLine;

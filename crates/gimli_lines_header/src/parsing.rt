@@ -1,35 +1,34 @@
 //! How the header of a line number program is read.
 
 ghost use Rattle.std.specs.Prelude.{◌≡◌, ◌+◌, ◌≤◌, ◌<◌, IsTrue, IfOk, option_map};
-ghost use Rattle.gimli_core_base.specs.Calls.{Answers, Gives};
-ghost use Rattle.gimli_core_base.specs.View.{bytes_left};
-ghost use Rattle.gimli_core_numbers.specs.Numbers.{is_address_size};
-ghost use Rattle.gimli_units_forms.specs.Values.{raw_value_of, string};
-ghost use Rattle.gimli_lines_header.specs.Files.{file_named};
-ghost use Rattle.gimli_lines_header.specs.Seen.{bounds_of};
-ghost use Rattle.gimli_lines_header.specs.Parsing.{line_sizes, operations, line_parameters, opcodes, header_fields, line_header, header_at};
+ghost use Rattle.gimli_units_headers.specs.Calls.{ReturnsAs, ReturnsAsOrNoMemory, ReturnsOrNoMemory};
+ghost use Rattle.gimli_units_headers.specs.View.{bytes_left};
+ghost use Rattle.gimli_units_headers.specs.NumberParsers.{is_address_size};
+ghost use Rattle.gimli_units_forms.specs.AttributeValues.{raw_value_of, string};
+ghost use Rattle.gimli_lines_header.specs.LineFiles.{file_named};
+ghost use Rattle.gimli_lines_header.specs.HeaderBounds.{bounds_of};
+ghost use Rattle.gimli_lines_header.specs.HeaderParsing.{line_sizes, operations, line_parameters, opcodes, header_fields, line_header, header_at};
 
 use crate::file::FileEntry;
 use crate::header::LineProgramHeader;
 use crate::section::DebugLine;
 use crate::tables::{parse_directories, parse_files};
-use gimli_core_base::error::Error;
-use gimli_core_constants::{DebugLineOffset, Encoding, Format, LineEncoding};
-use gimli_core_numbers::ReaderOffset;
-use gimli_core_readers::Reader;
-use gimli_core_strings::Section;
 use gimli_units_forms::AttributeValue;
+use gimli_units_headers::{
+    DebugLineOffset, Encoding, Error, Format, LineEncoding, Reader, ReaderOffset, Section,
+};
 use std::alloc::Global;
 
 // The version, and the sizes of fields.
-#[tactic(auto, unfolding(crate::specs::Parsing::line_sizes, crate::specs::Parsing::encoding_of_5))]
+#[tactic(auto, unfolding(crate::specs::HeaderParsing::line_sizes, crate::specs::HeaderParsing::encoding_of_5))]
 fn parse_sizes<R: Reader>(
     input: &mut R,
     format: Format,
     address_size: u8,
 ) -> Result<Encoding, Error>
     requires { IsTrue (is_address_size address_size) }
-    ensures value { Answers (λ encoding. (encoding, R.view input.new)) result (line_sizes format address_size (R.view input.old)) }
+    ensures value { ReturnsAs (λ encoding. (encoding, R.view input.new)) result
+        (line_sizes format address_size (R.view input.old)) }
     ensures known { IfOk result (λ encoding. (2 ≤ encoding.version) × (encoding.version ≤ 5)) }
     ensures address { IfOk result (λ encoding. IsTrue (is_address_size encoding.address_size)) }
 {
@@ -56,9 +55,10 @@ fn parse_sizes<R: Reader>(
 }
 
 // The operations of an instruction: a field from version 4 on.
-#[tactic(auto, unfolding(crate::specs::Parsing::operations, crate::specs::Parsing::operations_of_4))]
+#[tactic(auto, unfolding(crate::specs::HeaderParsing::operations, crate::specs::HeaderParsing::operations_of_4))]
 fn parse_operations<R: Reader>(input: &mut R, version: u16) -> Result<u8, Error>
-    ensures value { Answers (λ n. (n, R.view input.new)) result (operations version (R.view input.old)) }
+    ensures value { ReturnsAs (λ n. (n, R.view input.new)) result
+        (operations version (R.view input.old)) }
     ensures some { IfOk result (λ n. 0 < n) }
 {
     if version < 4 {
@@ -71,10 +71,12 @@ fn parse_operations<R: Reader>(input: &mut R, version: u16) -> Result<u8, Error>
 }
 
 // The parameters of special opcodes.
-#[tactic(auto, unfolding(crate::specs::Parsing::line_parameters))]
+#[tactic(auto, unfolding(crate::specs::HeaderParsing::line_parameters))]
 fn parse_parameters<R: Reader>(input: &mut R, version: u16) -> Result<LineEncoding, Error>
-    ensures value { Answers (λ encoding. (encoding, R.view input.new)) result (line_parameters version (R.view input.old)) }
-    ensures some { IfOk result (λ e. (0 < e.minimum_instruction_length) × (0 < e.maximum_operations_per_instruction) × (0 < e.line_range)) }
+    ensures value { ReturnsAs (λ encoding. (encoding, R.view input.new)) result
+        (line_parameters version (R.view input.old)) }
+    ensures some { IfOk result (λ e. (0 < e.minimum_instruction_length)
+        × (0 < e.maximum_operations_per_instruction) × (0 < e.line_range)) }
 {
     let minimum_instruction_length = input.read_u8()?;
     if minimum_instruction_length == 0 {
@@ -97,10 +99,12 @@ fn parse_parameters<R: Reader>(input: &mut R, version: u16) -> Result<LineEncodi
 }
 
 // The first special opcode, and the lengths of the standard opcodes below it.
-#[tactic(auto, unfolding(crate::specs::Parsing::opcodes))]
+#[tactic(auto, unfolding(crate::specs::HeaderParsing::opcodes))]
 fn parse_opcodes<R: Reader>(input: &mut R) -> Result<(u8, R), Error>
-    ensures value { Gives (λ found. ((found.0, R.view found.1), R.view input.new)) result (opcodes (R.view input.old)) }
-    ensures each { IfOk result (λ found. (0 < found.0) × (bytes_left (R.view found.1) + 1 ≡ found.0)) }
+    ensures value { ReturnsAsOrNoMemory (λ found. ((found.0, R.view found.1), R.view input.new))
+        result (opcodes (R.view input.old)) }
+    ensures each { IfOk result (λ found. (0 < found.0)
+        × (bytes_left (R.view found.1) + 1 ≡ found.0)) }
 {
     let opcode_base = input.read_u8()?;
     if opcode_base == 0 {
@@ -112,7 +116,8 @@ fn parse_opcodes<R: Reader>(input: &mut R) -> Result<(u8, R), Error>
 
 // The directory of a unit, as a header has directories.
 fn unit_directory<R: Reader>(comp_dir: Option<R>) -> Option<AttributeValue<R>>
-    ensures { option_map (raw_value_of R.view R.Offset.count) result ≡ option_map string (option_map R.view comp_dir) }
+    ensures { option_map (raw_value_of R.view R.Offset.count) result
+        ≡ option_map string (option_map R.view comp_dir) }
 {
     Some(AttributeValue::String(comp_dir?))
 }
@@ -135,7 +140,7 @@ struct Bounds<R: Reader> {
 }
 
 // The fields of a header.
-#[tactic(auto, unfolding(crate::specs::Parsing::header_fields))]
+#[tactic(auto, unfolding(crate::specs::HeaderParsing::header_fields))]
 fn parse_fields<R: Reader>(
     alloc: Global,
     input: &mut R,
@@ -146,8 +151,9 @@ fn parse_fields<R: Reader>(
     requires first { 2 ≤ bounds.encoding.version }
     requires last { bounds.encoding.version ≤ 5 }
     requires address { IsTrue (is_address_size bounds.encoding.address_size) }
-    ensures { Gives (λ header. (header, R.view input.new)) result
-        (header_fields R.Offset.limit (option_map R.view comp_dir) (option_map R.view comp_name) (bounds_of R.view R.Offset.count bounds)
+    ensures { ReturnsAsOrNoMemory (λ header. (header, R.view input.new)) result
+        (header_fields R.Offset.limit (option_map R.view comp_dir) (option_map R.view comp_name)
+        (bounds_of R.view R.Offset.count bounds)
         (R.view input.old)) }
 {
     let version = bounds.encoding.version;
@@ -178,9 +184,10 @@ fn parse_fields<R: Reader>(
 }
 
 impl<R: Reader> LineProgramHeader<R> {
-    /// The header at the front, which begins at an offset of `.debug_line`. The unit gives the bytes of an address, which
-    /// count up to version 4, its directory and its name. Where the header is refused, the input may have moved.
-    #[tactic(auto, unfolding(crate::specs::Parsing::line_header, crate::specs::Parsing::header_in))]
+    /// The header at the start, which begins at an offset of `.debug_line`. The unit gives the
+    /// bytes of an address, which count up to version 4, its directory and its name. Where the
+    /// header is refused, the input may have moved.
+    #[tactic(auto, unfolding(crate::specs::HeaderParsing::line_header, crate::specs::HeaderParsing::header_in))]
     pub fn parse(
         alloc: Global,
         input: &mut R,
@@ -190,9 +197,13 @@ impl<R: Reader> LineProgramHeader<R> {
         comp_name: Option<R>,
     ) -> Result<Self, Error>
         requires { IsTrue (is_address_size address_size) }
-        ensures { Gives (λ header. (header, R.view input.new)) result
+        ensures { ReturnsAsOrNoMemory (λ header. (header, R.view input.new)) result
             (line_header R.Offset.limit (R.Offset.count offset.0)
-            (record { address_bytes = address_size; directory = option_map R.view comp_dir; name = option_map R.view comp_name })
+            (record {
+              address_bytes = address_size;
+              directory = option_map R.view comp_dir;
+              name = option_map R.view comp_name;
+            })
             (R.view input.old)) }
     {
         let (unit_length, format) = input.read_initial_length()?;
@@ -212,8 +223,8 @@ impl<R: Reader> LineProgramHeader<R> {
 }
 
 impl<R: Reader> DebugLine<R> {
-    /// The header at an offset of the section. The unit gives the bytes of an address, which count up to version 4, its
-    /// directory and its name.
+    /// The header at an offset of the section. The unit gives the bytes of an address, which count
+    /// up to version 4, its directory and its name.
     pub fn header(
         &self,
         alloc: Global,
@@ -223,9 +234,13 @@ impl<R: Reader> DebugLine<R> {
         comp_name: Option<R>,
     ) -> Result<LineProgramHeader<R>, Error>
         requires { IsTrue (is_address_size address_size) }
-        ensures { Gives (λ header. header) result
+        ensures { ReturnsOrNoMemory result
             (header_at R.Offset.limit (R.Offset.count offset.0)
-            (record { address_bytes = address_size; directory = option_map R.view comp_dir; name = option_map R.view comp_name })
+            (record {
+              address_bytes = address_size;
+              directory = option_map R.view comp_dir;
+              name = option_map R.view comp_name;
+            })
             self.now) }
     {
         let mut input = self.reader().copy()?;

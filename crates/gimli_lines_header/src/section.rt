@@ -3,10 +3,7 @@
 ghost use Rattle.std.specs.Prelude.{◌≡◌};
 ghost use Rattle.std.specs.Fn.{FnOnceReturnsAt};
 
-use gimli_core_constants::SectionId;
-use gimli_core_numbers::Endianity;
-use gimli_core_readers::{EndianSlice, Reader};
-use gimli_core_strings::Section;
+use gimli_units_headers::{EndianSlice, Endianity, Reader, Section, SectionId};
 use std::marker::Model;
 
 /// `.debug_line`: the line number programs of units (DWARF 5, 6.2).
@@ -16,7 +13,7 @@ pub struct DebugLine<R: Reader> {
 }
 
 impl<R: Reader> Model for DebugLine<R> {
-    ghost use Rattle.gimli_core_base.specs.View.{View};
+    ghost use Rattle.gimli_units_headers.specs.View.{View};
 
     ghost Value = { View };
 
@@ -32,11 +29,11 @@ impl<R: Reader> From<R> for DebugLine<R> {
 }
 
 impl<R: Reader> Section<R> for DebugLine<R> {
-    ghost use Rattle.gimli_core_constants.specs.declared.common.SectionId.TheVariants.{DebugLine};
+    ghost use Rattle.gimli_units_headers.specs.SectionId.TheVariants.{DebugLine};
 
     ghost section_id = { DebugLine };
 
-    ghost seen = { λ s. s };
+    ghost section_view = { λ s. s };
 
     fn id() -> SectionId {
         SectionId::DebugLine

@@ -1,27 +1,28 @@
 //! The tables of directories and files in a header.
 
 ghost use Rattle.std.specs.Prelude.{◌≡◌, ◌≤◌, [], map, option_map, IfOk};
-ghost use Rattle.gimli_core_base.specs.Calls.{Gives};
-ghost use Rattle.gimli_core_base.specs.Repetition.{times};
-ghost use Rattle.gimli_units_forms.specs.Values.{raw_value_of};
-ghost use Rattle.gimli_lines_header.specs.Entries.{directory_entry, file_entry};
-ghost use Rattle.gimli_lines_header.specs.Tables.{directory_text, file_text, directory_texts, file_texts, directory_entries, file_entries, directories_of_5, files_of_5, directories, files};
+ghost use Rattle.gimli_units_headers.specs.Calls.{ReturnsAsOrNoMemory};
+ghost use Rattle.gimli_units_headers.specs.Repetition.{times};
+ghost use Rattle.gimli_units_forms.specs.AttributeValues.{raw_value_of};
+ghost use Rattle.gimli_lines_header.specs.TableEntries.{directory_entry, file_entry};
+ghost use Rattle.gimli_lines_header.specs.HeaderTables.{directory_text, file_text, directory_texts, file_texts, directory_entries, file_entries, directories_of_5, files_of_5, directories, files};
 
 use crate::entries::{parse_directory, parse_file};
 use crate::file::FileEntry;
 use crate::formats::{self, FileEntryFormat};
-use gimli_core_base::error::Error;
-use gimli_core_constants::Encoding;
-use gimli_core_readers::Reader;
 use gimli_units_forms::AttributeValue;
+use gimli_units_headers::{Encoding, Error, Reader};
 use std::alloc::Global;
 
 // ---- up to version 4
 
 // A directory, or none at the empty text that ends them.
-#[tactic(auto, unfolding(crate::specs::Tables::directory_text))]
+#[tactic(auto, unfolding(crate::specs::HeaderTables::directory_text))]
 fn parse_directory_text<R: Reader>(input: &mut R) -> Result<Option<AttributeValue<R>>, Error>
-    ensures { Gives (λ d. (option_map (raw_value_of R.view R.Offset.count) d, R.view input.new)) result
+    ensures { ReturnsAsOrNoMemory (λ d. (
+      option_map (raw_value_of R.view R.Offset.count) d,
+      R.view input.new,
+    )) result
         (directory_text (R.view input.old)) }
 {
     let text = input.read_null_terminated_slice()?;
@@ -32,9 +33,10 @@ fn parse_directory_text<R: Reader>(input: &mut R) -> Result<Option<AttributeValu
 }
 
 // A file, or none at the empty path that ends them.
-#[tactic(auto, unfolding(crate::specs::Tables::file_text))]
+#[tactic(auto, unfolding(crate::specs::HeaderTables::file_text))]
 fn parse_file_text<R: Reader>(input: &mut R) -> Result<Option<FileEntry<R>>, Error>
-    ensures { Gives (λ file. (file, R.view input.new)) result (file_text (R.view input.old)) }
+    ensures { ReturnsAsOrNoMemory (λ file. (file, R.view input.new)) result
+        (file_text (R.view input.old)) }
 {
     let path = input.read_null_terminated_slice()?;
     if path.is_empty() {
@@ -44,12 +46,13 @@ fn parse_file_text<R: Reader>(input: &mut R) -> Result<Option<FileEntry<R>>, Err
 }
 
 // The directories up to an empty text.
-#[tactic(auto, unfolding(crate::specs::Tables::directory_texts))]
+#[tactic(auto, unfolding(crate::specs::HeaderTables::directory_texts))]
 fn parse_directory_texts<R: Reader>(
     alloc: Global,
     input: &mut R,
 ) -> Result<Vec<AttributeValue<R>>, Error>
-    ensures { Gives (λ found. (map (raw_value_of R.view R.Offset.count) found.items, R.view input.new)) result
+    ensures { ReturnsAsOrNoMemory (λ found.
+        (map (raw_value_of R.view R.Offset.count) found.items, R.view input.new)) result
         (directory_texts (R.view input.old)) }
 {
     let mut found = Vec::new(alloc);
@@ -60,9 +63,10 @@ fn parse_directory_texts<R: Reader>(
 }
 
 // The files up to an empty path.
-#[tactic(auto, unfolding(crate::specs::Tables::file_texts))]
+#[tactic(auto, unfolding(crate::specs::HeaderTables::file_texts))]
 fn parse_file_texts<R: Reader>(alloc: Global, input: &mut R) -> Result<Vec<FileEntry<R>>, Error>
-    ensures { Gives (λ found. (found.items, R.view input.new)) result (file_texts (R.view input.old)) }
+    ensures { ReturnsAsOrNoMemory (λ found. (found.items, R.view input.new)) result
+        (file_texts (R.view input.old)) }
 {
     let mut found = Vec::new(alloc);
     while let Some(file) = parse_file_text(input)? {
@@ -73,7 +77,7 @@ fn parse_file_texts<R: Reader>(alloc: Global, input: &mut R) -> Result<Vec<FileE
 
 // ---- in version 5
 
-// So many directories.
+// `count` directories.
 fn parse_counted_directories<R: Reader>(
     alloc: Global,
     input: &mut R,
@@ -81,7 +85,8 @@ fn parse_counted_directories<R: Reader>(
     formats: &[FileEntryFormat],
     count: u64,
 ) -> Result<Vec<AttributeValue<R>>, Error>
-    ensures { Gives (λ found. (map (raw_value_of R.view R.Offset.count) found.items, R.view input.new)) result
+    ensures { ReturnsAsOrNoMemory (λ found.
+        (map (raw_value_of R.view R.Offset.count) found.items, R.view input.new)) result
         (times count (directory_entry R.Offset.limit encoding formats.now) (R.view input.old)) }
 {
     let mut found = Vec::new(alloc);
@@ -91,7 +96,7 @@ fn parse_counted_directories<R: Reader>(
     Ok(found)
 }
 
-// So many files.
+// `count` files.
 fn parse_counted_files<R: Reader>(
     alloc: Global,
     input: &mut R,
@@ -99,7 +104,7 @@ fn parse_counted_files<R: Reader>(
     formats: &[FileEntryFormat],
     count: u64,
 ) -> Result<Vec<FileEntry<R>>, Error>
-    ensures { Gives (λ found. (found.items, R.view input.new)) result
+    ensures { ReturnsAsOrNoMemory (λ found. (found.items, R.view input.new)) result
         (times count (file_entry R.Offset.limit encoding formats.now) (R.view input.old)) }
 {
     let mut found = Vec::new(alloc);
@@ -110,14 +115,15 @@ fn parse_counted_files<R: Reader>(
 }
 
 // As many directories as a number says.
-#[tactic(auto, unfolding(crate::specs::Tables::directory_entries))]
+#[tactic(auto, unfolding(crate::specs::HeaderTables::directory_entries))]
 fn parse_directory_entries<R: Reader>(
     alloc: Global,
     input: &mut R,
     encoding: Encoding,
     formats: &[FileEntryFormat],
 ) -> Result<Vec<AttributeValue<R>>, Error>
-    ensures { Gives (λ found. (map (raw_value_of R.view R.Offset.count) found.items, R.view input.new)) result
+    ensures { ReturnsAsOrNoMemory (λ found.
+        (map (raw_value_of R.view R.Offset.count) found.items, R.view input.new)) result
         (directory_entries R.Offset.limit encoding formats.now (R.view input.old)) }
 {
     let count = input.read_uleb128()?;
@@ -125,14 +131,14 @@ fn parse_directory_entries<R: Reader>(
 }
 
 // As many files as a number says.
-#[tactic(auto, unfolding(crate::specs::Tables::file_entries))]
+#[tactic(auto, unfolding(crate::specs::HeaderTables::file_entries))]
 fn parse_file_entries<R: Reader>(
     alloc: Global,
     input: &mut R,
     encoding: Encoding,
     formats: &[FileEntryFormat],
 ) -> Result<Vec<FileEntry<R>>, Error>
-    ensures { Gives (λ found. (found.items, R.view input.new)) result
+    ensures { ReturnsAsOrNoMemory (λ found. (found.items, R.view input.new)) result
         (file_entries R.Offset.limit encoding formats.now (R.view input.old)) }
 {
     let count = input.read_uleb128()?;
@@ -140,13 +146,15 @@ fn parse_file_entries<R: Reader>(
 }
 
 // The formats of directories, and the directories.
-#[tactic(auto, unfolding(crate::specs::Tables::directories_of_5))]
+#[tactic(auto, unfolding(crate::specs::HeaderTables::directories_of_5))]
 fn parse_described_directories<R: Reader>(
     alloc: Global,
     input: &mut R,
     encoding: Encoding,
 ) -> Result<(Vec<FileEntryFormat>, Vec<AttributeValue<R>>), Error>
-    ensures { Gives (λ found. ((found.0.items, map (raw_value_of R.view R.Offset.count) found.1.items), R.view input.new)) result
+    ensures { ReturnsAsOrNoMemory (λ found.
+        ((found.0.items, map (raw_value_of R.view R.Offset.count) found.1.items), R.view input.new))
+        result
         (directories_of_5 R.Offset.limit encoding (R.view input.old)) }
 {
     let formats = formats::parse(alloc, input)?;
@@ -155,13 +163,14 @@ fn parse_described_directories<R: Reader>(
 }
 
 // The formats of files, and the files.
-#[tactic(auto, unfolding(crate::specs::Tables::files_of_5))]
+#[tactic(auto, unfolding(crate::specs::HeaderTables::files_of_5))]
 fn parse_described_files<R: Reader>(
     alloc: Global,
     input: &mut R,
     encoding: Encoding,
 ) -> Result<(Vec<FileEntryFormat>, Vec<FileEntry<R>>), Error>
-    ensures { Gives (λ found. ((found.0.items, found.1.items), R.view input.new)) result
+    ensures { ReturnsAsOrNoMemory (λ found. ((found.0.items, found.1.items), R.view input.new))
+        result
         (files_of_5 R.Offset.limit encoding (R.view input.old)) }
 {
     let formats = formats::parse(alloc, input)?;
@@ -172,13 +181,15 @@ fn parse_described_files<R: Reader>(
 // ---- in every version
 
 /// The formats of directories, none up to version 4, and the directories.
-#[tactic(auto, unfolding(crate::specs::Tables::directories))]
+#[tactic(auto, unfolding(crate::specs::HeaderTables::directories))]
 pub(crate) fn parse_directories<R: Reader>(
     alloc: Global,
     input: &mut R,
     encoding: Encoding,
 ) -> Result<(Vec<FileEntryFormat>, Vec<AttributeValue<R>>), Error>
-    ensures { Gives (λ found. ((found.0.items, map (raw_value_of R.view R.Offset.count) found.1.items), R.view input.new)) result
+    ensures { ReturnsAsOrNoMemory (λ found.
+        ((found.0.items, map (raw_value_of R.view R.Offset.count) found.1.items), R.view input.new))
+        result
         (directories R.Offset.limit encoding (R.view input.old)) }
 {
     if encoding.version > 4 {
@@ -189,13 +200,14 @@ pub(crate) fn parse_directories<R: Reader>(
 }
 
 /// The formats of files, none up to version 4, and the files.
-#[tactic(auto, unfolding(crate::specs::Tables::files))]
+#[tactic(auto, unfolding(crate::specs::HeaderTables::files))]
 pub(crate) fn parse_files<R: Reader>(
     alloc: Global,
     input: &mut R,
     encoding: Encoding,
 ) -> Result<(Vec<FileEntryFormat>, Vec<FileEntry<R>>), Error>
-    ensures value { Gives (λ found. ((found.0.items, found.1.items), R.view input.new)) result
+    ensures value { ReturnsAsOrNoMemory (λ found.
+        ((found.0.items, found.1.items), R.view input.new)) result
         (files R.Offset.limit encoding (R.view input.old)) }
     ensures older { encoding.version ≤ 4 → IfOk result (λ found. found.0.items ≡ []) }
 {

@@ -1,4 +1,10 @@
-pub mod Worked
-pub mod Kept
-pub mod KeptNumbers
-pub mod KeptInstructions
+pub use Rattle.gimli_core_readers.proofs.Listings
+pub use Rattle.gimli_core_readers.proofs.NumberReadSizes
+pub use Rattle.gimli_core_readers.proofs.RefusedCalls
+pub use Rattle.gimli_core_readers.proofs.StepParts
+pub use Rattle.gimli_core_readers.proofs.Times
+pub use Rattle.gimli_core_readers.proofs.Wrapping
+pub mod MachineExamples
+pub mod CutBytes
+pub mod CutNumbers
+pub mod CutInstructions

@@ -1,22 +1,24 @@
--- The state machine of a line number program (DWARF 5, 6.2.2 and 6.2.5): what an instruction makes of the registers.
+-- The state machine of a line number program (DWARF 5, 6.2.2 and 6.2.5): what an instruction makes
+-- of the registers.
 use Rattle.std.specs.Prelude.{◌≡◌, ◌<◌, IsTrue, ℕ, ℤ, pos, negsuc, ◌+◌, ◌-◌, ◌*◌, ◌/◌, ◌%◌, ◌^◌, ◌+ℤ◌, nat_lt, Bool, true, false, not, ◌||◌, Result, Ok, Err, if◌then◌else◌}
-use Rattle.gimli_core_base.specs.declared.error.Error.{Error}
-use Rattle.gimli_core_base.specs.declared.error.Error.TheVariants.{AddressOverflow}
-use Rattle.gimli_core_numbers.specs.Numbers.{is_address_size}
-use Rattle.gimli_units_base.specs.Addresses.{is_tombstone}
+use Rattle.gimli_core_readers.specs.Error.{Error}
+use Rattle.gimli_core_readers.specs.Error.TheVariants.{AddressOverflow}
+use Rattle.gimli_core_readers.specs.NumberParsers.{is_address_size}
+use Rattle.gimli_core_readers.specs.Addresses.{is_tombstone}
 use Rattle.gimli_lines_machine.specs.declared.rules.LineRules.{LineRules}
 use Rattle.gimli_lines_machine.specs.declared.registers.Registers.{Registers}
-use Rattle.gimli_lines_machine.specs.Instructions.{InstructionOf, special, copy, advance_pc, advance_line, set_file, set_column, negate_stmt, set_basic_block, const_add_pc, fixed_advance_pc, set_prologue_end, set_epilogue_begin, set_isa, unknown_standard_0, unknown_standard_1, unknown_standard_n, end_sequence, set_address, define_file, set_discriminator, unknown_extended}
+use Rattle.gimli_lines_machine.specs.LineInstructions.{InstructionOf, special, copy, advance_pc, advance_line, set_file, set_column, negate_stmt, set_basic_block, const_add_pc, fixed_advance_pc, set_prologue_end, set_epilogue_begin, set_isa, unknown_standard_0, unknown_standard_1, unknown_standard_n, end_sequence, set_address, define_file, set_discriminator, unknown_extended}
 
--- Rules that a header can give (6.2.4): an address has a size, an instruction has operations, and special opcodes have
--- lines.
+-- Rules that a header can give (6.2.4): an address has a size, an instruction has operations, and
+-- special opcodes have lines.
 pub record IsSound (rules : LineRules) : Type 0 where
   pub has_address_size : IsTrue (is_address_size rules.encoding.address_size)
   pub has_operations : 0 < rules.line_encoding.maximum_operations_per_instruction
   pub has_lines : 0 < rules.line_encoding.line_range
 
 -- The registers after a call are those that were meant; refused, they are as before.
-abbrev pub Becomes : {A : Type 0} → Result A Error → Registers → Registers → Result Registers Error → Type 0
+abbrev pub Becomes : {A : Type 0} → Result A Error → Registers → Registers → Result Registers Error
+    → Type 0
 Becomes (Ok x) old new meant = meant ≡ Ok new
 Becomes (Err e) old new meant = (meant ≡ Err e) × (new ≡ old)
 
@@ -41,9 +43,9 @@ start rules = record {
 -- ---- lines
 
 -- A line, moved: past 64 bits it wraps, and there is none below 0.
-abbrev pub line_moved : ℕ → ℤ → ℕ
-line_moved line (pos n) = (line + n) % 2 ^ 64
-line_moved line (negsuc n) = line - (n + 1)
+abbrev pub line_after : ℕ → ℤ → ℕ
+line_after line (pos n) = (line + n) % 2 ^ 64
+line_after line (negsuc n) = line - (n + 1)
 
 -- the registers at another line
 abbrev pub with_line : ℕ → Registers → Registers
@@ -53,41 +55,48 @@ with_line line r = record r { line = line }
 
 -- an address of a size, or a refusal where it is past that size
 abbrev pub address_within : ℕ → ℕ → Result ℕ Error
-address_within size address = if nat_lt address (2 ^ (8 * size)) then Ok address else Err AddressOverflow
+address_within size address =
+    if nat_lt address (2 ^ (8 * size)) then Ok address else Err AddressOverflow
 
 -- the registers at an address, before an operation of the instruction there
-abbrev pub placed : Registers → ℕ → Result ℕ Error → Result Registers Error
-placed r op_index (Ok address) = Ok (record r { address = address; op_index = op_index })
-placed r op_index (Err e) = Err e
+abbrev pub registers_at : Registers → ℕ → Result ℕ Error → Result Registers Error
+registers_at r op_index (Ok address) = Ok (record r { address = address; op_index = op_index })
+registers_at r op_index (Err e) = Err e
 
--- So many operations on (6.2.5.1): the instructions that they make up move the address. While rows are hidden the
--- address stays.
-abbrev pub operations_counted : Registers → ℕ → ℕ
-operations_counted r n = (r.op_index + n) % 2 ^ 64
+-- n operations on (6.2.5.1): the instructions that they make up move the address. While rows are
+-- hidden the address stays.
+abbrev pub operation_sum : Registers → ℕ → ℕ
+operation_sum r n = (r.op_index + n) % 2 ^ 64
 
+-- the bytes by which operations move the address
 abbrev pub address_advance : LineRules → ℕ → ℕ
 address_advance rules operations =
-    rules.line_encoding.minimum_instruction_length * (operations / rules.line_encoding.maximum_operations_per_instruction) % 2 ^ 64
+    rules.line_encoding.minimum_instruction_length
+    * (operations / rules.line_encoding.maximum_operations_per_instruction) % 2 ^ 64
 
+-- the registers at an operation counted from the instruction's first
 abbrev pub to_operation : LineRules → Registers → ℕ → Result Registers Error
 to_operation rules r operations =
-    placed r (operations % rules.line_encoding.maximum_operations_per_instruction)
+    registers_at r (operations % rules.line_encoding.maximum_operations_per_instruction)
     (address_within rules.encoding.address_size (r.address + address_advance rules operations))
 
-abbrev pub advanced : LineRules → ℕ → Registers → Result Registers Error
-advanced rules n r = if r.is_hidden then Ok r else to_operation rules r (operations_counted r n)
+-- the registers n operations on
+abbrev pub after_operations : LineRules → ℕ → Registers → Result Registers Error
+after_operations rules n r = if r.is_hidden then Ok r else to_operation rules r (operation_sum r n)
 
--- so many bytes on
-abbrev pub advanced_by : LineRules → ℕ → Registers → Result Registers Error
-advanced_by rules n r = if r.is_hidden then Ok r else placed r 0 (address_within rules.encoding.address_size (r.address + n))
+-- n bytes on
+abbrev pub after_bytes : LineRules → ℕ → Registers → Result Registers Error
+after_bytes rules n r = if r.is_hidden then Ok r
+    else registers_at r 0 (address_within rules.encoding.address_size (r.address + n))
 
--- An address below the one before it, or one that stands for no address, hides what follows it in its sequence, up to
--- the next one that does not.
+-- An address below the one before it, or one that stands for no address, hides what follows it in
+-- its sequence, up to the next one that does not.
 abbrev pub hides : LineRules → Registers → ℕ → Bool
 hides rules r address = nat_lt address r.address || is_tombstone rules.encoding.address_size address
 
-abbrev pub addressed : LineRules → ℕ → Registers → Registers
-addressed rules address r =
+-- the registers after an address was set
+abbrev pub at_new_address : LineRules → ℕ → Registers → Registers
+at_new_address rules address r =
     if hides rules r address then record r { is_hidden = true }
     else record r { address = address; op_index = 0; is_hidden = false }
 
@@ -97,34 +106,38 @@ addressed rules address r =
 abbrev pub operation_advance : LineRules → ℕ → ℕ
 operation_advance rules opcode = (opcode - rules.opcode_base) / rules.line_encoding.line_range
 
+-- the lines that an opcode stands for
 abbrev pub line_advance : LineRules → ℕ → ℤ
-line_advance rules opcode = rules.line_encoding.line_base +ℤ pos ((opcode - rules.opcode_base) % rules.line_encoding.line_range)
+line_advance rules opcode = rules.line_encoding.line_base
+    +ℤ pos ((opcode - rules.opcode_base) % rules.line_encoding.line_range)
 
 -- ---- instructions
 
 -- what an instruction makes of the registers, or its refusal
-abbrev pub changed : {F : Type 0} → LineRules → InstructionOf F → Registers → Result Registers Error
-changed rules (special opcode) r = advanced rules (operation_advance rules opcode) (with_line (line_moved r.line (line_advance rules opcode)) r)
-changed rules copy r = Ok r
-changed rules (advance_pc n) r = advanced rules n r
-changed rules (advance_line n) r = Ok (with_line (line_moved r.line n) r)
-changed rules (set_file n) r = Ok (record r { file = n })
-changed rules (set_column n) r = Ok (record r { column = n })
-changed rules negate_stmt r = Ok (record r { is_stmt = not r.is_stmt })
-changed rules set_basic_block r = Ok (record r { basic_block = true })
-changed rules const_add_pc r = advanced rules (operation_advance rules 255) r
-changed rules (fixed_advance_pc n) r = advanced_by rules n r
-changed rules set_prologue_end r = Ok (record r { prologue_end = true })
-changed rules set_epilogue_begin r = Ok (record r { epilogue_begin = true })
-changed rules (set_isa n) r = Ok (record r { isa = n })
-changed rules (unknown_standard_0 opcode) r = Ok r
-changed rules (unknown_standard_1 opcode operand) r = Ok r
-changed rules (unknown_standard_n opcode operands) r = Ok r
-changed rules end_sequence r = Ok (record r { end_sequence = true })
-changed rules (set_address address) r = Ok (addressed rules address r)
-changed rules (define_file file) r = Ok r
-changed rules (set_discriminator n) r = Ok (record r { discriminator = n })
-changed rules (unknown_extended opcode operands) r = Ok r
+abbrev pub registers_after : {F : Type 0} → LineRules → InstructionOf F → Registers
+    → Result Registers Error
+registers_after rules (special opcode) r = after_operations rules (operation_advance rules opcode)
+    (with_line (line_after r.line (line_advance rules opcode)) r)
+registers_after rules copy r = Ok r
+registers_after rules (advance_pc n) r = after_operations rules n r
+registers_after rules (advance_line n) r = Ok (with_line (line_after r.line n) r)
+registers_after rules (set_file n) r = Ok (record r { file = n })
+registers_after rules (set_column n) r = Ok (record r { column = n })
+registers_after rules negate_stmt r = Ok (record r { is_stmt = not r.is_stmt })
+registers_after rules set_basic_block r = Ok (record r { basic_block = true })
+registers_after rules const_add_pc r = after_operations rules (operation_advance rules 255) r
+registers_after rules (fixed_advance_pc n) r = after_bytes rules n r
+registers_after rules set_prologue_end r = Ok (record r { prologue_end = true })
+registers_after rules set_epilogue_begin r = Ok (record r { epilogue_begin = true })
+registers_after rules (set_isa n) r = Ok (record r { isa = n })
+registers_after rules (unknown_standard_0 opcode) r = Ok r
+registers_after rules (unknown_standard_1 opcode operand) r = Ok r
+registers_after rules (unknown_standard_n opcode operands) r = Ok r
+registers_after rules end_sequence r = Ok (record r { end_sequence = true })
+registers_after rules (set_address address) r = Ok (at_new_address rules address r)
+registers_after rules (define_file file) r = Ok r
+registers_after rules (set_discriminator n) r = Ok (record r { discriminator = n })
+registers_after rules (unknown_extended opcode operands) r = Ok r
 
 -- ---- rows
 
@@ -135,13 +148,18 @@ gives_row copy = true
 gives_row end_sequence = true
 gives_row _ = false
 
--- Behind a row, shown or hidden: the end of a sequence is the start of the next one, and four registers hold for
--- one row alone.
-abbrev pub cleared : LineRules → Registers → Registers
-cleared rules r =
+-- After a row, shown or hidden: the end of a sequence is the start of the next one, and four
+-- registers hold for one row alone.
+abbrev pub after_row : LineRules → Registers → Registers
+after_row rules r =
     if r.end_sequence then start rules
-    else record r { basic_block = false; prologue_end = false; epilogue_begin = false; discriminator = 0 }
+    else record r {
+      basic_block = false;
+      prologue_end = false;
+      epilogue_begin = false;
+      discriminator = 0;
+    }
 
--- the registers behind an instruction that left them so
-abbrev pub behind : {F : Type 0} → LineRules → InstructionOf F → Registers → Registers
-behind rules i r = if gives_row i then cleared rules r else r
+-- the registers after an instruction that left them so
+abbrev pub next_registers : {F : Type 0} → LineRules → InstructionOf F → Registers → Registers
+next_registers rules i r = if gives_row i then after_row rules r else r

@@ -1,13 +1,12 @@
 //! The registers, and what the operations of instructions make of them.
 
 ghost use Rattle.std.specs.Prelude.{◌≡◌, ◌+◌, ◌≤◌, IsTrue};
-ghost use Rattle.gimli_core_base.specs.Calls.{Answers};
-ghost use Rattle.gimli_core_numbers.specs.Numbers.{is_address_size};
-ghost use Rattle.gimli_lines_machine.specs.Machine.{start, line_moved, line_advance, operation_advance, address_within, advanced, advanced_by, addressed, cleared, with_line, Becomes, IsSound};
+ghost use Rattle.gimli_core_readers.specs.Calls.{Returns};
+ghost use Rattle.gimli_core_readers.specs.NumberParsers.{is_address_size};
+ghost use Rattle.gimli_lines_machine.specs.Machine.{start, line_after, line_advance, operation_advance, address_within, after_operations, after_bytes, at_new_address, after_row, with_line, Becomes, IsSound};
 
 use crate::rules::LineRules;
-use gimli_core_base::error::Error;
-use gimli_units_base::{greatest_address, least_tombstone};
+use gimli_core_readers::{Error, greatest_address, least_tombstone};
 
 /// The registers of the state machine (DWARF 5, 6.2.2).
 #[derive(Clone, Copy, Debug, PartialEq, Eq, Hash)]
@@ -55,15 +54,16 @@ impl Registers {
 
     /// Moves the line: past 64 bits it wraps, and there is none below 0.
     pub fn advance_line(&mut self, lines: i64)
-        ensures { self.new ≡ with_line (line_moved self.old.line lines) self.old }
+        ensures { self.new ≡ with_line (line_after self.old.line lines) self.old }
     {
-        self.line = moved(self.line, lines);
+        self.line = line_after(self.line, lines);
     }
 
-    /// Moves the address and the operation by so many operations (DWARF 5, 6.2.5.1). Refused, nothing changes.
+    /// Moves the address and the operation by a number of operations (DWARF 5, 6.2.5.1). Refused,
+    /// nothing changes.
     pub fn advance_operations(&mut self, rules: LineRules, operations: u64) -> Result<(), Error>
         requires { IsSound rules }
-        ensures { Becomes result self.old self.new (advanced rules operations self.old) }
+        ensures { Becomes result self.old self.new (after_operations rules operations self.old) }
     {
         if self.is_hidden {
             return Ok(());
@@ -77,10 +77,10 @@ impl Registers {
         Ok(())
     }
 
-    /// Moves the address by so many bytes. Refused, nothing changes.
+    /// Moves the address by a number of bytes. Refused, nothing changes.
     pub fn advance_bytes(&mut self, rules: LineRules, bytes: u16) -> Result<(), Error>
         requires { IsSound rules }
-        ensures { Becomes result self.old self.new (advanced_by rules bytes self.old) }
+        ensures { Becomes result self.old self.new (after_bytes rules bytes self.old) }
     {
         if self.is_hidden {
             return Ok(());
@@ -93,27 +93,31 @@ impl Registers {
     /// Moves the address by the operations of a special opcode.
     pub fn advance_as(&mut self, rules: LineRules, opcode: u8) -> Result<(), Error>
         requires { IsSound rules }
-        ensures { Becomes result self.old self.new (advanced rules (operation_advance rules opcode) self.old) }
+        ensures { Becomes result self.old self.new
+            (after_operations rules (operation_advance rules opcode) self.old) }
     {
         let adjusted = opcode.saturating_sub(rules.opcode_base);
         self.advance_operations(rules, u64::from(adjusted / rules.line_encoding.line_range))
     }
 
-    /// Moves the line and the address as a special opcode says (DWARF 5, 6.2.5.1): those below the first one do as it
-    /// does. Refused, nothing changes.
+    /// Moves the line and the address as a special opcode says (DWARF 5, 6.2.5.1): those below the
+    /// first one do as it does. Refused, nothing changes.
     pub fn advance_both(&mut self, rules: LineRules, opcode: u8) -> Result<(), Error>
         requires { IsSound rules }
-        ensures { Becomes result self.old self.new (advanced rules (operation_advance rules opcode) (with_line (line_moved self.old.line (line_advance rules opcode)) self.old)) }
+        ensures { Becomes result self.old self.new
+            (after_operations rules (operation_advance rules opcode)
+            (with_line (line_after self.old.line (line_advance rules opcode)) self.old)) }
     {
         self.advance_as(rules, opcode)?;
         self.advance_line(lines_of(rules, opcode));
         Ok(())
     }
 
-    /// Sets the address, or hides the rows up to the next one: those of an address that goes back or stands for none.
+    /// Sets the address, or hides the rows up to the next one: those of an address that goes back
+    /// or stands for none.
     pub fn set_address(&mut self, rules: LineRules, address: u64)
         requires { IsSound rules }
-        ensures { self.new ≡ addressed rules address self.old }
+        ensures { self.new ≡ at_new_address rules address self.old }
     {
         if address < self.address || least_tombstone(rules.encoding.address_size) <= address {
             self.is_hidden = true;
@@ -124,9 +128,9 @@ impl Registers {
         }
     }
 
-    /// Clears what holds for one row alone; behind the end of a sequence all is as at its start.
+    /// Clears what holds for one row alone; after the end of a sequence all is as at its start.
     pub fn clear(&mut self, rules: LineRules)
-        ensures { self.new ≡ cleared rules self.old }
+        ensures { self.new ≡ after_row rules self.old }
     {
         if self.end_sequence {
             *self = Registers::start(rules);
@@ -140,8 +144,8 @@ impl Registers {
 }
 
 // A line, moved.
-fn moved(line: u64, lines: i64) -> u64
-    ensures { result ≡ line_moved line lines }
+fn line_after(line: u64, lines: i64) -> u64
+    ensures { result ≡ line_after line lines }
 {
     if lines < 0 {
         line.saturating_sub(lines.unsigned_abs())
@@ -163,7 +167,7 @@ fn lines_of(rules: LineRules, opcode: u8) -> i64
 // The sum of an address and an advance, where it is an address of the size.
 fn sum_within(address: u64, advance: u64, address_size: u8) -> Result<u64, Error>
     requires { IsTrue (is_address_size address_size) }
-    ensures { Answers (λ a. a) result (address_within address_size (address + advance)) }
+    ensures { Returns result (address_within address_size (address + advance)) }
 {
     match address.checked_add(advance) {
         Some(sum) if sum <= greatest_address(address_size) => Ok(sum),

@@ -1,4 +1,4 @@
-use gimli_core_constants::{Encoding, LineEncoding};
+use gimli_core_readers::{Encoding, LineEncoding};
 
 /// What instructions depend on, from the header of their program (DWARF 5, 6.2.4).
 #[derive(Clone, Copy, Debug, PartialEq, Eq, Hash)]

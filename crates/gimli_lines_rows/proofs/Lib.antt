@@ -1,4 +1,7 @@
-pub mod Steps
-pub mod Paths
-pub mod Resumed
+pub use Rattle.gimli_lines_machine.proofs.RefusedCalls
+pub use Rattle.gimli_lines_machine.proofs.StepParts
+pub mod Operands
+pub mod LineRowSteps
+pub mod RowPaths
+pub mod ResumedRows
 pub mod SequenceLoops

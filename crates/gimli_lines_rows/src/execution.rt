@@ -1,18 +1,16 @@
 //! How an instruction is executed.
 
 ghost use Rattle.std.specs.Prelude.{◌≡◌};
-ghost use Rattle.gimli_lines_header.specs.Headers.{LineHeader};
-ghost use Rattle.gimli_lines_instructions.specs.Programs.{rules_of};
-ghost use Rattle.gimli_lines_instructions.specs.Seen.{line_instruction};
-ghost use Rattle.gimli_lines_machine.specs.Machine.{changed, IsSound};
-ghost use Rattle.gimli_lines_rows.specs.Rows.{Executes, HeaderBehind};
+ghost use Rattle.gimli_lines_header.specs.LineHeaders.{LineHeader};
+ghost use Rattle.gimli_lines_rows.specs.ProgramInstructions.{rules_of};
+ghost use Rattle.gimli_lines_rows.specs.InstructionViews.{line_instruction};
+ghost use Rattle.gimli_lines_machine.specs.Machine.{registers_after, IsSound};
+ghost use Rattle.gimli_lines_rows.specs.ProgramRows.{Executes, HeaderAfter};
 
+use crate::LineInstruction;
 use crate::program::LineProgram;
-use gimli_core_base::error::Error;
-use gimli_core_readers::Reader;
 use gimli_lines_header::LineProgramHeader;
-use gimli_lines_instructions::LineInstruction;
-use gimli_lines_machine::{LineRules, Registers};
+use gimli_lines_machine::{Error, LineRules, Reader, Registers};
 
 /// What the instructions of a header's program depend on.
 pub(crate) fn rules_of<R: Reader>(header: &LineProgramHeader<R>) -> LineRules
@@ -26,15 +24,18 @@ pub(crate) fn rules_of<R: Reader>(header: &LineProgramHeader<R>) -> LineRules
     }
 }
 
-/// Executes an instruction, and says whether it gives a row. Refused, nothing changes. Takes memory only for a file that it
-/// defines.
+/// Executes an instruction, and says whether it gives a row. Refused, nothing changes. Takes memory
+/// only for a file that it defines.
 pub(crate) fn execute<R: Reader, P: LineProgram<R>>(
     registers: &mut Registers,
     instruction: LineInstruction<R>,
     program: &mut P,
 ) -> Result<bool, Error>
-    ensures registers { Executes result registers.old registers.new (changed (rules_of (P.header_of program.old)) (line_instruction R.view instruction) registers.old) (line_instruction R.view instruction) }
-    ensures header { HeaderBehind result P.takes_files (line_instruction R.view instruction) (P.header_of program.old) (P.header_of program.new) }
+    ensures registers { Executes result registers.old registers.new
+        (registers_after (rules_of (P.header_of program.old)) (line_instruction R.view instruction)
+        registers.old) (line_instruction R.view instruction) }
+    ensures header { HeaderAfter result P.takes_files (line_instruction R.view instruction)
+        (P.header_of program.old) (P.header_of program.new) }
 {
     let rules = rules_of(program.header());
     match instruction {

@@ -1,12 +1,30 @@
-//! The rows of line number programs (DWARF 5, 6.2).
+//! Line programs, read: the instructions of a program one after the other, and the rows that they show.
 #![tactic(auto)]
 
 mod execution;
+pub mod instruction;
+pub mod instructions;
+mod parsing;
 pub mod program;
 pub mod row;
 pub mod rows;
 pub mod sequence;
 
+pub use gimli_lines_header::{
+    AbbreviationsCache, AbbreviationsCacheStrategy, ArangeEntry, ArangeEntryIter, ArangeHeader,
+    ArangeHeaderIter, Attribute, AttributeValue, DebugAbbrev, DebugAranges, DebugInfo, DebugLine,
+    FileEntry, FileEntryFormat, LineProgramHeader, UnitHeader, UnitType, laws,
+};
+pub use gimli_lines_machine::{
+    DW_AT_high_pc, DW_AT_language, DW_AT_low_pc, DW_AT_ranges, DW_LANG_Rust, DebugAbbrevOffset,
+    DebugAddr, DebugAddrIndex, DebugLineStr, DebugLineStrOffset, DebugRngListsIndex, DebugStr,
+    DebugStrOffset, DebugStrOffsets, DebugStrOffsetsIndex, DwLang, DwarfFileType, DwoId,
+    EndianBytes, EndianSlice, Error, Format, LineRules, LittleEndian, Range, RangeListsOffset,
+    RawRangeListsOffset, Reader, ReaderOffset, ReaderOffsetId, RunTimeEndian, SectionId,
+    UnitOffset,
+};
+pub use instruction::LineInstruction;
+pub use instructions::{LineInstructions, ProgramInstructions};
 pub use program::{CompleteLineProgram, IncompleteLineProgram, LineProgram, LinePrograms};
 pub use row::{ColumnType, LineRow};
 pub use rows::LineRows;

@@ -1,23 +1,21 @@
 //! Programs whose rows are read.
 
 ghost use Rattle.std.specs.Prelude.{◌≡◌, Bool, OnOk, IfErr, IsTrue, option_map, true, false, Ok};
-ghost use Rattle.gimli_core_base.specs.Calls.{Gives};
-ghost use Rattle.gimli_core_base.specs.declared.error.Error.TheVariants.{Memory};
-ghost use Rattle.gimli_core_base.specs.View.{View};
-ghost use Rattle.gimli_core_numbers.specs.Numbers.{is_address_size};
-ghost use Rattle.gimli_lines_header.specs.Headers.{LineHeader};
-ghost use Rattle.gimli_lines_header.specs.Parsing.{header_at};
-ghost use Rattle.gimli_lines_instructions.specs.Programs.{rules_of};
+ghost use Rattle.gimli_lines_machine.specs.Calls.{ReturnsOrNoMemory};
+ghost use Rattle.gimli_lines_machine.specs.Error.TheVariants.{Memory};
+ghost use Rattle.gimli_lines_machine.specs.View.{View};
+ghost use Rattle.gimli_lines_machine.specs.NumberParsers.{is_address_size};
+ghost use Rattle.gimli_lines_header.specs.LineHeaders.{LineHeader};
+ghost use Rattle.gimli_lines_header.specs.HeaderParsing.{header_at};
+ghost use Rattle.gimli_lines_rows.specs.ProgramInstructions.{rules_of};
 ghost use Rattle.gimli_lines_machine.specs.Machine.{start};
-ghost use Rattle.gimli_lines_rows.specs.Rows.{header_given, header_with};
-ghost use Rattle.gimli_lines_rows.specs.Sequences.{SequencesOf, resumed};
+ghost use Rattle.gimli_lines_rows.specs.ProgramRows.{header_with_any, header_with};
+ghost use Rattle.gimli_lines_rows.specs.RowSequences.{SequencesOf, sequence_rows};
 
 use crate::rows::LineRows;
 use crate::sequence::{LineSequence, next_sequence};
-use gimli_core_base::error::Error;
-use gimli_core_constants::DebugLineOffset;
-use gimli_core_readers::Reader;
 use gimli_lines_header::{DebugLine, FileEntry, LineProgramHeader};
+use gimli_lines_machine::{DebugLineOffset, Error, Reader};
 use std::alloc::Global;
 use std::marker::Model;
 
@@ -30,8 +28,8 @@ pub trait LinePrograms<R: Reader> {
     fn debug_line(&self) -> &DebugLine<R>
         ensures { result.now ≡ section self.now };
 
-    /// The program at an offset. Its unit gives the bytes of an address, which count up to version 4, its directory and its
-    /// name.
+    /// The program at an offset. Its unit gives the bytes of an address, which count up to version
+    /// 4, its directory and its name.
     final fn program(
         &self,
         alloc: Global,
@@ -41,9 +39,13 @@ pub trait LinePrograms<R: Reader> {
         comp_name: Option<R>,
     ) -> Result<IncompleteLineProgram<R>, Error>
         requires { IsTrue (is_address_size address_size) }
-        ensures { Gives (λ program. program) result
+        ensures { ReturnsOrNoMemory result
             (header_at R.Offset.limit (R.Offset.count offset.0)
-            (record { address_bytes = address_size; directory = option_map R.view comp_dir; name = option_map R.view comp_name })
+            (record {
+              address_bytes = address_size;
+              directory = option_map R.view comp_dir;
+              name = option_map R.view comp_name;
+            })
             (section self.now)) }
     {
         let section = self.debug_line();
@@ -74,12 +76,15 @@ pub trait LineProgram<R: Reader> {
 
     /// Takes a file that an instruction defines out of its place. Refused, the header is unchanged.
     fn take_file(&mut self, file: &mut Option<FileEntry<R>>) -> Result<(), Error>
-        ensures ok { OnOk result (header_of self.new ≡ header_given takes_files file.old (header_of self.old)) }
-        ensures err { IfErr result (λ e. (e ≡ Memory) × (header_of self.new ≡ header_of self.old)) };
+        ensures ok { OnOk result (header_of self.new ≡ header_with_any takes_files file.old
+            (header_of self.old)) }
+        ensures err { IfErr result
+            (λ e. (e ≡ Memory) × (header_of self.new ≡ header_of self.old)) };
 
     /// Takes a file that an instruction defines. Refused, the header is unchanged.
     final fn add_file(&mut self, file: FileEntry<R>) -> Result<(), Error>
-        ensures ok { OnOk result (header_of self.new ≡ header_with takes_files file (header_of self.old)) }
+        ensures ok { OnOk result (header_of self.new
+            ≡ header_with takes_files file (header_of self.old)) }
         ensures err { IfErr result (λ e. (e ≡ Memory) × (header_of self.new ≡ header_of self.old)) }
     {
         self.take_file(&mut Some(file))
@@ -93,7 +98,7 @@ pub struct IncompleteLineProgram<R: Reader> {
 }
 
 impl<R: Reader> Model for IncompleteLineProgram<R> {
-    ghost use Rattle.gimli_lines_header.specs.Headers.{LineHeader};
+    ghost use Rattle.gimli_lines_header.specs.LineHeaders.{LineHeader};
 
     ghost Value = { LineHeader };
 
@@ -112,7 +117,7 @@ impl<R: Reader> LineProgram<R> for IncompleteLineProgram<R> {
     }
 
     fn take_file(&mut self, file: &mut Option<FileEntry<R>>) -> Result<(), Error>
-        ensures ok { OnOk result (self.new ≡ header_given true file.old self.old) }
+        ensures ok { OnOk result (self.new ≡ header_with_any true file.old self.old) }
         ensures err { IfErr result (λ e. (e ≡ Memory) × (self.new ≡ self.old)) }
     {
         match file.take() {
@@ -139,15 +144,22 @@ impl<R: Reader> IncompleteLineProgram<R> {
 
     /// The rows, from the first on. Takes memory only where a copy of the reader does.
     pub fn rows(self) -> Result<LineRows<R, IncompleteLineProgram<R>>, Error>
-        ensures { Gives (λ rows. rows) result (Ok (record { header = self; takes_files = true; registers = start (rules_of self); last = start (rules_of self); left = self.program })) }
+        ensures { ReturnsOrNoMemory result (Ok
+            (record {
+              header = self;
+              takes_files = true;
+              registers = start (rules_of self);
+              last = start (rules_of self);
+              left = self.program;
+            })) }
     {
         LineRows::new(self)
     }
 }
 
 impl<R: Reader> IncompleteLineProgram<R> {
-    /// The sequences of the program's rows, in order, and the program with all files that its instructions define. Takes
-    /// memory for the sequences and for the files.
+    /// The sequences of the program's rows, in order, and the program with all files that its
+    /// instructions define. Takes memory for the sequences and for the files.
     pub fn sequences(
         self,
         alloc: Global,
@@ -178,7 +190,7 @@ pub struct CompleteLineProgram<R: Reader> {
 }
 
 impl<R: Reader> Model for CompleteLineProgram<R> {
-    ghost use Rattle.gimli_lines_header.specs.Headers.{LineHeader};
+    ghost use Rattle.gimli_lines_header.specs.LineHeaders.{LineHeader};
 
     ghost Value = { LineHeader };
 
@@ -197,7 +209,7 @@ impl<R: Reader> LineProgram<R> for &CompleteLineProgram<R> {
     }
 
     fn take_file(&mut self, _file: &mut Option<FileEntry<R>>) -> Result<(), Error>
-        ensures ok { OnOk result (self.new.now ≡ header_given false _file.old self.old.now) }
+        ensures ok { OnOk result (self.new.now ≡ header_with_any false _file.old self.old.now) }
         ensures err { IfErr result (λ e. (e ≡ Memory) × (self.new.now ≡ self.old.now)) }
     {
         Ok(())
@@ -205,12 +217,13 @@ impl<R: Reader> LineProgram<R> for &CompleteLineProgram<R> {
 }
 
 impl<R: Reader> CompleteLineProgram<R> {
-    /// The rows of a sequence, from its first on. Takes memory only where a copy of the reader does.
+    /// The rows of a sequence, from its first on. Takes memory only where a copy of the reader
+    /// does.
     pub fn resume_from(
         &self,
         sequence: &LineSequence<R>,
     ) -> Result<LineRows<R, &CompleteLineProgram<R>>, Error>
-        ensures { Gives (λ rows. rows) result (Ok (resumed self.now sequence.now.left)) }
+        ensures { ReturnsOrNoMemory result (Ok (sequence_rows self.now sequence.now.left)) }
     {
         Ok(LineRows::over(self, sequence.instructions().copy()?))
     }

@@ -2,20 +2,18 @@
 
 ghost use Rattle.std.specs.Prelude.{◌≡◌, option_map, MatchOption};
 ghost use Rattle.std.specs.Int.NonZero.{non_zero_u64_get};
-ghost use Rattle.gimli_lines_header.specs.Headers.{file_at};
-ghost use Rattle.gimli_lines_instructions.specs.Programs.{rules_of};
-ghost use Rattle.gimli_lines_instructions.specs.Seen.{line_instruction};
-ghost use Rattle.gimli_lines_machine.specs.Machine.{start, changed, cleared};
+ghost use Rattle.gimli_lines_header.specs.LineHeaders.{file_at};
+ghost use Rattle.gimli_lines_rows.specs.ProgramInstructions.{rules_of};
+ghost use Rattle.gimli_lines_rows.specs.InstructionViews.{line_instruction};
+ghost use Rattle.gimli_lines_machine.specs.Machine.{start, registers_after, after_row};
 ghost use Rattle.gimli_lines_rows.specs.Columns.{column_number};
-ghost use Rattle.gimli_lines_rows.specs.Rows.{Executes, HeaderBehind};
+ghost use Rattle.gimli_lines_rows.specs.ProgramRows.{Executes, HeaderAfter};
 
+use crate::LineInstruction;
 use crate::execution::{execute, rules_of};
 use crate::program::LineProgram;
-use gimli_core_base::error::Error;
-use gimli_core_readers::Reader;
 use gimli_lines_header::{FileEntry, LineProgramHeader};
-use gimli_lines_instructions::LineInstruction;
-use gimli_lines_machine::Registers;
+use gimli_lines_machine::{Error, Reader, Registers};
 use std::marker::Model;
 use std::num::NonZeroU64;
 
@@ -119,7 +117,7 @@ impl LineRow {
         self.registers.basic_block
     }
 
-    /// The address is the first one behind a sequence, and the row has no other meaning.
+    /// The address is the first one after a sequence, and the row has no other meaning.
     pub fn end_sequence(&self) -> bool
         ensures { result ≡ self.now.end_sequence }
     {
@@ -154,22 +152,25 @@ impl LineRow {
         self.registers.discriminator
     }
 
-    /// Executes an instruction, and says whether it gives this row. Refused, nothing changes. Takes memory only for a file
-    /// that it defines.
+    /// Executes an instruction, and says whether it gives this row. Refused, nothing changes. Takes
+    /// memory only for a file that it defines.
     pub fn execute<R: Reader, P: LineProgram<R>>(
         &mut self,
         instruction: LineInstruction<R>,
         program: &mut P,
     ) -> Result<bool, Error>
-        ensures row { Executes result self.old self.new (changed (rules_of (P.header_of program.old)) (line_instruction R.view instruction) self.old) (line_instruction R.view instruction) }
-        ensures header { HeaderBehind result P.takes_files (line_instruction R.view instruction) (P.header_of program.old) (P.header_of program.new) }
+        ensures row { Executes result self.old self.new
+            (registers_after (rules_of (P.header_of program.old))
+            (line_instruction R.view instruction) self.old) (line_instruction R.view instruction) }
+        ensures header { HeaderAfter result P.takes_files (line_instruction R.view instruction)
+            (P.header_of program.old) (P.header_of program.new) }
     {
         execute(&mut self.registers, instruction, program)
     }
 
-    /// Clears what holds for one row alone; behind the end of a sequence all is as at its start.
+    /// Clears what holds for one row alone; after the end of a sequence all is as at its start.
     pub fn reset<R: Reader>(&mut self, header: &LineProgramHeader<R>)
-        ensures { self.new ≡ cleared (rules_of header.now) self.old }
+        ensures { self.new ≡ after_row (rules_of header.now) self.old }
     {
         self.registers.clear(rules_of(header));
     }

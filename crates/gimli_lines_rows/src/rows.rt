@@ -1,19 +1,17 @@
 //! The rows of a program, one after the other.
 
 ghost use Rattle.std.specs.Prelude.{◌≡◌, Ok};
-ghost use Rattle.gimli_core_base.specs.Calls.{Gives, Takes};
-ghost use Rattle.gimli_lines_instructions.specs.Programs.{rules_of};
+ghost use Rattle.gimli_lines_machine.specs.Calls.{ReturnsOrNoMemory, ReadsOrNoMemory};
+ghost use Rattle.gimli_lines_rows.specs.ProgramInstructions.{rules_of};
 ghost use Rattle.gimli_lines_machine.specs.Machine.{start};
-ghost use Rattle.gimli_lines_rows.specs.Rows.{NextRow, ToNextRow, OneStep, LendsRow, rows_to_come, stepped};
+ghost use Rattle.gimli_lines_rows.specs.ProgramRows.{NextRow, ToNextRow, OneStep, LendsRow, rows_to_come, next_step};
 
+use crate::LineInstructions;
 use crate::execution::{execute, rules_of};
 use crate::program::LineProgram;
 use crate::row::LineRow;
-use gimli_core_base::error::Error;
-use gimli_core_readers::Reader;
 use gimli_lines_header::LineProgramHeader;
-use gimli_lines_instructions::LineInstructions;
-use gimli_lines_machine::Registers;
+use gimli_lines_machine::{Error, Reader, Registers};
 use std::marker::Model;
 
 /// The rows of a program, from one of them on.
@@ -28,7 +26,7 @@ pub struct LineRows<R: Reader, P: LineProgram<R> + Drop> {
 }
 
 impl<R: Reader, P: LineProgram<R> + Drop> Model for LineRows<R, P> {
-    ghost use Rattle.gimli_lines_rows.specs.Rows.{RowsLeft};
+    ghost use Rattle.gimli_lines_rows.specs.ProgramRows.{RowsLeft};
 
     ghost Value = { RowsLeft };
 
@@ -44,7 +42,15 @@ impl<R: Reader, P: LineProgram<R> + Drop> Model for LineRows<R, P> {
 impl<R: Reader, P: LineProgram<R> + Drop> LineRows<R, P> {
     /// The rows of a program that begins its instructions.
     pub(crate) fn new(program: P) -> Result<Self, Error>
-        ensures { Gives (λ rows. rows) result (Ok (record { header = P.header_of program; takes_files = P.takes_files; registers = start (rules_of (P.header_of program)); last = start (rules_of (P.header_of program)); left = (P.header_of program).program })) }
+        ensures { ReturnsOrNoMemory result (Ok
+            (record {
+              header = P.header_of program;
+              takes_files = P.takes_files;
+              registers = start (rules_of (P.header_of program));
+              last =
+                  start (rules_of (P.header_of program));
+              left = (P.header_of program).program;
+            })) }
     {
         let instructions = LineInstructions::new(program.header().raw_program_buf()?);
         Ok(LineRows::over(program, instructions))
@@ -52,7 +58,14 @@ impl<R: Reader, P: LineProgram<R> + Drop> LineRows<R, P> {
 
     /// The rows that instructions make from the start of a sequence on.
     pub(crate) fn over(program: P, instructions: LineInstructions<R>) -> Self
-        ensures { result ≡ record { header = P.header_of program; takes_files = P.takes_files; registers = start (rules_of (P.header_of program)); last = start (rules_of (P.header_of program)); left = instructions } }
+        ensures { result ≡ record {
+          header = P.header_of program;
+          takes_files = P.takes_files;
+          registers = start (rules_of (P.header_of program));
+          last =
+              start (rules_of (P.header_of program));
+          left = instructions;
+        } }
     {
         let registers = Registers::start(rules_of(program.header()));
         LineRows {
@@ -92,8 +105,9 @@ impl<R: Reader, P: LineProgram<R> + Drop> LineRows<R, P> {
         &self.row
     }
 
-    /// Goes on to the next row, and says whether there is one. After a fault there are none. Want of memory, which may
-    /// come only with a part of the reader or a file that an instruction defines, leaves all rows to come.
+    /// Goes on to the next row, and says whether there is one. After a fault there are none. Out of
+    /// memory, which only a part of the reader or a file that an instruction defines can cause,
+    /// leaves all rows to come.
     pub fn advance(&mut self) -> Result<bool, Error>
         ensures next { NextRow R.Offset.limit result self.old self.new }
         ensures path { ToNextRow R.Offset.limit result self.old self.new }
@@ -106,7 +120,8 @@ impl<R: Reader, P: LineProgram<R> + Drop> LineRows<R, P> {
         Ok(false)
     }
 
-    /// The next row, with the header that has the files defined so far; none at the end. After a fault there are none.
+    /// The next row, with the header that has the files defined so far; none at the end. After a
+    /// fault there are none.
     pub fn next_row(&mut self) -> Result<Option<(&LineProgramHeader<R>, &LineRow)>, Error>
         ensures { LendsRow (λ p. (p.0.now, p.1.now)) result (rows_to_come R.Offset.limit self.old) }
     {
@@ -117,8 +132,8 @@ impl<R: Reader, P: LineProgram<R> + Drop> LineRows<R, P> {
         }
     }
 
-    /// Executes the next instruction, and says whether it shows a row; none at the end of the program. After a fault there
-    /// are none. Want of memory changes nothing.
+    /// Executes the next instruction, and says whether it shows a row; none at the end of the
+    /// program. After a fault there are none. Out of memory, nothing changes.
     fn step(&mut self) -> Result<Option<bool>, Error>
         ensures { OneStep R.Offset.limit result self.old self.new }
     {
@@ -134,7 +149,7 @@ impl<R: Reader, P: LineProgram<R> + Drop> LineRows<R, P> {
 
     /// The same; refused, nothing changes.
     fn try_step(&mut self) -> Result<Option<bool>, Error>
-        ensures { Takes (λ done. done) result self.old self.new (stepped R.Offset.limit self.old) }
+        ensures { ReadsOrNoMemory result self.old self.new (next_step R.Offset.limit self.old) }
     {
         let Some((instruction, rest)) = self.instructions.read_next(self.program.header())? else {
             return Ok(None);

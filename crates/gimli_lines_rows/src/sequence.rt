@@ -1,13 +1,12 @@
 //! The sequences of a program.
 
 ghost use Rattle.std.specs.Prelude.{◌≡◌};
-ghost use Rattle.gimli_lines_rows.specs.Sequences.{NextSequence};
+ghost use Rattle.gimli_lines_rows.specs.RowSequences.{NextSequence};
 
+use crate::LineInstructions;
 use crate::program::LineProgram;
 use crate::rows::LineRows;
-use gimli_core_base::error::Error;
-use gimli_core_readers::Reader;
-use gimli_lines_instructions::LineInstructions;
+use gimli_lines_machine::{Error, Reader};
 use std::marker::Model;
 
 /// Rows up to one that ends a sequence: their addresses never go down (DWARF 5, 6.2.2).
@@ -15,13 +14,13 @@ use std::marker::Model;
 pub struct LineSequence<R: Reader> {
     /// The first address.
     pub start: u64,
-    /// The first address behind the sequence.
+    /// The first address after the sequence.
     pub end: u64,
     instructions: LineInstructions<R>,
 }
 
 impl<R: Reader> Model for LineSequence<R> {
-    ghost use Rattle.gimli_lines_rows.specs.Sequences.{SequenceLeft};
+    ghost use Rattle.gimli_lines_rows.specs.RowSequences.{SequenceLeft};
 
     ghost Value = { SequenceLeft };
 

@@ -3,35 +3,37 @@ use Rattle.std.proofs.Common.{◌≡◌, ℕ, zero, suc, ◌+◌, ◌≤◌, ◌
 use Rattle.std.specs.List.Sorted.{IsStrictlyIncreasing}
 use Rattle.gimli_core_base.specs.declared.error.Error.{Error}
 use Rattle.gimli_core_base.specs.View.{View, bytes_left}
-use Rattle.gimli_core_base.specs.Parsers.{Step, onward, give}
+use Rattle.gimli_core_base.specs.Parsers.{Step, proceed, give}
 use Rattle.gimli_core_base.specs.Repetition.{next_item, item_or_end, items_within, listing_in}
-use Rattle.gimli_core_base.proofs.Steps.{begins, read, value_is, state_is}
-use Rattle.gimli_core_base.proofs.Sizes.{Below, SomeBelow-None, SomeBelow-Ok, SomeBelow-cond, SomeBelow-onward}
+use Rattle.gimli_core_base.proofs.StepParts.{begins, read, value_is, state_is}
+use Rattle.gimli_core_base.proofs.StepSizes.{Below, SomeBelow-None, SomeBelow-Ok, SomeBelow-cond, SomeBelow-proceed}
 use Rattle.gimli_core_base.proofs.Listings.{Shrinks}
-use Rattle.gimli_core_constants.specs.declared.common.Encoding.{Encoding}
-use Rattle.gimli_core_abbrev.specs.Declarations.{Attribute, Declaration}
-use Rattle.gimli_units_forms.specs.Values.{RawAttribute}
-use Rattle.gimli_units_forms.specs.Reading as forms
-use Rattle.gimli_units_forms.specs.Passing as forms_passed
-use Rattle.gimli_units_forms.proofs.CrossingLemmas.{passed_over-attributes}
-use Rattle.gimli_units_headers.proofs.Parts.{listing_few}
-use Rattle.gimli_units_entries.specs.Entries.{Walk, IsWithin, read_of, next_offset, head, values, passed_over}
-use Rattle.gimli_units_entries.specs.Rows.{Row, row_of, contents, all_contents, row, row_choosing, row_or_end, rows}
-use Rattle.gimli_units_entries.specs.Laws.{any_tag, chosen_of}
-use Rattle.gimli_units_entries.proofs.RowParts.{read_of-Ok, contents_in, HasRow, row-parts, row-from, row-takes}
+use Rattle.gimli_core_base.specs.declared.common.Encoding.{Encoding}
+use Rattle.gimli_units_forms.specs.Declarations.{Attribute, Declaration}
+use Rattle.gimli_units_forms.specs.AttributeValues.{RawAttribute}
+use Rattle.gimli_units_forms.specs.AttributeReading as forms
+use Rattle.gimli_units_forms.specs.AttributeSkipping as form_skips
+use Rattle.gimli_units_forms.proofs.SkipAgreementLemmas.{skip_values-attributes}
+use Rattle.gimli_units_headers.proofs.TilingLemmas.{listing_few}
+use Rattle.gimli_units_entries.specs.EntryWalks.{Walk, IsWithin, read_in_walk, next_offset, entry_head, values, skip_values}
+use Rattle.gimli_units_entries.specs.EntryRows.{Row, row_of, contents, all_contents, row, row_choosing, row_or_end, rows}
+use Rattle.gimli_units_entries.specs.EntryLaws.{any_tag, row_under_choice}
+use Rattle.gimli_units_entries.proofs.RowParts.{read_in_walk-Ok, contents_in, HasRow, row-parts, row-from, row-takes}
 
--- ---- passing over
+-- ---- skipping
 
-pub passed_as_read : (limit : ℕ) (ss : List Attribute) (w t : Walk) (found : List RawAttribute) → values limit ss w ≡ Ok (found, t) → passed_over ss w ≡ Ok (tt, t)
-unfolding values passed_over
-passed_as_read limit ss w t found e =
-    let c = read_of-Ok w (forms.attributes limit w.encoding ss w.left) found t e in
-    ap (read_of w) (passed_over-attributes limit w.encoding ss w.left c.0 found c.1) ∙ ap (read tt) c.2
+pub skip_values-as_read : (limit : ℕ) (ss : List Attribute) (w t : Walk) (found : List RawAttribute)
+    → values limit ss w ≡ Ok (found, t) → skip_values ss w ≡ Ok (tt, t)
+unfolding values skip_values
+skip_values-as_read limit ss w t found e =
+    let c = read_in_walk-Ok w (forms.attributes limit w.encoding ss w.left) found t e in
+    ap (read_in_walk w) (skip_values-attributes limit w.encoding ss w.left c.0 found c.1) ∙ ap (read tt) c.2
 
 -- ---- a choice of tags
 
--- what goes on alike answers alike
-onward-alike : {S A B : Type 0} (r : Result (A × S) Error) (f g : A → Step S B) → ((x : A) (s : S) → f x s ≡ g x s) → onward r f ≡ onward r g
+-- steps that go on in the same way answer the same
+onward-alike : {S A B : Type 0} (r : Result (A × S) Error) (f g : A → Step S B) → ((x : A) (s : S) → f x s ≡ g x s)
+    → proceed r f ≡ proceed r g
 onward-alike (Ok p) f g h = h p.0 p.1
 onward-alike (Err d) f g h = refl
 
@@ -43,43 +45,54 @@ pub row-all : (limit : ℕ) (w : Walk) → row_choosing limit any_tag w ≡ row 
 unfolding row row_choosing
 row-all limit w =
     let given = λ (d : Option Declaration) (found : List RawAttribute). row_of (next_offset w) w.depth d found in
-    onward-alike (head w) (λ d s. onward (contents limit any_tag d s) (λ found. give (given d found))) (λ d s. onward (all_contents limit d s) (λ found. give (given d found)))
-    (λ d s. ap (λ (x : Result (List RawAttribute × Walk) Error). onward x (λ found. give (given d found))) (contents-all limit d s))
+    onward-alike (entry_head w) (λ d s. proceed (contents limit any_tag d s) (λ found. give (given d found)))
+    (λ d s. proceed (all_contents limit d s) (λ found. give (given d found)))
+    (λ d s. ap (λ (x : Result (List RawAttribute × Walk) Error). proceed x (λ found. give (given d found)))
+    (contents-all limit d s))
 
 -- what is kept of attributes
-abbrev kept : Bool → List RawAttribute → List RawAttribute
-kept b found = cond b found []
+abbrev attributes_if : Bool → List RawAttribute → List RawAttribute
+attributes_if b found = cond b found []
 
 abbrev tag_of : Option Declaration → ℕ
 tag_of None = 0
 tag_of (Some d) = d.tag
 
-contents_in-chosen : (limit : ℕ) (chosen : ℕ → Bool) (e : Encoding) (d : Option Declaration) (v w : View) (found : List RawAttribute) → contents_in limit any_tag e d v ≡ Ok (found, w) → contents_in limit chosen e d v ≡ Ok (kept (chosen (tag_of d)) found, w)
-contents_in-chosen limit chosen e None v w found h =
+contents_in-choice : (limit : ℕ) (chosen : ℕ → Bool) (e : Encoding) (d : Option Declaration) (v w : View)
+    (found : List RawAttribute) → contents_in limit any_tag e d v ≡ Ok (found, w)
+    → contents_in limit chosen e d v ≡ Ok (attributes_if (chosen (tag_of d)) found, w)
+contents_in-choice limit chosen e None v w found h =
     let none = value_is [] found v w h in
     let rest = state_is [] found v w h in
-    ap (read []) rest ∙ ap (λ (xs : List RawAttribute). read xs w) (elim (chosen 0) as (λ b. [] ≡ kept b found) [ true ↦ none | false ↦ refl ])
-contents_in-chosen limit chosen e (Some d) v w found h =
-    elim (chosen d.tag) as (λ b. cond b (forms.attributes limit e d.attributes v) (onward (forms_passed.passed_over e d.attributes v) (λ _. give [])) ≡ Ok (kept b found, w)) [
+    ap (read []) rest ∙ ap (λ (xs : List RawAttribute). read xs w)
+    (elim (chosen 0) as (λ b. [] ≡ attributes_if b found) [ true ↦ none | false ↦ refl ])
+contents_in-choice limit chosen e (Some d) v w found h =
+    elim (chosen d.tag) as (λ b. cond b (forms.attributes limit e d.attributes v)
+    (proceed (form_skips.skip_values e d.attributes v) (λ _. give [])) ≡ Ok (attributes_if b found, w)) [
       | true ↦ h
-      | false ↦ ap (λ (x : Result (Unit {0} × View) Error). onward x (λ _. give [])) (passed_over-attributes limit e d.attributes v w found h)
+      | false ↦ ap (λ (x : Result (Unit {0} × View) Error). proceed x (λ _. give []))
+          (skip_values-attributes limit e d.attributes v w found h)
     ]
 
-row_of-chosen : (offset : ℕ) (depth : _) (d : Option Declaration) (chosen : ℕ → Bool) (found : List RawAttribute) → row_of offset depth d (kept (chosen (tag_of d)) found) ≡ chosen_of chosen (row_of offset depth d found)
-row_of-chosen offset depth None chosen found = refl
-row_of-chosen offset depth (Some d) chosen found = refl
+row_of-choice : (offset : ℕ) (depth : _) (d : Option Declaration) (chosen : ℕ → Bool) (found : List RawAttribute)
+    → row_of offset depth d (attributes_if (chosen (tag_of d)) found)
+    ≡ row_under_choice chosen (row_of offset depth d found)
+row_of-choice offset depth None chosen found = refl
+row_of-choice offset depth (Some d) chosen found = refl
 
-pub row-chosen : (limit : ℕ) (chosen : ℕ → Bool) (w t : Walk) (r : Row) → row limit w ≡ Ok (r, t) → row_choosing limit chosen w ≡ Ok (chosen_of chosen r, t)
-row-chosen limit chosen w t r e =
+pub row-choice : (limit : ℕ) (chosen : ℕ → Bool) (w t : Walk) (r : Row) → row limit w ≡ Ok (r, t)
+    → row_choosing limit chosen w ≡ Ok (row_under_choice chosen r, t)
+row-choice limit chosen w t r e =
     let h = row-parts limit any_tag w t r (row-all limit w ∙ e) in
-    row-from limit chosen w t (chosen_of chosen r) (record {
+    row-from limit chosen w t (row_under_choice chosen r) (record {
       declaration = h.declaration;
       behind_its_code = h.behind_its_code;
       rest = h.rest;
-      found = kept (chosen (tag_of h.declaration)) h.found;
+      found = attributes_if (chosen (tag_of h.declaration)) h.found;
       headed = h.headed;
-      filled = contents_in-chosen limit chosen w.encoding h.declaration h.behind_its_code h.rest h.found h.filled;
-      is_row = row_of-chosen (next_offset w) w.depth h.declaration chosen h.found ∙ ap (chosen_of chosen) h.is_row;
+      filled = contents_in-choice limit chosen w.encoding h.declaration h.behind_its_code h.rest h.found h.filled;
+      is_row =
+          row_of-choice (next_offset w) w.depth h.declaration chosen h.found ∙ ap (row_under_choice chosen) h.is_row;
       leads = h.leads;
     })
 
@@ -88,29 +101,34 @@ row-chosen limit chosen w t r e =
 abbrev pub size : Walk → ℕ
 size w = bytes_left w.left
 
-pub row-below : (limit : ℕ) (chosen : ℕ → Bool) (w : Walk) (n : ℕ) → size w ≤ n → Below size n (row_choosing limit chosen w)
-row-below limit chosen w n h = record { left = λ r t e. let less = row-takes limit chosen w t r (row-parts limit chosen w t r e) in omega arith }
+pub row-below : (limit : ℕ) (chosen : ℕ → Bool) (w : Walk) (n : ℕ) → size w ≤ n
+    → Below size n (row_choosing limit chosen w)
+row-below limit chosen w n h =
+    record { left = λ r t e. let less = row-takes limit chosen w t r (row-parts limit chosen w t r e) in omega arith }
 
 pub rows-shrink : (limit : ℕ) (chosen : ℕ → Bool) → Shrinks size (row_or_end limit chosen)
 unfolding row_or_end
 rows-shrink limit chosen = record {
   smaller = λ w n h.
-      SomeBelow-cond (eqb (size w) 0) SomeBelow-None (SomeBelow-onward (row-below limit chosen w n h) (λ x s lt. SomeBelow-Ok lt));
+      SomeBelow-cond (eqb (size w) 0) SomeBelow-None
+      (SomeBelow-proceed (row-below limit chosen w n h) (λ x s lt. SomeBelow-Ok lt));
 }
 
 pub rows-few : (limit : ℕ) (chosen : ℕ → Bool) (w : Walk) → length (rows limit chosen w).items ≤ bytes_left w.left
 unfolding rows
 rows-few limit chosen w = listing_few (rows-shrink limit chosen) w
 
--- a row that stands before the unit's end was read
-pub row-item : (limit : ℕ) (chosen : ℕ → Bool) (w t : Walk) (r : Row) → row_or_end limit chosen w ≡ Ok (Some r, t) → row_choosing limit chosen w ≡ Ok (r, t)
+-- a row before the unit's end was read
+pub row-item : (limit : ℕ) (chosen : ℕ → Bool) (w t : Walk) (r : Row) → row_or_end limit chosen w ≡ Ok (Some r, t)
+    → row_choosing limit chosen w ≡ Ok (r, t)
 unfolding row_or_end
 row-item limit chosen w t r e = by_test (eqb (size w) 0) e
   where
     some_is : (x y : Row) → Some x ≡ Some y → x ≡ y
     some_is x y h = cc
 
-    by_test : (b : Bool) → cond b (Ok (None, w)) (onward (row_choosing limit chosen w) (λ x. give (Some x))) ≡ read (Some r) t → row_choosing limit chosen w ≡ Ok (r, t)
+    by_test : (b : Bool) → cond b (Ok (None, w)) (proceed (row_choosing limit chosen w) (λ x. give (Some x)))
+        ≡ read (Some r) t → row_choosing limit chosen w ≡ Ok (r, t)
     by_test true h = let no : None ≡ Some r = value_is None (Some r) w t h in absurd cc
     by_test false h =
         let b = begins (row_choosing limit chosen w) (λ x. give (Some x)) (Some r) t h in
@@ -129,50 +147,69 @@ GrowFrom-le low high [] h g = tt
 GrowFrom-le low high (x ∷ xs) h g = let first = g.0 in (omega arith, g.1)
 
 -- such numbers rise
-increasing : (low : ℕ) (xs : List ℕ) → GrowFrom low xs → (k : ℕ) → k + 1 < length xs → get_or xs k 0 < get_or xs (k + 1) 0
-increasing low [] g k h = absurd (omega arith)
-increasing low (x ∷ []) g k h = absurd (omega arith)
-increasing low (x ∷ y ∷ xs) g zero h = let next = g.1.0 in omega arith
-increasing low (x ∷ y ∷ xs) g (suc k) h =
+grow_strictly : (low : ℕ) (xs : List ℕ) → GrowFrom low xs → (k : ℕ) → k + 1 < length xs
+    → get_or xs k 0 < get_or xs (k + 1) 0
+grow_strictly low [] g k h = absurd (omega arith)
+grow_strictly low (x ∷ []) g k h = absurd (omega arith)
+grow_strictly low (x ∷ y ∷ xs) g zero h = let next = g.1.0 in omega arith
+grow_strictly low (x ∷ y ∷ xs) g (suc k) h =
     let less : k + 1 < length (y ∷ xs) = omega arith in
     let is : suc k + 1 ≡ suc (k + 1) = omega arith in
-    rw is (increasing (x + 1) (y ∷ xs) g.1 k less)
+    rw is (grow_strictly (x + 1) (y ∷ xs) g.1 k less)
 
 -- the offsets of rows
 abbrev pub offsets : List Row → List ℕ
 offsets rs = map (λ r. r.offset) rs
 
--- a row stands at its walk's place, and the next one behind it
-pub row-place : (limit : ℕ) (chosen : ℕ → Bool) (w t : Walk) (r : Row) → HasRow limit chosen w r t → (r.offset ≡ next_offset w) × (t.end_offset ≡ w.end_offset)
-row-place limit chosen w t r h = (sym (ap (λ (x : Row). x.offset) h.is_row) ∙ place h.declaration, sym (ap (λ (x : Walk). x.end_offset) h.leads))
+-- a row has its walk's offset, and the next one comes after it
+pub row-place : (limit : ℕ) (chosen : ℕ → Bool) (w t : Walk) (r : Row) → HasRow limit chosen w r t
+    → (r.offset ≡ next_offset w) × (t.end_offset ≡ w.end_offset)
+row-place limit chosen w t r h =
+    (sym (ap (λ (x : Row). x.offset) h.is_row) ∙ place h.declaration, sym (ap (λ (x : Walk). x.end_offset) h.leads))
   where
     place : (d : Option Declaration) → (row_of (next_offset w) w.depth d h.found).offset ≡ next_offset w
     place None = refl
     place (Some d) = refl
 
 -- what a walk lists from its place on grows from there
-rows-grow : (limit : ℕ) (chosen : ℕ → Bool) (n : ℕ) (w : Walk) → bytes_left w.left ≤ w.end_offset → GrowFrom (next_offset w) (offsets (items_within n (row_or_end limit chosen) w).items)
+rows-grow : (limit : ℕ) (chosen : ℕ → Bool) (n : ℕ) (w : Walk) → bytes_left w.left ≤ w.end_offset
+    → GrowFrom (next_offset w) (offsets (items_within n (row_or_end limit chosen) w).items)
 unfolding items_within
 rows-grow limit chosen zero w h = tt
 rows-grow limit chosen (suc n) w h = stepped (row_or_end limit chosen w) refl (rows-grow limit chosen n)
   where
-    item : (r : Row) (t : Walk) → row_or_end limit chosen w ≡ Ok (Some r, t) → (bytes_left t.left ≤ t.end_offset → GrowFrom (next_offset t) (offsets (items_within n (row_or_end limit chosen) t).items)) → GrowFrom (next_offset w) (offsets (r ∷ (items_within n (row_or_end limit chosen) t).items))
+    item : (r : Row) (t : Walk) → row_or_end limit chosen w ≡ Ok (Some r, t)
+        → (bytes_left t.left ≤ t.end_offset
+        → GrowFrom (next_offset t) (offsets (items_within n (row_or_end limit chosen) t).items))
+        → GrowFrom (next_offset w) (offsets (r ∷ (items_within n (row_or_end limit chosen) t).items))
     item r t e again =
         let parts = row-parts limit chosen w t r (row-item limit chosen w t r e) in
         let less = row-takes limit chosen w t r parts in
         let place = row-place limit chosen w t r parts in
         let at = place.0 in
-        let end = place.1 in
-        (omega arith, GrowFrom-le (r.offset + 1) (next_offset t) (offsets (items_within n (row_or_end limit chosen) t).items) (omega arith) (again (omega arith)))
+        let end = place.1 in (
+          omega arith,
+          GrowFrom-le (r.offset + 1) (next_offset t)
+              (offsets (items_within n (row_or_end limit chosen) t).items) (omega arith) (again (omega arith)),
+        )
 
-    optional : (o : Option Row) (t : Walk) → row_or_end limit chosen w ≡ Ok (o, t) → (bytes_left t.left ≤ t.end_offset → GrowFrom (next_offset t) (offsets (items_within n (row_or_end limit chosen) t).items)) → GrowFrom (next_offset w) (offsets (item_or_end o t (items_within n (row_or_end limit chosen))).items)
+    optional : (o : Option Row) (t : Walk) → row_or_end limit chosen w ≡ Ok (o, t)
+        → (bytes_left t.left ≤ t.end_offset
+        → GrowFrom (next_offset t) (offsets (items_within n (row_or_end limit chosen) t).items))
+        → GrowFrom (next_offset w) (offsets (item_or_end o t (items_within n (row_or_end limit chosen))).items)
     optional None t e again = tt
     optional (Some r) t e again = item r t e again
 
-    stepped : (x : Result (Option Row × Walk) Error) → row_or_end limit chosen w ≡ x → ((t : Walk) → bytes_left t.left ≤ t.end_offset → GrowFrom (next_offset t) (offsets (items_within n (row_or_end limit chosen) t).items)) → GrowFrom (next_offset w) (offsets (next_item x (items_within n (row_or_end limit chosen))).items)
+    stepped : (x : Result (Option Row × Walk) Error) → row_or_end limit chosen w ≡ x
+        → ((t : Walk) → bytes_left t.left ≤ t.end_offset
+        → GrowFrom (next_offset t) (offsets (items_within n (row_or_end limit chosen) t).items))
+        → GrowFrom (next_offset w) (offsets (next_item x (items_within n (row_or_end limit chosen))).items)
     stepped (Err d) e again = tt
     stepped (Ok p) e again = optional p.0 p.1 e (again p.1)
 
-pub rows-increase : (limit : ℕ) (chosen : ℕ → Bool) (w : Walk) → IsWithin w → IsStrictlyIncreasing (offsets (rows limit chosen w).items)
+pub rows-increase : (limit : ℕ) (chosen : ℕ → Bool) (w : Walk) → IsWithin w
+    → IsStrictlyIncreasing (offsets (rows limit chosen w).items)
 unfolding rows listing_in
-rows-increase limit chosen w h = increasing (next_offset w) (offsets (items_within (suc (size w)) (row_or_end limit chosen) w).items) (rows-grow limit chosen (suc (size w)) w h.is_before)
+rows-increase limit chosen w h =
+    grow_strictly (next_offset w) (offsets (items_within (suc (size w)) (row_or_end limit chosen) w).items)
+    (rows-grow limit chosen (suc (size w)) w h.is_before)

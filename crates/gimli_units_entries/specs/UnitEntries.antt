@@ -2,15 +2,22 @@
 use Rattle.std.specs.Prelude.{ℕ, pos, List, Option, Some, None, Result, Ok, Err}
 use Rattle.gimli_core_base.specs.declared.error.Error.{Error}
 use Rattle.gimli_core_base.specs.View.{View}
-use Rattle.gimli_core_abbrev.specs.Declarations.{Declaration}
+use Rattle.gimli_units_forms.specs.Declarations.{Declaration}
 use Rattle.gimli_units_headers.specs.UnitHeaders.{DebugUnit, length_including_self}
 use Rattle.gimli_units_headers.specs.UnitOffsets.{bytes_from}
-use Rattle.gimli_units_entries.specs.Entries.{Walk}
+use Rattle.gimli_units_entries.specs.EntryWalks.{Walk}
 
--- the walk from some bytes of a unit on, at depth 0
+-- the walk over some last bytes of a unit, from depth 0 on
 abbrev pub walk_before : DebugUnit → List Declaration → View → Walk
-walk_before u table v = record { encoding = u.encoding; table = table; end_offset = length_including_self u; depth = pos 0; left = v }
+walk_before u table v = record {
+  encoding = u.encoding;
+  table = table;
+  end_offset = length_including_self u;
+  depth = pos 0;
+  left = v;
+}
 
+-- the same over bytes that may be refused
 abbrev pub walk_of : DebugUnit → List Declaration → Result View Error → Result Walk Error
 walk_of u table (Ok v) = Ok (walk_before u table v)
 walk_of u table (Err e) = Err e

@@ -1,27 +1,28 @@
 //! The attributes of an entry, read one after the other.
 
 ghost use Rattle.std.specs.Prelude.{◌≡◌, [], map, OnErr};
-ghost use Rattle.gimli_core_base.specs.Calls.{Gives};
-ghost use Rattle.gimli_core_abbrev.specs.Seen.{seen_attribute};
-ghost use Rattle.gimli_units_forms.specs.Reading.{attributes};
-ghost use Rattle.gimli_units_entries.specs.Seen.{raw_attributes};
+ghost use Rattle.gimli_core_base.specs.Calls.{ReturnsAsOrNoMemory};
+ghost use Rattle.gimli_units_forms.specs.AbbreviationViews.{attribute_view};
+ghost use Rattle.gimli_units_forms.specs.AttributeReading.{attributes};
+ghost use Rattle.gimli_units_entries.specs.EntryViews.{raw_attributes};
 
-use gimli_core_abbrev::AttributeSpecification;
+use gimli_core_base::Encoding;
 use gimli_core_base::error::Error;
-use gimli_core_constants::Encoding;
-use gimli_core_readers::Reader;
-use gimli_units_forms::{Attribute, push_attribute};
+use gimli_units_forms::{Attribute, AttributeSpecification, push_attribute};
+use gimli_units_headers::Reader;
 
-/// Reads the attributes that declarations describe in place of those of a list. Where it is refused it leaves what it
-/// read so far, and a reader that may have moved.
+/// Reads the attributes that declarations describe in place of those of a list. Where it is refused
+/// it leaves what it read so far, and a reader that may have moved.
 fn fill<R: Reader>(
     attrs: &mut Vec<Attribute<R>>,
     input: &mut R,
     encoding: Encoding,
     specifications: &[AttributeSpecification],
 ) -> Result<(), Error>
-    ensures { Gives (λ _. (raw_attributes R.view R.Offset.count attrs.new.items, R.view input.new)) result
-        (attributes R.Offset.limit encoding (map seen_attribute specifications.now) (R.view input.old)) }
+    ensures { ReturnsAsOrNoMemory
+        (λ _. (raw_attributes R.view R.Offset.count attrs.new.items, R.view input.new)) result
+        (attributes R.Offset.limit encoding (map attribute_view specifications.now)
+        (R.view input.old)) }
 {
     attrs.clear();
     for specification in specifications {
@@ -30,16 +31,18 @@ fn fill<R: Reader>(
     Ok(())
 }
 
-/// Reads the attributes that declarations describe in place of those of a list, whose room it takes. Where it is refused
-/// it leaves an empty list, and a reader that may have moved.
+/// Reads the attributes that declarations describe in place of those of a list, whose room it
+/// takes. Where it is refused it leaves an empty list, and a reader that may have moved.
 pub(crate) fn read_each<R: Reader>(
     attrs: &mut Vec<Attribute<R>>,
     input: &mut R,
     encoding: Encoding,
     specifications: &[AttributeSpecification],
 ) -> Result<(), Error>
-    ensures value { Gives (λ _. (raw_attributes R.view R.Offset.count attrs.new.items, R.view input.new)) result
-        (attributes R.Offset.limit encoding (map seen_attribute specifications.now) (R.view input.old)) }
+    ensures value { ReturnsAsOrNoMemory
+        (λ _. (raw_attributes R.view R.Offset.count attrs.new.items, R.view input.new)) result
+        (attributes R.Offset.limit encoding (map attribute_view specifications.now)
+        (R.view input.old)) }
     ensures refused { OnErr result (attrs.new.items ≡ []) }
 {
     let read = fill(attrs, input, encoding, specifications);

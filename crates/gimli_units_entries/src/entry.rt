@@ -1,21 +1,19 @@
 //! An entry of a unit with its attributes.
 
 ghost use Rattle.std.specs.Prelude.{◌≡◌, ◌==◌, pos, Ok, IsOk, IsTrue, is_some, option_map};
-ghost use Rattle.gimli_core_base.specs.Calls.{Gives};
-ghost use Rattle.gimli_units_forms.specs.Meanings.{value_under};
-ghost use Rattle.gimli_units_forms.specs.Values.{raw_attribute_of, raw_value_of};
-ghost use Rattle.gimli_units_entries.specs.Rows.{null_at};
-ghost use Rattle.gimli_units_entries.specs.Seen.{attribute_named, entry_of, raw_attributes};
+ghost use Rattle.gimli_core_base.specs.Calls.{ReturnsAsOrNoMemory};
+ghost use Rattle.gimli_units_forms.specs.AttributeMeanings.{value_under};
+ghost use Rattle.gimli_units_forms.specs.AttributeValues.{raw_attribute_of, raw_value_of};
+ghost use Rattle.gimli_units_entries.specs.EntryRows.{null_at};
+ghost use Rattle.gimli_units_entries.specs.EntryViews.{attribute_named, entry_of, raw_attributes};
 
 use gimli_core_base::error::Error;
-use gimli_core_constants::{DwAt, DwTag};
-use gimli_core_numbers::ReaderOffset;
-use gimli_core_readers::Reader;
-use gimli_units_base::UnitOffset;
+use gimli_core_base::{DwAt, DwTag, ReaderOffset};
 use gimli_units_forms::{Attribute, AttributeValue};
+use gimli_units_headers::{Reader, UnitOffset};
 use std::alloc::Global;
 
-/// An entry: where it stands, and what it says (DWARF 5, 2.1). A null entry has the tag 0.
+/// An entry: its place, and what it says (DWARF 5, 2.1). A null entry has the tag 0.
 #[derive(Drop)]
 pub struct DebuggingInformationEntry<R: Reader> {
     pub(crate) offset: UnitOffset<R::Offset>,
@@ -73,16 +71,18 @@ impl<R: Reader> DebuggingInformationEntry<R> {
         self.has_children
     }
 
-    /// The attributes in the order in which they stand.
+    /// The attributes, in order.
     pub fn attrs(&self) -> &[Attribute<R>]
-        ensures { raw_attributes R.view R.Offset.count result.now ≡ (entry_of R.view R.Offset.count self.now).attributes }
+        ensures { raw_attributes R.view R.Offset.count result.now
+            ≡ (entry_of R.view R.Offset.count self.now).attributes }
     {
         self.attrs.as_slice()
     }
 
     /// Makes it the null entry at a place.
     pub(crate) fn set_null(&mut self, offset: UnitOffset<R::Offset>, depth: isize)
-        ensures { entry_of R.view R.Offset.count self.new ≡ null_at (R.Offset.count offset.0) depth }
+        ensures { entry_of R.view R.Offset.count self.new
+            ≡ null_at (R.Offset.count offset.0) depth }
     {
         self.offset = offset;
         self.depth = depth;
@@ -103,15 +103,18 @@ impl<R: Reader> DebuggingInformationEntry<R> {
 
     /// There is an attribute of the name.
     pub fn has_attr(&self, name: DwAt) -> bool
-        ensures { result ≡ is_some (attribute_named name.0 (entry_of R.view R.Offset.count self.now)) }
+        ensures { result ≡ is_some
+            (attribute_named name.0 (entry_of R.view R.Offset.count self.now)) }
     {
         self.attr(name).is_some()
     }
 
     /// A copy of the value of the first attribute of a name, as its form gives it.
     pub fn attr_value_raw(&self, name: DwAt) -> Result<Option<AttributeValue<R>>, Error>
-        ensures value { Gives (option_map (raw_value_of R.view R.Offset.count)) result
-            (Ok (option_map (λ a. a.value) (attribute_named name.0 (entry_of R.view R.Offset.count self.now)))) }
+        ensures value { ReturnsAsOrNoMemory (option_map (raw_value_of R.view R.Offset.count)) result
+            (Ok
+            (option_map (λ a. a.value)
+            (attribute_named name.0 (entry_of R.view R.Offset.count self.now)))) }
         ensures free { IsTrue R.copies_freely → IsOk result }
     {
         match self.attr(name) {
@@ -120,11 +123,13 @@ impl<R: Reader> DebuggingInformationEntry<R> {
         }
     }
 
-    /// What the name makes of the value of the first attribute of that name; where it doesn't fit, a copy of the value
-    /// as its form gives it.
+    /// What the name makes of the value of the first attribute of that name; where it doesn't fit,
+    /// a copy of the value as its form gives it.
     pub fn attr_value(&self, name: DwAt) -> Result<Option<AttributeValue<R>>, Error>
-        ensures value { Gives (option_map (raw_value_of R.view R.Offset.count)) result
-            (Ok (option_map (λ a. value_under a.name a.value) (attribute_named name.0 (entry_of R.view R.Offset.count self.now)))) }
+        ensures value { ReturnsAsOrNoMemory (option_map (raw_value_of R.view R.Offset.count)) result
+            (Ok
+            (option_map (λ a. value_under a.name a.value)
+            (attribute_named name.0 (entry_of R.view R.Offset.count self.now)))) }
         ensures free { IsTrue R.copies_freely → IsOk result }
     {
         match self.attr(name) {

@@ -2,25 +2,25 @@
 
 ghost use Rattle.std.specs.Prelude.{◌≡◌, ◌==◌, ◌<◌, ◌≤◌, Ok, IfOk, IsTrue, OnErr, [], map, option_map};
 ghost use Rattle.gimli_core_base.specs.View.{after, bytes_left};
-ghost use Rattle.gimli_core_base.specs.Calls.{Answers, Gives, Moves, Reads};
-ghost use Rattle.gimli_core_numbers.specs.Numbers.{unsigned};
-ghost use Rattle.gimli_core_abbrev.specs.Seen.{seen, seen_attribute};
-ghost use Rattle.gimli_units_forms.specs.Values.{raw_attribute_of};
-ghost use Rattle.gimli_units_entries.specs.Entries.{IsWithin, next_offset, head, value, values, passed_over};
-ghost use Rattle.gimli_units_entries.specs.Rows.{null_at, row, present_row};
-ghost use Rattle.gimli_units_entries.specs.Seen.{entry_of, raw_attributes};
+ghost use Rattle.gimli_core_base.specs.Calls.{ReturnsAs, ReturnsAsOrNoMemory, ReturnsOrNoMemory, StepsAsOrNoMemory, ReadsAs, Reads};
+ghost use Rattle.gimli_core_base.specs.NumberParsers.{unsigned};
+ghost use Rattle.gimli_units_forms.specs.AbbreviationViews.{declaration_view, attribute_view};
+ghost use Rattle.gimli_units_forms.specs.AttributeValues.{raw_attribute_of};
+ghost use Rattle.gimli_units_entries.specs.EntryWalks.{IsWithin, next_offset, entry_head, value, values, skip_values};
+ghost use Rattle.gimli_units_entries.specs.EntryRows.{null_at, row, present_row};
+ghost use Rattle.gimli_units_entries.specs.EntryViews.{entry_of, raw_attributes};
 
 use crate::attributes::read_each;
 use crate::entry::DebuggingInformationEntry;
-use gimli_core_abbrev::{Abbreviation, Abbreviations, AttributeSpecification};
 use gimli_core_base::constants::ReaderOffsetId;
 use gimli_core_base::error::Error;
-use gimli_core_constants::Encoding;
-use gimli_core_numbers::ReaderOffset;
-use gimli_core_numbers::leb128::{self, Fault};
-use gimli_core_readers::Reader;
-use gimli_units_base::UnitOffset;
-use gimli_units_forms::{Attribute, parse_attribute, skip_attributes};
+use gimli_core_base::leb128::{self, Fault};
+use gimli_core_base::{Encoding, ReaderOffset};
+use gimli_units_forms::{
+    Abbreviation, Abbreviations, Attribute, AttributeSpecification, parse_attribute,
+    skip_attributes,
+};
+use gimli_units_headers::{Reader, UnitOffset};
 use std::marker::Model;
 
 /// A walk over the entries of a unit: codes and attributes are read in turn.
@@ -34,7 +34,7 @@ pub struct EntriesRaw<'abbrev, R: Reader> {
 }
 
 impl<'abbrev, R: Reader> Model for EntriesRaw<'abbrev, R> {
-    ghost use Rattle.gimli_units_entries.specs.Entries.{Walk, IsWithin};
+    ghost use Rattle.gimli_units_entries.specs.EntryWalks.{Walk, IsWithin};
 
     ghost Value = { Walk };
 
@@ -78,12 +78,14 @@ impl<'abbrev, R: Reader> EntriesRaw<'abbrev, R> {
         self.depth
     }
 
-    /// The next entry's code, as the declaration that it stands for; none for a null entry, which ends the children of
-    /// an entry (DWARF 5, 7.5.2). Takes no memory. A refusal leaves the walk as it was.
+    /// The next entry's code, as the declaration that it stands for; none for a null entry, which
+    /// ends the children of an entry (DWARF 5, 7.5.2). Takes no memory. A refusal leaves the walk
+    /// as it was.
     #[inline(always)]
-    #[tactic(auto, unfolding(crate::specs::Entries::head))]
+    #[tactic(auto, unfolding(crate::specs::EntryWalks::entry_head))]
     pub fn read_abbreviation(&mut self) -> Result<Option<&'abbrev Abbreviation>, Error>
-        ensures { Reads (option_map (λ a. seen a.now)) result self.old self.new (head self.old) }
+        ensures { ReadsAs (option_map (λ a. declaration_view a.now)) result self.old self.new
+            (entry_head self.old) }
     {
         let (code, length) = code_at(&self.input)?;
         if code == 0 {
@@ -107,56 +109,59 @@ impl<'abbrev, R: Reader> EntriesRaw<'abbrev, R> {
         &mut self,
         specification: AttributeSpecification,
     ) -> Result<Attribute<R>, Error>
-        ensures value { Moves (raw_attribute_of R.view R.Offset.count) result self.old self.new
-            (value R.Offset.limit (seen_attribute specification)) }
+        ensures value { StepsAsOrNoMemory (raw_attribute_of R.view R.Offset.count) result self.old
+            self.new
+            (value R.Offset.limit (attribute_view specification)) }
         // Where copies take no memory, this takes none.
         ensures free { IsTrue R.copies_freely
-            → Reads (raw_attribute_of R.view R.Offset.count) result self.old self.new
-            (value R.Offset.limit (seen_attribute specification) self.old) }
+            → ReadsAs (raw_attribute_of R.view R.Offset.count) result self.old self.new
+            (value R.Offset.limit (attribute_view specification) self.old) }
     {
         self.read_attribute_inline(specification)
     }
 
     /// The same as [`read_attribute`](Self::read_attribute), compiled into its caller.
     #[inline(always)]
-    #[tactic(auto, unfolding(crate::specs::Entries::value))]
+    #[tactic(auto, unfolding(crate::specs::EntryWalks::value))]
     pub fn read_attribute_inline(
         &mut self,
         specification: AttributeSpecification,
     ) -> Result<Attribute<R>, Error>
-        ensures value { Moves (raw_attribute_of R.view R.Offset.count) result self.old self.new
-            (value R.Offset.limit (seen_attribute specification)) }
+        ensures value { StepsAsOrNoMemory (raw_attribute_of R.view R.Offset.count) result self.old
+            self.new
+            (value R.Offset.limit (attribute_view specification)) }
         // Where copies take no memory, this takes none.
         ensures free { IsTrue R.copies_freely
-            → Reads (raw_attribute_of R.view R.Offset.count) result self.old self.new
-            (value R.Offset.limit (seen_attribute specification) self.old) }
+            → ReadsAs (raw_attribute_of R.view R.Offset.count) result self.old self.new
+            (value R.Offset.limit (attribute_view specification) self.old) }
     {
         parse_attribute(&mut self.input, self.encoding, specification)
     }
 
-    /// Passes over the attributes that declarations describe, by their widths alone. Takes no memory. A refusal leaves
-    /// the walk as it was.
-    #[tactic(auto, unfolding(crate::specs::Entries::passed_over))]
+    /// Skips the attributes that declarations describe, by their widths alone. Takes no memory. A
+    /// refusal leaves the walk as it was.
+    #[tactic(auto, unfolding(crate::specs::EntryWalks::skip_values))]
     pub fn skip_attributes(
         &mut self,
         specifications: &[AttributeSpecification],
     ) -> Result<(), Error>
-        ensures { Reads (λ u. u) result self.old self.new
-            (passed_over (map seen_attribute specifications.now) self.old) }
+        ensures { Reads result self.old self.new
+            (skip_values (map attribute_view specifications.now) self.old) }
     {
         skip_attributes(&mut self.input, self.encoding, specifications)
     }
 
-    /// The attributes that declarations describe, read in place of those of a list, whose room they take. A refusal
-    /// leaves the walk as it was, and the list empty.
-    #[tactic(auto, unfolding(crate::specs::Entries::values))]
+    /// The attributes that declarations describe, read in place of those of a list, whose room they
+    /// take. A refusal leaves the walk as it was, and the list empty.
+    #[tactic(auto, unfolding(crate::specs::EntryWalks::values))]
     pub fn read_attributes(
         &mut self,
         specifications: &[AttributeSpecification],
         attrs: &mut Vec<Attribute<R>>,
     ) -> Result<(), Error>
-        ensures value { Moves (λ _. raw_attributes R.view R.Offset.count attrs.new.items) result self.old self.new
-            (values R.Offset.limit (map seen_attribute specifications.now)) }
+        ensures value { StepsAsOrNoMemory
+            (λ _. raw_attributes R.view R.Offset.count attrs.new.items) result self.old self.new
+            (values R.Offset.limit (map attribute_view specifications.now)) }
         ensures refused { OnErr result (attrs.new.items ≡ []) }
     {
         attrs.clear();
@@ -166,28 +171,33 @@ impl<'abbrev, R: Reader> EntriesRaw<'abbrev, R> {
         Ok(())
     }
 
-    /// The next entry with its attributes, read in place of another, whose room they take; answers whether it is none
-    /// of the null entries. A refusal leaves the walk as it was, and the entry null at the walk's place.
+    /// The next entry with its attributes, read in place of another, whose room they take; answers
+    /// whether it is none of the null entries. A refusal leaves the walk as it was, and the entry
+    /// null at the walk's place.
     pub fn read_entry(&mut self, entry: &mut DebuggingInformationEntry<R>) -> Result<bool, Error>
-        ensures value { Moves (λ is_present. (is_present, entry_of R.view R.Offset.count entry.new)) result
+        ensures value { StepsAsOrNoMemory
+            (λ is_present. (is_present, entry_of R.view R.Offset.count entry.new)) result
             self.old self.new (present_row R.Offset.limit) }
         ensures refused { OnErr result
-            (entry_of R.view R.Offset.count entry.new ≡ null_at (next_offset self.old) self.old.depth) }
+            (entry_of R.view R.Offset.count entry.new
+            ≡ null_at (next_offset self.old) self.old.depth) }
     {
         entry.set_null(self.next_offset(), self.next_depth());
         *self = self.copy()?.read_into(entry)?;
         Ok(!entry.is_null())
     }
 
-    /// The walk behind the next entry, which is read into a null one that stands at its place. Where it is refused it
-    /// leaves that.
-    #[tactic(auto, unfolding(crate::specs::Rows::row))]
+    /// The walk after the next entry, which is read into a null one at its place. Where it is
+    /// refused it leaves that.
+    #[tactic(auto, unfolding(crate::specs::EntryRows::row))]
     fn read_into(
         mut self,
         entry: &mut DebuggingInformationEntry<R>,
     ) -> Result<EntriesRaw<'abbrev, R>, Error>
-        requires { entry_of R.view R.Offset.count entry.old ≡ null_at (next_offset self) self.depth }
-        ensures value { Gives (λ w. (entry_of R.view R.Offset.count entry.new, w)) result
+        requires { entry_of R.view R.Offset.count entry.old
+            ≡ null_at (next_offset self) self.depth }
+        ensures value { ReturnsAsOrNoMemory (λ w. (entry_of R.view R.Offset.count entry.new, w))
+            result
             (row R.Offset.limit self.entry) }
         ensures refused { OnErr result
             (entry_of R.view R.Offset.count entry.new ≡ entry_of R.view R.Offset.count entry.old) }
@@ -195,22 +205,23 @@ impl<'abbrev, R: Reader> EntriesRaw<'abbrev, R> {
         let Some(abbreviation) = self.read_abbreviation()? else {
             return Ok(self);
         };
-        let behind = self.read_values(abbreviation.attributes(), &mut entry.attrs)?;
+        let after_entry = self.read_values(abbreviation.attributes(), &mut entry.attrs)?;
         entry.tag = abbreviation.tag();
         entry.has_children = abbreviation.has_children();
-        Ok(behind)
+        Ok(after_entry)
     }
 
-    /// The walk behind attributes, which are read in place of those of a list. Where it is refused it leaves an empty
-    /// list.
-    #[tactic(auto, unfolding(crate::specs::Entries::values))]
+    /// The walk after attributes, which are read in place of those of a list. Where it is refused
+    /// it leaves an empty list.
+    #[tactic(auto, unfolding(crate::specs::EntryWalks::values))]
     fn read_values(
         self,
         specifications: &[AttributeSpecification],
         attrs: &mut Vec<Attribute<R>>,
     ) -> Result<EntriesRaw<'abbrev, R>, Error>
-        ensures value { Gives (λ w. (raw_attributes R.view R.Offset.count attrs.new.items, w)) result
-            (values R.Offset.limit (map seen_attribute specifications.now) self.entry) }
+        ensures value { ReturnsAsOrNoMemory
+            (λ w. (raw_attributes R.view R.Offset.count attrs.new.items, w)) result
+            (values R.Offset.limit (map attribute_view specifications.now) self.entry) }
         ensures refused { OnErr result (attrs.new.items ≡ []) }
     {
         let EntriesRaw {
@@ -232,7 +243,7 @@ impl<'abbrev, R: Reader> EntriesRaw<'abbrev, R> {
 
     /// A second walk at the same place.
     fn copy(&self) -> Result<EntriesRaw<'abbrev, R>, Error>
-        ensures { Gives (λ w. w) result (Ok self.now) }
+        ensures { ReturnsOrNoMemory result (Ok self.now) }
     {
         Ok(EntriesRaw {
             input: self.input.copy()?,
@@ -244,11 +255,12 @@ impl<'abbrev, R: Reader> EntriesRaw<'abbrev, R> {
     }
 }
 
-/// The code at the front, and how many bytes it takes.
+/// The next code, and how many bytes it takes.
 #[inline(always)]
-#[tactic(auto, unfolding(gimli_core_numbers::specs::Numbers::unsigned))]
+#[tactic(auto, unfolding(gimli_core_base::specs::NumberParsers::unsigned))]
 fn code_at<R: Reader>(input: &R) -> Result<(u64, usize), Error>
-    ensures value { Answers (λ p. (p.0, after p.1 (R.view input.now))) result (unsigned (R.view input.now)) }
+    ensures value { ReturnsAs (λ p. (p.0, after p.1 (R.view input.now))) result
+        (unsigned (R.view input.now)) }
     ensures some { IfOk result (λ p. 0 < p.1) }
     ensures within { IfOk result (λ p. p.1 ≤ bytes_left (R.view input.now)) }
 {

@@ -1,22 +1,20 @@
 //! The entries of a unit, by its header.
 
 ghost use Rattle.std.specs.Prelude.{◌≢◌, Err, IsTrue, option_map};
-ghost use Rattle.gimli_core_base.specs.Calls.{Gives};
+ghost use Rattle.gimli_core_base.specs.Calls.{ReturnsAsOrNoMemory, ReturnsOrNoMemory};
 ghost use Rattle.gimli_core_base.specs.declared.error.Error.TheVariants.{Memory};
-ghost use Rattle.gimli_core_abbrev.specs.Parsing.{table_at};
+ghost use Rattle.gimli_units_forms.specs.TableParsing.{table_at};
 ghost use Rattle.gimli_units_headers.specs.UnitHeaders.{DebugUnit};
-ghost use Rattle.gimli_units_entries.specs.Rows.{entry_at};
-ghost use Rattle.gimli_units_entries.specs.Seen.{entry_of};
+ghost use Rattle.gimli_units_entries.specs.EntryRows.{entry_at};
+ghost use Rattle.gimli_units_entries.specs.EntryViews.{entry_of};
 ghost use Rattle.gimli_units_entries.specs.UnitEntries.{walk_from};
 
 use crate::entry::DebuggingInformationEntry;
 use crate::raw::EntriesRaw;
-use gimli_core_abbrev::{Abbreviations, DebugAbbrev};
+use gimli_core_base::ReaderOffset;
 use gimli_core_base::error::Error;
-use gimli_core_numbers::ReaderOffset;
-use gimli_core_readers::Reader;
-use gimli_units_base::UnitOffset;
-use gimli_units_headers::UnitHeader;
+use gimli_units_forms::{Abbreviations, DebugAbbrev};
+use gimli_units_headers::{Reader, UnitHeader, UnitOffset};
 use std::alloc::Global;
 
 /// The entries of a unit.
@@ -30,7 +28,8 @@ pub trait UnitEntries<R: Reader> {
         alloc: Global,
         debug_abbrev: &DebugAbbrev<R>,
     ) -> Result<Abbreviations, Error>
-        ensures { Gives (λ t. t) result (table_at (unit self.now).abbrev_offset debug_abbrev.now) };
+        ensures { ReturnsOrNoMemory result
+            (table_at (unit self.now).abbrev_offset debug_abbrev.now) };
 
     /// The entry at an offset, which must be among the unit's entries and no null entry there.
     fn entry(
@@ -39,7 +38,7 @@ pub trait UnitEntries<R: Reader> {
         abbreviations: &Abbreviations,
         offset: UnitOffset<R::Offset>,
     ) -> Result<DebuggingInformationEntry<R>, Error>
-        ensures { Gives (entry_of R.view R.Offset.count) result
+        ensures { ReturnsAsOrNoMemory (entry_of R.view R.Offset.count) result
             (entry_at R.Offset.limit (unit self.now) abbreviations.now (R.Offset.count offset.0)) };
 }
 
@@ -54,14 +53,14 @@ impl<R: Reader> UnitEntries<R> for UnitHeader<R> {
         debug_abbrev.abbreviations(alloc, self.debug_abbrev_offset())
     }
 
-    #[tactic(auto, unfolding(crate::specs::Rows::entry_at))]
+    #[tactic(auto, unfolding(crate::specs::EntryRows::entry_at))]
     fn entry(
         &self,
         alloc: Global,
         abbreviations: &Abbreviations,
         offset: UnitOffset<R::Offset>,
     ) -> Result<DebuggingInformationEntry<R>, Error>
-        ensures { Gives (entry_of R.view R.Offset.count) result
+        ensures { ReturnsAsOrNoMemory (entry_of R.view R.Offset.count) result
             (entry_at R.Offset.limit self.now abbreviations.now (R.Offset.count offset.0)) }
     {
         let mut entries = entries_raw(self, abbreviations, Some(offset))?;
@@ -73,14 +72,14 @@ impl<R: Reader> UnitEntries<R> for UnitHeader<R> {
     }
 }
 
-/// The walk over the entries from an offset on, which must be among the unit's entries, or over all of them. Takes memory
-/// only where a copy of the reader does.
+/// The walk over the entries from an offset on, which must be among the unit's entries, or over all
+/// of them. Takes memory only where a copy of the reader does.
 pub fn entries_raw<'abbrev, R: Reader>(
     unit: &UnitHeader<R>,
     abbreviations: &'abbrev Abbreviations,
     offset: Option<UnitOffset<R::Offset>>,
 ) -> Result<EntriesRaw<'abbrev, R>, Error>
-    ensures value { Gives (λ entries. entries) result
+    ensures value { ReturnsOrNoMemory result
         (walk_from unit.now abbreviations.now (option_map (λ o. R.Offset.count o.0) offset)) }
     ensures free { IsTrue R.copies_freely → result ≢ Err Memory }
 {

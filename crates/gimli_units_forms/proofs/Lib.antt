@@ -1,6 +1,6 @@
-pub mod FormLemmas
-pub mod PassingLemmas
+pub mod FinalFormLemmas
+pub mod SkippingLemmas
 pub mod RunLemmas
-pub mod CrossingLemmas
-pub mod BehindLemmas
-pub mod Sizes
+pub mod SkipAgreementLemmas
+pub mod AfterLemmas
+pub mod FormSizes

@@ -1,5 +1,11 @@
-pub mod Forms
-pub mod Values
-pub mod Meanings
-pub mod Reading
-pub mod Passing
+pub use Rattle.gimli_core_abbrev.specs.AbbreviationViews
+pub use Rattle.gimli_core_abbrev.specs.Declarations
+pub use Rattle.gimli_core_abbrev.specs.TableCache
+pub use Rattle.gimli_core_abbrev.specs.TableParsing
+pub use Rattle.gimli_core_abbrev.specs.declared.abbreviation.AttributeSpecification
+pub use Rattle.gimli_core_abbrev.specs.declared.cache.AbbreviationsCache
+pub mod FormSpellings
+pub mod AttributeValues
+pub mod AttributeMeanings
+pub mod AttributeReading
+pub mod AttributeSkipping

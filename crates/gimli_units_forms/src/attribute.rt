@@ -1,22 +1,18 @@
 ghost use Rattle.std.specs.Prelude.{◌≡◌, ℕ, ◌<◌, ◌↔◌, Some, Result, Ok, IfErr, IsOk, IsTrue, option_map};
-ghost use Rattle.gimli_core_base.specs.Calls.{Gives};
-ghost use Rattle.gimli_core_base.specs.declared.error.Error.TheVariants.{Memory};
-ghost use Rattle.gimli_units_forms.specs.Values.{RawValue, raw_value_of, raw_attribute_of};
-ghost use Rattle.gimli_units_forms.specs.Meanings.{unsigned_of, unsigned_8_of, unsigned_16_of, signed_of, offset_of, expression_of, text_of, converted, value_under};
+ghost use Rattle.gimli_core_abbrev.specs.Calls.{ReturnsAsOrNoMemory};
+ghost use Rattle.gimli_core_abbrev.specs.Error.TheVariants.{Memory};
+ghost use Rattle.gimli_units_forms.specs.AttributeValues.{RawValue, raw_value_of, raw_attribute_of};
+ghost use Rattle.gimli_units_forms.specs.AttributeMeanings.{unsigned_of, unsigned_8_of, unsigned_16_of, signed_of, offset_of, expression_of, text_of, conversion_under, value_under};
 
 use crate::value::{Attribute, AttributeValue};
-use gimli_core_base::constants::DwForm;
-use gimli_core_base::error::Error;
-use gimli_core_constants::{
+use gimli_core_abbrev::{
     DW_AT_GNU_addr_base, DW_AT_GNU_dwo_id, DW_AT_GNU_ranges_base, DW_AT_addr_base,
     DW_AT_call_column, DW_AT_call_file, DW_AT_call_line, DW_AT_high_pc, DW_AT_language,
     DW_AT_loclists_base, DW_AT_ranges, DW_AT_rnglists_base, DW_AT_stmt_list,
     DW_AT_str_offsets_base, DebugAddrBase, DebugLineOffset, DebugLocListsBase, DebugRngListsBase,
-    DebugStrOffsetsBase, DwAt, DwLang, DwoId, RawRangeListsOffset,
+    DebugStr, DebugStrOffsetsBase, DwAt, DwForm, DwLang, DwoId, Error, Expression,
+    RawRangeListsOffset, Reader,
 };
-use gimli_core_readers::Reader;
-use gimli_core_strings::DebugStr;
-use gimli_units_base::Expression;
 
 impl<R: Reader> AttributeValue<R> {
     /// The unsigned number, where it fits eight bits.
@@ -65,7 +61,8 @@ impl<R: Reader> AttributeValue<R> {
 
     /// The offset into another section.
     pub fn offset_value(&self) -> Option<R::Offset>
-        ensures { option_map R.Offset.count result ≡ offset_of (raw_value_of R.view R.Offset.count self.now) }
+        ensures { option_map R.Offset.count result
+            ≡ offset_of (raw_value_of R.view R.Offset.count self.now) }
     {
         match self {
             AttributeValue::SecOffset(offset) => Some(*offset),
@@ -75,7 +72,7 @@ impl<R: Reader> AttributeValue<R> {
 
     /// A copy of the bytes of an expression, which was a block before version 4.
     pub fn exprloc_value(&self) -> Result<Option<Expression<R>>, Error>
-        ensures value { Gives (option_map (λ e. R.view e.0)) result
+        ensures value { ReturnsAsOrNoMemory (option_map (λ e. R.view e.0)) result
             (Ok (expression_of (raw_value_of R.view R.Offset.count self.now))) }
         ensures free { IsTrue R.copies_freely → IsOk result }
     {
@@ -86,10 +83,10 @@ impl<R: Reader> AttributeValue<R> {
         }
     }
 
-    /// A copy of the text, which stands in the entry or in `.debug_str`. None where there is none, or where it can't
-    /// be read; refused for want of memory alone.
+    /// A copy of the text, which is in the entry or in `.debug_str`. None where there is none, or
+    /// where it can't be read; refused only where memory runs out.
     pub fn string_value(&self, debug_str: &DebugStr<R>) -> Result<Option<R>, Error>
-        ensures value { Gives (option_map R.view) result
+        ensures value { ReturnsAsOrNoMemory (option_map R.view) result
             (Ok (text_of debug_str.now (raw_value_of R.view R.Offset.count self.now))) }
         ensures free { IsTrue R.copies_freely → IsOk result }
         ensures refused { IfErr result (λ e. e ≡ Memory) }
@@ -108,7 +105,7 @@ impl<R: Reader> AttributeValue<R> {
     /// The value that a name makes of this one, where it fits.
     fn converted_under(&self, name: DwAt) -> Option<AttributeValue<R>>
         ensures { option_map (raw_value_of R.view R.Offset.count) result
-            ≡ converted name.0 (raw_value_of R.view R.Offset.count self.now) }
+            ≡ conversion_under name.0 (raw_value_of R.view R.Offset.count self.now) }
     {
         Some(match name {
             DW_AT_stmt_list => AttributeValue::DebugLineRef(DebugLineOffset(self.offset_value()?)),
@@ -139,9 +136,9 @@ impl<R: Reader> AttributeValue<R> {
 }
 
 impl<R: Reader> AttributeValue<R> {
-    /// A second value of the same bytes. Only one that holds bytes may want memory.
+    /// A second value of the same bytes. Only one that has bytes may need memory.
     pub fn copy(&self) -> Result<AttributeValue<R>, Error>
-        ensures value { Gives (raw_value_of R.view R.Offset.count) result
+        ensures value { ReturnsAsOrNoMemory (raw_value_of R.view R.Offset.count) result
             (Ok (raw_value_of R.view R.Offset.count self.now)) }
         ensures free { IsTrue R.copies_freely → IsOk result }
     {
@@ -195,7 +192,7 @@ impl<R: Reader> Attribute<R> {
         self.name
     }
 
-    /// The form in which the value is spelled, behind `DW_FORM_indirect` the one that stands there.
+    /// The form in which the value is spelled, after `DW_FORM_indirect` the one that follows.
     pub fn form(&self) -> DwForm
         ensures { result.0 ≡ (raw_attribute_of R.view R.Offset.count self.now).form }
     {
@@ -204,18 +201,19 @@ impl<R: Reader> Attribute<R> {
 
     /// A copy of the value as the form gives it.
     pub fn raw_value(&self) -> Result<AttributeValue<R>, Error>
-        ensures value { Gives (raw_value_of R.view R.Offset.count) result
+        ensures value { ReturnsAsOrNoMemory (raw_value_of R.view R.Offset.count) result
             (Ok (raw_attribute_of R.view R.Offset.count self.now).value) }
         ensures free { IsTrue R.copies_freely → IsOk result }
     {
         self.value.copy()
     }
 
-    /// The value that the attribute's name makes of it, and where it doesn't fit a copy of the value as the form
-    /// gives it.
+    /// The value that the attribute's name makes of it, and where it doesn't fit a copy of the
+    /// value as the form gives it.
     pub fn value(&self) -> Result<AttributeValue<R>, Error>
         ensures value { let a = raw_attribute_of R.view R.Offset.count self.now in
-            Gives (raw_value_of R.view R.Offset.count) result (Ok (value_under a.name a.value)) }
+            ReturnsAsOrNoMemory (raw_value_of R.view R.Offset.count) result
+            (Ok (value_under a.name a.value)) }
         ensures free { IsTrue R.copies_freely → IsOk result }
     {
         match self.value.converted_under(self.name) {
@@ -254,14 +252,15 @@ impl<R: Reader> Attribute<R> {
 
     /// The offset into another section that the value is.
     pub fn offset_value(&self) -> Option<R::Offset>
-        ensures { option_map R.Offset.count result ≡ offset_of (raw_attribute_of R.view R.Offset.count self.now).value }
+        ensures { option_map R.Offset.count result
+            ≡ offset_of (raw_attribute_of R.view R.Offset.count self.now).value }
     {
         self.value.offset_value()
     }
 
-    /// A copy of the text that the value is, which stands in the entry or in `.debug_str`.
+    /// A copy of the text that the value is, which is in the entry or in `.debug_str`.
     pub fn string_value(&self, debug_str: &DebugStr<R>) -> Result<Option<R>, Error>
-        ensures value { Gives (option_map R.view) result
+        ensures value { ReturnsAsOrNoMemory (option_map R.view) result
             (Ok (text_of debug_str.now (raw_attribute_of R.view R.Offset.count self.now).value)) }
         ensures free { IsTrue R.copies_freely → IsOk result }
         ensures refused { IfErr result (λ e. e ≡ Memory) }
@@ -271,7 +270,7 @@ impl<R: Reader> Attribute<R> {
 
     /// A copy of the bytes of the expression that the value is.
     pub fn exprloc_value(&self) -> Result<Option<Expression<R>>, Error>
-        ensures value { Gives (option_map (λ e. R.view e.0)) result
+        ensures value { ReturnsAsOrNoMemory (option_map (λ e. R.view e.0)) result
             (Ok (expression_of (raw_attribute_of R.view R.Offset.count self.now).value)) }
         ensures free { IsTrue R.copies_freely → IsOk result }
     {
@@ -279,7 +278,9 @@ impl<R: Reader> Attribute<R> {
     }
 }
 
-/// A value has a number of eight bits exactly where it has an unsigned number below 256, and it is that number.
+/// A value has a number of eight bits exactly where it has an unsigned number below 256, and it is
+/// that number.
 pub fn bytes_are_small_numbers()
-    ensures { (value : RawValue) (n : ℕ) → (unsigned_8_of value ≡ Some n) ↔ ((unsigned_of value ≡ Some n) × (n < 256)) }
+    ensures { (value : RawValue) (n : ℕ) → (unsigned_8_of value ≡ Some n)
+        ↔ ((unsigned_of value ≡ Some n) × (n < 256)) }
 {}

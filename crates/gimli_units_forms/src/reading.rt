@@ -1,38 +1,32 @@
 ghost use Rattle.std.specs.Prelude.{◌≡◌, ◌≤◌, ◌++◌, ◌∷◌, [], map, IfOk, IsTrue, ◌<◌, ◌^◌, ℕ};
-ghost use Rattle.gimli_core_base.specs.Parsers.{mapped};
-ghost use Rattle.gimli_core_base.specs.Calls.{Answers, Gives, Reads, Takes};
-ghost use Rattle.gimli_core_base.specs.View.{View};
-ghost use Rattle.gimli_core_numbers.specs.Numbers.{fixed, unsigned};
-ghost use Rattle.gimli_core_abbrev.specs.Seen.{seen_attribute};
-ghost use Rattle.gimli_units_forms.specs.Reading.{number_value, is_offset_data, meaning_in, offset_meanings, FitsSpelling, FitsWidth, final_form, bytes_value, counted, value, attribute};
-ghost use Rattle.gimli_units_forms.specs.Forms.{spelling};
-ghost use Rattle.gimli_units_forms.specs.Values.{raw_value_of, raw_attribute_of};
+ghost use Rattle.gimli_core_abbrev.specs.Parsers.{map_value};
+ghost use Rattle.gimli_core_abbrev.specs.Calls.{ReturnsAs, ReturnsAsOrNoMemory, ReadsAs, ReadsAsOrNoMemory};
+ghost use Rattle.gimli_core_abbrev.specs.View.{View};
+ghost use Rattle.gimli_core_abbrev.specs.NumberParsers.{fixed, unsigned};
+ghost use Rattle.gimli_core_abbrev.specs.AbbreviationViews.{attribute_view};
+ghost use Rattle.gimli_units_forms.specs.AttributeReading.{number_value, is_offset_data, meaning_in, offset_meanings, FitsSpelling, FitsWidth, final_form, bytes_value, bytes_by_length, value, attribute};
+ghost use Rattle.gimli_units_forms.specs.FormSpellings.{spelling};
+ghost use Rattle.gimli_units_forms.specs.AttributeValues.{raw_value_of, raw_attribute_of};
 
 use crate::spelling::{Spelling, spelling_of};
 use crate::value::{Attribute, AttributeValue};
-use gimli_core_abbrev::AttributeSpecification;
-use gimli_core_base::constants::{
-    DW_FORM_GNU_addr_index, DW_FORM_GNU_ref_alt, DW_FORM_GNU_str_index, DW_FORM_GNU_strp_alt,
-    DW_FORM_addr, DW_FORM_addrx, DW_FORM_addrx1, DW_FORM_addrx2, DW_FORM_addrx3, DW_FORM_addrx4,
-    DW_FORM_data1, DW_FORM_data2, DW_FORM_data4, DW_FORM_data8, DW_FORM_exprloc, DW_FORM_flag,
-    DW_FORM_flag_present, DW_FORM_implicit_const, DW_FORM_indirect, DW_FORM_line_strp,
-    DW_FORM_loclistx, DW_FORM_ref_addr, DW_FORM_ref_sig8, DW_FORM_ref_sup4, DW_FORM_ref_sup8,
-    DW_FORM_ref_udata, DW_FORM_ref1, DW_FORM_ref2, DW_FORM_ref4, DW_FORM_ref8, DW_FORM_rnglistx,
-    DW_FORM_sec_offset, DW_FORM_strp, DW_FORM_strp_sup, DW_FORM_strx, DW_FORM_strx1, DW_FORM_strx2,
-    DW_FORM_strx3, DW_FORM_strx4, DW_FORM_udata, DwForm,
+use gimli_core_abbrev::{
+    AttributeSpecification, DW_AT_ranges, DW_AT_stmt_list, DW_FORM_GNU_addr_index,
+    DW_FORM_GNU_ref_alt, DW_FORM_GNU_str_index, DW_FORM_GNU_strp_alt, DW_FORM_addr, DW_FORM_addrx,
+    DW_FORM_addrx1, DW_FORM_addrx2, DW_FORM_addrx3, DW_FORM_addrx4, DW_FORM_data1, DW_FORM_data2,
+    DW_FORM_data4, DW_FORM_data8, DW_FORM_exprloc, DW_FORM_flag, DW_FORM_flag_present,
+    DW_FORM_implicit_const, DW_FORM_indirect, DW_FORM_line_strp, DW_FORM_loclistx,
+    DW_FORM_ref_addr, DW_FORM_ref_sig8, DW_FORM_ref_sup4, DW_FORM_ref_sup8, DW_FORM_ref_udata,
+    DW_FORM_ref1, DW_FORM_ref2, DW_FORM_ref4, DW_FORM_ref8, DW_FORM_rnglistx, DW_FORM_sec_offset,
+    DW_FORM_strp, DW_FORM_strp_sup, DW_FORM_strx, DW_FORM_strx1, DW_FORM_strx2, DW_FORM_strx3,
+    DW_FORM_strx4, DW_FORM_udata, DebugAddrIndex, DebugInfoOffset, DebugLineStrOffset,
+    DebugLocListsIndex, DebugRngListsIndex, DebugStrOffset, DebugStrOffsetsIndex,
+    DebugTypeSignature, DwAt, DwForm, Encoding, Error, Expression, Format, Reader, ReaderOffset,
+    UnitOffset,
 };
-use gimli_core_base::error::Error;
-use gimli_core_constants::{
-    DW_AT_ranges, DW_AT_stmt_list, DebugAddrIndex, DebugLineStrOffset, DebugLocListsIndex,
-    DebugRngListsIndex, DebugStrOffset, DebugStrOffsetsIndex, DebugTypeSignature, DwAt, Encoding,
-    Format,
-};
-use gimli_core_numbers::ReaderOffset;
-use gimli_core_readers::Reader;
-use gimli_units_base::{DebugInfoOffset, Expression, UnitOffset};
 
-/// Whether data of a form stands for an offset: data of an offset's width, under `DW_AT_stmt_list` and
-/// `DW_AT_ranges`.
+/// Whether data of a form stands for an offset: data of an offset's width, under `DW_AT_stmt_list`
+/// and `DW_AT_ranges`.
 #[inline(always)]
 fn is_offset_data_of(encoding: Encoding, name: DwAt, form: DwForm) -> bool
     ensures { result ≡ is_offset_data encoding name.0 form.0 }
@@ -47,7 +41,7 @@ fn is_offset_data_of(encoding: Encoding, name: DwAt, form: DwForm) -> bool
 /// The value of a form that spells an offset or an index.
 #[inline(always)]
 fn offset_value_of<R: Reader>(form: DwForm, number: u64) -> Result<AttributeValue<R>, Error>
-    ensures { Answers (raw_value_of R.view R.Offset.count) result
+    ensures { ReturnsAs (raw_value_of R.view R.Offset.count) result
         (meaning_in offset_meanings form.0 R.Offset.limit number) }
 {
     let offset = R::Offset::from_u64(number);
@@ -86,7 +80,7 @@ fn offset_value_of<R: Reader>(form: DwForm, number: u64) -> Result<AttributeValu
 }
 
 /// The value of a form that spells a number.
-#[tactic(auto, unfolding(crate::specs::Reading::number_value))]
+#[tactic(auto, unfolding(crate::specs::AttributeReading::number_value))]
 #[inline(always)]
 fn number_value_of<R: Reader>(
     encoding: Encoding,
@@ -95,7 +89,7 @@ fn number_value_of<R: Reader>(
     number: u64,
 ) -> Result<AttributeValue<R>, Error>
     requires { FitsSpelling (spelling encoding form.0) number }
-    ensures { Answers (raw_value_of R.view R.Offset.count) result
+    ensures { ReturnsAs (raw_value_of R.view R.Offset.count) result
         (number_value R.Offset.limit encoding name.0 form.0 number) }
 {
     if is_offset_data_of(encoding, name, form) {
@@ -119,7 +113,8 @@ fn number_value_of<R: Reader>(
 #[inline(always)]
 pub(crate) fn read_fixed<R: Reader>(reader: &mut R, width: u8) -> Result<u64, Error>
     requires { width ≤ 8 }
-    ensures value { Answers (λ n. (n, R.view reader.new)) result (fixed width (R.view reader.old)) }
+    ensures value { ReturnsAs (λ n. (n, R.view reader.new)) result
+        (fixed width (R.view reader.old)) }
     ensures fits { IfOk result (FitsWidth width) }
 {
     Ok(match width {
@@ -130,10 +125,11 @@ pub(crate) fn read_fixed<R: Reader>(reader: &mut R, width: u8) -> Result<u64, Er
     })
 }
 
-/// The form of a value: behind `DW_FORM_indirect` stands the form's number.
+/// The form of a value: after `DW_FORM_indirect` comes the number of the form.
 #[inline(always)]
 pub(crate) fn read_form<R: Reader>(reader: &mut R, form: DwForm) -> Result<DwForm, Error>
-    ensures { Answers (λ f. (f.0, R.view reader.new)) result (final_form form.0 (R.view reader.old)) }
+    ensures { ReturnsAs (λ f. (f.0, R.view reader.new)) result
+        (final_form form.0 (R.view reader.old)) }
 {
     let mut form = form;
     while form == DW_FORM_indirect {
@@ -153,33 +149,35 @@ fn bytes_value_of<R: Reader>(form: DwForm, bytes: R) -> AttributeValue<R>
     }
 }
 
-/// As many bytes as a length of so many bytes says.
-#[tactic(auto, unfolding(crate::specs::Reading::counted))]
+/// As many bytes as a length of that width says.
+#[tactic(auto, unfolding(crate::specs::AttributeReading::bytes_by_length))]
 fn read_block<R: Reader>(reader: &mut R, width: u8) -> Result<R, Error>
     requires { width ≤ 8 }
-    ensures value { Gives (λ bytes. (R.view bytes, R.view reader.new)) result
-        (counted R.Offset.limit (fixed width) (R.view reader.old)) }
-    ensures free { IsTrue R.copies_freely → Answers (λ bytes. (R.view bytes, R.view reader.new)) result
-        (counted R.Offset.limit (fixed width) (R.view reader.old)) }
+    ensures value { ReturnsAsOrNoMemory (λ bytes. (R.view bytes, R.view reader.new)) result
+        (bytes_by_length R.Offset.limit (fixed width) (R.view reader.old)) }
+    ensures free { IsTrue R.copies_freely
+        → ReturnsAs (λ bytes. (R.view bytes, R.view reader.new)) result
+        (bytes_by_length R.Offset.limit (fixed width) (R.view reader.old)) }
 {
     let length = read_fixed(reader, width)?;
     reader.split(R::Offset::from_u64(length)?)
 }
 
 /// As many bytes as an unsigned LEB128 length says.
-#[tactic(auto, unfolding(crate::specs::Reading::counted))]
+#[tactic(auto, unfolding(crate::specs::AttributeReading::bytes_by_length))]
 fn read_long_block<R: Reader>(reader: &mut R) -> Result<R, Error>
-    ensures value { Gives (λ bytes. (R.view bytes, R.view reader.new)) result
-        (counted R.Offset.limit unsigned (R.view reader.old)) }
-    ensures free { IsTrue R.copies_freely → Answers (λ bytes. (R.view bytes, R.view reader.new)) result
-        (counted R.Offset.limit unsigned (R.view reader.old)) }
+    ensures value { ReturnsAsOrNoMemory (λ bytes. (R.view bytes, R.view reader.new)) result
+        (bytes_by_length R.Offset.limit unsigned (R.view reader.old)) }
+    ensures free { IsTrue R.copies_freely
+        → ReturnsAs (λ bytes. (R.view bytes, R.view reader.new)) result
+        (bytes_by_length R.Offset.limit unsigned (R.view reader.old)) }
 {
     let length = reader.read_uleb128()?;
     reader.split(R::Offset::from_u64(length)?)
 }
 
 /// The value of a form that isn't `DW_FORM_indirect`.
-#[tactic(auto, unfolding(crate::specs::Reading::value))]
+#[tactic(auto, unfolding(crate::specs::AttributeReading::value))]
 fn read_value<R: Reader>(
     reader: &mut R,
     encoding: Encoding,
@@ -187,9 +185,11 @@ fn read_value<R: Reader>(
     constant: Option<i64>,
     form: DwForm,
 ) -> Result<AttributeValue<R>, Error>
-    ensures value { Gives (λ value. (raw_value_of R.view R.Offset.count value, R.view reader.new)) result
+    ensures value { ReturnsAsOrNoMemory
+        (λ value. (raw_value_of R.view R.Offset.count value, R.view reader.new)) result
         (value R.Offset.limit encoding name.0 constant form.0 (R.view reader.old)) }
-    ensures free { IsTrue R.copies_freely → Answers (λ value. (raw_value_of R.view R.Offset.count value, R.view reader.new)) result
+    ensures free { IsTrue R.copies_freely
+        → ReturnsAs (λ value. (raw_value_of R.view R.Offset.count value, R.view reader.new)) result
         (value R.Offset.limit encoding name.0 constant form.0 (R.view reader.old)) }
 {
     match spelling_of(encoding, form) {
@@ -218,10 +218,13 @@ fn read_value<R: Reader>(
     }
 }
 
-// What is done with the name, the form and the value of the attribute that a declaration describes. The commonest forms
-// have arms of their own, so that what is made of the value is made at once.
+// What is done with the name, the form and the value of the attribute that a declaration describes.
+// The commonest forms have arms of their own, so that what is made of the value is made at once.
 macro_rules! with_attribute {
-    ($reader:ident, $encoding:ident, $specification:ident, |$name:ident, $form:ident, $value:ident| $done:expr) => {{
+    (
+        $reader:ident, $encoding:ident, $specification:ident,
+        |$name:ident, $form:ident, $value:ident| $done:expr
+    ) => {{
         let $name = $specification.name();
         let constant = $specification.implicit_const_value();
         let $form = read_form($reader, $specification.form())?;
@@ -274,19 +277,21 @@ macro_rules! with_attribute {
     }};
 }
 
-/// Reads the attribute that a declaration describes, and may move the reader also where it is refused: for who reads
-/// several on a copy.
-#[tactic(auto, unfolding(crate::specs::Reading::attribute, crate::specs::Reading::value))]
+/// Reads the attribute that a declaration describes, and may move the reader also where it is
+/// refused: for who reads several on a copy.
+#[tactic(auto, unfolding(crate::specs::AttributeReading::attribute, crate::specs::AttributeReading::value))]
 pub fn read_attribute<R: Reader>(
     reader: &mut R,
     encoding: Encoding,
     specification: AttributeSpecification,
 ) -> Result<Attribute<R>, Error>
-    ensures value { Gives (λ a. (raw_attribute_of R.view R.Offset.count a, R.view reader.new)) result
-        (attribute R.Offset.limit encoding (seen_attribute specification) (R.view reader.old)) }
+    ensures value { ReturnsAsOrNoMemory
+        (λ a. (raw_attribute_of R.view R.Offset.count a, R.view reader.new)) result
+        (attribute R.Offset.limit encoding (attribute_view specification) (R.view reader.old)) }
     // Where copies take no memory, this takes none.
-    ensures free { IsTrue R.copies_freely → Answers (λ a. (raw_attribute_of R.view R.Offset.count a, R.view reader.new)) result
-        (attribute R.Offset.limit encoding (seen_attribute specification) (R.view reader.old)) }
+    ensures free { IsTrue R.copies_freely
+        → ReturnsAs (λ a. (raw_attribute_of R.view R.Offset.count a, R.view reader.new)) result
+        (attribute R.Offset.limit encoding (attribute_view specification) (R.view reader.old)) }
 {
     with_attribute!(
         reader,
@@ -296,18 +301,22 @@ pub fn read_attribute<R: Reader>(
     )
 }
 
-/// Reads the attribute that a declaration describes behind those of a list, and may move the reader also where it is
-/// refused.
-#[tactic(auto, unfolding(crate::specs::Reading::attribute, crate::specs::Reading::value))]
+/// Reads the attribute that a declaration describes, adds it to a list, and may move the reader
+/// also where it is refused.
+#[tactic(auto, unfolding(crate::specs::AttributeReading::attribute, crate::specs::AttributeReading::value))]
 pub fn push_attribute<R: Reader>(
     attributes: &mut Vec<Attribute<R>>,
     reader: &mut R,
     encoding: Encoding,
     specification: AttributeSpecification,
 ) -> Result<(), Error>
-    ensures { Gives (λ _. (map (raw_attribute_of R.view R.Offset.count) attributes.new.items, R.view reader.new)) result
-        (mapped (λ a. map (raw_attribute_of R.view R.Offset.count) attributes.old.items ++ a ∷ [])
-        (attribute R.Offset.limit encoding (seen_attribute specification)) (R.view reader.old)) }
+    ensures { ReturnsAsOrNoMemory
+        (λ _.
+        (map (raw_attribute_of R.view R.Offset.count) attributes.new.items, R.view reader.new))
+        result
+        (map_value
+        (λ a. map (raw_attribute_of R.view R.Offset.count) attributes.old.items ++ a ∷ [])
+        (attribute R.Offset.limit encoding (attribute_view specification)) (R.view reader.old)) }
 {
     with_attribute!(reader, encoding, specification, |name, form, value| {
         attributes.push(Attribute { name, form, value })?;
@@ -322,12 +331,14 @@ pub fn parse_attribute<R: Reader>(
     encoding: Encoding,
     specification: AttributeSpecification,
 ) -> Result<Attribute<R>, Error>
-    ensures value { Takes (raw_attribute_of R.view R.Offset.count) result (R.view reader.old) (R.view reader.new)
-        (attribute R.Offset.limit encoding (seen_attribute specification) (R.view reader.old)) }
+    ensures value { ReadsAsOrNoMemory (raw_attribute_of R.view R.Offset.count) result
+        (R.view reader.old) (R.view reader.new)
+        (attribute R.Offset.limit encoding (attribute_view specification) (R.view reader.old)) }
     // Where copies take no memory, this takes none.
     ensures free { IsTrue R.copies_freely
-        → Reads (raw_attribute_of R.view R.Offset.count) result (R.view reader.old) (R.view reader.new)
-        (attribute R.Offset.limit encoding (seen_attribute specification) (R.view reader.old)) }
+        → ReadsAs (raw_attribute_of R.view R.Offset.count) result (R.view reader.old)
+        (R.view reader.new)
+        (attribute R.Offset.limit encoding (attribute_view specification) (R.view reader.old)) }
 {
     let mut rest = reader.copy()?;
     let attribute = read_attribute(&mut rest, encoding, specification)?;

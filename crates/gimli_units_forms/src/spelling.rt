@@ -1,7 +1,7 @@
 ghost use Rattle.std.specs.Prelude.{◌≡◌};
-ghost use Rattle.gimli_units_forms.specs.Forms.{spelling};
+ghost use Rattle.gimli_units_forms.specs.FormSpellings.{spelling};
 
-use gimli_core_base::constants::{
+use gimli_core_abbrev::{
     DW_FORM_GNU_addr_index, DW_FORM_GNU_ref_alt, DW_FORM_GNU_str_index, DW_FORM_GNU_strp_alt,
     DW_FORM_addr, DW_FORM_addrx, DW_FORM_addrx1, DW_FORM_addrx2, DW_FORM_addrx3, DW_FORM_addrx4,
     DW_FORM_block, DW_FORM_block1, DW_FORM_block2, DW_FORM_block4, DW_FORM_data1, DW_FORM_data2,
@@ -11,20 +11,19 @@ use gimli_core_base::constants::{
     DW_FORM_ref_udata, DW_FORM_ref1, DW_FORM_ref2, DW_FORM_ref4, DW_FORM_ref8, DW_FORM_rnglistx,
     DW_FORM_sdata, DW_FORM_sec_offset, DW_FORM_string, DW_FORM_strp, DW_FORM_strp_sup,
     DW_FORM_strx, DW_FORM_strx1, DW_FORM_strx2, DW_FORM_strx3, DW_FORM_strx4, DW_FORM_udata,
-    DwForm,
+    DwForm, Encoding,
 };
-use gimli_core_constants::Encoding;
 
 /// How the value of a form is spelled (DWARF 5, 7.5.5 and 7.5.6).
 #[derive(Clone, Copy, Debug, PartialEq, Eq)]
 pub enum Spelling {
     /// An address of the encoding.
     Address,
-    /// A number of so many bytes, eight at most.
+    /// A number of that many bytes, eight at most.
     Fixed(u8),
     /// A number of sixteen bytes.
     Sixteen,
-    /// A length of so many bytes, and as many bytes as it says.
+    /// A length of that many bytes, and as many bytes as it says.
     Block(u8),
     /// An unsigned LEB128 length, and as many bytes as it says.
     LongBlock,
@@ -36,7 +35,7 @@ pub enum Spelling {
     Text,
     /// The number of a form, and a value of that form.
     Indirect,
-    /// No bytes: the value stands in the abbreviation.
+    /// No bytes: the value is in the abbreviation.
     Constant,
     /// No form of the standard or of GNU.
     Unknown,

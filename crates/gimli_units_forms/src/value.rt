@@ -1,11 +1,9 @@
-use gimli_core_base::constants::DwForm;
-use gimli_core_constants::{
-    DebugAddrBase, DebugAddrIndex, DebugLineOffset, DebugLineStrOffset, DebugLocListsBase,
-    DebugLocListsIndex, DebugRngListsBase, DebugRngListsIndex, DebugStrOffset, DebugStrOffsetsBase,
-    DebugStrOffsetsIndex, DebugTypeSignature, DwAt, DwLang, DwoId, RawRangeListsOffset,
+use gimli_core_abbrev::{
+    DebugAddrBase, DebugAddrIndex, DebugInfoOffset, DebugLineOffset, DebugLineStrOffset,
+    DebugLocListsBase, DebugLocListsIndex, DebugRngListsBase, DebugRngListsIndex, DebugStrOffset,
+    DebugStrOffsetsBase, DebugStrOffsetsIndex, DebugTypeSignature, DwAt, DwForm, DwLang, DwoId,
+    Expression, RawRangeListsOffset, Reader, UnitOffset,
 };
-use gimli_core_readers::Reader;
-use gimli_units_base::{DebugInfoOffset, Expression, UnitOffset};
 
 /// An attribute of an entry: its name, the form in which its value is spelled, and the value.
 #[derive(Drop)]

@@ -1,8 +1,13 @@
--- What contracts see of the fields that were read of a header.
+-- What contracts see of the fields of a unit's header: offsets as numbers.
 use Rattle.std.specs.Prelude.{ℕ}
 use Rattle.gimli_units_headers.specs.UnitHeaders as unit
 use Rattle.gimli_units_headers.specs.UnitTypes.{kind_of}
 use Rattle.gimli_units_headers.specs.declared.fields.UnitFields.{UnitFields}
 
-abbrev pub fields_of : {O : Type 0} → (O → ℕ) → UnitFields O → unit.Fields
-fields_of count f = record { encoding = f.encoding; kind = kind_of count f.unit_type; abbrev_offset = count f.debug_abbrev_offset.0 }
+-- the fields, whose offsets count as these numbers
+abbrev pub fields_of : {O : Type 0} → (O → ℕ) → UnitFields O → unit.HeaderFields
+fields_of count f = record {
+  encoding = f.encoding;
+  kind = kind_of count f.unit_type;
+  abbrev_offset = count f.debug_abbrev_offset.0;
+}

@@ -1,4 +1,4 @@
--- What stands end to end in a section: each begins where the one before it ends.
+-- Parts of a section that lie end to end: each begins where the one before it ends.
 use Rattle.std.specs.Prelude.{◌≡◌, ℕ, ◌+◌, ◌-◌, ◌<◌, List, [], ◌∷◌, Option, Result, Ok, Err}
 use Rattle.gimli_core_base.specs.declared.error.Error.{Error}
 use Rattle.gimli_core_base.specs.View.{View, after, bytes_left}
@@ -18,12 +18,14 @@ whole_section section = record { section_length = bytes_left section; left = sec
 abbrev pub next_offset : SectionLeft → ℕ
 next_offset s = s.section_length - bytes_left s.left
 
--- the part that begins where the rest of a section of so many bytes does; what is read of it depends on its offset
+-- the part that begins where the rest of a section of that length begins; how it is read depends on
+-- its offset
 abbrev pub part_of : {A : Type 0} → (ℕ → Parser A) → ℕ → Parser A
 part_of read section_length v = read (section_length - bytes_left v) v
 
 -- the next part, none at the section's end
-abbrev pub next_part : {A : Type 0} → (ℕ → Parser A) → SectionLeft → Result (Option A × View) Error
+abbrev pub next_part : {A : Type 0} → (ℕ → Parser A) → SectionLeft
+    → Result (Option A × View) Error
 next_part read s = until_end (part_of read s.section_length) s.left
 
 -- all parts from there on, and what ends them: the section's end, or the first fault
@@ -34,11 +36,14 @@ parts_to_come read s = listing_in bytes_left (until_end (part_of read s.section_
 abbrev pub part_at : {A : Type 0} → (ℕ → Parser A) → ℕ → View → Result A Error
 part_at read offset section = value_of (read offset (after offset section))
 
--- From an offset on the parts stand end to end: each at the offset that it names, with the next one behind its last byte, up to the
--- section's end or to a part that can't be read.
-abbrev pub Tile : {A : Type 0} → (ℕ → Parser A) → (A → ℕ) → (A → ℕ) → View → ℕ → List A → Result View Error → Type 0
+-- From an offset on the parts lie end to end: each at the offset that it names, and the next one
+-- after its last byte, up to the section's end or to a part that can't be read.
+abbrev pub Tile : {A : Type 0} → (ℕ → Parser A) → (A → ℕ) → (A → ℕ) → View → ℕ → List A
+    → Result View Error → Type 0
 Tile read offset_of size_of section offset [] (Ok rest) = offset ≡ bytes_left section
-Tile read offset_of size_of section offset [] (Err e) = (offset < bytes_left section) × (part_at read offset section ≡ Err e)
+Tile read offset_of size_of section offset [] (Err e) =
+    (offset < bytes_left section) × (part_at read offset section ≡ Err e)
 Tile read offset_of size_of section offset (x ∷ xs) ending =
-    (offset_of x ≡ offset) × (read offset (after offset section) ≡ Ok (x, after (offset + size_of x) section))
+    (offset_of x ≡ offset)
+    × (read offset (after offset section) ≡ Ok (x, after (offset + size_of x) section))
     × Tile read offset_of size_of section (offset + size_of x) xs ending

@@ -4,6 +4,7 @@ use Rattle.gimli_units_headers.specs.UnitHeaders.{UnitKind, compilation, type_un
 use Rattle.gimli_units_headers.specs.declared.fields.UnitType.{UnitType}
 use Rattle.gimli_units_headers.specs.declared.fields.UnitType.TheVariants.{Compilation, TypeUnit, Partial, Skeleton, SplitCompilation, SplitType}
 
+-- the kind, whose offsets count as these numbers
 abbrev pub kind_of : {O : Type 0} → (O → ℕ) → UnitType O → UnitKind
 kind_of count Compilation = compilation
 kind_of count (TypeUnit signature offset) = type_unit signature.0 (count offset.0)

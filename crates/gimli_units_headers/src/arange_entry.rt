@@ -1,14 +1,13 @@
 //! The ranges of a set (DWARF 5, 6.1.2).
 
 ghost use Rattle.std.specs.Prelude.{◌≡◌, ◌≢◌, IsOk, IsTrue, Ok, Err};
-ghost use Rattle.gimli_core_base.specs.Calls.{Gives};
+ghost use Rattle.gimli_core_base.specs.Calls.{ReturnsAsOrNoMemory, ReturnsOrNoMemory};
 ghost use Rattle.gimli_core_base.specs.declared.error.Error.TheVariants.{Memory};
-ghost use Rattle.gimli_core_numbers.specs.Numbers.{is_address_size};
-ghost use Rattle.gimli_units_headers.specs.Aranges.{next_pair, arange_of, aranges_to_come, pairs_to_come, pairs_left, end_of, Consumes, IsFirst};
+ghost use Rattle.gimli_core_base.specs.NumberParsers.{is_address_size};
+ghost use Rattle.gimli_units_headers.specs.ArangeSets.{next_pair, arange_of, aranges_to_come, pairs_to_come, pairs_left, pair_end, Consumes, IsFirst};
 
 use gimli_core_base::error::Error;
-use gimli_core_readers::Reader;
-use gimli_units_base::{Range, greatest_address, least_tombstone};
+use gimli_core_readers::{Range, Reader, greatest_address, least_tombstone};
 use std::marker::Model;
 
 /// A range of addresses, by its begin and its length.
@@ -19,7 +18,7 @@ pub struct ArangeEntry {
 }
 
 impl Model for ArangeEntry {
-    ghost use Rattle.gimli_units_headers.specs.Aranges.{ArangePair};
+    ghost use Rattle.gimli_units_headers.specs.ArangeSets.{ArangePair};
 
     ghost Value = { ArangePair };
 
@@ -43,10 +42,11 @@ impl ArangeEntry {
         self.length
     }
 
-    /// The addresses. Of an entry that `next` gave the end is the sum; else it may be wrapped at 64 bits.
+    /// The addresses. Of an entry that `next` gave the end is the sum; else it may be wrapped at 64
+    /// bits.
     pub fn range(&self) -> Range
         ensures begin { result.begin ≡ self.now.address }
-        ensures end { result.end ≡ end_of self.now }
+        ensures end { result.end ≡ pair_end self.now }
     {
         Range {
             begin: self.address,
@@ -65,8 +65,8 @@ pub struct ArangeEntryIter<R: Reader> {
 
 impl<R: Reader> Model for ArangeEntryIter<R> {
     ghost use Rattle.std.specs.Prelude.{IsTrue};
-    ghost use Rattle.gimli_core_numbers.specs.Numbers.{is_address_size};
-    ghost use Rattle.gimli_units_headers.specs.Aranges.{PairsLeft};
+    ghost use Rattle.gimli_core_base.specs.NumberParsers.{is_address_size};
+    ghost use Rattle.gimli_units_headers.specs.ArangeSets.{PairsLeft};
 
     ghost Value = { PairsLeft };
 
@@ -78,7 +78,8 @@ impl<R: Reader> Model for ArangeEntryIter<R> {
 impl<R: Reader> ArangeEntryIter<R> {
     pub(crate) fn new(entries: &R, address_size: u8) -> Result<Self, Error>
         requires { IsTrue (is_address_size address_size) }
-        ensures value { Gives (λ pairs. pairs) result (Ok (pairs_left address_size (R.view entries.now))) }
+        ensures value { ReturnsOrNoMemory result
+            (Ok (pairs_left address_size (R.view entries.now))) }
         ensures free { IsTrue R.copies_freely → result ≢ Err Memory }
     {
         Ok(ArangeEntryIter {
@@ -87,12 +88,13 @@ impl<R: Reader> ArangeEntryIter<R> {
         })
     }
 
-    /// The next range, none at the set's end. One whose end the address size can't hold is refused in its place, and
-    /// the ranges go on behind it. Takes no memory.
+    /// The next range, none at the set's end. One whose end the address size can't hold is refused
+    /// in its place, and the ranges go on after it. Takes no memory.
     pub fn next(&mut self) -> Result<Option<ArangeEntry>, Error>
         ensures order { IsFirst result (aranges_to_come self.old) (aranges_to_come self.new) }
-        // No pair behind the one that is answered is touched, so that `next_raw` may go on.
-        ensures pairs { Consumes self.old.address_size result (pairs_to_come self.old) (pairs_to_come self.new) }
+        // No pair after the one that is answered is touched, so that `next_raw` may go on.
+        ensures pairs { Consumes self.old.address_size result (pairs_to_come self.old)
+            (pairs_to_come self.new) }
         ensures size { self.new.address_size ≡ self.old.address_size }
     {
         while let Some(raw) = self.next_raw()? {
@@ -103,10 +105,11 @@ impl<R: Reader> ArangeEntryIter<R> {
         Ok(None)
     }
 
-    /// The next pair as it stands, none where less than a pair is left. Takes no memory.
-    #[tactic(auto, unfolding(crate::specs::Aranges::next_pair, crate::specs::Aranges::pair, gimli_core_numbers::specs::Numbers::address, gimli_core_numbers::specs::Numbers::fixed))]
+    /// The next pair, not converted; none where less than a pair is left. Takes no memory.
+    #[tactic(auto, unfolding(crate::specs::ArangeSets::next_pair, crate::specs::ArangeSets::pair, gimli_core_base::specs::NumberParsers::address, gimli_core_base::specs::NumberParsers::fixed))]
     pub fn next_raw(&mut self) -> Result<Option<ArangeEntry>, Error>
-        ensures value { Gives (λ pair. (pair, self.new.left)) result (next_pair self.old.address_size self.old.left) }
+        ensures value { ReturnsAsOrNoMemory (λ pair. (pair, self.new.left)) result
+            (next_pair self.old.address_size self.old.left) }
         ensures read { IsOk result }
         ensures size { self.new.address_size ≡ self.old.address_size }
         ensures address { IsTrue (is_address_size self.old.address_size) }
@@ -120,7 +123,7 @@ impl<R: Reader> ArangeEntryIter<R> {
         Ok(Some(ArangeEntry { address, length }))
     }
 
-    /// The range of a pair that `next_raw` gave, none where it stands for none.
+    /// The range of a pair that `next_raw` gave, none where it is skipped.
     pub fn convert_raw(&self, raw: ArangeEntry) -> Result<Option<ArangeEntry>, Error>
         ensures { result ≡ arange_of self.now.address_size raw }
     {

@@ -2,21 +2,19 @@
 
 ghost use Rattle.std.specs.Prelude.{◌≡◌, ◌≢◌, ◌≤◌, IfOk, IsTrue, Ok, Err, length};
 ghost use Rattle.gimli_core_base.specs.View.{bytes_left};
-ghost use Rattle.gimli_core_base.specs.Calls.{Answers, Gives};
+ghost use Rattle.gimli_core_base.specs.Calls.{ReturnsAs, ReturnsAsOrNoMemory, ReturnsOrNoMemory};
 ghost use Rattle.gimli_core_base.specs.declared.error.Error.TheVariants.{Memory};
-ghost use Rattle.gimli_core_numbers.specs.Numbers.{is_address_size};
-ghost use Rattle.gimli_units_headers.specs.Aranges.{arange_set, arange_set_in, arange_fields, arange_padding, pairs_of, aranges_to_come};
+ghost use Rattle.gimli_core_base.specs.NumberParsers.{is_address_size};
+ghost use Rattle.gimli_units_headers.specs.ArangeSets.{arange_set, arange_set_in, arange_fields, arange_padding, pairs_of, aranges_to_come};
 ghost use Rattle.gimli_units_headers.specs.ParsedAranges.{arange_fields_of};
 
 use crate::arange_entry::ArangeEntryIter;
 use gimli_core_base::error::Error;
-use gimli_core_constants::{DebugArangesOffset, Encoding, Format};
-use gimli_core_numbers::ReaderOffset;
-use gimli_core_readers::Reader;
-use gimli_units_base::DebugInfoOffset;
+use gimli_core_base::{DebugArangesOffset, Encoding, Format, ReaderOffset};
+use gimli_core_readers::{DebugInfoOffset, Reader};
 use std::marker::Model;
 
-/// A set of address ranges: its header, and the pairs behind it.
+/// A set of address ranges: its header, and the pairs after it.
 #[derive(Debug, Drop)]
 pub struct ArangeHeader<R: Reader> {
     offset: DebugArangesOffset<R::Offset>,
@@ -28,8 +26,8 @@ pub struct ArangeHeader<R: Reader> {
 
 impl<R: Reader> Model for ArangeHeader<R> {
     ghost use Rattle.std.specs.Prelude.{IsTrue};
-    ghost use Rattle.gimli_core_numbers.specs.Numbers.{is_address_size};
-    ghost use Rattle.gimli_units_headers.specs.Aranges.{ArangeSet};
+    ghost use Rattle.gimli_core_base.specs.NumberParsers.{is_address_size};
+    ghost use Rattle.gimli_units_headers.specs.ArangeSets.{ArangeSet};
 
     ghost Value = { ArangeSet };
 
@@ -52,7 +50,7 @@ impl<R: Reader> ArangeHeader<R> {
         self.offset
     }
 
-    /// The bytes of the set behind its length.
+    /// The bytes of the set after its length.
     pub fn length(&self) -> R::Offset
         ensures { R.Offset.count result ≡ self.now.length }
     {
@@ -76,9 +74,10 @@ impl<R: Reader> ArangeHeader<R> {
 
     /// The ranges of the set, in order. Takes memory only where a copy of the reader does.
     pub fn entries(&self) -> Result<ArangeEntryIter<R>, Error>
-        ensures value { Gives (λ entries. entries) result (Ok (pairs_of self.now)) }
+        ensures value { ReturnsOrNoMemory result (Ok (pairs_of self.now)) }
         ensures free { IsTrue R.copies_freely → result ≢ Err Memory }
-        ensures few { IfOk result (λ entries. length (aranges_to_come entries) ≤ bytes_left self.now.pairs) }
+        ensures few { IfOk result
+            (λ entries. length (aranges_to_come entries) ≤ bytes_left self.now.pairs) }
     {
         ArangeEntryIter::new(&self.entries, self.encoding.address_size)
     }
@@ -91,13 +90,14 @@ pub struct ArangeFields<O> {
     pub debug_info_offset: DebugInfoOffset<O>,
 }
 
-/// The set at the front, which begins at an offset of its section.
-#[tactic(auto, unfolding(crate::specs::Aranges::arange_set, crate::specs::Aranges::arange_set_in))]
+/// The next set, which begins at an offset of its section.
+#[tactic(auto, unfolding(crate::specs::ArangeSets::arange_set, crate::specs::ArangeSets::arange_set_in))]
 pub(crate) fn parse_arange_header<R: Reader>(
     input: &mut R,
     offset: DebugArangesOffset<R::Offset>,
 ) -> Result<ArangeHeader<R>, Error>
-    ensures value { Gives (λ header. (header, R.view input.new)) result (arange_set R.Offset.limit (R.Offset.count offset.0) (R.view input.old)) }
+    ensures value { ReturnsAsOrNoMemory (λ header. (header, R.view input.new)) result
+        (arange_set R.Offset.limit (R.Offset.count offset.0) (R.view input.old)) }
     ensures free { IsTrue R.copies_freely → result ≢ Err Memory }
 {
     let (length, format) = input.read_initial_length()?;
@@ -112,11 +112,13 @@ pub(crate) fn parse_arange_header<R: Reader>(
     })
 }
 
-/// The fields behind the length, and the padding.
-#[tactic(auto, unfolding(crate::specs::Aranges::arange_fields))]
+/// The fields after the length, and the padding.
+#[tactic(auto, unfolding(crate::specs::ArangeSets::arange_fields))]
 fn parse_fields<R: Reader>(input: &mut R, format: Format) -> Result<ArangeFields<R::Offset>, Error>
-    ensures value { Answers (λ fields. (arange_fields_of R.Offset.count fields, R.view input.new)) result (arange_fields R.Offset.limit format (R.view input.old)) }
-    ensures address { IfOk result (λ fields. IsTrue (is_address_size fields.encoding.address_size)) }
+    ensures value { ReturnsAs (λ fields. (arange_fields_of R.Offset.count fields, R.view input.new))
+        result (arange_fields R.Offset.limit format (R.view input.old)) }
+    ensures address { IfOk result
+        (λ fields. IsTrue (is_address_size fields.encoding.address_size)) }
 {
     let version = input.read_u16()?;
     if version != 2 {
@@ -138,7 +140,7 @@ fn parse_fields<R: Reader>(input: &mut R, format: Format) -> Result<ArangeFields
     })
 }
 
-/// The bytes between the header and the first pair, which stands at a multiple of a pair's size.
+/// The bytes between the header and the first pair, which is at a multiple of a pair's size.
 fn padding(format: Format, address_size: u8) -> u8
     requires { IsTrue (is_address_size address_size) }
     ensures { result ≡ arange_padding format address_size }

@@ -3,18 +3,16 @@
 ghost use Rattle.std.specs.Prelude.{◌≡◌, ◌≢◌, ◌≤◌, All, IfOk, IsTrue, length, Ok, Err};
 ghost use Rattle.std.specs.Fn.{FnOnceReturnsAt};
 ghost use Rattle.gimli_core_base.specs.View.{bytes_left};
-ghost use Rattle.gimli_core_base.specs.Calls.{Gives};
+ghost use Rattle.gimli_core_base.specs.Calls.{ReturnsOrNoMemory};
 ghost use Rattle.gimli_core_base.specs.declared.error.Error.TheVariants.{Memory};
-ghost use Rattle.gimli_core_strings.specs.Iterators.{TakesOrEnds, ComesNext};
+ghost use Rattle.gimli_core_readers.specs.Iterators.{ReadsOrEndsOrNoMemory, ComesNext};
 ghost use Rattle.gimli_units_headers.specs.Tiling.{whole_section, next_offset, Tile};
-ghost use Rattle.gimli_units_headers.specs.Aranges.{arange_set, next_set, sets_to_come, sets_of, arange_set_at, set_size};
+ghost use Rattle.gimli_units_headers.specs.ArangeSets.{arange_set, next_set, sets_to_come, sets_of, arange_set_at, set_size};
 
 use crate::arange_set::{ArangeHeader, parse_arange_header};
 use gimli_core_base::error::Error;
-use gimli_core_constants::{DebugArangesOffset, SectionId};
-use gimli_core_numbers::{Endianity, ReaderOffset};
-use gimli_core_readers::{EndianSlice, Reader};
-use gimli_core_strings::Section;
+use gimli_core_base::{DebugArangesOffset, Endianity, ReaderOffset, SectionId};
+use gimli_core_readers::{EndianSlice, Reader, Section};
 use std::marker::Model;
 
 /// `.debug_aranges`: which addresses belong to which unit, in a set for each unit.
@@ -40,11 +38,11 @@ impl<R: Reader> From<R> for DebugAranges<R> {
 }
 
 impl<R: Reader> Section<R> for DebugAranges<R> {
-    ghost use Rattle.gimli_core_constants.specs.declared.common.SectionId.TheVariants.{DebugAranges};
+    ghost use Rattle.gimli_core_base.specs.declared.common.SectionId.TheVariants.{DebugAranges};
 
     ghost section_id = { DebugAranges };
 
-    ghost seen = { λ s. s };
+    ghost section_view = { λ s. s };
 
     fn id() -> SectionId {
         SectionId::DebugAranges
@@ -83,12 +81,14 @@ impl<R: Reader> DebugAranges<R> {
 
     /// The sets of the section, in order. Takes memory only where a copy of the reader does.
     pub fn headers(&self) -> Result<ArangeHeaderIter<R>, Error>
-        ensures value { Gives (λ sets. sets) result (Ok (whole_section self.now)) }
+        ensures value { ReturnsOrNoMemory result (Ok (whole_section self.now)) }
         ensures free { IsTrue R.copies_freely → result ≢ Err Memory }
-        // They stand end to end, from the section's start to its end or to one that can't be read.
+        // They lie end to end, from the section's start to its end or to one that can't be read.
         ensures tile { IfOk result (λ sets. let all = sets_to_come R.Offset.limit sets in
-            Tile (arange_set R.Offset.limit) (λ s. s.offset) set_size self.now 0 all.items all.ending) }
-        ensures few { IfOk result (λ sets. length (sets_to_come R.Offset.limit sets).items ≤ bytes_left self.now) }
+            Tile (arange_set R.Offset.limit) (λ s. s.offset) set_size self.now 0 all.items
+            all.ending) }
+        ensures few { IfOk result
+            (λ sets. length (sets_to_come R.Offset.limit sets).items ≤ bytes_left self.now) }
     {
         Ok(ArangeHeaderIter {
             input: self.section.copy()?,
@@ -98,10 +98,13 @@ impl<R: Reader> DebugAranges<R> {
 
     /// The set at an offset of the section. Takes memory only where a part of the reader does.
     pub fn header(&self, offset: DebugArangesOffset<R::Offset>) -> Result<ArangeHeader<R>, Error>
-        ensures value { Gives (λ header. header) result (arange_set_at R.Offset.limit (R.Offset.count offset.0) self.now) }
+        ensures value { ReturnsOrNoMemory result
+            (arange_set_at R.Offset.limit (R.Offset.count offset.0) self.now) }
         ensures free { IsTrue R.copies_freely → result ≢ Err Memory }
         // Where `headers` gives a set at this offset it is the same one.
-        ensures again { All (λ s. s.offset ≡ R.Offset.count offset.0 → Gives (λ header. header) result (Ok s)) (sets_of R.Offset.limit self.now) }
+        ensures again { All
+            (λ s. s.offset ≡ R.Offset.count offset.0 → ReturnsOrNoMemory result (Ok s))
+            (sets_of R.Offset.limit self.now) }
     {
         let mut input = self.section.copy()?;
         input.skip(offset.0)?;
@@ -123,19 +126,24 @@ impl<R: Reader> Model for ArangeHeaderIter<R> {
 
     ghost Value = { SectionLeft };
 
-    ghost view = { λ s. record { section_length = R.Offset.count s.section_len; left = R.view s.input } };
+    ghost view = { λ s. record {
+      section_length = R.Offset.count s.section_len;
+      left = R.view s.input;
+    } };
 
     ghost invariant = { λ s. length (R.view s.input).bytes ≤ R.Offset.count s.section_len };
 }
 
 impl<R: Reader> ArangeHeaderIter<R> {
-    /// The next set, none at the section's end. After a set that can't be read there are no more. Takes memory only
-    /// where a part of the reader does, and moves nothing where there is none.
+    /// The next set, none at the section's end. After a set that can't be read there are no more.
+    /// Takes memory only where a part of the reader does, and moves nothing where there is none.
     pub fn next(&mut self) -> Result<Option<ArangeHeader<R>>, Error>
-        ensures value { TakesOrEnds (λ set. set) result self.old.left self.new.left (next_set R.Offset.limit self.old) }
+        ensures value { ReadsOrEndsOrNoMemory result self.old.left self.new.left
+            (next_set R.Offset.limit self.old) }
         ensures free { IsTrue R.copies_freely → result ≢ Err Memory }
         ensures section { self.new.section_length ≡ self.old.section_length }
-        ensures order { ComesNext result (sets_to_come R.Offset.limit self.old) (sets_to_come R.Offset.limit self.new) }
+        ensures order { ComesNext result (sets_to_come R.Offset.limit self.old)
+            (sets_to_come R.Offset.limit self.new) }
     {
         if self.input.is_empty() {
             return Ok(None);

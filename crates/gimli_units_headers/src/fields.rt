@@ -1,7 +1,7 @@
-//! What a unit's header says behind its length (DWARF 5, 7.5.1).
+//! What a unit's header says after its length (DWARF 5, 7.5.1).
 
 ghost use Rattle.std.specs.Prelude.{◌≡◌, ℕ};
-ghost use Rattle.gimli_core_base.specs.Calls.{Answers};
+ghost use Rattle.gimli_core_base.specs.Calls.{ReturnsAs};
 ghost use Rattle.gimli_units_headers.specs.UnitHeaders.{unit_type, with_signature, kind_of_type, fields_to_4, fields_of_5, unit_fields, kind_size};
 ghost use Rattle.gimli_units_headers.specs.UnitTypes.{kind_of};
 ghost use Rattle.gimli_units_headers.specs.ParsedFields.{fields_of};
@@ -11,22 +11,21 @@ use gimli_core_base::constants::{
     DW_UT_type, DwUt,
 };
 use gimli_core_base::error::Error;
-use gimli_core_constants::{DebugAbbrevOffset, DebugTypeSignature, DwoId, Encoding, Format};
-use gimli_core_readers::Reader;
-use gimli_units_base::UnitOffset;
+use gimli_core_base::{DebugAbbrevOffset, DebugTypeSignature, DwoId, Encoding, Format};
+use gimli_core_readers::{Reader, UnitOffset};
 
 /// What a unit is, and what its header says for that (DWARF 5, 7.5.1.1 to 7.5.1.3).
 #[derive(Clone, Copy, Debug, PartialEq, Eq)]
 pub enum UnitType<O> {
     /// A compilation unit: every unit up to version 4 of the standard.
     Compilation,
-    /// A unit of one type, whose entry stands at an offset of the unit.
+    /// A unit of one type, whose entry is at an offset of the unit.
     TypeUnit {
         type_signature: DebugTypeSignature,
         type_offset: UnitOffset<O>,
     },
     Partial,
-    /// A unit whose entries stand in a split file, in the split unit of the same identifier.
+    /// A unit whose entries are in a split file, in the split unit of the same identifier.
     Skeleton(DwoId),
     SplitCompilation(DwoId),
     /// A type unit in a split file.
@@ -58,13 +57,14 @@ pub struct UnitFields<O> {
     pub debug_abbrev_offset: DebugAbbrevOffset<O>,
 }
 
-/// The fields behind the length.
+/// The fields after the length.
 #[tactic(auto, unfolding(crate::specs::UnitHeaders::unit_fields))]
 pub(crate) fn parse_fields<R: Reader>(
     input: &mut R,
     format: Format,
 ) -> Result<UnitFields<R::Offset>, Error>
-    ensures { Answers (λ fields. (fields_of R.Offset.count fields, R.view input.new)) result (unit_fields R.Offset.limit format (R.view input.old)) }
+    ensures { ReturnsAs (λ fields. (fields_of R.Offset.count fields, R.view input.new)) result
+        (unit_fields R.Offset.limit format (R.view input.old)) }
 {
     let version = input.read_u16()?;
     match version {
@@ -74,14 +74,15 @@ pub(crate) fn parse_fields<R: Reader>(
     }
 }
 
-/// The fields behind the version, up to version 4.
+/// The fields after the version, up to version 4.
 #[tactic(auto, unfolding(crate::specs::UnitHeaders::fields_to_4))]
 fn parse_fields_to_4<R: Reader>(
     input: &mut R,
     format: Format,
     version: u16,
 ) -> Result<UnitFields<R::Offset>, Error>
-    ensures { Answers (λ fields. (fields_of R.Offset.count fields, R.view input.new)) result (fields_to_4 R.Offset.limit format version (R.view input.old)) }
+    ensures { ReturnsAs (λ fields. (fields_of R.Offset.count fields, R.view input.new)) result
+        (fields_to_4 R.Offset.limit format version (R.view input.old)) }
 {
     let offset = input.read_offset(format)?;
     let size = input.read_address_size()?;
@@ -96,13 +97,14 @@ fn parse_fields_to_4<R: Reader>(
     })
 }
 
-/// The fields behind the version, in version 5.
+/// The fields after the version, in version 5.
 #[tactic(auto, unfolding(crate::specs::UnitHeaders::fields_of_5))]
 fn parse_fields_of_5<R: Reader>(
     input: &mut R,
     format: Format,
 ) -> Result<UnitFields<R::Offset>, Error>
-    ensures { Answers (λ fields. (fields_of R.Offset.count fields, R.view input.new)) result (fields_of_5 R.Offset.limit format (R.view input.old)) }
+    ensures { ReturnsAs (λ fields. (fields_of R.Offset.count fields, R.view input.new)) result
+        (fields_of_5 R.Offset.limit format (R.view input.old)) }
 {
     let unit_type = parse_unit_type(input)?;
     let address_size = input.read_address_size()?;
@@ -122,7 +124,7 @@ fn parse_fields_of_5<R: Reader>(
 /// A unit type that the standard numbers.
 #[tactic(auto, unfolding(crate::specs::UnitHeaders::unit_type))]
 fn parse_unit_type<R: Reader>(input: &mut R) -> Result<DwUt, Error>
-    ensures { Answers (λ t. (t.0, R.view input.new)) result (unit_type (R.view input.old)) }
+    ensures { ReturnsAs (λ t. (t.0, R.view input.new)) result (unit_type (R.view input.old)) }
 {
     let unit_type = DwUt(input.read_u8()?);
     match unit_type {
@@ -143,7 +145,8 @@ fn parse_kind<R: Reader>(
     format: Format,
     unit_type: DwUt,
 ) -> Result<UnitType<R::Offset>, Error>
-    ensures { Answers (λ t. (kind_of R.Offset.count t, R.view input.new)) result (kind_of_type R.Offset.limit format unit_type.0 (R.view input.old)) }
+    ensures { ReturnsAs (λ t. (kind_of R.Offset.count t, R.view input.new)) result
+        (kind_of_type R.Offset.limit format unit_type.0 (R.view input.old)) }
 {
     match unit_type {
         DW_UT_compile => Ok(UnitType::Compilation),

@@ -1,20 +1,18 @@
 //! Unit headers (DWARF 5, 7.5.1).
 
 ghost use Rattle.std.specs.Prelude.{◌≡◌, ◌≢◌, ◌+◌, ◌<◌, ◌≤◌, IsTrue, Err, Some, option_map};
-ghost use Rattle.gimli_core_base.specs.Calls.{Gives};
+ghost use Rattle.gimli_core_base.specs.Calls.{ReturnsAsOrNoMemory};
 ghost use Rattle.gimli_core_base.specs.declared.error.Error.TheVariants.{Memory};
-ghost use Rattle.gimli_core_numbers.specs.Numbers.{is_address_size};
-ghost use Rattle.gimli_units_base.specs.Addresses.{is_tombstone};
+ghost use Rattle.gimli_core_base.specs.NumberParsers.{is_address_size};
+ghost use Rattle.gimli_core_readers.specs.Addresses.{is_tombstone};
 ghost use Rattle.gimli_units_headers.specs.UnitHeaders.{unit, unit_in, length_including_self, header_size, size_of_header};
 ghost use Rattle.gimli_units_headers.specs.UnitOffsets.{is_in_bounds, bytes_from, bytes_to, bytes_between};
 ghost use Rattle.gimli_units_headers.specs.UnitTypes.{kind_of};
 
 use crate::fields::{UnitType, parse_fields};
 use gimli_core_base::error::Error;
-use gimli_core_constants::{DebugAbbrevOffset, Encoding, Format};
-use gimli_core_numbers::ReaderOffset;
-use gimli_core_readers::Reader;
-use gimli_units_base::{DebugInfoOffset, UnitOffset, least_tombstone};
+use gimli_core_base::{DebugAbbrevOffset, Encoding, Format, ReaderOffset};
+use gimli_core_readers::{DebugInfoOffset, Reader, UnitOffset, least_tombstone};
 use std::marker::Model;
 use std::ops::{Range, RangeFrom, RangeTo};
 
@@ -30,7 +28,7 @@ pub struct UnitHeader<R: Reader> {
 }
 
 impl<R: Reader> Model for UnitHeader<R> {
-    ghost use Rattle.gimli_units_headers.specs.UnitHeaders.{DebugUnit, IsRead};
+    ghost use Rattle.gimli_units_headers.specs.UnitHeaders.{DebugUnit, IsWellFormed};
     ghost use Rattle.gimli_units_headers.specs.UnitTypes.{kind_of};
 
     ghost Value = { DebugUnit };
@@ -44,7 +42,7 @@ impl<R: Reader> Model for UnitHeader<R> {
       entries = R.view u.entries;
     } };
 
-    ghost invariant = { λ u. IsRead R.Offset.limit (record {
+    ghost invariant = { λ u. IsWellFormed R.Offset.limit (record {
       offset = R.Offset.count u.offset.0;
       unit_length = R.Offset.count u.unit_length;
       encoding = u.encoding;
@@ -62,14 +60,14 @@ impl<R: Reader> UnitHeader<R> {
         self.offset
     }
 
-    /// The same offset: every unit stands in `.debug_info`.
+    /// The same offset: every unit is in `.debug_info`.
     pub fn debug_info_offset(&self) -> Option<DebugInfoOffset<R::Offset>>
         ensures { option_map (λ offset. R.Offset.count offset.0) result ≡ Some self.now.offset }
     {
         Some(self.offset)
     }
 
-    /// The bytes of the unit behind its length.
+    /// The bytes of the unit after its length.
     pub fn unit_length(&self) -> R::Offset
         ensures { R.Offset.count result ≡ self.now.unit_length }
     {
@@ -129,7 +127,7 @@ impl<R: Reader> UnitHeader<R> {
     /// The bytes of the header, counted by its fields.
     pub fn size_of_header(&self) -> usize
         ensures fields { result ≡ size_of_header self.now }
-        // What stands before the entries is the fields, and nothing else.
+        // Only the fields come before the entries.
         ensures same { result ≡ header_size self.now }
     {
         let version_size = 2;
@@ -175,7 +173,7 @@ impl<R: Reader> UnitHeader<R> {
         self.header_size().into_u64() <= offset && offset < self.length_including_self().into_u64()
     }
 
-    /// An offset of the unit, counted from the section's begin.
+    /// An offset of the unit, counted from the start of the section.
     pub(crate) fn section_offset_of(
         &self,
         offset: &UnitOffset<R::Offset>,
@@ -186,10 +184,13 @@ impl<R: Reader> UnitHeader<R> {
         DebugInfoOffset(self.offset.0.wrapping_add(offset.0))
     }
 
-    /// The bytes between two offsets of the entries. Takes memory only where a copy of the reader does.
+    /// The bytes between two offsets of the entries. Takes memory only where a copy of the reader
+    /// does.
     pub fn range(&self, offsets: Range<UnitOffset<R::Offset>>) -> Result<R, Error>
         requires { R.Offset.count offsets.start.0 ≤ R.Offset.count offsets.end.0 }
-        ensures value { Gives R.view result (bytes_between self.now (R.Offset.count offsets.start.0) (R.Offset.count offsets.end.0)) }
+        ensures value { ReturnsAsOrNoMemory R.view result
+            (bytes_between self.now (R.Offset.count offsets.start.0)
+            (R.Offset.count offsets.end.0)) }
         ensures free { IsTrue R.copies_freely → result ≢ Err Memory }
     {
         if !self.holds(&offsets.end) {
@@ -201,9 +202,11 @@ impl<R: Reader> UnitHeader<R> {
         Ok(bytes)
     }
 
-    /// The bytes from an offset of the entries on. Takes memory only where a copy of the reader does.
+    /// The bytes from an offset of the entries on. Takes memory only where a copy of the reader
+    /// does.
     pub fn range_from(&self, offsets: RangeFrom<UnitOffset<R::Offset>>) -> Result<R, Error>
-        ensures value { Gives R.view result (bytes_from self.now (R.Offset.count offsets.start.0)) }
+        ensures value { ReturnsAsOrNoMemory R.view result
+            (bytes_from self.now (R.Offset.count offsets.start.0)) }
         ensures free { IsTrue R.copies_freely → result ≢ Err Memory }
     {
         if !self.holds(&offsets.start) {
@@ -214,9 +217,11 @@ impl<R: Reader> UnitHeader<R> {
         Ok(bytes)
     }
 
-    /// The bytes of the entries before an offset of them. Takes memory only where a copy of the reader does.
+    /// The bytes of the entries before an offset of them. Takes memory only where a copy of the
+    /// reader does.
     pub fn range_to(&self, offsets: RangeTo<UnitOffset<R::Offset>>) -> Result<R, Error>
-        ensures value { Gives R.view result (bytes_to self.now (R.Offset.count offsets.end.0)) }
+        ensures value { ReturnsAsOrNoMemory R.view result
+            (bytes_to self.now (R.Offset.count offsets.end.0)) }
         ensures free { IsTrue R.copies_freely → result ≢ Err Memory }
     {
         if !self.holds(&offsets.end) {
@@ -227,7 +232,8 @@ impl<R: Reader> UnitHeader<R> {
         Ok(bytes)
     }
 
-    /// An address that a linker writes for what it left out: one of the last two of the address size.
+    /// An address that a linker writes for what it left out: one of the last two of the address
+    /// size.
     pub fn is_tombstone_address(&self, address: u64) -> bool
         ensures { result ≡ is_tombstone self.now.encoding.address_size address }
     {
@@ -235,13 +241,14 @@ impl<R: Reader> UnitHeader<R> {
     }
 }
 
-/// The unit at the front, which begins at an offset of its section.
+/// The next unit, which begins at an offset of its section.
 #[tactic(auto, unfolding(crate::specs::UnitHeaders::unit, crate::specs::UnitHeaders::unit_in))]
 pub(crate) fn parse_unit_header<R: Reader>(
     input: &mut R,
     offset: DebugInfoOffset<R::Offset>,
 ) -> Result<UnitHeader<R>, Error>
-    ensures value { Gives (λ header. (header, R.view input.new)) result (unit R.Offset.limit (R.Offset.count offset.0) (R.view input.old)) }
+    ensures value { ReturnsAsOrNoMemory (λ header. (header, R.view input.new)) result
+        (unit R.Offset.limit (R.Offset.count offset.0) (R.view input.old)) }
     ensures free { IsTrue R.copies_freely → result ≢ Err Memory }
 {
     // Their number is an offset.

@@ -3,19 +3,16 @@
 ghost use Rattle.std.specs.Prelude.{◌≡◌, ◌≢◌, ◌≤◌, All, IfOk, IsTrue, length, Ok, Err};
 ghost use Rattle.std.specs.Fn.{FnOnceReturnsAt};
 ghost use Rattle.gimli_core_base.specs.View.{bytes_left};
-ghost use Rattle.gimli_core_base.specs.Calls.{Gives};
+ghost use Rattle.gimli_core_base.specs.Calls.{ReturnsOrNoMemory};
 ghost use Rattle.gimli_core_base.specs.declared.error.Error.TheVariants.{Memory};
-ghost use Rattle.gimli_core_strings.specs.Iterators.{TakesOrEnds, ComesNext};
+ghost use Rattle.gimli_core_readers.specs.Iterators.{ReadsOrEndsOrNoMemory, ComesNext};
 ghost use Rattle.gimli_units_headers.specs.Tiling.{whole_section, next_offset, Tile};
 ghost use Rattle.gimli_units_headers.specs.UnitHeaders.{unit, next_unit, units_to_come, units_of, unit_at, length_including_self};
 
 use crate::header::{UnitHeader, parse_unit_header};
 use gimli_core_base::error::Error;
-use gimli_core_constants::SectionId;
-use gimli_core_numbers::{Endianity, ReaderOffset};
-use gimli_core_readers::{EndianSlice, Reader};
-use gimli_core_strings::Section;
-use gimli_units_base::DebugInfoOffset;
+use gimli_core_base::{Endianity, ReaderOffset, SectionId};
+use gimli_core_readers::{DebugInfoOffset, EndianSlice, Reader, Section};
 use std::marker::Model;
 
 /// `.debug_info`: the units of a file, each a header and entries.
@@ -41,11 +38,11 @@ impl<R: Reader> From<R> for DebugInfo<R> {
 }
 
 impl<R: Reader> Section<R> for DebugInfo<R> {
-    ghost use Rattle.gimli_core_constants.specs.declared.common.SectionId.TheVariants.{DebugInfo};
+    ghost use Rattle.gimli_core_base.specs.declared.common.SectionId.TheVariants.{DebugInfo};
 
     ghost section_id = { DebugInfo };
 
-    ghost seen = { λ s. s };
+    ghost section_view = { λ s. s };
 
     fn id() -> SectionId {
         SectionId::DebugInfo
@@ -84,12 +81,14 @@ impl<R: Reader> DebugInfo<R> {
 
     /// The units of the section, in order. Takes memory only where a copy of the reader does.
     pub fn units(&self) -> Result<DebugInfoUnitHeadersIter<R>, Error>
-        ensures value { Gives (λ units. units) result (Ok (whole_section self.now)) }
+        ensures value { ReturnsOrNoMemory result (Ok (whole_section self.now)) }
         ensures free { IsTrue R.copies_freely → result ≢ Err Memory }
-        // They stand end to end, from the section's start to its end or to one that can't be read.
+        // They lie end to end, from the section's start to its end or to one that can't be read.
         ensures tile { IfOk result (λ units. let all = units_to_come R.Offset.limit units in
-            Tile (unit R.Offset.limit) (λ u. u.offset) length_including_self self.now 0 all.items all.ending) }
-        ensures few { IfOk result (λ units. length (units_to_come R.Offset.limit units).items ≤ bytes_left self.now) }
+            Tile (unit R.Offset.limit) (λ u. u.offset) length_including_self self.now 0 all.items
+            all.ending) }
+        ensures few { IfOk result
+            (λ units. length (units_to_come R.Offset.limit units).items ≤ bytes_left self.now) }
     {
         Ok(DebugInfoUnitHeadersIter {
             input: self.section.copy()?,
@@ -102,10 +101,13 @@ impl<R: Reader> DebugInfo<R> {
         &self,
         offset: DebugInfoOffset<R::Offset>,
     ) -> Result<UnitHeader<R>, Error>
-        ensures value { Gives (λ header. header) result (unit_at R.Offset.limit (R.Offset.count offset.0) self.now) }
+        ensures value { ReturnsOrNoMemory result
+            (unit_at R.Offset.limit (R.Offset.count offset.0) self.now) }
         ensures free { IsTrue R.copies_freely → result ≢ Err Memory }
         // Where `units` gives a unit at this offset it is the same one.
-        ensures again { All (λ u. u.offset ≡ R.Offset.count offset.0 → Gives (λ header. header) result (Ok u)) (units_of R.Offset.limit self.now) }
+        ensures again { All
+            (λ u. u.offset ≡ R.Offset.count offset.0 → ReturnsOrNoMemory result (Ok u))
+            (units_of R.Offset.limit self.now) }
     {
         let mut input = self.section.copy()?;
         input.skip(offset.0)?;
@@ -127,19 +129,24 @@ impl<R: Reader> Model for DebugInfoUnitHeadersIter<R> {
 
     ghost Value = { SectionLeft };
 
-    ghost view = { λ s. record { section_length = R.Offset.count s.section_len; left = R.view s.input } };
+    ghost view = { λ s. record {
+      section_length = R.Offset.count s.section_len;
+      left = R.view s.input;
+    } };
 
     ghost invariant = { λ s. length (R.view s.input).bytes ≤ R.Offset.count s.section_len };
 }
 
 impl<R: Reader> DebugInfoUnitHeadersIter<R> {
-    /// The next unit, none at the section's end. After a unit that can't be read there are no more. Takes memory only
-    /// where a part of the reader does, and moves nothing where there is none.
+    /// The next unit, none at the section's end. After a unit that can't be read there are no more.
+    /// Takes memory only where a part of the reader does, and moves nothing where there is none.
     pub fn next(&mut self) -> Result<Option<UnitHeader<R>>, Error>
-        ensures value { TakesOrEnds (λ unit. unit) result self.old.left self.new.left (next_unit R.Offset.limit self.old) }
+        ensures value { ReadsOrEndsOrNoMemory result self.old.left self.new.left
+            (next_unit R.Offset.limit self.old) }
         ensures free { IsTrue R.copies_freely → result ≢ Err Memory }
         ensures section { self.new.section_length ≡ self.old.section_length }
-        ensures order { ComesNext result (units_to_come R.Offset.limit self.old) (units_to_come R.Offset.limit self.new) }
+        ensures order { ComesNext result (units_to_come R.Offset.limit self.old)
+            (units_to_come R.Offset.limit self.new) }
     {
         if self.input.is_empty() {
             return Ok(None);

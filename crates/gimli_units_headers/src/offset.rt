@@ -1,23 +1,25 @@
-//! Offsets of `.debug_info`, counted from its begin or from that of a unit.
+//! Offsets of `.debug_info`, counted from the start of the section or of a unit.
 
 ghost use Rattle.std.specs.Prelude.{◌≡◌, ◌+◌, ◌<◌, ℕ, option_map, IfSome, Some};
 ghost use Rattle.gimli_units_headers.specs.UnitOffsets.{is_in_bounds, to_unit_offset};
 
 use crate::header::UnitHeader;
-use gimli_core_numbers::ReaderOffset;
-use gimli_core_readers::Reader;
-use gimli_units_base::{DebugInfoOffset, UnitOffset};
+use gimli_core_base::ReaderOffset;
+use gimli_core_readers::{DebugInfoOffset, Reader, UnitOffset};
 
 /// What an offset of the section is in a unit of it.
 pub trait OffsetInSection<R: Reader> {
     /// The number of the offset.
     ghost number: { Self → ℕ };
 
-    /// The same place counted from the unit's begin, none where it isn't among the unit's entries.
+    /// The same place counted from the start of the unit, none where it isn't among the unit's
+    /// entries.
     fn to_unit_offset(&self, unit: &UnitHeader<R>) -> Option<UnitOffset<R::Offset>>
-        ensures value { option_map (λ offset. R.Offset.count offset.0) result ≡ to_unit_offset unit.now (number self.now) }
-        // Counted from the section's begin again it is the same number.
-        ensures back { IfSome result (λ offset. unit.now.offset + R.Offset.count offset.0 ≡ number self.now) };
+        ensures value { option_map (λ offset. R.Offset.count offset.0) result
+            ≡ to_unit_offset unit.now (number self.now) }
+        // Counted from the start of the section again it is the same number.
+        ensures back { IfSome result
+            (λ offset. unit.now.offset + R.Offset.count offset.0 ≡ number self.now) };
 }
 
 impl<R: Reader> OffsetInSection<R> for DebugInfoOffset<R::Offset> {
@@ -42,10 +44,12 @@ pub trait OffsetInUnit<R: Reader> {
     fn is_in_bounds(&self, unit: &UnitHeader<R>) -> bool
         ensures { result ≡ is_in_bounds unit.now (number self.now) };
 
-    /// The same place counted from the section's begin; always there, since every unit stands in `.debug_info`.
+    /// The same place counted from the start of the section; always there, since every unit is in
+    /// `.debug_info`.
     fn to_debug_info_offset(&self, unit: &UnitHeader<R>) -> Option<DebugInfoOffset<R::Offset>>
         requires { unit.now.offset + number self.now < R.Offset.limit }
-        ensures { option_map (λ offset. R.Offset.count offset.0) result ≡ Some (unit.now.offset + number self.now) };
+        ensures { option_map (λ offset. R.Offset.count offset.0) result
+            ≡ Some (unit.now.offset + number self.now) };
 }
 
 impl<R: Reader> OffsetInUnit<R> for UnitOffset<R::Offset> {

@@ -1,16 +1,17 @@
-pub mod Next
-pub mod Taken
+pub use Rattle.gimli_core_readers.proofs.Wrapping
+pub mod RawListSteps
+pub mod RangeEntrySizes
 pub mod RawRanges
-pub mod Running
-pub mod Free
-pub mod FreeEntries
-pub mod FreeTables
+pub mod ListBaseLemmas
+pub mod FieldMemoryLemmas
+pub mod ListEntryMemoryLemmas
+pub mod ListTableMemoryLemmas
 pub mod RangeSteps
-pub mod TakenLocations
+pub mod LocationEntrySizes
 pub mod RawLocations
 pub mod LocationSteps
-pub mod Few
-pub mod Exits
+pub mod ListCounts
+pub mod ListRefusals
 pub mod ProgressLemmas
 pub mod Tombstones
-mod Worked
+mod ListExamples

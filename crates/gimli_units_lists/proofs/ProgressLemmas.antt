@@ -1,145 +1,193 @@
 -- What a call takes of the entries, one after the other.
 use Rattle.std.proofs.Common.{◌≡◌, ℕ, List, [], ◌∷◌, ◌++◌, Option, None, unwrap_or, Result, Ok, Err, refl, sym, ◌∙◌, ap, append_assoc}
-use Rattle.gimli_core_base.specs.declared.error.Error.{Error}
-use Rattle.gimli_units_base.specs.declared.range.Range.{Range}
-use Rattle.gimli_units_lists.specs.Answers.{unless_passed, resolved}
-use Rattle.gimli_units_lists.specs.Entries.{RawEntry, Setting, base_in, range_of}
+use Rattle.gimli_core_readers.specs.Error.{Error}
+use Rattle.gimli_core_readers.specs.declared.range.Range.{Range}
+use Rattle.gimli_units_lists.specs.ListAnswers.{answer_list, resolutions}
+use Rattle.gimli_units_lists.specs.ListEntries.{RawEntry, Setting, base_in, range_of}
 use Rattle.gimli_units_lists.specs.RangeEntries.{raw_ranges_to_come}
 use Rattle.gimli_units_lists.specs.LocationEntries.{RawLocation, Location, location_base_in, location_of, raw_locations_to_come}
-use Rattle.gimli_units_lists.specs.Lists.{Resolving, RangesLeft, LocationsLeft}
-use Rattle.gimli_units_lists.specs.Progress.{StandFor, PassesOver, StopsBehind, RangesPassed, RangeFound, LocationsPassed, LocationFound}
-use Rattle.gimli_units_lists.proofs.Running.{resolved_step}
+use Rattle.gimli_units_lists.specs.ListSections.{Resolution, RangesLeft, LocationsLeft}
+use Rattle.gimli_units_lists.specs.ListProgress.{StandFor, SkipsEntries, StopsAfter, SkipsRanges, FindsRange, SkipsLocations, FindsLocation}
+use Rattle.gimli_units_lists.proofs.ListBaseLemmas.{resolutions_step}
 
 -- ---- entries
 
 -- an entry stands for what it resolves to, and leaves the base that it sets
-stand_one : {E A : Type 0} (sets : E → Option ℕ) (resolve : ℕ → E → Result (Option A) Error) (b c : ℕ) (e : E) (r : Result (Option A) Error) → resolve b e ≡ r → c ≡ unwrap_or (sets e) b → StandFor sets resolve b (Ok e ∷ []) (unless_passed r) c
+stand_one : {E A : Type 0} (sets : E → Option ℕ) (resolve : ℕ → E → Result (Option A) Error) (b c : ℕ) (e : E)
+    (r : Result (Option A) Error) → resolve b e ≡ r → c ≡ unwrap_or (sets e) b
+    → StandFor sets resolve b (Ok e ∷ []) (answer_list r) c
 stand_one {E} {A} sets resolve b c e r is at = λ rest.
-    resolved_step sets resolve b e rest
-    ∙ ap (λ (x : Result (Option A) Error). unless_passed x ++ resolved sets resolve (unwrap_or (sets e) b) rest) is
-    ∙ ap (λ (d : ℕ). unless_passed r ++ resolved sets resolve d rest) (sym at)
+    resolutions_step sets resolve b e rest
+    ∙ ap (λ (x : Result (Option A) Error). answer_list x ++ resolutions sets resolve (unwrap_or (sets e) b) rest) is
+    ∙ ap (λ (d : ℕ). answer_list r ++ resolutions sets resolve d rest) (sym at)
 
 -- none so far
-pub passes_none : {E A : Type 0} (sets : E → Option ℕ) (resolve : ℕ → E → Result (Option A) Error) (b : ℕ) (l : List (Result E Error)) → PassesOver sets resolve b b l l
+pub passes_none : {E A : Type 0} (sets : E → Option ℕ) (resolve : ℕ → E → Result (Option A) Error) (b : ℕ)
+    (l : List (Result E Error)) → SkipsEntries sets resolve b b l l
 passes_none sets resolve b l = record { passed = []; front = refl; nothing = λ rest. refl }
 
 -- one more that stands for nothing
-passes_one : {E A : Type 0} (sets : E → Option ℕ) (resolve : ℕ → E → Result (Option A) Error) (first b c : ℕ) (all l m : List (Result E Error)) (e : E) → PassesOver sets resolve first b all l → l ≡ Ok e ∷ m → resolve b e ≡ Ok None → c ≡ unwrap_or (sets e) b → PassesOver sets resolve first c all m
+passes_one : {E A : Type 0} (sets : E → Option ℕ) (resolve : ℕ → E → Result (Option A) Error) (first b c : ℕ)
+    (all l m : List (Result E Error)) (e : E) → SkipsEntries sets resolve first b all l → l ≡ Ok e ∷ m
+    → resolve b e ≡ Ok None → c ≡ unwrap_or (sets e) b → SkipsEntries sets resolve first c all m
 passes_one {E} {A} sets resolve first b c all l m e p is none at = record {
   passed = p.passed ++ Ok e ∷ [];
   front = p.front ∙ ap (λ (x : List (Result E Error)). p.passed ++ x) is ∙ sym (append_assoc p.passed (Ok e ∷ []) m);
   nothing = λ rest.
-      ap (resolved sets resolve first) (append_assoc p.passed (Ok e ∷ []) rest)
+      ap (resolutions sets resolve first) (append_assoc p.passed (Ok e ∷ []) rest)
       ∙ p.nothing (Ok e ∷ rest)
       ∙ stand_one sets resolve b c e (Ok None) none at rest;
 }
 
 -- one that stands for an answer
-stops_at : {E A : Type 0} (sets : E → Option ℕ) (resolve : ℕ → E → Result (Option A) Error) (first b c : ℕ) (all l m : List (Result E Error)) (e : E) (r : Result (Option A) Error) (x : Result A Error) → PassesOver sets resolve first b all l → l ≡ Ok e ∷ m → resolve b e ≡ r → unless_passed r ≡ x ∷ [] → c ≡ unwrap_or (sets e) b → StopsBehind sets resolve first c all m x
+stops_at : {E A : Type 0} (sets : E → Option ℕ) (resolve : ℕ → E → Result (Option A) Error) (first b c : ℕ)
+    (all l m : List (Result E Error)) (e : E) (r : Result (Option A) Error) (x : Result A Error)
+    → SkipsEntries sets resolve first b all l → l ≡ Ok e ∷ m → resolve b e ≡ r → answer_list r ≡ x ∷ []
+    → c ≡ unwrap_or (sets e) b → StopsAfter sets resolve first c all m x
 stops_at {E} {A} sets resolve first b c all l m e r x p is resolves one at = record {
   passed = p.passed;
   last = Ok e;
   between = b;
   front = p.front ∙ ap (λ (y : List (Result E Error)). p.passed ++ y) is;
   nothing = p.nothing;
-  answer = λ rest. stand_one sets resolve b c e r resolves at rest ∙ ap (λ (y : List (Result A Error)). y ++ resolved sets resolve c rest) one;
+  answer =
+      λ rest. stand_one sets resolve b c e r resolves at rest
+      ∙ ap (λ (y : List (Result A Error)). y ++ resolutions sets resolve c rest) one;
 }
 
 -- one that couldn't be read
-stops_at_fault : {E A : Type 0} (sets : E → Option ℕ) (resolve : ℕ → E → Result (Option A) Error) (first b c : ℕ) (all l m : List (Result E Error)) (d : Error) → PassesOver sets resolve first b all l → l ≡ Err d ∷ m → c ≡ b → StopsBehind sets resolve first c all m (Err d)
+stops_at_fault : {E A : Type 0} (sets : E → Option ℕ) (resolve : ℕ → E → Result (Option A) Error) (first b c : ℕ)
+    (all l m : List (Result E Error)) (d : Error) → SkipsEntries sets resolve first b all l → l ≡ Err d ∷ m → c ≡ b
+    → StopsAfter sets resolve first c all m (Err d)
 stops_at_fault {E} {A} sets resolve first b c all l m d p is at = record {
   passed = p.passed;
   last = Err d;
   between = b;
   front = p.front ∙ ap (λ (y : List (Result E Error)). p.passed ++ y) is;
   nothing = p.nothing;
-  answer = λ rest. ap (λ (k : ℕ). Err d ∷ resolved sets resolve k rest) (sym at);
+  answer = λ rest. ap (λ (k : ℕ). Err d ∷ resolutions sets resolve k rest) (sym at);
 }
 
 -- no further one
-passes_same : {E A : Type 0} (sets : E → Option ℕ) (resolve : ℕ → E → Result (Option A) Error) (first b c : ℕ) (all l m : List (Result E Error)) → PassesOver sets resolve first b all l → l ≡ m → c ≡ b → PassesOver sets resolve first c all m
+passes_same : {E A : Type 0} (sets : E → Option ℕ) (resolve : ℕ → E → Result (Option A) Error) (first b c : ℕ)
+    (all l m : List (Result E Error)) → SkipsEntries sets resolve first b all l → l ≡ m → c ≡ b
+    → SkipsEntries sets resolve first c all m
 passes_same {E} {A} sets resolve first b c all l m p is at = record {
   passed = p.passed;
   front = p.front ∙ ap (λ (y : List (Result E Error)). p.passed ++ y) is;
-  nothing = λ rest. p.nothing rest ∙ ap (λ (k : ℕ). resolved sets resolve k rest) (sym at);
+  nothing = λ rest. p.nothing rest ∙ ap (λ (k : ℕ). resolutions sets resolve k rest) (sym at);
 }
 
 -- ---- along equal settings
 
-alike : {E R : Type 0} (resolve : Setting → ℕ → E → R) (s : Setting) (b : ℕ) (t : Resolving) (e : E) (r : R) → t.setting ≡ s → t.base ≡ b → resolve t.setting t.base e ≡ r → resolve s b e ≡ r
-alike {E} {R} resolve s b t e r same at is = ap (λ (u : Setting). resolve u b e) (sym same) ∙ ap (λ (d : ℕ). resolve t.setting d e) (sym at) ∙ is
+resolves_as : {E R : Type 0} (resolve : Setting → ℕ → E → R) (s : Setting) (b : ℕ) (t : Resolution) (e : E) (r : R)
+    → t.setting ≡ s → t.base ≡ b → resolve t.setting t.base e ≡ r → resolve s b e ≡ r
+resolves_as {E} {R} resolve s b t e r same at is =
+    ap (λ (u : Setting). resolve u b e) (sym same) ∙ ap (λ (d : ℕ). resolve t.setting d e) (sym at) ∙ is
 
-based : {E : Type 0} (sets : Setting → E → Option ℕ) (s : Setting) (b c : ℕ) (t : Resolving) (e : E) → t.setting ≡ s → t.base ≡ b → c ≡ unwrap_or (sets t.setting e) t.base → c ≡ unwrap_or (sets s e) b
-based {E} sets s b c t e same at is = is ∙ ap (λ (u : Setting). unwrap_or (sets u e) t.base) same ∙ ap (λ (d : ℕ). unwrap_or (sets s e) d) at
+leaves_base : {E : Type 0} (sets : Setting → E → Option ℕ) (s : Setting) (b c : ℕ) (t : Resolution) (e : E)
+    → t.setting ≡ s → t.base ≡ b → c ≡ unwrap_or (sets t.setting e) t.base → c ≡ unwrap_or (sets s e) b
+leaves_base {E} sets s b c t e same at is =
+    is ∙ ap (λ (u : Setting). unwrap_or (sets u e) t.base) same ∙ ap (λ (d : ℕ). unwrap_or (sets s e) d) at
 
 -- ---- ranges
 
 -- an entry e was read, between the states old and mid, and resolved to nothing, which left the state new
-pub range_passes : (limit : ℕ) (first old mid new : RangesLeft) (e : RawEntry) → RangesPassed limit first old → old.against.setting ≡ first.against.setting → raw_ranges_to_come limit old.raw ≡ Ok e ∷ raw_ranges_to_come limit mid.raw → mid.against ≡ old.against → range_of mid.against.setting mid.against.base e ≡ Ok None → new.raw ≡ mid.raw → new.against.base ≡ unwrap_or (base_in mid.against.setting e) mid.against.base → RangesPassed limit first new
+pub range_passes : (limit : ℕ) (first old mid new : RangesLeft) (e : RawEntry) → SkipsRanges limit first old
+    → old.against.setting ≡ first.against.setting
+    → raw_ranges_to_come limit old.raw ≡ Ok e ∷ raw_ranges_to_come limit mid.raw → mid.against ≡ old.against
+    → range_of mid.against.setting mid.against.base e ≡ Ok None → new.raw ≡ mid.raw
+    → new.against.base ≡ unwrap_or (base_in mid.against.setting e) mid.against.base → SkipsRanges limit first new
 range_passes limit first old mid new e p same is against none raw base =
-    let setting : mid.against.setting ≡ first.against.setting = ap (λ (a : Resolving). a.setting) against ∙ same in
-    let at : mid.against.base ≡ old.against.base = ap (λ (a : Resolving). a.base) against in
-    passes_one (base_in first.against.setting) (range_of first.against.setting) first.against.base old.against.base new.against.base
+    let setting : mid.against.setting ≡ first.against.setting = ap (λ (a : Resolution). a.setting) against ∙ same in
+    let at : mid.against.base ≡ old.against.base = ap (λ (a : Resolution). a.base) against in
+    passes_one (base_in first.against.setting) (range_of first.against.setting) first.against.base old.against.base
+    new.against.base
     (raw_ranges_to_come limit first.raw) (raw_ranges_to_come limit old.raw) (raw_ranges_to_come limit new.raw) e p
     (is ∙ ap (λ l. Ok e ∷ raw_ranges_to_come limit l) (sym raw))
-    (alike range_of first.against.setting old.against.base mid.against e (Ok None) setting at none)
-    (based base_in first.against.setting old.against.base new.against.base mid.against e setting at base)
+    (resolves_as range_of first.against.setting old.against.base mid.against e (Ok None) setting at none)
+    (leaves_base base_in first.against.setting old.against.base new.against.base mid.against e setting at base)
 
-pub range_stops : (limit : ℕ) (first old mid new : RangesLeft) (e : RawEntry) (r : Result (Option Range) Error) (x : Result Range Error) → unless_passed r ≡ x ∷ [] → RangesPassed limit first old → old.against.setting ≡ first.against.setting → raw_ranges_to_come limit old.raw ≡ Ok e ∷ raw_ranges_to_come limit mid.raw → mid.against ≡ old.against → range_of mid.against.setting mid.against.base e ≡ r → new.raw ≡ mid.raw → new.against.base ≡ unwrap_or (base_in mid.against.setting e) mid.against.base → RangeFound limit first new x
+pub range_stops : (limit : ℕ) (first old mid new : RangesLeft) (e : RawEntry) (r : Result (Option Range) Error)
+    (x : Result Range Error) → answer_list r ≡ x ∷ [] → SkipsRanges limit first old
+    → old.against.setting ≡ first.against.setting
+    → raw_ranges_to_come limit old.raw ≡ Ok e ∷ raw_ranges_to_come limit mid.raw → mid.against ≡ old.against
+    → range_of mid.against.setting mid.against.base e ≡ r → new.raw ≡ mid.raw
+    → new.against.base ≡ unwrap_or (base_in mid.against.setting e) mid.against.base → FindsRange limit first new x
 range_stops limit first old mid new e r x one p same is against resolves raw base =
-    let setting : mid.against.setting ≡ first.against.setting = ap (λ (a : Resolving). a.setting) against ∙ same in
-    let at : mid.against.base ≡ old.against.base = ap (λ (a : Resolving). a.base) against in
-    stops_at (base_in first.against.setting) (range_of first.against.setting) first.against.base old.against.base new.against.base
+    let setting : mid.against.setting ≡ first.against.setting = ap (λ (a : Resolution). a.setting) against ∙ same in
+    let at : mid.against.base ≡ old.against.base = ap (λ (a : Resolution). a.base) against in
+    stops_at (base_in first.against.setting) (range_of first.against.setting) first.against.base old.against.base
+    new.against.base
     (raw_ranges_to_come limit first.raw) (raw_ranges_to_come limit old.raw) (raw_ranges_to_come limit new.raw) e r x p
     (is ∙ ap (λ l. Ok e ∷ raw_ranges_to_come limit l) (sym raw))
-    (alike range_of first.against.setting old.against.base mid.against e r setting at resolves)
+    (resolves_as range_of first.against.setting old.against.base mid.against e r setting at resolves)
     one
-    (based base_in first.against.setting old.against.base new.against.base mid.against e setting at base)
+    (leaves_base base_in first.against.setting old.against.base new.against.base mid.against e setting at base)
 
-pub range_stops_at_fault : (limit : ℕ) (first old new : RangesLeft) (d : Error) → RangesPassed limit first old → raw_ranges_to_come limit old.raw ≡ Err d ∷ raw_ranges_to_come limit new.raw → new.against ≡ old.against → RangeFound limit first new (Err d)
+pub range_stops_at_fault : (limit : ℕ) (first old new : RangesLeft) (d : Error) → SkipsRanges limit first old
+    → raw_ranges_to_come limit old.raw ≡ Err d ∷ raw_ranges_to_come limit new.raw → new.against ≡ old.against
+    → FindsRange limit first new (Err d)
 range_stops_at_fault limit first old new d p is same =
-    stops_at_fault (base_in first.against.setting) (range_of first.against.setting) first.against.base old.against.base new.against.base
+    stops_at_fault (base_in first.against.setting) (range_of first.against.setting) first.against.base old.against.base
+    new.against.base
     (raw_ranges_to_come limit first.raw) (raw_ranges_to_come limit old.raw) (raw_ranges_to_come limit new.raw) d
-    p is (ap (λ (a : Resolving). a.base) same)
-
-pub ranges_passed_all : (limit : ℕ) (first old new : RangesLeft) → RangesPassed limit first old → raw_ranges_to_come limit old.raw ≡ raw_ranges_to_come limit new.raw → new.against ≡ old.against → RangesPassed limit first new
-ranges_passed_all limit first old new p is same =
-    passes_same (base_in first.against.setting) (range_of first.against.setting) first.against.base old.against.base new.against.base
-    (raw_ranges_to_come limit first.raw) (raw_ranges_to_come limit old.raw) (raw_ranges_to_come limit new.raw)
-    p is (ap (λ (a : Resolving). a.base) same)
+    p is (ap (λ (a : Resolution). a.base) same)
 
 -- ---- locations
 
 -- an entry e was read, between the states old and mid, and resolved to nothing, which left the state new
-pub location_passes : (limit : ℕ) (first old mid new : LocationsLeft) (e : RawLocation) → LocationsPassed limit first old → old.against.setting ≡ first.against.setting → raw_locations_to_come limit old.raw ≡ Ok e ∷ raw_locations_to_come limit mid.raw → mid.against ≡ old.against → location_of mid.against.setting mid.against.base e ≡ Ok None → new.raw ≡ mid.raw → new.against.base ≡ unwrap_or (location_base_in mid.against.setting e) mid.against.base → LocationsPassed limit first new
+pub location_passes : (limit : ℕ) (first old mid new : LocationsLeft) (e : RawLocation) → SkipsLocations limit first old
+    → old.against.setting ≡ first.against.setting
+    → raw_locations_to_come limit old.raw ≡ Ok e ∷ raw_locations_to_come limit mid.raw → mid.against ≡ old.against
+    → location_of mid.against.setting mid.against.base e ≡ Ok None → new.raw ≡ mid.raw
+    → new.against.base ≡ unwrap_or (location_base_in mid.against.setting e) mid.against.base
+    → SkipsLocations limit first new
 location_passes limit first old mid new e p same is against none raw base =
-    let setting : mid.against.setting ≡ first.against.setting = ap (λ (a : Resolving). a.setting) against ∙ same in
-    let at : mid.against.base ≡ old.against.base = ap (λ (a : Resolving). a.base) against in
-    passes_one (location_base_in first.against.setting) (location_of first.against.setting) first.against.base old.against.base new.against.base
-    (raw_locations_to_come limit first.raw) (raw_locations_to_come limit old.raw) (raw_locations_to_come limit new.raw) e p
-    (is ∙ ap (λ l. Ok e ∷ raw_locations_to_come limit l) (sym raw))
-    (alike location_of first.against.setting old.against.base mid.against e (Ok None) setting at none)
-    (based location_base_in first.against.setting old.against.base new.against.base mid.against e setting at base)
-
-pub location_stops : (limit : ℕ) (first old mid new : LocationsLeft) (e : RawLocation) (r : Result (Option Location) Error) (x : Result Location Error) → unless_passed r ≡ x ∷ [] → LocationsPassed limit first old → old.against.setting ≡ first.against.setting → raw_locations_to_come limit old.raw ≡ Ok e ∷ raw_locations_to_come limit mid.raw → mid.against ≡ old.against → location_of mid.against.setting mid.against.base e ≡ r → new.raw ≡ mid.raw → new.against.base ≡ unwrap_or (location_base_in mid.against.setting e) mid.against.base → LocationFound limit first new x
-location_stops limit first old mid new e r x one p same is against resolves raw base =
-    let setting : mid.against.setting ≡ first.against.setting = ap (λ (a : Resolving). a.setting) against ∙ same in
-    let at : mid.against.base ≡ old.against.base = ap (λ (a : Resolving). a.base) against in
-    stops_at (location_base_in first.against.setting) (location_of first.against.setting) first.against.base old.against.base new.against.base
-    (raw_locations_to_come limit first.raw) (raw_locations_to_come limit old.raw) (raw_locations_to_come limit new.raw) e r x p
-    (is ∙ ap (λ l. Ok e ∷ raw_locations_to_come limit l) (sym raw))
-    (alike location_of first.against.setting old.against.base mid.against e r setting at resolves)
-    one
-    (based location_base_in first.against.setting old.against.base new.against.base mid.against e setting at base)
-
-pub location_stops_at_fault : (limit : ℕ) (first old new : LocationsLeft) (d : Error) → LocationsPassed limit first old → raw_locations_to_come limit old.raw ≡ Err d ∷ raw_locations_to_come limit new.raw → new.against ≡ old.against → LocationFound limit first new (Err d)
-location_stops_at_fault limit first old new d p is same =
-    stops_at_fault (location_base_in first.against.setting) (location_of first.against.setting) first.against.base old.against.base new.against.base
-    (raw_locations_to_come limit first.raw) (raw_locations_to_come limit old.raw) (raw_locations_to_come limit new.raw) d
-    p is (ap (λ (a : Resolving). a.base) same)
-
-pub locations_passed_all : (limit : ℕ) (first old new : LocationsLeft) → LocationsPassed limit first old → raw_locations_to_come limit old.raw ≡ raw_locations_to_come limit new.raw → new.against ≡ old.against → LocationsPassed limit first new
-locations_passed_all limit first old new p is same =
-    passes_same (location_base_in first.against.setting) (location_of first.against.setting) first.against.base old.against.base new.against.base
+    let setting : mid.against.setting ≡ first.against.setting = ap (λ (a : Resolution). a.setting) against ∙ same in
+    let at : mid.against.base ≡ old.against.base = ap (λ (a : Resolution). a.base) against in
+    passes_one (location_base_in first.against.setting) (location_of first.against.setting) first.against.base
+    old.against.base new.against.base
     (raw_locations_to_come limit first.raw) (raw_locations_to_come limit old.raw) (raw_locations_to_come limit new.raw)
-    p is (ap (λ (a : Resolving). a.base) same)
+    e p
+    (is ∙ ap (λ l. Ok e ∷ raw_locations_to_come limit l) (sym raw))
+    (resolves_as location_of first.against.setting old.against.base mid.against e (Ok None) setting at none)
+    (leaves_base location_base_in first.against.setting old.against.base new.against.base mid.against e setting at base)
+
+pub location_stops : (limit : ℕ) (first old mid new : LocationsLeft) (e : RawLocation)
+    (r : Result (Option Location) Error) (x : Result Location Error) → answer_list r ≡ x ∷ []
+    → SkipsLocations limit first old → old.against.setting ≡ first.against.setting
+    → raw_locations_to_come limit old.raw ≡ Ok e ∷ raw_locations_to_come limit mid.raw → mid.against ≡ old.against
+    → location_of mid.against.setting mid.against.base e ≡ r → new.raw ≡ mid.raw
+    → new.against.base ≡ unwrap_or (location_base_in mid.against.setting e) mid.against.base
+    → FindsLocation limit first new x
+location_stops limit first old mid new e r x one p same is against resolves raw base =
+    let setting : mid.against.setting ≡ first.against.setting = ap (λ (a : Resolution). a.setting) against ∙ same in
+    let at : mid.against.base ≡ old.against.base = ap (λ (a : Resolution). a.base) against in
+    stops_at (location_base_in first.against.setting) (location_of first.against.setting) first.against.base
+    old.against.base new.against.base
+    (raw_locations_to_come limit first.raw) (raw_locations_to_come limit old.raw) (raw_locations_to_come limit new.raw)
+    e r x p
+    (is ∙ ap (λ l. Ok e ∷ raw_locations_to_come limit l) (sym raw))
+    (resolves_as location_of first.against.setting old.against.base mid.against e r setting at resolves)
+    one
+    (leaves_base location_base_in first.against.setting old.against.base new.against.base mid.against e setting at base)
+
+pub location_stops_at_fault : (limit : ℕ) (first old new : LocationsLeft) (d : Error) → SkipsLocations limit first old
+    → raw_locations_to_come limit old.raw ≡ Err d ∷ raw_locations_to_come limit new.raw → new.against ≡ old.against
+    → FindsLocation limit first new (Err d)
+location_stops_at_fault limit first old new d p is same =
+    stops_at_fault (location_base_in first.against.setting) (location_of first.against.setting) first.against.base
+    old.against.base new.against.base
+    (raw_locations_to_come limit first.raw) (raw_locations_to_come limit old.raw) (raw_locations_to_come limit new.raw)
+    d
+    p is (ap (λ (a : Resolution). a.base) same)
+
+pub skips_all_locations : (limit : ℕ) (first old new : LocationsLeft) → SkipsLocations limit first old
+    → raw_locations_to_come limit old.raw ≡ raw_locations_to_come limit new.raw → new.against ≡ old.against
+    → SkipsLocations limit first new
+skips_all_locations limit first old new p is same =
+    passes_same (location_base_in first.against.setting) (location_of first.against.setting) first.against.base
+    old.against.base new.against.base
+    (raw_locations_to_come limit first.raw) (raw_locations_to_come limit old.raw) (raw_locations_to_come limit new.raw)
+    p is (ap (λ (a : Resolution). a.base) same)

@@ -1,15 +1,12 @@
-ghost use Rattle.gimli_core_base.specs.Calls.{Answers};
-ghost use Rattle.gimli_units_lists.specs.Fields.{index, indexes, offsets, addresses, address_and_length};
+ghost use Rattle.gimli_core_readers.specs.Calls.{ReturnsAs};
+ghost use Rattle.gimli_units_lists.specs.ListEntryFields.{index, indexes, offsets, addresses, address_and_length};
 
-use gimli_core_base::error::Error;
-use gimli_core_constants::DebugAddrIndex;
-use gimli_core_numbers::ReaderOffset;
-use gimli_core_readers::Reader;
+use gimli_core_readers::{DebugAddrIndex, Error, Reader, ReaderOffset};
 
 /// An index into the addresses.
-#[tactic(auto, unfolding(crate::specs::Fields::index))]
+#[tactic(auto, unfolding(crate::specs::ListEntryFields::index))]
 pub(crate) fn read_index<R: Reader>(input: &mut R) -> Result<DebugAddrIndex<R::Offset>, Error>
-    ensures { Answers (λ index. (R.Offset.count index.0, R.view input.new)) result
+    ensures { ReturnsAs (λ index. (R.Offset.count index.0, R.view input.new)) result
         (index R.Offset.limit (R.view input.old)) }
 {
     let index = input.read_uleb128()?;
@@ -17,11 +14,12 @@ pub(crate) fn read_index<R: Reader>(input: &mut R) -> Result<DebugAddrIndex<R::O
 }
 
 /// The indexes of begin and end.
-#[tactic(auto, unfolding(crate::specs::Fields::indexes))]
+#[tactic(auto, unfolding(crate::specs::ListEntryFields::indexes))]
 pub(crate) fn read_indexes<R: Reader>(
     input: &mut R,
 ) -> Result<(DebugAddrIndex<R::Offset>, DebugAddrIndex<R::Offset>), Error>
-    ensures { Answers (λ p. ((R.Offset.count p.0.0, R.Offset.count p.1.0), R.view input.new)) result
+    ensures { ReturnsAs (λ p. ((R.Offset.count p.0.0, R.Offset.count p.1.0), R.view input.new))
+        result
         (indexes R.Offset.limit (R.view input.old)) }
 {
     let begin = read_index(input)?;
@@ -30,9 +28,9 @@ pub(crate) fn read_indexes<R: Reader>(
 }
 
 /// The offsets of begin and end.
-#[tactic(auto, unfolding(crate::specs::Fields::offsets))]
+#[tactic(auto, unfolding(crate::specs::ListEntryFields::offsets))]
 pub(crate) fn read_offsets<R: Reader>(input: &mut R) -> Result<(u64, u64), Error>
-    ensures { Answers (λ p. (p, R.view input.new)) result (offsets (R.view input.old)) }
+    ensures { ReturnsAs (λ p. (p, R.view input.new)) result (offsets (R.view input.old)) }
 {
     let begin = input.read_uleb128()?;
     let end = input.read_uleb128()?;
@@ -40,12 +38,13 @@ pub(crate) fn read_offsets<R: Reader>(input: &mut R) -> Result<(u64, u64), Error
 }
 
 /// The addresses of begin and end.
-#[tactic(auto, unfolding(crate::specs::Fields::addresses))]
+#[tactic(auto, unfolding(crate::specs::ListEntryFields::addresses))]
 pub(crate) fn read_addresses<R: Reader>(
     input: &mut R,
     address_size: u8,
 ) -> Result<(u64, u64), Error>
-    ensures { Answers (λ p. (p, R.view input.new)) result (addresses address_size (R.view input.old)) }
+    ensures { ReturnsAs (λ p. (p, R.view input.new)) result
+        (addresses address_size (R.view input.old)) }
 {
     let begin = input.read_address(address_size)?;
     let end = input.read_address(address_size)?;
@@ -53,12 +52,13 @@ pub(crate) fn read_addresses<R: Reader>(
 }
 
 /// An address and a length.
-#[tactic(auto, unfolding(crate::specs::Fields::address_and_length))]
+#[tactic(auto, unfolding(crate::specs::ListEntryFields::address_and_length))]
 pub(crate) fn read_address_and_length<R: Reader>(
     input: &mut R,
     address_size: u8,
 ) -> Result<(u64, u64), Error>
-    ensures { Answers (λ p. (p, R.view input.new)) result (address_and_length address_size (R.view input.old)) }
+    ensures { ReturnsAs (λ p. (p, R.view input.new)) result
+        (address_and_length address_size (R.view input.old)) }
 {
     let begin = input.read_address(address_size)?;
     let length = input.read_uleb128()?;

@@ -1,23 +1,21 @@
 ghost use Rattle.std.specs.Prelude.{◌≡◌, ◌≢◌, IsTrue, Ok, Err};
-ghost use Rattle.gimli_core_base.specs.Calls.{Answers, Takes};
-ghost use Rattle.gimli_core_base.specs.declared.error.Error.TheVariants.{Memory};
-ghost use Rattle.gimli_core_strings.specs.Bases.{lists_header_size};
-ghost use Rattle.gimli_units_lists.specs.Lists.{lists_header, header_fields};
+ghost use Rattle.gimli_core_readers.specs.Calls.{ReturnsAs, ReadsOrNoMemory};
+ghost use Rattle.gimli_core_readers.specs.Error.TheVariants.{Memory};
+ghost use Rattle.gimli_core_readers.specs.DefaultBases.{lists_header_size};
+ghost use Rattle.gimli_units_lists.specs.ListSections.{lists_header, header_fields};
 
-use gimli_core_base::error::Error;
-use gimli_core_constants::{Encoding, Format};
-use gimli_core_readers::Reader;
+use gimli_core_readers::{Encoding, Error, Format, Reader};
 
 /// The header of a table of lists (DWARF 5, 7.28 and 7.29).
 #[derive(Clone, Copy, Debug, PartialEq, Eq)]
 pub struct ListsHeader {
     pub encoding: Encoding,
-    /// How many offsets of lists stand behind the header.
+    /// How many offsets of lists follow the header.
     pub offset_entry_count: u32,
 }
 
 impl Default for ListsHeader {
-    ghost use Rattle.gimli_units_lists.specs.Headers.{default_lists_header};
+    ghost use Rattle.gimli_units_lists.specs.ListHeaders.{default_lists_header};
 
     ghost is_default = { λ header. header ≡ default_lists_header };
 
@@ -42,10 +40,10 @@ impl ListsHeader {
         self.encoding.format.initial_length_size() + 8
     }
 
-    /// The header at the front; behind it the rest of its table is left. Takes memory only where a copy of the reader
-    /// does.
+    /// The header here; the rest of its table is left after it. Takes memory only where a copy of
+    /// the reader does.
     pub fn parse<R: Reader>(input: &mut R) -> Result<Self, Error>
-        ensures value { Takes (λ header. header) result (R.view input.old) (R.view input.new)
+        ensures value { ReadsOrNoMemory result (R.view input.old) (R.view input.new)
             (lists_header R.Offset.limit (R.view input.old)) }
         ensures free { IsTrue R.copies_freely → result ≢ Err Memory }
     {
@@ -56,19 +54,21 @@ impl ListsHeader {
     }
 }
 
-/// A length, and the fields behind it.
-#[tactic(auto, unfolding(crate::specs::Lists::lists_header))]
+/// A length, and the fields after it.
+#[tactic(auto, unfolding(crate::specs::ListSections::lists_header))]
 fn parse_header<R: Reader>(input: &mut R) -> Result<ListsHeader, Error>
-    ensures { Answers (λ header. (header, R.view input.new)) result (lists_header R.Offset.limit (R.view input.old)) }
+    ensures { ReturnsAs (λ header. (header, R.view input.new)) result
+        (lists_header R.Offset.limit (R.view input.old)) }
 {
     let (length, format) = input.read_initial_length()?;
     input.truncate(length)?;
     parse_fields(input, format)
 }
 
-#[tactic(auto, unfolding(crate::specs::Lists::header_fields))]
+#[tactic(auto, unfolding(crate::specs::ListSections::header_fields))]
 fn parse_fields<R: Reader>(input: &mut R, format: Format) -> Result<ListsHeader, Error>
-    ensures { Answers (λ header. (header, R.view input.new)) result (header_fields format (R.view input.old)) }
+    ensures { ReturnsAs (λ header. (header, R.view input.new)) result
+        (header_fields format (R.view input.old)) }
 {
     let version = input.read_u16()?;
     if version != 5 {

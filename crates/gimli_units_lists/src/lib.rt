@@ -1,4 +1,5 @@
-//! Range lists and location lists: their entries as they stand, and the ranges and locations that they stand for.
+//! Range lists and location lists: their entries, and the ranges and locations that these stand
+//! for.
 #![tactic(auto)]
 
 mod fields;
@@ -16,6 +17,10 @@ pub mod raw_locations;
 pub mod raw_ranges;
 mod resolver;
 
+pub use gimli_core_readers::{
+    DebugAddr, DebugInfoOffset, DebugLineStr, DebugStr, DebugStrOffsets, DefaultBase, Expression,
+    Range, Reader, Section, UnitOffset, greatest_address, least_tombstone, wrapping_sum,
+};
 pub use header::ListsHeader;
 pub use location_entry::RawLocListEntry;
 pub use location_lists::LocationLists;

@@ -1,21 +1,18 @@
 ghost use Rattle.std.specs.Prelude.{option_map, ◌≡◌, ◌≢◌, IsTrue, Err};
-ghost use Rattle.gimli_core_base.specs.Calls.{Answers, Gives};
-ghost use Rattle.gimli_core_base.specs.declared.error.Error.TheVariants.{Memory};
+ghost use Rattle.gimli_core_readers.specs.Calls.{ReturnsAs, ReturnsAsOrNoMemory};
+ghost use Rattle.gimli_core_readers.specs.Error.TheVariants.{Memory};
 ghost use Rattle.gimli_units_lists.specs.LocationEntries.{location_pair, location_kind, location_entry, expression, index_and_length};
-ghost use Rattle.gimli_units_lists.specs.Seen.{raw_location, raw_parts};
+ghost use Rattle.gimli_units_lists.specs.ListEntryViews.{raw_location, raw_parts};
 
 use crate::fields::{
     read_address_and_length, read_addresses, read_index, read_indexes, read_offsets,
 };
 use crate::range_entry::RawRngListEntry;
-use gimli_core_base::constants::DwLle;
-use gimli_core_base::error::Error;
-use gimli_core_constants::{DebugAddrIndex, Encoding};
-use gimli_core_numbers::ReaderOffset;
-use gimli_core_readers::Reader;
-use gimli_units_base::{Expression, greatest_address};
+use gimli_core_readers::{
+    DebugAddrIndex, DwLle, Encoding, Error, Expression, Reader, ReaderOffset, greatest_address,
+};
 
-/// An entry of a location list, as it stands there.
+/// An entry of a location list, as its list has it.
 #[derive(Debug, Drop)]
 pub enum RawLocListEntry<R: Reader> {
     /// A range relative to the base, up to version 4 (DWARF 4, 2.6.2).
@@ -24,7 +21,7 @@ pub enum RawLocListEntry<R: Reader> {
         end: u64,
         expression: Expression<R>,
     },
-    /// The base of the entries behind it.
+    /// The base of the entries after it.
     BaseAddress {
         addr: u64,
     },
@@ -68,14 +65,15 @@ pub enum RawLocListEntry<R: Reader> {
     },
 }
 
-/// The entry at the front of a list, none at its end.
+/// The next entry of a list, none at its end.
 #[tactic(auto, unfolding(crate::specs::LocationEntries::location_entry))]
 pub(crate) fn parse_entry<R: Reader>(
     input: &mut R,
     encoding: Encoding,
     by_kind: bool,
 ) -> Result<Option<RawLocListEntry<R>>, Error>
-    ensures value { Gives (λ entry. (option_map (raw_location R.view R.Offset.count) entry, R.view input.new)) result
+    ensures value { ReturnsAsOrNoMemory
+        (λ entry. (option_map (raw_location R.view R.Offset.count) entry, R.view input.new)) result
         (location_entry R.Offset.limit encoding by_kind (R.view input.old)) }
     ensures free { IsTrue R.copies_freely → result ≢ Err Memory }
 {
@@ -92,9 +90,12 @@ fn parse_pair<R: Reader>(
     input: &mut R,
     encoding: Encoding,
 ) -> Result<Option<RawLocListEntry<R>>, Error>
-    ensures value { Gives (λ entry. (option_map (raw_location R.view R.Offset.count) entry, R.view input.new)) result
+    ensures value { ReturnsAsOrNoMemory
+        (λ entry. (option_map (raw_location R.view R.Offset.count) entry, R.view input.new)) result
         (location_pair R.Offset.limit encoding (R.view input.old)) }
-    ensures free { IsTrue R.copies_freely → Answers (λ entry. (option_map (raw_location R.view R.Offset.count) entry, R.view input.new))
+    ensures free { IsTrue R.copies_freely
+        → ReturnsAs
+        (λ entry. (option_map (raw_location R.view R.Offset.count) entry, R.view input.new))
         result (location_pair R.Offset.limit encoding (R.view input.old)) }
 {
     let (begin, end) = read_addresses(input, encoding.address_size)?;
@@ -117,9 +118,12 @@ fn parse_kind<R: Reader>(
     input: &mut R,
     encoding: Encoding,
 ) -> Result<Option<RawLocListEntry<R>>, Error>
-    ensures value { Gives (λ entry. (option_map (raw_location R.view R.Offset.count) entry, R.view input.new)) result
+    ensures value { ReturnsAsOrNoMemory
+        (λ entry. (option_map (raw_location R.view R.Offset.count) entry, R.view input.new)) result
         (location_kind R.Offset.limit encoding (R.view input.old)) }
-    ensures free { IsTrue R.copies_freely → Answers (λ entry. (option_map (raw_location R.view R.Offset.count) entry, R.view input.new))
+    ensures free { IsTrue R.copies_freely
+        → ReturnsAs
+        (λ entry. (option_map (raw_location R.view R.Offset.count) entry, R.view input.new))
         result (location_kind R.Offset.limit encoding (R.view input.old)) }
 {
     let kind = input.read_u8()?;
@@ -189,7 +193,7 @@ fn read_index_and_length<R: Reader>(
     input: &mut R,
     encoding: Encoding,
 ) -> Result<(DebugAddrIndex<R::Offset>, u64), Error>
-    ensures { Answers (λ p. ((R.Offset.count p.0.0, p.1), R.view input.new)) result
+    ensures { ReturnsAs (λ p. ((R.Offset.count p.0.0, p.1), R.view input.new)) result
         (index_and_length R.Offset.limit encoding (R.view input.old)) }
 {
     let begin = read_index(input)?;
@@ -201,11 +205,12 @@ fn read_index_and_length<R: Reader>(
     Ok((begin, length))
 }
 
-/// The expression at the front, behind its length. Takes memory only where a part of the reader does.
+/// The next expression, after its length. Takes memory only where a part of the reader does.
 #[tactic(auto, unfolding(crate::specs::LocationEntries::expression))]
 fn parse_expression<R: Reader>(input: &mut R, encoding: Encoding) -> Result<Expression<R>, Error>
-    ensures value { Gives (λ x. (R.view x.0, R.view input.new)) result (expression R.Offset.limit encoding (R.view input.old)) }
-    ensures free { IsTrue R.copies_freely → Answers (λ x. (R.view x.0, R.view input.new)) result
+    ensures value { ReturnsAsOrNoMemory (λ x. (R.view x.0, R.view input.new)) result
+        (expression R.Offset.limit encoding (R.view input.old)) }
+    ensures free { IsTrue R.copies_freely → ReturnsAs (λ x. (R.view x.0, R.view input.new)) result
         (expression R.Offset.limit encoding (R.view input.old)) }
 {
     let length = if encoding.version <= 4 {
@@ -222,7 +227,7 @@ pub(crate) enum Parts<R: Reader> {
     /// A base.
     Base(RawRngListEntry<R::Offset>),
     /// A range with its expression.
-    Located(RawRngListEntry<R::Offset>, Expression<R>),
+    Bounded(RawRngListEntry<R::Offset>, Expression<R>),
     /// An expression for all other addresses.
     Default(Expression<R>),
 }
@@ -236,7 +241,7 @@ pub(crate) fn parts_of<R: Reader>(entry: RawLocListEntry<R>) -> Parts<R>
             begin,
             end,
             expression,
-        } => Parts::Located(
+        } => Parts::Bounded(
             RawRngListEntry::AddressOrOffsetPair { begin, end },
             expression,
         ),
@@ -248,27 +253,27 @@ pub(crate) fn parts_of<R: Reader>(entry: RawLocListEntry<R>) -> Parts<R>
             begin,
             end,
             expression,
-        } => Parts::Located(RawRngListEntry::StartxEndx { begin, end }, expression),
+        } => Parts::Bounded(RawRngListEntry::StartxEndx { begin, end }, expression),
         RawLocListEntry::StartxLength {
             begin,
             length,
             expression,
-        } => Parts::Located(RawRngListEntry::StartxLength { begin, length }, expression),
+        } => Parts::Bounded(RawRngListEntry::StartxLength { begin, length }, expression),
         RawLocListEntry::OffsetPair {
             begin,
             end,
             expression,
-        } => Parts::Located(RawRngListEntry::OffsetPair { begin, end }, expression),
+        } => Parts::Bounded(RawRngListEntry::OffsetPair { begin, end }, expression),
         RawLocListEntry::DefaultLocation { expression } => Parts::Default(expression),
         RawLocListEntry::StartEnd {
             begin,
             end,
             expression,
-        } => Parts::Located(RawRngListEntry::StartEnd { begin, end }, expression),
+        } => Parts::Bounded(RawRngListEntry::StartEnd { begin, end }, expression),
         RawLocListEntry::StartLength {
             begin,
             length,
             expression,
-        } => Parts::Located(RawRngListEntry::StartLength { begin, length }, expression),
+        } => Parts::Bounded(RawRngListEntry::StartLength { begin, length }, expression),
     }
 }

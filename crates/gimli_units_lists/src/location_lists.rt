@@ -1,24 +1,21 @@
 ghost use Rattle.std.specs.Prelude.{◌≡◌, ◌≢◌, ◌≤◌, length, IsTrue, IfOk, true, false, option_map, Err};
-ghost use Rattle.gimli_core_base.specs.View.{bytes_left};
+ghost use Rattle.gimli_core_readers.specs.View.{bytes_left};
 ghost use Rattle.std.specs.Fn.{CalledAt};
-ghost use Rattle.gimli_core_base.specs.Calls.{Answers, Gives};
-ghost use Rattle.gimli_core_base.specs.declared.error.Error.TheVariants.{Memory};
-ghost use Rattle.gimli_core_numbers.specs.Numbers.{is_address_size};
+ghost use Rattle.gimli_core_readers.specs.Calls.{ReturnsAs, ReturnsAsOrNoMemory, ReturnsOrNoMemory};
+ghost use Rattle.gimli_core_readers.specs.Error.TheVariants.{Memory};
+ghost use Rattle.gimli_core_readers.specs.NumberParsers.{is_address_size};
 ghost use Rattle.gimli_units_lists.specs.LocationEntries.{raw_locations_to_come};
-ghost use Rattle.gimli_units_lists.specs.Lists.{raw_locations_at, locations_at, locations_to_come, from_low_pc, from_offset, location_section, list_offset_at, location_place_of};
+ghost use Rattle.gimli_units_lists.specs.ListSections.{raw_locations_at, locations_at, locations_to_come, from_low_pc, from_offset, location_section, list_offset_at, location_place_of};
 
 use crate::list_offset::list_offset;
 use crate::location_sections::{DebugLoc, DebugLocLists};
 use crate::locations::LocListIter;
 use crate::raw_locations::RawLocListIter;
 use crate::resolver::Resolver;
-use gimli_core_base::constants::ReaderOffsetId;
-use gimli_core_base::error::Error;
-use gimli_core_constants::{
-    DebugAddrBase, DebugLocListsBase, DebugLocListsIndex, Encoding, LocationListsOffset, SectionId,
+use gimli_core_readers::{
+    DebugAddr, DebugAddrBase, DebugLocListsBase, DebugLocListsIndex, Encoding, Error,
+    LocationListsOffset, Reader, ReaderOffsetId, Section, SectionId,
 };
-use gimli_core_readers::Reader;
-use gimli_core_strings::{DebugAddr, Section};
 use std::marker::Model;
 
 /// The location lists of units of all versions.
@@ -30,7 +27,7 @@ pub struct LocationLists<R: Reader> {
 
 impl<R: Reader> Model for LocationLists<R> {
     ghost use Rattle.gimli_units_lists.specs.LocationEntries.{raw_locations_to_come};
-    ghost use Rattle.gimli_units_lists.specs.Lists.{LocationSections};
+    ghost use Rattle.gimli_units_lists.specs.ListSections.{LocationSections};
 
     ghost Value = { LocationSections };
 
@@ -48,9 +45,10 @@ impl<R: Reader> LocationLists<R> {
         }
     }
 
-    /// The locations of the list at an offset, of a unit whose `low_pc` is the base address. Indexes stand for addresses
-    /// of `debug_addr`, behind the base there. Takes memory only where copies of readers do.
-    #[tactic(auto, using(crate::proofs::Few::few_locations))]
+    /// The locations of the list at an offset, of a unit whose `low_pc` is the base address.
+    /// Indexes stand for addresses of `debug_addr`, from its base on. Takes memory only where
+    /// copies of readers do.
+    #[tactic(auto, using(crate::proofs::ListCounts::few_locations))]
     pub fn locations(
         &self,
         offset: LocationListsOffset<R::Offset>,
@@ -60,11 +58,15 @@ impl<R: Reader> LocationLists<R> {
         debug_addr_base: DebugAddrBase<R::Offset>,
     ) -> Result<LocListIter<R>, Error>
         requires { IsTrue (is_address_size unit_encoding.address_size) }
-        ensures value { Gives (λ locations. locations) result (locations_at unit_encoding false (R.Offset.count offset.0)
-            (from_low_pc unit_encoding base_address (R.Offset.count debug_addr_base.0) debug_addr.now) self.now) }
+        ensures value { ReturnsOrNoMemory result
+            (locations_at unit_encoding false (R.Offset.count offset.0)
+            (from_low_pc unit_encoding base_address (R.Offset.count debug_addr_base.0)
+            debug_addr.now) self.now) }
         ensures free { IsTrue R.copies_freely → result ≢ Err Memory }
         // There are no more of them, refusals among them, than bytes.
-        ensures few { IfOk result (λ locations. length (locations_to_come R.Offset.limit locations) ≤ bytes_left locations.raw.left) }
+        ensures few { IfOk result
+            (λ locations. length (locations_to_come R.Offset.limit locations)
+            ≤ bytes_left locations.raw.left) }
     {
         let resolver = Resolver::new(unit_encoding, base_address, debug_addr, debug_addr_base)?;
         let raw = self.raw_locations(offset, unit_encoding)?;
@@ -72,7 +74,7 @@ impl<R: Reader> LocationLists<R> {
     }
 
     /// The same, of a unit of a split file.
-    #[tactic(auto, using(crate::proofs::Few::few_locations))]
+    #[tactic(auto, using(crate::proofs::ListCounts::few_locations))]
     pub fn locations_dwo(
         &self,
         offset: LocationListsOffset<R::Offset>,
@@ -82,28 +84,36 @@ impl<R: Reader> LocationLists<R> {
         debug_addr_base: DebugAddrBase<R::Offset>,
     ) -> Result<LocListIter<R>, Error>
         requires { IsTrue (is_address_size unit_encoding.address_size) }
-        ensures value { Gives (λ locations. locations) result (locations_at unit_encoding true (R.Offset.count offset.0)
-            (from_low_pc unit_encoding base_address (R.Offset.count debug_addr_base.0) debug_addr.now) self.now) }
+        ensures value { ReturnsOrNoMemory result
+            (locations_at unit_encoding true (R.Offset.count offset.0)
+            (from_low_pc unit_encoding base_address (R.Offset.count debug_addr_base.0)
+            debug_addr.now) self.now) }
         ensures free { IsTrue R.copies_freely → result ≢ Err Memory }
         // There are no more of them, refusals among them, than bytes.
-        ensures few { IfOk result (λ locations. length (locations_to_come R.Offset.limit locations) ≤ bytes_left locations.raw.left) }
+        ensures few { IfOk result
+            (λ locations. length (locations_to_come R.Offset.limit locations)
+            ≤ bytes_left locations.raw.left) }
     {
         let resolver = Resolver::new(unit_encoding, base_address, debug_addr, debug_addr_base)?;
         let raw = self.raw_locations_dwo(offset, unit_encoding)?;
         Ok(LocListIter::new(raw, resolver))
     }
 
-    /// The entries of the list at an offset, as they stand. Takes memory only where a copy of the reader does.
-    #[tactic(auto, using(crate::proofs::Few::few_raw_locations))]
+    /// The entries of the list at an offset, not converted. Takes memory only where a copy of the
+    /// reader does.
+    #[tactic(auto, using(crate::proofs::ListCounts::few_raw_locations))]
     pub fn raw_locations(
         &self,
         offset: LocationListsOffset<R::Offset>,
         unit_encoding: Encoding,
     ) -> Result<RawLocListIter<R>, Error>
-        ensures value { Gives (λ entries. entries) result (raw_locations_at unit_encoding false (R.Offset.count offset.0) self.now) }
+        ensures value { ReturnsOrNoMemory result
+            (raw_locations_at unit_encoding false (R.Offset.count offset.0) self.now) }
         ensures free { IsTrue R.copies_freely → result ≢ Err Memory }
         // There are no more of them than bytes.
-        ensures few { IfOk result (λ entries. length (raw_locations_to_come R.Offset.limit entries) ≤ bytes_left entries.left) }
+        ensures few { IfOk result
+            (λ entries. length (raw_locations_to_come R.Offset.limit entries)
+            ≤ bytes_left entries.left) }
     {
         let input = self.section_from(offset, unit_encoding)?;
         let by_kind = unit_encoding.version > 4;
@@ -111,16 +121,19 @@ impl<R: Reader> LocationLists<R> {
     }
 
     /// The same, of a unit of a split file, whose entries begin with their kind in every version.
-    #[tactic(auto, using(crate::proofs::Few::few_raw_locations))]
+    #[tactic(auto, using(crate::proofs::ListCounts::few_raw_locations))]
     pub fn raw_locations_dwo(
         &self,
         offset: LocationListsOffset<R::Offset>,
         unit_encoding: Encoding,
     ) -> Result<RawLocListIter<R>, Error>
-        ensures value { Gives (λ entries. entries) result (raw_locations_at unit_encoding true (R.Offset.count offset.0) self.now) }
+        ensures value { ReturnsOrNoMemory result
+            (raw_locations_at unit_encoding true (R.Offset.count offset.0) self.now) }
         ensures free { IsTrue R.copies_freely → result ≢ Err Memory }
         // There are no more of them than bytes.
-        ensures few { IfOk result (λ entries. length (raw_locations_to_come R.Offset.limit entries) ≤ bytes_left entries.left) }
+        ensures few { IfOk result
+            (λ entries. length (raw_locations_to_come R.Offset.limit entries)
+            ≤ bytes_left entries.left) }
     {
         let input = self.section_from(offset, unit_encoding)?;
         Ok(RawLocListIter::new(input, unit_encoding, true))
@@ -132,7 +145,8 @@ impl<R: Reader> LocationLists<R> {
         offset: LocationListsOffset<R::Offset>,
         unit_encoding: Encoding,
     ) -> Result<R, Error>
-        ensures value { Gives R.view result (from_offset (R.Offset.count offset.0) (location_section unit_encoding self.now)) }
+        ensures value { ReturnsAsOrNoMemory R.view result
+            (from_offset (R.Offset.count offset.0) (location_section unit_encoding self.now)) }
         ensures free { IsTrue R.copies_freely → result ≢ Err Memory }
     {
         let mut input = if unit_encoding.version <= 4 {
@@ -144,15 +158,17 @@ impl<R: Reader> LocationLists<R> {
         Ok(input)
     }
 
-    /// The offset of the list that an index stands for, in `.debug_loclists` (DWARF 5, 7.29). Takes no memory.
+    /// The offset of the list that an index stands for, in `.debug_loclists` (DWARF 5, 7.29). Takes
+    /// no memory.
     pub fn get_offset(
         &self,
         unit_encoding: Encoding,
         base: DebugLocListsBase<R::Offset>,
         index: DebugLocListsIndex<R::Offset>,
     ) -> Result<LocationListsOffset<R::Offset>, Error>
-        ensures value { Answers (λ offset. R.Offset.count offset.0) result
-            (list_offset_at R.Offset.limit unit_encoding.format (R.Offset.count base.0) (R.Offset.count index.0) self.now.debug_loclists) }
+        ensures value { ReturnsAs (λ offset. R.Offset.count offset.0) result
+            (list_offset_at R.Offset.limit unit_encoding.format (R.Offset.count base.0)
+            (R.Offset.count index.0) self.now.debug_loclists) }
         ensures free { result ≢ Err Memory }
     {
         let section = self.debug_loclists.reader();
@@ -161,7 +177,8 @@ impl<R: Reader> LocationLists<R> {
 
     /// The section and the offset in it of the place that an identifier names, `.debug_loc` first.
     pub fn lookup_offset_id(&self, id: ReaderOffsetId) -> Option<(SectionId, R::Offset)>
-        ensures { option_map (λ found. (found.0, R.Offset.count found.1)) result ≡ location_place_of id.0 self.now }
+        ensures { option_map (λ found. (found.0, R.Offset.count found.1)) result
+            ≡ location_place_of id.0 self.now }
     {
         self.debug_loc
             .lookup_offset_id(id)

@@ -1,10 +1,7 @@
 ghost use Rattle.std.specs.Prelude.{◌≡◌};
 ghost use Rattle.std.specs.Fn.{FnOnceReturnsAt};
 
-use gimli_core_constants::SectionId;
-use gimli_core_numbers::Endianity;
-use gimli_core_readers::{EndianSlice, Reader};
-use gimli_core_strings::Section;
+use gimli_core_readers::{EndianSlice, Endianity, Reader, Section, SectionId};
 use std::marker::Model;
 
 /// `.debug_loc`: the location lists of units up to version 4 (DWARF 4, 2.6.2).
@@ -14,7 +11,7 @@ pub struct DebugLoc<R: Reader> {
 }
 
 impl<R: Reader> Model for DebugLoc<R> {
-    ghost use Rattle.gimli_core_base.specs.View.{View};
+    ghost use Rattle.gimli_core_readers.specs.View.{View};
 
     ghost Value = { View };
 
@@ -30,11 +27,11 @@ impl<R: Reader> From<R> for DebugLoc<R> {
 }
 
 impl<R: Reader> Section<R> for DebugLoc<R> {
-    ghost use Rattle.gimli_core_constants.specs.declared.common.SectionId.TheVariants.{DebugLoc};
+    ghost use Rattle.gimli_core_readers.specs.SectionId.TheVariants.{DebugLoc};
 
     ghost section_id = { DebugLoc };
 
-    ghost seen = { λ s. s };
+    ghost section_view = { λ s. s };
 
     fn id() -> SectionId {
         SectionId::DebugLoc
@@ -79,7 +76,7 @@ pub struct DebugLocLists<R: Reader> {
 }
 
 impl<R: Reader> Model for DebugLocLists<R> {
-    ghost use Rattle.gimli_core_base.specs.View.{View};
+    ghost use Rattle.gimli_core_readers.specs.View.{View};
 
     ghost Value = { View };
 
@@ -95,11 +92,11 @@ impl<R: Reader> From<R> for DebugLocLists<R> {
 }
 
 impl<R: Reader> Section<R> for DebugLocLists<R> {
-    ghost use Rattle.gimli_core_constants.specs.declared.common.SectionId.TheVariants.{DebugLocLists};
+    ghost use Rattle.gimli_core_readers.specs.SectionId.TheVariants.{DebugLocLists};
 
     ghost section_id = { DebugLocLists };
 
-    ghost seen = { λ s. s };
+    ghost section_view = { λ s. s };
 
     fn id() -> SectionId {
         SectionId::DebugLocLists

@@ -1,19 +1,17 @@
 ghost use Rattle.std.specs.Prelude.{◌≡◌, ◌≢◌, IsTrue, IfOk, IfSome, unwrap_or, option_map, Err};
-ghost use Rattle.gimli_core_base.specs.Calls.{Answers};
-ghost use Rattle.gimli_core_base.specs.declared.error.Error.TheVariants.{Memory};
-ghost use Rattle.gimli_units_lists.specs.Answers.{TakesNext};
-ghost use Rattle.gimli_units_lists.specs.Entries.{IsCounted};
-ghost use Rattle.gimli_units_lists.specs.Lists.{locations_to_come};
-ghost use Rattle.gimli_units_lists.specs.Progress.{TakesLocation};
+ghost use Rattle.gimli_core_readers.specs.Calls.{ReturnsAs};
+ghost use Rattle.gimli_core_readers.specs.Error.TheVariants.{Memory};
+ghost use Rattle.gimli_units_lists.specs.ListAnswers.{ReturnsNextOrNoMemory};
+ghost use Rattle.gimli_units_lists.specs.ListEntries.{IsValidRange};
+ghost use Rattle.gimli_units_lists.specs.ListSections.{locations_to_come};
+ghost use Rattle.gimli_units_lists.specs.ListProgress.{TakesLocation};
 ghost use Rattle.gimli_units_lists.specs.LocationEntries.{raw_locations_to_come, location_base_in, location_of};
-ghost use Rattle.gimli_units_lists.specs.Seen.{raw_location, location};
+ghost use Rattle.gimli_units_lists.specs.ListEntryViews.{raw_location, location};
 
 use crate::location_entry::{Parts, RawLocListEntry, parts_of};
 use crate::raw_locations::RawLocListIter;
 use crate::resolver::Resolver;
-use gimli_core_base::error::Error;
-use gimli_core_readers::Reader;
-use gimli_units_base::{Expression, Range};
+use gimli_core_readers::{Error, Expression, Range, Reader};
 use std::marker::Model;
 
 /// The addresses at which an object is where its expression says (DWARF 5, 2.6.2).
@@ -31,7 +29,7 @@ pub struct LocListIter<R: Reader> {
 }
 
 impl<R: Reader> Model for LocListIter<R> {
-    ghost use Rattle.gimli_units_lists.specs.Lists.{LocationsLeft};
+    ghost use Rattle.gimli_units_lists.specs.ListSections.{LocationsLeft};
 
     ghost Value = { LocationsLeft };
 
@@ -45,15 +43,19 @@ impl<R: Reader> LocListIter<R> {
         LocListIter { raw, resolver }
     }
 
-    /// The next location, none at the list's end. An entry whose index has no address is refused in its place, and the
-    /// list goes on behind it; after an entry that can't be read there are no more. Takes memory only where a part of the
-    /// reader does; where there is none, all that was to come is still to come.
+    /// The next location, none at the list's end. An entry whose index has no address is refused in
+    /// its place, and the list goes on after it; after an entry that can't be read there are no
+    /// more. Takes memory only where a part of the reader does; where there is none, all that was
+    /// to come is still to come.
     pub fn next(&mut self) -> Result<Option<LocationListEntry<R>>, Error>
-        ensures next { TakesNext (location R.view) result
-            (locations_to_come R.Offset.limit self.old) (locations_to_come R.Offset.limit self.new) }
+        ensures next { ReturnsNextOrNoMemory (location R.view) result
+            (locations_to_come R.Offset.limit self.old)
+            (locations_to_come R.Offset.limit self.new) }
         // The entries up to the one that stands for the answer are taken.
-        ensures taken { TakesLocation (location R.view) R.Offset.limit result self.old self.new }
-        ensures counted { IfOk result (λ found. IfSome found (λ l. IsCounted self.old.against.setting.address_size l.range)) }
+        ensures progress { TakesLocation (location R.view) R.Offset.limit result self.old self.new }
+        ensures valid { IfOk result
+            (λ found. IfSome found
+            (λ l. IsValidRange self.old.against.setting.address_size l.range)) }
         ensures encoding { self.new.raw.encoding ≡ self.old.raw.encoding }
         ensures by_kind { self.new.raw.by_kind ≡ self.old.raw.by_kind }
         ensures setting { self.new.against.setting ≡ self.old.against.setting }
@@ -67,10 +69,11 @@ impl<R: Reader> LocListIter<R> {
         Ok(None)
     }
 
-    /// The next entry as it stands, which sets no base.
+    /// The next entry, not converted; it sets no base.
     pub fn next_raw(&mut self) -> Result<Option<RawLocListEntry<R>>, Error>
-        ensures next { TakesNext (raw_location R.view R.Offset.count) result
-            (raw_locations_to_come R.Offset.limit self.old.raw) (raw_locations_to_come R.Offset.limit self.new.raw) }
+        ensures next { ReturnsNextOrNoMemory (raw_location R.view R.Offset.count) result
+            (raw_locations_to_come R.Offset.limit self.old.raw)
+            (raw_locations_to_come R.Offset.limit self.new.raw) }
         ensures encoding { self.new.raw.encoding ≡ self.old.raw.encoding }
         ensures by_kind { self.new.raw.by_kind ≡ self.old.raw.by_kind }
         ensures against { self.new.against ≡ self.old.against }
@@ -79,18 +82,24 @@ impl<R: Reader> LocListIter<R> {
         self.raw.next()
     }
 
-    /// The location of an entry, none where it is passed over. An entry that isn't refused sets its base.
+    /// The location of an entry, none for a base and an invalid range. An entry that isn't refused
+    /// sets its base.
     pub fn convert_raw(
         &mut self,
         entry: RawLocListEntry<R>,
     ) -> Result<Option<LocationListEntry<R>>, Error>
-        ensures value { Answers (option_map (location R.view)) result
-            (location_of self.old.against.setting self.old.against.base (raw_location R.view R.Offset.count entry)) }
+        ensures value { ReturnsAs (option_map (location R.view)) result
+            (location_of self.old.against.setting self.old.against.base
+            (raw_location R.view R.Offset.count entry)) }
         ensures base { self.new.against.base
-            ≡ unwrap_or (location_base_in self.old.against.setting (raw_location R.view R.Offset.count entry)) self.old.against.base }
+            ≡ unwrap_or
+            (location_base_in self.old.against.setting (raw_location R.view R.Offset.count entry))
+            self.old.against.base }
         ensures setting { self.new.against.setting ≡ self.old.against.setting }
         ensures raw { self.new.raw ≡ self.old.raw }
-        ensures counted { IfOk result (λ found. IfSome found (λ l. IsCounted self.old.against.setting.address_size l.range)) }
+        ensures valid { IfOk result
+            (λ found. IfSome found
+            (λ l. IsValidRange self.old.against.setting.address_size l.range)) }
         ensures free { result ≢ Err Memory }
     {
         match parts_of(entry) {
@@ -98,7 +107,7 @@ impl<R: Reader> LocListIter<R> {
                 self.resolver.range(base)?;
                 Ok(None)
             }
-            Parts::Located(entry, expression) => match self.resolver.range(entry)? {
+            Parts::Bounded(entry, expression) => match self.resolver.range(entry)? {
                 Some(range) => Ok(Some(LocationListEntry { range, expression })),
                 None => Ok(None),
             },

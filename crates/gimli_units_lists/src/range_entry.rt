@@ -1,18 +1,14 @@
 ghost use Rattle.std.specs.Prelude.{option_map};
-ghost use Rattle.gimli_core_base.specs.Calls.{Answers};
+ghost use Rattle.gimli_core_readers.specs.Calls.{ReturnsAs};
 ghost use Rattle.gimli_units_lists.specs.RangeEntries.{range_pair, range_kind, range_entry};
-ghost use Rattle.gimli_units_lists.specs.Seen.{raw_entry};
+ghost use Rattle.gimli_units_lists.specs.ListEntryViews.{raw_entry};
 
 use crate::fields::{
     read_address_and_length, read_addresses, read_index, read_indexes, read_offsets,
 };
-use gimli_core_base::constants::DwRle;
-use gimli_core_base::error::Error;
-use gimli_core_constants::{DebugAddrIndex, Encoding};
-use gimli_core_readers::Reader;
-use gimli_units_base::greatest_address;
+use gimli_core_readers::{DebugAddrIndex, DwRle, Encoding, Error, Reader, greatest_address};
 
-/// An entry of a range list, as it stands there.
+/// An entry of a range list, as its list has it.
 #[derive(Clone, Copy, Debug, PartialEq, Eq)]
 pub enum RawRngListEntry<T> {
     /// A range relative to the base, up to version 4 (DWARF 4, 2.17.3).
@@ -20,7 +16,7 @@ pub enum RawRngListEntry<T> {
         begin: u64,
         end: u64,
     },
-    /// The base of the entries behind it.
+    /// The base of the entries after it.
     BaseAddress {
         addr: u64,
     },
@@ -55,13 +51,14 @@ pub enum RawRngListEntry<T> {
     },
 }
 
-/// The entry at the front of a list, none at its end.
+/// The next entry of a list, none at its end.
 #[tactic(auto, unfolding(crate::specs::RangeEntries::range_entry))]
 pub(crate) fn parse_entry<R: Reader>(
     input: &mut R,
     encoding: Encoding,
 ) -> Result<Option<RawRngListEntry<R::Offset>>, Error>
-    ensures { Answers (λ entry. (option_map (raw_entry R.Offset.count) entry, R.view input.new)) result
+    ensures { ReturnsAs (λ entry. (option_map (raw_entry R.Offset.count) entry, R.view input.new))
+        result
         (range_entry R.Offset.limit encoding (R.view input.old)) }
 {
     if encoding.version <= 4 {
@@ -77,7 +74,8 @@ fn parse_pair<R: Reader>(
     input: &mut R,
     address_size: u8,
 ) -> Result<Option<RawRngListEntry<R::Offset>>, Error>
-    ensures { Answers (λ entry. (option_map (raw_entry R.Offset.count) entry, R.view input.new)) result
+    ensures { ReturnsAs (λ entry. (option_map (raw_entry R.Offset.count) entry, R.view input.new))
+        result
         (range_pair address_size (R.view input.old)) }
 {
     let (begin, end) = read_addresses(input, address_size)?;
@@ -96,7 +94,8 @@ fn parse_kind<R: Reader>(
     input: &mut R,
     address_size: u8,
 ) -> Result<Option<RawRngListEntry<R::Offset>>, Error>
-    ensures { Answers (λ entry. (option_map (raw_entry R.Offset.count) entry, R.view input.new)) result
+    ensures { ReturnsAs (λ entry. (option_map (raw_entry R.Offset.count) entry, R.view input.new))
+        result
         (range_kind R.Offset.limit address_size (R.view input.old)) }
 {
     let kind = input.read_u8()?;

@@ -1,24 +1,21 @@
 ghost use Rattle.std.specs.Prelude.{◌≡◌, ◌≢◌, ◌≤◌, length, IsTrue, IfOk, option_map, Err};
-ghost use Rattle.gimli_core_base.specs.View.{bytes_left};
+ghost use Rattle.gimli_core_readers.specs.View.{bytes_left};
 ghost use Rattle.std.specs.Fn.{CalledAt};
-ghost use Rattle.gimli_core_base.specs.Calls.{Answers, Gives};
-ghost use Rattle.gimli_core_base.specs.declared.error.Error.TheVariants.{Memory};
-ghost use Rattle.gimli_core_numbers.specs.Numbers.{is_address_size};
+ghost use Rattle.gimli_core_readers.specs.Calls.{ReturnsAs, ReturnsOrNoMemory};
+ghost use Rattle.gimli_core_readers.specs.Error.TheVariants.{Memory};
+ghost use Rattle.gimli_core_readers.specs.NumberParsers.{is_address_size};
 ghost use Rattle.gimli_units_lists.specs.RangeEntries.{raw_ranges_to_come};
-ghost use Rattle.gimli_units_lists.specs.Lists.{raw_ranges_at, ranges_at, ranges_to_come, from_low_pc, list_offset_at, range_place_of};
+ghost use Rattle.gimli_units_lists.specs.ListSections.{raw_ranges_at, ranges_at, ranges_to_come, from_low_pc, list_offset_at, range_place_of};
 
 use crate::list_offset::list_offset;
 use crate::range_sections::{DebugRanges, DebugRngLists};
 use crate::ranges::RngListIter;
 use crate::raw_ranges::RawRngListIter;
 use crate::resolver::Resolver;
-use gimli_core_base::constants::ReaderOffsetId;
-use gimli_core_base::error::Error;
-use gimli_core_constants::{
-    DebugAddrBase, DebugRngListsBase, DebugRngListsIndex, Encoding, RangeListsOffset, SectionId,
+use gimli_core_readers::{
+    DebugAddr, DebugAddrBase, DebugRngListsBase, DebugRngListsIndex, Encoding, Error,
+    RangeListsOffset, Reader, ReaderOffsetId, Section, SectionId,
 };
-use gimli_core_readers::Reader;
-use gimli_core_strings::{DebugAddr, Section};
 use std::marker::Model;
 
 /// The range lists of units of all versions.
@@ -30,11 +27,14 @@ pub struct RangeLists<R: Reader> {
 
 impl<R: Reader> Model for RangeLists<R> {
     ghost use Rattle.gimli_units_lists.specs.RangeEntries.{raw_ranges_to_come};
-    ghost use Rattle.gimli_units_lists.specs.Lists.{RangeSections};
+    ghost use Rattle.gimli_units_lists.specs.ListSections.{RangeSections};
 
     ghost Value = { RangeSections };
 
-    ghost view = { λ s. record { debug_ranges = s.debug_ranges; debug_rnglists = s.debug_rnglists } };
+    ghost view = { λ s. record {
+      debug_ranges = s.debug_ranges;
+      debug_rnglists = s.debug_rnglists;
+    } };
 }
 
 impl<R: Reader> RangeLists<R> {
@@ -55,9 +55,11 @@ impl<R: Reader> RangeLists<R> {
         &self.debug_ranges
     }
 
-    /// Puts another section in the place of `.debug_ranges`, as that of the main file for a split unit.
+    /// Puts another section in the place of `.debug_ranges`, as that of the main file for a split
+    /// unit.
     pub fn set_debug_ranges(&mut self, debug_ranges: DebugRanges<R>)
-        ensures { self.new ≡ record { debug_ranges = debug_ranges; debug_rnglists = self.old.debug_rnglists } }
+        ensures { self.new ≡ record
+            { debug_ranges = debug_ranges; debug_rnglists = self.old.debug_rnglists } }
     {
         self.debug_ranges = debug_ranges;
     }
@@ -69,9 +71,10 @@ impl<R: Reader> RangeLists<R> {
         &self.debug_rnglists
     }
 
-    /// The ranges of the list at an offset, of a unit whose `low_pc` is the base address. Indexes stand for addresses of
-    /// `debug_addr`, behind the base there. Takes memory only where copies of readers do.
-    #[tactic(auto, using(crate::proofs::Few::few_ranges))]
+    /// The ranges of the list at an offset, of a unit whose `low_pc` is the base address. Indexes
+    /// stand for addresses of `debug_addr`, from its base on. Takes memory only where copies of
+    /// readers do.
+    #[tactic(auto, using(crate::proofs::ListCounts::few_ranges))]
     pub fn ranges(
         &self,
         offset: RangeListsOffset<R::Offset>,
@@ -81,28 +84,34 @@ impl<R: Reader> RangeLists<R> {
         debug_addr_base: DebugAddrBase<R::Offset>,
     ) -> Result<RngListIter<R>, Error>
         requires { IsTrue (is_address_size unit_encoding.address_size) }
-        ensures value { Gives (λ ranges. ranges) result (ranges_at unit_encoding (R.Offset.count offset.0)
-            (from_low_pc unit_encoding base_address (R.Offset.count debug_addr_base.0) debug_addr.now) self.now) }
+        ensures value { ReturnsOrNoMemory result (ranges_at unit_encoding (R.Offset.count offset.0)
+            (from_low_pc unit_encoding base_address (R.Offset.count debug_addr_base.0)
+            debug_addr.now) self.now) }
         ensures free { IsTrue R.copies_freely → result ≢ Err Memory }
         // There are no more of them, refusals among them, than bytes.
-        ensures few { IfOk result (λ ranges. length (ranges_to_come R.Offset.limit ranges) ≤ bytes_left ranges.raw.left) }
+        ensures few { IfOk result
+            (λ ranges. length (ranges_to_come R.Offset.limit ranges) ≤ bytes_left ranges.raw.left) }
     {
         let resolver = Resolver::new(unit_encoding, base_address, debug_addr, debug_addr_base)?;
         let raw = self.raw_ranges(offset, unit_encoding)?;
         Ok(RngListIter::new(raw, resolver))
     }
 
-    /// The entries of the list at an offset, as they stand. Takes memory only where a copy of the reader does.
-    #[tactic(auto, using(crate::proofs::Few::few_raw_ranges))]
+    /// The entries of the list at an offset, not converted. Takes memory only where a copy of the
+    /// reader does.
+    #[tactic(auto, using(crate::proofs::ListCounts::few_raw_ranges))]
     pub fn raw_ranges(
         &self,
         offset: RangeListsOffset<R::Offset>,
         unit_encoding: Encoding,
     ) -> Result<RawRngListIter<R>, Error>
-        ensures value { Gives (λ entries. entries) result (raw_ranges_at unit_encoding (R.Offset.count offset.0) self.now) }
+        ensures value { ReturnsOrNoMemory result
+            (raw_ranges_at unit_encoding (R.Offset.count offset.0) self.now) }
         ensures free { IsTrue R.copies_freely → result ≢ Err Memory }
         // There are no more of them than bytes.
-        ensures few { IfOk result (λ entries. length (raw_ranges_to_come R.Offset.limit entries) ≤ bytes_left entries.left) }
+        ensures few { IfOk result
+            (λ entries. length (raw_ranges_to_come R.Offset.limit entries)
+            ≤ bytes_left entries.left) }
     {
         let mut input = if unit_encoding.version <= 4 {
             self.debug_ranges.reader().copy()?
@@ -113,24 +122,28 @@ impl<R: Reader> RangeLists<R> {
         Ok(RawRngListIter::new(input, unit_encoding))
     }
 
-    /// The offset of the list that an index stands for, in `.debug_rnglists` (DWARF 5, 7.28). Takes no memory.
+    /// The offset of the list that an index stands for, in `.debug_rnglists` (DWARF 5, 7.28). Takes
+    /// no memory.
     pub fn get_offset(
         &self,
         unit_encoding: Encoding,
         base: DebugRngListsBase<R::Offset>,
         index: DebugRngListsIndex<R::Offset>,
     ) -> Result<RangeListsOffset<R::Offset>, Error>
-        ensures value { Answers (λ offset. R.Offset.count offset.0) result
-            (list_offset_at R.Offset.limit unit_encoding.format (R.Offset.count base.0) (R.Offset.count index.0) self.now.debug_rnglists) }
+        ensures value { ReturnsAs (λ offset. R.Offset.count offset.0) result
+            (list_offset_at R.Offset.limit unit_encoding.format (R.Offset.count base.0)
+            (R.Offset.count index.0) self.now.debug_rnglists) }
         ensures free { result ≢ Err Memory }
     {
         let section = self.debug_rnglists.reader();
         Ok(RangeListsOffset(list_offset(section, unit_encoding.format, base.0, index.0)?))
     }
 
-    /// The section and the offset in it of the place that an identifier names, `.debug_ranges` first.
+    /// The section and the offset in it of the place that an identifier names, `.debug_ranges`
+    /// first.
     pub fn lookup_offset_id(&self, id: ReaderOffsetId) -> Option<(SectionId, R::Offset)>
-        ensures { option_map (λ found. (found.0, R.Offset.count found.1)) result ≡ range_place_of id.0 self.now }
+        ensures { option_map (λ found. (found.0, R.Offset.count found.1)) result
+            ≡ range_place_of id.0 self.now }
     {
         self.debug_ranges
             .lookup_offset_id(id)

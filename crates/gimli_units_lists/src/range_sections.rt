@@ -1,10 +1,7 @@
 ghost use Rattle.std.specs.Prelude.{◌≡◌};
 ghost use Rattle.std.specs.Fn.{FnOnceReturnsAt};
 
-use gimli_core_constants::SectionId;
-use gimli_core_numbers::Endianity;
-use gimli_core_readers::{EndianSlice, Reader};
-use gimli_core_strings::Section;
+use gimli_core_readers::{EndianSlice, Endianity, Reader, Section, SectionId};
 use std::marker::Model;
 
 /// `.debug_ranges`: the range lists of units up to version 4 (DWARF 4, 2.17.3).
@@ -14,7 +11,7 @@ pub struct DebugRanges<R: Reader> {
 }
 
 impl<R: Reader> Model for DebugRanges<R> {
-    ghost use Rattle.gimli_core_base.specs.View.{View};
+    ghost use Rattle.gimli_core_readers.specs.View.{View};
 
     ghost Value = { View };
 
@@ -30,11 +27,11 @@ impl<R: Reader> From<R> for DebugRanges<R> {
 }
 
 impl<R: Reader> Section<R> for DebugRanges<R> {
-    ghost use Rattle.gimli_core_constants.specs.declared.common.SectionId.TheVariants.{DebugRanges};
+    ghost use Rattle.gimli_core_readers.specs.SectionId.TheVariants.{DebugRanges};
 
     ghost section_id = { DebugRanges };
 
-    ghost seen = { λ s. s };
+    ghost section_view = { λ s. s };
 
     fn id() -> SectionId {
         SectionId::DebugRanges
@@ -79,7 +76,7 @@ pub struct DebugRngLists<R: Reader> {
 }
 
 impl<R: Reader> Model for DebugRngLists<R> {
-    ghost use Rattle.gimli_core_base.specs.View.{View};
+    ghost use Rattle.gimli_core_readers.specs.View.{View};
 
     ghost Value = { View };
 
@@ -95,11 +92,11 @@ impl<R: Reader> From<R> for DebugRngLists<R> {
 }
 
 impl<R: Reader> Section<R> for DebugRngLists<R> {
-    ghost use Rattle.gimli_core_constants.specs.declared.common.SectionId.TheVariants.{DebugRngLists};
+    ghost use Rattle.gimli_core_readers.specs.SectionId.TheVariants.{DebugRngLists};
 
     ghost section_id = { DebugRngLists };
 
-    ghost seen = { λ s. s };
+    ghost section_view = { λ s. s };
 
     fn id() -> SectionId {
         SectionId::DebugRngLists

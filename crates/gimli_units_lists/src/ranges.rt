@@ -1,19 +1,17 @@
 ghost use Rattle.std.specs.Prelude.{◌≡◌, ◌≢◌, IfOk, IfSome, unwrap_or, Ok, Err};
-ghost use Rattle.gimli_core_base.specs.Calls.{Answers};
-ghost use Rattle.gimli_core_base.specs.declared.error.Error.TheVariants.{Memory};
-ghost use Rattle.gimli_units_lists.specs.Answers.{AnswersNext};
-ghost use Rattle.gimli_units_lists.specs.Entries.{base_in, range_of, IsCounted};
-ghost use Rattle.gimli_units_lists.specs.Lists.{ranges_to_come};
-ghost use Rattle.gimli_units_lists.specs.Progress.{TakesRange};
+ghost use Rattle.gimli_core_readers.specs.Calls.{Returns};
+ghost use Rattle.gimli_core_readers.specs.Error.TheVariants.{Memory};
+ghost use Rattle.gimli_units_lists.specs.ListAnswers.{ReturnsNext};
+ghost use Rattle.gimli_units_lists.specs.ListEntries.{base_in, range_of, IsValidRange};
+ghost use Rattle.gimli_units_lists.specs.ListSections.{ranges_to_come};
+ghost use Rattle.gimli_units_lists.specs.ListProgress.{TakesRange};
 ghost use Rattle.gimli_units_lists.specs.RangeEntries.{raw_ranges_to_come};
-ghost use Rattle.gimli_units_lists.specs.Seen.{raw_entry};
+ghost use Rattle.gimli_units_lists.specs.ListEntryViews.{raw_entry};
 
 use crate::range_entry::RawRngListEntry;
 use crate::raw_ranges::RawRngListIter;
 use crate::resolver::Resolver;
-use gimli_core_base::error::Error;
-use gimli_core_readers::Reader;
-use gimli_units_base::Range;
+use gimli_core_readers::{Error, Range, Reader};
 use std::marker::Model;
 
 /// The ranges of a list, from one of its entries on.
@@ -24,7 +22,7 @@ pub struct RngListIter<R: Reader> {
 }
 
 impl<R: Reader> Model for RngListIter<R> {
-    ghost use Rattle.gimli_units_lists.specs.Lists.{RangesLeft};
+    ghost use Rattle.gimli_units_lists.specs.ListSections.{RangesLeft};
 
     ghost Value = { RangesLeft };
 
@@ -38,14 +36,16 @@ impl<R: Reader> RngListIter<R> {
         RngListIter { raw, resolver }
     }
 
-    /// The next range, none at the list's end. An entry whose index has no address is refused in its place, and the list
-    /// goes on behind it; after an entry that can't be read there are no more. Takes no memory.
+    /// The next range, none at the list's end. An entry whose index has no address is refused in
+    /// its place, and the list goes on after it; after an entry that can't be read there are no
+    /// more. Takes no memory.
     pub fn next(&mut self) -> Result<Option<Range>, Error>
-        ensures next { AnswersNext (λ range. range) result
+        ensures next { ReturnsNext (λ range. range) result
             (ranges_to_come R.Offset.limit self.old) (ranges_to_come R.Offset.limit self.new) }
         // The entries up to the one that stands for the answer are taken.
-        ensures taken { TakesRange R.Offset.limit result self.old self.new }
-        ensures counted { IfOk result (λ range. IfSome range (IsCounted self.old.against.setting.address_size)) }
+        ensures progress { TakesRange R.Offset.limit result self.old self.new }
+        ensures valid { IfOk result
+            (λ range. IfSome range (IsValidRange self.old.against.setting.address_size)) }
         ensures encoding { self.new.raw.encoding ≡ self.old.raw.encoding }
         ensures setting { self.new.against.setting ≡ self.old.against.setting }
         ensures free { result ≢ Err Memory }
@@ -58,10 +58,11 @@ impl<R: Reader> RngListIter<R> {
         Ok(None)
     }
 
-    /// The next entry as it stands, which sets no base.
+    /// The next entry, not converted; it sets no base.
     pub fn next_raw(&mut self) -> Result<Option<RawRngListEntry<R::Offset>>, Error>
-        ensures next { AnswersNext (raw_entry R.Offset.count) result
-            (raw_ranges_to_come R.Offset.limit self.old.raw) (raw_ranges_to_come R.Offset.limit self.new.raw) }
+        ensures next { ReturnsNext (raw_entry R.Offset.count) result
+            (raw_ranges_to_come R.Offset.limit self.old.raw)
+            (raw_ranges_to_come R.Offset.limit self.new.raw) }
         ensures encoding { self.new.raw.encoding ≡ self.old.raw.encoding }
         ensures against { self.new.against ≡ self.old.against }
         ensures free { result ≢ Err Memory }
@@ -69,18 +70,22 @@ impl<R: Reader> RngListIter<R> {
         self.raw.next()
     }
 
-    /// The range of an entry, none where it is passed over. An entry that isn't refused sets its base.
+    /// The range of an entry, none for a base and an invalid range. An entry that isn't refused
+    /// sets its base.
     pub fn convert_raw(
         &mut self,
         raw_range: RawRngListEntry<R::Offset>,
     ) -> Result<Option<Range>, Error>
-        ensures value { Answers (λ range. range) result
-            (range_of self.old.against.setting self.old.against.base (raw_entry R.Offset.count raw_range)) }
+        ensures value { Returns result
+            (range_of self.old.against.setting self.old.against.base
+            (raw_entry R.Offset.count raw_range)) }
         ensures base { self.new.against.base
-            ≡ unwrap_or (base_in self.old.against.setting (raw_entry R.Offset.count raw_range)) self.old.against.base }
+            ≡ unwrap_or (base_in self.old.against.setting (raw_entry R.Offset.count raw_range))
+            self.old.against.base }
         ensures setting { self.new.against.setting ≡ self.old.against.setting }
         ensures raw { self.new.raw ≡ self.old.raw }
-        ensures counted { IfOk result (λ range. IfSome range (IsCounted self.old.against.setting.address_size)) }
+        ensures valid { IfOk result
+            (λ range. IfSome range (IsValidRange self.old.against.setting.address_size)) }
         ensures free { result ≢ Err Memory }
     {
         self.resolver.range(raw_range)

@@ -1,13 +1,11 @@
 ghost use Rattle.std.specs.Prelude.{◌≡◌, ◌≢◌, IsTrue, Err};
-ghost use Rattle.gimli_core_base.specs.declared.error.Error.TheVariants.{Memory};
-ghost use Rattle.gimli_units_lists.specs.Answers.{TakesNext};
+ghost use Rattle.gimli_core_readers.specs.Error.TheVariants.{Memory};
+ghost use Rattle.gimli_units_lists.specs.ListAnswers.{ReturnsNextOrNoMemory};
 ghost use Rattle.gimli_units_lists.specs.LocationEntries.{raw_locations_to_come};
-ghost use Rattle.gimli_units_lists.specs.Seen.{raw_location};
+ghost use Rattle.gimli_units_lists.specs.ListEntryViews.{raw_location};
 
 use crate::location_entry::{RawLocListEntry, parse_entry};
-use gimli_core_base::error::Error;
-use gimli_core_constants::Encoding;
-use gimli_core_readers::Reader;
+use gimli_core_readers::{Encoding, Error, Reader};
 use std::marker::Model;
 
 /// The entries of a location list, from one of them on.
@@ -25,7 +23,11 @@ impl<R: Reader> Model for RawLocListIter<R> {
 
     ghost Value = { RawLocationsLeft };
 
-    ghost view = { λ r. record { encoding = r.encoding; by_kind = r.by_kind; left = R.view r.input } };
+    ghost view = { λ r. record {
+      encoding = r.encoding;
+      by_kind = r.by_kind;
+      left = R.view r.input;
+    } };
 }
 
 impl<R: Reader> RawLocListIter<R> {
@@ -39,11 +41,12 @@ impl<R: Reader> RawLocListIter<R> {
         }
     }
 
-    /// The next entry, none at the list's end. After an entry that can't be read there are no more. Takes memory only
-    /// where a part of the reader does, and moves nothing where there is none.
+    /// The next entry, none at the list's end. After an entry that can't be read there are no more.
+    /// Takes memory only where a part of the reader does, and moves nothing where there is none.
     pub fn next(&mut self) -> Result<Option<RawLocListEntry<R>>, Error>
-        ensures next { TakesNext (raw_location R.view R.Offset.count) result
-            (raw_locations_to_come R.Offset.limit self.old) (raw_locations_to_come R.Offset.limit self.new) }
+        ensures next { ReturnsNextOrNoMemory (raw_location R.view R.Offset.count) result
+            (raw_locations_to_come R.Offset.limit self.old)
+            (raw_locations_to_come R.Offset.limit self.new) }
         ensures encoding { self.new.encoding ≡ self.old.encoding }
         ensures by_kind { self.new.by_kind ≡ self.old.by_kind }
         ensures free { IsTrue R.copies_freely → result ≢ Err Memory }

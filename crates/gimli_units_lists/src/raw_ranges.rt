@@ -1,13 +1,11 @@
 ghost use Rattle.std.specs.Prelude.{◌≡◌, ◌≢◌, IsTrue, Ok, Err};
-ghost use Rattle.gimli_core_base.specs.declared.error.Error.TheVariants.{Memory};
-ghost use Rattle.gimli_units_lists.specs.Answers.{AnswersNext};
+ghost use Rattle.gimli_core_readers.specs.Error.TheVariants.{Memory};
+ghost use Rattle.gimli_units_lists.specs.ListAnswers.{ReturnsNext};
 ghost use Rattle.gimli_units_lists.specs.RangeEntries.{raw_ranges_to_come};
-ghost use Rattle.gimli_units_lists.specs.Seen.{raw_entry};
+ghost use Rattle.gimli_units_lists.specs.ListEntryViews.{raw_entry};
 
 use crate::range_entry::{RawRngListEntry, parse_entry};
-use gimli_core_base::error::Error;
-use gimli_core_constants::Encoding;
-use gimli_core_readers::Reader;
+use gimli_core_readers::{Encoding, Error, Reader};
 use std::marker::Model;
 
 /// The entries of a range list, from one of them on.
@@ -33,10 +31,12 @@ impl<R: Reader> RawRngListIter<R> {
         RawRngListIter { input, encoding }
     }
 
-    /// The next entry, none at the list's end. After an entry that can't be read there are no more. Takes no memory.
+    /// The next entry, none at the list's end. After an entry that can't be read there are no more.
+    /// Takes no memory.
     pub fn next(&mut self) -> Result<Option<RawRngListEntry<R::Offset>>, Error>
-        ensures next { AnswersNext (raw_entry R.Offset.count) result
-            (raw_ranges_to_come R.Offset.limit self.old) (raw_ranges_to_come R.Offset.limit self.new) }
+        ensures next { ReturnsNext (raw_entry R.Offset.count) result
+            (raw_ranges_to_come R.Offset.limit self.old)
+            (raw_ranges_to_come R.Offset.limit self.new) }
         ensures encoding { self.new.encoding ≡ self.old.encoding }
         ensures free { result ≢ Err Memory }
     {

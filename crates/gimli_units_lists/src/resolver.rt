@@ -1,17 +1,16 @@
 ghost use Rattle.std.specs.Prelude.{◌≡◌, ◌≢◌, ◌-◌, ◌^◌, IsTrue, IfOk, IfSome, IsOk, unwrap_or, Ok, Err};
-ghost use Rattle.gimli_core_base.specs.Calls.{Answers, Gives};
-ghost use Rattle.gimli_core_base.specs.declared.error.Error.TheVariants.{Memory};
-ghost use Rattle.gimli_core_numbers.specs.Numbers.{is_address_size};
-ghost use Rattle.gimli_units_lists.specs.Entries.{indexed, base_in, range_of, counted, relative, so_long, IsCounted};
-ghost use Rattle.gimli_units_lists.specs.Lists.{from_low_pc};
-ghost use Rattle.gimli_units_lists.specs.Seen.{raw_entry};
+ghost use Rattle.gimli_core_readers.specs.Calls.{Returns, ReturnsOrNoMemory};
+ghost use Rattle.gimli_core_readers.specs.Error.TheVariants.{Memory};
+ghost use Rattle.gimli_core_readers.specs.NumberParsers.{is_address_size};
+ghost use Rattle.gimli_units_lists.specs.ListEntries.{address_of_index, base_in, range_of, valid_range, relative_range, range_of_length, IsValidRange};
+ghost use Rattle.gimli_units_lists.specs.ListSections.{from_low_pc};
+ghost use Rattle.gimli_units_lists.specs.ListEntryViews.{raw_entry};
 
 use crate::range_entry::RawRngListEntry;
-use gimli_core_base::error::Error;
-use gimli_core_constants::{DebugAddrBase, DebugAddrIndex, Encoding};
-use gimli_core_readers::Reader;
-use gimli_core_strings::{DebugAddr, Section};
-use gimli_units_base::{Range, least_tombstone, wrapping_sum};
+use gimli_core_readers::{
+    DebugAddr, DebugAddrBase, DebugAddrIndex, Encoding, Error, Range, Reader, Section,
+    least_tombstone, wrapping_sum,
+};
 use std::marker::Model;
 
 /// What the ranges of a list's entries are made with.
@@ -26,12 +25,20 @@ pub(crate) struct Resolver<R: Reader> {
 
 impl<R: Reader> Model for Resolver<R> {
     ghost use Rattle.std.specs.Prelude.{IsTrue};
-    ghost use Rattle.gimli_core_numbers.specs.Numbers.{is_address_size};
-    ghost use Rattle.gimli_units_lists.specs.Lists.{Resolving};
+    ghost use Rattle.gimli_core_readers.specs.NumberParsers.{is_address_size};
+    ghost use Rattle.gimli_units_lists.specs.ListSections.{Resolution};
 
-    ghost Value = { Resolving };
+    ghost Value = { Resolution };
 
-    ghost view = { λ r. record { setting = record { address_size = r.address_size; addresses = r.debug_addr; addr_base = R.Offset.count r.debug_addr_base.0 }; base = r.base_address } };
+    ghost view = { λ r. record {
+      setting = record {
+        address_size = r.address_size;
+        addresses = r.debug_addr;
+        addr_base = R.Offset.count
+            r.debug_addr_base.0;
+      };
+      base = r.base_address;
+    } };
 
     ghost invariant = { λ r. IsTrue (is_address_size r.address_size) };
 }
@@ -44,8 +51,9 @@ impl<R: Reader> Resolver<R> {
         debug_addr_base: DebugAddrBase<R::Offset>,
     ) -> Result<Self, Error>
         requires { IsTrue (is_address_size encoding.address_size) }
-        ensures value { Gives (λ r. r) result
-            (Ok (from_low_pc encoding base_address (R.Offset.count debug_addr_base.0) debug_addr.now)) }
+        ensures value { ReturnsOrNoMemory result
+            (Ok
+            (from_low_pc encoding base_address (R.Offset.count debug_addr_base.0) debug_addr.now)) }
         ensures free { IsTrue R.copies_freely → IsOk result }
     {
         Ok(Resolver {
@@ -56,22 +64,24 @@ impl<R: Reader> Resolver<R> {
         })
     }
 
-    /// The range of an entry at the base, none where it is passed over. An entry that isn't refused sets its base.
+    /// The range of an entry at the base, none for a base and an invalid range. An entry that isn't
+    /// refused sets its base.
     pub(crate) fn range(
         &mut self,
         entry: RawRngListEntry<R::Offset>,
     ) -> Result<Option<Range>, Error>
-        ensures value { Answers (λ range. range) result
+        ensures value { Returns result
             (range_of self.old.setting self.old.base (raw_entry R.Offset.count entry)) }
         ensures base { self.new.base
             ≡ unwrap_or (base_in self.old.setting (raw_entry R.Offset.count entry)) self.old.base }
         ensures setting { self.new.setting ≡ self.old.setting }
-        ensures counted { IfOk result (λ range. IfSome range (IsCounted self.old.setting.address_size)) }
+        ensures valid { IfOk result
+            (λ range. IfSome range (IsValidRange self.old.setting.address_size)) }
         ensures free { result ≢ Err Memory }
     {
         match entry {
             RawRngListEntry::AddressOrOffsetPair { begin, end }
-            | RawRngListEntry::OffsetPair { begin, end } => Ok(self.relative(begin, end)),
+            | RawRngListEntry::OffsetPair { begin, end } => Ok(self.relative_range(begin, end)),
             RawRngListEntry::BaseAddress { addr } => {
                 self.base_address = addr;
                 Ok(None)
@@ -83,14 +93,16 @@ impl<R: Reader> Resolver<R> {
             RawRngListEntry::StartxEndx { begin, end } => {
                 let begin = self.address(begin)?;
                 let end = self.address(end)?;
-                Ok(self.counted(begin, end))
+                Ok(self.valid_range(begin, end))
             }
             RawRngListEntry::StartxLength { begin, length } => {
                 let begin = self.address(begin)?;
-                Ok(self.so_long(begin, length))
+                Ok(self.range_of_length(begin, length))
             }
-            RawRngListEntry::StartEnd { begin, end } => Ok(self.counted(begin, end)),
-            RawRngListEntry::StartLength { begin, length } => Ok(self.so_long(begin, length)),
+            RawRngListEntry::StartEnd { begin, end } => Ok(self.valid_range(begin, end)),
+            RawRngListEntry::StartLength { begin, length } => {
+                Ok(self.range_of_length(begin, length))
+            }
         }
     }
 
@@ -98,7 +110,7 @@ impl<R: Reader> Resolver<R> {
     #[tactic(auto, using(crate::proofs::Tombstones::zero_below_tombstones))]
     pub(crate) fn everywhere(&self) -> Range
         ensures value { result ≡ record { begin = 0; end = 2 ^ 64 - 1 } }
-        ensures counted { IsCounted self.now.setting.address_size result }
+        ensures valid { IsValidRange self.now.setting.address_size result }
     {
         let _size = self.address_size;
         Range {
@@ -109,7 +121,8 @@ impl<R: Reader> Resolver<R> {
 
     /// The address of an index.
     fn address(&self, index: DebugAddrIndex<R::Offset>) -> Result<u64, Error>
-        ensures value { Answers (λ address. address) result (indexed self.now.setting (R.Offset.count index.0)) }
+        ensures value { Returns result
+            (address_of_index self.now.setting (R.Offset.count index.0)) }
         ensures free { result ≢ Err Memory }
     {
         self.debug_addr
@@ -117,9 +130,9 @@ impl<R: Reader> Resolver<R> {
     }
 
     /// A range, if it begins before it ends and below the tombstones.
-    fn counted(&self, begin: u64, end: u64) -> Option<Range>
-        ensures value { result ≡ counted self.now.setting.address_size begin end }
-        ensures counted { IfSome result (IsCounted self.now.setting.address_size) }
+    fn valid_range(&self, begin: u64, end: u64) -> Option<Range>
+        ensures value { result ≡ valid_range self.now.setting.address_size begin end }
+        ensures valid { IfSome result (IsValidRange self.now.setting.address_size) }
     {
         if begin < end && begin < least_tombstone(self.address_size) {
             Some(Range { begin, end })
@@ -129,24 +142,25 @@ impl<R: Reader> Resolver<R> {
     }
 
     /// A range relative to the base, which may be a tombstone.
-    fn relative(&self, begin: u64, end: u64) -> Option<Range>
-        ensures value { result ≡ relative self.now.setting.address_size self.now.base begin end }
-        ensures counted { IfSome result (IsCounted self.now.setting.address_size) }
+    fn relative_range(&self, begin: u64, end: u64) -> Option<Range>
+        ensures value { result ≡ relative_range self.now.setting.address_size self.now.base
+            begin end }
+        ensures valid { IfSome result (IsValidRange self.now.setting.address_size) }
     {
         if self.base_address >= least_tombstone(self.address_size) {
             return None;
         }
         let begin = wrapping_sum(self.base_address, begin, self.address_size);
         let end = wrapping_sum(self.base_address, end, self.address_size);
-        self.counted(begin, end)
+        self.valid_range(begin, end)
     }
 
     /// A range by its begin and its bytes.
-    fn so_long(&self, begin: u64, length: u64) -> Option<Range>
-        ensures value { result ≡ so_long self.now.setting.address_size begin length }
-        ensures counted { IfSome result (IsCounted self.now.setting.address_size) }
+    fn range_of_length(&self, begin: u64, length: u64) -> Option<Range>
+        ensures value { result ≡ range_of_length self.now.setting.address_size begin length }
+        ensures valid { IfSome result (IsValidRange self.now.setting.address_size) }
     {
         let end = wrapping_sum(begin, length, self.address_size);
-        self.counted(begin, end)
+        self.valid_range(begin, end)
     }
 }

@@ -2,6 +2,9 @@
 mod answers;
 mod fake;
 mod faults;
+mod places;
 mod refusals;
+mod rules;
+mod sections;
 mod tables;
 mod words;

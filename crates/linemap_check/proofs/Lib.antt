@@ -1,6 +1,8 @@
-mod CallLemmas
-mod Lists
+pub use Rattle.linemap_meaning.proofs.SoundUnits
+mod NestedCallLemmas
+mod PartLists
 mod OverlapLemmas
-mod PassLemmas
+mod DirectionLemmas
+mod RangePassLemmas
 mod RuleLemmas
 mod SaturationLemmas

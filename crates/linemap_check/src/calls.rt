@@ -1,10 +1,10 @@
 //! Tests of calls, with those inlined into them at any depth.
 
 ghost use Rattle.std.specs.Prelude.{◌≡◌, Bool, map, nat_lt};
-ghost use Rattle.linemap_check.specs.Spans.{any_inner_outside};
+ghost use Rattle.linemap_check.specs.RangePasses.{any_inner_outside};
 ghost use Rattle.linemap_meaning.specs.Conditions.{any_call, any_call_outside, any_calls_overlap, any_inner_overlap, any_outside, any_overlap, depth, sibling_ranges};
-ghost use Rattle.linemap_meaning.specs.Parts.{Site};
-ghost use Rattle.linemap_meaning.specs.Views.{call_part, calls_part, range_part};
+ghost use Rattle.linemap_meaning.specs.TableParts.{Site};
+ghost use Rattle.linemap_meaning.specs.TableViews.{call_part, calls_part, range_part};
 
 use crate::outside::any_outside;
 use crate::overlaps::any_overlap;
@@ -30,7 +30,7 @@ pub fn any_call<T: CallTest>(test: &T, calls: &[TableCall]) -> bool
     false
 }
 
-/// Whether some call has a range outside what it stands in.
+/// Whether some call has a range outside its parent.
 pub fn any_call_outside(parent: &[TableRange], calls: &[TableCall]) -> bool
     ensures { result ≡ any_call_outside (map range_part parent.now) (calls_part calls.now) }
 {
@@ -38,7 +38,8 @@ pub fn any_call_outside(parent: &[TableRange], calls: &[TableCall]) -> bool
 }
 
 fn any_sibling_outside(parent: &[TableRange], calls: &[TableCall]) -> bool
-    ensures { result ≡ any_outside (map range_part parent.now) (sibling_ranges (calls_part calls.now)) }
+    ensures { result
+        ≡ any_outside (map range_part parent.now) (sibling_ranges (calls_part calls.now)) }
 {
     any_outside(parent, calls)
 }
@@ -54,7 +55,7 @@ fn any_inner_outside(calls: &[TableCall]) -> bool
     false
 }
 
-/// Whether calls that stand side by side overlap.
+/// Whether calls of the same parent overlap.
 pub fn any_calls_overlap(calls: &[TableCall]) -> bool
     ensures { result ≡ any_calls_overlap (calls_part calls.now) }
 {

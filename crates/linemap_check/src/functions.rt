@@ -3,7 +3,7 @@
 ghost use Rattle.std.specs.Prelude.{◌≡◌, ◌||◌, map, nat_le, nat_lt};
 ghost use Rattle.std.specs.List.{list_any};
 ghost use Rattle.linemap_meaning.specs.Conditions.{any_call, any_call_outside, any_calls_overlap, depth, is_bad_number, is_bad_text};
-ghost use Rattle.linemap_meaning.specs.Views.{function_part};
+ghost use Rattle.linemap_meaning.specs.TableViews.{function_part};
 
 use crate::calls::{CallTest, any_call, any_call_outside, any_calls_overlap, is_deeper};
 use crate::sequences::is_bad_number;

@@ -1,4 +1,5 @@
-//! Whether the units of a table break a rule, and which is the lowest, and how large their image may grow. Nothing here takes memory.
+//! Whether the units of a table break a rule, and which is the lowest, and how large their image
+//! may grow. Nothing here takes memory.
 #![tactic(auto)]
 
 mod calls;
@@ -12,3 +13,9 @@ mod spanned;
 mod texts;
 mod units;
 pub mod weight;
+
+pub use linemap_meaning::address::read_address;
+pub use linemap_meaning::rule::Rule;
+pub use linemap_meaning::table::{
+    TableCall, TableFile, TableFunction, TableRange, TableRow, TableSequence, TableUnit,
+};

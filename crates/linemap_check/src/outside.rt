@@ -1,10 +1,11 @@
-//! Whether ranges lie in those of what they stand in. The search for each begins at the place that held the one before it, so that it takes one
-//! pass where both stand in the same order.
+//! Whether ranges lie in those of their parent. The search for each begins at the place that
+//! held the one before it and goes both ways, so that all take one pass where the parent's ranges
+//! are in the same order or in the opposite one.
 
-ghost use Rattle.std.specs.Prelude.{◌≡◌, drop, flat_map, is_some, map, not};
+ghost use Rattle.std.specs.Prelude.{◌≡◌, drop, flat_map, is_some, map, not, true, OnSome};
 ghost use Rattle.std.specs.List.{list_any};
 ghost use Rattle.linemap_meaning.specs.Conditions.{any_outside, is_within};
-ghost use Rattle.linemap_meaning.specs.Views.{range_part};
+ghost use Rattle.linemap_meaning.specs.TableViews.{range_part};
 
 use crate::ranges::is_within;
 use crate::spanned::Spanned;
@@ -24,7 +25,8 @@ pub fn any_outside<T: Spanned>(parent: &[TableRange], items: &[T]) -> bool
     false
 }
 
-/// The place of the parent's range that holds the item's last, where each of the item's ranges is held.
+// The place of the parent's range that holds the item's last, where each of the item's ranges is
+/// held.
 fn last_place<T: Spanned>(parent: &[TableRange], place: usize, item: &T) -> Option<usize>
     ensures { is_some result ≡ not (any_outside (map range_part parent.now) (T.ranges item.now)) }
 {
@@ -40,18 +42,50 @@ fn last_place<T: Spanned>(parent: &[TableRange], place: usize, item: &T) -> Opti
     Some(place)
 }
 
-/// The place of a range of the parent that holds the range, sought from `place` on and then from the start.
+// The place of a range of the parent that holds the range, sought from `place` on both ways.
 fn place_of(parent: &[TableRange], place: usize, range: &TableRange) -> Option<usize>
-    ensures { is_some result ≡ list_any (is_within (range_part range.now)) (map range_part parent.now) }
+    ensures { is_some result
+        ≡ list_any (is_within (range_part range.now)) (map range_part parent.now) }
 {
-    match place_from(parent, place, range) {
-        Some(found) => Some(found),
+    match place_near(parent, place, range) {
+        Some(near) => Some(near),
         None => place_from(parent, 0, range),
     }
 }
 
+// The same, where there is one within as many places as the parent has ranges.
+fn place_near(parent: &[TableRange], place: usize, range: &TableRange) -> Option<usize>
+    ensures { OnSome result
+        (list_any (is_within (range_part range.now)) (map range_part parent.now) ≡ true) }
+{
+    for distance in 0..parent.len() {
+        let later = place.saturating_add(distance);
+        if is_held(parent, later, range) {
+            return Some(later);
+        }
+        let earlier = place.saturating_sub(distance);
+        if is_held(parent, earlier, range) {
+            return Some(earlier);
+        }
+    }
+    None
+}
+
+// Whether the parent's range at a place holds the range.
+fn is_held(parent: &[TableRange], place: usize, range: &TableRange) -> bool
+    ensures { result ≡ true
+        → list_any (is_within (range_part range.now)) (map range_part parent.now) ≡ true }
+{
+    match parent.get(place) {
+        Some(holder) => is_within(range, holder),
+        None => false,
+    }
+}
+
+// The place of the first such range from `place` on.
 fn place_from(parent: &[TableRange], place: usize, range: &TableRange) -> Option<usize>
-    ensures { is_some result ≡ list_any (is_within (range_part range.now)) (map range_part (drop place parent.now)) }
+    ensures { is_some result
+        ≡ list_any (is_within (range_part range.now)) (map range_part (drop place parent.now)) }
 {
     for i in place..parent.len() {
         if is_within(range, &parent[i]) {

@@ -1,31 +1,49 @@
-//! Whether ranges overlap: in one pass or two over them where their begins ascend, else by trying each pair.
+//! Whether ranges overlap: in a pass or two over them where they ascend or descend, else by trying
+//! each pair.
 
-ghost use Rattle.std.specs.Prelude.{◌≡◌, drop, flat_map, false, true, not, option_map, IsTrue};
+ghost use Rattle.std.specs.Prelude.{◌≡◌, ◌<◌, drop, flat_map, false, get_or, length, true, not, option_map, IsTrue};
 ghost use Rattle.std.specs.List.{list_any};
-ghost use Rattle.linemap_check.specs.Spans.{any_meets, is_ascending, last_unmet, ordered_end};
+ghost use Rattle.linemap_check.specs.RangePasses.{any_meets, in_direction, is_ascending, last_unmet, ordered_end};
 ghost use Rattle.linemap_meaning.specs.Conditions.{any_overlap, overlap};
-ghost use Rattle.linemap_meaning.specs.Views.{range_part};
+ghost use Rattle.linemap_meaning.specs.TableViews.{range_part};
 
 use crate::ranges::overlap;
 use crate::spanned::Spanned;
 use linemap_meaning::table::TableRange;
 
-/// Whether two of the items' ranges overlap. Linear where the ranges ascend, overlap or not (neighbours suffice then);
-/// where they don't, it may take the square of their number.
+/// Whether two of the items' ranges overlap. Linear where the ranges ascend, from the first item on
+/// or from the last, overlap or not (neighbours suffice then); else it may take the square of their
+/// number.
 pub fn any_overlap<T: Spanned>(items: &[T]) -> bool
     ensures { result ≡ any_overlap (flat_map T.ranges items.now) }
 {
-    !is_ordered(items) && (any_meets_last(items) || any_pair_overlaps(items))
+    if is_ordered(items, false) || is_ordered(items, true) {
+        return false;
+    }
+    any_meets_last(items, false) || any_meets_last(items, true) || any_pair_overlaps(items)
 }
 
-/// Whether each range begins at or past the ends of those before it.
-fn is_ordered<T: Spanned>(items: &[T]) -> bool
+// The item at an index, counted from the last one where it goes backwards.
+fn item_at<T: Spanned>(items: &[T], index: usize, backwards: bool) -> &T
+    requires { index < length items.now }
+    ensures { result.now ≡ get_or (in_direction backwards items.now) index result.now }
+{
+    if backwards {
+        &items[items.len() - 1 - index]
+    } else {
+        &items[index]
+    }
+}
+
+// Whether each range begins at or past the ends of those before it, in a direction.
+fn is_ordered<T: Spanned>(items: &[T], backwards: bool) -> bool
     ensures apart { IsTrue result → any_overlap (flat_map T.ranges items.now) ≡ false }
-    ensures ascending { IsTrue (is_ascending (flat_map T.ranges items.now)) → result ≡ not (any_overlap (flat_map T.ranges items.now)) }
+    ensures ascending { IsTrue (is_ascending (flat_map T.ranges (in_direction backwards items.now)))
+        → result ≡ not (any_overlap (flat_map T.ranges items.now)) }
 {
     let mut end = 0;
-    for item in items {
-        match end_after(end, item) {
+    for i in 0..items.len() {
+        match end_after(end, item_at(items, i, backwards)) {
             Some(next) => end = next,
             None => return false,
         }
@@ -33,7 +51,7 @@ fn is_ordered<T: Spanned>(items: &[T]) -> bool
     true
 }
 
-/// The greatest end so far, with the item's ranges, where they are in order.
+// The greatest end so far, with the item's ranges, where they are in order.
 fn end_after<T: Spanned>(end: u64, item: &T) -> Option<u64>
     ensures { result ≡ ordered_end end (T.ranges item.now) }
 {
@@ -49,14 +67,16 @@ fn end_after<T: Spanned>(end: u64, item: &T) -> Option<u64>
     Some(greatest)
 }
 
-/// Whether a range overlaps the one that ends last of those before it. Ranges that ascend and overlap have such a one.
-fn any_meets_last<T: Spanned>(items: &[T]) -> bool
+// Whether a range overlaps the one that ends last of those before it, in a direction. Ranges that
+// ascend in it and overlap have such a one.
+fn any_meets_last<T: Spanned>(items: &[T], backwards: bool) -> bool
     ensures found { IsTrue result → any_overlap (flat_map T.ranges items.now) ≡ true }
-    ensures ascending { IsTrue (is_ascending (flat_map T.ranges items.now)) → result ≡ any_overlap (flat_map T.ranges items.now) }
+    ensures ascending { IsTrue (is_ascending (flat_map T.ranges (in_direction backwards items.now)))
+        → result ≡ any_overlap (flat_map T.ranges items.now) }
 {
     let mut last = TableRange { begin: 0, end: 0 };
-    for item in items {
-        match last_after(last, item) {
+    for i in 0..items.len() {
+        match last_after(last, item_at(items, i, backwards)) {
             Some(next) => last = next,
             None => return true,
         }
@@ -64,7 +84,8 @@ fn any_meets_last<T: Spanned>(items: &[T]) -> bool
     false
 }
 
-/// The one that ends last of a range and the item's, where none of these overlaps the last of those before it.
+// The one that ends last of a range and the item's, where none of these overlaps the last of those
+/// before it.
 fn last_after<T: Spanned>(last: TableRange, item: &T) -> Option<TableRange>
     ensures { option_map range_part result ≡ last_unmet (range_part last) (T.ranges item.now) }
 {
@@ -82,9 +103,10 @@ fn last_after<T: Spanned>(last: TableRange, item: &T) -> Option<TableRange>
     Some(latest)
 }
 
-/// Whether some pair overlaps, each tried: for ranges that don't ascend.
+// Whether some pair overlaps, each tried: for ranges that ascend in no direction.
 fn any_pair_overlaps<T: Spanned>(items: &[T]) -> bool
-    requires { is_ascending (flat_map T.ranges items.now) ≡ false }
+    requires forwards { is_ascending (flat_map T.ranges (in_direction false items.now)) ≡ false }
+    requires backwards { is_ascending (flat_map T.ranges (in_direction true items.now)) ≡ false }
     ensures { result ≡ any_overlap (flat_map T.ranges items.now) }
 {
     for (i, item) in items.iter().enumerate() {
@@ -95,7 +117,7 @@ fn any_pair_overlaps<T: Spanned>(items: &[T]) -> bool
     false
 }
 
-/// Whether a range of the item overlaps a later one of it, or one of the later items.
+// Whether a range of the item overlaps a later one of it, or one of the later items.
 fn any_meets<T: Spanned>(item: &T, later: &[T]) -> bool
     ensures { result ≡ any_meets (T.ranges item.now) (flat_map T.ranges later.now) }
 {
@@ -120,7 +142,7 @@ fn meets_any<T: Spanned>(range: &TableRange, items: &[T]) -> bool
     false
 }
 
-/// Whether the range overlaps one of the item's from a place on.
+// Whether the range overlaps one of the item's from a place on.
 fn meets<T: Spanned>(range: &TableRange, item: &T, from: usize) -> bool
     ensures { result ≡ list_any (overlap (range_part range.now)) (drop from (T.ranges item.now)) }
 {

@@ -3,7 +3,7 @@
 ghost use Rattle.std.specs.Prelude.{◌≡◌, map};
 ghost use Rattle.std.specs.List.{list_any};
 ghost use Rattle.linemap_meaning.specs.Conditions.{is_empty_range, is_out_of_bounds, is_within, overlap, range_out_of_bounds};
-ghost use Rattle.linemap_meaning.specs.Views.{range_part};
+ghost use Rattle.linemap_meaning.specs.TableViews.{range_part};
 
 use linemap_meaning::table::TableRange;
 

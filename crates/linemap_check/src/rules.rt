@@ -1,16 +1,16 @@
 //! The lowest rule that a table's units break.
 
 ghost use Rattle.std.specs.Prelude.{◌≡◌, find, map};
-ghost use Rattle.linemap_check.specs.Rules.{unit_breaks};
+ghost use Rattle.linemap_check.specs.UnitRules.{unit_breaks};
 ghost use Rattle.linemap_meaning.specs.Conditions.{breaks, first_broken};
-ghost use Rattle.linemap_meaning.specs.Views.{unit_part};
+ghost use Rattle.linemap_meaning.specs.TableViews.{unit_part};
 
 use crate::functions::{has_call_outside, has_calls_overlap, has_deep_calls};
 use crate::overlaps::any_overlap;
 use crate::sequences::any_bad_rows;
 use crate::units;
 use crate::units::{EmptyRange, NoRange, any_ranges};
-use addr2line_paths::is_rooted;
+use linemap_meaning::is_rooted;
 use linemap_meaning::rule::Rule;
 use linemap_meaning::table::TableUnit;
 
@@ -34,7 +34,8 @@ const RULES: [Rule; 16] = [
     Rule::Nesting,
 ];
 
-/// The lowest rule that the units break. It takes no memory, and one pass for each rule over units whose ranges stand in ascending order.
+/// The lowest rule that the units break. It takes no memory, and one pass for each rule over units
+/// whose ranges ascend.
 pub fn first_broken(units: &[TableUnit]) -> Option<Rule>
     ensures { result ≡ first_broken (map unit_part units.now) }
 {

@@ -3,7 +3,7 @@
 ghost use Rattle.std.specs.Prelude.{◌≡◌, ◌||◌, length, map, nat_le};
 ghost use Rattle.std.specs.List.{list_any};
 ghost use Rattle.linemap_meaning.specs.Conditions.{goes_back, has_bad_rows, is_bad_number, is_out_of_bounds, sequence_out_of_bounds};
-ghost use Rattle.linemap_meaning.specs.Views.{row_part, sequence_part};
+ghost use Rattle.linemap_meaning.specs.TableViews.{row_part, sequence_part};
 
 use crate::ranges::is_out_of_bounds;
 use linemap_meaning::table::{TableRow, TableSequence};

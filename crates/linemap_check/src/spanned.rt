@@ -2,8 +2,8 @@
 
 ghost use Rattle.std.specs.Prelude.{◌≡◌, ◌+◌, ◌^◌, ◌<◌, List, [], ◌∷◌, drop, map, IfNone, IfSome, OnSome};
 ghost use Rattle.linemap_meaning.specs.Conditions.{span};
-ghost use Rattle.linemap_meaning.specs.Parts.{RangePart};
-ghost use Rattle.linemap_meaning.specs.Views.{range_part, sequence_part};
+ghost use Rattle.linemap_meaning.specs.TableParts.{RangePart};
+ghost use Rattle.linemap_meaning.specs.TableViews.{range_part, sequence_part};
 
 use linemap_meaning::table::{TableCall, TableFunction, TableRange, TableSequence, TableUnit};
 
@@ -13,7 +13,8 @@ pub trait Spanned {
 
     /// The range at a place in that order.
     fn range_at(&self, index: usize) -> Option<TableRange>
-        ensures found { IfSome result (λ range. drop index (ranges self.now) ≡ range_part range ∷ drop (index + 1) (ranges self.now)) }
+        ensures found { IfSome result (λ range. drop index (ranges self.now)
+            ≡ range_part range ∷ drop (index + 1) (ranges self.now)) }
         ensures none { IfNone result (drop index (ranges self.now) ≡ []) }
         ensures small { OnSome result (index + 1 < 2 ^ 64) };
 }

@@ -3,7 +3,7 @@
 ghost use Rattle.std.specs.Prelude.{◌≡◌, ◌||◌, map};
 ghost use Rattle.std.specs.List.{list_any};
 ghost use Rattle.linemap_meaning.specs.Conditions.{is_bad_text};
-ghost use Rattle.linemap_meaning.specs.Views.{file_part};
+ghost use Rattle.linemap_meaning.specs.TableViews.{file_part};
 
 use linemap_meaning::table::TableFile;
 

@@ -3,8 +3,8 @@
 ghost use Rattle.std.specs.Prelude.{◌≡◌, ◌||◌, List, Bool, length, map};
 ghost use Rattle.std.specs.List.{list_any};
 ghost use Rattle.linemap_meaning.specs.Conditions.{any_call, any_ranges, has_bad_file_number, has_bad_line_or_column, has_bad_text, has_function_outside, has_functions_overlap, has_out_of_bounds, has_sequence_outside, has_sequences_overlap};
-ghost use Rattle.linemap_meaning.specs.Parts.{RangePart};
-ghost use Rattle.linemap_meaning.specs.Views.{function_part, range_part, unit_part};
+ghost use Rattle.linemap_meaning.specs.TableParts.{RangePart};
+ghost use Rattle.linemap_meaning.specs.TableViews.{function_part, range_part, unit_part};
 
 use crate::calls::{CallTest, any_call};
 use crate::functions::any_bad_name;

@@ -1,15 +1,15 @@
 //! The weight of a table: how large its image may grow, as far as a `u64` goes.
 
 ghost use Rattle.std.specs.Prelude.{◌≡◌, ◌*◌, ℕ, length, map, sum_by};
-ghost use Rattle.linemap_check.specs.Saturation.{own_weight, saturated};
-ghost use Rattle.linemap_meaning.specs.Views.{calls_part, file_part, function_part, sequence_part, unit_part};
-ghost use Rattle.linemap_meaning.specs.Weight.{calls_weight, file_weight, function_weight, sequence_weight, table_weight, text_weight, unit_weight};
+ghost use Rattle.linemap_check.specs.SaturatedWeight.{own_weight, saturate};
+ghost use Rattle.linemap_meaning.specs.TableViews.{calls_part, file_part, function_part, sequence_part, unit_part};
+ghost use Rattle.linemap_meaning.specs.TableWeight.{calls_weight, file_weight, function_weight, sequence_weight, table_weight, text_weight, unit_weight};
 
 use linemap_meaning::table::{TableCall, TableFile, TableFunction, TableSequence, TableUnit};
 
 /// The weight of units.
 pub fn weight(units: &[TableUnit]) -> u64
-    ensures { result ≡ saturated (table_weight (map unit_part units.now)) }
+    ensures { result ≡ saturate (table_weight (map unit_part units.now)) }
 {
     total(units).saturating_add(8192)
 }
@@ -19,11 +19,11 @@ trait Weighed {
     ghost weight: { Self → ℕ };
 
     fn weight(&self) -> u64
-        ensures { result ≡ saturated (weight self.now) };
+        ensures { result ≡ saturate (weight self.now) };
 }
 
 fn total<T: Weighed>(items: &[T]) -> u64
-    ensures { result ≡ saturated (sum_by T.weight items.now) }
+    ensures { result ≡ saturate (sum_by T.weight items.now) }
 {
     let mut sum = 0u64;
     for item in items {
@@ -33,13 +33,13 @@ fn total<T: Weighed>(items: &[T]) -> u64
 }
 
 fn text_weight(text: &str) -> u64
-    ensures { result ≡ saturated (text_weight text.now) }
+    ensures { result ≡ saturate (text_weight text.now) }
 {
     times(4, text.len())
 }
 
 fn times(weight: u64, count: usize) -> u64
-    ensures { result ≡ saturated (weight * count) }
+    ensures { result ≡ saturate (weight * count) }
 {
     weight.saturating_mul(count as u64)
 }
@@ -57,7 +57,7 @@ impl Weighed for TableUnit {
 
 /// The weight of a unit without its files, functions and sequences.
 fn own_weight(unit: &TableUnit) -> u64
-    ensures { result ≡ saturated (own_weight (unit_part unit.now)) }
+    ensures { result ≡ saturate (own_weight (unit_part unit.now)) }
 {
     1024u64
         .saturating_add(times(64, unit.ranges.len()))
@@ -66,19 +66,19 @@ fn own_weight(unit: &TableUnit) -> u64
 }
 
 fn files_weight(files: &[TableFile]) -> u64
-    ensures { result ≡ saturated (sum_by file_weight (map file_part files.now)) }
+    ensures { result ≡ saturate (sum_by file_weight (map file_part files.now)) }
 {
     total(files)
 }
 
 fn functions_weight(functions: &[TableFunction]) -> u64
-    ensures { result ≡ saturated (sum_by function_weight (map function_part functions.now)) }
+    ensures { result ≡ saturate (sum_by function_weight (map function_part functions.now)) }
 {
     total(functions)
 }
 
 fn sequences_weight(sequences: &[TableSequence]) -> u64
-    ensures { result ≡ saturated (sum_by sequence_weight (map sequence_part sequences.now)) }
+    ensures { result ≡ saturate (sum_by sequence_weight (map sequence_part sequences.now)) }
 {
     total(sequences)
 }
@@ -113,7 +113,7 @@ impl Weighed for TableSequence {
 }
 
 fn calls_weight(calls: &[TableCall]) -> u64
-    ensures { result ≡ saturated (calls_weight (calls_part calls.now)) }
+    ensures { result ≡ saturate (calls_weight (calls_part calls.now)) }
 {
     let mut sum = 0u64;
     for call in calls {

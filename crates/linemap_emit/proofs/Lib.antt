@@ -1,5 +1,5 @@
-pub mod Answers
-pub mod Lines
-pub mod Served
-pub mod Steps
-pub mod Units
+pub mod SectionAnswerLemmas
+pub mod InstructionBytes
+pub mod ServedEncodings
+pub mod TableEmitterLemmas
+pub mod UnitTextLemmas

@@ -14,11 +14,11 @@ pub enum EmitError {
 
 impl EmitError {
     ghost use Rattle.std.specs.Prelude.{◌≡◌};
-    ghost use Rattle.linemap_emit.specs.Refusals.{code_of};
+    ghost use Rattle.linemap_emit.specs.EmitErrorCodes.{emit_error_code};
 
     /// The letter and number that are printed.
     pub fn code(self) -> &'static str
-        ensures { result.now ≡ code_of self }
+        ensures { result.now ≡ emit_error_code self }
     {
         match self {
             EmitError::Memory => "M1",
@@ -29,9 +29,9 @@ impl EmitError {
 
 impl fmt::Display for EmitError {
     ghost use Rattle.std.specs.Prelude.{Some};
-    ghost use Rattle.linemap_emit.specs.Refusals.{code_of};
+    ghost use Rattle.linemap_emit.specs.EmitErrorCodes.{emit_error_code};
 
-    ghost output = { λ e. Some (code_of e) };
+    ghost output = { λ e. Some (emit_error_code e) };
 
     fn fmt<W: fmt::Write>(&self, f: &mut fmt::Formatter<W>) -> fmt::Result {
         f.write_str(self.code())

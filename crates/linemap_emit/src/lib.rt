@@ -1,16 +1,18 @@
 //! The sections of a table: what its units say, as debug information.
 #![tactic(auto)]
 
-mod emission;
 mod error;
 mod sections;
-mod tables;
+mod table_emitter;
+mod table_sections;
 mod target;
 
 pub use error::EmitError;
+pub use linemap_table::error::TableError;
+pub use linemap_table::{
+    Rule, Table, TableCall, TableFile, TableFunction, TableRange, TableRow, TableSequence,
+    TableUnit, read_address,
+};
 pub use sections::Sections;
-pub use tables::emit_sections;
+pub use table_sections::emit_sections;
 pub use target::Target;
-
-#[cfg(test)]
-mod tests;

@@ -2,7 +2,7 @@
 
 ghost use Rattle.std.specs.Prelude.{◌≡◌};
 
-use gimli_core_constants::SectionId;
+use linemap_emit_fits::SectionId;
 use std::marker::Model;
 
 /// The bytes of the sections that are emitted, in memory.
@@ -16,15 +16,21 @@ pub struct Sections {
 }
 
 impl Model for Sections {
-    ghost use Rattle.linemap_emit_tables.specs.Sections.{SectionBytes};
+    ghost use Rattle.linemap_emit_fits.specs.EmittedSections.{SectionBytes};
 
     ghost Value = { SectionBytes };
 
-    ghost view = { λ s. record { debug_abbrev = s.debug_abbrev.items; debug_info = s.debug_info.items; debug_line = s.debug_line.items; debug_ranges = s.debug_ranges.items; debug_str = s.debug_str.items } };
+    ghost view = { λ s. record {
+      debug_abbrev = s.debug_abbrev.items;
+      debug_info = s.debug_info.items;
+      debug_line = s.debug_line.items;
+      debug_ranges = s.debug_ranges.items;
+      debug_str = s.debug_str.items;
+    } };
 }
 
 impl Sections {
-    ghost use Rattle.linemap_emit.specs.Sections.{bytes_of};
+    ghost use Rattle.linemap_emit.specs.SectionBytesById.{bytes_of};
 
     // The sections of these bytes.
     pub(crate) fn new(
@@ -34,7 +40,14 @@ impl Sections {
         debug_ranges: Vec<u8>,
         debug_str: Vec<u8>,
     ) -> Self
-        ensures { result ≡ record { debug_abbrev = debug_abbrev.items; debug_info = debug_info.items; debug_line = debug_line.items; debug_ranges = debug_ranges.items; debug_str = debug_str.items } }
+        ensures { result
+            ≡ record {
+              debug_abbrev = debug_abbrev.items;
+              debug_info = debug_info.items;
+              debug_line = debug_line.items;
+              debug_ranges = debug_ranges.items;
+              debug_str = debug_str.items;
+            } }
     {
         Sections {
             debug_abbrev,
@@ -45,7 +58,7 @@ impl Sections {
         }
     }
 
-    /// The bytes of a section, lent: none where nothing is emitted into it.
+    /// The bytes of a section, borrowed: none where nothing is emitted into it.
     pub fn get(&self, id: SectionId) -> &[u8]
         ensures { result.now ≡ bytes_of id self.now }
     {

@@ -1,7 +1,12 @@
-//! Line number programs that say what a table's unit says.
+//! A table's rows as a line program is built of them; a reader sees these rows again.
 #![tactic(auto)]
 
-pub mod header;
-pub mod laws;
+pub mod program_laws;
+pub mod programs;
+pub mod row_entries;
+pub mod row_laws;
 
-pub use header::write_program;
+pub use linemap_emit_parts::{Entry, write_declarations, write_ranges, write_unit};
+pub use linemap_places_laws::{TableCall, TableFunction, TableRange, TableUnit};
+pub use programs::write_program;
+pub use row_entries::entries_of;

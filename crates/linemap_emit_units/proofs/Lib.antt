@@ -1,2 +1,25 @@
-pub mod Facts
-pub mod Context
+pub use Rattle.gimli_lines_write_tables.proofs.Listings
+pub use Rattle.gimli_lines_write_tables.proofs.NumberRoundTrip
+pub use Rattle.gimli_lines_write_tables.proofs.EntryDecoding
+pub use Rattle.gimli_lines_write_tables.proofs.FewInstructions
+pub use Rattle.gimli_lines_write_tables.proofs.SectionTexts
+pub use Rattle.gimli_lines_write_tables.proofs.TextTableLemmas
+pub use Rattle.linemap_emit_programs.proofs.ArangeSetLemmas
+pub use Rattle.linemap_emit_programs.proofs.TilingLemmas
+pub use Rattle.linemap_emit_programs.proofs.DeclarationsRead
+pub use Rattle.linemap_emit_programs.proofs.EmittedHeadersRead
+pub use Rattle.linemap_emit_programs.proofs.EmittedRangesRead
+pub use Rattle.linemap_emit_programs.proofs.EntryRowsRead
+pub use Rattle.linemap_emit_programs.proofs.FollowedReads
+pub use Rattle.linemap_emit_programs.proofs.UnitsRead
+pub use Rattle.linemap_emit_programs.proofs.EmittedFileTexts
+pub use Rattle.linemap_emit_programs.proofs.EmittedProgramLines
+pub use Rattle.linemap_emit_programs.proofs.EmittedProgramRows
+pub use Rattle.linemap_emit_programs.proofs.EmittedRowsBuilt
+pub use Rattle.linemap_emit_programs.proofs.EmittedRowsShown
+pub use Rattle.linemap_emit_programs.proofs.SoundSequenceLemmas
+pub use Rattle.linemap_emit_programs.proofs.SoundUnits
+pub use Rattle.linemap_emit_programs.proofs.TableLocations
+pub mod EmittedTextLemmas
+pub mod EmittedCallLemmas
+mod WorkedEmission

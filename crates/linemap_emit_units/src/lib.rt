@@ -1,4 +1,11 @@
-//! Sections that say what a table says: the context over them answers what the table means.
+//! The units of a table as they are emitted, and when a table fits.
 #![tactic(auto)]
 
-pub mod laws;
+pub mod unit_emitter;
+
+pub use gimli_lines_write_tables::{
+    Encoding, EndianVec, Error, Format, LineEncoding, LineRules, RunTimeEndian, SectionId, Writer,
+    write_entries,
+};
+pub use linemap_emit_programs::{entries_of, write_declarations, write_program, write_unit};
+pub use unit_emitter::UnitEmitter;

@@ -1,13 +1,14 @@
-pub mod Chains
-pub mod Files
-pub mod Fits
-pub mod Frames
+pub use Rattle.addr2line_paths.proofs.FilePathLemmas
+pub mod TableCallChains
+pub mod LocationFiles
+pub mod SoundFits
+pub mod FrameLemmas
 pub mod Hexadecimal
-pub mod Holders
-pub mod Orders
-pub mod Ranges
-pub mod Sound
-pub mod Stretches
+pub mod TableRangeHolders
+pub mod StretchOrder
+pub mod TableRangeLemmas
+pub mod SoundUnits
+pub mod SequenceStretches
 pub mod TableStretches
-pub mod ViewLemmas
-mod Worked
+pub mod TableViewLemmas
+mod WorkedTables

@@ -1,8 +1,8 @@
 -- The conditions of a table, each as the test that finds it broken, over units of any shape.
 use Rattle.std.specs.Prelude.{◌≡◌, ℕ, ◌+◌, ◌-◌, ◌^◌, max, Bool, false, not, ◌&&◌, ◌||◌, ◌==◌, nat_lt, nat_le, List, [], ◌∷◌, ◌++◌, length, flat_map, find, Option, None, if◌then◌else◌}
 use Rattle.std.specs.List.{list_any}
-use Rattle.linemap_meaning.specs.Parts.{RangePart, RowPart, SequencePart, Site, Calls, no_calls, more_calls, UnitPart}
-use Rattle.addr2line_paths.specs.Paths.{is_rooted}
+use Rattle.linemap_meaning.specs.TableParts.{RangePart, RowPart, SequencePart, Site, Calls, no_calls, more_calls, UnitPart}
+use Rattle.addr2line_paths.specs.FilePaths.{is_rooted}
 use Rattle.linemap_meaning.specs.declared.rule.Rule.{Rule}
 use Rattle.linemap_meaning.specs.declared.rule.Rule.TheVariants.{EmptyRange, Bounds, NoRange, UnitsOverlap, FunctionOutside, FunctionsOverlap, CallOutside, CallsOverlap, SequenceOutside, SequencesOverlap, Rows, LineOrColumn, FileNumber, Text, NotRooted, Nesting}
 
@@ -34,18 +34,21 @@ any_outside parent rs = list_any (is_outside parent) rs
 -- some call, of a list or inlined into one of it at any depth, passes the test
 abbrev pub any_call : (Site → Bool) → Calls → Bool
 any_call test no_calls = false
-any_call test (more_calls site inner others) = test site || any_call test inner || any_call test others
+any_call test (more_calls site inner others) =
+    test site || any_call test inner || any_call test others
 
 -- the ranges of the calls of a list, without those inlined into them
 abbrev pub sibling_ranges : Calls → List RangePart
 sibling_ranges no_calls = []
 sibling_ranges (more_calls site inner others) = site.ranges ++ sibling_ranges others
 
--- some call has a range outside what it stands in: the parent's ranges at the top, its caller's below
+-- some call has a range outside its parent's: the given ranges at the top, its caller's
+-- below
 abbrev pub any_call_outside : List RangePart → Calls → Bool
 any_call_outside parent no_calls = false
 any_call_outside parent (more_calls site inner others) =
-    any_outside parent site.ranges || any_call_outside site.ranges inner || any_call_outside parent others
+    any_outside parent site.ranges || any_call_outside site.ranges inner
+    || any_call_outside parent others
 
 -- the calls inlined into some call of a list, at any depth, overlap
 abbrev pub any_inner_overlap : Calls → Bool
@@ -53,7 +56,7 @@ any_inner_overlap no_calls = false
 any_inner_overlap (more_calls site inner others) =
     any_overlap (sibling_ranges inner) || any_inner_overlap inner || any_inner_overlap others
 
--- calls that stand side by side overlap, at the top or at any depth
+-- calls of the same parent overlap, at the top or at any depth
 abbrev pub any_calls_overlap : Calls → Bool
 any_calls_overlap cs = any_overlap (sibling_ranges cs) || any_inner_overlap cs
 
@@ -64,10 +67,12 @@ depth (more_calls site inner others) = max (depth inner + 1) (depth others)
 
 -- ---- sequences
 
--- the addresses of a sequence, from its first row to its end, where it has rows and the first is below the end
+-- the addresses of a sequence, from its first row to its end, where it has rows and the first is
+-- below the end
 abbrev pub extent : List RowPart → ℕ → List RangePart
 extent [] end = []
-extent (r ∷ rs) end = if nat_lt r.address end then record { begin = r.address; end = end } ∷ [] else []
+extent (r ∷ rs) end =
+    if nat_lt r.address end then record { begin = r.address; end = end } ∷ [] else []
 
 abbrev pub span : SequencePart → List RangePart
 span s = extent s.rows s.end
@@ -87,7 +92,9 @@ goes_back rs = goes_back_from 0 rs
 
 -- the ranges of the unit, of a function of it or of a call in one pass the test
 abbrev pub any_ranges : (List RangePart → Bool) → UnitPart → Bool
-any_ranges test u = test u.ranges || list_any (λ f. test f.ranges || any_call (λ s. test s.ranges) f.calls) u.functions
+any_ranges test u =
+    test u.ranges || list_any (λ f. test f.ranges || any_call (λ s. test s.ranges) f.calls)
+    u.functions
 
 abbrev pub is_empty_range : RangePart → Bool
 is_empty_range r = nat_le r.end r.begin
@@ -102,10 +109,12 @@ abbrev pub range_out_of_bounds : RangePart → Bool
 range_out_of_bounds r = is_out_of_bounds r.begin || is_out_of_bounds r.end
 
 abbrev pub sequence_out_of_bounds : SequencePart → Bool
-sequence_out_of_bounds s = list_any (λ r. is_out_of_bounds r.address) s.rows || is_out_of_bounds s.end
+sequence_out_of_bounds s =
+    list_any (λ r. is_out_of_bounds r.address) s.rows || is_out_of_bounds s.end
 
 abbrev pub has_out_of_bounds : UnitPart → Bool
-has_out_of_bounds u = any_ranges (list_any range_out_of_bounds) u || list_any sequence_out_of_bounds u.sequences
+has_out_of_bounds u =
+    any_ranges (list_any range_out_of_bounds) u || list_any sequence_out_of_bounds u.sequences
 
 abbrev pub has_no_range : UnitPart → Bool
 has_no_range u = any_ranges (λ rs. length rs == 0) u
@@ -130,7 +139,8 @@ has_sequences_overlap u = any_overlap (spans u)
 
 -- a sequence without rows, with rows that go back, or with one that is not below its end
 abbrev pub has_bad_rows : SequencePart → Bool
-has_bad_rows s = (length s.rows == 0) || goes_back s.rows || list_any (λ r. nat_le s.end r.address) s.rows
+has_bad_rows s =
+    (length s.rows == 0) || goes_back s.rows || list_any (λ r. nat_le s.end r.address) s.rows
 
 abbrev pub has_sequence_with_bad_rows : UnitPart → Bool
 has_sequence_with_bad_rows u = list_any has_bad_rows u.sequences
@@ -141,8 +151,10 @@ is_bad_number n = nat_lt n 1 || nat_lt (2 ^ 32 - 1) n
 -- some row or call has a line or column that is not within 1 to 2^32 - 1
 abbrev pub has_bad_line_or_column : UnitPart → Bool
 has_bad_line_or_column u =
-    list_any (λ s. list_any (λ r. is_bad_number r.line || is_bad_number r.column) s.rows) u.sequences
-    || list_any (λ f. any_call (λ c. is_bad_number c.line || is_bad_number c.column) f.calls) u.functions
+    list_any (λ s. list_any (λ r. is_bad_number r.line || is_bad_number r.column) s.rows)
+    u.sequences
+    || list_any (λ f. any_call (λ c. is_bad_number c.line || is_bad_number c.column) f.calls)
+    u.functions
 
 -- some row or call names a file past the unit's files
 abbrev pub has_bad_file_number : UnitPart → Bool
@@ -154,7 +166,8 @@ has_bad_file_number u =
 abbrev pub is_bad_text : List ℕ → Bool
 is_bad_text text = (length text == 0) || list_any (λ b. b == 0) text
 
--- of the directories and names of the unit and its files, and the names of its functions and calls, some is bad
+-- of the directories and names of the unit and its files, and the names of its functions and calls,
+-- some is bad
 abbrev pub has_bad_text : UnitPart → Bool
 has_bad_text u =
     is_bad_text u.directory || is_bad_text u.name
@@ -191,8 +204,10 @@ breaks us Nesting = list_any has_deep_calls us
 -- the rules, lowest number first
 abbrev pub rules_in_order : List Rule
 rules_in_order =
-    EmptyRange ∷ Bounds ∷ NoRange ∷ UnitsOverlap ∷ FunctionOutside ∷ FunctionsOverlap ∷ CallOutside ∷ CallsOverlap
-    ∷ SequenceOutside ∷ SequencesOverlap ∷ Rows ∷ LineOrColumn ∷ FileNumber ∷ Text ∷ NotRooted ∷ Nesting ∷ []
+    EmptyRange ∷ Bounds ∷ NoRange ∷ UnitsOverlap ∷ FunctionOutside ∷ FunctionsOverlap ∷ CallOutside
+    ∷ CallsOverlap
+    ∷ SequenceOutside ∷ SequencesOverlap ∷ Rows ∷ LineOrColumn ∷ FileNumber ∷ Text ∷ NotRooted
+    ∷ Nesting ∷ []
 
 -- the lowest rule that the units break
 abbrev pub first_broken : List UnitPart → Option Rule

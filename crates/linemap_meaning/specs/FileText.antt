@@ -1,7 +1,7 @@
 -- The text of a unit's file.
 use Rattle.std.specs.Prelude.{ℕ, List, Some}
-use Rattle.addr2line_paths.specs.Paths as paths
-use Rattle.linemap_meaning.specs.Parts.{FilePart, UnitPart}
+use Rattle.addr2line_paths.specs.FilePaths as paths
+use Rattle.linemap_meaning.specs.TableParts.{FilePart, UnitPart}
 
 -- its unit's directory, joined with its own, joined with its name
 abbrev pub file_text : UnitPart → FilePart → List ℕ

@@ -1,7 +1,8 @@
--- What a table answers for an address, and for two ends. It knows no bytes, no encoding and no order of search.
+-- What a table answers for an address, and for two ends. It knows no bytes, no encoding and no
+-- order of search.
 use Rattle.std.specs.Prelude.{ℕ, ◌+◌, ◌-◌, Bool, ◌&&◌, nat_lt, nat_le, List, [], ◌∷◌, ◌++◌, filter, find, flat_map, slice_get, Option, Some, None, option_map, option_and_then, if◌then◌else◌}
 use Rattle.std.specs.List.{list_any, last_or}
-use Rattle.linemap_meaning.specs.Parts.{RangePart, RowPart, SequencePart, Site, Calls, no_calls, more_calls, FunctionPart, UnitPart}
+use Rattle.linemap_meaning.specs.TableParts.{RangePart, RowPart, SequencePart, Site, Calls, no_calls, more_calls, FunctionPart, UnitPart}
 use Rattle.linemap_meaning.specs.FileText.{file_text}
 use Rattle.linemap_meaning.specs.Conditions.{span}
 
@@ -11,12 +12,12 @@ pub record Location : Type 0 where
   pub line : ℕ
   pub column : ℕ
 
--- one function or call at work: its name, where one is known, and the place that it stands at
+-- a function or call that is running: its name, where one is known, and its location
 pub record Frame : Type 0 where
   pub function : Option (List ℕ)
   pub location : Option Location
 
--- the addresses that a row stands for, from its own, so many of them, and its place
+-- the addresses of a row: the first, their number, and their location
 pub record Stretch : Type 0 where
   pub address : ℕ
   pub length : ℕ
@@ -39,10 +40,12 @@ unit_at us a = find (λ u. any_holds a u.ranges) us
 abbrev pub function_at : UnitPart → ℕ → Option FunctionPart
 function_at u a = find (λ f. any_holds a f.ranges) u.functions
 
--- the calls that do, outermost first: the first call that holds the address, and then those inlined into it
+-- the calls that do, outermost first: the first call that holds the address, and then those inlined
+-- into it
 abbrev pub chain : ℕ → Calls → List Site
 chain a no_calls = []
-chain a (more_calls site inner others) = if any_holds a site.ranges then site ∷ chain a inner else chain a others
+chain a (more_calls site inner others) =
+    if any_holds a site.ranges then site ∷ chain a inner else chain a others
 
 -- the sequence of a unit that does, from its first row to its end
 abbrev pub sequence_at : UnitPart → ℕ → Option SequencePart
@@ -59,7 +62,12 @@ row_at u a = option_and_then (λ s. last_row s.rows a) (sequence_at u a)
 -- ---- places
 
 abbrev pub location_in : UnitPart → ℕ → ℕ → ℕ → Location
-location_in u file line column = record { file = option_map (file_text u) (slice_get u.files file); line = line; column = column }
+location_in u file line column =
+    record {
+      file = option_map (file_text u) (slice_get u.files file);
+      line = line;
+      column = column;
+    }
 
 abbrev pub row_location : UnitPart → RowPart → Location
 row_location u r = location_in u r.file r.line r.column
@@ -81,11 +89,12 @@ location_at us a = option_and_then (λ u. place_in u a) (unit_at us a)
 abbrev pub frame : List ℕ → Option Location → Frame
 frame name location = record { function = Some name; location = location }
 
--- the frames of a function or call, innermost first: those of the calls in it, and then its own, at the site of the
--- outermost of them, or at the address's own place where it has none
+-- the frames of a function or call, innermost first: those of the calls in it, and then its own, at
+-- the site of the outermost of them, or at the address's own place where it has none
 abbrev pub frames_in : UnitPart → Option Location → List ℕ → List Site → List Frame
 frames_in u here name [] = frame name here ∷ []
-frames_in u here name (s ∷ inside) = frames_in u here s.name inside ++ frame name (Some (call_location u s)) ∷ []
+frames_in u here name (s ∷ inside) =
+    frames_in u here s.name inside ++ frame name (Some (call_location u s)) ∷ []
 
 -- a place in no function is one frame without a function
 abbrev pub frame_without_function : Option Location → List Frame
@@ -117,7 +126,9 @@ row_stretches u end [] = []
 row_stretches u end (r ∷ rs) =
     let next = next_address rs end in
     let later = row_stretches u end rs in
-    if nat_lt r.address next then record { address = r.address; length = next - r.address; location = row_location u r } ∷ later else later
+    if nat_lt r.address next
+    then record { address = r.address; length = next - r.address; location = row_location u r }
+    ∷ later else later
 
 abbrev pub unit_stretches : UnitPart → List Stretch
 unit_stretches u = flat_map (λ s. row_stretches u s.end s.rows) u.sequences
@@ -126,7 +137,8 @@ unit_stretches u = flat_map (λ s. row_stretches u s.end s.rows) u.sequences
 abbrev pub is_between : ℕ → ℕ → Stretch → Bool
 is_between low high s = nat_lt s.address high && nat_lt low (s.address + s.length)
 
--- a stretch put before the first that doesn't begin below it, so that stretches of one address keep their order
+-- a stretch put before the first that doesn't begin below it, so that stretches of one address keep
+-- their order
 abbrev pub put_in_order : Stretch → List Stretch → List Stretch
 put_in_order s [] = s ∷ []
 put_in_order s (t ∷ ts) = if nat_le s.address t.address then s ∷ t ∷ ts else t ∷ put_in_order s ts

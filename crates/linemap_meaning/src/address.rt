@@ -1,9 +1,9 @@
 //! Addresses as words write them.
 
 ghost use Rattle.std.specs.Prelude.{◌≡◌};
-ghost use Rattle.linemap_meaning.specs.Answers.{word_address, without_0x};
+ghost use Rattle.linemap_meaning.specs.AnswerTexts.{word_address, without_0x};
 
-/// The word without a `0x` in front of something more.
+/// The word without a leading `0x`, unless nothing follows it.
 fn after_0x(word: &str) -> &str
     ensures { result.now ≡ without_0x word.now }
 {

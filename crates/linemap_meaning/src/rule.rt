@@ -1,11 +1,13 @@
-//! The conditions that a table's units meet, by name and in the order in which a refusal names them.
+//! The conditions that a table's units meet, by name and in the order in which a refusal names
+//! them.
 
-/// A condition that units can break. The lowest of those that are broken is the one that is told.
+/// A condition that units can break. The lowest of those that are broken is reported.
 #[derive(Debug, Clone, Copy, PartialEq, Eq)]
 pub enum Rule {
     /// B4: a range ends at or below its begin.
     EmptyRange,
-    /// B5: the begin or end of a range, the address of a row or the end of a sequence is not within 1 to 2^64 - 3.
+    /// B5: the begin or end of a range, the address of a row or the end of a sequence is not within
+    /// 1 to 2^64 - 3.
     Bounds,
     /// B6: a unit, function or call has no range.
     NoRange,
@@ -15,9 +17,9 @@ pub enum Rule {
     FunctionOutside,
     /// B9: two ranges of functions of one unit share an address.
     FunctionsOverlap,
-    /// B10: a call's range lies in no single range of the function or call that it stands in.
+    /// B10: a call's range lies in no single range of the function or call that it is in.
     CallOutside,
-    /// B11: two ranges of calls that stand in the same function or call share an address.
+    /// B11: two ranges of calls in the same function or call share an address.
     CallsOverlap,
     /// B12: the addresses of a sequence lie in no single range of its unit.
     SequenceOutside,

@@ -1,4 +1,5 @@
-//! The plain structs of a table's units. Whether they meet a table's conditions is not their concern.
+//! The plain structs of a table's units. Whether they meet a table's conditions is not their
+//! concern.
 
 /// The addresses from `begin` up to, and without, `end`.
 #[derive(Debug, PartialEq, Drop)]
@@ -7,8 +8,8 @@ pub struct TableRange {
     pub end: u64,
 }
 
-/// One compilation unit: its working directory and name, the addresses that it covers, its source files, and what is
-/// known of its code.
+/// One compilation unit: its working directory and name, the addresses that it covers, its source
+/// files, and what is known of its code.
 #[derive(Debug, PartialEq, Drop)]
 pub struct TableUnit {
     pub directory: String,
@@ -34,8 +35,8 @@ pub struct TableFunction {
     pub calls: Vec<TableCall>,
 }
 
-/// An inlined call: the name of the function that was called, the addresses of its body, the place of the call
-/// (file, line, column), and the calls that were inlined into it in turn.
+/// An inlined call: the name of the function that was called, the addresses of its body, the place
+/// of the call (file, line, column), and the calls that were inlined into it in turn.
 #[derive(Debug, PartialEq, Drop)]
 pub struct TableCall {
     pub name: String,

@@ -3,7 +3,7 @@ use Rattle.std.proofs.Common.{◌≡◌, ◌∙◌, ℕ, List, [], ◌++◌, Opt
 use Rattle.std.proofs.lemmas.List.{append-nil, take_min, take-append-le}
 use Rattle.std.proofs.Math.Seq.{take-append-add, take-length}
 use Rattle.std.specs.Io.KnownBytes.{Appends, Keeps}
-use Rattle.linemap_output.specs.Writing.{AppendsFront}
+use Rattle.linemap_output.specs.WriterBytes.{AppendsPrefix}
 
 -- one text after the other is the two joined
 pub appends_more : (a b c : Option (List ℕ)) (xs ys : List ℕ) → Appends a b xs → Appends b c ys → Appends a c (xs ++ ys)
@@ -28,35 +28,39 @@ pub keeps_same : (a : Option (List ℕ)) → Keeps a a
 keeps_same None = tt
 keeps_same (Some a) = refl
 
--- a text that was kept behind stays written
+-- a text that was kept after stays written
 pub appends_kept : (a b c : Option (List ℕ)) (xs : List ℕ) → Appends a b xs → Keeps b c → Appends a c xs
 appends_kept None b c xs p k = tt
 appends_kept (Some a) None c xs p k = absurd p
 appends_kept (Some a) (Some b) None xs p k = absurd k
 appends_kept (Some a) (Some b) (Some c) xs p k = k ∙ p
 
--- the text is its own front
-pub front_whole : (a b : Option (List ℕ)) (xs : List ℕ) → Appends a b xs → AppendsFront a b xs
-front_whole a b xs p = record { count = length xs; appends = rw (take-length xs) p }
+-- the text is its own prefix
+pub prefix_whole : (a b : Option (List ℕ)) (xs : List ℕ) → Appends a b xs → AppendsPrefix a b xs
+prefix_whole a b xs p = record { count = length xs; appends = rw (take-length xs) p }
 
 -- so is nothing
-pub front_none : (a b : Option (List ℕ)) (xs : List ℕ) → Keeps a b → AppendsFront a b xs
-front_none a b xs k = record { count = 0; appends = appends_nothing a b k }
+pub prefix_none : (a b : Option (List ℕ)) (xs : List ℕ) → Keeps a b → AppendsPrefix a b xs
+prefix_none a b xs k = record { count = 0; appends = appends_nothing a b k }
 
--- a front of a text is a front of what begins with the text
-pub front_longer : (a b : Option (List ℕ)) (xs ys : List ℕ) → AppendsFront a b xs → AppendsFront a b (xs ++ ys)
-front_longer a b xs ys f =
+-- a prefix of a text is a prefix of what begins with the text
+pub prefix_longer : (a b : Option (List ℕ)) (xs ys : List ℕ) → AppendsPrefix a b xs → AppendsPrefix a b (xs ++ ys)
+prefix_longer a b xs ys f =
     let low : min f.count (length xs) ≤ length xs = omega arith in
-    let same : take (min f.count (length xs)) (xs ++ ys) ≡ take f.count xs = take-append-le (min f.count (length xs)) xs ys low ∙ take_min f.count xs in
+    let same : take (min f.count (length xs)) (xs ++ ys) ≡ take f.count xs =
+    take-append-le (min f.count (length xs)) xs ys low ∙ take_min f.count xs in
     record { count = min f.count (length xs); appends = rw same f.appends }
 
--- a text that was written whole, and a front of the next one
-pub front_after : (a b c : Option (List ℕ)) (xs ys : List ℕ) → Appends a b xs → AppendsFront b c ys → AppendsFront a c (xs ++ ys)
-front_after a b c xs ys p f = record {
+-- a text that was written whole, and a prefix of the next one
+pub prefix_after : (a b c : Option (List ℕ)) (xs ys : List ℕ) → Appends a b xs → AppendsPrefix b c ys
+    → AppendsPrefix a c (xs ++ ys)
+prefix_after a b c xs ys p f = record {
   count = length xs + f.count;
   appends = rw (take-append-add xs ys f.count) (appends_more a b c xs (take f.count ys) p f.appends);
 }
 
 -- a text of which all was written but the rest
-pub front_before : (a b : Option (List ℕ)) (front rest text : List ℕ) → Appends a b front → front ++ rest ≡ text → AppendsFront a b text
-front_before a b front rest text p e = subst (AppendsFront a b) e (front_longer a b front rest (front_whole a b front p))
+pub prefix_before : (a b : Option (List ℕ)) (prefix rest text : List ℕ) → Appends a b prefix → prefix ++ rest ≡ text
+    → AppendsPrefix a b text
+prefix_before a b prefix rest text p e =
+    subst (AppendsPrefix a b) e (prefix_longer a b prefix rest (prefix_whole a b prefix p))

@@ -1,2 +1,2 @@
 pub mod ErrorLine
-pub mod Writing
+pub mod WriterBytes

@@ -1,5 +1,5 @@
-//! Text into any writer: how often a write or a flush is tried, what a failure leaves behind, and how a
-//! program tells that it has ended.
+//! Text into any writer: how often a write or a flush is tried, what a failure leaves, and
+//! how a program reports its end.
 #![tactic(auto)]
 
 mod ended;
@@ -7,5 +7,7 @@ mod error_line;
 mod writing;
 
 pub use ended::Ended;
-pub use error_line::{fail, write_error_line};
+pub use error_line::{
+    cannot_read, fail, out_of_memory, output_failed, words_not_text, write_error_line,
+};
 pub use writing::{MAX_INTERRUPTIONS, WriteFault, flush, write_bytes, write_text};

@@ -2,17 +2,17 @@
 ghost use Rattle.std.specs.Prelude.{◌≡◌, ◌+◌, ◌<◌, ◌≤◌, IfOk, IfErr, OnOk};
 ghost use Rattle.std.specs.IoError.{error_kind};
 ghost use Rattle.std.specs.Io.KnownBytes.{Appends, Keeps};
-ghost use Rattle.linemap_output.specs.Writing.{AppendsFront, IsFaultOf};
+ghost use Rattle.linemap_output.specs.WriterBytes.{AppendsPrefix, IsFaultOf};
 
 use std::io::{Error, ErrorKind, Write};
 
-/// So many interruptions in a row are a fault.
+/// This many interruptions in a row are a fault.
 pub const MAX_INTERRUPTIONS: u32 = 1000;
 
 /// Why a text could not be written whole, or a writer not be flushed.
 #[derive(Clone, Copy, Debug, PartialEq, Eq, Hash)]
 pub enum WriteFault {
-    /// Nobody reads any longer what is written.
+    /// The reader has closed its end.
     BrokenPipe,
     /// Any other failure, a write that took nothing, or too many interruptions in a row.
     Failed,
@@ -21,7 +21,7 @@ pub enum WriteFault {
 /// Writes the whole text, as `write_bytes` does.
 pub fn write_text<W: Write>(out: &mut W, text: &str) -> Result<(), WriteFault>
     ensures whole { OnOk result (Appends (W.contents out.old) (W.contents out.new) text.now) }
-    ensures front { AppendsFront (W.contents out.old) (W.contents out.new) text.now }
+    ensures prefix { AppendsPrefix (W.contents out.old) (W.contents out.new) text.now }
 {
     write_bytes(out, text.as_bytes())
 }
@@ -29,7 +29,7 @@ pub fn write_text<W: Write>(out: &mut W, text: &str) -> Result<(), WriteFault>
 /// Writes all the bytes. A write that was interrupted is tried again.
 pub fn write_bytes<W: Write>(out: &mut W, bytes: &[u8]) -> Result<(), WriteFault>
     ensures whole { OnOk result (Appends (W.contents out.old) (W.contents out.new) bytes.now) }
-    ensures front { AppendsFront (W.contents out.old) (W.contents out.new) bytes.now }
+    ensures prefix { AppendsPrefix (W.contents out.old) (W.contents out.new) bytes.now }
 {
     let mut rest = bytes;
     let mut interruptions = 0;

@@ -1,8 +1,7 @@
 //! The program `linemap`: command line, files and streams round the crate of that name.
 #![tactic(auto)]
 
-use linemap::{Request, WordsError, ask, fail, read_words, write_text};
-use std::alloc::Global;
+use linemap::{Request, ask, cannot_read, explain, out_of_memory, read_words, words_not_text};
 use std::io::{ErrorKind, Write};
 use std::process::ExitCode;
 use std::rt::{Env, Files};
@@ -14,23 +13,22 @@ fn main(rt: HostRuntime) -> ExitCode {
     ExitCode::from(run(&rt, &mut out, &mut err))
 }
 
-// Does what the words of the command line ask for, and gives the exit status.
+// Does what the words of the command line ask for, and returns the exit status.
 fn run<R: Env + Files + AllocGlobal, O: Write, E: Write>(rt: &R, out: &mut O, err: &mut E) -> u8 {
     match words_of(rt) {
         Ok(words) => obey(rt, &words, out, err),
-        Err(error) if error.kind() == ErrorKind::OutOfMemory => out_of_memory(err),
-        Err(_) => {
-            fail(err, "the command line is not UTF-8", "");
-            2
-        }
+        Err(error) if error.kind() == ErrorKind::OutOfMemory => out_of_memory(err).status,
+        Err(_) => words_not_text(err).status,
     }
 }
 
+// The words of the command line.
 fn words_of<R: Env + AllocGlobal>(rt: &R) -> io::Result<Vec<String>> {
     let words = env::args(rt)?.collect(rt.alloc())?;
     Ok(words)
 }
 
+// Does what the words ask for, or explains why they are no request.
 fn obey<R: Files + AllocGlobal, O: Write, E: Write>(
     rt: &R,
     words: &[String],
@@ -39,7 +37,7 @@ fn obey<R: Files + AllocGlobal, O: Write, E: Write>(
 ) -> u8 {
     match read_words(rt.alloc(), words) {
         Ok(Request::Ask { table, words }) => ask_file(rt, &table, &words, out, err),
-        Err(error) => explain(rt.alloc(), &error, out, err),
+        Err(error) => explain(rt.alloc(), &error, out, err).status,
     }
 }
 
@@ -53,27 +51,7 @@ fn ask_file<R: Files + AllocGlobal, O: Write, E: Write>(
 ) -> u8 {
     match fs::read(rt, table) {
         Ok(text) => ask(rt.alloc(), &text, words, out, err).status,
-        Err(error) if error.kind() == ErrorKind::OutOfMemory => out_of_memory(err),
-        Err(_) => fail(err, "cannot read ", table).status,
+        Err(error) if error.kind() == ErrorKind::OutOfMemory => out_of_memory(err).status,
+        Err(_) => cannot_read(err, table).status,
     }
-}
-
-// Prints what the command line lacks, or the help that it asks for.
-fn explain<O: Write, E: Write>(alloc: Global, error: &WordsError, out: &mut O, err: &mut E) -> u8 {
-    let text = match format!(in alloc; "{error}") {
-        Ok(text) => text,
-        Err(_) => return out_of_memory(err),
-    };
-    let written = if error.is_help() {
-        write_text(out, &text)
-    } else {
-        write_text(err, &text)
-    };
-    // A fault of these last lines changes no status.
-    let _ = written;
-    error.status()
-}
-
-fn out_of_memory<E: Write>(err: &mut E) -> u8 {
-    fail(err, "out of memory", "").status
 }

@@ -1,3 +1,4 @@
+pub use Rattle.linemap_check.proofs.SoundUnits
 mod JsonLemmas
-mod ShapeLemmas
-mod EachLemmas
+mod JsonShapeLemmas
+mod JsonListLemmas

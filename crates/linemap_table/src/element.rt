@@ -1,20 +1,18 @@
 //! The parts of a table, each taken out of the JSON value that holds it.
 
 ghost use Rattle.std.specs.Prelude.{◌≡◌, ◌==◌, List, Option, map, option_and_then, string_bytes};
-ghost use Rattle.linemap_table.specs.Fault.{Found};
-ghost use Rattle.linemap_table.specs.Shape.{each, list_at, range_in, file_in, row_in, sequence_in, function_in, unit_in, units_in};
+ghost use Rattle.linemap_table.specs.ShapeFaults.{AgreesWithShape};
+ghost use Rattle.linemap_table.specs.JsonShapes.{each, list_at, range_in, file_in, row_in, sequence_in, function_in, unit_in, units_in};
 ghost use Rattle.serde_json.specs.Data.{Data};
 ghost use Rattle.serde_json.specs.Find.{as_object};
 ghost use Rattle.serde_json.specs.View.{view, items_view};
-ghost use Rattle.linemap_meaning.specs.Views.{range_part, file_part, row_part, sequence_part, function_part, unit_part};
-ghost use Rattle.linemap_meaning.specs.Parts.{RangePart, FilePart, RowPart, SequencePart, FunctionPart, UnitPart};
+ghost use Rattle.linemap_check.specs.TableViews.{range_part, file_part, row_part, sequence_part, function_part, unit_part};
+ghost use Rattle.linemap_check.specs.TableParts.{RangePart, FilePart, RowPart, SequencePart, FunctionPart, UnitPart};
 
 use crate::calls::calls_of;
 use crate::fault::Fault;
 use crate::fields::{has_keys, items_at, number_at, number_in, text_at};
-use linemap_meaning::table::{
-    TableFile, TableFunction, TableRange, TableRow, TableSequence, TableUnit,
-};
+use linemap_check::{TableFile, TableFunction, TableRange, TableRow, TableSequence, TableUnit};
 use serde_json::Value;
 use std::alloc::{AllocError, Global};
 
@@ -27,12 +25,13 @@ pub trait Element: Sized + Drop {
     ghost shape: { Data → Option Part };
 
     fn from_value(alloc: Global, value: &Value) -> Result<Self, Fault>
-        ensures { Found part (shape (view value.now)) result };
+        ensures { AgreesWithShape part (shape (view value.now)) result };
 }
 
 /// All items, each read as a part.
 pub fn elements<E: Element>(alloc: Global, items: &[Value]) -> Result<Vec<E>, Fault>
-    ensures { Found (λ v. map E.part v.items) (each E.shape (items_view items.now)) result }
+    ensures { AgreesWithShape (λ v. map E.part v.items)
+        (each E.shape (items_view items.now)) result }
 {
     let mut parts = Vec::new(alloc);
     for item in items {
@@ -44,7 +43,7 @@ pub fn elements<E: Element>(alloc: Global, items: &[Value]) -> Result<Vec<E>, Fa
 
 /// The list at a key, each of its items read as a part.
 pub fn list_at<E: Element>(alloc: Global, value: &Value, key: &str) -> Result<Vec<E>, Fault>
-    ensures { Found (λ v. map E.part v.items)
+    ensures { AgreesWithShape (λ v. map E.part v.items)
         (list_at E.shape key.now (view value.now)) result }
 {
     match items_at(value, key) {
@@ -173,7 +172,7 @@ impl Element for TableUnit {
 
 /// The units of a table.
 pub fn units_of(alloc: Global, value: &Value) -> Result<Vec<TableUnit>, Fault>
-    ensures { Found (λ v. map unit_part v.items) (units_in (view value.now)) result }
+    ensures { AgreesWithShape (λ v. map unit_part v.items) (units_in (view value.now)) result }
 {
     if !has_keys(value, 1) {
         return Err(Fault::Shape);

@@ -1,22 +1,25 @@
 //! Why a table is refused.
 
 use crate::fault::Fault;
-use linemap_meaning::rule::Rule;
+use linemap_check::Rule;
 use std::error::Error;
 use std::fmt;
 
-/// Why a table is refused. It prints as a letter and a number; of several broken rules the one with the lowest number is told.
+/// Why a table is refused. It prints as a letter and a number; of several broken rules the one with
+/// the lowest number is reported.
 #[derive(Debug, Clone, Copy, PartialEq, Eq)]
 pub enum TableError {
     /// B1: no memory was left.
     Memory,
     /// B2: the bytes aren't UTF-8, or not JSON that `serde_json` reads.
     Json,
-    /// B3: a key is missing or unknown, or a value isn't of its kind; a number must be one that `serde_json` reads as a `u64`.
+    /// B3: a key is missing or unknown, or a value isn't of its kind; a number must be one that
+    /// `serde_json` reads as a `u64`.
     Shape,
     /// B4: a range ends at or below its begin.
     EmptyRange,
-    /// B5: the begin or end of a range, the address of a row or the end of a sequence is not within 1 to 2^64 - 3.
+    /// B5: the begin or end of a range, the address of a row or the end of a sequence is not within
+    /// 1 to 2^64 - 3.
     Bounds,
     /// B6: a unit, function or call has no range.
     NoRange,
@@ -26,9 +29,9 @@ pub enum TableError {
     FunctionOutside,
     /// B9: two ranges of functions of one unit share an address.
     FunctionsOverlap,
-    /// B10: a call's range lies in no single range of the function or call that it stands in.
+    /// B10: a call's range lies in no single range of the function or call that it is in.
     CallOutside,
-    /// B11: two ranges of calls that stand in the same function or call share an address.
+    /// B11: two ranges of calls in the same function or call share an address.
     CallsOverlap,
     /// B12: the addresses of a sequence lie in no single range of its unit.
     SequenceOutside,
@@ -50,11 +53,11 @@ pub enum TableError {
 
 impl TableError {
     ghost use Rattle.std.specs.Prelude.{◌≡◌};
-    ghost use Rattle.linemap_table.specs.Refusals.{code_of};
+    ghost use Rattle.linemap_table.specs.TableErrorCodes.{table_error_code};
 
     /// The letter and number that are printed.
     pub fn code(self) -> &'static str
-        ensures { result.now ≡ code_of self }
+        ensures { result.now ≡ table_error_code self }
     {
         match self {
             TableError::Memory => "B1",
@@ -82,9 +85,9 @@ impl TableError {
 
 impl fmt::Display for TableError {
     ghost use Rattle.std.specs.Prelude.{Some};
-    ghost use Rattle.linemap_table.specs.Refusals.{code_of};
+    ghost use Rattle.linemap_table.specs.TableErrorCodes.{table_error_code};
 
-    ghost output = { λ e. Some (code_of e) };
+    ghost output = { λ e. Some (table_error_code e) };
 
     fn fmt<W: fmt::Write>(&self, f: &mut fmt::Formatter<W>) -> fmt::Result {
         f.write_str(self.code())
@@ -95,7 +98,7 @@ impl Error for TableError {}
 
 impl From<Rule> for TableError {
     ghost use Rattle.std.specs.Prelude.{◌≡◌};
-    ghost use Rattle.linemap_table.specs.Refusals.{refusal_of};
+    ghost use Rattle.linemap_table.specs.TableErrorCodes.{refusal_of};
 
     ghost from_gives = { λ rule e. e ≡ refusal_of rule };
 
@@ -122,7 +125,7 @@ impl From<Rule> for TableError {
 }
 
 impl From<Fault> for TableError {
-    ghost use Rattle.linemap_table.specs.Fault.{error_of};
+    ghost use Rattle.linemap_table.specs.ShapeFaults.{error_of};
     ghost use Rattle.std.specs.Prelude.{◌≡◌};
 
     ghost from_gives = { λ fault e. e ≡ error_of fault };

@@ -1,15 +1,15 @@
 //! The values of a JSON object, by their keys.
 
 ghost use Rattle.std.specs.Prelude.{◌≡◌, string_bytes, option_map};
-ghost use Rattle.linemap_table.specs.Fault.{Found};
-ghost use Rattle.linemap_table.specs.Shape.{has_keys, items_at, number_at, number_in, text_at};
+ghost use Rattle.linemap_table.specs.ShapeFaults.{AgreesWithShape};
+ghost use Rattle.linemap_table.specs.JsonShapes.{has_keys, items_at, number_at, number_in, text_at};
 ghost use Rattle.serde_json.specs.View.{items_view, view};
 
 use crate::fault::Fault;
 use serde_json::Value;
 use std::alloc::Global;
 
-/// Whether the value is an object with so many keys.
+/// Whether the value is an object with this number of keys.
 pub fn has_keys(value: &Value, count: usize) -> bool
     ensures { result ≡ has_keys count (view value.now) }
 {
@@ -20,7 +20,7 @@ pub fn has_keys(value: &Value, count: usize) -> bool
 }
 
 pub fn text_at(alloc: Global, value: &Value, key: &str) -> Result<String, Fault>
-    ensures { Found string_bytes (text_at key.now (view value.now)) result }
+    ensures { AgreesWithShape string_bytes (text_at key.now (view value.now)) result }
 {
     let Some(text) = value.get(key).and_then(Value::as_str) else {
         return Err(Fault::Shape);
@@ -30,13 +30,13 @@ pub fn text_at(alloc: Global, value: &Value, key: &str) -> Result<String, Fault>
 
 /// A number that `serde_json` reads as a `u64`.
 pub fn number_in(value: &Value) -> Result<u64, Fault>
-    ensures { Found (λ n. n) (number_in (view value.now)) result }
+    ensures { AgreesWithShape (λ n. n) (number_in (view value.now)) result }
 {
     value.as_u64().ok_or(Fault::Shape)
 }
 
 pub fn number_at(value: &Value, key: &str) -> Result<u64, Fault>
-    ensures { Found (λ n. n) (number_at key.now (view value.now)) result }
+    ensures { AgreesWithShape (λ n. n) (number_at key.now (view value.now)) result }
 {
     let Some(found) = value.get(key) else {
         return Err(Fault::Shape);
@@ -46,7 +46,8 @@ pub fn number_at(value: &Value, key: &str) -> Result<u64, Fault>
 
 /// The items of the array at a key.
 pub fn items_at<'a>(value: &'a Value, key: &str) -> Option<&'a [Value]>
-    ensures { option_map (λ items. items_view items.now) result ≡ items_at key.now (view value.now) }
+    ensures { option_map (λ items. items_view items.now) result
+        ≡ items_at key.now (view value.now) }
 {
     let Some(found) = value.get(key) else {
         return None;

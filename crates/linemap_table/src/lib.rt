@@ -2,9 +2,9 @@
 #![tactic(auto)]
 
 ghost use Rattle.std.specs.Prelude.{◌≡◌, ◌≢◌, IfErr, IfOk, None, Some, map};
-ghost use Rattle.linemap_meaning.specs.Conditions.{IsSound};
-ghost use Rattle.linemap_meaning.specs.Views.{unit_part};
-ghost use Rattle.linemap_table.specs.Answer.{json_in};
+ghost use Rattle.linemap_check.specs.Conditions.{IsSound};
+ghost use Rattle.linemap_check.specs.TableViews.{unit_part};
+ghost use Rattle.linemap_table.specs.TableInText.{json_in};
 ghost use Rattle.linemap_table.specs.declared.error.TableError.TheVariants.{Json, Memory};
 ghost use Rattle.serde_json.specs.View.{view};
 
@@ -18,7 +18,10 @@ use crate::element::units_of;
 pub use crate::error::TableError;
 use linemap_check::rules::first_broken;
 use linemap_check::weight::weight;
-use linemap_meaning::table::TableUnit;
+pub use linemap_check::{
+    Rule, TableCall, TableFile, TableFunction, TableRange, TableRow, TableSequence, TableUnit,
+    read_address,
+};
 use serde_json::Value;
 use std::alloc::Global;
 
@@ -31,9 +34,9 @@ pub struct Table {
 
 impl Table {
     ghost use Rattle.std.specs.Prelude.{◌-◌, ◌^◌, min};
-    ghost use Rattle.linemap_meaning.specs.Weight.{table_weight};
-    ghost use Rattle.linemap_table.specs.Answer.{checked, table_in};
-    ghost use Rattle.linemap_table.specs.Units.{Answers, AnswersOrMemory, units_of};
+    ghost use Rattle.linemap_check.specs.TableWeight.{table_weight};
+    ghost use Rattle.linemap_table.specs.TableInText.{checked_units, table_in};
+    ghost use Rattle.linemap_table.specs.TableUnits.{Answers, AnswersOrMemory, units_of};
 
     /// Reads a table from JSON text. It takes memory for the JSON value and for the units.
     pub fn read(alloc: Global, text: &[u8]) -> Result<Table, TableError>
@@ -44,10 +47,11 @@ impl Table {
         Table::check(units)
     }
 
-    /// Checks units, which a refusal drops. It takes no memory, and one pass or two for each rule where the ranges of units, of a unit's functions
-    /// and sequences, and of calls side by side stand in ascending order, overlap or not; else it may try each pair of them.
+    /// Checks units, which a refusal drops. It takes no memory, and one pass or two for each rule
+    /// where the ranges of units, of a unit's functions and sequences, and of calls side by side
+    /// ascend or descend, overlap or not; else it may try each pair of them.
     pub fn check(units: Vec<TableUnit>) -> Result<Table, TableError>
-        ensures { Answers result (checked (map unit_part units.items)) }
+        ensures { Answers result (checked_units (map unit_part units.items)) }
     {
         match first_broken(&units) {
             Some(rule) => Err(TableError::from(rule)),
@@ -82,6 +86,3 @@ fn parse(alloc: Global, text: &[u8]) -> Result<Value, TableError>
         Err(_) => Err(TableError::Json),
     }
 }
-
-#[cfg(test)]
-mod tests;

@@ -34,4 +34,6 @@ ask_app = with_rule (with_rule (new_app (codes "ask")) table_rule) addresses_rul
 
 -- a subcommand is required
 abbrev pub linemap_app : App
-linemap_app = with_subcommand (on_top (λ s. record s { subcommand_required = true }) (new_app (codes "linemap"))) ask_app.top
+linemap_app =
+    with_subcommand
+    (on_top (λ s. record s { subcommand_required = true }) (new_app (codes "linemap"))) ask_app.top

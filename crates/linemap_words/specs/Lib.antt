@@ -1,3 +1,3 @@
 pub mod CommandLine
-pub mod Request
-pub mod Status
+pub mod WordsRequest
+pub mod WordsStatus

@@ -17,7 +17,7 @@ pub fn linemap_command<'a>(alloc: Global) -> Result<Command<'a>, AllocError>
     ensures { IfOk result (λ command. app_of command ≡ linemap_app) }
 {
     let ask = ask_command(alloc)?;
-    // Named alike wherever the executable stands.
+    // The same name wherever the executable is.
     let command = Command::new(alloc, "linemap").bin_name("linemap")?;
     command
         .about("Answers which source line an address belongs to")

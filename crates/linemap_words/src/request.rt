@@ -2,7 +2,7 @@
 ghost use Rattle.std.specs.Prelude.{◌≡◌, IfOk, IfErr, IsSomeAnd, Some, map, codes, string_bytes};
 ghost use Rattle.clap.specs.Words.{fault_of, found_of, kind_of, rows_of, subcommand_of, subcommand_rows_of};
 ghost use Rattle.linemap_words.specs.CommandLine.{linemap_app};
-ghost use Rattle.linemap_words.specs.Request.{HoldsRequest, IsFault, IsRefusal, IsRequestOf};
+ghost use Rattle.linemap_words.specs.WordsRequest.{HoldsRequest, IsFault, IsRefusal, IsRequestOf};
 
 use crate::command_line::{ADDRESSES, TABLE, linemap_command};
 use clap::ArgMatches;
@@ -44,9 +44,9 @@ impl From<AllocError> for WordsError {
 }
 
 impl WordsError {
-    ghost use Rattle.linemap_words.specs.Status.{HasStatus, TellsHelp};
+    ghost use Rattle.linemap_words.specs.WordsStatus.{HasStatus, TellsHelp};
 
-    /// What the program exits with: 0 after help, 1 for want of memory, and else 2.
+    /// What the program exits with: 0 after help, 1 when out of memory, and else 2.
     pub fn status(&self) -> u8
         ensures { HasStatus self.now result }
     {
@@ -79,13 +79,13 @@ pub fn read_words(alloc: Global, words: &[String]) -> Result<Request, WordsError
     let mut command = linemap_command(alloc)?;
     let matches = match command.try_get_matches_from_mut(words) {
         Ok(matches) => matches,
-        Err(error) => return Err(refused(error)),
+        Err(error) => return Err(error_of(error)),
     };
     match request_in(alloc, &matches)? {
         Some(request) => Ok(request),
         None => {
             let kind = ErrorKind::MissingRequiredArgument;
-            Err(refused(command.error(kind, "no request")?))
+            Err(error_of(command.error(kind, "no request")?))
         }
     }
 }
@@ -106,8 +106,8 @@ fn request_in(alloc: Global, matches: &ArgMatches<'_>) -> Result<Option<Request>
     }
 }
 
-// An error of the parse. Want of memory is told apart.
-fn refused(error: clap::Error) -> WordsError
+// An error of the parse. Out of memory is a case of its own.
+fn error_of(error: clap::Error) -> WordsError
     ensures { IsFault result (kind_of error) }
 {
     if error.kind() == ErrorKind::OutOfMemory {
@@ -127,15 +127,16 @@ fn ask_request(alloc: Global, found: &ArgMatches<'_>) -> Result<Option<Request>,
         None => return Ok(None),
     };
     let words = match found.get_strs(ADDRESSES) {
-        Some(addresses) => copied(alloc, addresses)?,
+        Some(addresses) => copies_of(alloc, addresses)?,
         None => return Ok(None),
     };
     Ok(Some(Request::Ask { table, words }))
 }
 
 // Copies of the texts.
-fn copied(alloc: Global, texts: &[&str]) -> Result<Vec<String>, AllocError>
-    ensures { IfOk result (λ copies. map string_bytes copies.items ≡ map (λ text. text.now) texts.now) }
+fn copies_of(alloc: Global, texts: &[&str]) -> Result<Vec<String>, AllocError>
+    ensures { IfOk result
+        (λ copies. map string_bytes copies.items ≡ map (λ text. text.now) texts.now) }
 {
     let mut copies = Vec::new(alloc);
     for text in texts {

@@ -3,19 +3,19 @@ use std::alloc::Global;
 use std::io;
 use std::io::{ErrorKind, Write};
 
-/// A writer that keeps what it takes, notes where it was flushed, and fails where it is told to.
+/// A writer that records what it takes and where it was flushed, and fails on demand.
 #[derive(Drop)]
 pub struct FakeWriter {
     pub text: Vec<u8>,
-    /// How many bytes stood there at each flush.
+    /// How many bytes it had at each flush.
     pub flushed: Vec<usize>,
-    /// It takes so many bytes in all, and then fails.
+    /// The number of bytes that it takes before it fails.
     pub room: usize,
-    /// It takes so many bytes in one write.
+    /// The most bytes that it takes in one write.
     pub step: usize,
-    /// So many flushes succeed.
+    /// The number of flushes that succeed.
     pub flushes: usize,
-    /// So many interruptions come before each call that goes through.
+    /// The number of interruptions before each call that succeeds.
     pub interruptions: u32,
     pub interrupted: u32,
     /// How it fails; without a kind a write takes nothing.
@@ -37,7 +37,7 @@ impl FakeWriter {
         }
     }
 
-    /// A writer that fails so after so many bytes.
+    /// A writer that fails after this many bytes.
     pub fn with_room(alloc: Global, room: usize, kind: Option<ErrorKind>) -> FakeWriter {
         let mut writer = FakeWriter::new(alloc);
         writer.room = room;
@@ -45,7 +45,7 @@ impl FakeWriter {
         writer
     }
 
-    /// A writer that fails so after so many flushes.
+    /// A writer that fails after this many flushes.
     pub fn with_flushes(alloc: Global, flushes: usize, kind: ErrorKind) -> FakeWriter {
         let mut writer = FakeWriter::new(alloc);
         writer.flushes = flushes;
@@ -53,7 +53,7 @@ impl FakeWriter {
         writer
     }
 
-    /// A writer that is interrupted so often before each call that goes through.
+    /// A writer that is interrupted this often before each call that succeeds.
     pub fn with_interruptions(alloc: Global, interruptions: u32) -> FakeWriter {
         let mut writer = FakeWriter::new(alloc);
         writer.interruptions = interruptions;

@@ -19,7 +19,7 @@ pub fn table_c(alloc: Global) -> Result<String, AllocError> {
     with_calls(alloc, TABLE_A, 1)
 }
 
-/// The table with so many calls in its function, each inside the one before.
+/// The table with this many calls in its function, each inside the one before.
 pub fn with_calls(alloc: Global, table: &str, depth: usize) -> Result<String, AllocError> {
     let mut text = String::from_str(alloc, table)?;
     for _ in 0..depth {

@@ -1,6 +1,9 @@
 //! Command lines.
 use super::answers::owned;
-use crate::{Request, WordsError, read_words};
+use super::fake::FakeWriter;
+use crate::{Ended, Request, WordsError, explain, read_words};
+use std::alloc::{AllocError, Global};
+use std::io::ErrorKind;
 use std::test::Fail;
 
 #[test]
@@ -23,7 +26,7 @@ fn refused_command_lines(rt: HostRuntime) -> Result<(), Fail> {
         (&["linemap", "ask"], 2, false),
         (&["linemap", "ask", "a.json"], 2, false),
         (&["linemap", "ask", "a.json", "-1"], 2, false),
-        (&["linemap", "tell", "a.json", "1"], 2, false),
+        (&["linemap", "show", "a.json", "1"], 2, false),
         (&["linemap", "--help"], 0, true),
         (&["linemap", "ask", "--help"], 0, true),
     ];
@@ -38,5 +41,46 @@ fn refused_command_lines(rt: HostRuntime) -> Result<(), Fail> {
         }
     }
     assert_eq!(rt; WordsError::Memory.status(), 1);
+    Ok(())
+}
+
+/// Explains a command line, with room for some bytes of output.
+fn explained(
+    alloc: Global,
+    words: &[&str],
+    room: usize,
+) -> Result<(FakeWriter, FakeWriter, Ended), AllocError> {
+    let mut out = FakeWriter::with_room(alloc, room, Some(ErrorKind::StorageFull));
+    let mut err = FakeWriter::new(alloc);
+    let ended = match read_words(alloc, &owned(alloc, words)?) {
+        Ok(_) => Ended::with_status(0),
+        Err(error) => explain(alloc, &error, &mut out, &mut err),
+    };
+    Ok((out, err, ended))
+}
+
+#[test]
+fn explains_command_lines(rt: HostRuntime) -> Result<(), Fail> {
+    let (out, err, ended) = explained(rt.alloc(), &["linemap", "--help"], usize::MAX)?;
+    assert!(rt; out.text.len() > 0);
+    assert_eq!(rt; out.flushed.len(), 1);
+    assert_eq!(rt; err.text.len(), 0);
+    assert_eq!(rt; ended, Ended::with_status(0));
+    let (out, err, ended) = explained(rt.alloc(), &["linemap", "ask"], usize::MAX)?;
+    assert_eq!(rt; out.text.len(), 0);
+    assert!(rt; err.text.len() > 0);
+    assert_eq!(rt; ended, Ended::with_status(2));
+    Ok(())
+}
+
+#[test]
+fn help_that_can_not_be_written(rt: HostRuntime) -> Result<(), Fail> {
+    let (out, err, ended) = explained(rt.alloc(), &["linemap", "--help"], 5)?;
+    assert_eq!(rt; out.text.len(), 5);
+    assert_eq!(rt;
+        err.text.as_slice(),
+        b"linemap: error flushing stdout\n".as_slice()
+    );
+    assert_eq!(rt; ended, Ended::with_status(1).with_write_fault());
     Ok(())
 }

@@ -8,4 +8,8 @@ returns-in-Ok-clause-value c = json_in-read c.args.text.now _ c.in-Ok.ensures.ok
 
 pub returns-in-Err-2-clause-refused : goal.returns-in-Err-2-clause-refused
 returns-in-Err-2-clause-refused c =
-    λ _. (refl, json_in-refused c.args.text.now (c.in-Err.ensures.err (λ m. false≢true (rw c.if-is_memory.false at (c.is_memory.ensures.1 m)))))
+    λ _. (
+      refl,
+      json_in-refused c.args.text.now
+          (c.in-Err.ensures.err (λ m. false≢true (rw c.if-is_memory.false at (c.is_memory.ensures.1 m)))),
+    )

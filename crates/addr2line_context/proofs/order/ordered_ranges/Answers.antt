@@ -1,8 +1,8 @@
 use Rattle.std.proofs.Common.{◌≡◌, ◌∷◌, [], ◌++◌, sym, ap, ◌∙◌, arith, ◌≤◌, length}
 use Rattle.std.proofs.lemmas.Result.{IfOk-weaker}
-use Rattle.addr2line_lookup.specs.Ranged.{ranges_of_units}
-use Rattle.addr2line_context.specs.Kept.{ordered_ranges}
-use Rattle.addr2line_context.proofs.Ordering.{ranges_to, ranges_to-more, ranges_to-length, ranges_to-all}
+use Rattle.addr2line_units.specs.NumberedRanges.{ranges_of_units}
+use Rattle.addr2line_context.specs.ContextUnits.{ordered_ranges}
+use Rattle.addr2line_context.proofs.ContextOrder.{ranges_to, ranges_to-more, ranges_to-length, ranges_to-all}
 use Rattle.addr2line_context.proofs.order.ordered_ranges.Goals as goal
 
 pub loop-number-preserved : goal.loop-number-preserved
@@ -12,10 +12,12 @@ loop-number-preserved g c =
     let within : n ≤ length us = omega arith in
     c.in_ok-add_unit.ensures.ok (ranges_to n us) c.loop-number.invariant (ranges_to-length n us within)
     ∙ ap (λ rs. ranges_of_units (ranges_to n us ++ rs ∷ [])) c.ranges-in-loop-number.ensures
-    ∙ ap ranges_of_units (sym (ranges_to-more n us c.index-units-number.result c.loop-number-test.true c.index-units-number.is))
+    ∙ ap ranges_of_units
+    (sym (ranges_to-more n us c.index-units-number.result c.loop-number-test.true c.index-units-number.is))
 
 pub returns-clause-ok : goal.returns-clause-ok
 returns-clause-ok g c =
     let us = c.args.units.now in
     IfOk-weaker c.finish.result _ (λ rs. rs ≡ ordered_ranges us)
-    (λ rs made. made (ranges_to c.loop-number.number us) c.loop-number.invariant ∙ ranges_to-all c.loop-number.number us c.loop-number-test.false) c.finish.ensures.ok
+    (λ rs made. made (ranges_to c.loop-number.number us) c.loop-number.invariant
+    ∙ ranges_to-all c.loop-number.number us c.loop-number-test.false) c.finish.ensures.ok

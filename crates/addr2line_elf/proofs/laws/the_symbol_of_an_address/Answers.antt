@@ -1,4 +1,4 @@
-use Rattle.addr2line_elf.proofs.Choice.{first_highest_holds, none_holds}
+use Rattle.addr2line_elf.proofs.FirstHighestSymbol.{first_highest_holds, none_holds}
 use Rattle.addr2line_elf.proofs.laws.the_symbol_of_an_address.Goals as goal
 
 pub returns-clause-found : goal.returns-clause-found

@@ -1,15 +1,16 @@
--- What was found, with the functions to come, is the whole.
+-- The functions so far with those to come are all.
 use Rattle.std.proofs.Common.{◌≡◌}
-use Rattle.gimli_core_base.specs.View.{bytes_left}
-use Rattle.addr2line_entries.specs.Functions.{functions_of_unit}
-use Rattle.addr2line_functions.specs.Steps.{functions_from}
-use Rattle.addr2line_functions.proofs.FunctionSteps.{behind}
+use Rattle.gimli_units_entries.specs.View.{bytes_left}
+use Rattle.addr2line_units.specs.Functions.{functions_of_unit}
+use Rattle.addr2line_functions.specs.NextFunctions.{functions_from}
+use Rattle.addr2line_functions.proofs.FunctionEntrySteps.{functions_then}
 use Rattle.addr2line_functions.proofs.functions.functions_of_unit.Given as goal
 
 abbrev pub invariant-loop-alloc : goal.invariant-loop-alloc
 invariant-loop-alloc g l =
     let limit = g.R.Offset.ReaderOffset.limit in
-    behind l.functions.items (functions_from limit l.dwarf l.unit l.entries) ≡ functions_of_unit limit l.dwarf l.unit
+    functions_then l.functions.items (functions_from limit l.dwarf l.unit l.entries)
+    ≡ functions_of_unit limit l.dwarf l.unit
 
 abbrev pub decreases-loop-alloc : goal.decreases-loop-alloc
 decreases-loop-alloc g l = bytes_left l.entries.left

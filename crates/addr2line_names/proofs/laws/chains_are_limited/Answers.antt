@@ -1,4 +1,4 @@
-use Rattle.addr2line_names.proofs.LawLemmas.{chains}
+use Rattle.addr2line_names.proofs.FunctionNameLemmas.{chains}
 use Rattle.addr2line_names.proofs.laws.chains_are_limited.Goals as goal
 
 pub returns : goal.returns

@@ -1,4 +1,4 @@
-use Rattle.addr2line_names.proofs.LawLemmas.{circles}
+use Rattle.addr2line_names.proofs.FunctionNameLemmas.{circles}
 use Rattle.addr2line_names.proofs.laws.circles_have_no_name.Goals as goal
 
 pub returns : goal.returns

@@ -1,7 +1,7 @@
--- The unit is among those that are left.
+-- The unit is among the remaining ones.
 use Rattle.std.proofs.Common.{◌≡◌, length}
-use Rattle.addr2line_names.specs.References.{begins_below}
-use Rattle.addr2line_names.proofs.Below.{last_in}
+use Rattle.addr2line_names.specs.EntryReferences.{begins_below}
+use Rattle.addr2line_names.proofs.LastUnitBelow.{last_in}
 use Rattle.addr2line_names.proofs.references.unit_below.Given as goal
 
 abbrev pub invariant-loop-unit : goal.invariant-loop-unit

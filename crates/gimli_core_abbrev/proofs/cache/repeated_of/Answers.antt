@@ -3,8 +3,8 @@ use Rattle.std.specs.Ordering.{nat_cmp}
 use Rattle.std.specs.BTreeSet.{contains}
 use Rattle.std.specs.BTreeMap.{is_at}
 use Rattle.std.proofs.lemmas.List.{map-append, take_all}
-use Rattle.gimli_core_constants.specs.declared.common.DebugAbbrevOffset.{DebugAbbrevOffset}
-use Rattle.gimli_core_abbrev.proofs.Offsets.{among, times_among, places_more, seen_more, twice_new, twice_again, not_true, not_false}
+use Rattle.gimli_core_readers.specs.DebugAbbrevOffset.{DebugAbbrevOffset}
+use Rattle.gimli_core_abbrev.proofs.RepeatedOffsets.{among, times_among, places_more, seen_more, twice_new, twice_again, not_true, not_false}
 use Rattle.gimli_core_abbrev.proofs.cache.repeated_of.Goals as goal
 
 pub loop-offset-preserved-then-branch : goal.loop-offset-preserved-then-branch
@@ -12,11 +12,18 @@ loop-offset-preserved-then-branch g c =
     let place = λ (o : DebugAbbrevOffset g.row.O.Denot). g.O.ReaderOffset.count o.0 in
     let x = c.offset-item.result in
     let before = map place (take c.loop-offset.offset-index c.args.offsets.now) in
-    let more = places_more place c.args.offsets.now c.loop-offset.offset-index x c.offset-item.is c.loop-offset-test.true in
-    let new : among (place x) before ≡ false = sym (c.loop-offset.invariant.seen (place x)) ∙ not_true _ _ (c.in_ok-insert.ensures.added ∙ ap (λ (k : ℕ). not (contains nat_cmp c.loop-offset.seen k)) c.into_u64.ensures.value) c.if-branch.true in
+    let more = places_more place c.args.offsets.now c.loop-offset.offset-index x c.offset-item.is
+    c.loop-offset-test.true in
+    let new : among (place x) before ≡ false = sym (c.loop-offset.invariant.seen (place x))
+    ∙ not_true _ _ (c.in_ok-insert.ensures.added ∙ ap (λ (k : ℕ). not (contains nat_cmp c.loop-offset.seen k))
+    c.into_u64.ensures.value) c.if-branch.true in
     record {
-      seen = λ offset. seen_more offset (place x) before _ _ (c.in_ok-insert.ensures.updates.0 offset ∙ ap (λ (k : ℕ). cond (is_at (nat_cmp k) offset) true (contains nat_cmp c.loop-offset.seen offset)) c.into_u64.ensures.value) (c.loop-offset.invariant.seen offset) ∙ ap (among offset) (sym more);
-      twice = λ offset. twice_new offset (place x) before _ new (c.loop-offset.invariant.twice offset) ∙ ap (λ (ps : List ℕ). leb 2 (times_among offset ps)) (sym more);
+      seen = λ offset. seen_more offset (place x) before _ _
+          (c.in_ok-insert.ensures.updates.0 offset
+          ∙ ap (λ (k : ℕ). cond (is_at (nat_cmp k) offset) true (contains nat_cmp c.loop-offset.seen offset))
+          c.into_u64.ensures.value) (c.loop-offset.invariant.seen offset) ∙ ap (among offset) (sym more);
+      twice = λ offset. twice_new offset (place x) before _ new (c.loop-offset.invariant.twice offset)
+          ∙ ap (λ (ps : List ℕ). leb 2 (times_among offset ps)) (sym more);
     }
 
 pub loop-offset-preserved : goal.loop-offset-preserved
@@ -24,14 +31,25 @@ loop-offset-preserved g c =
     let place = λ (o : DebugAbbrevOffset g.row.O.Denot). g.O.ReaderOffset.count o.0 in
     let x = c.offset-item.result in
     let before = map place (take c.loop-offset.offset-index c.args.offsets.now) in
-    let more = places_more place c.args.offsets.now c.loop-offset.offset-index x c.offset-item.is c.loop-offset-test.true in
-    let there : among (place x) before ≡ true = sym (c.loop-offset.invariant.seen (place x)) ∙ not_false _ _ (c.in_ok-insert.ensures.added ∙ ap (λ (k : ℕ). not (contains nat_cmp c.loop-offset.seen k)) c.into_u64.ensures.value) c.if-branch.false in
+    let more = places_more place c.args.offsets.now c.loop-offset.offset-index x c.offset-item.is
+    c.loop-offset-test.true in
+    let there : among (place x) before ≡ true = sym (c.loop-offset.invariant.seen (place x))
+    ∙ not_false _ _ (c.in_ok-insert.ensures.added ∙ ap (λ (k : ℕ). not (contains nat_cmp c.loop-offset.seen k))
+    c.into_u64.ensures.value) c.if-branch.false in
     record {
-      seen = λ offset. seen_more offset (place x) before _ _ (c.in_ok-insert.ensures.updates.0 offset ∙ ap (λ (k : ℕ). cond (is_at (nat_cmp k) offset) true (contains nat_cmp c.loop-offset.seen offset)) c.into_u64.ensures.value) (c.loop-offset.invariant.seen offset) ∙ ap (among offset) (sym more);
-      twice = λ offset. ap (λ (xs : List _). among offset (map place xs)) c.in_ok-push.ensures.items ∙ ap (among offset) (map-append place c.loop-offset.found.items (x ∷ [])) ∙ twice_again offset (place x) before (map place c.loop-offset.found.items) there (c.loop-offset.invariant.twice offset) ∙ ap (λ (ps : List ℕ). leb 2 (times_among offset ps)) (sym more);
+      seen = λ offset. seen_more offset (place x) before _ _
+          (c.in_ok-insert.ensures.updates.0 offset
+          ∙ ap (λ (k : ℕ). cond (is_at (nat_cmp k) offset) true (contains nat_cmp c.loop-offset.seen offset))
+          c.into_u64.ensures.value) (c.loop-offset.invariant.seen offset) ∙ ap (among offset) (sym more);
+      twice = λ offset. ap (λ (xs : List _). among offset (map place xs)) c.in_ok-push.ensures.items
+          ∙ ap (among offset) (map-append place c.loop-offset.found.items (x ∷ []))
+          ∙ twice_again offset (place x) before (map place c.loop-offset.found.items) there
+          (c.loop-offset.invariant.twice offset) ∙ ap (λ (ps : List ℕ). leb 2 (times_among offset ps)) (sym more);
     }
 
 pub returns-clause-ok : goal.returns-clause-ok
 returns-clause-ok g c =
     let place = λ (o : DebugAbbrevOffset g.row.O.Denot). g.O.ReaderOffset.count o.0 in
-    λ offset. c.loop-offset.invariant.twice offset ∙ ap (λ (xs : List _). leb 2 (times_among offset (map place xs))) (take_all c.loop-offset.offset-index c.args.offsets.now c.loop-offset-test.false)
+    λ offset. c.loop-offset.invariant.twice offset
+    ∙ ap (λ (xs : List _). leb 2 (times_among offset (map place xs)))
+    (take_all c.loop-offset.offset-index c.args.offsets.now c.loop-offset-test.false)

@@ -10,5 +10,6 @@ invariant-loop-offset g l =
     let places = map (λ o. g.O.ReaderOffset.count o.0) (take l.offset-index l.offsets) in
     record {
       seen : (offset : ℕ) → contains nat_cmp l.seen offset ≡ list_any (λ p. eqb p offset) places;
-      twice : (offset : ℕ) → list_any (λ p. eqb p offset) (map (λ o. g.O.ReaderOffset.count o.0) l.found.items) ≡ leb 2 (count_by (λ p. eqb p offset) places);
+      twice : (offset : ℕ) → list_any (λ p. eqb p offset) (map (λ o. g.O.ReaderOffset.count o.0) l.found.items)
+          ≡ leb 2 (count_by (λ p. eqb p offset) places);
     }

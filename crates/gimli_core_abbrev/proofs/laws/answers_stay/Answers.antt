@@ -1,4 +1,4 @@
-use Rattle.gimli_core_abbrev.proofs.Followed.{answers_stay}
+use Rattle.gimli_core_abbrev.proofs.SectionEnds.{answers_stay}
 use Rattle.gimli_core_abbrev.proofs.laws.answers_stay.Goals as goal
 
 pub returns : goal.returns

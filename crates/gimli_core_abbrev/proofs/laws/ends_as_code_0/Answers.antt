@@ -1,4 +1,4 @@
-use Rattle.gimli_core_abbrev.proofs.Followed.{ends_as_code_0}
+use Rattle.gimli_core_abbrev.proofs.SectionEnds.{ends_as_code_0}
 use Rattle.gimli_core_abbrev.proofs.laws.ends_as_code_0.Goals as goal
 
 pub returns : goal.returns

@@ -1,4 +1,4 @@
-use Rattle.gimli_core_abbrev.proofs.Room.{needs_room}
+use Rattle.gimli_core_abbrev.proofs.TableRoom.{needs_room}
 use Rattle.gimli_core_abbrev.proofs.laws.needs_room.Goals as goal
 
 pub returns : goal.returns

@@ -1,4 +1,4 @@
-use Rattle.gimli_core_abbrev.proofs.Rising.{no_code_0}
+use Rattle.gimli_core_abbrev.proofs.RisingCodes.{no_code_0}
 use Rattle.gimli_core_abbrev.proofs.laws.no_code_0.Goals as goal
 
 pub returns : goal.returns

@@ -1,8 +1,8 @@
 use Rattle.std.proofs.Common.{◌≡◌, List, None}
-use Rattle.gimli_core_base.specs.View.{bytes_left}
-use Rattle.gimli_core_base.specs.Repetition.{prepend, listing_in}
-use Rattle.gimli_core_abbrev.specs.Declarations.{Declaration, by_code, repeated}
-use Rattle.gimli_core_abbrev.specs.Parsing.{declaration}
+use Rattle.gimli_core_readers.specs.View.{bytes_left}
+use Rattle.gimli_core_readers.specs.Repetition.{prepend, listing_in}
+use Rattle.gimli_core_abbrev.specs.Declarations.{Declaration, by_code, repeated_code}
+use Rattle.gimli_core_abbrev.specs.TableParsing.{declaration}
 use Rattle.gimli_core_abbrev.proofs.table.parse.Given as goal
 
 -- the declarations so far, with no code twice, and then those that are left
@@ -10,9 +10,10 @@ abbrev pub invariant-loop-found : goal.invariant-loop-found
 invariant-loop-found g l =
     let view = g.R.Reader.view in
     (ds : List Declaration)
-    × (prepend ds (listing_in bytes_left declaration (view l.input)) ≡ listing_in bytes_left declaration (view l.fn.input))
+    × (prepend ds (listing_in bytes_left declaration (view l.input))
+    ≡ listing_in bytes_left declaration (view l.fn.input))
     × (l.found ≡ by_code ds)
-    × (repeated ds ≡ None)
+    × (repeated_code ds ≡ None)
 
 abbrev pub decreases-loop-found : goal.decreases-loop-found
 decreases-loop-found g l = bytes_left (g.R.Reader.view l.input)

@@ -1,5 +1,5 @@
 -- Readers are equal by their bytes and the order.
-use Rattle.gimli_core_readers.proofs.Same.{same_decides, same_hashed}
+use Rattle.gimli_core_readers.proofs.EqualReaders.{same_decides, same_hashed}
 use Rattle.gimli_core_readers.proofs.laws.equal_readers.Goals as goal
 
 pub returns-clause-equal : goal.returns-clause-equal

@@ -1,6 +1,6 @@
 -- The copies so far are alike with the first values.
 use Rattle.std.proofs.Common.{◌≡◌, map, take}
-use Rattle.gimli_units_forms.specs.Values.{raw_value_of}
+use Rattle.gimli_units_forms.specs.AttributeValues.{raw_value_of}
 use Rattle.gimli_lines_header.proofs.copies.copies_of_values.Given as goal
 
 abbrev pub invariant-loop-value : goal.invariant-loop-value

@@ -1,11 +1,12 @@
 use Rattle.std.proofs.Common.{◌≡◌, ◌-◌}
-use Rattle.gimli_core_base.specs.Repetition.{times}
-use Rattle.gimli_core_base.proofs.Times.{behind}
-use Rattle.gimli_lines_header.specs.Entries.{entry_format}
+use Rattle.gimli_units_headers.specs.Repetition.{times}
+use Rattle.gimli_units_headers.proofs.Times.{behind}
+use Rattle.gimli_lines_header.specs.TableEntries.{entry_format}
 use Rattle.gimli_lines_header.proofs.formats.parse_counted.Given as goal
 
 -- the formats so far, and then those that are left
 abbrev pub invariant-loop-field : goal.invariant-loop-field
 invariant-loop-field g l =
     let view = g.R.Reader.view in
-    behind l.formats.items (times (l.count - l._field) entry_format (view l.input)) ≡ times l.count entry_format (view l.fn.input)
+    behind l.formats.items (times (l.count - l._field) entry_format (view l.input))
+    ≡ times l.count entry_format (view l.fn.input)

@@ -1,4 +1,4 @@
-use Rattle.gimli_lines_header.proofs.Places.{lengths_place}
+use Rattle.gimli_lines_header.proofs.HeaderPlaces.{lengths_place}
 use Rattle.gimli_lines_header.proofs.laws.lengths_place.Goals as goal
 
 pub returns : goal.returns

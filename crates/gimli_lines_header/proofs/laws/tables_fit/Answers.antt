@@ -1,4 +1,4 @@
-use Rattle.gimli_lines_header.proofs.Places.{tables_fit}
+use Rattle.gimli_lines_header.proofs.HeaderPlaces.{tables_fit}
 use Rattle.gimli_lines_header.proofs.laws.tables_fit.Goals as goal
 
 pub returns : goal.returns

@@ -1,7 +1,7 @@
 use Rattle.std.proofs.Common.{◌∙◌}
-use Rattle.gimli_core_base.proofs.Calls.{Gives_refused}
-use Rattle.gimli_lines_header.specs.Parsing.{header_fields}
-use Rattle.gimli_lines_header.proofs.Chains.{goes_on, stops}
+use Rattle.gimli_units_headers.proofs.RefusedCalls.{returns_refused}
+use Rattle.gimli_lines_header.specs.HeaderParsing.{header_fields}
+use Rattle.gimli_lines_header.proofs.ParserChains.{goes_on, stops}
 use Rattle.gimli_lines_header.proofs.parsing.parse_fields.Goals as goal
 
 pub invariant_of-result : goal.invariant_of-result
@@ -20,6 +20,8 @@ invariant_of-result g c = record {
 pub returns-in_err-file_name_entry_format : goal.returns-in_err-file_name_entry_format
 unfolding header_fields
 returns-in_err-file_name_entry_format g c =
-    Gives_refused _ c.from_residual-in_err-file_name_entry_format.result _ _ c.from_residual-in_err-file_name_entry_format.ensures.1
+    returns_refused _ c.from_residual-in_err-file_name_entry_format.result _ _
+    c.from_residual-in_err-file_name_entry_format.ensures.1
     (λ ne. goes_on _ _ _ _ c.in_ok-line_encoding.ensures.value ∙ goes_on _ _ _ _ c.in_ok-opcode_base.ensures.value
-    ∙ goes_on _ _ _ _ c.in_ok-directory_entry_format.ensures ∙ stops _ _ _ (c.in_err-file_name_entry_format.ensures.value ne))
+    ∙ goes_on _ _ _ _ c.in_ok-directory_entry_format.ensures
+    ∙ stops _ _ _ (c.in_err-file_name_entry_format.ensures.value ne))

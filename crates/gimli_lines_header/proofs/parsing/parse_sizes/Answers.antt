@@ -1,5 +1,5 @@
 -- The size that was read is one that an address may have.
-use Rattle.gimli_units_headers.proofs.Taking.{address_size_took}
+use Rattle.gimli_units_headers.proofs.ByteCountLemmas.{address_size_took}
 use Rattle.gimli_lines_header.proofs.parsing.parse_sizes.Goals as goal
 
 pub returns-else-branch-ne0-clause-address : goal.returns-else-branch-ne0-clause-address

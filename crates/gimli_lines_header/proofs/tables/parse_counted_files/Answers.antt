@@ -1,20 +1,26 @@
 use Rattle.std.proofs.Common.{arith}
-use Rattle.gimli_core_base.proofs.Calls.{Gives_refused}
-use Rattle.gimli_lines_header.specs.Entries.{file_entry}
-use Rattle.gimli_lines_header.proofs.Loops.{counted_start, counted_push, counted_fault, counted_end}
+use Rattle.gimli_units_headers.proofs.RefusedCalls.{returns_refused}
+use Rattle.gimli_lines_header.specs.TableEntries.{file_entry}
+use Rattle.gimli_lines_header.proofs.TableLoops.{count_start, count_push, count_fault, count_end}
 use Rattle.gimli_lines_header.proofs.tables.parse_counted_files.Goals as goal
 
 pub loop-file-init : goal.loop-file-init
-loop-file-init g c = counted_start (file_entry g.R.Offset.ReaderOffset.limit c.args.encoding c.args.formats.now) c.args.count c.new-found.result.items (g.R.Reader.view c.args.input.now) c.new-found.ensures.items
+loop-file-init g c = count_start (file_entry g.R.Offset.ReaderOffset.limit c.args.encoding c.args.formats.now)
+    c.args.count c.new-found.result.items (g.R.Reader.view c.args.input.now) c.new-found.ensures.items
 
 pub loop-file-preserved : goal.loop-file-preserved
 loop-file-preserved g c =
-    counted_push (file_entry g.R.Offset.ReaderOffset.limit c.args.encoding c.args.formats.now) c.args.count c.loop-file._file c.loop-file.found.items _ c.in_ok-parse_file.field-0 _ _ _ (omega arith) c.in_ok-parse_file.ensures c.in_ok-push.ensures.items c.loop-file.invariant
+    count_push (file_entry g.R.Offset.ReaderOffset.limit c.args.encoding c.args.formats.now) c.args.count
+    c.loop-file._file c.loop-file.found.items _ c.in_ok-parse_file.field-0 _ _ _ (omega arith)
+    c.in_ok-parse_file.ensures c.in_ok-push.ensures.items c.loop-file.invariant
 
 pub returns-in_err-parse_file : goal.returns-in_err-parse_file
 returns-in_err-parse_file g c =
-    Gives_refused _ c.from_residual.result _ _ c.from_residual.ensures.1
-    (λ ne. counted_fault (file_entry g.R.Offset.ReaderOffset.limit c.args.encoding c.args.formats.now) c.args.count c.loop-file._file c.loop-file.found.items _ _ _ (omega arith) (c.in_err-parse_file.ensures ne) c.loop-file.invariant)
+    returns_refused _ c.from_residual.result _ _ c.from_residual.ensures.1
+    (λ ne. count_fault (file_entry g.R.Offset.ReaderOffset.limit c.args.encoding c.args.formats.now) c.args.count
+    c.loop-file._file c.loop-file.found.items _ _ _ (omega arith) (c.in_err-parse_file.ensures ne)
+    c.loop-file.invariant)
 
 pub returns : goal.returns
-returns g c = counted_end (file_entry g.R.Offset.ReaderOffset.limit c.args.encoding c.args.formats.now) c.args.count c.loop-file._file c.loop-file.found.items _ _ (omega arith) c.loop-file.invariant
+returns g c = count_end (file_entry g.R.Offset.ReaderOffset.limit c.args.encoding c.args.formats.now) c.args.count
+    c.loop-file._file c.loop-file.found.items _ _ (omega arith) c.loop-file.invariant

@@ -1,7 +1,7 @@
 use Rattle.std.proofs.Common.{◌≡◌, ◌-◌}
-use Rattle.gimli_core_base.specs.Repetition.{times}
-use Rattle.gimli_core_base.proofs.Times.{behind}
-use Rattle.gimli_lines_header.specs.Entries.{file_entry}
+use Rattle.gimli_units_headers.specs.Repetition.{times}
+use Rattle.gimli_units_headers.proofs.Times.{behind}
+use Rattle.gimli_lines_header.specs.TableEntries.{file_entry}
 use Rattle.gimli_lines_header.proofs.tables.parse_counted_files.Given as goal
 
 -- the files so far, and then those that are left

@@ -1,8 +1,8 @@
 use Rattle.std.proofs.Common.{◌≡◌, drop, map}
 use Rattle.gimli_core_base.proofs.Times.{behind}
-use Rattle.gimli_core_abbrev.specs.Seen.{seen_attribute}
-use Rattle.gimli_units_forms.specs.Reading.{attributes}
-use Rattle.gimli_units_entries.specs.Seen.{raw_attributes}
+use Rattle.gimli_units_forms.specs.AbbreviationViews.{attribute_view}
+use Rattle.gimli_units_forms.specs.AttributeReading.{attributes}
+use Rattle.gimli_units_entries.specs.EntryViews.{raw_attributes}
 use Rattle.gimli_units_entries.proofs.attributes.fill.Given as goal
 
 -- the attributes so far, and then those that are left
@@ -11,5 +11,6 @@ invariant-loop-specification g l =
     let view = g.R.Reader.view in
     let count = g.R.Offset.ReaderOffset.count in
     let limit = g.R.Offset.ReaderOffset.limit in
-    behind (raw_attributes view count l.attrs.items) (attributes limit l.encoding (map seen_attribute (drop l.specification-index l.specifications)) (view l.input))
-    ≡ attributes limit l.encoding (map seen_attribute l.specifications) (view l.initial.input)
+    behind (raw_attributes view count l.attrs.items)
+    (attributes limit l.encoding (map attribute_view (drop l.specification-index l.specifications)) (view l.input))
+    ≡ attributes limit l.encoding (map attribute_view l.specifications) (view l.initial.input)

@@ -1,6 +1,6 @@
 -- Addresses were read, so their size is one that addresses have.
-use Rattle.gimli_units_lists.proofs.Taken.{both_sized}
+use Rattle.gimli_units_lists.proofs.RangeEntrySizes.{addresses_have_size}
 use Rattle.gimli_units_lists.proofs.location_entry.parse_pair.Goals as goal
 
 pub greatest_address-requires : goal.greatest_address-requires
-greatest_address-requires g c = both_sized c.args.encoding.address_size _ _ _ c.in_ok-begin.ensures
+greatest_address-requires g c = addresses_have_size c.args.encoding.address_size _ _ _ c.in_ok-begin.ensures

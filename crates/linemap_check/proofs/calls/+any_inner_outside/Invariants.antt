@@ -1,7 +1,8 @@
 use Rattle.std.proofs.Common.{◌≡◌, drop}
-use Rattle.linemap_meaning.specs.Views.{calls_part}
-use Rattle.linemap_check.specs.Spans.{any_inner_outside}
+use Rattle.linemap_meaning.specs.TableViews.{calls_part}
+use Rattle.linemap_check.specs.RangePasses.{any_inner_outside}
 use Rattle.linemap_check.proofs.calls.+any_inner_outside.Given as goal
 
 abbrev pub invariant-loop-call : goal.invariant-loop-call
-invariant-loop-call l = (any_inner_outside) (calls_part l.calls) ≡ (any_inner_outside) (calls_part (drop l.call-index l.calls))
+invariant-loop-call l =
+    (any_inner_outside) (calls_part l.calls) ≡ (any_inner_outside) (calls_part (drop l.call-index l.calls))

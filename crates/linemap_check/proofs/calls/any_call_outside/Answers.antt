@@ -1,5 +1,5 @@
 use Rattle.std.proofs.Common.{rules}
-use Rattle.linemap_check.proofs.CallLemmas.{any_call_outside_levels}
+use Rattle.linemap_check.proofs.NestedCallLemmas.{any_call_outside_levels}
 use Rattle.linemap_check.proofs.calls.any_call_outside.Goals as goal
 
 pub returns-then-any_sibling_outside : goal.returns-then-any_sibling_outside

@@ -1,4 +1,4 @@
-use Rattle.linemap_check.proofs.CallLemmas.{sibling_ranges_calls}
+use Rattle.linemap_check.proofs.NestedCallLemmas.{sibling_ranges_calls}
 use Rattle.linemap_check.proofs.calls.any_sibling_outside.Goals as goal
 
 pub returns : goal.returns

@@ -2,11 +2,12 @@ use Rattle.std.proofs.Common.{rules, tests}
 use Rattle.std.proofs.lemmas.Iterator.{YieldsList-from_slice}
 use Rattle.std.proofs.lemmas.Iterator.Search.{any_from_yields_List}
 use Rattle.linemap_meaning.specs.Conditions.{any_call_outside}
-use Rattle.linemap_meaning.specs.Views.{function_part}
-use Rattle.linemap_check.proofs.Lists.{list_any_map}
+use Rattle.linemap_meaning.specs.TableViews.{function_part}
+use Rattle.linemap_check.proofs.PartLists.{list_any_map}
 use Rattle.linemap_check.proofs.functions.has_call_outside.Goals as goal
 
 pub returns : goal.returns
 returns c =
     rw list_any_map
-    (any_from_yields_List (λ x. let y = function_part x in any_call_outside y.ranges y.calls) _ _ _ c.any.ensures.ran (YieldsList-from_slice c.args.functions.now cc) (λ x b q k. search (rules, tests)))
+    (any_from_yields_List (λ x. let y = function_part x in any_call_outside y.ranges y.calls) _ _ _ c.any.ensures.ran
+    (YieldsList-from_slice c.args.functions.now cc) (λ x b q k. search (rules, tests)))

@@ -1,6 +1,6 @@
 use Rattle.std.proofs.Common.{◌≡◌, drop, length, map}
 use Rattle.linemap_meaning.specs.Conditions.{any_outside}
-use Rattle.linemap_meaning.specs.Views.{range_part}
+use Rattle.linemap_meaning.specs.TableViews.{range_part}
 use Rattle.linemap_check.proofs.outside.last_place.Given as goal
 
 abbrev pub invariant-loop-range : goal.invariant-loop-range

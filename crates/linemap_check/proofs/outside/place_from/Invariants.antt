@@ -1,7 +1,7 @@
 use Rattle.std.proofs.Common.{◌≡◌, drop, map}
 use Rattle.std.specs.List.{list_any}
 use Rattle.linemap_meaning.specs.Conditions.{is_within}
-use Rattle.linemap_meaning.specs.Views.{range_part}
+use Rattle.linemap_meaning.specs.TableViews.{range_part}
 use Rattle.linemap_check.proofs.outside.place_from.Given as goal
 
 abbrev pub invariant-loop-i : goal.invariant-loop-i

@@ -1,5 +1,5 @@
 use Rattle.std.proofs.Common.{◌≡◌, flat_map, length, drop}
-use Rattle.linemap_check.specs.Spans.{any_meets}
+use Rattle.linemap_check.specs.RangePasses.{any_meets}
 use Rattle.linemap_check.proofs.overlaps.any_meets.Given as goal
 
 abbrev pub invariant-loop-range : goal.invariant-loop-range

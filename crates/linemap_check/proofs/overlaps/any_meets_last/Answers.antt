@@ -1,27 +1,48 @@
-use Rattle.std.proofs.Common.{flat_map, sym, ◌∙◌}
-use Rattle.linemap_meaning.specs.Views.{range_part}
-use Rattle.linemap_check.proofs.Lists.{flat_map_drop, flat_map_drop_all}
-use Rattle.linemap_check.proofs.PassLemmas.{last_unmet_append, met_from_start, unmet_from_start}
+use Rattle.std.proofs.Common.{flat_map, sym, ap, ◌∙◌}
+use Rattle.linemap_meaning.specs.TableViews.{range_part}
+use Rattle.linemap_check.proofs.DirectionLemmas.{any_overlap-in_direction, direction_drop, direction_drop_all}
+use Rattle.linemap_check.proofs.RangePassLemmas.{last_unmet_append, met_from_start, unmet_from_start}
+use Rattle.linemap_check.specs.RangePasses.{in_direction}
 use Rattle.linemap_check.proofs.overlaps.any_meets_last.Goals as goal
 
 pub returns-in-None-clause-found : goal.returns-in-None-clause-found
 returns-in-None-clause-found g c = λ _.
-    met_from_start (flat_map g.T.Spanned.ranges c.args.items.now)
-    (c.loop-item.invariant
-    ∙ rw (flat_map_drop g.T.Spanned.ranges c.args.items.now c.loop-item.item-index c.item-item.result c.loop-item-test.true c.item-item.is, last_unmet_append, ← c.in-None.ensures))
+    sym (any_overlap-in_direction g.T.Spanned.ranges c.args.backwards c.args.items.now)
+    ∙ met_from_start (flat_map g.T.Spanned.ranges (in_direction c.args.backwards c.args.items.now))
+    (c.loop-i.invariant
+    ∙ rw (
+      direction_drop g.T.Spanned.ranges c.args.backwards c.args.items.now c.loop-i.i c.item_at.result.now
+          c.loop-i-test.true c.item_at.ensures,
+      last_unmet_append,
+      ← c.in-None.ensures,
+    ))
 
 pub returns-in-None-clause-ascending : goal.returns-in-None-clause-ascending
 returns-in-None-clause-ascending g c = λ _.
-    sym (met_from_start (flat_map g.T.Spanned.ranges c.args.items.now)
-    (c.loop-item.invariant
-    ∙ rw (flat_map_drop g.T.Spanned.ranges c.args.items.now c.loop-item.item-index c.item-item.result c.loop-item-test.true c.item-item.is, last_unmet_append, ← c.in-None.ensures)))
+    sym (sym (any_overlap-in_direction g.T.Spanned.ranges c.args.backwards c.args.items.now)
+    ∙ met_from_start (flat_map g.T.Spanned.ranges (in_direction c.args.backwards c.args.items.now))
+    (c.loop-i.invariant
+    ∙ rw (
+      direction_drop g.T.Spanned.ranges c.args.backwards c.args.items.now c.loop-i.i c.item_at.result.now
+          c.loop-i-test.true c.item_at.ensures,
+      last_unmet_append,
+      ← c.in-None.ensures,
+    )))
 
-pub loop-item-preserved : goal.loop-item-preserved
-loop-item-preserved g c =
-    c.loop-item.invariant
-    ∙ rw (flat_map_drop g.T.Spanned.ranges c.args.items.now c.loop-item.item-index c.item-item.result c.loop-item-test.true c.item-item.is, last_unmet_append, ← c.in-Some.ensures)
+pub loop-i-preserved : goal.loop-i-preserved
+loop-i-preserved g c =
+    c.loop-i.invariant
+    ∙ rw (
+      direction_drop g.T.Spanned.ranges c.args.backwards c.args.items.now c.loop-i.i c.item_at.result.now
+          c.loop-i-test.true c.item_at.ensures,
+      last_unmet_append,
+      ← c.in-Some.ensures,
+    )
 
 pub returns-clause-ascending : goal.returns-clause-ascending
 returns-clause-ascending g c = λ ascending.
-    sym (unmet_from_start (flat_map g.T.Spanned.ranges c.args.items.now) (range_part c.loop-item.last) ascending
-    (c.loop-item.invariant ∙ rw (flat_map_drop_all g.T.Spanned.ranges c.args.items.now c.loop-item.item-index c.loop-item-test.false)))
+    sym (sym (any_overlap-in_direction g.T.Spanned.ranges c.args.backwards c.args.items.now)
+    ∙ unmet_from_start (flat_map g.T.Spanned.ranges (in_direction c.args.backwards c.args.items.now))
+    (range_part c.loop-i.last) ascending
+    (c.loop-i.invariant
+    ∙ rw (direction_drop_all g.T.Spanned.ranges c.args.backwards c.args.items.now c.loop-i.i c.loop-i-test.false)))

@@ -4,10 +4,14 @@ use Rattle.linemap_check.proofs.overlaps.any_pair_overlaps.Goals as goal
 
 pub returns-then-any_meets : goal.returns-then-any_meets
 returns-then-any_meets g c =
-    let step = any_overlap_step g.T.Spanned.ranges c.args.items.now c.loop-i.i c.index-items-i.result c.any_meets.result c.loop-i-test.true c.index-items-i.is c.any_meets.ensures in
+    let step =
+    any_overlap_step g.T.Spanned.ranges c.args.items.now c.loop-i.i c.index-items-i.result c.any_meets.result
+    c.loop-i-test.true c.index-items-i.is c.any_meets.ensures in
     sym (c.loop-i.invariant ∙ rw c.if-any_meets.true at step)
 
 pub loop-i-preserved : goal.loop-i-preserved
 loop-i-preserved g c =
-    let step = any_overlap_step g.T.Spanned.ranges c.args.items.now c.loop-i.i c.index-items-i.result c.any_meets.result c.loop-i-test.true c.index-items-i.is c.any_meets.ensures in
+    let step =
+    any_overlap_step g.T.Spanned.ranges c.args.items.now c.loop-i.i c.index-items-i.result c.any_meets.result
+    c.loop-i-test.true c.index-items-i.is c.any_meets.ensures in
     c.loop-i.invariant ∙ rw c.if-any_meets.false at step

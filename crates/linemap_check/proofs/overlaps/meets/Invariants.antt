@@ -1,7 +1,7 @@
 use Rattle.std.proofs.Common.{◌≡◌, length, drop}
 use Rattle.std.specs.List.{list_any}
 use Rattle.linemap_meaning.specs.Conditions.{overlap}
-use Rattle.linemap_meaning.specs.Views.{range_part}
+use Rattle.linemap_meaning.specs.TableViews.{range_part}
 use Rattle.linemap_check.proofs.overlaps.meets.Given as goal
 
 abbrev pub invariant-loop-other : goal.invariant-loop-other

@@ -1,7 +1,7 @@
 use Rattle.std.proofs.Common.{◌≡◌, drop, flat_map}
 use Rattle.std.specs.List.{list_any}
 use Rattle.linemap_meaning.specs.Conditions.{overlap}
-use Rattle.linemap_meaning.specs.Views.{range_part}
+use Rattle.linemap_meaning.specs.TableViews.{range_part}
 use Rattle.linemap_check.proofs.overlaps.meets_any.Given as goal
 
 abbrev pub invariant-loop-item : goal.invariant-loop-item

@@ -1,5 +1,5 @@
-use Rattle.linemap_meaning.specs.Views.{file_part}
-use Rattle.linemap_meaning.specs.Weight.{file_weight}
+use Rattle.linemap_meaning.specs.TableViews.{file_part}
+use Rattle.linemap_meaning.specs.TableWeight.{file_weight}
 use Rattle.linemap_check.proofs.SaturationLemmas.{sum_by_map}
 use Rattle.linemap_check.proofs.weight.files_weight.Goals as goal
 

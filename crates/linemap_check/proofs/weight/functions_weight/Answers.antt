@@ -1,5 +1,5 @@
-use Rattle.linemap_meaning.specs.Views.{function_part}
-use Rattle.linemap_meaning.specs.Weight.{function_weight}
+use Rattle.linemap_meaning.specs.TableViews.{function_part}
+use Rattle.linemap_meaning.specs.TableWeight.{function_weight}
 use Rattle.linemap_check.proofs.SaturationLemmas.{sum_by_map}
 use Rattle.linemap_check.proofs.weight.functions_weight.Goals as goal
 

@@ -1,5 +1,5 @@
-use Rattle.linemap_meaning.specs.Views.{sequence_part}
-use Rattle.linemap_meaning.specs.Weight.{sequence_weight}
+use Rattle.linemap_meaning.specs.TableViews.{sequence_part}
+use Rattle.linemap_meaning.specs.TableWeight.{sequence_weight}
 use Rattle.linemap_check.proofs.SaturationLemmas.{sum_by_map}
 use Rattle.linemap_check.proofs.weight.sequences_weight.Goals as goal
 

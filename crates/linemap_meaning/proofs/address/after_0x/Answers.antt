@@ -1,4 +1,4 @@
--- The byte before the cut is an `x`, so a character begins behind it.
+-- The byte before the cut is an `x`, so a character begins after it.
 use Rattle.std.proofs.Common.{◌≡◌, get_or, length, arith, rules, ap}
 use Rattle.std.proofs.lemmas.Str.{lead_after_ascii}
 use Rattle.linemap_meaning.proofs.address.after_0x.Goals as goal

@@ -1,13 +1,13 @@
 use Rattle.std.proofs.Common.{rules, arith, [], ◌++◌, append_assoc}
 use Rattle.std.proofs.lemmas.List.{append-nil, take_rest, take-append-drop}
-use Rattle.linemap_output.proofs.WritingLemmas.{appends_kept, appends_more, front_before}
+use Rattle.linemap_output.proofs.WritingLemmas.{appends_kept, appends_more, prefix_before}
 use Rattle.linemap_output.proofs.writing.write_bytes.Goals as goal
 
-pub returns-in-Ok-eq0-clause-front : goal.returns-in-Ok-eq0-clause-front
-returns-in-Ok-eq0-clause-front g c =
+pub returns-in-Ok-eq0-clause-prefix : goal.returns-in-Ok-eq0-clause-prefix
+returns-in-Ok-eq0-clause-prefix g c =
     let w = c.write.invariant.written in
     let kept = appends_more _ _ _ w.0 [] w.1 (search rules) in
-    front_before _ _ (w.0 ++ []) c.write.rest.now c.args.bytes.now kept (rw (append-nil w.0) w.2)
+    prefix_before _ _ (w.0 ++ []) c.write.rest.now c.args.bytes.now kept (rw (append-nil w.0) w.2)
 
 pub write-preserved-in-Ok : goal.write-preserved-in-Ok
 write-preserved-in-Ok g c =
@@ -15,12 +15,12 @@ write-preserved-in-Ok g c =
     let more = appends_more _ _ _ w.0 _ w.1 c.in-Ok.ensures.bytes in
     record { written = (_, more, rw (take_rest, append_assoc, take-append-drop) w.2); allowed = omega arith }
 
-pub returns-in_err-interruptions-in-Err-clause-front : goal.returns-in_err-interruptions-in-Err-clause-front
-returns-in_err-interruptions-in-Err-clause-front g c =
+pub returns-in_err-interruptions-in-Err-clause-prefix : goal.returns-in_err-interruptions-in-Err-clause-prefix
+returns-in_err-interruptions-in-Err-clause-prefix g c =
     let w = c.write.invariant.written in
-    front_before _ _ w.0 c.write.rest.now c.args.bytes.now (appends_kept _ _ _ w.0 w.1 c.in-Err.ensures.bytes) w.2
+    prefix_before _ _ w.0 c.write.rest.now c.args.bytes.now (appends_kept _ _ _ w.0 w.1 c.in-Err.ensures.bytes) w.2
 
-pub returns-clause-front : goal.returns-clause-front
-returns-clause-front g c =
+pub returns-clause-prefix : goal.returns-clause-prefix
+returns-clause-prefix g c =
     let w = c.write.invariant.written in
-    front_before _ _ w.0 c.write.rest.now c.args.bytes.now w.1 w.2
+    prefix_before _ _ w.0 c.write.rest.now c.args.bytes.now w.1 w.2

@@ -5,7 +5,8 @@ use Rattle.linemap_output.proofs.writing.write_bytes.Given as goal
 -- what was written and the rest are the text, and more interruptions are allowed
 abbrev pub invariant-write : goal.invariant-write
 invariant-write g l = record {
-  written : (front : List ℕ) × Appends (g.W.Write.contents l.fn.out) (g.W.Write.contents l.out) front × (front ++ l.rest ≡ l.bytes);
+  written : (prefix : List ℕ) × Appends (g.W.Write.contents l.fn.out) (g.W.Write.contents l.out) prefix
+      × (prefix ++ l.rest ≡ l.bytes);
   allowed : l.interruptions < 1000;
 }
 

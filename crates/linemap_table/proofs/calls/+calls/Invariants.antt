@@ -1,7 +1,7 @@
 use Rattle.std.proofs.Common.{◌+◌}
 use Rattle.serde_json.specs.Data.{depth, items_depth}
 use Rattle.serde_json.specs.View.{view, items_view}
-use Rattle.linemap_table.proofs.EachLemmas.{ContinuesCalls}
+use Rattle.linemap_table.proofs.JsonListLemmas.{ContinuesCalls}
 use Rattle.linemap_table.proofs.calls.+calls.Given as goal
 
 abbrev pub invariant-each_call-loop-item : goal.invariant-each_call-loop-item

@@ -1,4 +1,4 @@
-use Rattle.linemap_table.proofs.EachLemmas.{Continues}
+use Rattle.linemap_table.proofs.JsonListLemmas.{Continues}
 use Rattle.linemap_table.proofs.element.elements.Given as goal
 
 abbrev pub invariant-loop-item : goal.invariant-loop-item

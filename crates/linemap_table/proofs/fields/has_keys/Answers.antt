@@ -1,6 +1,6 @@
 use Rattle.std.proofs.Common.{sym, ◌∙◌}
 use Rattle.serde_json.proofs.Views.{members_len-members_view}
-use Rattle.linemap_table.proofs.ShapeLemmas.{nat_eq-has_keys}
+use Rattle.linemap_table.proofs.JsonShapeLemmas.{nat_eq-has_keys}
 use Rattle.linemap_table.proofs.fields.has_keys.Goals as goal
 
 pub returns-in-Some : goal.returns-in-Some

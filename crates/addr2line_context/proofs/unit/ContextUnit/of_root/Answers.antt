@@ -1,6 +1,6 @@
 use Rattle.std.proofs.lemmas.Result.{err_from_is_err_and}
-use Rattle.gimli_units_entries.specs.Seen.{raw_attributes}
-use Rattle.addr2line_context.proofs.Parts.{ranges_refused}
+use Rattle.addr2line_units.specs.EntryViews.{raw_attributes}
+use Rattle.addr2line_context.proofs.ContextParts.{ranges_refused}
 use Rattle.addr2line_context.proofs.unit.ContextUnit.of_root.Goals as goal
 
 pub returns-in_err-ranges : goal.returns-in_err-ranges

@@ -1,11 +1,11 @@
 use Rattle.std.proofs.Common.{subst, Result, ap, ◌∙◌}
 use Rattle.std.proofs.lemmas.Result.{err_from_is_err_and}
-use Rattle.gimli_core_base.specs.declared.error.Error.{Error}
-use Rattle.gimli_core_base.specs.Calls.{Gives}
-use Rattle.gimli_dwarf_facts.specs.UnitFacts.{UnitFacts}
-use Rattle.addr2line_sections.specs.Contexts.{ContextUnit}
-use Rattle.addr2line_sections.specs.UnitRanges.{is_partial}
-use Rattle.addr2line_context.proofs.Parts.{not_partial}
+use Rattle.addr2line_units.specs.Error.{Error}
+use Rattle.addr2line_units.specs.Calls.{ReturnsOrNoMemory}
+use Rattle.addr2line_units.specs.UnitFacts.{UnitFacts}
+use Rattle.addr2line_units.specs.Contexts.{ContextUnit}
+use Rattle.addr2line_units.specs.UnitRanges.{is_partial}
+use Rattle.addr2line_context.proofs.ContextParts.{not_partial}
 use Rattle.addr2line_context.proofs.unit.ContextUnit.read.Goals as goal
 
 pub returns-in_err-lines : goal.returns-in_err-lines
@@ -15,6 +15,8 @@ returns-in_err-lines g c =
 
 pub returns : goal.returns
 returns g c =
-    let P : Result ContextUnit Error → Type 0 = λ x. Gives (λ (u : ContextUnit). u) c.with_root.result x in
-    subst P (not_partial g.R.Offset.ReaderOffset.limit c.args.dwarf.now c.args.unit c.in_ok-lines.lines c.is_partial.result
-    (c.is_partial.ensures ∙ ap (λ (u : UnitFacts). is_partial u.header.kind) c.unit.view_is) c.if-is_partial.false c.in_ok-lines.ensures) c.with_root.ensures
+    let P : Result ContextUnit Error → Type 0 = λ x. ReturnsOrNoMemory c.with_root.result x in
+    subst P (not_partial g.R.Offset.ReaderOffset.limit c.args.dwarf.now c.args.unit c.in_ok-lines.lines
+    c.is_partial.result
+    (c.is_partial.ensures ∙ ap (λ (u : UnitFacts). is_partial u.header.kind) c.unit.view_is) c.if-is_partial.false
+    c.in_ok-lines.ensures) c.with_root.ensures

@@ -1,7 +1,7 @@
 use Rattle.std.proofs.Common.{◌∙◌, ap, ℕ, eqb, Bool, cond, List, map, Some, None}
 use Rattle.std.specs.List.{list_any}
-use Rattle.gimli_core_constants.specs.declared.common.DebugAbbrevOffset.{DebugAbbrevOffset}
-use Rattle.gimli_core_abbrev.specs.Parsing.{table_at}
+use Rattle.gimli_core_readers.specs.DebugAbbrevOffset.{DebugAbbrevOffset}
+use Rattle.gimli_core_abbrev.specs.TableParsing.{table_at}
 use Rattle.gimli_core_abbrev.proofs.cache.AbbreviationsCache.populate.Goals as goal
 
 pub returns-clause-ok : goal.returns-clause-ok
@@ -14,6 +14,9 @@ returns-clause-ok g c =
       given.3,
       λ offset.
           c.in_ok-tables.ensures.ok offset
-          ∙ ap (λ (xs : List (DebugAbbrevOffset g.row.R-Offset.Denot)). cond (list_any (λ (p : ℕ). eqb p offset) (map (λ o. g.R.Offset.ReaderOffset.count o.0) xs)) (Some (table_at offset c.args.section.now)) None) c.deref.ensures.value
-          ∙ ap (λ (b : Bool). cond b (Some (table_at offset c.args.section.now)) None) (c.in_ok-chosen.ensures.ok offset),
+          ∙ ap (λ (xs : List (DebugAbbrevOffset g.row.R-Offset.Denot)). cond
+          (list_any (λ (p : ℕ). eqb p offset) (map (λ o. g.R.Offset.ReaderOffset.count o.0) xs))
+          (Some (table_at offset c.args.section.now)) None) c.deref.ensures.value
+          ∙ ap (λ (b : Bool). cond b (Some (table_at offset c.args.section.now)) None)
+          (c.in_ok-chosen.ensures.ok offset),
     )

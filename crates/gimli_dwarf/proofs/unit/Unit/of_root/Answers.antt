@@ -1,11 +1,11 @@
 use Rattle.std.proofs.Common.{subst, ap, Result}
 use Rattle.std.proofs.lemmas.Result.{err_from_is_err_and}
-use Rattle.gimli_core_base.specs.declared.error.Error.{Error}
-use Rattle.gimli_core_base.specs.Calls.{Gives}
-use Rattle.gimli_units_entries.specs.Seen.{raw_attributes}
-use Rattle.gimli_dwarf_facts.specs.Sections.{Sections}
-use Rattle.gimli_dwarf_facts.specs.UnitFacts.{UnitFacts}
-use Rattle.gimli_dwarf.proofs.Parts.{placed-named-bare}
+use Rattle.gimli_dwarf_spec.specs.Error.{Error}
+use Rattle.gimli_dwarf_spec.specs.Calls.{ReturnsOrNoMemory}
+use Rattle.gimli_dwarf_spec.specs.EntryViews.{raw_attributes}
+use Rattle.gimli_dwarf_spec.specs.DwarfSections.{Sections}
+use Rattle.gimli_dwarf_spec.specs.UnitFacts.{UnitFacts}
+use Rattle.gimli_dwarf.proofs.UnitSteps.{facts_by_steps}
 use Rattle.gimli_dwarf.proofs.unit.Unit.of_root.Goals as goal
 
 pub returns-in_err-unit : goal.returns-in_err-unit
@@ -20,6 +20,8 @@ returns-in_err-unit-2 g c =
 
 pub returns : goal.returns
 returns g c =
-    let P : Result UnitFacts Error → Type 0 = λ x. Gives (λ (u : UnitFacts). u) c.with_program.result x in
-    subst P (placed-named-bare g.R.Offset.ReaderOffset.limit c.args.dwarf.now c.args.header c.args.abbreviations.value
-    (raw_attributes g.R.Reader.view g.R.Offset.ReaderOffset.count c.args.attrs.now) _ _ _ (ap (λ (d : Sections). d.file.file_type) c.dwarf.view_is) c.in_ok-unit.ensures c.in_ok-unit-2.ensures) c.with_program.ensures
+    let P : Result UnitFacts Error → Type 0 = λ x. ReturnsOrNoMemory c.with_program.result x in
+    subst P (facts_by_steps g.R.Offset.ReaderOffset.limit c.args.dwarf.now c.args.header c.args.abbreviations.value
+    (raw_attributes g.R.Reader.view g.R.Offset.ReaderOffset.count c.args.attrs.now) _ _ _
+    (ap (λ (d : Sections). d.file.file_type) c.dwarf.view_is) c.in_ok-unit.ensures c.in_ok-unit-2.ensures)
+    c.with_program.ensures

@@ -1,6 +1,6 @@
 use Rattle.std.proofs.Common.{[]}
-use Rattle.gimli_core_base.specs.View.{bytes_left}
-use Rattle.gimli_lines_rows.specs.Rows.{Path}
+use Rattle.gimli_lines_machine.specs.View.{bytes_left}
+use Rattle.gimli_lines_rows.specs.ProgramRows.{Path}
 use Rattle.gimli_lines_rows.proofs.rows.LineRows.advance.Given as goal
 
 -- no row was shown on the way so far

@@ -1,6 +1,6 @@
 use Rattle.std.proofs.Common.{arith}
-use Rattle.gimli_units_forms.proofs.Sizes.{AtMost-attributes}
-use Rattle.gimli_units_entries.proofs.Walks.{IsWithin-leaves, depth_again}
+use Rattle.gimli_units_forms.proofs.FormSizes.{AtMost-attributes}
+use Rattle.gimli_units_entries.proofs.WalkLemmas.{IsWithin-leaves, depth_again}
 use Rattle.gimli_units_entries.proofs.raw.EntriesRaw.read_values.Goals as goal
 
 pub invariant_of-result : goal.invariant_of-result

@@ -1,51 +1,73 @@
 -- What is to come begins with what the next pair stands for.
 use Rattle.std.proofs.Common.{rules, Ok, Err, Some, None, refl, sym, ◌∙◌}
-use Rattle.gimli_units_headers.proofs.Sets.{pair_next, pair_smaller, no_pair, first_refused}
-use Rattle.gimli_units_headers.specs.Aranges.{pairs_to_come}
-use Rattle.gimli_units_headers.proofs.Passed.{stepped, none_passed, one_passed, consumes_refused, no_pairs, up_to_end}
+use Rattle.gimli_units_headers.proofs.ArangeSetLemmas.{pair_next, pair_smaller, no_pair, first_is_refusal}
+use Rattle.gimli_units_headers.specs.ArangeSets.{pairs_to_come}
+use Rattle.gimli_units_headers.proofs.PairSkipLemmas.{pair_step, skips_none, skips_one, consumes_refusal, no_pairs, skips_all}
 use Rattle.gimli_units_headers.proofs.arange_entry.ArangeEntryIter.next.Goals as goal
 
 pub returns-in_err-entry-clause-order : goal.returns-in_err-entry-clause-order
 returns-in_err-entry-clause-order g c =
-    first_refused _ _ _ _ c.from_residual-in_err-entry.ensures.1
-    (sym c.loop-raw.invariant.same_ranges ∙ pair_next c.loop-raw.self c.next_raw.new.self c.in-Some.raw (Err c.in_err-entry.field-0.0) c.in_ok-raw.ensures.address c.in_ok-raw.ensures.size (search rules) (search rules))
+    first_is_refusal _ _ _ _ c.from_residual-in_err-entry.ensures.1
+    (sym c.loop-raw.invariant.same_ranges
+    ∙ pair_next c.loop-raw.self c.next_raw.new.self c.in-Some.raw (Err c.in_err-entry.field-0.0)
+    c.in_ok-raw.ensures.address c.in_ok-raw.ensures.size (search rules) (search rules))
 
 pub returns-in-Some-2-clause-order : goal.returns-in-Some-2-clause-order
 returns-in-Some-2-clause-order g c =
-    sym c.loop-raw.invariant.same_ranges ∙ pair_next c.loop-raw.self c.next_raw.new.self c.in-Some.raw (Ok (Some c.in-Some-2.entry)) c.in_ok-raw.ensures.address c.in_ok-raw.ensures.size (search rules) (search rules)
+    sym c.loop-raw.invariant.same_ranges
+    ∙ pair_next c.loop-raw.self c.next_raw.new.self c.in-Some.raw (Ok (Some c.in-Some-2.entry))
+    c.in_ok-raw.ensures.address c.in_ok-raw.ensures.size (search rules) (search rules)
 
 pub loop-raw-smaller : goal.loop-raw-smaller
 loop-raw-smaller g c =
-    pair_smaller c.loop-raw.self.address_size c.loop-raw.self.left c.in-Some.raw c.next_raw.new.self.left c.in_ok-raw.ensures.address (search rules)
+    pair_smaller c.loop-raw.self.address_size c.loop-raw.self.left c.in-Some.raw c.next_raw.new.self.left
+    c.in_ok-raw.ensures.address (search rules)
 
 pub loop-raw-preserved : goal.loop-raw-preserved
 loop-raw-preserved g c = record {
-  same_ranges = sym (pair_next c.loop-raw.self c.next_raw.new.self c.in-Some.raw (Ok None) c.in_ok-raw.ensures.address c.in_ok-raw.ensures.size (search rules) (search rules)) ∙ c.loop-raw.invariant.same_ranges;
+  same_ranges =
+      sym
+      (pair_next c.loop-raw.self c.next_raw.new.self c.in-Some.raw (Ok None) c.in_ok-raw.ensures.address
+      c.in_ok-raw.ensures.size (search rules) (search rules)) ∙ c.loop-raw.invariant.same_ranges;
   same_size = c.in_ok-raw.ensures.size ∙ c.loop-raw.invariant.same_size;
   passed =
-      let step = stepped c.args.self.now c.loop-raw.self c.next_raw.new.self c.in-Some.raw (Ok None) c.loop-raw.invariant.passed c.loop-raw.invariant.same_size c.in_ok-raw.ensures.address c.in_ok-raw.ensures.size (search rules) (search rules) in
-      one_passed _ _ c.in-Some.raw _ step.so_far step.stands_for;
+      let step = pair_step c.args.self.now c.loop-raw.self c.next_raw.new.self c.in-Some.raw (Ok None)
+      c.loop-raw.invariant.passed c.loop-raw.invariant.same_size c.in_ok-raw.ensures.address c.in_ok-raw.ensures.size
+      (search rules) (search rules) in
+      skips_one _ _ c.in-Some.raw _ step.so_far step.stands_for;
 }
 
 pub loop-raw-init : goal.loop-raw-init
-loop-raw-init g c = record { same_ranges = refl; same_size = refl; passed = none_passed c.args.self.now.address_size (pairs_to_come c.args.self.now) }
+loop-raw-init g c =
+    record {
+      same_ranges = refl;
+      same_size = refl;
+      passed = skips_none c.args.self.now.address_size
+          (pairs_to_come c.args.self.now);
+    }
 
 pub returns-in_err-entry-clause-pairs : goal.returns-in_err-entry-clause-pairs
 returns-in_err-entry-clause-pairs g c =
-    let step = stepped c.args.self.now c.loop-raw.self c.next_raw.new.self c.in-Some.raw (Err c.in_err-entry.field-0.0) c.loop-raw.invariant.passed c.loop-raw.invariant.same_size c.in_ok-raw.ensures.address c.in_ok-raw.ensures.size (search rules) (search rules) in
-    consumes_refused _ _ _ c.in-Some.raw _ _ step.so_far c.from_residual-in_err-entry.ensures.1 step.stands_for
+    let step = pair_step c.args.self.now c.loop-raw.self c.next_raw.new.self c.in-Some.raw
+    (Err c.in_err-entry.field-0.0) c.loop-raw.invariant.passed c.loop-raw.invariant.same_size
+    c.in_ok-raw.ensures.address c.in_ok-raw.ensures.size (search rules) (search rules) in
+    consumes_refusal _ _ _ c.in-Some.raw _ _ step.so_far c.from_residual-in_err-entry.ensures.1 step.stands_for
 
 pub returns-in-Some-2-clause-pairs : goal.returns-in-Some-2-clause-pairs
 returns-in-Some-2-clause-pairs g c =
-    let step = stepped c.args.self.now c.loop-raw.self c.next_raw.new.self c.in-Some.raw (Ok (Some c.in-Some-2.entry)) c.loop-raw.invariant.passed c.loop-raw.invariant.same_size c.in_ok-raw.ensures.address c.in_ok-raw.ensures.size (search rules) (search rules) in
+    let step = pair_step c.args.self.now c.loop-raw.self c.next_raw.new.self c.in-Some.raw (Ok (Some c.in-Some-2.entry))
+    c.loop-raw.invariant.passed c.loop-raw.invariant.same_size c.in_ok-raw.ensures.address c.in_ok-raw.ensures.size
+    (search rules) (search rules) in
     (c.in-Some.raw, step.so_far, step.stands_for)
 
 pub returns-clause-pairs : goal.returns-clause-pairs
 returns-clause-pairs g c =
-    let ends = no_pairs c.loop-raw.self c.next_raw.new.self c.in_ok-raw.ensures.address c.in_ok-raw.ensures.size (search rules) in
-    (up_to_end _ _ _ c.loop-raw.invariant.passed ends.0, ends.1)
+    let ends = no_pairs c.loop-raw.self c.next_raw.new.self c.in_ok-raw.ensures.address c.in_ok-raw.ensures.size
+    (search rules) in
+    (skips_all _ _ _ c.loop-raw.invariant.passed ends.0, ends.1)
 
 pub returns-clause-order : goal.returns-clause-order
 returns-clause-order g c =
-    let ends = no_pair c.loop-raw.self c.next_raw.new.self c.in_ok-raw.ensures.address c.in_ok-raw.ensures.size (search rules) in
+    let ends = no_pair c.loop-raw.self c.next_raw.new.self c.in_ok-raw.ensures.address c.in_ok-raw.ensures.size
+    (search rules) in
     (sym c.loop-raw.invariant.same_ranges ∙ ends.0, ends.1)

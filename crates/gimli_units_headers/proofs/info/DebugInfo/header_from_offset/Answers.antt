@@ -1,13 +1,15 @@
--- What stands at an offset is what the section has there.
+-- A part looked up by its offset is the one that the section has there.
 use Rattle.std.proofs.Common.{rules}
-use Rattle.gimli_units_headers.proofs.Parts.{again_in}
-use Rattle.gimli_units_headers.proofs.Units.{units_are_parts}
+use Rattle.gimli_units_headers.proofs.TilingLemmas.{lookup_is_part}
+use Rattle.gimli_units_headers.proofs.UnitHeaderLemmas.{units_are_parts}
 use Rattle.gimli_units_headers.proofs.info.DebugInfo.header_from_offset.Goals as goal
 
 pub returns-in_err-skip-clause-again : goal.returns-in_err-skip-clause-again
 returns-in_err-skip-clause-again g c =
-    again_in (units_are_parts g.R.Offset.ReaderOffset.limit) c.args.self.now (g.R.Offset.ReaderOffset.count c.args.offset.0) c.from_residual-in_err-skip.result (search rules)
+    lookup_is_part (units_are_parts g.R.Offset.ReaderOffset.limit) c.args.self.now
+    (g.R.Offset.ReaderOffset.count c.args.offset.0) c.from_residual-in_err-skip.result (search rules)
 
 pub returns-clause-again : goal.returns-clause-again
 returns-clause-again g c =
-    again_in (units_are_parts g.R.Offset.ReaderOffset.limit) c.args.self.now (g.R.Offset.ReaderOffset.count c.args.offset.0) c.parse_unit_header.result (search rules)
+    lookup_is_part (units_are_parts g.R.Offset.ReaderOffset.limit) c.args.self.now
+    (g.R.Offset.ReaderOffset.count c.args.offset.0) c.parse_unit_header.result (search rules)

@@ -1,13 +1,21 @@
--- The units of a section stand end to end, and there are no more of them than bytes.
+-- The units of a section lie end to end, and there are no more of them than bytes.
 use Rattle.std.proofs.Common.{rules, Ok}
-use Rattle.gimli_units_headers.proofs.Parts.{tiled_in, few_in}
-use Rattle.gimli_units_headers.proofs.Units.{units_are_parts}
+use Rattle.gimli_units_headers.proofs.TilingLemmas.{tile_in, few_in}
+use Rattle.gimli_units_headers.proofs.UnitHeaderLemmas.{units_are_parts}
 use Rattle.gimli_units_headers.proofs.info.DebugInfo.units.Goals as goal
 
 pub returns-clause-tile : goal.returns-clause-tile
 returns-clause-tile g c =
-    tiled_in (units_are_parts g.R.Offset.ReaderOffset.limit) c.args.self.now (Ok (record { section_length = g.R.Offset.ReaderOffset.count c.len.result; left = g.R.Reader.view c.in_ok-copy.field-0 })) (search rules)
+    tile_in (units_are_parts g.R.Offset.ReaderOffset.limit) c.args.self.now
+    (Ok
+    (record
+    { section_length = g.R.Offset.ReaderOffset.count c.len.result; left = g.R.Reader.view c.in_ok-copy.field-0 }))
+    (search rules)
 
 pub returns-clause-few : goal.returns-clause-few
 returns-clause-few g c =
-    few_in (units_are_parts g.R.Offset.ReaderOffset.limit) c.args.self.now (Ok (record { section_length = g.R.Offset.ReaderOffset.count c.len.result; left = g.R.Reader.view c.in_ok-copy.field-0 })) (search rules)
+    few_in (units_are_parts g.R.Offset.ReaderOffset.limit) c.args.self.now
+    (Ok
+    (record
+    { section_length = g.R.Offset.ReaderOffset.count c.len.result; left = g.R.Reader.view c.in_ok-copy.field-0 }))
+    (search rules)

@@ -1,6 +1,6 @@
--- What is defined of a table's bytes is never refused for want of memory.
-use Rattle.gimli_core_strings.proofs.MemoryLemmas.{free-refused}
-use Rattle.gimli_units_lists.proofs.FreeTables.{free-lists_header}
+-- What is defined by a table's bytes never runs out of memory.
+use Rattle.gimli_core_readers.proofs.MemoryLemmas.{free-refused}
+use Rattle.gimli_units_lists.proofs.ListTableMemoryLemmas.{free-lists_header}
 use Rattle.gimli_units_lists.proofs.header.ListsHeader.parse.Goals as goal
 
 pub returns-in_err-header-clause-free : goal.returns-in_err-header-clause-free

@@ -1,14 +1,15 @@
 use Rattle.std.proofs.Common.{◌≡◌, length}
-use Rattle.gimli_units_lists.specs.Lists.{ranges_to_come}
+use Rattle.gimli_units_lists.specs.ListSections.{ranges_to_come}
 use Rattle.gimli_units_lists.specs.RangeEntries.{raw_ranges_to_come}
-use Rattle.gimli_units_lists.specs.Progress.{RangesPassed}
+use Rattle.gimli_units_lists.specs.ListProgress.{SkipsRanges}
 use Rattle.gimli_units_lists.proofs.ranges.RngListIter.next.Given as goal
 
 -- what was to come is still to come, and what was taken stands for nothing
 abbrev pub invariant-loop-entry : goal.invariant-loop-entry
 invariant-loop-entry g l =
     let limit = g.R.Offset.ReaderOffset.limit in
-    (ranges_to_come limit l.fn.self ≡ ranges_to_come limit l.self) × (l.self.raw.encoding ≡ l.fn.self.raw.encoding) × (l.self.against.setting ≡ l.fn.self.against.setting) × RangesPassed limit l.fn.self l.self
+    (ranges_to_come limit l.fn.self ≡ ranges_to_come limit l.self) × (l.self.raw.encoding ≡ l.fn.self.raw.encoding)
+    × (l.self.against.setting ≡ l.fn.self.against.setting) × SkipsRanges limit l.fn.self l.self
 
 abbrev pub decreases-loop-entry : goal.decreases-loop-entry
 decreases-loop-entry g l = length (raw_ranges_to_come g.R.Offset.ReaderOffset.limit l.self.raw)

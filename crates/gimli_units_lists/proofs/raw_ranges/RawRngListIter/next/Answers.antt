@@ -1,9 +1,9 @@
 -- Each answer is what was to come.
 use Rattle.std.proofs.Common.{rules}
-use Rattle.gimli_units_lists.specs.Seen.{raw_entry}
+use Rattle.gimli_units_lists.specs.ListEntryViews.{raw_entry}
 use Rattle.gimli_units_lists.proofs.RawRanges.{raw_none, raw_item, raw_end, raw_fault}
-use Rattle.gimli_units_lists.proofs.Free.{free_refusal}
-use Rattle.gimli_units_lists.proofs.FreeEntries.{free-range_entry}
+use Rattle.gimli_units_lists.proofs.FieldMemoryLemmas.{free_refusal}
+use Rattle.gimli_units_lists.proofs.ListEntryMemoryLemmas.{free-range_entry}
 use Rattle.gimli_units_lists.proofs.raw_ranges.RawRngListIter.next.Goals as goal
 
 pub returns-then-is_empty-clause-next : goal.returns-then-is_empty-clause-next
@@ -18,8 +18,10 @@ returns-in-Ok-Some-clause-next g c =
 
 pub returns-in-Ok-None-clause-next : goal.returns-in-Ok-None-clause-next
 returns-in-Ok-None-clause-next g c = (
-  raw_end g.R.Offset.ReaderOffset.limit c.args.self.now (g.R.Reader.view c.parse_entry.new.input) (search rules) (search rules),
-  raw_none g.R.Offset.ReaderOffset.limit (record { encoding = c.self.inside.encoding; left = g.R.Reader.view c.empty.new.self }) (search rules),
+  raw_end g.R.Offset.ReaderOffset.limit c.args.self.now (g.R.Reader.view c.parse_entry.new.input) (search rules)
+      (search rules),
+  raw_none g.R.Offset.ReaderOffset.limit
+      (record { encoding = c.self.inside.encoding; left = g.R.Reader.view c.empty.new.self }) (search rules),
 )
 
 pub returns-in-Err-clause-next : goal.returns-in-Err-clause-next

@@ -1,0 +1,385 @@
+//! Contexts over small files. The bytes are written by hand from the standard.
+
+use crate::{Context, LocationRangeIter};
+use addr2line_context::{Dwarf, EndianBytes, EndianSlice, Error, LittleEndian, SectionId};
+use bytes::Bytes;
+use std::alloc::Global;
+use std::rc::Rc;
+use std::test::Fail;
+
+// Units with stmt_list, low_pc, high_pc as a size, a name and a directory.
+const TABLE: &[u8] = b"\x01\x11\0\x10\x17\x11\x01\x12\x06\x03\x08\x1b\x08\0\0\0";
+
+// Unit 0 from 0 to 100, unit 1 from 10 to 20.
+const TWO_UNITS: &[u8] = b"\
+    \x1f\0\0\0\x04\0\0\0\0\0\x08\x01\0\0\0\0\0\0\0\0\0\0\0\0\x64\0\0\0a.c\0/w\0\
+    \x1f\0\0\0\x04\0\0\0\0\0\x08\x01\x38\0\0\0\x0a\0\0\0\0\0\0\0\x0a\0\0\0a.c\0/w\0";
+
+// Line 7 from 0 to 100; line 2 from 10 to 20.
+const TWO_PROGRAMS: &[u8] = b"\
+    \x34\0\0\0\x04\0\x1b\0\0\0\x01\x01\x01\xfb\x0e\x0d\
+    \0\x01\x01\x01\x01\0\0\0\x01\0\0\x01\0a.c\0\0\0\0\0\
+    \0\x09\x02\0\0\0\0\0\0\0\0\x03\x06\x01\x02\x64\0\x01\x01\
+    \x34\0\0\0\x04\0\x1b\0\0\0\x01\x01\x01\xfb\x0e\x0d\
+    \0\x01\x01\x01\x01\0\0\0\x01\0\0\x01\0a.c\0\0\0\0\0\
+    \0\x09\x02\x0a\0\0\0\0\0\0\0\x03\x01\x01\x02\x0a\0\x01\x01";
+
+// The same, where the second program has no row.
+const ONE_PROGRAM: &[u8] = b"\
+    \x34\0\0\0\x04\0\x1b\0\0\0\x01\x01\x01\xfb\x0e\x0d\
+    \0\x01\x01\x01\x01\0\0\0\x01\0\0\x01\0a.c\0\0\0\0\0\
+    \0\x09\x02\0\0\0\0\0\0\0\0\x03\x06\x01\x02\x64\0\x01\x01\
+    \x21\0\0\0\x04\0\x1b\0\0\0\x01\x01\x01\xfb\x0e\x0d\
+    \0\x01\x01\x01\x01\0\0\0\x01\0\0\x01\0a.c\0\0\0\0\0";
+
+// A unit from 0x10 to 0x30.
+const FROM_10_TO_30: &[u8] = b"\
+    \x1f\0\0\0\x04\0\0\0\0\0\x08\x01\0\0\0\0\x10\0\0\0\0\0\0\0\x20\0\0\0a.c\0/w\0";
+
+// Lines 1 and 2 at 0x10, line 3 at 0x20, up to 0x30.
+const DOUBLED: &[u8] = b"\
+    \x3a\0\0\0\x04\0\x1b\0\0\0\x01\x01\x01\xfb\x0e\x0d\
+    \0\x01\x01\x01\x01\0\0\0\x01\0\0\x01\0a.c\0\0\0\0\0\
+    \0\x09\x02\x10\0\0\0\0\0\0\0\x01\x03\x01\x01\x02\x10\x03\x01\x01\x02\x10\0\x01\x01";
+
+// A unit from 0x10 to 0x200.
+const FROM_10_TO_200: &[u8] = b"\
+    \x1f\0\0\0\x04\0\0\0\0\0\x08\x01\0\0\0\0\x10\0\0\0\0\0\0\0\xf0\x01\0\0a.c\0/w\0";
+
+// Line 1 at 0x10, line 2 at 0x100, a step back to 5 and an end, line 3 at 0x20, up to 0x30.
+const BACKWARDS: &[u8] = b"\
+    \x54\0\0\0\x04\0\x1b\0\0\0\x01\x01\x01\xfb\x0e\x0d\
+    \0\x01\x01\x01\x01\0\0\0\x01\0\0\x01\0a.c\0\0\0\0\0\
+    \0\x09\x02\x10\0\0\0\0\0\0\0\x01\x02\xf0\x01\x03\x01\x01\
+    \0\x09\x02\x05\0\0\0\0\0\0\0\0\x01\x01\
+    \0\x09\x02\x20\0\0\0\0\0\0\0\x03\x02\x01\x02\x10\0\x01\x01";
+
+// Unit 0 from 0x10 to 0x20, unit 1 from 0x18 to 0x30.
+const OVERLAPPING: &[u8] = b"\
+    \x1f\0\0\0\x04\0\0\0\0\0\x08\x01\0\0\0\0\x10\0\0\0\0\0\0\0\x10\0\0\0a.c\0/w\0\
+    \x1f\0\0\0\x04\0\0\0\0\0\x08\x01\x36\0\0\0\x18\0\0\0\0\0\0\0\x18\0\0\0a.c\0/w\0";
+
+// Line 1 from 0x10 to 0x20; a program that is cut in an instruction.
+const ONE_AND_BROKEN: &[u8] = b"\
+    \x32\0\0\0\x04\0\x1b\0\0\0\x01\x01\x01\xfb\x0e\x0d\
+    \0\x01\x01\x01\x01\0\0\0\x01\0\0\x01\0a.c\0\0\0\0\0\
+    \0\x09\x02\x10\0\0\0\0\0\0\0\x01\x02\x10\0\x01\x01\
+    \x33\0\0\0\x04\0\x1b\0\0\0\x01\x01\x01\xfb\x0e\x0d\
+    \0\x01\x01\x01\x01\0\0\0\x01\0\0\x01\0a.c\0\0\0\0\0\
+    \0\x09\x02\x18\0\0\0\0\0\0\0\x01\x02\x08\0\x01\x01\x02";
+
+// Units with stmt_list, low_pc, high_pc as a size, a name, a directory and a language.
+const TABLE_WITH_LANGUAGE: &[u8] =
+    b"\x01\x11\0\x10\x17\x11\x01\x12\x06\x03\x08\x1b\x08\x13\x0b\0\0\0";
+
+// From 0x1000 on, 8 bytes: /w/a.c.
+const UNIT: &[u8] = b"\x20\0\0\0\x04\0\0\0\0\0\x08\
+    \x01\0\0\0\0\0\x10\0\0\0\0\0\0\x08\0\0\0a.c\0/w\0\x0c";
+
+// A unit whose first entry is null, and the first one after it.
+const BEHIND: &[u8] = b"\x08\0\0\0\x04\0\0\0\0\0\x08\0\
+    \x20\0\0\0\x04\0\0\0\0\0\x08\
+    \x01\0\0\0\0\0\x10\0\0\0\0\0\0\x08\0\0\0a.c\0/w\0\x0c";
+
+// The first one, and a header of a version that isn't known.
+const DAMAGED_HEADER: &[u8] = b"\x20\0\0\0\x04\0\0\0\0\0\x08\
+    \x01\0\0\0\0\0\x10\0\0\0\0\0\0\x08\0\0\0a.c\0/w\0\x0c\
+    \x02\0\0\0\x09\0";
+
+// Line 1 from 0x1000 on, line 3 from 0x1004 on, up to 0x1008.
+const LINES: &[u8] = b"\x37\0\0\0\x04\0\x1b\0\0\0\x01\x01\x01\xfb\x0e\x0d\
+    \0\x01\x01\x01\x01\0\0\0\x01\0\0\x01\0a.c\0\0\0\0\0\
+    \0\x09\x02\0\x10\0\0\0\0\0\0\x01\x02\x04\x03\x02\x01\x02\x04\0\x01\x01";
+
+// The same with the begin of a further instruction.
+const BROKEN_LINES: &[u8] = b"\x38\0\0\0\x04\0\x1b\0\0\0\x01\x01\x01\xfb\x0e\x0d\
+    \0\x01\x01\x01\x01\0\0\0\x01\0\0\x01\0a.c\0\0\0\0\0\
+    \0\x09\x02\0\x10\0\0\0\0\0\0\x01\x02\x04\x03\x02\x01\x02\x04\0\x01\x01\x02";
+
+// The sections of a file that aren't empty.
+#[derive(Clone, Copy)]
+struct File {
+    abbrev: &'static [u8],
+    info: &'static [u8],
+    line: &'static [u8],
+    aranges: &'static [u8],
+}
+
+const EMPTY: File = File {
+    abbrev: b"",
+    info: b"",
+    line: b"",
+    aranges: b"",
+};
+
+impl File {
+    fn get(self, id: SectionId) -> &'static [u8] {
+        match id {
+            SectionId::DebugAbbrev => self.abbrev,
+            SectionId::DebugInfo => self.info,
+            SectionId::DebugLine => self.line,
+            SectionId::DebugAranges => self.aranges,
+            _ => &[],
+        }
+    }
+}
+
+fn file_of(info: &'static [u8], line: &'static [u8]) -> File {
+    File {
+        abbrev: TABLE,
+        info,
+        line,
+        aranges: b"",
+    }
+}
+
+fn file_with_language(info: &'static [u8], line: &'static [u8], aranges: &'static [u8]) -> File {
+    File {
+        abbrev: TABLE_WITH_LANGUAGE,
+        info,
+        line,
+        aranges,
+    }
+}
+
+type Borrowed = EndianSlice<'static, LittleEndian>;
+
+type Shared = EndianBytes<LittleEndian>;
+
+fn sections_of(alloc: Global, file: File) -> Result<Dwarf<Borrowed>, Error> {
+    Dwarf::load(alloc, move |id: SectionId| -> Result<Borrowed, Error> {
+        Ok(EndianSlice::new(file.get(id), LittleEndian))
+    })
+}
+
+fn context_of(alloc: Global, file: File) -> Result<Context<Borrowed>, Error> {
+    Context::from_dwarf(alloc, sections_of(alloc, file)?)
+}
+
+fn context_of_counted(alloc: Global, file: File) -> Result<Context<Borrowed>, Error> {
+    match Rc::new(alloc, sections_of(alloc, file)?) {
+        Ok(sections) => Context::from_arc_dwarf(alloc, sections),
+        Err(_) => Err(Error::Memory),
+    }
+}
+
+fn shared(bytes: &'static [u8]) -> Shared {
+    EndianBytes::new(Bytes::from_static(bytes), LittleEndian)
+}
+
+fn context_of_shared(alloc: Global, file: File) -> Result<Context<Shared>, Error> {
+    Context::from_sections(
+        alloc,
+        shared(file.abbrev).into(),
+        shared(b"").into(),
+        shared(file.aranges).into(),
+        shared(file.info).into(),
+        shared(file.line).into(),
+        shared(b"").into(),
+        shared(b"").into(),
+        shared(b"").into(),
+        shared(b"").into(),
+        shared(b"").into(),
+        shared(b""),
+    )
+}
+
+// ---- one address
+
+// The number of units, that of the supplement's, and of the first unit the language, the begin and
+// the end of its first range.
+fn first_unit(alloc: Global, file: File) -> Result<(usize, usize, Option<u16>, u64, u64), Error> {
+    let context = context_of(alloc, file)?;
+    let units = context.units();
+    let first = units.first().ok_or(Error::NoSuchUnit)?;
+    let range = first.ranges().first().ok_or(Error::NoSuchUnit)?;
+    let language = first.language().map(|language| language.0);
+    let more = context.supplement_units().len();
+    Ok((units.len(), more, language, range.begin, range.end))
+}
+
+// The line and the column of an address, and whether its file is /w/a.c.
+type Place = Option<(Option<u32>, Option<u32>, bool)>;
+
+fn place(alloc: Global, file: File, probe: u64) -> Result<Place, Error> {
+    let context = context_of_counted(alloc, file)?;
+    let Some(place) = context.find_location(probe)? else {
+        return Ok(None);
+    };
+    Ok(Some((place.line, place.column, place.file == Some("/w/a.c"))))
+}
+
+fn place_in_shared(alloc: Global, file: File, probe: u64) -> Result<Place, Error> {
+    let context = context_of_shared(alloc, file)?;
+    let Some(place) = context.find_location(probe)? else {
+        return Ok(None);
+    };
+    Ok(Some((place.line, place.column, place.file == Some("/w/a.c"))))
+}
+
+#[test]
+fn a_unit_and_its_places(rt: HostRuntime) {
+    let alloc = rt.alloc();
+    let whole = file_with_language(UNIT, LINES, b"");
+    let expected = Ok((1, 0, Some(0x0c), 0x1000, 0x1008));
+    assert_eq!(rt; first_unit(alloc, whole), expected);
+    // A unit before it that is refused is not kept.
+    let behind = file_with_language(BEHIND, LINES, b"");
+    assert_eq!(rt; first_unit(alloc, behind), expected);
+    let line_3 = Ok(Some((Some(3), Some(0), true)));
+    assert_eq!(rt; place(alloc, whole, 0x1004), line_3);
+    assert_eq!(rt; place_in_shared(alloc, whole, 0x1004), line_3);
+    assert_eq!(rt; place(alloc, whole, 0x1008), Ok(None));
+}
+
+fn line_at(context: &Context<Borrowed>, probe: u64) -> Result<Option<u32>, Error> {
+    match context.find_location(probe)? {
+        Some(place) => Ok(place.line),
+        None => Ok(None),
+    }
+}
+
+// The lines at three addresses.
+fn lines_at(alloc: Global, file: File, probes: [u64; 3]) -> Result<[Option<u32>; 3], Error> {
+    let context = context_of(alloc, file)?;
+    let [first, second, third] = probes;
+    Ok([
+        line_at(&context, first)?,
+        line_at(&context, second)?,
+        line_at(&context, third)?,
+    ])
+}
+
+#[test]
+fn lines_of_addresses(rt: HostRuntime) {
+    let table: [(&str, File, [u64; 3], [Option<u32>; 3]); 5] = [
+        (
+            "the unit that ends first",
+            file_of(TWO_UNITS, TWO_PROGRAMS),
+            [5, 15, 100],
+            [Some(7), Some(2), None],
+        ),
+        (
+            "the next one, where it has no row",
+            file_of(TWO_UNITS, ONE_PROGRAM),
+            [5, 15, 100],
+            [Some(7), Some(7), None],
+        ),
+        (
+            "the last row of an address",
+            file_of(FROM_10_TO_30, DOUBLED),
+            [0x10, 0x2f, 0x30],
+            [Some(2), Some(3), None],
+        ),
+        (
+            "where rows go back, the row before the first above the address",
+            file_of(FROM_10_TO_200, BACKWARDS),
+            [0x25, 0x30, u64::MAX],
+            [Some(1), None, None],
+        ),
+        ("nothing", EMPTY, [0, 15, u64::MAX], [None; 3]),
+    ];
+    for (what, file, probes, lines) in table {
+        assert_eq!(rt; lines_at(rt.alloc(), file, probes), Ok(lines), "{what}");
+    }
+}
+
+// ---- two ends
+
+// An address, how many there are from it on, and their line.
+type Item = (u64, u64, Option<u32>);
+
+// The first items between two ends.
+fn items_between(alloc: Global, file: File, (low, high): (u64, u64)) -> Result<Vec<Item>, Error> {
+    let context = context_of(alloc, file)?;
+    let mut found = context.find_location_range(low, high)?;
+    let mut items = Vec::new(alloc);
+    for _ in 0..5 {
+        match found.next()? {
+            Some((address, length, place)) => items.push((address, length, place.line))?,
+            None => break,
+        }
+    }
+    Ok(items)
+}
+
+#[test]
+fn rows_between_two_ends(rt: HostRuntime) -> Result<(), Fail> {
+    let backwards = file_of(FROM_10_TO_200, BACKWARDS);
+    let doubled = file_of(FROM_10_TO_30, DOUBLED);
+    let table: [(&str, File, (u64, u64), &[Item]); 5] = [
+        (
+            "rows that go back",
+            backwards,
+            (0x10, 0x200),
+            &[
+                (0x10, 0xf0, Some(1)),
+                (0x100, 0, Some(2)),
+                (0x20, 0x10, Some(3)),
+            ],
+        ),
+        (
+            "a row that begins before",
+            doubled,
+            (0x18, 0x21),
+            &[(0x10, 0x10, Some(2)), (0x20, 0x10, Some(3))],
+        ),
+        (
+            "ends the other way round",
+            doubled,
+            (0x1e, 0x18),
+            &[(0x10, 0x10, Some(2))],
+        ),
+        ("outside", doubled, (u64::MAX, 0), &[]),
+        ("nothing", EMPTY, (0, u64::MAX), &[]),
+    ];
+    for (what, file, ends, wanted) in table {
+        let items = items_between(rt.alloc(), file, ends)?;
+        assert!(rt; items.as_slice() == wanted, "{what}");
+    }
+    Ok(())
+}
+
+// ---- refusals
+
+fn next_address(found: &mut LocationRangeIter<'_, Borrowed>) -> Result<Option<u64>, Error> {
+    match found.next()? {
+        Some((address, _, _)) => Ok(Some(address)),
+        None => Ok(None),
+    }
+}
+
+// The addresses of the first three answers.
+fn three_answers(context: &Context<Borrowed>) -> Result<[Result<Option<u64>, Error>; 3], Error> {
+    let mut found = context.find_location_range(0, u64::MAX)?;
+    Ok([
+        next_address(&mut found),
+        next_address(&mut found),
+        next_address(&mut found),
+    ])
+}
+
+fn fault(alloc: Global, file: File) -> Option<Error> {
+    context_of(alloc, file).err()
+}
+
+// Lines that are refused are so where they are asked, behind what comes before them, and again.
+#[test]
+fn refusals(rt: HostRuntime) -> Result<(), Fail> {
+    let alloc = rt.alloc();
+    let context = context_of(alloc, file_of(OVERLAPPING, ONE_AND_BROKEN))?;
+    let refusal = context.parse_lines().err().ok_or("no refusal")?;
+    assert!(rt; matches!(refusal, Error::UnexpectedEof(_)));
+    let answers = [Ok(Some(0x10)), Err(refusal), Err(refusal)];
+    assert_eq!(rt; three_answers(&context)?, answers);
+    let broken = file_with_language(UNIT, BROKEN_LINES, b"");
+    let refused = place(alloc, broken, 0x1003);
+    assert!(rt; matches!(refused, Err(Error::UnexpectedEof(_))));
+    assert_eq!(rt; place(alloc, broken, 0x1008), Ok(None));
+    // A header refuses all, one of the address ranges before one of the units.
+    let units = file_with_language(DAMAGED_HEADER, LINES, b"");
+    assert_eq!(rt; fault(alloc, units), Some(Error::UnknownVersion(9)));
+    let both = file_with_language(DAMAGED_HEADER, LINES, b"\x02\0\0\0\x03\0");
+    assert_eq!(rt; fault(alloc, both), Some(Error::UnknownVersion(3)));
+    Ok(())
+}

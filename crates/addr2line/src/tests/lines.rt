@@ -1,0 +1,160 @@
+//! Lines of rows, and lines of units, in the layouts of DWARF 4, 6.2.4 and 7.5, and DWARF 5, 6.2.4.
+
+use crate::{Lines, Location, lines_of_unit};
+use addr2line_context::{
+    Dwarf, EndianSlice, Error, LinesBuilder, LittleEndian, ReaderOffsetId, SectionId,
+};
+use std::alloc::Global;
+use std::test::Fail;
+
+// ---- rows
+
+// Lines of one file, made of rows (address, line), and the addresses that end sequences.
+fn lines_of_rows(alloc: Global, rows: &[(u64, Option<u64>)]) -> Result<Lines, Error> {
+    let mut builder = LinesBuilder::new(alloc);
+    for (address, line) in rows {
+        match line {
+            Some(line) => builder.push(*address, 1, *line, 1, false)?,
+            None => builder.push(*address, 1, 1, 0, true)?,
+        }
+    }
+    let mut files = Vec::new(alloc);
+    files.push(String::new(alloc))?;
+    files.push(String::from_str(alloc, "/w/a.c")?)?;
+    Ok(builder.finish(files))
+}
+
+fn line_at(lines: &Lines, probe: u64) -> Option<u32> {
+    lines.find_location(probe)?.line
+}
+
+// Of sequences the one that begins last answers, and in it the last of the rows at an address. A
+// row of line 0 stands for a file alone, and lines are kept in 32 bits.
+#[test]
+fn rows_of_sequences(rt: HostRuntime) -> Result<(), Fail> {
+    let rows = [
+        (0x10, Some(1)),
+        (0x100, None),
+        (0x20, Some(2)),
+        (0x20, Some(3)),
+        (0x30, None),
+        (0x200, Some((1 << 32) + 7)),
+        (0x208, Some(0)),
+        (0x210, None),
+    ];
+    let lines = lines_of_rows(rt.alloc(), &rows)?;
+    assert_eq!(rt; lines.sequences().len(), 3);
+    assert_eq!(rt; lines.file(1), Some("/w/a.c"));
+    for (probe, line) in [
+        (0xf, None),
+        (0x1f, Some(1)),
+        (0x20, Some(3)),
+        (0x30, None),
+        (0x200, Some(7)),
+        (0x210, None),
+    ] {
+        assert_eq!(rt; line_at(&lines, probe), line, "at {probe}");
+    }
+    let place = lines.find_location(0x208).ok_or("no place")?;
+    assert!(rt; place.file.is_some() && place.line.is_none() && place.column.is_none());
+    Ok(())
+}
+
+// ---- units
+
+// A unit's root with its name, its directory and the place of its program; and one with its name
+// alone.
+const ABBREV: [u8; 19] = [
+    1, 0x11, 0, 0x03, 0x08, 0x1b, 0x08, 0x10, 0x17, 0, 0, //
+    2, 0x11, 0, 0x03, 0x08, 0, 0, 0,
+];
+
+// `a.c` in `/w`, with the first program.
+const WITH_PROGRAM: [u8; 23] = [
+    19, 0, 0, 0, 4, 0, 0, 0, 0, 0, 8, //
+    1, b'a', b'.', b'c', 0, b'/', b'w', 0, 0, 0, 0, 0,
+];
+
+const WITHOUT_PROGRAM: [u8; 16] = [
+    12, 0, 0, 0, 4, 0, 0, 0, 0, 0, 8, //
+    2, b'a', b'.', b'c', 0,
+];
+
+// Version 4: `b.c` in `src`. A row at 0x10 in it, a row at 0x18 in `d.c`, which the program
+// defines, and an end at 0x20.
+const OF_4: [u8; 75] = [
+    71, 0, 0, 0, 4, 0, 31, 0, 0, 0, 1, 1, 1, 0xfd, 12, 13, 0, 1, 1, 1, 1, 0, 0, 0, 1, 0, 0, 1, //
+    b's', b'r', b'c', 0, 0, b'b', b'.', b'c', 0, 1, 0, 0, 0, //
+    0, 9, 2, 0x10, 0, 0, 0, 0, 0, 0, 0, 1, //
+    0, 8, 3, b'd', b'.', b'c', 0, 0, 0, 0, 4, 2, 2, 8, 3, 4, 1, 2, 8, 0, 1, 1,
+];
+
+// Version 5: a file whose path is no text, and a program of one row.
+const PATHLESS: [u8; 43] = [
+    39, 0, 0, 0, 5, 0, 8, 0, 30, 0, 0, 0, 1, 1, 1, 0xfd, 12, 13, 0, 1, 1, 1, 1, 0, 0, 0, 1, 0, 0,
+    1, //
+    1, 0x01, 0x08, 1, b'/', b'w', 0, 1, 0x01, 0x0f, 1, 7, //
+    1,
+];
+
+// The same, where the program is cut inside a number.
+const CUT: [u8; 44] = [
+    40, 0, 0, 0, 5, 0, 8, 0, 30, 0, 0, 0, 1, 1, 1, 0xfd, 12, 13, 0, 1, 1, 1, 1, 0, 0, 0, 1, 0, 0,
+    1, //
+    1, 0x01, 0x08, 1, b'/', b'w', 0, 1, 0x01, 0x0f, 1, 7, //
+    2, 0x80,
+];
+
+fn section_of<'a>(id: SectionId, info: &'a [u8], line: &'a [u8]) -> EndianSlice<'a, LittleEndian> {
+    let bytes: &'a [u8] = match id {
+        SectionId::DebugAbbrev => &ABBREV,
+        SectionId::DebugInfo => info,
+        SectionId::DebugLine => line,
+        _ => b"",
+    };
+    EndianSlice::new(bytes, LittleEndian)
+}
+
+// The file with these sections.
+fn file_of<'a>(
+    alloc: Global,
+    info: &'a [u8],
+    line: &'a [u8],
+) -> Result<Dwarf<EndianSlice<'a, LittleEndian>>, Error> {
+    Dwarf::load(alloc, |id| Ok(section_of(id, info, line)))
+}
+
+// The lines of its first unit.
+fn lines_of(alloc: Global, info: &[u8], line: &[u8]) -> Result<Lines, Error> {
+    let dwarf = file_of(alloc, info, line)?;
+    let mut units = dwarf.units()?;
+    let header = units.next()?.ok_or(Error::MissingUnitDie)?;
+    let unit = dwarf.unit(alloc, header)?;
+    lines_of_unit(alloc, &dwarf, &unit)
+}
+
+fn is_place(lines: &Lines, probe: u64, file: &str, line: u32) -> bool {
+    let place = Location {
+        file: Some(file),
+        line: Some(line),
+        column: Some(0),
+    };
+    lines.find_location(probe) == Some(place)
+}
+
+#[test]
+fn lines_of_units(rt: HostRuntime) -> Result<(), Fail> {
+    let lines = lines_of(rt.alloc(), &WITH_PROGRAM, &OF_4)?;
+    assert_eq!(rt; lines.file(0), Some("/w/a.c"));
+    assert!(rt; is_place(&lines, 0x10, "/w/src/b.c", 1));
+    assert!(rt; is_place(&lines, 0x1f, "/w/d.c", 5));
+    let none = lines_of(rt.alloc(), &WITHOUT_PROGRAM, &OF_4)?;
+    assert_eq!(rt; none.sequences().len(), 0);
+    // A program is refused before its files.
+    let pathless = lines_of(rt.alloc(), &WITH_PROGRAM, &PATHLESS);
+    assert!(rt; matches!(pathless, Err(Error::ExpectedStringAttributeValue)));
+    let cut = lines_of(rt.alloc(), &WITH_PROGRAM, &CUT);
+    let end = Error::UnexpectedEof(ReaderOffsetId(44));
+    assert!(rt; matches!(cut, Err(fault) if fault == end));
+    Ok(())
+}

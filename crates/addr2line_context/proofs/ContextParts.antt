@@ -1,0 +1,167 @@
+-- A unit of a context, and a context, from their parts.
+use Rattle.std.proofs.Common.{◌≡◌, ℕ, Bool, false, List, [], ◌∷◌, Option, Some, None, Result, Ok, Err, refl, sym, ap, ◌∙◌, slice_get, map, option_map, length, arith, if◌then◌else◌}
+use Rattle.std.proofs.lemmas.Option.{slice_get-map}
+use Rattle.addr2line_units.specs.Error.{Error}
+use Rattle.addr2line_units.specs.Repetition.{fault_of}
+use Rattle.addr2line_units.specs.Range.{Range}
+use Rattle.addr2line_units.specs.EntryRows.{Row}
+use Rattle.addr2line_units.specs.AttributeValues.{RawAttribute}
+use Rattle.addr2line_units.specs.ArangeSets.{sets_to_come}
+use Rattle.addr2line_units.specs.Tiling.{whole_section}
+use Rattle.addr2line_units.specs.Results.{and_then, unless}
+use Rattle.addr2line_units.specs.DwarfSections.{Sections, FileSections, with_its_supplements, first_supplement, supplement}
+use Rattle.addr2line_units.specs.UnitFacts.{UnitFacts, root}
+use Rattle.addr2line_units.specs.Lines.{Lines}
+use Rattle.addr2line_units.specs.PlaceLookups.{location_at}
+use Rattle.addr2line_units.specs.Contexts.{ContextUnit, Context, ranges_of, lines_of, unit_of_root, context_unit, units_of_file, units_of_supplement, context}
+use Rattle.addr2line_units.specs.UnitLines.{lines_of_unit}
+use Rattle.addr2line_units.specs.UnitRanges.{ranges_of_attributes, language_in, is_partial}
+use Rattle.addr2line_units.specs.UnitRange.{UnitRange}
+use Rattle.addr2line_units.specs.RangeIndexLaws.{answer_from}
+use Rattle.addr2line_units.specs.NumberedRanges.{covering_ranges}
+use Rattle.addr2line_units.specs.UnitPlaces.{answer_of, answer_at}
+use Rattle.addr2line_units.proofs.UnitAnswers.{location_by_numbers}
+use Rattle.addr2line_units.proofs.UnitViews.{places_of_views}
+use Rattle.addr2line_context.specs.FileContexts.{FileContext, file_context, all_lines, all_lines_or_refusal}
+use Rattle.addr2line_context.specs.ContextUnits.{unit_places, ordered_ranges}
+
+-- ---- a unit
+
+-- lines, or why there are none, which were read
+abbrev pub ok_lines : Result Lines Error → Result (Result Lines Error) Error
+ok_lines lines = Ok lines
+
+abbrev with_ranges : UnitFacts → Result Lines Error → List RawAttribute → List Range → Result ContextUnit Error
+with_ranges u lines attributes ranges =
+    Ok (record { facts = u; ranges = ranges; language = language_in attributes; lines = lines })
+
+abbrev with_root : ℕ → Sections → UnitFacts → Result Lines Error → Row → Result ContextUnit Error
+with_root limit s u lines r = unit_of_root limit s u lines r.attributes
+
+module _ (limit : ℕ) (s : Sections) (u : UnitFacts) (lines : Result Lines Error) where
+  -- refused ranges refuse a unit
+  pub ranges_refused : (attributes : List RawAttribute) (e : Error)
+      → ranges_of_attributes limit s u lines attributes ≡ Err e → unit_of_root limit s u lines attributes ≡ Err e
+  ranges_refused attributes e h = ap (λ r. and_then r (with_ranges u lines attributes)) h
+
+  -- so does a refused root
+  pub root_refused : (e : Error) → root limit u.header u.table ≡ Err e
+      → and_then (root limit u.header u.table) (with_root limit s u lines) ≡ Err e
+  root_refused e h = ap (λ r. and_then r (with_root limit s u lines)) h
+
+  abbrev unit_unless_partial : Bool → Result Lines Error → Result ContextUnit Error
+  unit_unless_partial b lines =
+      if b then Ok (record { facts = u; ranges = []; language = None; lines = lines })
+      else and_then (root limit u.header u.table) (with_root limit s u lines)
+
+  -- a unit that isn't partial
+  pub not_partial : (b : Bool) → b ≡ is_partial u.header.kind → b ≡ false
+      → ok_lines (lines_of_unit limit s u) ≡ ok_lines lines
+      → and_then (root limit u.header u.table) (with_root limit s u lines) ≡ context_unit limit s u
+  not_partial b is not same =
+      let of_unit : lines ≡ lines_of_unit limit s u = cc in
+      ap (λ c. unit_unless_partial c lines) (sym not ∙ is) ∙ ap (unit_unless_partial (is_partial u.header.kind)) of_unit
+
+-- ---- answers
+
+-- what a unit answers is found by its number
+pub answer_by_number : (us : List ContextUnit) (a n : ℕ) (o : Option ContextUnit) → o ≡ slice_get us n
+    → answer_at (map unit_places us) a n ≡ answer_of a (option_map unit_places o)
+answer_by_number us a n o found =
+    ap (answer_of a) (slice_get-map unit_places us n) ∙ ap (λ x. answer_of a (option_map unit_places x)) (sym found)
+
+-- before the first range that covers an address
+pub answers_start : (us : List ContextUnit) (a : ℕ) (all rs : List UnitRange) → all ≡ ordered_ranges us
+    → rs ≡ covering_ranges a all
+    → location_at ranges_of lines_of us a ≡ answer_from (map unit_places us) a rs
+answers_start us a all rs ordered covering =
+    sym (places_of_views unit_places us a)
+    ∙ location_by_numbers (map unit_places us) a rs (covering ∙ ap (covering_ranges a) ordered)
+
+-- ---- the supplement
+
+first_of_supplements : (file : FileSections) (o : Option Sections) → first_supplement (with_its_supplements file o) ≡ o
+first_of_supplements file None = refl
+first_of_supplements file (Some s) = refl
+
+-- the supplement that stands after a file
+pub supplement_is : (s : Sections) (o : Option Sections) → s.supplements ≡ with_its_supplements s.file o
+    → supplement s ≡ o
+supplement_is s o h = ap first_supplement h ∙ first_of_supplements s.file o
+
+-- ---- a context
+
+abbrev with_supplement : List ContextUnit → List UnitFacts → Result Context Error
+with_supplement units supplement_units = Ok (record { units = units; supplement_units = supplement_units })
+
+abbrev with_units : ℕ → Sections → List ContextUnit → Result Context Error
+with_units limit s units = and_then (units_of_supplement limit (supplement s)) (with_supplement units)
+
+abbrev with_sets : ℕ → Sections → Option Error → Result Context Error
+with_sets limit s fault = unless fault (and_then (units_of_file limit s) (with_units limit s))
+
+abbrev with_sections : Sections → Context → Result FileContext Error
+with_sections s c = Ok (record { sections = s; context = c })
+
+module _ (limit : ℕ) (s : Sections) where
+  abbrev fault_of_sets : Option Error
+  fault_of_sets = fault_of (sets_to_come limit (whole_section s.file.debug_aranges))
+
+  -- refused by none of its parts
+  context_of_parts : (units : List ContextUnit) (supplement_units : List UnitFacts) → fault_of_sets ≡ None
+      → units_of_file limit s ≡ Ok units
+      → units_of_supplement limit (supplement s) ≡ Ok supplement_units
+      → context limit s ≡ Ok (record { units = units; supplement_units = supplement_units })
+  context_of_parts units supplement_units sound file h =
+      ap (with_sets limit s) sound ∙ ap (λ r. and_then r (with_units limit s)) file
+      ∙ ap (λ r. and_then r (with_supplement units)) h
+
+  pub file_context_of_parts : (units : List ContextUnit) (supplement_units : List UnitFacts) → fault_of_sets ≡ None
+      → units_of_file limit s ≡ Ok units
+      → units_of_supplement limit (supplement s) ≡ Ok supplement_units
+      → file_context limit s
+      ≡ Ok (record { sections = s; context = record { units = units; supplement_units = supplement_units } })
+  file_context_of_parts units supplement_units sound file h =
+      ap (λ r. and_then r (with_sections s)) (context_of_parts units supplement_units sound file h)
+
+  -- refused by the last of them
+  pub supplement_refused : (units : List ContextUnit) (e : Error) → fault_of_sets ≡ None
+      → units_of_file limit s ≡ Ok units
+      → units_of_supplement limit (supplement s) ≡ Err e → file_context limit s ≡ Err e
+  supplement_refused units e sound file h =
+      ap (λ r. and_then r (with_sections s))
+      (ap (with_sets limit s) sound ∙ ap (λ r. and_then r (with_units limit s)) file
+      ∙ ap (λ r. and_then r (with_supplement units)) h)
+
+-- ---- all lines
+
+-- whether they could be read
+abbrev without_value : {A : Type 0} → Result A Error → Result (Unit {0}) Error
+without_value r = and_then r (λ lines. Ok tt)
+
+abbrev one_more : Lines → Result (List Lines) Error → Result (List Lines) Error
+one_more l r = and_then r (λ ls. Ok (l ∷ ls))
+
+lines_change_nothing : (l : Lines) (r : Result (List Lines) Error) → without_value (one_more l r) ≡ without_value r
+lines_change_nothing l (Ok ls) = refl
+lines_change_nothing l (Err e) = refl
+
+-- lines that can be read refuse nothing
+pub read_lines_first : (units : List ContextUnit) (u : ContextUnit) (us : List ContextUnit) (l : Lines) → units ≡ u ∷ us
+    → Ok l ≡ u.lines
+    → all_lines_or_refusal units ≡ all_lines_or_refusal us
+read_lines_first units u us l whole is =
+    ap all_lines_or_refusal whole ∙ ap (λ r. without_value (and_then r (λ y. one_more y (all_lines us)))) (sym is)
+    ∙ lines_change_nothing l (all_lines us)
+
+-- others refuse all
+pub refused_lines_first : (units : List ContextUnit) (u : ContextUnit) (us : List ContextUnit) (e : Error)
+    → units ≡ u ∷ us → Err e ≡ u.lines
+    → all_lines_or_refusal units ≡ Err e
+refused_lines_first units u us e whole is =
+    ap all_lines_or_refusal whole ∙ ap (λ r. without_value (and_then r (λ y. one_more y (all_lines us)))) (sym is)
+
+-- no units refuse nothing
+pub no_lines_left : (units : List ContextUnit) → length units ≡ 0 → all_lines_or_refusal units ≡ Ok tt
+no_lines_left [] h = refl
+no_lines_left (u ∷ us) h = absurd (omega arith)

@@ -1,0 +1,34 @@
+-- The units of a context, and what lookups use of them.
+use Rattle.std.specs.Prelude.{ℕ, List, map, Option, Some, None, Result, Ok}
+use Rattle.std.specs.List.{filter_map}
+use Rattle.addr2line_units.specs.Error.{Error}
+use Rattle.addr2line_units.specs.Repetition.{fault_of}
+use Rattle.addr2line_units.specs.Results.{some_of, unless}
+use Rattle.addr2line_units.specs.DwarfSections.{Sections}
+use Rattle.addr2line_units.specs.UnitFacts.{UnitFacts, unit_facts}
+use Rattle.addr2line_units.specs.Contexts.{ContextUnit, readable_facts, headers_of}
+use Rattle.addr2line_units.specs.UnitRange.{UnitRange}
+use Rattle.addr2line_units.specs.UnitPlaces.{UnitPlaces, ranges_in_order}
+
+-- ---- reading
+
+-- what is read of something, if there is something, or the refusal
+abbrev pub if_any : {X Y : Type 0} → (X → Result Y Error) → Option X → Result (Option Y) Error
+if_any read None = Ok None
+if_any read (Some x) = some_of (read x)
+
+-- the units of a file that can be read, of types too, or the fault of a header
+abbrev pub readable_units : ℕ → Sections → Result (List UnitFacts) Error
+readable_units limit s =
+    unless (fault_of (headers_of limit s))
+    (Ok (filter_map (λ h. readable_facts (unit_facts limit s h)) (headers_of limit s).items))
+
+-- ---- lookups
+
+-- what lookups ask of a unit
+abbrev pub unit_places : ContextUnit → UnitPlaces
+unit_places u = record { ranges = u.ranges; lines = u.lines }
+
+-- the ranges of units, in the order in which lookups ask them
+abbrev pub ordered_ranges : List ContextUnit → List UnitRange
+ordered_ranges units = ranges_in_order (map unit_places units)

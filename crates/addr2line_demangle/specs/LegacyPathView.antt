@@ -1,0 +1,7 @@
+-- A path of the code as the definitions have it.
+use Rattle.std.specs.Prelude.{map}
+use Rattle.addr2line_demangle.specs.LegacyNames as names
+use Rattle.addr2line_demangle.specs.declared.paths.Path.{Path}
+
+abbrev pub path_view : Path → names.Path
+path_view p = record { elements = map (λ e. e.now) p.elements.items; suffix = p.suffix.now }

@@ -1,0 +1,26 @@
+-- The two classes of ELF files, and the two orders of their bytes (System V ABI, "ELF Header").
+use Rattle.std.specs.Prelude.{ℕ, Bool, true, false}
+use Rattle.gimli_core_readers.specs.RunTimeEndian.{RunTimeEndian}
+use Rattle.gimli_core_readers.specs.RunTimeEndian.TheVariants.{Little, Big}
+use Rattle.addr2line_elf.specs.declared.class.Class.{Class}
+use Rattle.addr2line_elf.specs.declared.class.Class.TheVariants.{Elf32, Elf64}
+
+-- the bytes of an address, an offset or a size
+abbrev pub word_size : Class → ℕ
+word_size Elf32 = 4
+word_size Elf64 = 8
+
+-- the bytes of a section header
+abbrev pub section_header_size : Class → ℕ
+section_header_size Elf32 = 40
+section_header_size Elf64 = 64
+
+-- the bytes of an entry of a symbol table
+abbrev pub symbol_size : Class → ℕ
+symbol_size Elf32 = 16
+symbol_size Elf64 = 24
+
+-- whether the more significant byte of a number comes first
+abbrev pub is_big : RunTimeEndian → Bool
+is_big Little = false
+is_big Big = true

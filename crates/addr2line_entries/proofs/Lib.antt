@@ -1,4 +1,0 @@
-pub mod Chains
-pub mod Holders
-pub mod Levels
-mod Worked

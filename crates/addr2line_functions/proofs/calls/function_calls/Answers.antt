@@ -1,0 +1,22 @@
+use Rattle.gimli_units_entries.proofs.RefusedCalls.{returns_refused}
+use Rattle.gimli_units_entries.specs.EntryViews.{entry_of, raw_attributes}
+use Rattle.addr2line_functions.proofs.FunctionRowSteps.{name_refused, calls_refused}
+use Rattle.addr2line_functions.proofs.calls.function_calls.Goals as goal
+
+pub returns-in_err-name : goal.returns-in_err-name
+returns-in_err-name g c =
+    let r = entry_of g.R.Reader.view g.R.Offset.ReaderOffset.count c.args.entry.now in
+    let attributes = raw_attributes g.R.Reader.view g.R.Offset.ReaderOffset.count c.attrs.result.now in
+    returns_refused _ _ _ _ c.from_residual.ensures.1
+    (λ m. name_refused g.R.Offset.ReaderOffset.limit c.args.dwarf.now c.args.unit.now
+    (g.N.Names.naming c.args.names.now) r c.args.entries attributes c.in_err-name.field-0.0
+    c.attrs.ensures (c.in_err-name.ensures m))
+
+pub returns-in_err-calls : goal.returns-in_err-calls
+returns-in_err-calls g c =
+    let r = entry_of g.R.Reader.view g.R.Offset.ReaderOffset.count c.args.entry.now in
+    let attributes = raw_attributes g.R.Reader.view g.R.Offset.ReaderOffset.count c.attrs.result.now in
+    returns_refused _ _ _ _ c.from_residual-in_err-calls.ensures.1
+    (λ m. calls_refused g.R.Offset.ReaderOffset.limit c.args.dwarf.now c.args.unit.now
+    (g.N.Names.naming c.args.names.now) r c.args.entries attributes _ c.in_err-calls.field-0.0
+    c.attrs.ensures c.in_ok-name.ensures (c.in_err-calls.ensures.value m))

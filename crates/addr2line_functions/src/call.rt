@@ -1,0 +1,86 @@
+//! A call that is inlined into a function.
+
+ghost use Rattle.std.specs.Prelude.{◌≡◌, option_map};
+
+use gimli_units_entries::{Range, Reader, UnitOffset};
+use std::marker::Model;
+
+/// A call of a function whose body is in that of another (DWARF 5, 3.3.8).
+#[derive(Drop)]
+pub struct Call<R: Reader> {
+    pub(crate) depth: usize,
+    pub(crate) offset: UnitOffset<R::Offset>,
+    pub(crate) ranges: Vec<Range>,
+    pub(crate) name: Option<R>,
+    pub(crate) file: Option<u64>,
+    pub(crate) line: u32,
+    pub(crate) column: u32,
+}
+
+impl<R: Reader> Model for Call<R> {
+    ghost use Rattle.std.specs.Prelude.{option_map};
+    ghost use Rattle.addr2line_units.specs.InlinedCalls.{Call as CallPart};
+
+    ghost Value = { CallPart };
+
+    ghost view = { λ c. record {
+      depth = c.depth;
+      offset = R.Offset.count c.offset.0;
+      ranges = c.ranges.items;
+      name = option_map R.view c.name;
+      file = c.file;
+      line = c.line;
+      column = c.column;
+    } };
+}
+
+impl<R: Reader> Call<R> {
+    /// How many other calls it is in.
+    pub fn depth(&self) -> usize
+        ensures { result ≡ self.now.depth }
+    {
+        self.depth
+    }
+
+    /// The offset of its entry in the unit.
+    pub fn offset(&self) -> UnitOffset<R::Offset>
+        ensures { R.Offset.count result.0 ≡ self.now.offset }
+    {
+        self.offset
+    }
+
+    /// Its ranges, in order of appearance.
+    pub fn ranges(&self) -> &[Range]
+        ensures { result.now ≡ self.now.ranges }
+    {
+        self.ranges.as_slice()
+    }
+
+    /// The name of the function that is called.
+    pub fn name(&self) -> Option<&R>
+        ensures { option_map (λ r. R.view r.now) result ≡ self.now.name }
+    {
+        self.name.as_ref()
+    }
+
+    /// The number of the file that calls.
+    pub fn file(&self) -> Option<u64>
+        ensures { result ≡ self.now.file }
+    {
+        self.file
+    }
+
+    /// The line that calls; 0 where it isn't known.
+    pub fn line(&self) -> u32
+        ensures { result ≡ self.now.line }
+    {
+        self.line
+    }
+
+    /// The column that calls; 0 where it isn't known.
+    pub fn column(&self) -> u32
+        ensures { result ≡ self.now.column }
+    {
+        self.column
+    }
+}

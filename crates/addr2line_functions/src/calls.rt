@@ -1,0 +1,106 @@
+//! A function with the calls that are inlined into it.
+
+ghost use Rattle.std.specs.Prelude.{◌≡◌, option_map};
+ghost use Rattle.gimli_units_entries.specs.Calls.{ReturnsOrNoMemory};
+ghost use Rattle.gimli_units_entries.specs.EntryViews.{entry_of};
+ghost use Rattle.addr2line_units.specs.InlinedCalls.{calls_of_function, function_calls, chain_from, chain_at};
+
+use crate::call::Call;
+use crate::chain::Chain;
+use crate::entries_of;
+use crate::naming::Names;
+use crate::walk::calls_below;
+use addr2line_names::{Dwarf, Unit};
+use gimli_units_entries::{
+    DebuggingInformationEntry, EntriesRaw, Error, Reader, ReaderOffset, UnitOffset,
+};
+use std::alloc::Global;
+use std::marker::Model;
+
+/// A function: its name, and the calls that are inlined into it, in order of appearance, whatever
+/// each is in.
+#[derive(Drop)]
+pub struct FunctionCalls<R: Reader> {
+    name: Option<R>,
+    calls: Vec<Call<R>>,
+}
+
+impl<R: Reader> Model for FunctionCalls<R> {
+    ghost use Rattle.std.specs.Prelude.{option_map};
+    ghost use Rattle.std.specs.Prelude.{◌≤◌, length};
+    ghost use Rattle.addr2line_units.specs.InlinedCalls.{depth_count, FunctionCalls as FunctionCallsPart};
+
+    ghost Value = { FunctionCallsPart };
+
+    ghost view = { λ f. record { name = option_map R.view f.name; calls = f.calls.items } };
+
+    ghost invariant = { λ f. depth_count f.calls.items ≤ length f.calls.items };
+}
+
+impl<R: Reader> FunctionCalls<R> {
+    /// The name of the function.
+    pub fn name(&self) -> Option<&R>
+        ensures { option_map (λ r. R.view r.now) result ≡ self.now.name }
+    {
+        self.name.as_ref()
+    }
+
+    /// The calls.
+    pub fn calls(&self) -> &[Call<R>]
+        ensures { result.now ≡ self.now.calls }
+    {
+        self.calls.as_slice()
+    }
+
+    /// The calls that an address is in, the outermost first: that of depth 0 that holds it, that of
+    /// depth 1, and so on, as long as there is one, whatever each is in. Where several of a depth
+    /// hold it, it is that whose range begins last, of these that whose range ends last, of these
+    /// the last. It takes no memory.
+    pub fn chain(&self, probe: u64) -> Chain<'_, R>
+        ensures { result ≡ chain_at self.now.calls probe }
+    {
+        Chain::new(self.calls.as_slice(), probe)
+    }
+}
+
+// A function with its calls, where a walk is after the function's entry.
+fn function_calls<R: Reader, N: Names<R>>(
+    alloc: Global,
+    dwarf: &Dwarf<R>,
+    unit: &Unit<R>,
+    names: &N,
+    entry: &DebuggingInformationEntry<R>,
+    entries: EntriesRaw<'_, R>,
+) -> Result<FunctionCalls<R>, Error>
+    ensures { ReturnsOrNoMemory result
+        (function_calls R.Offset.limit dwarf.now unit.now (N.naming names.now)
+        (entry_of R.view R.Offset.count entry.now) entries.entry) }
+{
+    let name = names.name_of(entry.attrs())?;
+    let calls = calls_below(alloc, dwarf, unit, names, entries)?;
+    Ok(FunctionCalls { name, calls })
+}
+
+/// The function whose entry is at an offset of a unit, with the calls that are inlined into it. Of
+/// the entries below its own those of tag `DW_TAG_inlined_subroutine` are read, and all others are
+/// skipped, as are nested functions with all that is in them. The first entry that can't be read or
+/// skipped, and the first name or range of a call that can't be read, is the error; `UnexpectedEof`
+/// where the unit ends before the last of its children.
+pub fn calls_of_function<R: Reader, N: Names<R>>(
+    alloc: Global,
+    dwarf: &Dwarf<R>,
+    unit: &Unit<R>,
+    names: &N,
+    offset: UnitOffset<R::Offset>,
+) -> Result<FunctionCalls<R>, Error>
+    ensures { ReturnsOrNoMemory result
+        (calls_of_function R.Offset.limit dwarf.now unit.now (N.naming names.now)
+        (R.Offset.count offset.0)) }
+{
+    let mut entries = entries_of(unit, Some(offset))?;
+    let mut entry = DebuggingInformationEntry::null(alloc);
+    if !entries.read_entry(&mut entry)? {
+        return Err(Error::NoEntryAtGivenOffset(offset.0.into_u64()));
+    }
+    function_calls(alloc, dwarf, unit, names, &entry, entries)
+}

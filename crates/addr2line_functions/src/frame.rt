@@ -1,0 +1,52 @@
+//! Frames, and the names of functions in them.
+
+use addr2line_units::Location;
+use gimli_units_entries::{DwLang, Reader, ReaderOffset, UnitOffset};
+use std::marker::Model;
+
+/// The name of a function, and the language of its unit, where that is known.
+#[derive(Drop)]
+pub struct FunctionName<R: Reader> {
+    /// The name, as the debug information has it.
+    pub name: R,
+    /// The language of the unit (DWARF 5, 7.12).
+    pub language: Option<DwLang>,
+}
+
+impl<R: Reader> Model for FunctionName<R> {
+    ghost use Rattle.std.specs.Prelude.{option_map};
+    ghost use Rattle.addr2line_units.specs.Frames.{FunctionName as Name};
+
+    ghost Value = { Name };
+
+    ghost view = { λ f. record {
+      name = R.view f.name;
+      language = option_map (λ l. l.0) f.language;
+    } };
+}
+
+/// A function, or a call that is inlined. Of an address in no function only the place is known.
+#[derive(Drop)]
+pub struct Frame<'ctx, R: Reader> {
+    /// The offset of the entry of the function or the call in its unit.
+    pub dw_die_offset: Option<UnitOffset<R::Offset>>,
+    /// The name of the function, where it has one.
+    pub function: Option<FunctionName<R>>,
+    /// The place in the source: that of the address, or, for the frames further out, that of the
+    /// call inside.
+    pub location: Option<Location<'ctx>>,
+}
+
+impl<'ctx, R: Reader> Model for Frame<'ctx, R> {
+    ghost use Rattle.std.specs.Prelude.{option_map};
+    ghost use Rattle.addr2line_units.specs.BorrowedLocations.{location_value};
+    ghost use Rattle.addr2line_units.specs.Frames.{Frame as FramePart};
+
+    ghost Value = { FramePart };
+
+    ghost view = { λ f. record {
+      offset = option_map (λ o. R.Offset.count o.0) f.dw_die_offset;
+      function = f.function;
+      location = option_map location_value f.location;
+    } };
+}

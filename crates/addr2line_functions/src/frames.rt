@@ -1,0 +1,162 @@
+//! The frames of an address, one after the other.
+
+ghost use Rattle.std.specs.Prelude.{◌≡◌, ◌++◌, ◌∷◌, [], Ok, Some, option_map};
+ghost use Rattle.gimli_units_entries.specs.Calls.{ReturnsAsOrNoMemory, ReturnsOrNoMemory};
+ghost use Rattle.addr2line_units.specs.BorrowedLocations.{location_value};
+ghost use Rattle.addr2line_units.specs.Lines.{place_in};
+ghost use Rattle.addr2line_units.specs.Frames.{function_name, frame, frames_in, frame_without_function, frames_of, frames_of_unit};
+ghost use Rattle.addr2line_functions.specs.NextFrames.{NextOf};
+
+use crate::Names;
+use crate::frame::{Frame, FunctionName};
+use crate::function_at::{FunctionAt, function_with_calls};
+use crate::site::call_site;
+use addr2line_names::{Dwarf, Unit};
+use addr2line_units::{Lines, Location};
+use gimli_units_entries::{DwLang, Error, Reader, ReaderOffset, UnitOffset};
+use std::alloc::Global;
+use std::marker::Model;
+
+/// The remaining frames of an address, the innermost call first.
+#[derive(Drop)]
+pub struct FrameIter<'ctx, R: Reader> {
+    // The outermost first.
+    frames: Vec<Frame<'ctx, R>>,
+}
+
+impl<'ctx, R: Reader> Model for FrameIter<'ctx, R> {
+    ghost use Rattle.std.specs.Prelude.{List, reverse};
+    ghost use Rattle.addr2line_units.specs.Frames.{Frame as FramePart};
+
+    ghost Value = { List FramePart };
+
+    ghost view = { λ i. reverse i.frames.items };
+}
+
+impl<'ctx, R: Reader> FrameIter<'ctx, R> {
+    /// The next frame, further out than those before it. All were made with the iterator, so there
+    /// is never an error.
+    pub fn next(&mut self) -> Result<Option<Frame<'ctx, R>>, Error>
+        ensures { NextOf (λ f. f) result self.old self.new }
+    {
+        Ok(self.frames.pop())
+    }
+}
+
+// A name with the language of its unit, copied.
+fn function_name<R: Reader>(
+    language: Option<DwLang>,
+    name: Option<&R>,
+) -> Result<Option<FunctionName<R>>, Error>
+    ensures { ReturnsOrNoMemory result
+        (Ok (function_name (option_map (λ l. l.0) language)
+        (option_map (λ r. R.view r.now) name.entry))) }
+{
+    match name {
+        Some(name) => Ok(Some(FunctionName {
+            name: name.copy()?,
+            language,
+        })),
+        None => Ok(None),
+    }
+}
+
+// Appends a frame, inside of the others.
+fn push_frame<'ctx, R: Reader>(
+    frames: &mut Vec<Frame<'ctx, R>>,
+    language: Option<DwLang>,
+    offset: UnitOffset<R::Offset>,
+    name: Option<&R>,
+    location: Option<Location<'ctx>>,
+) -> Result<(), Error>
+    ensures { ReturnsAsOrNoMemory (λ _. frames.new.items) result
+        (Ok (frames.old.items
+        ++ frame (option_map (λ l. l.0) language) (R.Offset.count offset.0)
+        (option_map (λ r. R.view r.now) name.entry)
+        (option_map location_value location.entry) ∷ [])) }
+{
+    let function = function_name(language, name)?;
+    frames.push(Frame {
+        dw_die_offset: Some(offset),
+        function,
+        location,
+    })?;
+    Ok(())
+}
+
+// The frames of a function and of its calls at an address.
+fn frames_in<'ctx, R: Reader>(
+    alloc: Global,
+    language: Option<DwLang>,
+    lines: &'ctx Lines,
+    function: &FunctionAt<R>,
+    probe: u64,
+) -> Result<FrameIter<'ctx, R>, Error>
+    ensures { ReturnsOrNoMemory result
+        (Ok (frames_of (option_map (λ l. l.0) language) lines.now probe (Some function.now))) }
+{
+    let mut frames = Vec::new(alloc);
+    let mut offset = function.offset;
+    let mut name = function.calls.name();
+    let mut chain = function.calls.chain(probe);
+    while let Some(call) = chain.next() {
+        let site = call_site(lines, call);
+        push_frame(&mut frames, language, offset, name, Some(site))?;
+        offset = call.offset();
+        name = call.name();
+    }
+    push_frame(
+        &mut frames,
+        language,
+        offset,
+        name,
+        lines.find_location(probe),
+    )?;
+    Ok(FrameIter { frames })
+}
+
+// The frame of a place in no function, if there is a place.
+fn frame_without_function<'ctx, R: Reader>(
+    alloc: Global,
+    location: Option<Location<'ctx>>,
+) -> Result<FrameIter<'ctx, R>, Error>
+    ensures { ReturnsOrNoMemory result
+        (Ok (frame_without_function (option_map location_value location.entry))) }
+{
+    let mut frames = Vec::new(alloc);
+    if location.is_some() {
+        frames.push(Frame {
+            dw_die_offset: None,
+            function: None,
+            location,
+        })?;
+    }
+    Ok(FrameIter { frames })
+}
+
+/// The frames of an address in a unit with these lines and of this language, the innermost call
+/// first; none where neither a function nor a row holds the address. An error is that of the unit's
+/// functions, of the function that holds the address, or of the lines, in this order.
+pub fn frames_of_unit<'ctx, R: Reader, N: Names<R>>(
+    alloc: Global,
+    dwarf: &Dwarf<R>,
+    unit: &Unit<R>,
+    names: &N,
+    language: Option<DwLang>,
+    lines: &'ctx Result<Lines, Error>,
+    probe: u64,
+) -> Result<FrameIter<'ctx, R>, Error>
+    ensures { ReturnsOrNoMemory result
+        (frames_of_unit R.Offset.limit dwarf.now unit.now (N.naming names.now)
+        (option_map (λ l. l.0) language) lines.now probe) }
+{
+    let found = function_with_calls(alloc, dwarf, unit, names, probe)?;
+    let lines = match lines {
+        Ok(lines) => lines,
+        Err(error) => return Err(*error),
+    };
+    match found {
+        Some(function) => frames_in(alloc, language, lines, &function, probe),
+        None => frame_without_function(alloc, lines.find_location(probe)),
+    }
+}

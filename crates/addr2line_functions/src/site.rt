@@ -1,0 +1,37 @@
+//! The places that call.
+
+ghost use Rattle.std.specs.Prelude.{◌≡◌, option_map, option_and_then, slice_get};
+ghost use Rattle.addr2line_units.specs.BorrowedLocations.{location_value};
+ghost use Rattle.addr2line_units.specs.Frames.{nonzero, call_site};
+
+use crate::Call;
+use addr2line_units::{Lines, Location};
+use gimli_units_entries::Reader;
+
+// A line or a column, if it is known; 0 is not.
+fn nonzero(number: u32) -> Option<u32>
+    ensures { result ≡ nonzero number }
+{
+    if number == 0 { None } else { Some(number) }
+}
+
+// The text of a file of the lines, if its number is known.
+fn file_of(lines: &Lines, number: Option<u64>) -> Option<&str>
+    ensures { option_map (λ t. t.now) result ≡ option_and_then (slice_get lines.now.files) number }
+{
+    match number {
+        Some(number) => lines.file(number),
+        None => None,
+    }
+}
+
+/// The place that calls, in the files of the unit's lines.
+pub(crate) fn call_site<'ctx, R: Reader>(lines: &'ctx Lines, call: &Call<R>) -> Location<'ctx>
+    ensures { location_value result ≡ call_site lines.now.files call.now }
+{
+    Location {
+        file: file_of(lines, call.file()),
+        line: nonzero(call.line()),
+        column: nonzero(call.column()),
+    }
+}

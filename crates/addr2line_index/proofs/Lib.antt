@@ -1,0 +1,12 @@
+pub use Rattle.addr2line_spec.proofs.CallChains
+pub use Rattle.addr2line_spec.proofs.EntryLevels
+pub use Rattle.addr2line_spec.proofs.LatestFromLeft
+pub use Rattle.addr2line_spec.proofs.RangeHolders
+pub mod UnitAnswers
+pub mod PartialLineRows
+pub mod ChoiceStepLemmas
+pub mod StableOrder
+pub mod NumberedRangeLemmas
+pub mod UnitViews
+pub mod StretchLemmas
+pub mod StretchesLeftLemmas

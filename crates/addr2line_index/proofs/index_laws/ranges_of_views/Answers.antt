@@ -1,0 +1,5 @@
+use Rattle.addr2line_index.proofs.UnitViews.{ranges_of_views as lemma}
+use Rattle.addr2line_index.proofs.index_laws.ranges_of_views.Goals as goal
+
+pub returns : goal.returns
+returns g c = lemma

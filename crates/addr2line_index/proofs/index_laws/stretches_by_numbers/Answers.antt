@@ -1,0 +1,5 @@
+use Rattle.addr2line_index.proofs.UnitViews.{stretches_by_numbers as lemma}
+use Rattle.addr2line_index.proofs.index_laws.stretches_by_numbers.Goals as goal
+
+pub returns : goal.returns
+returns c = lemma

@@ -1,0 +1,137 @@
+//! Lines made of the rows of a line number program, one at a time.
+
+ghost use Rattle.std.specs.Prelude.{◌≡◌, ◌-◌, ◌++◌, ◌∷◌, [], List, length, slice_get, OnOk, OnErr, IfErr, map};
+ghost use Rattle.std.specs.String.{string_bytes};
+ghost use Rattle.addr2line_spec.specs.Error.TheVariants.{Memory};
+ghost use Rattle.addr2line_spec.specs.Lines.{ProgramRow, sequences_of_rows};
+ghost use Rattle.addr2line_index.specs.PartialLines.{partial_lines, row_with, put_row, is_at, with_end, with_row};
+
+use crate::lines::Lines;
+use crate::sequence::{LineRow, LineSequence};
+use addr2line_spec::Error;
+use std::alloc::Global;
+use std::marker::Model;
+use std::mem;
+
+/// What has been made of the first rows of a line number program. A contract says of which rows it
+/// is made.
+#[derive(Drop)]
+pub struct LinesBuilder {
+    sequences: Vec<LineSequence>,
+    rows: Vec<LineRow>,
+}
+
+impl Model for LinesBuilder {
+    ghost use Rattle.addr2line_index.specs.PartialLines.{PartialLines};
+
+    ghost Value = { PartialLines };
+
+    ghost view = { λ b. record { sequences = b.sequences.items; rows = b.rows.items } };
+}
+
+// Whether the last row is at an address.
+fn is_last_at(rows: &[LineRow], address: u64) -> bool
+    ensures { result ≡ is_at address (slice_get rows.now (length rows.now - 1)) }
+{
+    match rows.last() {
+        Some(last) => address == last.address,
+        None => false,
+    }
+}
+
+// Appends a row, in place of the last one where that is at the same address.
+fn put_row(rows: &mut Vec<LineRow>, row: LineRow) -> Result<(), Error>
+    ensures ok { OnOk result (rows.new.items ≡ put_row row rows.old.items) }
+    ensures err { OnErr result (rows.new.items ≡ rows.old.items) }
+    ensures refused { IfErr result (λ e. e ≡ Memory) }
+{
+    if is_last_at(rows.as_slice(), row.address) {
+        let last = rows.len() - 1;
+        rows[last] = row;
+    } else {
+        rows.push(row)?;
+    }
+    Ok(())
+}
+
+impl LinesBuilder {
+    /// No rows. It takes no memory.
+    pub fn new(alloc: Global) -> Self
+        ensures { result ≡ partial_lines [] }
+    {
+        LinesBuilder {
+            sequences: Vec::new(alloc),
+            rows: Vec::new(alloc),
+        }
+    }
+
+    /// Takes a row, which ends a sequence or doesn't. Its line and column are taken modulo 2^32.
+    /// Out of memory leaves the builder as it was.
+    pub fn push(
+        &mut self,
+        address: u64,
+        file: u64,
+        line: u64,
+        column: u64,
+        end_sequence: bool,
+    ) -> Result<(), Error>
+        ensures ok { OnOk result ((rows : List ProgramRow) → self.old ≡ partial_lines rows
+            → self.new ≡ partial_lines
+            (rows ++ row_with address file line column end_sequence ∷ [])) }
+        ensures err { OnErr result (self.new ≡ self.old) }
+        ensures refused { IfErr result (λ e. e ≡ Memory) }
+    {
+        if end_sequence {
+            self.end(address)
+        } else {
+            let row = LineRow {
+                address,
+                file,
+                line: (line % (1 << 32)) as u32,
+                column: (column % (1 << 32)) as u32,
+            };
+            self.put(row)
+        }
+    }
+
+    fn put(&mut self, row: LineRow) -> Result<(), Error>
+        ensures ok { OnOk result (self.new ≡ with_row row self.old) }
+        ensures err { OnErr result (self.new ≡ self.old) }
+        ensures refused { IfErr result (λ e. e ≡ Memory) }
+    {
+        put_row(&mut self.rows, row)
+    }
+
+    // Ends the rows since the last end: a sequence, if the first of them is below their end.
+    fn end(&mut self, end: u64) -> Result<(), Error>
+        ensures ok { OnOk result (self.new ≡ with_end end self.old) }
+        ensures err { OnErr result (self.new ≡ self.old) }
+        ensures refused { IfErr result (λ e. e ≡ Memory) }
+    {
+        let start = match self.rows.as_slice() {
+            [first, ..] if first.address < end => first.address,
+            _ => {
+                self.rows.clear();
+                return Ok(());
+            }
+        };
+        self.sequences.reserve(1)?;
+        let none = Vec::new(*self.rows.allocator());
+        let rows = mem::replace(&mut self.rows, none);
+        self.sequences.push(LineSequence { start, end, rows })?;
+        Ok(())
+    }
+
+    /// The lines that the rows make, with the texts of files by their numbers. Rows that nothing
+    /// ended are left out.
+    pub fn finish(self, files: Vec<String>) -> Lines
+        ensures { (rows : List ProgramRow) → self ≡ partial_lines rows
+            → result ≡ record {
+              sequences = sequences_of_rows rows;
+              files = map string_bytes files.items;
+            } }
+    {
+        let LinesBuilder { sequences, rows: _ } = self;
+        Lines::from_parts(sequences, files)
+    }
+}

@@ -1,0 +1,25 @@
+//! Lines made of rows, the ranges of all units, and the lookups over them.
+#![tactic(auto)]
+
+pub mod builder;
+pub mod has_lines;
+pub mod index_laws;
+pub mod lines;
+pub mod location;
+mod next_range;
+mod next_stretches;
+pub mod sequence;
+pub mod stretches;
+pub mod stretches_between;
+pub mod unit_range;
+pub mod unit_ranges;
+
+pub use addr2line_spec::{file_text, file_text_of_bytes, is_rooted, join};
+pub use builder::LinesBuilder;
+pub use has_lines::HasLines;
+pub use lines::Lines;
+pub use location::{LineStretch, Location};
+pub use sequence::{LineRow, LineSequence};
+pub use stretches_between::StretchesBetween;
+pub use unit_range::UnitRange;
+pub use unit_ranges::{CoveringRanges, UnitRanges, UnitRangesBuilder};

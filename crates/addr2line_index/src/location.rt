@@ -1,0 +1,23 @@
+//! Places in the source.
+
+/// A place in the source, its text borrowed from the lines of its unit.
+#[derive(Clone, Copy, Debug, PartialEq)]
+pub struct Location<'a> {
+    /// The file's text, where the unit has that file.
+    pub file: Option<&'a str>,
+    /// The line, from 1 on.
+    pub line: Option<u32>,
+    /// The column, from 1 on; 0 stands for the left edge. It is known where the line is.
+    pub column: Option<u32>,
+}
+
+/// The addresses that a row stands for, and its place.
+#[derive(Clone, Copy, Debug, PartialEq)]
+pub struct LineStretch<'a> {
+    /// The row's address.
+    pub address: u64,
+    /// How many addresses there are from it on: up to the next row, or the sequence's end; none
+    /// where that is lower.
+    pub length: u64,
+    pub location: Location<'a>,
+}

@@ -1,0 +1,88 @@
+//! Rows of line number programs, and sequences of them.
+
+ghost use Rattle.std.specs.Prelude.{◌≡◌, ◌≤◌, length, option_map};
+ghost use Rattle.addr2line_spec.specs.Lines.{range_of, rows_to, row_of};
+
+use addr2line_spec::Range;
+use std::marker::Model;
+
+/// A row of a line number program: from its address on, a place in the source (DWARF 5, 6.2.2).
+#[derive(Clone, Copy, Debug, PartialEq, Eq)]
+pub struct LineRow {
+    pub(crate) address: u64,
+    pub(crate) file: u64,
+    pub(crate) line: u32,
+    pub(crate) column: u32,
+}
+
+impl Model for LineRow {
+    ghost use Rattle.addr2line_spec.specs.Lines.{LineRow as Row};
+
+    ghost Value = { Row };
+
+    ghost view = { λ r.
+        record { address = r.address; file = r.file; line = r.line; column = r.column } };
+
+    ghost inverse = { λ r.
+        record { address = r.address; file = r.file; line = r.line; column = r.column } };
+}
+
+/// Rows of a line number program, up to the address that ended them. The first row is below that.
+#[derive(Debug, Drop)]
+pub struct LineSequence {
+    pub(crate) start: u64,
+    pub(crate) end: u64,
+    pub(crate) rows: Vec<LineRow>,
+}
+
+impl Model for LineSequence {
+    ghost use Rattle.addr2line_spec.specs.Lines.{Sequence};
+
+    ghost Value = { Sequence };
+
+    ghost view = { λ s. record { start = s.start; end = s.end; rows = s.rows.items } };
+}
+
+// How many rows come before the first that is above an address.
+pub(crate) fn rows_to(rows: &[LineRow], address: u64) -> usize
+    ensures counted { result ≡ rows_to address rows.now }
+    ensures within { result ≤ length rows.now }
+{
+    let mut left = rows;
+    let mut count = 0;
+    while let [row, rest @ ..] = left {
+        if row.address > address {
+            return count;
+        }
+        count += 1;
+        left = rest;
+    }
+    count
+}
+
+impl LineSequence {
+    /// The addresses from the first row's on up to, and without, the one that ended the rows.
+    pub fn range(&self) -> Range
+        ensures { result ≡ range_of self.now }
+    {
+        Range {
+            begin: self.start,
+            end: self.end,
+        }
+    }
+
+    /// The rows.
+    pub fn rows(&self) -> &[LineRow]
+        ensures { result.now ≡ self.now.rows }
+    {
+        self.rows.as_slice()
+    }
+
+    /// The row of an address: the one before the first that is above it.
+    pub fn row(&self, address: u64) -> Option<&LineRow>
+        ensures { option_map (λ r. r.now) result ≡ row_of self.now.rows address }
+    {
+        let rows = self.rows.as_slice();
+        rows[..rows_to(rows, address)].last()
+    }
+}

@@ -1,8 +1,0 @@
-use Rattle.gimli_core_base.proofs.Calls.{Gives_refused}
-use Rattle.addr2line_lines.proofs.Lines.{texts_refused}
-use Rattle.addr2line_lines.proofs.files.texts_of_files.Goals as goal
-
-pub returns-in_err-push_texts : goal.returns-in_err-push_texts
-returns-in_err-push_texts g c =
-    Gives_refused _ c.from_residual-in_err-push_texts.result _ _ c.from_residual-in_err-push_texts.ensures.1
-    (λ ne. texts_refused g.R.Offset.ReaderOffset.limit c.args.unit.now.dwarf.now c.args.unit.now.unit.now c.args.header.now _ c.files_from_1.result.now _ c.in_ok-text_of_file_0.ensures c.files_from_1.ensures (c.in_err-push_texts.ensures ne))

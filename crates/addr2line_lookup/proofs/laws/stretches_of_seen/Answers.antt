@@ -1,5 +1,0 @@
-use Rattle.addr2line_lookup.proofs.Seen.{stretches_of_seen as lemma}
-use Rattle.addr2line_lookup.proofs.laws.stretches_of_seen.Goals as goal
-
-pub returns : goal.returns
-returns g c = lemma

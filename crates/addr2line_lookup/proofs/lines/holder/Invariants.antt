@@ -1,8 +1,0 @@
--- What is chosen so far is chosen among the sequences so far.
-use Rattle.std.proofs.Common.{◌≡◌, option_map, take}
-use Rattle.addr2line_meaning.specs.Choice.{chosen}
-use Rattle.addr2line_meaning.specs.Lines.{range_of}
-use Rattle.addr2line_lookup.proofs.lines.holder.Given as goal
-
-abbrev pub invariant-loop-sequence : goal.invariant-loop-sequence
-invariant-loop-sequence l = option_map (λ s. s.now) l.latest ≡ chosen range_of l.address (take l.sequence-index l.sequences)

@@ -1,0 +1,207 @@
+-- The naming of an entry, found by a loop over its attributes.
+use Rattle.std.proofs.Common.{◌≡◌, ℕ, ◌+◌, ◌<◌, ◌≤◌, List, [], ◌∷◌, length, get_or, drop, map, Option, Some, None, Result, Ok, Err, refl, sym, ap, ◌∙◌}
+use Rattle.std.specs.List.{filter_map, last_or, cons_option}
+use Rattle.std.proofs.lemmas.List.{at_drop_more, at_drop_all}
+use Rattle.gimli_dwarf.specs.Error.{Error}
+use Rattle.gimli_dwarf.specs.Repetition.{Listing, fault_of}
+use Rattle.gimli_dwarf.specs.View.{View}
+use Rattle.gimli_dwarf.specs.Declarations.{Attribute}
+use Rattle.gimli_dwarf.specs.EntryWalks.{Walk, value}
+use Rattle.gimli_dwarf.specs.AttributeValues.{RawValue, RawAttribute}
+use Rattle.gimli_dwarf.specs.UnitFacts.{is_name, value_of_kind, any_value}
+use Rattle.addr2line_names.specs.EntryReferences.{HoldingUnit}
+use Rattle.addr2line_names.specs.EntryNamings.{EntryNaming, by_name, by_reference, nameless, is_linkage_name, is_reference, text_of, first_of, attribute_and_rest, attributes_from, name_or_naming, reference_or_nameless, reference_or, linkage_name_or, naming_with}
+
+-- ---- attributes laid end to end
+
+-- the first can be read
+attributes_first : (limit : ℕ) (s : Attribute) (ss : List Attribute) (w after : Walk) (a : RawAttribute)
+    → value limit s w ≡ Ok (a, after)
+    → attributes_from limit (s ∷ ss) w
+    ≡ record
+    { items = a ∷ (attributes_from limit ss after).items; ending = (attributes_from limit ss after).ending }
+unfolding attributes_from
+attributes_first limit s ss w after a h =
+    ap (λ (r : Result (RawAttribute × Walk) Error). attribute_and_rest r (attributes_from limit ss)) h
+
+-- it can't
+attributes_refused : (limit : ℕ) (s : Attribute) (ss : List Attribute) (w : Walk) (e : Error) → value limit s w ≡ Err e
+    → attributes_from limit (s ∷ ss) w ≡ record { items = []; ending = Err e }
+unfolding attributes_from
+attributes_refused limit s ss w e h =
+    ap (λ (r : Result (RawAttribute × Walk) Error). attribute_and_rest r (attributes_from limit ss)) h
+
+-- there is none
+attributes_none : (limit : ℕ) (w : Walk) → attributes_from limit [] w ≡ record { items = []; ending = Ok w }
+unfolding attributes_from
+attributes_none limit w = refl
+
+-- ---- one attribute that is no linkage name
+
+abbrev pub name_in : EntryNaming → Option View
+name_in (by_name name) = Some name
+name_in _ = None
+
+abbrev pub reference_in : EntryNaming → Option RawValue
+reference_in (by_reference v) = Some v
+reference_in _ = None
+
+-- the naming so far, and then further names and references
+abbrev pub naming_and_more : EntryNaming → List View → List RawValue → EntryNaming
+naming_and_more found names references =
+    name_or_naming (last_or (name_in found) names) (reference_or_nameless (last_or (reference_in found) references))
+
+-- with a name, references don't count
+name_stays : (name : View) (names : List View) (m n : EntryNaming)
+    → name_or_naming (last_or (Some name) names) m ≡ name_or_naming (last_or (Some name) names) n
+name_stays name [] m n = refl
+name_stays name (x ∷ names) m n = name_stays x names m n
+
+-- the naming so far, with an attribute's name and reference
+abbrev with_both : EntryNaming → Option View → Option RawValue → EntryNaming
+with_both (by_name name) here reference = name_or_naming here (by_name name)
+with_both found here reference = name_or_naming here (reference_or reference found)
+
+both : (found : EntryNaming) (here : Option View) (reference : Option RawValue) (names : List View)
+    (references : List RawValue)
+    → naming_and_more (with_both found here reference) names references
+    ≡ naming_and_more found (cons_option here names) (cons_option reference references)
+both (by_name name) None reference names references =
+    name_stays name names (reference_or_nameless (last_or None references))
+    (reference_or_nameless (last_or None (cons_option reference references)))
+both (by_name name) (Some x) reference names references =
+    name_stays x names (reference_or_nameless (last_or None references))
+    (reference_or_nameless (last_or None (cons_option reference references)))
+both (by_reference v) None None names references = refl
+both (by_reference v) None (Some w) names references = refl
+both (by_reference v) (Some x) reference names references =
+    name_stays x names (reference_or_nameless (last_or None references))
+    (reference_or_nameless (last_or (Some v) (cons_option reference references)))
+both nameless None None names references = refl
+both nameless None (Some w) names references = refl
+both nameless (Some x) reference names references =
+    name_stays x names (reference_or_nameless (last_or None references))
+    (reference_or_nameless (last_or None (cons_option reference references)))
+
+naming_and_nothing : (found : EntryNaming) → naming_and_more found [] [] ≡ found
+naming_and_nothing (by_name name) = refl
+naming_and_nothing (by_reference v) = refl
+naming_and_nothing nameless = refl
+
+module _ (limit : ℕ) (h : HoldingUnit) where
+  abbrev linkage_name : RawAttribute → Option View
+  linkage_name a = value_of_kind (text_of limit h) is_linkage_name a
+
+  abbrev plain_name : RawAttribute → Option View
+  plain_name a = value_of_kind (text_of limit h) is_name a
+
+  abbrev reference : RawAttribute → Option RawValue
+  reference a = value_of_kind any_value is_reference a
+
+  with_one : (found : EntryNaming) (a : RawAttribute)
+      → naming_with limit h found a ≡ with_both found (plain_name a) (reference a)
+  with_one (by_name name) a = refl
+  with_one (by_reference v) a = refl
+  with_one nameless a = refl
+
+  -- ---- a listing
+
+  -- the naming so far, with that of a listing of attributes
+  abbrev pub naming_from : EntryNaming → Listing Walk RawAttribute → Result EntryNaming Error
+  naming_from found l =
+      linkage_name_or (first_of (filter_map linkage_name l.items)) (fault_of l)
+      (naming_and_more found (filter_map plain_name l.items) (filter_map reference l.items))
+
+  -- an attribute before the others, which is no linkage name
+  not_linkage : (found : EntryNaming) (a : RawAttribute) (l : Listing Walk RawAttribute) (here : Option View)
+      → linkage_name a ≡ here → here ≡ None
+      → naming_from found (record { items = a ∷ l.items; ending = l.ending })
+      ≡ naming_from (naming_with limit h found a) l
+  not_linkage found a l here is none =
+      ap (λ (o : Option View). linkage_name_or (first_of (cons_option o (filter_map linkage_name l.items))) (fault_of l)
+      (naming_and_more found (filter_map plain_name (a ∷ l.items)) (filter_map reference (a ∷ l.items)))) (is ∙ none)
+      ∙ ap (λ (n : EntryNaming). linkage_name_or (first_of (filter_map linkage_name l.items)) (fault_of l) n)
+      (sym (both found (plain_name a) (reference a) (filter_map plain_name l.items) (filter_map reference l.items))
+      ∙ ap (λ (n : EntryNaming). naming_and_more n (filter_map plain_name l.items) (filter_map reference l.items))
+      (sym (with_one found a)))
+
+  -- one that is
+  is_linkage : (found : EntryNaming) (a : RawAttribute) (l : Listing Walk RawAttribute) (name : View)
+      → linkage_name a ≡ Some name
+      → naming_from found (record { items = a ∷ l.items; ending = l.ending }) ≡ Ok (by_name name)
+  is_linkage found a l name is =
+      ap (λ (o : Option View). linkage_name_or (first_of (cons_option o (filter_map linkage_name l.items))) (fault_of l)
+      (naming_and_more found (filter_map plain_name (a ∷ l.items)) (filter_map reference (a ∷ l.items)))) is
+
+  -- ---- from a place of the declaration on
+
+  abbrev ok_name : Option View → Result (Option View) Error
+  ok_name name = Ok name
+
+  abbrev ok_naming : EntryNaming → Result EntryNaming Error
+  ok_naming n = Ok n
+
+  module _ {X : Type 0} (view : X → Attribute) where
+    abbrev pub naming_from_place : EntryNaming → List X → ℕ → Walk → Result EntryNaming Error
+    naming_from_place found xs i w = naming_from found (attributes_from limit (map view (drop i xs)) w)
+
+    here_and_rest : (found : EntryNaming) (xs : List X) (i : ℕ) (d : X) (w after : Walk) (a : RawAttribute)
+        → i < length xs
+        → value limit (view (get_or xs i d)) w ≡ Ok (a, after)
+        → naming_from_place found xs i w ≡ naming_from found (record {
+          items = a ∷ (attributes_from limit (map view (drop (i + 1) xs)) after).items;
+          ending = (attributes_from limit (map view (drop (i + 1) xs)) after).ending;
+        })
+    here_and_rest found xs i d w after a below h =
+        at_drop_more (λ (ys : List X). naming_from found (attributes_from limit (map view ys) w)) xs i d below
+        ∙ ap (naming_from found)
+        (attributes_first limit (view (get_or xs i d)) (map view (drop (i + 1) xs)) w after a h)
+
+    -- after an attribute that is no linkage name, the naming of all is the same
+    pub naming_from_place-more :
+        (found next : EntryNaming) (xs : List X) (i : ℕ) (d : X) (w after : Walk) (a : RawAttribute) (o : Option View)
+        (whole : Result EntryNaming Error) → i < length xs
+        → value limit (view (get_or xs i d)) w ≡ Ok (a, after) → ok_name (linkage_name a) ≡ ok_name o → o ≡ None
+        → ok_naming (naming_with limit h found a) ≡ ok_naming next
+        → naming_from_place found xs i w ≡ whole → naming_from_place next xs (i + 1) after ≡ whole
+    naming_from_place-more found next xs i d w after a o whole below reads gives none takes before =
+        let no_name : linkage_name a ≡ None = cc in
+        let same : naming_with limit h found a ≡ next = cc in
+        ap (λ (n : EntryNaming). naming_from_place n xs (i + 1) after) (sym same)
+        ∙ sym (not_linkage found a (attributes_from limit (map view (drop (i + 1) xs)) after)
+        (linkage_name a) refl no_name)
+        ∙ sym (here_and_rest found xs i d w after a below reads)
+        ∙ before
+
+    -- a linkage name is the naming of all
+    pub naming_from_place-linkage :
+        (found : EntryNaming) (name : View) (xs : List X) (i : ℕ) (d : X) (w after : Walk) (a : RawAttribute)
+        (o : Option View) (whole : Result EntryNaming Error) → i < length xs
+        → value limit (view (get_or xs i d)) w ≡ Ok (a, after) → ok_name (linkage_name a) ≡ ok_name o → o ≡ Some name
+        → naming_from_place found xs i w ≡ whole → whole ≡ ok_naming (by_name name)
+    naming_from_place-linkage found name xs i d w after a o whole below reads gives is before =
+        let linkage : linkage_name a ≡ Some name = cc in
+        sym before ∙ here_and_rest found xs i d w after a below reads
+        ∙ is_linkage found a (attributes_from limit (map view (drop (i + 1) xs)) after) name linkage
+
+    -- a fault is that of all
+    pub naming_from_place-refused :
+        (found : EntryNaming) (xs : List X) (i : ℕ) (d : X) (w : Walk) (e : Error) (whole : Result EntryNaming Error)
+        → i < length xs
+        → value limit (view (get_or xs i d)) w ≡ Err e → naming_from_place found xs i w ≡ whole → whole ≡ Err e
+    naming_from_place-refused found xs i d w e whole below refuses before =
+        sym before
+        ∙ at_drop_more (λ (ys : List X). naming_from found (attributes_from limit (map view ys) w)) xs i d below
+        ∙ ap (naming_from found)
+        (attributes_refused limit (view (get_or xs i d)) (map view (drop (i + 1) xs)) w e refuses)
+
+    -- after the last attribute, it is the naming so far
+    pub naming_from_place-end :
+        (found : EntryNaming) (xs : List X) (i : ℕ) (w : Walk) (whole : Result EntryNaming Error)
+        → length xs ≤ i
+        → naming_from_place found xs i w ≡ whole → whole ≡ ok_naming found
+    naming_from_place-end found xs i w whole past before =
+        sym before
+        ∙ at_drop_all (λ (ys : List X). naming_from found (attributes_from limit (map view ys) w)) xs i past
+        ∙ ap (naming_from found) (attributes_none limit w)
+        ∙ ap ok_naming (naming_and_nothing found)

@@ -1,3 +1,0 @@
-pub mod DeclaredLemmas
-pub mod FactLemmas
-pub mod Last

@@ -1,4 +1,0 @@
-pub mod Contexts
-pub mod FileTexts
-pub mod UnitLines
-pub mod UnitRanges

@@ -1,0 +1,10 @@
+pub mod SeparateRanges
+pub mod LatestFromLeft
+pub mod PairOrder
+pub mod RowLookup
+mod PlaceExamples
+mod ContextExamples
+pub mod CallChains
+pub mod RangeHolders
+pub mod EntryLevels
+mod InlinedCallExamples

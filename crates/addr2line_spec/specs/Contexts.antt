@@ -1,0 +1,111 @@
+-- The units of a file that lookups go over, or why there are none.
+use Rattle.std.specs.Prelude.{ℕ, Bool, true, false, List, [], Option, Some, None, Result, Ok, Err, if◌then◌else◌}
+use Rattle.std.specs.List.{filter_map}
+use Rattle.gimli_lines_machine.specs.Error.{Error}
+use Rattle.gimli_lines_machine.specs.Repetition.{Listing, fault_of}
+use Rattle.gimli_lines_machine.specs.View.{View}
+use Rattle.gimli_lines_machine.specs.Range.{Range}
+use Rattle.gimli_dwarf_spec.specs.AttributeValues.{RawAttribute}
+use Rattle.gimli_dwarf_spec.specs.ArangeSets.{sets_to_come}
+use Rattle.gimli_dwarf_spec.specs.Tiling.{whole_section}
+use Rattle.gimli_dwarf_spec.specs.UnitHeaders.{DebugUnit, UnitKind, type_unit, split_type, units_to_come}
+use Rattle.gimli_lines_machine.specs.Results.{and_then, unless, each, ◌>>=◌}
+use Rattle.gimli_dwarf_spec.specs.DwarfSections.{Sections, supplement}
+use Rattle.gimli_dwarf_spec.specs.UnitFacts.{UnitFacts, unit_facts, root}
+use Rattle.addr2line_spec.specs.Lines.{Lines, Location, Stretch}
+use Rattle.addr2line_spec.specs.PlaceLookups.{location_at, stretches_between}
+use Rattle.addr2line_spec.specs.UnitLines.{lines_of_unit}
+use Rattle.addr2line_spec.specs.UnitRanges.{ranges_of_attributes, is_partial, language_in}
+
+-- ---- units
+
+-- a unit of a context, with its ranges, its language and its lines
+pub record ContextUnit : Type 0 where
+  pub facts : UnitFacts
+  pub ranges : List Range
+  pub language : Option ℕ
+  pub lines : Result Lines Error
+
+-- units of types describe no code
+abbrev pub is_of_types : UnitKind → Bool
+is_of_types (type_unit signature offset) = true
+is_of_types (split_type signature offset) = true
+is_of_types _ = false
+
+abbrev pub readable_facts : Result UnitFacts Error → Option UnitFacts
+readable_facts (Ok u) = Some u
+readable_facts (Err e) = None
+
+-- the facts of a unit of code that isn't refused
+abbrev pub facts_of_code_unit : ℕ → Sections → DebugUnit → Option UnitFacts
+facts_of_code_unit limit s h =
+    if is_of_types h.kind then None else readable_facts (unit_facts limit s h)
+
+-- a unit whose root has these attributes
+abbrev pub unit_of_root : ℕ → Sections → UnitFacts → Result Lines Error → List RawAttribute
+    → Result ContextUnit Error
+unit_of_root limit s u lines attributes = do
+  ranges ← ranges_of_attributes limit s u lines attributes
+  Ok (record { facts = u; ranges = ranges; language = language_in attributes; lines = lines })
+
+-- a unit of a context, or the refusal of its ranges; of a partial unit the root isn't looked at
+abbrev pub context_unit : ℕ → Sections → UnitFacts → Result ContextUnit Error
+context_unit limit s u =
+    let lines = lines_of_unit limit s u in
+    if is_partial u.header.kind
+    then Ok (record { facts = u; ranges = []; language = None; lines = lines })
+    else and_then (root limit u.header u.table) (λ r. unit_of_root limit s u lines r.attributes)
+
+-- ---- files
+
+-- the headers of a file's units, and what ends them
+abbrev pub headers_of : ℕ → Sections → Listing View DebugUnit
+headers_of limit s = units_to_come limit (whole_section s.file.debug_info)
+
+-- a context's units of a file, or the first fault: of a unit's ranges, or of a header, which ends
+-- them
+abbrev pub units_of_file : ℕ → Sections → Result (List ContextUnit) Error
+units_of_file limit s = do
+  let headers = headers_of limit s
+  us ← each (context_unit limit s) (filter_map (facts_of_code_unit limit s) headers.items)
+  unless (fault_of headers) (Ok us)
+
+-- the units of a supplement that can be read, of types too, or the fault of a header
+abbrev pub units_of_supplement : ℕ → Option Sections → Result (List UnitFacts) Error
+units_of_supplement limit None = Ok []
+units_of_supplement limit (Some s) =
+    unless (fault_of (headers_of limit s))
+    (Ok (filter_map (λ h. readable_facts (unit_facts limit s h)) (headers_of limit s).items))
+
+-- ---- contexts
+
+-- what lookups go over: the file's units, numbered by their places, and its supplement's
+pub record Context : Type 0 where
+  pub units : List ContextUnit
+  pub supplement_units : List UnitFacts
+
+-- A context, unless it is refused: by a header of `.debug_aranges`, by the first fault in
+-- `.debug_info`, or by a header of the supplement, in this order.
+abbrev pub context : ℕ → Sections → Result Context Error
+context limit s =
+    unless (fault_of (sets_to_come limit (whole_section s.file.debug_aranges)))
+    (do
+      units ← units_of_file limit s
+      supplement_units ← units_of_supplement limit (supplement s)
+      Ok (record { units = units; supplement_units = supplement_units }))
+
+-- ---- lookups
+
+abbrev pub ranges_of : ContextUnit → List Range
+ranges_of u = u.ranges
+
+abbrev pub lines_of : ContextUnit → Result Lines Error
+lines_of u = u.lines
+
+-- the place of an address
+abbrev pub location : Context → ℕ → Result (Option Location) Error
+location c a = location_at ranges_of lines_of c.units a
+
+-- the stretches between two ends
+abbrev pub stretches : Context → ℕ → ℕ → Listing (Unit {0}) Stretch
+stretches c low high = stretches_between ranges_of lines_of c.units low high

@@ -1,0 +1,14 @@
+pub use Rattle.addr2line_index.proofs.UnitAnswers
+pub use Rattle.addr2line_index.proofs.UnitViews
+pub use Rattle.addr2line_index.proofs.CallChains
+pub use Rattle.addr2line_index.proofs.EntryLevels
+pub use Rattle.addr2line_index.proofs.LatestFromLeft
+pub use Rattle.addr2line_index.proofs.RangeHolders
+pub mod ProgramHeaders
+pub mod LinesOfPrograms
+pub mod LineProgramRows
+pub mod BuilderRows
+pub mod FileTextLemmas
+pub mod UnitRangeLemmas
+pub mod LastFactLemmas
+pub mod LastValueStep

@@ -1,0 +1,15 @@
+-- What was found, or else what the attributes that are left give, is what all give.
+use Rattle.std.proofs.Common.{◌≡◌}
+use Rattle.gimli_lines_rows.specs.AttributeValues.{raw_attribute_of}
+use Rattle.gimli_dwarf.specs.EntryViews.{raw_attributes}
+use Rattle.gimli_dwarf.specs.UnitFacts.{value_of_kind}
+use Rattle.addr2line_index.specs.UnitRanges.{language_of, is_language, language_in}
+use Rattle.gimli_dwarf.proofs.LastAttributes.{from_index}
+use Rattle.addr2line_units.proofs.language.language_of.Given as goal
+
+abbrev pub invariant-loop-attribute : goal.invariant-loop-attribute
+invariant-loop-attribute g l =
+    let view = raw_attribute_of g.R.Reader.view g.R.Offset.ReaderOffset.count in
+    from_index view (λ language. language.0)
+    (value_of_kind language_of is_language) l.found l.attributes l.attribute-index
+    ≡ language_in (raw_attributes g.R.Reader.view g.R.Offset.ReaderOffset.count l.attributes)

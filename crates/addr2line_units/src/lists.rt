@@ -1,0 +1,34 @@
+//! The ranges of a range list, read to its end.
+
+ghost use Rattle.gimli_lines_rows.specs.Calls.{ReturnsAsOrNoMemory};
+ghost use Rattle.gimli_dwarf.specs.ListSections.{ranges_to_come};
+ghost use Rattle.addr2line_units.specs.RangeListReading.{ranges_or_refusal, listed_ranges};
+
+use gimli_dwarf::{Dwarf, RngListIter, Unit};
+use gimli_lines_rows::{Error, Range, RangeListsOffset, Reader};
+use std::alloc::Global;
+
+// All ranges that are to come, or the first refusal among them.
+fn all_ranges<R: Reader>(alloc: Global, mut list: RngListIter<R>) -> Result<Vec<Range>, Error>
+    ensures { ReturnsAsOrNoMemory (λ v. v.items) result
+        (ranges_or_refusal (ranges_to_come R.Offset.limit list)) }
+{
+    let mut ranges = Vec::new(alloc);
+    while let Some(range) = list.next()? {
+        ranges.push(range)?;
+    }
+    Ok(ranges)
+}
+
+// The ranges of the list at an offset, or the first refusal.
+pub(crate) fn listed_ranges<R: Reader>(
+    alloc: Global,
+    dwarf: &Dwarf<R>,
+    unit: &Unit<R>,
+    offset: RangeListsOffset<R::Offset>,
+) -> Result<Vec<Range>, Error>
+    ensures { ReturnsAsOrNoMemory (λ v. v.items) result
+        (listed_ranges R.Offset.limit dwarf.now unit.now (R.Offset.count offset.0)) }
+{
+    all_ranges(alloc, dwarf.ranges(unit, offset)?)
+}

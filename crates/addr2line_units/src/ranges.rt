@@ -1,0 +1,172 @@
+//! The ranges that a unit covers (DWARF 5, 2.17 and 3.1.1).
+
+ghost use Rattle.std.specs.Prelude.{◌≡◌, Ok, map};
+ghost use Rattle.std.specs.Option.{option_to_list};
+ghost use Rattle.gimli_lines_rows.specs.Calls.{ReturnsAsOrNoMemory};
+ghost use Rattle.gimli_dwarf.specs.EntryViews.{raw_attributes};
+ghost use Rattle.addr2line_index.specs.Lines.{range_of};
+ghost use Rattle.addr2line_index.specs.UnitRanges.{range_if_nonempty, low_to_high, or_else, ranges_of_aranges, ranges_of_lines, ranges_of_attributes};
+ghost use Rattle.addr2line_index.specs.EntryRanges.{ranges_of_entry};
+ghost use Rattle.addr2line_units.specs.LastFacts.{root_range, declared_by, entry_ranges_by};
+
+use crate::aranges::{push_if_any, ranges_of_aranges};
+use crate::facts::{LastFacts, facts_of};
+use crate::lists::listed_ranges;
+use addr2line_index::{LineSequence, Lines};
+use gimli_dwarf::{Dwarf, Unit};
+use gimli_lines_rows::{Attribute, Error, Range, Reader, ReaderOffset};
+use std::alloc::Global;
+
+// A range, if it begins before it ends.
+fn range_if_nonempty(begin: u64, end: u64) -> Option<Range>
+    ensures { option_to_list result ≡ range_if_nonempty begin end }
+{
+    if begin < end {
+        Some(Range { begin, end })
+    } else {
+        None
+    }
+}
+
+// From low_pc to high_pc, which is an address or a size.
+fn low_to_high(begin: Option<u64>, end: Option<u64>, size: Option<u64>) -> Option<Range>
+    ensures { option_to_list result ≡ low_to_high begin end size }
+{
+    let begin = begin?;
+    match (end, size) {
+        (Some(end), _) => range_if_nonempty(begin, end),
+        (None, Some(size)) => range_if_nonempty(begin, begin.wrapping_add(size)),
+        (None, None) => None,
+    }
+}
+
+// What low_pc and high_pc say.
+fn root_range<O: ReaderOffset>(facts: &LastFacts<O>) -> Option<Range>
+    ensures { option_to_list result ≡ root_range facts.now }
+{
+    low_to_high(facts.begin, facts.end, facts.size)
+}
+
+// The address ranges of a unit, or another range where they are none.
+fn aranges_or<R: Reader>(
+    alloc: Global,
+    dwarf: &Dwarf<R>,
+    unit: &Unit<R>,
+    other: Option<Range>,
+) -> Result<Vec<Range>, Error>
+    ensures { ReturnsAsOrNoMemory (λ v. v.items) result
+        (Ok (or_else (ranges_of_aranges R.Offset.limit dwarf.now unit.now.header.offset)
+        (option_to_list other))) }
+{
+    let mut ranges = ranges_of_aranges(alloc, dwarf, unit)?;
+    if ranges.is_empty() {
+        push_if_any(&mut ranges, other)?;
+    }
+    Ok(ranges)
+}
+
+// What a unit declares: its range list, or else its address ranges, or else what low_pc and
+// high_pc say.
+fn declared_ranges<R: Reader>(
+    alloc: Global,
+    dwarf: &Dwarf<R>,
+    unit: &Unit<R>,
+    facts: &LastFacts<R::Offset>,
+) -> Result<Vec<Range>, Error>
+    ensures { ReturnsAsOrNoMemory (λ v. v.items) result
+        (declared_by R.Offset.limit dwarf.now unit.now facts.now) }
+{
+    match facts.list {
+        Some(Some(offset)) => listed_ranges(alloc, dwarf, unit, offset),
+        _ => aranges_or(alloc, dwarf, unit, root_range(facts)),
+    }
+}
+
+// The ranges of sequences.
+fn ranges_of_sequences(alloc: Global, sequences: &[LineSequence]) -> Result<Vec<Range>, Error>
+    ensures { ReturnsAsOrNoMemory (λ v. v.items) result (Ok (map range_of sequences.now)) }
+{
+    let mut ranges = Vec::new(alloc);
+    for sequence in sequences {
+        ranges.push(sequence.range())?;
+    }
+    Ok(ranges)
+}
+
+// Those that are declared, or else those of the lines. Refused lines have none.
+fn or_lines(
+    alloc: Global,
+    declared: Vec<Range>,
+    lines: &Result<Lines, Error>,
+) -> Result<Vec<Range>, Error>
+    ensures { ReturnsAsOrNoMemory (λ v. v.items) result
+        (Ok (or_else declared.items (ranges_of_lines lines.now))) }
+{
+    match lines {
+        Ok(lines) if declared.is_empty() => ranges_of_sequences(alloc, lines.sequences()),
+        _ => Ok(declared),
+    }
+}
+
+/// The ranges of a unit whose root has these attributes: those that it declares, or else those of
+/// its lines. Declared they are by its range list, or else by `.debug_aranges`, or else by low_pc
+/// and high_pc. Refused is an attribute whose address or list can't be read, the first of them, and
+/// then a range list.
+pub fn ranges_of_attributes<R: Reader>(
+    alloc: Global,
+    dwarf: &Dwarf<R>,
+    unit: &Unit<R>,
+    lines: &Result<Lines, Error>,
+    attributes: &[Attribute<R>],
+) -> Result<Vec<Range>, Error>
+    ensures { ReturnsAsOrNoMemory (λ v. v.items) result
+        (ranges_of_attributes R.Offset.limit dwarf.now unit.now lines.now
+        (raw_attributes R.view R.Offset.count attributes.now)) }
+{
+    let facts = facts_of(dwarf, unit, attributes)?;
+    let declared = declared_ranges(alloc, dwarf, unit, &facts)?;
+    or_lines(alloc, declared, lines)
+}
+
+// A range as a list, if there is one.
+fn list_of_range(alloc: Global, range: Option<Range>) -> Result<Vec<Range>, Error>
+    ensures { ReturnsAsOrNoMemory (λ v. v.items) result (Ok (option_to_list range)) }
+{
+    let mut ranges = Vec::new(alloc);
+    push_if_any(&mut ranges, range)?;
+    Ok(ranges)
+}
+
+// What an entry with these facts declares: its range list, or else what low_pc and high_pc say.
+fn entry_ranges<R: Reader>(
+    alloc: Global,
+    dwarf: &Dwarf<R>,
+    unit: &Unit<R>,
+    facts: &LastFacts<R::Offset>,
+) -> Result<Vec<Range>, Error>
+    ensures { ReturnsAsOrNoMemory (λ v. v.items) result
+        (entry_ranges_by R.Offset.limit dwarf.now unit.now facts.now) }
+{
+    if let Some(Some(offset)) = facts.list {
+        listed_ranges(alloc, dwarf, unit, offset)
+    } else {
+        list_of_range(alloc, root_range(facts))
+    }
+}
+
+/// The ranges of an entry with these attributes, as a function or a call has them: its range list,
+/// or else what low_pc and high_pc say. Refused is an attribute whose address or list can't be
+/// read, the first of them, and then a range list.
+pub fn ranges_of_entry<R: Reader>(
+    alloc: Global,
+    dwarf: &Dwarf<R>,
+    unit: &Unit<R>,
+    attributes: &[Attribute<R>],
+) -> Result<Vec<Range>, Error>
+    ensures { ReturnsAsOrNoMemory (λ v. v.items) result
+        (ranges_of_entry R.Offset.limit dwarf.now unit.now
+        (raw_attributes R.view R.Offset.count attributes.now)) }
+{
+    let facts = facts_of(dwarf, unit, attributes)?;
+    entry_ranges(alloc, dwarf, unit, &facts)
+}

@@ -1,0 +1,3 @@
+pub mod RowAddresses
+pub mod SourceLines
+pub mod UnitNames

@@ -1,0 +1,126 @@
+-- Offsets that were seen, once and twice, and what is kept at them.
+use Rattle.std.proofs.Common.{◌≡◌, ℕ, ◌+◌, ◌<◌, ◌≤◌, Bool, true, false, cond, not, ◌||◌, eqb, leb, List, [], ◌∷◌, ◌++◌, length, map, take, get_or, count_by, refl, sym, ap, ◌∙◌, inl, inr, arith}
+use Rattle.std.specs.List.{list_any}
+use Rattle.std.specs.Ordering.{nat_cmp}
+use Rattle.std.specs.BTreeMap.{is_at}
+use Rattle.std.proofs.lemmas.Bool.{cases_eq, eqb-true, eq-eqb, ne_eqb, le-leb, lt-leb, leb-true, leb-false}
+use Rattle.std.proofs.lemmas.List.{take_more, map-append}
+use Rattle.std.proofs.lemmas.List.Folds.{list_any-append}
+use Rattle.std.proofs.lemmas.List.Sums.{sum_by-append}
+use Rattle.gimli_core_abbrev.proofs.TableInsertion.{key_test}
+
+-- an answer that is turned round
+pub not_true : (b c : Bool) → b ≡ not c → b ≡ true → c ≡ false
+not_true b true e h = absurd (let t = sym e ∙ h in cc)
+not_true b false e h = refl
+
+pub not_false : (b c : Bool) → b ≡ not c → b ≡ false → c ≡ true
+not_false b true e h = refl
+not_false b false e h = absurd (let t = sym e ∙ h in cc)
+
+-- the offset is among these
+abbrev pub among : ℕ → List ℕ → Bool
+among offset places = list_any (λ (p : ℕ). eqb p offset) places
+
+abbrev pub times_among : ℕ → List ℕ → ℕ
+times_among offset places = count_by (λ (p : ℕ). eqb p offset) places
+
+pub or_false : (b : Bool) → (b || false) ≡ b
+or_false true = refl
+or_false false = refl
+
+-- ---- one place more
+
+pub places_more : {X : Type 0} (place : X → ℕ) (xs : List X) (i : ℕ) (x : X) → x ≡ get_or xs i x → i < length xs
+    → map place (take (i + 1) xs) ≡ map place (take i xs) ++ place x ∷ []
+places_more place xs i x item inside =
+    ap (map place) (take_more xs i x inside) ∙ map-append place (take i xs) (get_or xs i x ∷ [])
+    ∙ ap (λ (p : ℕ). map place (take i xs) ++ p ∷ []) (ap place (sym item))
+
+pub among-push : (offset : ℕ) (places : List ℕ) (c : ℕ)
+    → among offset (places ++ c ∷ []) ≡ (among offset places || eqb c offset)
+among-push offset places c =
+    list_any-append (λ (p : ℕ). eqb p offset) places (c ∷ [])
+    ∙ ap (λ (b : Bool). among offset places || b) (or_false (eqb c offset))
+
+times-push : (offset : ℕ) (places : List ℕ) (c : ℕ) → times_among offset (places ++ c ∷ []) ≡ times_among offset places
+    + cond (eqb c offset) 1 0
+times-push offset places c = sum_by-append (λ (p : ℕ). cond (eqb p offset) 1 0) places (c ∷ []) ∙ omega arith
+
+times-cons : (offset p : ℕ) (places : List ℕ) → times_among offset (p ∷ places) ≡ cond (eqb p offset) 1 0
+    + times_among offset places
+times-cons offset p places = sum_by-append (λ (q : ℕ). cond (eqb q offset) 1 0) (p ∷ []) places ∙ omega arith
+
+among_times : (offset : ℕ) (places : List ℕ) → among offset places ≡ leb 1 (times_among offset places)
+among_times offset [] = sym (lt-leb 1 0 (omega arith))
+among_times offset (p ∷ places) =
+    first (eqb p offset) (among_times offset places) ∙ ap (leb 1) (sym (times-cons offset p places))
+  where
+    first : (b : Bool) → among offset places ≡ leb 1 (times_among offset places)
+        → (b || among offset places) ≡ leb 1 (cond b 1 0 + times_among offset places)
+    first true h = sym (le-leb 1 (1 + times_among offset places) (omega arith))
+    first false h = h ∙ ap (leb 1) (omega arith)
+
+pub same_among : (offset c : ℕ) (places : List ℕ) → eqb c offset ≡ true → among c places ≡ among offset places
+same_among offset c places e = ap (λ (x : ℕ). among x places) (eqb-true c offset e)
+
+flipped : (a b : ℕ) → eqb a b ≡ eqb b a
+flipped a b = elim (cases_eq a b) [
+  | inl same ↦ eq-eqb a b same ∙ sym (eq-eqb b a (sym same))
+  | inr other ↦ ne_eqb a b other ∙ sym (ne_eqb b a (λ e. other (sym e)))
+]
+
+-- a key of a map is compared with a place as the numbers are
+pub place_test : (a b : ℕ) → is_at (nat_cmp a) b ≡ eqb a b
+place_test a b = key_test a b ∙ flipped b a
+
+-- ---- seen
+
+pub seen_more : (offset c : ℕ) (places : List ℕ) (old new : Bool) → new ≡ cond (is_at (nat_cmp c) offset) true old
+    → old ≡ among offset places → new ≡ among offset (places ++ c ∷ [])
+seen_more offset c places old new is was =
+    is ∙ rw (place_test c offset) (joined (eqb c offset) old was) ∙ sym (among-push offset places c)
+  where
+    joined : (b x : Bool) → x ≡ among offset places → cond b true x ≡ (among offset places || b)
+    joined true x h = true_there (among offset places)
+      where
+        true_there : (y : Bool) → true ≡ (y || true)
+        true_there true = refl
+        true_there false = refl
+    joined false x h = h ∙ sym (or_false (among offset places))
+
+-- ---- twice
+
+-- a place that wasn't there
+pub twice_new : (offset c : ℕ) (places found : List ℕ) → among c places ≡ false
+    → among offset found ≡ leb 2 (times_among offset places)
+    → among offset found ≡ leb 2 (times_among offset (places ++ c ∷ []))
+twice_new offset c places found new was =
+    was ∙ sym (ap (leb 2) (times-push offset places c) ∙ stays (eqb c offset) refl)
+  where
+    stays : (b : Bool) → eqb c offset ≡ b → leb 2 (times_among offset places + cond b 1 0)
+        ≡ leb 2 (times_among offset places)
+    stays true e =
+        let none : times_among offset places < 1 = leb-false 1 (times_among offset places)
+        (sym (among_times offset places) ∙ sym (same_among offset c places e) ∙ new) in
+        lt-leb 2 (times_among offset places + 1) (omega arith)
+        ∙ sym (lt-leb 2 (times_among offset places) (omega arith))
+    stays false e = ap (leb 2) (omega arith)
+
+-- a place that was there
+pub twice_again : (offset c : ℕ) (places found : List ℕ) → among c places ≡ true
+    → among offset found ≡ leb 2 (times_among offset places)
+    → among offset (found ++ c ∷ []) ≡ leb 2 (times_among offset (places ++ c ∷ []))
+twice_again offset c places found there was =
+    among-push offset found c ∙ sym (ap (leb 2) (times-push offset places c) ∙ counted (eqb c offset) refl)
+  where
+    counted : (b : Bool) → eqb c offset ≡ b → leb 2 (times_among offset places + cond b 1 0) ≡ (among offset found || b)
+    counted true e =
+        let some : 1 ≤ times_among offset places = leb-true 1 (times_among offset places)
+        (sym (among_times offset places) ∙ sym (same_among offset c places e) ∙ there) in
+        le-leb 2 (times_among offset places + 1) (omega arith) ∙ true_there (among offset found)
+      where
+        true_there : (y : Bool) → true ≡ (y || true)
+        true_there true = refl
+        true_there false = refl
+    counted false e = ap (leb 2) (omega arith) ∙ sym was ∙ sym (or_false (among offset found))

@@ -1,0 +1,131 @@
+-- The codes of a table rise from above 0.
+use Rattle.std.proofs.Common.{◌≡◌, ℕ, zero, suc, ◌<◌, ◌≤◌, Bool, true, false, cond, ◌||◌, eqb, List, [], ◌∷◌, ◌++◌, Option, Some, None, is_some, Result, Ok, Err, refl, ap, subst, ◌∙◌, inl, inr, arith}
+use Rattle.std.proofs.lemmas.Bool.{cases_lt, ne_eqb, eqb-false, lt-ltb, le-ltb}
+use Rattle.gimli_core_readers.specs.Error.{Error}
+use Rattle.gimli_core_readers.specs.View.{View, bytes_left}
+use Rattle.gimli_core_readers.specs.Parsers.{proceed, give, skip, ◌>>◌}
+use Rattle.gimli_core_readers.specs.Repetition.{Listing, items_within, listing_in, next_item, item_or_end, whole_of}
+use Rattle.gimli_core_readers.proofs.StepParts.{begins, value_of-Ok, value_is, read}
+use Rattle.gimli_core_abbrev.specs.Declarations.{Declaration, declaration_at, has_code, put, put_all, by_code, repeated_after, repeated_code}
+use Rattle.gimli_core_abbrev.specs.TableParsing.{declaration, distinct, table_of, table, table_at}
+use Rattle.gimli_core_abbrev.proofs.TableCollection.{has_code-put, none_there, declaration-coded}
+
+-- the codes rise from above n
+abbrev pub Rise : ℕ → List Declaration → Type 0
+Rise n [] = Unit {0}
+Rise n (d ∷ ds) = (n < d.code) × Rise d.code ds
+
+-- none of the codes is 0
+abbrev pub Counted : List Declaration → Type 0
+Counted [] = Unit {0}
+Counted (d ∷ ds) = (0 < d.code) × Counted ds
+
+-- ---- what is put among those that rise
+
+lower : (m n : ℕ) (ds : List Declaration) → m ≤ n → Rise n ds → Rise m ds
+lower m n [] le rises = tt
+lower m n (d ∷ ds) le rises = (omega (arith, rises.0), rises.1)
+
+-- the first one isn't found, nor is one behind it
+pub others : (b : Bool) (e : Declaration) (o : Option Declaration) → cond b (Some e) o ≡ None → (b ≡ false) × (o ≡ None)
+others true e o h = absurd cc
+others false e o h = (refl, h)
+
+Rise-put : (n : ℕ) (d : Declaration) (ds : List Declaration) → Rise n ds → n < d.code → declaration_at d.code ds ≡ None
+    → Rise n (put d ds)
+Rise-put n d [] rises above absent = (above, tt)
+Rise-put n d (e ∷ ds) rises above absent =
+    let other = others (eqb e.code d.code) e (declaration_at d.code ds) absent in
+    elim (cases_lt d.code e.code) [
+      | inl less ↦ rw (lt-ltb d.code e.code less) (above, (less, rises.1))
+      | inr le ↦
+          let more : e.code < d.code = omega (arith, le, eqb-false e.code d.code other.0) in
+          rw (le-ltb d.code e.code le) (rises.0, Rise-put e.code d ds rises.1 more other.1)
+    ]
+
+Rise-put_all : (before kept ds : List Declaration)
+    → ((code : ℕ) → is_some (declaration_at code kept) ≡ has_code code before) → Rise 0 kept → Counted ds
+    → repeated_after before ds ≡ None → Rise 0 (put_all kept ds)
+Rise-put_all before kept [] same rises counted once = rises
+Rise-put_all before kept (d ∷ ds) same rises counted once =
+    let here = split (has_code d.code before) d.code (repeated_after (d ∷ before) ds) once in
+    let absent : declaration_at d.code kept ≡ None = none_there (declaration_at d.code kept) (same d.code ∙ here.0) in
+    Rise-put_all (d ∷ before) (put d kept) ds
+    (λ code. has_code-put code d kept ∙ ap (λ (b : Bool). eqb d.code code || b) (same code))
+    (Rise-put 0 d kept rises counted.0 absent) counted.1 here.1
+  where
+    split : (b : Bool) (code : ℕ) (o : Option ℕ) → cond b (Some code) o ≡ None → (b ≡ false) × (o ≡ None)
+    split true code o h = absurd cc
+    split false code o h = (refl, h)
+
+-- ---- what is listed
+
+Counted-listed : (k : ℕ) (v : View) → Counted (items_within k declaration v).items
+unfolding items_within
+Counted-listed zero v = tt
+Counted-listed (suc k) v = stepped (declaration v) refl (λ t. Counted-listed k t)
+  where
+    stepped : (r : Result (Option Declaration × View) Error) → declaration v ≡ r
+        → ((t : View) → Counted (items_within k declaration t).items)
+        → Counted (next_item r (items_within k declaration)).items
+    stepped (Err e) is rest = tt
+    stepped (Ok r) is rest = itemed r.0
+        (λ d e. declaration-coded v d r.1 (is ∙ ap (λ (o : Option Declaration). read o r.1) e))
+      where
+        itemed : (o : Option Declaration) → ((d : Declaration) → o ≡ Some d → 0 < d.code)
+            → Counted (item_or_end o r.1 (items_within k declaration)).items
+        itemed None counts = tt
+        itemed (Some d) counts = (counts d refl, rest r.1)
+
+listed : (v : View) → Counted (listing_in bytes_left declaration v).items
+unfolding listing_in
+listed v = Counted-listed (suc (bytes_left v)) v
+
+-- ---- the table
+
+table_of-rises : (l : Listing View Declaration) (ds : List Declaration) (u : View) → Counted l.items
+    → table_of l ≡ Ok (ds, u) → Rise 0 ds
+table_of-rises l ds u counted made = cases (repeated_code l.items) l.ending refl made
+  where
+    cases : (o : Option ℕ) (r : Result View Error) → repeated_code l.items ≡ o
+        → distinct o (proceed (whole_of l.items r) (λ xs. give (by_code xs))) ≡ Ok (ds, u) → Rise 0 ds
+    cases (Some code) r e h = absurd cc
+    cases None (Err d) e h = absurd cc
+    cases None (Ok w) e h = subst (λ (xs : List Declaration). Rise 0 xs) (value_is (by_code l.items) ds w u h)
+        (Rise-put_all [] [] l.items (λ code. refl) tt counted e)
+
+pub table-rises : (v : View) (ds : List Declaration) (u : View) → table v ≡ Ok (ds, u) → Rise 0 ds
+unfolding table
+table-rises v ds u made = table_of-rises (listing_in bytes_left declaration v) ds u (listed v) made
+
+pub table_at-rises : (offset : ℕ) (section : View) (ds : List Declaration) → table_at offset section ≡ Ok ds → Rise 0 ds
+table_at-rises offset section ds made =
+    let read = value_of-Ok ((skip offset >> table) section) ds made in
+    let begun = begins (skip offset section) (λ _. table) ds read.0 read.1 in
+    table-rises begun.1 ds read.0 begun.3
+
+-- ---- what that says
+
+below_all : (n code : ℕ) (ds : List Declaration) → Rise n ds → code ≤ n → declaration_at code ds ≡ None
+below_all n code [] rises le = refl
+below_all n code (d ∷ ds) rises le =
+    rw (ne_eqb d.code code (λ e. omega (arith, e, le, rises.0)))
+    (below_all d.code code ds rises.1 (omega (arith, le, rises.0)))
+
+Rise-parts : (n : ℕ) (before after : List Declaration) (d : Declaration) → Rise n (before ++ d ∷ after)
+    → (declaration_at d.code before ≡ None) × Rise d.code after × (n < d.code)
+Rise-parts n [] after d rises = (refl, rises.1, rises.0)
+Rise-parts n (e ∷ before) after d rises =
+    let rest = Rise-parts e.code before after d rises.1 in
+    (rw (ne_eqb e.code d.code (λ is. omega (arith, is, rest.2))) rest.0, rest.1, omega (arith, rises.0, rest.2))
+
+pub no_code_0 : (offset : ℕ) (section : View) (ds : List Declaration) → table_at offset section ≡ Ok ds
+    → declaration_at 0 ds ≡ None
+no_code_0 offset section ds made = below_all 0 0 ds (table_at-rises offset section ds made) (omega arith)
+
+pub codes_occur_once : (offset : ℕ) (section : View) (before after : List Declaration) (d : Declaration)
+    → table_at offset section ≡ Ok (before ++ d ∷ after) → (declaration_at d.code before ≡ None)
+    × (declaration_at d.code after ≡ None)
+codes_occur_once offset section before after d made =
+    let parts = Rise-parts 0 before after d (table_at-rises offset section (before ++ d ∷ after) made) in
+    (parts.0, below_all d.code d.code after parts.1 (omega arith))

@@ -1,0 +1,23 @@
+-- What a contract sees of a declaration.
+use Rattle.std.specs.Prelude.{ℕ, map}
+use Rattle.gimli_core_abbrev.specs.declared.abbreviation.AttributeSpecification.{AttributeSpecification}
+use Rattle.gimli_core_abbrev.specs.declared.abbreviation.Abbreviation.{Abbreviation}
+use Rattle.gimli_core_abbrev.specs.Declarations.{Attribute, Declaration}
+
+abbrev pub attribute_view : AttributeSpecification → Attribute
+attribute_view a =
+    record { name = a.name.0; form = a.form.0; implicit_const = a.implicit_const_value }
+
+abbrev pub declaration_view : Abbreviation → Declaration
+declaration_view a =
+    record {
+      code = a.code;
+      tag = a.tag.0;
+      has_children = a.has_children;
+      attributes = map
+          attribute_view a.attributes.items;
+    }
+
+-- an entry of a map
+abbrev pub entry_view : ℕ × Abbreviation → ℕ × Declaration
+entry_view e = (e.0, declaration_view e.1)

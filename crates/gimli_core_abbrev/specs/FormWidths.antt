@@ -1,0 +1,59 @@
+-- How many bytes a form's value has, where that depends on the form alone (DWARF 5, 7.5.6).
+use Rattle.std.specs.Prelude.{ℕ, ◌==◌, Bool, Option, Some, None, List, [], ◌∷◌, if◌then◌else◌}
+use Rattle.std.specs.List.{list_any}
+use Rattle.gimli_core_readers.specs.TheConstants.{DW_FORM_flag_present, DW_FORM_implicit_const, DW_FORM_data1, DW_FORM_flag, DW_FORM_ref1, DW_FORM_strx1, DW_FORM_addrx1, DW_FORM_data2, DW_FORM_ref2, DW_FORM_strx2, DW_FORM_addrx2, DW_FORM_strx3, DW_FORM_addrx3, DW_FORM_data4, DW_FORM_ref4, DW_FORM_ref_sup4, DW_FORM_strx4, DW_FORM_addrx4, DW_FORM_data8, DW_FORM_ref8, DW_FORM_ref_sig8, DW_FORM_ref_sup8, DW_FORM_data16, DW_FORM_strp, DW_FORM_sec_offset, DW_FORM_strp_sup, DW_FORM_line_strp, DW_FORM_GNU_ref_alt, DW_FORM_GNU_strp_alt, DW_FORM_addr, DW_FORM_ref_addr}
+use Rattle.gimli_core_readers.specs.Encoding.{Encoding}
+use Rattle.gimli_core_readers.specs.FormatSizes.{word_size}
+
+abbrev pub is_one_of : List ℕ → ℕ → Bool
+is_one_of forms form = list_any (λ f. f == form) forms
+
+-- the forms whose values have n bytes
+abbrev pub forms_of_0 : List ℕ
+forms_of_0 = DW_FORM_flag_present.0 ∷ DW_FORM_implicit_const.0 ∷ []
+
+abbrev pub forms_of_1 : List ℕ
+forms_of_1 =
+    DW_FORM_data1.0 ∷ DW_FORM_flag.0 ∷ DW_FORM_ref1.0 ∷ DW_FORM_strx1.0 ∷ DW_FORM_addrx1.0 ∷ []
+
+abbrev pub forms_of_2 : List ℕ
+forms_of_2 = DW_FORM_data2.0 ∷ DW_FORM_ref2.0 ∷ DW_FORM_strx2.0 ∷ DW_FORM_addrx2.0 ∷ []
+
+abbrev pub forms_of_3 : List ℕ
+forms_of_3 = DW_FORM_strx3.0 ∷ DW_FORM_addrx3.0 ∷ []
+
+abbrev pub forms_of_4 : List ℕ
+forms_of_4 =
+    DW_FORM_data4.0 ∷ DW_FORM_ref4.0 ∷ DW_FORM_ref_sup4.0 ∷ DW_FORM_strx4.0 ∷ DW_FORM_addrx4.0 ∷ []
+
+abbrev pub forms_of_8 : List ℕ
+forms_of_8 = DW_FORM_data8.0 ∷ DW_FORM_ref8.0 ∷ DW_FORM_ref_sig8.0 ∷ DW_FORM_ref_sup8.0 ∷ []
+
+abbrev pub forms_of_16 : List ℕ
+forms_of_16 = DW_FORM_data16.0 ∷ []
+
+-- the forms whose values are offsets
+abbrev pub forms_of_offsets : List ℕ
+forms_of_offsets =
+    DW_FORM_strp.0 ∷ DW_FORM_sec_offset.0 ∷ DW_FORM_strp_sup.0 ∷ DW_FORM_line_strp.0 ∷
+    DW_FORM_GNU_ref_alt.0 ∷ DW_FORM_GNU_strp_alt.0 ∷ []
+
+-- the bytes of a value of ref_addr: those of an address in version 2, else of an offset
+abbrev pub ref_addr_width : Encoding → ℕ
+ref_addr_width encoding =
+    if encoding.version == 2 then encoding.address_size else word_size encoding.format
+
+-- the bytes of a form's value, none where they depend on the value
+abbrev pub width_of : Encoding → ℕ → Option ℕ
+width_of encoding form =
+    if form == DW_FORM_addr.0 then Some encoding.address_size
+    else if form == DW_FORM_ref_addr.0 then Some (ref_addr_width encoding)
+    else if is_one_of forms_of_offsets form then Some (word_size encoding.format)
+    else if is_one_of forms_of_0 form then Some 0
+    else if is_one_of forms_of_1 form then Some 1
+    else if is_one_of forms_of_2 form then Some 2
+    else if is_one_of forms_of_3 form then Some 3
+    else if is_one_of forms_of_4 form then Some 4
+    else if is_one_of forms_of_8 form then Some 8
+    else if is_one_of forms_of_16 form then Some 16
+    else None

@@ -1,3 +1,0 @@
-pub mod Formats
-pub mod LineDefaults
-pub mod Sections

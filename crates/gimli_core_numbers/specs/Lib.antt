@@ -1,4 +1,0 @@
-pub mod Fixed
-pub mod Leb128
-pub mod Numbers
-pub mod Spelling

@@ -1,2 +1,0 @@
-pub mod AddressSetLemmas
-pub mod MemoryLemmas

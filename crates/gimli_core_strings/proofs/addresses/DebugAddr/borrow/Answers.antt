@@ -1,6 +1,0 @@
--- The reader that the function is lent is the section's own.
-use Rattle.std.proofs.Common.{rules, refl}
-use Rattle.gimli_core_strings.proofs.addresses.DebugAddr.borrow.Goals as goal
-
-pub returns : goal.returns
-returns g c = (c.self.inside.section, c.f.result, c.self.view_is, search rules, refl)

@@ -1,4 +1,0 @@
-pub mod Places
-pub mod Iterators
-pub mod AddressSets
-pub mod Bases

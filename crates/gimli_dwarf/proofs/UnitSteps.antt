@@ -1,0 +1,62 @@
+-- The facts of a unit, read one after the other, are the whole.
+use Rattle.std.proofs.Common.{◌≡◌, ℕ, List, Option, option_map, Result, Ok, Err, sym, ap, ◌∙◌}
+use Rattle.gimli_dwarf_spec.specs.Error.{Error}
+use Rattle.gimli_dwarf_spec.specs.DwarfFileType.{DwarfFileType}
+use Rattle.gimli_dwarf_spec.specs.Declarations.{Declaration}
+use Rattle.gimli_dwarf_spec.specs.EntryRows.{Row}
+use Rattle.gimli_dwarf_spec.specs.EntryViews.{attribute_named}
+use Rattle.gimli_dwarf_spec.specs.AttributeMeanings.{value_under}
+use Rattle.gimli_dwarf_spec.specs.AttributeValues.{RawAttribute}
+use Rattle.gimli_dwarf_spec.specs.UnitHeaders.{DebugUnit}
+use Rattle.gimli_dwarf_spec.specs.LineHeaders.{LineHeader}
+use Rattle.gimli_dwarf_spec.specs.Results.{and_then}
+use Rattle.gimli_dwarf_spec.specs.DwarfSections.{Sections}
+use Rattle.gimli_dwarf_spec.specs.UnitFacts.{UnitFacts, root, dwo_name, dwo_name_number, facts_of, line_header_of, address_or_0, last_value_of_kind, last_value, line_reference_of, is_stmt_list, is_low_pc}
+use Rattle.gimli_dwarf.specs.Roots.{facts_without_texts, facts_with_texts, line_unit, with_program_and_begin, facts_with_program}
+
+-- facts that were read
+abbrev pub ok_facts : UnitFacts → Result UnitFacts Error
+ok_facts u = Ok u
+
+pub facts_by_steps : (limit : ℕ) (s : Sections) (u : DebugUnit) (table : List Declaration)
+    (attributes : List RawAttribute) (file_type : DwarfFileType) (first second : UnitFacts)
+    → file_type ≡ s.file.file_type → ok_facts (facts_without_texts file_type u table attributes) ≡ ok_facts first
+    → ok_facts (facts_with_texts limit s first attributes) ≡ ok_facts second
+    → facts_with_program limit s second attributes ≡ facts_of limit s u table attributes
+facts_by_steps limit s u table attributes file_type first second type bare named =
+    let one : facts_without_texts file_type u table attributes ≡ first = cc in
+    let two : facts_with_texts limit s first attributes ≡ second = cc in
+    ap (λ (x : UnitFacts). facts_with_program limit s x attributes) (sym two)
+    ∙ ap (λ (x : UnitFacts). facts_with_program limit s (facts_with_texts limit s x attributes) attributes) (sym one)
+    ∙ ap (λ t. facts_with_program limit s
+    (facts_with_texts limit s (facts_without_texts t u table attributes) attributes) attributes) type
+
+module _ (limit : ℕ) (s : Sections) (u : UnitFacts) (attributes : List RawAttribute) (e : Error) where
+  -- a refused line header refuses the unit
+  pub refused_line_header : line_header_of limit s (line_unit u)
+      (last_value_of_kind line_reference_of is_stmt_list attributes) ≡ Err e
+      → facts_with_program limit s u attributes ≡ Err e
+  refused_line_header h =
+      ap (λ (o : Result (Option LineHeader) Error).
+      and_then o (λ l. with_program_and_begin u l (address_or_0 s u.bases (last_value is_low_pc attributes)))) h
+
+  -- and so does a refused begin
+  pub refused_low_pc : (l : Option LineHeader)
+      → line_header_of limit s (line_unit u) (last_value_of_kind line_reference_of is_stmt_list attributes) ≡ Ok l
+      → address_or_0 s u.bases (last_value is_low_pc attributes) ≡ Err e
+      → facts_with_program limit s u attributes ≡ Err e
+  refused_low_pc l h k =
+      ap (λ (o : Result (Option LineHeader) Error).
+      and_then o (λ l. with_program_and_begin u l (address_or_0 s u.bases (last_value is_low_pc attributes)))) h
+      ∙ ap (with_program_and_begin u l) k
+
+-- what names a split file, by the root and the number of the attribute
+pub dwo_name-of_root : (limit : ℕ) (u : UnitFacts) (r : Row) (n : ℕ) → root limit u.header u.table ≡ Ok r
+    → n ≡ dwo_name_number u.header.encoding
+    → dwo_name limit u ≡ Ok (option_map (λ a. value_under a.name a.value) (attribute_named n r))
+dwo_name-of_root limit u r n found same =
+    ap (λ (o : Result Row Error).
+    and_then o (λ r.
+    Ok (option_map (λ a. value_under a.name a.value) (attribute_named (dwo_name_number u.header.encoding) r))))
+    found
+    ∙ ap (λ m. Ok (option_map (λ a. value_under a.name a.value) (attribute_named m r))) (sym same)

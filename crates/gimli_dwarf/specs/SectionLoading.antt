@@ -1,0 +1,79 @@
+-- All sections of a file, by what a function answers for each.
+use Rattle.std.specs.Prelude.{◌≡◌, List, [], ◌∷◌, ◌++◌, ℕ, suc, length, Option, Some, None, Result, Ok, Err}
+use Rattle.std.specs.List.{FoldsTo}
+use Rattle.gimli_dwarf_spec.specs.View.{View}
+use Rattle.gimli_dwarf_spec.specs.DwarfFileType.TheVariants.{Main}
+use Rattle.gimli_dwarf_spec.specs.SectionId.{SectionId}
+use Rattle.gimli_dwarf_spec.specs.SectionId.TheVariants.{DebugAbbrev, DebugAddr, DebugAranges, DebugInfo, DebugLine, DebugLineStr, DebugLoc, DebugLocLists, DebugMacinfo, DebugMacro, DebugNames, DebugRanges, DebugRngLists, DebugStr, DebugStrOffsets, DebugTypes}
+use Rattle.gimli_dwarf_spec.specs.Tiling.{SectionLeft}
+use Rattle.gimli_dwarf_spec.specs.UnitHeaders.{units_to_come}
+use Rattle.gimli_dwarf_spec.specs.DwarfSections.{Sections, sections_of}
+
+-- those of a main file without a supplement
+abbrev pub main_sections : (SectionId → View) → Sections
+main_sections contents = record {
+  file = record {
+    debug_abbrev = contents DebugAbbrev;
+    debug_addr = contents DebugAddr;
+    debug_aranges = contents DebugAranges;
+    debug_info = contents DebugInfo;
+    debug_line = contents DebugLine;
+    debug_line_str = contents DebugLineStr;
+    debug_macinfo = contents DebugMacinfo;
+    debug_macro = contents DebugMacro;
+    debug_names = contents DebugNames;
+    debug_str = contents DebugStr;
+    debug_str_offsets = contents DebugStrOffsets;
+    debug_types = contents DebugTypes;
+    locations = record { debug_loc = contents DebugLoc; debug_loclists = contents DebugLocLists };
+    ranges =
+        record { debug_ranges = contents DebugRanges; debug_rnglists = contents DebugRngLists };
+    file_type = Main;
+  };
+  supplements = [];
+}
+
+-- the sections of a file, in the order in which they are asked for
+abbrev pub load_order : List SectionId
+load_order =
+    DebugAbbrev ∷ DebugAddr ∷ DebugAranges ∷ DebugInfo ∷ DebugLine ∷ DebugLineStr ∷ DebugLoc
+    ∷ DebugLocLists ∷ DebugMacinfo ∷ DebugMacro ∷ DebugNames ∷ DebugRanges ∷ DebugRngLists
+    ∷ DebugStr ∷ DebugStrOffsets ∷ DebugTypes ∷ []
+
+module _ {F R E : Type 0} (step : F → SectionId → Result R E → F → Type 0) (view : R → View) where
+  -- a call for a section answered a reader over these bytes
+  abbrev pub GivesSection : (SectionId → View) → F → SectionId → F → Type 0
+  GivesSection contents before id after =
+      (reader : R) × step before id (Ok reader) after × (view reader ≡ contents id)
+
+  -- calls for these sections, one after the other, answered a reader over the bytes of each
+  abbrev pub GivesSections : (SectionId → View) → F → List SectionId → F → Type 0
+  GivesSections contents before ids after = FoldsTo (GivesSection contents) before ids after
+
+  -- Each section was asked for, and these are the file's.
+  pub record Loads (before : F) (sections : Sections) : Type 0 where
+    pub contents : SectionId → View
+    pub after : F
+    pub calls : GivesSections contents before load_order after
+    pub are : sections ≡ main_sections contents
+
+  -- The sections were asked for up to one that was refused.
+  pub record RefusesToLoad (before : F) (e : E) : Type 0 where
+    pub contents : SectionId → View
+    pub prefix : List SectionId
+    pub id : SectionId
+    pub rest : List SectionId
+    pub before_refusal : F
+    pub after : F
+    pub order : load_order ≡ prefix ++ id ∷ rest
+    pub calls : GivesSections contents before prefix before_refusal
+    pub refusal : step before_refusal id (Err e) after
+
+-- a file with another's sections for its supplement's
+abbrev pub with_supplement : Sections → Sections → Sections
+with_supplement supplement s = sections_of s.file (Some supplement)
+
+-- a bound on the offsets of a section's units, with a fault after them
+abbrev pub offsets_left : ℕ → Option SectionLeft → ℕ
+offsets_left limit None = 0
+offsets_left limit (Some s) = suc (length (units_to_come limit s).items)

@@ -1,4 +1,0 @@
-pub mod Attributes
-pub mod Sections
-pub mod Splitting
-pub mod UnitFacts

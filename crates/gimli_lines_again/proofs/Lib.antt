@@ -1,5 +1,0 @@
-pub mod Told
-pub mod FileBytes
-pub mod TableBytes
-pub mod UnitBytes
-pub mod Read

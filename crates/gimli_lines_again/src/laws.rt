@@ -1,9 +1,0 @@
-//! What is read of what is written: each function here has an empty body, and its contract is a law.
-
-ghost use Rattle.gimli_lines_again.specs.ReadBack.{UnitAgain};
-
-/// A unit that was written is read again, whatever follows: its directories and files with what version and details tell of them, and
-/// its rows.
-pub fn unit_again()
-    ensures { UnitAgain }
-{}

@@ -1,5 +1,0 @@
-use Rattle.gimli_lines_encoding.proofs.ReadBack.{bytes_read}
-use Rattle.gimli_lines_encoding.proofs.laws.program_reads_back.Goals as goal
-
-pub returns : goal.returns
-returns c = λ address_of rules entries is_big bytes constants can_build f readable. bytes_read address_of constants rules can_build entries f readable is_big bytes

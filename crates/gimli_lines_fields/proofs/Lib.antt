@@ -1,9 +1,0 @@
-pub mod Again
-pub mod Tables
-pub mod Fields
-pub mod Digests
-pub mod Entries
-pub mod Formats
-pub mod ToVersion4
-pub mod Headers
-pub mod Units

@@ -1,5 +1,0 @@
-use Rattle.gimli_lines_fields.proofs.Units.{unit_again}
-use Rattle.gimli_lines_fields.proofs.laws.header_again.Goals as goal
-
-pub returns : goal.returns
-returns c = λ limit offset rules is_big first unit t program rest can sized. (unit_again limit rules is_big t program can offset first unit sized).again rest

@@ -1,4 +1,0 @@
-pub mod Texts
-pub mod Fields
-pub mod Headers
-pub mod Laws

@@ -1,0 +1,142 @@
+-- How a loop that reads so many items goes on, and how one that reads the fields of an entry does.
+use Rattle.std.proofs.Common.{◌≡◌, ℕ, suc, ◌+◌, ◌-◌, ◌<◌, ◌≤◌, Bool, List, [], ◌∷◌, ◌++◌, length, drop, get_or, map, Result, Ok, Err, refl, sym, ◌∙◌, ap, arith, drop-cons}
+use Rattle.std.proofs.lemmas.List.{map-append, drop_all}
+use Rattle.gimli_units_headers.specs.Error.{Error}
+use Rattle.gimli_units_headers.specs.View.{View}
+use Rattle.gimli_units_headers.specs.Parsers.{Step, proceed, give}
+use Rattle.gimli_units_headers.specs.Repetition.{times}
+use Rattle.gimli_units_headers.proofs.StepParts.{proceed-proceed}
+use Rattle.gimli_units_headers.proofs.Times.{behind, times_item, times_fault, times_end}
+use Rattle.gimli_units_headers.specs.Encoding.{Encoding}
+use Rattle.gimli_units_forms.specs.AttributeValues.{RawValue}
+use Rattle.gimli_lines_header.specs.declared.formats.FileEntryFormat.{FileEntryFormat}
+use Rattle.gimli_lines_header.specs.TableEntries.{EntryFacts, entry_value, entry_fields, facts_after}
+
+-- ---- count items, of which i are read
+
+-- none is read yet
+pub count_start : {S A : Type 0} (p : Step S A) (count : ℕ) (xs : List A) (s : S) → xs ≡ []
+    → behind xs (times (count - 0) p s) ≡ times count p s
+count_start {S} {A} p count xs s none =
+    let all : count - 0 ≡ count = omega arith in
+    ap (λ (ys : List A). behind ys (times (count - 0) p s)) none ∙ ap (λ (n : ℕ). behind [] (times n p s)) all
+    ∙ nothing_before (times count p s)
+  where
+    nothing_before : (r : Result (List A × S) Error) → behind [] r ≡ r
+    nothing_before (Ok r) = refl
+    nothing_before (Err d) = refl
+
+-- a further item is read
+pub count_item : {S A : Type 0} (p : Step S A) (count i : ℕ) (xs : List A) (x : A) (s t : S)
+    (all : Result (List A × S) Error) → i < count → p s ≡ Ok (x, t) → behind xs (times (count - i) p s) ≡ all
+    → behind (xs ++ x ∷ []) (times (count - (i + 1)) p t) ≡ all
+count_item {S} {A} p count i xs x s t all more read same =
+    let left : count - i ≡ suc (count - (i + 1)) = omega arith in
+    sym (times_item p (count - (i + 1)) xs x s t read) ∙ ap (λ (n : ℕ). behind xs (times n p s)) (sym left) ∙ same
+
+-- the same, where a contract sees items by a function
+pub count_view : {S A X : Type 0} (p : Step S A) (see : X → A) (count i : ℕ) (xs ys : List X) (x : X) (s t : S)
+    (all : Result (List A × S) Error) → i < count → p s ≡ Ok (see x, t) → ys ≡ xs ++ x ∷ []
+    → behind (map see xs) (times (count - i) p s) ≡ all → behind (map see ys) (times (count - (i + 1)) p t) ≡ all
+count_view {S} {A} p see count i xs ys x s t all more read pushed same =
+    ap (λ (zs : List A). behind zs (times (count - (i + 1)) p t)) (ap (map see) pushed ∙ map-append see xs (x ∷ []))
+    ∙ count_item p count i (map see xs) (see x) s t all more read same
+
+-- the same, where the item was pushed after the others
+pub count_push : {S A : Type 0} (p : Step S A) (count i : ℕ) (xs ys : List A) (x : A) (s t : S)
+    (all : Result (List A × S) Error) → i < count → p s ≡ Ok (x, t) → ys ≡ xs ++ x ∷ []
+    → behind xs (times (count - i) p s) ≡ all → behind ys (times (count - (i + 1)) p t) ≡ all
+count_push {S} {A} p count i xs ys x s t all more read pushed same =
+    ap (λ (zs : List A). behind zs (times (count - (i + 1)) p t)) pushed
+    ∙ count_item p count i xs x s t all more read same
+
+-- an item can't be read
+pub count_fault : {S A : Type 0} (p : Step S A) (count i : ℕ) (xs : List A) (s : S) (d : Error)
+    (all : Result (List A × S) Error) → i < count → p s ≡ Err d → behind xs (times (count - i) p s) ≡ all → all ≡ Err d
+count_fault p count i xs s d all more fault same =
+    let left : count - i ≡ suc (count - (i + 1)) = omega arith in
+    sym same ∙ ap (λ (n : ℕ). behind xs (times n p s)) left ∙ times_fault p (count - (i + 1)) xs s d fault
+
+-- all are read
+pub count_end : {S A : Type 0} (p : Step S A) (count i : ℕ) (xs : List A) (s : S) (all : Result (List A × S) Error)
+    → count ≤ i → behind xs (times (count - i) p s) ≡ all → all ≡ Ok (xs, s)
+count_end p count i xs s all over same =
+    let none : count - i ≡ 0 = omega arith in
+    sym same ∙ ap (λ (n : ℕ). behind xs (times n p s)) none ∙ times_end p xs s
+
+-- ---- the fields of an entry
+
+-- what the fields of further formats add to what is said
+abbrev pub further : ℕ → Encoding → Bool → List FileEntryFormat → EntryFacts → View → Result (EntryFacts × View) Error
+further limit e is_big formats facts v =
+    proceed (entry_fields limit e formats v) (λ fields. give (facts_after is_big facts fields))
+
+first_field : (limit : ℕ) (e : Encoding) (is_big : Bool) (format : FileEntryFormat) (formats : List FileEntryFormat)
+    (facts : EntryFacts) (v w : View) (x : RawValue) → entry_value limit e format.form.0 v ≡ Ok (x, w)
+    → further limit e is_big (format ∷ formats) facts v
+    ≡ further limit e is_big formats (facts_after is_big facts (record { content = format.content_type.0; value = x }
+    ∷ [])) w
+unfolding entry_fields
+first_field limit e is_big format formats facts v w x read =
+    ap (λ (r : Result (RawValue × View) Error).
+    proceed (proceed r (λ y. λ s. proceed (entry_fields limit e formats s)
+    (λ fields. give (record { content = format.content_type.0; value = y } ∷ fields))))
+    (λ fields. give (facts_after is_big facts fields))) read
+    ∙ proceed-proceed (entry_fields limit e formats w)
+    (λ fields. give (record { content = format.content_type.0; value = x } ∷ fields))
+    (λ fields. give (facts_after is_big facts fields))
+
+first_fault : (limit : ℕ) (e : Encoding) (is_big : Bool) (format : FileEntryFormat) (formats : List FileEntryFormat)
+    (facts : EntryFacts) (v : View) (d : Error) → entry_value limit e format.form.0 v ≡ Err d
+    → further limit e is_big (format ∷ formats) facts v ≡ Err d
+unfolding entry_fields
+first_fault limit e is_big format formats facts v d fault =
+    ap (λ (r : Result (RawValue × View) Error).
+    proceed (proceed r (λ y. λ s. proceed (entry_fields limit e formats s)
+    (λ fields. give (record { content = format.content_type.0; value = y } ∷ fields))))
+    (λ fields. give (facts_after is_big facts fields))) fault
+
+-- no format is left
+pub no_further : (limit : ℕ) (e : Encoding) (is_big : Bool) (facts : EntryFacts) (v : View)
+    → further limit e is_big [] facts v ≡ Ok (facts, v)
+unfolding entry_fields
+no_further limit e is_big facts v = refl
+
+-- the formats from one on
+drop_next : (formats : List FileEntryFormat) (i : ℕ) (format : FileEntryFormat) → i < length formats
+    → format ≡ get_or formats i format → drop i formats ≡ format ∷ drop (i + 1) formats
+drop_next formats i format more at =
+    let next : i + 1 ≡ suc i = omega arith in
+    drop-cons formats i format more ∙ ap (λ (f : FileEntryFormat). f ∷ drop (suc i) formats) (sym at)
+    ∙ ap (λ (n : ℕ). format ∷ drop n formats) (sym next)
+
+-- the next field is read
+pub further_next : (limit : ℕ) (e : Encoding) (is_big : Bool) (formats : List FileEntryFormat) (i : ℕ)
+    (format : FileEntryFormat) (facts now : EntryFacts) (v w : View) (x : RawValue)
+    (all : Result (EntryFacts × View) Error) → i < length formats → format ≡ get_or formats i format
+    → entry_value limit e format.form.0 v ≡ Ok (x, w)
+    → now ≡ facts_after is_big facts (record { content = format.content_type.0; value = x } ∷ [])
+    → further limit e is_big (drop i formats) facts v ≡ all → further limit e is_big (drop (i + 1) formats) now w ≡ all
+further_next limit e is_big formats i format facts now v w x all more at read takes same =
+    ap (λ (f : EntryFacts). further limit e is_big (drop (i + 1) formats) f w) takes
+    ∙ sym (first_field limit e is_big format (drop (i + 1) formats) facts v w x read)
+    ∙ ap (λ (fs : List FileEntryFormat). further limit e is_big fs facts v) (sym (drop_next formats i format more at))
+    ∙ same
+
+-- the next field can't be read
+pub further_fault : (limit : ℕ) (e : Encoding) (is_big : Bool) (formats : List FileEntryFormat) (i : ℕ)
+    (format : FileEntryFormat) (facts : EntryFacts) (v : View) (d : Error) (all : Result (EntryFacts × View) Error)
+    → i < length formats → format ≡ get_or formats i format → entry_value limit e format.form.0 v ≡ Err d
+    → further limit e is_big (drop i formats) facts v ≡ all → all ≡ Err d
+further_fault limit e is_big formats i format facts v d all more at fault same =
+    sym same ∙ ap (λ (fs : List FileEntryFormat). further limit e is_big fs facts v)
+    (drop_next formats i format more at)
+    ∙ first_fault limit e is_big format (drop (i + 1) formats) facts v d fault
+
+-- no format is left
+pub further_end : (limit : ℕ) (e : Encoding) (is_big : Bool) (formats : List FileEntryFormat) (i : ℕ)
+    (facts : EntryFacts) (v : View) (all : Result (EntryFacts × View) Error) → length formats ≤ i
+    → further limit e is_big (drop i formats) facts v ≡ all → all ≡ Ok (facts, v)
+further_end limit e is_big formats i facts v all over same =
+    sym same ∙ ap (λ (fs : List FileEntryFormat). further limit e is_big fs facts v) (drop_all i formats over)
+    ∙ no_further limit e is_big facts v

@@ -1,8 +1,0 @@
--- What contracts see of what is known of a header before its fields.
-use Rattle.std.specs.Prelude.{ℕ}
-use Rattle.gimli_core_base.specs.View.{View}
-use Rattle.gimli_lines_header.specs.Parsing as parsing
-use Rattle.gimli_lines_header.specs.declared.parsing.Bounds.{Bounds}
-
-abbrev pub bounds_of : {R E O : Type 0} → (R → View) → (O → ℕ) → Bounds R E O → parsing.Bounds
-bounds_of view count b = record { offset = count b.offset.0; unit_length = count b.unit_length; encoding = b.encoding; header_length = count b.header_length; program = view b.program }

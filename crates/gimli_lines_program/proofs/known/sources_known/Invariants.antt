@@ -1,8 +1,0 @@
-use Rattle.std.proofs.Common.{[], unwrap_or}
-use Rattle.gimli_lines_files.specs.Kept.{Info, in_header, info_of}
-use Rattle.gimli_lines_unit.specs.Told.{IsKnown}
-use Rattle.gimli_lines_program.proofs.Rest.{Rest}
-use Rattle.gimli_lines_program.proofs.known.sources_known.Given as goal
-
-abbrev pub invariant-loop-info : goal.invariant-loop-info
-invariant-loop-info l = Rest (λ (i : Info). IsKnown l.strings l.line_strings (unwrap_or i.source (in_header []))) info_of l.infos l.info-index

@@ -1,0 +1,134 @@
+//! The instructions of a program, one after the other.
+
+ghost use Rattle.std.specs.Prelude.{◌≡◌, ◌-◌, ◌≢◌, IsTrue, Ok, Err, option_map};
+ghost use Rattle.gimli_lines_machine.specs.Calls.{ReturnsAsOrNoMemory, ReturnsOrNoMemory};
+ghost use Rattle.gimli_lines_machine.specs.View.{View, prefix};
+ghost use Rattle.gimli_lines_machine.specs.Error.TheVariants.{Memory};
+ghost use Rattle.gimli_lines_machine.specs.Readers.{Holds};
+ghost use Rattle.gimli_lines_machine.specs.Iterators.{ReadsAsOrEndsOrNoMemory};
+ghost use Rattle.gimli_lines_rows.specs.ProgramInstructions.{next_instruction, with_rest};
+ghost use Rattle.gimli_lines_rows.specs.InstructionViews.{line_instruction};
+
+use crate::instruction::LineInstruction;
+use crate::parsing::parse_instruction;
+use gimli_lines_header::LineProgramHeader;
+use gimli_lines_machine::{Error, Reader};
+use std::marker::Model;
+
+/// The instructions of a program, from one of them on.
+#[derive(Debug, Drop)]
+pub struct LineInstructions<R: Reader> {
+    /// The bytes from the next instruction on.
+    input: R,
+}
+
+impl<R: Reader> Model for LineInstructions<R> {
+    ghost use Rattle.gimli_lines_machine.specs.View.{View};
+
+    ghost Value = { View };
+
+    ghost view = { λ i. R.view i.input };
+}
+
+impl<R: Reader> LineInstructions<R> {
+    /// The instructions that these bytes are.
+    pub fn new(input: R) -> Self
+        ensures { result ≡ R.view input }
+    {
+        LineInstructions { input }
+    }
+
+    /// The bytes from the next instruction on.
+    pub fn reader(&self) -> &R
+        ensures { R.view result.now ≡ self.now }
+    {
+        &self.input
+    }
+
+    /// Leaves no more instructions.
+    pub fn empty(&mut self)
+        ensures { self.new ≡ prefix 0 self.old }
+    {
+        self.input.empty();
+    }
+
+    /// The next instruction and those after it, none at the end of the program. Takes memory only
+    /// where a part of the reader does.
+    pub fn read_next(
+        &self,
+        header: &LineProgramHeader<R>,
+    ) -> Result<Option<(LineInstruction<R>, LineInstructions<R>)>, Error>
+        ensures { ReturnsAsOrNoMemory (option_map (λ p. (line_instruction R.view p.0, p.1))) result
+            (with_rest (next_instruction R.Offset.limit header.now self.now)) }
+    {
+        if self.input.is_empty() {
+            return Ok(None);
+        }
+        let mut input = self.input.copy()?;
+        let instruction = parse_instruction(&mut input, header)?;
+        Ok(Some((instruction, LineInstructions { input })))
+    }
+
+    /// Those before other ones, which are left of these.
+    pub fn up_to(self, rest: &LineInstructions<R>) -> Result<Self, Error>
+        requires { Holds self rest.now }
+        ensures { ReturnsOrNoMemory result (Ok (prefix (rest.now.first - self.first) self)) }
+    {
+        let LineInstructions { mut input } = self;
+        let len = rest.input.offset_from(&input);
+        input.truncate(len)?;
+        Ok(LineInstructions { input })
+    }
+
+    /// A second one.
+    pub fn copy(&self) -> Result<Self, Error>
+        ensures { ReturnsOrNoMemory result (Ok self.now) }
+    {
+        Ok(LineInstructions::new(self.input.copy()?))
+    }
+
+    /// The next instruction, none at the end of the program. After one that can't be read there are
+    /// no more. Takes memory only where a part of the reader does, and moves nothing where there is
+    /// none.
+    pub fn next_instruction(
+        &mut self,
+        header: &LineProgramHeader<R>,
+    ) -> Result<Option<LineInstruction<R>>, Error>
+        ensures { ReadsAsOrEndsOrNoMemory (option_map (line_instruction R.view)) result self.old
+            self.new (next_instruction R.Offset.limit header.now self.old) }
+    {
+        if self.input.is_empty() {
+            return Ok(None);
+        }
+        let mut input = self.input.copy()?;
+        match parse_instruction(&mut input, header) {
+            Ok(instruction) => {
+                self.input = input;
+                Ok(Some(instruction))
+            }
+            Err(Error::Memory) => Err(Error::Memory),
+            Err(fault) => {
+                self.input.empty();
+                Err(fault)
+            }
+        }
+    }
+}
+
+/// What a header gives of the instructions after it.
+pub trait ProgramInstructions<R: Reader> {
+    /// The bytes of the program.
+    ghost program: { Self → View };
+
+    /// The instructions of the program. Takes memory only where a copy of the reader does.
+    fn instructions(&self) -> Result<LineInstructions<R>, Error>
+        ensures { ReturnsOrNoMemory result (Ok (program self.now)) };
+}
+
+impl<R: Reader> ProgramInstructions<R> for LineProgramHeader<R> {
+    ghost program = { λ h. h.program };
+
+    fn instructions(&self) -> Result<LineInstructions<R>, Error> {
+        Ok(LineInstructions::new(self.raw_program_buf()?))
+    }
+}

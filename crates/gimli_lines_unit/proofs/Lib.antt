@@ -1,6 +1,0 @@
-pub mod Forms
-pub mod Lists
-pub mod FileLists
-pub mod Known
-pub mod Patched
-pub mod Empty

@@ -1,0 +1,5 @@
+pub mod SpelledPieces
+pub mod FileBytes
+pub mod TableBytes
+pub mod UnitBytesAgain
+pub mod UnitReading

@@ -1,0 +1,148 @@
+-- A unit that was written is read again.
+use Rattle.std.proofs.Common.{◌≡◌, ℕ, ◌+◌, ◌<◌, ◌≤◌, Bool, true, false, List, [], ◌∷◌, ◌++◌, length, map, Ok, refl, sym, ap, subst, ◌∙◌, arith}
+use Rattle.std.specs.Prelude.{nat_le, All}
+use Rattle.std.proofs.lemmas.Bool.{le-leb, lt-leb}
+use Rattle.std.proofs.lemmas.List.{length-append}
+use Rattle.std.proofs.lemmas.List.Elements.{All-head}
+use Rattle.gimli_lines_write_unit.specs.Format.{Format}
+use Rattle.gimli_lines_write_unit.specs.LineRules.{LineRules}
+use Rattle.gimli_lines_write_unit.proofs.RowsDecoding.{bytes_read}
+use Rattle.gimli_lines_write_unit.specs.HeaderParsing.{line_header}
+use Rattle.gimli_lines_write_unit.specs.HeaderTexts.{WrittenText, in_place, in_strings, in_line_strings, form_of, form_in, IsReadableText, IsEntry}
+use Rattle.gimli_lines_write_unit.specs.EntryFields.{WrittenFile, IsReadableFile}
+use Rattle.gimli_lines_write_unit.specs.HeaderSpelling.{Tables, path_form, source_form, spelled_header, spelled_body, spelled_length, fields_at, header_value}
+use Rattle.gimli_lines_write_unit.specs.HeaderReadBack.{bytes_at, FitsVersion4, FitsVersion5, CanWrite}
+use Rattle.gimli_lines_write_unit.proofs.LineUnitsAgain.{unit_again}
+use Rattle.gimli_lines_write_laws.specs.UnitReadBack.{IsBelow, FileBelow, HasNoZero, HasBytes, FileReadsBack, records_sources, TablesReadBack, UnitReadsBack}
+use Rattle.gimli_lines_write_laws.proofs.SpelledPieces.{Fits}
+use Rattle.gimli_lines_write_laws.proofs.TableBytes.{DirectoryIs, FileIs, form_at, header_is}
+use Rattle.gimli_lines_write_laws.proofs.UnitBytesAgain.{unit_is}
+
+-- ---- texts
+
+text_stands : (limit : ℕ) (format : Format) (t : WrittenText) → HasNoZero t → IsBelow limit t → Fits format t
+    → IsReadableText limit format t
+text_stands limit format (in_place text) free below fits = free
+text_stands limit format (in_strings offset) free below fits = (below, fits)
+text_stands limit format (in_line_strings offset) free below fits = (below, fits)
+
+entry_stands : (t : WrittenText) → form_of t ≡ 0x08 → HasBytes t → IsEntry t
+entry_stands (in_place text) is filled = filled
+entry_stands (in_strings offset) is filled = absurd (omega arith)
+entry_stands (in_line_strings offset) is filled = absurd (omega arith)
+
+-- sources that aren't recorded
+plain_form : (files : List WrittenFile) → All (λ (f : WrittenFile). f.source ≡ in_place []) files
+    → form_in (map (λ (f : WrittenFile). f.source) files) ≡ 0x08
+plain_form [] all = refl
+plain_form (f ∷ files) all = ap form_of (All-head (λ (f : WrittenFile). f.source ≡ in_place []) f files all)
+
+module _ (rules : LineRules) (t : Tables) (told : TablesReadBack rules.encoding.version t) where
+  -- the text of a file
+  source_stands : (limit : ℕ) (f : WrittenFile) → HasNoZero f.source → IsBelow limit f.source
+      → FileIs rules.encoding t.details (path_form t) (source_form t) f
+      → (records_sources rules.encoding.version t ≡ false → f.source ≡ in_place [])
+      → IsReadableText limit rules.encoding.format f.source
+  source_stands limit f free below is plain = by (nat_le rules.encoding.version 4) t.details.has_source refl refl
+    where
+      by : (a b : Bool) → nat_le rules.encoding.version 4 ≡ a → t.details.has_source ≡ b
+          → IsReadableText limit rules.encoding.format f.source
+      by false true p q = text_stands limit rules.encoding.format f.source free below (is.1 p q).1
+      by true b p q = subst (λ s. IsReadableText limit rules.encoding.format s) (sym (plain (rw p refl))) refl
+      by false false p q = subst (λ s. IsReadableText limit rules.encoding.format s) (sym (plain (rw (p, q) refl))) refl
+
+  file_stands : (limit : ℕ) (f : WrittenFile) → FileReadsBack f → FileBelow limit f
+      → FileIs rules.encoding t.details (path_form t) (source_form t) f
+      → (records_sources rules.encoding.version t ≡ false → f.source ≡ in_place [])
+      → IsReadableFile limit rules.encoding.format f
+  file_stands limit f is below stands plain = record {
+    path = text_stands limit rules.encoding.format f.path is.path below.path stands.0.1;
+    directory = is.directory;
+    timestamp = is.timestamp;
+    size = is.size;
+    md5 = is.md5;
+    source = source_stands limit f is.source below.source stands plain;
+  }
+
+  -- texts up to version 4
+  stands_to_4 : All (DirectoryIs rules.encoding (form_at rules.encoding (form_in t.directories))) t.directories
+      → All (FileIs rules.encoding t.details (path_form t) (source_form t)) t.files → rules.encoding.version ≤ 4
+      → FitsVersion4 t
+  stands_to_4 ds fs old =
+      let earlier : nat_le rules.encoding.version 4 ≡ true = le-leb rules.encoding.version 4 old in
+      record {
+        directories = λ k d h. entry_stands _ (rw earlier at (ds k d h).0) (told.directories_filled old k d h);
+        paths = λ k d h. entry_stands _ (rw earlier at (fs k d h).0.0) (told.paths_filled old k d h);
+      }
+
+  -- texts in version 5
+  stands_in_5 : All (DirectoryIs rules.encoding (form_at rules.encoding (form_in t.directories))) t.directories
+      → All (FileIs rules.encoding t.details (path_form t) (source_form t)) t.files → 4 < rules.encoding.version
+      → FitsVersion5 t
+  stands_in_5 ds fs new = by t.details.has_source refl
+    where
+      later : nat_le rules.encoding.version 4 ≡ false
+      later = lt-leb rules.encoding.version 4 new
+
+      paths : All (λ (f : WrittenFile). form_of f.path ≡ path_form t) t.files
+      paths = λ k d h. rw later at (fs k d h).0.0
+
+      directories : All (λ (d : WrittenText). form_of d ≡ form_in t.directories) t.directories
+      directories = λ k d h. rw later at (ds k d h).0
+
+      by : (b : Bool) → t.details.has_source ≡ b → FitsVersion5 t
+      by true is = record { directories = directories; paths = paths; sources = λ k d h. ((fs k d h).1 later is).0 }
+      by false is =
+          let plain = told.no_sources (rw (later, is) refl) in
+          record {
+            directories = directories;
+            paths = paths;
+            sources = λ k d h. ap form_of (plain k d h)
+                ∙ sym (plain_form t.files plain);
+          }
+
+-- ---- the unit
+
+behind_length : (a b : List ℕ) (n : ℕ) → length (a ++ b) < n → length b < n
+behind_length a b n h = omega (arith, length-append a b)
+
+one_is : (n : ℕ) → 0 < n → n ≤ 1 → n ≡ 1
+one_is n above below = omega arith
+
+pub unit_reads_back : UnitReadsBack
+unit_reads_back address_of rules t entries is_big bytes constants can_build byte few told f readable h =
+    let header = header_is is_big rules t in
+    let parts = unit_is address_of is_big rules t entries (λ hd made. (header hd made).2) bytes h in
+    let version = parts.0 in
+    let unit = parts.1 in
+    let tables = header (spelled_header rules is_big t) unit.header in
+    record {
+      program = unit.program;
+      header = λ limit offset first line_unit rest small directories_below files_below sized.
+          let can : CanWrite limit rules is_big t unit.program = record {
+            not_before_2 = version.0;
+            not_after_5 = version.1;
+            buildable = can_build;
+            instruction_is_byte = byte;
+            operations_are_byte = few;
+            one_operation = λ old. one_is rules.line_encoding.maximum_operations_per_instruction
+                can_build.has_operations (version.2 old);
+            directories = λ k d w. text_stands limit rules.encoding.format _ (told.directories k d w)
+                (directories_below k d w) (tables.0 k d w).1;
+            files = λ k d w. file_stands rules t told limit _ (told.files k d w) (files_below k d w) (tables.1 k d w)
+                (λ untold. told.no_sources untold k d w);
+            to_4 = stands_to_4 rules t told tables.0 tables.1;
+            in_5 = stands_in_5 rules t told tables.0 tables.1;
+            length_fits = unit.length_fits;
+            small = behind_length (spelled_length rules.encoding.format is_big
+                (length (spelled_body rules is_big t unit.program))) (spelled_body rules is_big t unit.program) limit
+                (subst (λ l. length l < limit) unit.bytes_are small);
+          } in
+          subst (λ l. line_header limit offset line_unit (bytes_at is_big first (l ++ rest))
+          ≡ Ok (
+            header_value rules is_big offset (fields_at rules is_big first t unit.program) line_unit t unit.program,
+            bytes_at is_big (first + length l) rest,
+          )) (sym unit.bytes_are)
+          ((unit_again limit rules is_big t unit.program can offset first line_unit sized).again rest);
+      runs = bytes_read address_of constants rules can_build entries f readable is_big unit.program unit.entries_are;
+    }

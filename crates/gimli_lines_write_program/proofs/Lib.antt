@@ -1,0 +1,2 @@
+pub mod RestOfLists
+pub mod WrittenUnit

@@ -1,0 +1,124 @@
+-- A line number program as it is built: directories and files, what is recorded of files, and rows.
+use Rattle.std.specs.Prelude.{◌≡◌, ℕ, nat_le, Bool, true, false, List, [], ◌∷◌, ◌++◌, Result, if◌then◌else◌, negsuc}
+use Rattle.gimli_lines_write_laws.specs.Encoding.{Encoding}
+use Rattle.gimli_lines_write_laws.specs.Format.TheVariants.{Dwarf32}
+use Rattle.gimli_lines_write_laws.specs.LineEncoding.{LineEncoding}
+use Rattle.gimli_lines_write_laws.specs.LineRules.{LineRules}
+use Rattle.gimli_lines_write_laws.specs.WriteError.{Error}
+use Rattle.gimli_lines_write_laws.specs.Address.{Address}
+use Rattle.gimli_lines_write_laws.specs.OutputBytes.{WriterContents}
+use Rattle.gimli_lines_write_laws.specs.BuiltRows.{first_row, rows_of, IsReadable}
+use Rattle.gimli_lines_write_laws.specs.RowsBuilding.{Building}
+use Rattle.gimli_lines_write_laws.specs.FileDetails.{FileDetails}
+use Rattle.gimli_lines_write_laws.specs.HeaderContents.{header_tables, empty_form_of, strings_after, line_strings_after, AllKnown, GainsEmpty}
+use Rattle.gimli_lines_write_laws.specs.UnitBytes.{unit_bytes}
+use Rattle.gimli_lines_write_laws.specs.UnitReadBack.{TablesReadBack, UnitDecodesTo}
+use Rattle.gimli_lines_write_laws.specs.FileTables.{Text, in_header, File, Info, no_info, ProgramFiles}
+use Rattle.gimli_lines_write_laws.specs.HeaderSpelling.{Tables}
+
+-- a program, and whether it stands for none; in version 5 the header records the details of its
+-- files
+pub record Program : Type 0 where
+  pub is_none : Bool
+  pub tables : ProgramFiles
+  pub details : FileDetails
+  pub rows : Building
+
+-- the header records no details
+abbrev pub no_details : FileDetails
+no_details = record { has_timestamp = false; has_size = false; has_md5 = false; has_source = false }
+
+-- the special opcodes begin at 13
+abbrev pub rules_with : Encoding → LineEncoding → LineRules
+rules_with encoding line_encoding =
+    record { encoding = encoding; line_encoding = line_encoding; opcode_base = 13 }
+
+-- no rows yet
+abbrev pub no_rows : LineRules → Building
+no_rows rules = record {
+  rules = rules;
+  entries = [];
+  previous = first_row rules;
+  row = first_row rules;
+  in_sequence = false;
+}
+
+-- in version 5 the source file is file 0, in the working directory
+abbrev pub first_files : ℕ → Text → List File
+first_files version source_file =
+    if nat_le version 4 then [] else record { path = source_file; directory = 0 } ∷ []
+
+-- nothing is recorded of that file yet
+abbrev pub first_infos : ℕ → List Info
+first_infos version = if nat_le version 4 then [] else no_info ∷ []
+
+-- a program of a working directory and a source file
+abbrev pub new_program : Encoding → LineEncoding → Text → Text → Program
+new_program encoding line_encoding working_dir source_file = record {
+  is_none = false;
+  tables = record {
+    version = encoding.version;
+    directories = working_dir ∷ [];
+    files = first_files encoding.version source_file;
+    infos = first_infos encoding.version;
+  };
+  details = no_details;
+  rows = no_rows (rules_with encoding line_encoding);
+}
+
+-- no program: of version 2 in 32-bit format, with addresses of eight bytes
+abbrev pub none_rules : LineRules
+none_rules = rules_with (record { address_size = 8; format = Dwarf32; version = 2 })
+    (record {
+      minimum_instruction_length = 1;
+      maximum_operations_per_instruction = 1;
+      default_is_stmt = true;
+      line_base = negsuc 4;
+      line_range = 14;
+    })
+
+-- no program
+abbrev pub none_program : Program
+none_program = record {
+  is_none = true;
+  tables = record { version = 2; directories = []; files = []; infos = [] };
+  details = no_details;
+  rows = no_rows none_rules;
+}
+
+-- ---- a program as it is written, with the texts of `.debug_str` and of `.debug_line_str`
+
+-- the string sections have the texts that the program has by reference
+abbrev pub HasItsTexts : List (List ℕ) → List (List ℕ) → Program → Type 0
+HasItsTexts strings line_strings p = AllKnown strings line_strings p.tables p.details (in_header [])
+
+-- the tables of its header
+abbrev pub program_tables : List (List ℕ) → List (List ℕ) → Program → Tables
+program_tables strings line_strings p = header_tables strings line_strings p.tables p.details
+
+-- the bytes of its unit, or the first refusal
+abbrev pub program_bytes : (Address → Result ℕ Error) → Bool → List (List ℕ) → List (List ℕ)
+    → Program
+    → Result (List ℕ) Error
+program_bytes address_of is_big strings line_strings p =
+    unit_bytes address_of is_big p.rows.rules (program_tables strings line_strings p) p.rows.entries
+
+-- the texts of `.debug_str` once it is written, which may have gained the empty text
+abbrev pub strings_with : List (List ℕ) → Program → List (List ℕ)
+strings_with strings p = strings_after (empty_form_of p.tables p.details) strings
+
+-- and those of `.debug_line_str`
+abbrev pub line_strings_with : List (List ℕ) → Program → List (List ℕ)
+line_strings_with line_strings p =
+    line_strings_after (empty_form_of p.tables p.details) line_strings
+
+-- Where a reader can follow the addresses, the bytes written from old to new are read again as a
+-- unit with the program's directories and files, and as its rows.
+abbrev pub ReadsBack : List (List ℕ) → List (List ℕ) → Program → WriterContents → WriterContents
+    → Type 0
+ReadsBack strings line_strings p old new =
+    TablesReadBack p.rows.rules.encoding.version (program_tables strings line_strings p)
+    → IsReadable p.rows.rules 0 (first_row p.rows.rules) p.rows.entries
+    → (unit : List ℕ) × (new.bytes ≡ old.bytes ++ unit)
+    × UnitDecodesTo p.rows.rules old.is_big (program_tables strings line_strings p) unit
+    (rows_of p.rows.rules p.rows.entries)

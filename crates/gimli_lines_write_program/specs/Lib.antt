@@ -1,0 +1,16 @@
+pub use Rattle.gimli_lines_write_laws.specs.NumberBytes
+pub use Rattle.gimli_lines_write_laws.specs.OutputBytes
+pub use Rattle.gimli_lines_write_laws.specs.WriteErrorText
+pub use Rattle.gimli_lines_write_laws.specs.UnitReadBack
+pub use Rattle.gimli_lines_write_laws.specs.BuiltRows
+pub use Rattle.gimli_lines_write_laws.specs.EntryBytes
+pub use Rattle.gimli_lines_write_laws.specs.RowsReadBack
+pub use Rattle.gimli_lines_write_laws.specs.EntryFields
+pub use Rattle.gimli_lines_write_laws.specs.HeaderSpelling
+pub use Rattle.gimli_lines_write_laws.specs.HeaderTexts
+pub use Rattle.gimli_lines_write_laws.specs.FileTables
+pub use Rattle.gimli_lines_write_laws.specs.LineStrings
+pub use Rattle.gimli_lines_write_laws.specs.StringSections
+pub use Rattle.gimli_lines_write_laws.specs.HeaderContents
+pub use Rattle.gimli_lines_write_laws.specs.UnitBytes
+pub mod BuiltPrograms

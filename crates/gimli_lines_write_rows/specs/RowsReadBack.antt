@@ -1,0 +1,26 @@
+-- The bytes of a program, read again (DWARF 5, 6.2).
+use Rattle.std.specs.Prelude.{◌≡◌, ℕ, ◌+◌, ◌≤◌, Bool, List, [], length, Ok}
+use Rattle.gimli_lines_write_bytes.specs.View.{View}
+use Rattle.gimli_lines_machine.specs.declared.rules.LineRules.{LineRules}
+use Rattle.gimli_lines_machine.specs.declared.registers.Registers.{Registers}
+use Rattle.gimli_lines_machine.specs.LineInstructions.{Instruction}
+use Rattle.gimli_lines_machine.specs.Machine.{start}
+use Rattle.gimli_lines_machine.specs.Decoding.{instructions}
+use Rattle.gimli_lines_write_rows.specs.EntryInstructions.{shows}
+
+-- The bytes read as instructions, whatever offsets a reader can hold and however it counts the
+-- operands of opcodes that the standard doesn't name; and those run to these rows, none of them
+-- refused.
+pub record DecodesTo (rules : LineRules) (is_big : Bool) (bytes : List ℕ) (rows : List Registers) :
+    Type 0 where
+  pub program : List Instruction
+  pub parsed : (limit : ℕ) (counts : List ℕ) (v : View) → 128 ≤ limit → v.is_big ≡ is_big
+      → v.bytes ≡ bytes
+      → instructions limit rules counts v
+      ≡ record {
+        items = program;
+        ending =
+            Ok (record { bytes = []; is_big = v.is_big; first = v.first + length v.bytes });
+      }
+  pub ending : Registers
+  pub run : shows rules (start rules) program ≡ record { items = rows; ending = Ok ending }

@@ -1,0 +1,7 @@
+//! The headers of line number programs as they are written, in versions 2 to 5 (DWARF 5, 6.2.4),
+//! and that they are read again.
+#![tactic(auto)]
+
+pub mod laws;
+
+pub use gimli_lines_header::FileEntryFormat;

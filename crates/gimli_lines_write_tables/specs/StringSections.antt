@@ -1,0 +1,29 @@
+-- The texts of a string section (DWARF 5, 7.26): each once, and a zero byte ends it.
+use Rattle.std.specs.Prelude.{◌≢◌, ℕ, ◌+◌, nat_eq, Bool, List, [], ◌∷◌, ◌++◌, All, length, take, sum_by, if◌then◌else◌}
+use Rattle.std.specs.List.{list_any, position_or_len}
+use Rattle.std.specs.Cmp.Lexicographic.{pointwise}
+
+-- the same bytes
+abbrev pub same_bytes : List ℕ → List ℕ → Bool
+same_bytes a b = pointwise nat_eq a b
+
+-- a text holds no zero byte
+abbrev pub IsText : List ℕ → Type 0
+IsText bytes = All (λ b. b ≢ 0) bytes
+
+-- the texts, with another after them where it isn't among them
+abbrev pub with_text : List (List ℕ) → List ℕ → List (List ℕ)
+with_text texts t = if list_any (same_bytes t) texts then texts else texts ++ t ∷ []
+
+-- the place of a text among them, or the place after the last
+abbrev pub text_index : List (List ℕ) → List ℕ → ℕ
+text_index texts t = position_or_len (same_bytes t) texts
+
+-- the bytes of the section
+unfoldable pub section_of : List (List ℕ) → List ℕ
+section_of [] = []
+section_of (t ∷ texts) = t ++ 0 ∷ section_of texts
+
+-- where a text begins in the section: after the texts before it, and their zero bytes
+abbrev pub offset_of : List (List ℕ) → ℕ → ℕ
+offset_of texts i = sum_by (λ t. length t + 1) (take i texts)

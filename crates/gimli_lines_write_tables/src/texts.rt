@@ -1,0 +1,131 @@
+//! Texts, each once, and the bytes of the section that holds them.
+
+ghost use Rattle.std.specs.Prelude.{◌≡◌, ◌<◌, ◌++◌, ◌∷◌, [], Some, length, slice_get, false, OnOk, OnErr, IfOk, IfErr};
+ghost use Rattle.std.specs.List.{list_any};
+ghost use Rattle.gimli_lines_write_rows.specs.WriteError.TheVariants.{Memory};
+ghost use Rattle.gimli_lines_write_tables.specs.StringSections.{IsText, same_bytes, with_text, text_index, section_of, offset_of};
+
+use gimli_lines_write_rows::Error;
+use indexmap::IndexSet;
+use std::alloc::Global;
+use std::marker::Model;
+
+/// Texts in the order of their first adds.
+#[derive(Drop)]
+pub struct Texts {
+    texts: IndexSet<Vec<u8>>,
+    offsets: Vec<usize>,
+    section: Vec<u8>,
+}
+
+impl Model for Texts {
+    ghost use Rattle.std.specs.Prelude.{ℕ, List, map};
+    ghost use Rattle.std.specs.Coded.{coded_list, coded_ℕ};
+    ghost use Rattle.gimli_lines_write_tables.specs.TextTables.{IsTextTable, texts_of};
+
+    ghost Value = { List (List ℕ) };
+
+    ghost coded = { coded_list (coded_list coded_ℕ) };
+
+    ghost view = { λ t. texts_of t.texts };
+
+    ghost invariant = { λ t. IsTextTable (texts_of t.texts) t.offsets.items t.section.items };
+}
+
+// Puts a text and its zero byte after the section's bytes.
+fn append(section: &mut Vec<u8>, bytes: &[u8]) -> Result<(), Error>
+    ensures ok { OnOk result (section.new.items ≡ section.old.items ++ (bytes.now ++ 0 ∷ [])) }
+    ensures err { OnErr result (section.new.items ≡ section.old.items) }
+    ensures refused { IfErr result (λ e. e ≡ Memory) }
+{
+    let len = section.len();
+    section.extend_from_slice(bytes)?;
+    if let Err(_refused) = section.push(0) {
+        section.truncate(len);
+        return Err(Error::Memory);
+    }
+    Ok(())
+}
+
+impl Texts {
+    /// No texts. It takes no memory.
+    pub fn new(alloc: Global) -> Self
+        ensures { result ≡ [] }
+    {
+        Texts {
+            texts: IndexSet::new(alloc),
+            offsets: Vec::new(alloc),
+            section: Vec::new(alloc),
+        }
+    }
+
+    /// The place of a text, which is added where it isn't there.
+    pub fn add(&mut self, alloc: Global, bytes: &[u8]) -> Result<usize, Error>
+        requires { IsText bytes.now }
+        ensures ok { OnOk result (self.new ≡ with_text self.old bytes.now) }
+        ensures place { IfOk result (λ place. place ≡ text_index self.old bytes.now) }
+        ensures err { OnErr result (self.new ≡ self.old) }
+        ensures refused { IfErr result (λ e. e ≡ Memory) }
+    {
+        match self.texts.get_index_of(bytes) {
+            Some(place) => Ok(place),
+            None => self.push(alloc, bytes),
+        }
+    }
+
+    // Adds a text that isn't there.
+    fn push(&mut self, alloc: Global, bytes: &[u8]) -> Result<usize, Error>
+        requires text { IsText bytes.now }
+        requires absent { list_any (same_bytes bytes.now) self.old ≡ false }
+        ensures ok { OnOk result (self.new ≡ self.old ++ bytes.now ∷ []) }
+        ensures place { IfOk result (λ place. place ≡ length self.old) }
+        ensures err { OnErr result (self.new ≡ self.old) }
+        ensures refused { IfErr result (λ e. e ≡ Memory) }
+    {
+        let text = Vec::from_slice(alloc, bytes)?;
+        let place = self.texts.len();
+        let offset = self.section.len();
+        self.offsets.reserve(1)?;
+        append(&mut self.section, bytes)?;
+        match self.texts.insert(text) {
+            Ok(_added) => {
+                self.offsets.push(offset)?;
+                Ok(place)
+            }
+            Err(_refused) => {
+                self.section.truncate(offset);
+                Err(Error::Memory)
+            }
+        }
+    }
+
+    /// How many texts there are.
+    pub fn count(&self) -> usize
+        ensures { result ≡ length self.now }
+    {
+        self.texts.len()
+    }
+
+    /// The text at a place.
+    pub fn get(&self, place: usize) -> &[u8]
+        requires { place < length self.now }
+        ensures { slice_get self.now place ≡ Some result.now }
+    {
+        self.texts.get_index(place).unwrap().as_slice()
+    }
+
+    /// Where the text at a place begins in the section.
+    pub fn offset(&self, place: usize) -> usize
+        requires { place < length self.now }
+        ensures { result ≡ offset_of self.now place }
+    {
+        self.offsets[place]
+    }
+
+    /// The bytes of the section.
+    pub fn section(&self) -> &[u8]
+        ensures { result.now ≡ section_of self.now }
+    {
+        self.section.as_slice()
+    }
+}

@@ -1,0 +1,153 @@
+//! The files of a header.
+
+ghost use Rattle.std.specs.Prelude.{◌≡◌, ◌<◌, ◌++◌, [], true, false, Ok, map, if◌then◌else◌, option_map, unwrap_or, length};
+ghost use Rattle.gimli_lines_write_tables.specs.EntryBytes.{Continues};
+ghost use Rattle.gimli_lines_write_tables.specs.FileTables.{Text, in_header, text_of, file_of, info_of};
+ghost use Rattle.gimli_lines_write_unit.specs.HeaderContents.{header_text, source_text, header_file, details_of, IsKnown};
+ghost use Rattle.gimli_lines_write_unit.specs.HeaderBytes.{bytes_after_path, details_bytes, text_bytes, file_bytes_to_4, file_bytes_of_5};
+
+use crate::details::FileDetails;
+use crate::pieces::{write_bytes_if, write_number_if};
+use crate::texts::write_text;
+use gimli_lines_write_tables::{
+    DW_FORM_string, DwForm, Encoding, Error, FileInfo, FileKey, LineString, LineStringTable,
+    StringTable, Writer,
+};
+
+// Writes what follows the path of a file up to version 4.
+fn write_after_path<W: Writer>(w: &mut W, file: &FileKey, info: &FileInfo) -> Result<(), Error>
+    ensures { Continues result (W.contents w.old) (W.contents w.new)
+        (Ok (bytes_after_path (header_file [] [] false (in_header []) (file_of file.now)
+        (info_of info.now)))) }
+{
+    w.write_uleb128(file.directory.0 as u64)?;
+    w.write_uleb128(info.timestamp)?;
+    w.write_uleb128(info.size)
+}
+
+/// Writes a file up to version 4.
+pub fn write_file_to_4<W: Writer>(
+    w: &mut W,
+    encoding: Encoding,
+    strings: &StringTable,
+    line_strings: &LineStringTable,
+    file: &FileKey,
+    info: &FileInfo,
+) -> Result<(), Error>
+    requires { IsKnown strings.now line_strings.now (text_of file.now.path) }
+    ensures { Continues result (W.contents w.old) (W.contents w.new)
+        (file_bytes_to_4 (W.contents w.old).is_big encoding
+        (header_file strings.now line_strings.now false (in_header []) (file_of file.now)
+        (info_of info.now))) }
+{
+    write_text(
+        w,
+        encoding,
+        DW_FORM_string,
+        strings,
+        line_strings,
+        &file.path,
+    )?;
+    write_after_path(w, file, info)
+}
+
+// Writes what follows the path of a file in version 5, its text apart.
+fn write_details<W: Writer>(
+    w: &mut W,
+    details: FileDetails,
+    file: &FileKey,
+    info: &FileInfo,
+) -> Result<(), Error>
+    ensures { Continues result (W.contents w.old) (W.contents w.new)
+        (Ok (details_bytes (details_of details)
+        (header_file [] [] false (in_header []) (file_of file.now) (info_of info.now)))) }
+{
+    w.write_uleb128(file.directory.0 as u64)?;
+    write_number_if(w, details.has_timestamp, info.timestamp)?;
+    write_number_if(w, details.has_size, info.size)?;
+    write_bytes_if(w, details.has_md5, &info.md5)
+}
+
+/// The text of a file, or another where it has none.
+pub fn source_or<'a>(info: &'a FileInfo, empty: &'a LineString) -> &'a LineString
+    ensures { text_of result.now ≡ unwrap_or (info_of info.now).source (text_of empty.now) }
+{
+    match &info.source {
+        Some(source) => source,
+        None => empty,
+    }
+}
+
+// Writes the text of a file, or another where it has none, where texts are recorded.
+fn write_source<W: Writer>(
+    w: &mut W,
+    encoding: Encoding,
+    present: bool,
+    form: DwForm,
+    strings: &StringTable,
+    line_strings: &LineStringTable,
+    info: &FileInfo,
+    empty: &LineString,
+) -> Result<(), Error>
+    requires { present ≡ true → IsKnown strings.now line_strings.now
+        (unwrap_or (info_of info.now).source (text_of empty.now)) }
+    ensures { Continues result (W.contents w.old) (W.contents w.new)
+        (if present then text_bytes (W.contents w.old).is_big encoding form.0
+        (source_text strings.now line_strings.now present (text_of empty.now)
+        (info_of info.now).source) else Ok []) }
+{
+    if present {
+        return write_text(
+            w,
+            encoding,
+            form,
+            strings,
+            line_strings,
+            source_or(info, empty),
+        );
+    }
+    Ok(())
+}
+
+/// The forms of the paths and of the texts of files.
+#[derive(Clone, Copy, Debug, PartialEq, Eq)]
+pub struct FileForms {
+    pub path: DwForm,
+    pub source: DwForm,
+}
+
+/// Writes a file in version 5, with another text where it has none.
+pub fn write_file_of_5<W: Writer>(
+    w: &mut W,
+    encoding: Encoding,
+    details: FileDetails,
+    forms: FileForms,
+    strings: &StringTable,
+    line_strings: &LineStringTable,
+    file: &FileKey,
+    info: &FileInfo,
+    empty: &LineString,
+) -> Result<(), Error>
+    requires path { IsKnown strings.now line_strings.now (text_of file.now.path) }
+    requires source { details.has_source ≡ true
+        → IsKnown strings.now line_strings.now
+        (unwrap_or (info_of info.now).source (text_of empty.now)) }
+    ensures { Continues result (W.contents w.old) (W.contents w.new)
+        (file_bytes_of_5 (W.contents w.old).is_big encoding (details_of details) forms.path.0
+        forms.source.0
+        (header_file strings.now line_strings.now details.has_source (text_of empty.now)
+        (file_of file.now) (info_of info.now))) }
+{
+    write_text(w, encoding, forms.path, strings, line_strings, &file.path)?;
+    write_details(w, details, file, info)?;
+    write_source(
+        w,
+        encoding,
+        details.has_source,
+        forms.source,
+        strings,
+        line_strings,
+        info,
+        empty,
+    )
+}

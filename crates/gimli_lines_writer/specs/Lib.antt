@@ -1,3 +1,0 @@
-pub mod ErrorText
-pub mod Written
-pub mod Numbers

@@ -1,7 +1,0 @@
--- The mask is the greatest address.
-use Rattle.std.proofs.Common.{◌+◌}
-use Rattle.gimli_units_base.proofs.Wrapping.{masked}
-use Rattle.gimli_units_base.proofs.address.wrapping_sum.Goals as goal
-
-pub returns : goal.returns
-returns c = rw c.greatest_address.ensures (masked c.args.address_size (c.args.address + c.args.length) c.requires)

@@ -1,0 +1,163 @@
+ghost use Rattle.std.specs.Prelude.{◌≡◌, ◌<◌, ◌+◌, ◌^◌, ◌≤◌, ℕ, Result, Ok, IfOk, List, ◌∷◌, map, length, Some, None, option_map};
+ghost use Rattle.gimli_core_abbrev.specs.Calls.{ReturnsAs, Reads};
+ghost use Rattle.gimli_core_abbrev.specs.Declarations.{Attribute};
+ghost use Rattle.gimli_core_abbrev.specs.AbbreviationViews.{attribute_view};
+ghost use Rattle.gimli_units_forms.specs.AttributeReading.{attributes};
+ghost use Rattle.gimli_units_forms.specs.AttributeValues.{RawAttribute};
+ghost use Rattle.gimli_core_abbrev.specs.View.{View, after};
+ghost use Rattle.gimli_core_abbrev.specs.Results.{and_then};
+ghost use Rattle.gimli_units_forms.specs.AttributeSkipping.{skip_text, way_of, width_of, look_at_value, run as run_of, Way, skip_ways, skip_values};
+
+use crate::reading::{read_fixed, read_form};
+use crate::spelling::{Spelling, spelling_of};
+use gimli_core_abbrev::{AttributeSpecification, DwForm, Encoding, EndianSlice, Error, Reader};
+
+/// The width of a form's value, where it doesn't depend on the bytes.
+#[inline(always)]
+#[tactic(auto, unfolding(crate::specs::AttributeSkipping::way_of))]
+fn fixed_width(encoding: Encoding, form: DwForm) -> Option<u8>
+    ensures { result ≡ width_of (way_of encoding form.0) }
+{
+    match spelling_of(encoding, form) {
+        Spelling::Address => Some(encoding.address_size),
+        Spelling::Fixed(width) => Some(width),
+        Spelling::Sixteen => Some(16),
+        Spelling::Constant => Some(0),
+        _ => None,
+    }
+}
+
+/// Skips bytes that aren't looked at.
+#[tactic(auto, unfolding(crate::specs::AttributeSkipping::run))]
+fn skip_run<R: Reader>(place: &mut R, width: u64) -> Result<(), Error>
+    ensures { ReturnsAs (λ u. (u, R.view place.new)) result (run_of width (R.view place.old)) }
+{
+    if width > place.as_bytes().len() as u64 {
+        return Err(Error::UnexpectedEof(place.offset_id()));
+    }
+    place.advance(width as usize);
+    Ok(())
+}
+
+/// Skips a text and its zero byte.
+fn skip_string<R: Reader>(place: &mut R) -> Result<(), Error>
+    ensures { ReturnsAs (λ u. (u, R.view place.new)) result (skip_text (R.view place.old)) }
+{
+    let length = place.find(0)?;
+    place.skip(length)?;
+    place.advance(1);
+    Ok(())
+}
+
+/// Looks at the bytes of a form's value, and returns how many more follow.
+#[tactic(auto, unfolding(crate::specs::AttributeSkipping::look_at_value))]
+fn look<R: Reader>(place: &mut R, encoding: Encoding, form: DwForm) -> Result<u64, Error>
+    ensures { ReturnsAs (λ more. (more, R.view place.new)) result
+        (look_at_value encoding form.0 (R.view place.old)) }
+{
+    let form = read_form(place, form)?;
+    match spelling_of(encoding, form) {
+        Spelling::Address => Ok(u64::from(encoding.address_size)),
+        Spelling::Fixed(width) => Ok(u64::from(width)),
+        Spelling::Sixteen => Ok(16),
+        Spelling::Constant => Ok(0),
+        Spelling::Block(width) => read_fixed(place, width),
+        Spelling::LongBlock => place.read_uleb128(),
+        Spelling::Unsigned | Spelling::Signed => {
+            place.skip_leb128()?;
+            Ok(0)
+        }
+        Spelling::Text => {
+            skip_string(place)?;
+            Ok(0)
+        }
+        Spelling::Indirect | Spelling::Unknown => Err(Error::UnknownForm(form)),
+    }
+}
+
+/// Skips one value after a run, and returns the run after it.
+#[inline(always)]
+fn skip_value<R: Reader>(
+    place: &mut R,
+    encoding: Encoding,
+    form: DwForm,
+    run: u64,
+) -> Result<u64, Error>
+    ensures { (ways : List Way) → skip_ways run (way_of encoding form.0 ∷ ways) (R.view place.old)
+        ≡ and_then result (λ more. skip_ways more ways (R.view place.new)) }
+{
+    match fixed_width(encoding, form) {
+        Some(width) => {
+            // There are fewer bytes than 64 bits count, so a longer run goes past the end.
+            let _bytes = place.as_bytes();
+            run.checked_add(u64::from(width))
+                .ok_or(Error::OffsetSumOverflow)
+        }
+        None => {
+            skip_run(place, run)?;
+            look(place, encoding, form)
+        }
+    }
+}
+
+/// Skips the values that declarations describe, and where it is refused leaves a reader that may
+/// have moved.
+#[tactic(auto, unfolding(crate::specs::AttributeSkipping::skip_values))]
+fn skip_all<R: Reader>(
+    place: &mut R,
+    encoding: Encoding,
+    specifications: &[AttributeSpecification],
+) -> Result<(), Error>
+    ensures { ReturnsAs (λ u. (u, R.view place.new)) result
+        (skip_values encoding (map attribute_view specifications.now) (R.view place.old)) }
+{
+    let mut run = 0u64;
+    for specification in specifications {
+        run = skip_value(place, encoding, specification.form(), run)?;
+    }
+    skip_run(place, run)
+}
+
+/// How many bytes the values take that declarations describe.
+fn bytes_to_skip<R: Reader>(
+    reader: &R,
+    encoding: Encoding,
+    specifications: &[AttributeSpecification],
+) -> Result<usize, Error>
+    ensures within { IfOk result (λ n. n ≤ length (R.view reader.now).bytes) }
+    ensures value { ReturnsAs (λ n. (tt, after n (R.view reader.now))) result
+        (skip_values encoding (map attribute_view specifications.now) (R.view reader.now)) }
+{
+    let bytes = reader.as_bytes();
+    let mut place = EndianSlice::with_first_id(bytes, reader.endian(), reader.offset_id());
+    skip_all(&mut place, encoding, specifications)?;
+    Ok(bytes.len() - place.slice().len())
+}
+
+/// Skips the values that declarations describe, by their widths alone: a number isn't judged,
+/// except a length and the number of a form. Takes no memory. A refusal leaves the reader as it
+/// was.
+pub fn skip_attributes<R: Reader>(
+    reader: &mut R,
+    encoding: Encoding,
+    specifications: &[AttributeSpecification],
+) -> Result<(), Error>
+    ensures value { Reads result (R.view reader.old) (R.view reader.new)
+        (skip_values encoding (map attribute_view specifications.now) (R.view reader.old)) }
+    // Where reading the attributes succeeds, this does and leaves the same.
+    ensures as_read { (limit : ℕ) (all : List RawAttribute) (rest : View)
+        → attributes limit encoding (map attribute_view specifications.now) (R.view reader.old)
+        ≡ Ok (all, rest)
+        → (result ≡ Ok tt) × (R.view reader.new ≡ rest) }
+{
+    let count = bytes_to_skip(reader, encoding, specifications)?;
+    reader.advance(count);
+    Ok(())
+}
+
+/// What reads as attributes is skipped, and what is left is the same.
+pub fn skipping_follows_reading()
+    ensures { (limit : ℕ) (encoding : Encoding) (specifications : List Attribute) (view rest : View)
+        (all : List RawAttribute) → attributes limit encoding specifications view ≡ Ok (all, rest)
+        → skip_values encoding specifications view ≡ Ok (tt, rest) }
+{}

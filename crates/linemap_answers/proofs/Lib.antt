@@ -1,4 +1,0 @@
-pub mod Chains
-pub mod Lists
-pub mod Rests
-pub mod Orders

@@ -1,0 +1,199 @@
+-- A unit more, and what holds before it.
+use Rattle.std.proofs.Common.{◌≡◌, ℕ, ◌<◌, ◌^◌, Bool, true, false, List, [], ◌∷◌, ◌++◌, length, refl, sym, ap, subst, ◌∙◌, append-nil}
+use Rattle.std.specs.Prelude.{All}
+use Rattle.std.proofs.lemmas.Grind.{flat_map-append}
+use Rattle.linemap_emit_fits.specs.Encoding.{Encoding}
+use Rattle.linemap_emit_fits.specs.OutputBytes.{WriterContents}
+use Rattle.linemap_table.specs.TableParts.{Calls, no_calls, more_calls, FunctionPart, UnitPart}
+use Rattle.linemap_emit_fits.specs.Entry.{Entry}
+use Rattle.linemap_emit_fits.specs.EmittedEntries.{AllFit, attributes_of}
+use Rattle.linemap_emit_fits.specs.EmittedUnits.{spelled_unit_body, spelled_unit, spelled_units}
+use Rattle.linemap_emit_fits.specs.UnitEmission.{EmittedUnit, has_calls, with_end_of_children, with_call, with_calls, with_function_entry, with_function, with_functions, with_unit_entry, with_unit, without_entries}
+use Rattle.linemap_emit_fits.specs.TableEmission.{EmittedTable, before_entries, after_entries, with_emitted_unit, with_emitted_units}
+use Rattle.linemap_emit_fits.specs.FittingUnits.{IsServed, UnitFits, AllUnitsFit}
+use Rattle.linemap_emit.specs.declared.table_emitter.TableEmitter.{TableEmitter}
+use Rattle.linemap_emit.specs.TableEmitterSteps.{bytes_in_order, unit_after_entries, with_unit_added, HoldsTable, CanAddUnit, ProgramFits}
+
+-- ---- what entries leave as it is
+
+-- the encoding, and the order of the range lists' bytes
+abbrev Keeps : EmittedUnit → EmittedUnit → Type 0
+Keeps old new = (new.encoding ≡ old.encoding) × (new.ranges.is_big ≡ old.ranges.is_big)
+
+keeps_then : (a b c : EmittedUnit) → Keeps a b → Keeps b c → Keeps a c
+keeps_then a b c h k = (k.0 ∙ h.0, k.1 ∙ h.1)
+
+closed_keeps : (b : Bool) (st : EmittedUnit) → Keeps st (with_end_of_children b st)
+closed_keeps true st = (refl, refl)
+closed_keeps false st = (refl, refl)
+
+calls_keep : (cs : Calls) (st : EmittedUnit) → Keeps st (with_calls cs st)
+unfolding with_calls
+calls_keep no_calls st = (refl, refl)
+calls_keep (more_calls site inner others) st =
+    let head = with_call (has_calls inner) site st in
+    let within = with_calls inner head in
+    let after = with_end_of_children (has_calls inner) within in
+    let ended = keeps_then head within after (calls_keep inner head) (closed_keeps (has_calls inner) within) in
+    let all = keeps_then head after (with_calls others after) ended (calls_keep others after) in
+    (all.0, all.1)
+
+functions_keep : (fs : List FunctionPart) (st : EmittedUnit) → Keeps st (with_functions fs st)
+functions_keep [] st = (refl, refl)
+functions_keep (f ∷ fs) st =
+    let head = with_function_entry f st in
+    let within = with_calls f.calls head in
+    let after = with_function f st in
+    let ended = keeps_then head within after (calls_keep f.calls head) (closed_keeps (has_calls f.calls) within) in
+    let all = keeps_then head after (with_functions fs after) ended (functions_keep fs after) in
+    (all.0, all.1)
+
+unit_keeps : (line_program : ℕ) (u : UnitPart) (st : EmittedUnit) → Keeps st (with_unit line_program u st)
+unit_keeps line_program u st = functions_keep u.functions (with_unit_entry line_program u st)
+
+-- ---- what stands after a unit
+
+-- what was emitted, as it stands
+abbrev emitter_of : Encoding → Bool → EmittedTable → TableEmitter
+emitter_of e is_big st =
+    record {
+      encoding = e;
+      lines = bytes_in_order is_big st.lines;
+      info = bytes_in_order is_big (spelled_units e is_big st.units);
+      emitter = before_entries e is_big st;
+    }
+
+stands_as : (e : Encoding) (is_big : Bool) (st : EmittedTable) (s : TableEmitter) → HoldsTable e is_big st s
+    → s ≡ emitter_of e is_big st
+stands_as e is_big st s h =
+    ap (λ (x : Encoding). record { encoding = x; lines = s.lines; info = s.info; emitter = s.emitter }) h.encoding_is
+    ∙ ap (λ (x : WriterContents). record { encoding = e; lines = x; info = s.info; emitter = s.emitter }) h.lines_are
+    ∙ ap (λ (x : WriterContents). record {
+      encoding = e;
+      lines = bytes_in_order is_big st.lines;
+      info = x;
+      emitter = s.emitter;
+    }) h.units_are
+    ∙ ap (λ (x : EmittedUnit). record {
+      encoding = e;
+      lines = bytes_in_order is_big st.lines;
+      info = bytes_in_order is_big (spelled_units e is_big st.units);
+      emitter = x;
+    }) h.emitter_is
+
+-- the units' bytes, with a unit more
+units_more : (e : Encoding) (is_big : Bool) (us : List (List Entry)) (xs : List Entry)
+    → spelled_units e is_big us ++ spelled_unit e is_big xs ≡ spelled_units e is_big (us ++ xs ∷ [])
+units_more e is_big us xs =
+    ap (λ ys. spelled_units e is_big us ++ ys) (sym (append-nil (spelled_unit e is_big xs)))
+    ∙ sym (flat_map-append (spelled_unit e is_big) us (xs ∷ []))
+
+-- without its entries, what is emitted of them stands before the next ones
+before_next : (e : Encoding) (is_big : Bool) (x : EmittedUnit) → x.encoding ≡ e → x.ranges.is_big ≡ is_big
+    → without_entries x
+    ≡ record {
+      encoding = e;
+      texts = x.texts;
+      ranges = record { bytes = x.ranges.bytes; is_big = is_big };
+      entries = [];
+    }
+before_next e is_big x same order =
+    ap (λ (y : Encoding). record { encoding = y; texts = x.texts; ranges = x.ranges; entries = [] }) same
+    ∙ ap (λ (b : Bool). record {
+      encoding = e;
+      texts = x.texts;
+      ranges = record { bytes = x.ranges.bytes; is_big = b };
+      entries = [];
+    }) order
+
+next_stands : (e : Encoding) (is_big : Bool) (u : UnitPart) (st : EmittedTable)
+    → HoldsTable e is_big (with_emitted_unit e is_big u st) (with_unit_added u (emitter_of e is_big st))
+next_stands e is_big u st =
+    let kept = unit_keeps (length st.lines) u (before_entries e is_big st) in
+    record {
+      encoding_is = refl;
+      lines_are = refl;
+      units_are = ap (bytes_in_order is_big) (units_more e is_big st.units (after_entries e is_big u st).entries);
+      emitter_is = before_next e is_big (after_entries e is_big u st) kept.0 kept.1;
+    }
+
+pub unit_stands : (e : Encoding) (is_big : Bool) (u : UnitPart) (st : EmittedTable) (s t : TableEmitter)
+    → HoldsTable e is_big st s → t ≡ with_unit_added u s → HoldsTable e is_big (with_emitted_unit e is_big u st) t
+unit_stands e is_big u st s t h is =
+    subst (HoldsTable e is_big (with_emitted_unit e is_big u st))
+    (sym (is ∙ ap (with_unit_added u) (stands_as e is_big st s h))) (next_stands e is_big u st)
+
+-- ---- what holds before a unit
+
+-- its entries at hand are those after the units before it
+entries_after : (u : UnitPart) (s : TableEmitter) (t : CanAddUnit u s)
+    → after_entries s.encoding t.is_big u t.before ≡ unit_after_entries u s
+entries_after u s t =
+    let lines : s.lines ≡ bytes_in_order t.is_big t.before.lines = t.stands.lines_are in
+    sym (ap (λ (x : WriterContents). with_unit (length x.bytes) u s.emitter) lines
+    ∙ ap (with_unit (length t.before.lines) u) t.stands.emitter_is)
+
+-- What a unit needs, of what stands there.
+pub record Ready (u : UnitPart) (s : TableEmitter) : Type 0 where
+  pub same : s.emitter.encoding ≡ s.encoding
+  pub fit : All (λ x. AllFit (2 ^ 31) s.encoding (attributes_of x)) (unit_after_entries u s).entries
+  pub small : length (spelled_unit_body s.encoding s.info.is_big (unit_after_entries u s).entries) < 2 ^ 31
+  pub program : ProgramFits s.encoding s.lines.is_big u
+
+pub unit_ready : (u : UnitPart) (s : TableEmitter) → CanAddUnit u s → Ready u s
+unit_ready u s t =
+    let here = entries_after u s t in
+    let e = s.encoding in
+    let lines_big : t.is_big ≡ s.lines.is_big = sym (ap (λ (x : WriterContents). x.is_big) t.stands.lines_are) in
+    let info_big : t.is_big ≡ s.info.is_big = sym (ap (λ (x : WriterContents). x.is_big) t.stands.units_are) in
+    let small_there : length (spelled_unit_body e t.is_big (unit_after_entries u s).entries) < 2 ^ 31 =
+    subst (λ (x : EmittedUnit). length (spelled_unit_body e t.is_big x.entries) < 2 ^ 31) here t.fits.entries_small in
+    let fits : ProgramFits e t.is_big u = record {
+      can_emit_sequences = t.fits.can_emit_sequences;
+      instructions = t.fits.instructions;
+      instructions_are = t.fits.instructions_are;
+      header_small = t.fits.header_small;
+      program_small = t.fits.program_small;
+    } in
+    record {
+      same = ap (λ (x : EmittedUnit). x.encoding) t.stands.emitter_is;
+      fit = subst (λ (x : EmittedUnit). All (λ y. AllFit (2 ^ 31) e (attributes_of y)) x.entries) here
+          t.fits.entries_fit;
+      small = subst (λ (b : Bool). length (spelled_unit_body e b (unit_after_entries u s).entries) < 2 ^ 31) info_big
+          small_there;
+      program = subst (λ (b : Bool). ProgramFits e b u) lines_big fits;
+    }
+
+-- ---- one unit of several
+
+pub first_fits : (e : Encoding) (is_big : Bool) (u : UnitPart) (us : List UnitPart) (st : EmittedTable)
+    → AllUnitsFit e is_big (u ∷ us) st → UnitFits e is_big u st
+unfolding AllUnitsFit
+first_fits e is_big u us st fit = fit.0
+
+pub others_fit : (e : Encoding) (is_big : Bool) (u : UnitPart) (us : List UnitPart) (st : EmittedTable)
+    → AllUnitsFit e is_big (u ∷ us) st → AllUnitsFit e is_big us (with_emitted_unit e is_big u st)
+unfolding AllUnitsFit
+others_fit e is_big u us st fit = fit.1
+
+pub can_take : (e : Encoding) (is_big : Bool) (u : UnitPart) (st : EmittedTable) (s : TableEmitter) → IsServed e
+    → HoldsTable e is_big st s → UnitFits e is_big u st → CanAddUnit u s
+can_take e is_big u st s served stands fits =
+    let same = sym stands.encoding_is in
+    record {
+      before = st;
+      is_big = is_big;
+      served = subst IsServed same served;
+      stands = subst (λ (x : Encoding). HoldsTable x is_big st s) same stands;
+      fits = subst (λ (x : Encoding). UnitFits x is_big u st) same fits;
+    }
+
+-- all units, one of them and then the others
+pub all_behind : (e : Encoding) (is_big : Bool) (u : UnitPart) (us : List UnitPart) (st : EmittedTable)
+    → with_emitted_units e is_big (u ∷ us) st ≡ with_emitted_units e is_big us (with_emitted_unit e is_big u st)
+unfolding with_emitted_units
+all_behind e is_big u us st = refl
+
+pub none_left : (e : Encoding) (is_big : Bool) (st : EmittedTable) → with_emitted_units e is_big [] st ≡ st
+unfolding with_emitted_units
+none_left e is_big st = refl

@@ -1,0 +1,56 @@
+-- What is in memory while a table's units are emitted, and what a unit adds to it.
+use Rattle.std.specs.Prelude.{◌≡◌, ℕ, ◌<◌, ◌^◌, Bool, List, length, Ok}
+use Rattle.linemap_emit_fits.specs.Encoding.{Encoding}
+use Rattle.linemap_emit_fits.specs.OutputBytes.{WriterContents, append}
+use Rattle.linemap_table.specs.TableParts.{UnitPart}
+use Rattle.linemap_emit_fits.specs.EmittedUnits.{spelled_unit, spelled_units}
+use Rattle.linemap_emit_fits.specs.UnitEmission.{EmittedUnit, with_unit, without_entries}
+use Rattle.linemap_emit_fits.specs.EmittedHeaders.{spelled_header, spelled_program_body}
+use Rattle.linemap_emit_fits.specs.SoundSequences.{CanEmitSequences}
+use Rattle.linemap_emit_fits.specs.EmittedPrograms.{directories_of, files_of}
+use Rattle.linemap_emit_fits.specs.TableEmission.{EmittedTable, instructions_of, program_of, before_entries}
+use Rattle.linemap_emit_fits.specs.FittingUnits.{IsServed, UnitFits}
+use Rattle.linemap_emit.specs.declared.table_emitter.TableEmitter.{TableEmitter}
+
+-- bytes in an order
+abbrev pub bytes_in_order : Bool → List ℕ → WriterContents
+bytes_in_order is_big bytes = record { bytes = bytes; is_big = is_big }
+
+-- the emitter's unit with the entries of a table's unit, after those before it
+abbrev pub unit_after_entries : UnitPart → TableEmitter → EmittedUnit
+unit_after_entries u s = with_unit (length s.lines.bytes) u s.emitter
+
+-- what is there with one more unit: its line number program, its entries as a unit, its texts and
+-- range lists
+abbrev pub with_unit_added : UnitPart → TableEmitter → TableEmitter
+with_unit_added u s = record {
+  encoding = s.encoding;
+  lines = append (program_of s.encoding s.lines.is_big u) s.lines;
+  info = append (spelled_unit s.encoding s.info.is_big (unit_after_entries u s).entries) s.info;
+  emitter = without_entries (unit_after_entries u s);
+}
+
+-- the emitter holds what was emitted
+pub record HoldsTable (e : Encoding) (is_big : Bool) (st : EmittedTable) (s : TableEmitter) : Type 0
+  where
+    pub encoding_is : s.encoding ≡ e
+    pub lines_are : s.lines ≡ bytes_in_order is_big st.lines
+    pub units_are : s.info ≡ bytes_in_order is_big (spelled_units e is_big st.units)
+    pub emitter_is : s.emitter ≡ before_entries e is_big st
+
+-- A unit can be written after others.
+pub record CanAddUnit (u : UnitPart) (s : TableEmitter) : Type 0 where
+  pub before : EmittedTable
+  pub is_big : Bool
+  pub served : IsServed s.encoding
+  pub stands : HoldsTable s.encoding is_big before s
+  pub fits : UnitFits s.encoding is_big u before
+
+-- A unit's line number program can be written.
+pub record ProgramFits (e : Encoding) (is_big : Bool) (u : UnitPart) : Type 0 where
+  pub can_emit_sequences : CanEmitSequences u.sequences
+  pub instructions : List ℕ
+  pub instructions_are : instructions_of e is_big u ≡ Ok instructions
+  pub header_small : length (spelled_header e.version (directories_of u) (files_of u)) < 2 ^ 31
+  pub program_small : length
+      (spelled_program_body e is_big (directories_of u) (files_of u) instructions) < 2 ^ 31

@@ -1,0 +1,36 @@
+//! The sections of a table.
+
+ghost use Rattle.std.specs.Prelude.{◌≡◌, ◌≤◌, ◌^◌, ◌↔◌, IfOk, IsErrOf};
+ghost use Rattle.linemap_table.specs.TableWeight.{table_weight};
+ghost use Rattle.linemap_table.specs.TableUnits.{units_of};
+ghost use Rattle.linemap_emit.specs.EmissionTargets.{encoding_of, is_big_of};
+ghost use Rattle.linemap_emit_fits.specs.EmittedSections.{emitted_sections};
+ghost use Rattle.linemap_emit.specs.SectionAnswers.{AreAnswers};
+
+use crate::error::EmitError;
+use crate::sections::Sections;
+use crate::table_emitter::emit_units;
+use crate::target::Target;
+use linemap_table::Table;
+use std::alloc::Global;
+
+/// The weight from which on a table is too large.
+const WEIGHT_LIMIT: u64 = 1 << 31;
+
+/// The sections of a table, as a target has them. A table whose weight is 2^31 or more is refused
+/// before any memory is taken; every other one is emitted where there is enough memory.
+pub fn emit_sections(alloc: Global, table: &Table, target: Target) -> Result<Sections, EmitError>
+    ensures too_large { IsErrOf result EmitError.TooLarge
+        ↔ (2 ^ 31 ≤ table_weight (units_of table.now)) }
+    ensures emitted { IfOk result
+        (λ s. s ≡ emitted_sections (encoding_of target) (is_big_of target) (units_of table.now)) }
+    ensures answers { IfOk result (λ s. AreAnswers (is_big_of target) s (units_of table.now)) }
+{
+    if table.weight() >= WEIGHT_LIMIT {
+        return Err(EmitError::TooLarge);
+    }
+    match emit_units(alloc, table.units(), target) {
+        Ok(sections) => Ok(sections),
+        Err(_refused) => Err(EmitError::Memory),
+    }
+}

@@ -1,0 +1,226 @@
+-- What is emitted of a unit's entries stays within a bound.
+use Rattle.std.proofs.Common.{◌≡◌, ℕ, ◌+◌, ◌*◌, ◌<◌, ◌≤◌, ◌^◌, Bool, true, false, List, [], ◌∷◌, ◌++◌, length, map, sum_by, refl, sym, ap, subst, ◌∙◌, arith}
+use Rattle.std.proofs.lemmas.List.{length-append, length-map}
+use Rattle.std.proofs.lemmas.List.Elements.{All-push}
+use Rattle.std.proofs.lemmas.List.Concat.{flat_map-append}
+use Rattle.std.proofs.lemmas.List.Sums.{sum_by-cons}
+use Rattle.linemap_emit_units.specs.Encoding.{Encoding}
+use Rattle.linemap_emit_units.specs.Format.{Format}
+use Rattle.linemap_emit_units.specs.Format.TheVariants.{Dwarf32, Dwarf64}
+use Rattle.linemap_emit_units.specs.FormatSizes.{word_size}
+use Rattle.linemap_emit_units.specs.StringSections.{with_text, section_of, text_index}
+use Rattle.linemap_emit_units.specs.TableParts.{RangePart, Site, Calls, no_calls, more_calls, FunctionPart, UnitPart}
+use Rattle.linemap_emit_units.specs.TableWeight.{calls_weight, function_weight}
+use Rattle.linemap_emit_units.specs.Entry.{Entry}
+use Rattle.linemap_emit_units.specs.Entry.TheVariants.{CompileUnit, Function, Call, EndOfChildren}
+use Rattle.linemap_emit_units.specs.EmittedEntries.{AllFit, attributes_of, spelled_entry}
+use Rattle.linemap_emit_units.specs.EmittedEntryRows.{spelled_entries}
+use Rattle.linemap_emit_units.specs.EmittedRanges.{spelled_ranges}
+use Rattle.linemap_emit_units.specs.UnitEmission.{EmittedUnit, emitted_range, text_offset, with_name, with_list, list_offset, with_entry, has_calls, with_end_of_children, with_call, with_calls, with_function_entry, with_function, with_functions, with_unit_entry, with_unit}
+use Rattle.linemap_emit_fits.specs.EmissionBounds.{IsUnitBounded}
+use Rattle.linemap_emit_fits.proofs.StringSectionSizes.{section_grows, offset_within}
+use Rattle.linemap_emit_fits.proofs.EntryListSizes.{ranges_few, entry_few}
+
+-- offsets below 2^31 fit their words
+fits_word : (f : Format) (offset : ℕ) → offset < 2 ^ 31 → offset < 256 ^ word_size f
+fits_word Dwarf32 offset low = omega arith
+fits_word Dwarf64 offset low = omega arith
+
+-- where a text stands, within the section as it grows
+text_low : (text : List ℕ) (st : EmittedUnit) (most : ℕ) → length (section_of st.texts) ≤ most
+    → text_offset text st ≤ most + (length text + 1)
+text_low text st most few =
+    sum _ _ _ (length text) most (offset_within (with_text st.texts text) (text_index st.texts text))
+    (section_grows st.texts text) few
+  where
+    sum : (o s t n m : ℕ) → o ≤ s → s ≤ t + (n + 1) → t ≤ m → o ≤ m + (n + 1)
+    sum o s t n m a b c = omega arith
+
+-- numbers of a call that fit 64 bits
+pub record IsCounted (s : Site) : Type 0 where
+  pub file : s.file + 1 < 2 ^ 64
+  pub line : s.line < 2 ^ 64
+  pub column : s.column < 2 ^ 64
+
+unfoldable pub AllCounted : Calls → Type 0
+AllCounted no_calls = Unit {0}
+AllCounted (more_calls site inner others) = IsCounted site × AllCounted inner × AllCounted others
+
+unfoldable pub AllFunctionsCounted : List FunctionPart → Type 0
+AllFunctionsCounted [] = Unit {0}
+AllFunctionsCounted (f ∷ fs) = AllCounted f.calls × AllFunctionsCounted fs
+
+-- a call's weight but for the end of those in it
+abbrev site_most : Site → ℕ
+site_most s = 118 + 64 * length s.ranges + 4 * length s.name
+
+-- what a unit's entries, texts and range lists take at most
+abbrev pub unit_most : UnitPart → ℕ
+unit_most u =
+    200 + 64 * length u.ranges + 4 * length u.directory + 4 * length u.name + sum_by function_weight u.functions
+
+module _ (e : Encoding) (is_big : Bool) (eight : e.address_size ≡ 8) where
+  pub bound_raised : {m n : ℕ} {st : EmittedUnit} → IsUnitBounded e is_big m st → m ≤ n → IsUnitBounded e is_big n st
+  bound_raised {m} {n} {st} k h =
+      let t = k.texts_few in
+      let r = k.ranges_few in
+      let b = k.entries_few in
+      record {
+        has_8_bytes = k.has_8_bytes;
+        texts_few = omega arith;
+        ranges_few = omega arith;
+        entries_few = omega arith;
+        fit = k.fit;
+      }
+
+  -- a text more
+  name_bounded : {m : ℕ} {st : EmittedUnit} (text : List ℕ) → IsUnitBounded e is_big m st
+      → IsUnitBounded e is_big (m + (length text + 1)) (with_name text st)
+  name_bounded {m} {st} text k =
+      let t = k.texts_few in
+      let grown = section_grows st.texts text in
+      let r = k.ranges_few in
+      let b = k.entries_few in
+      record {
+        has_8_bytes = k.has_8_bytes;
+        texts_few = omega arith;
+        ranges_few = omega arith;
+        entries_few = omega arith;
+        fit = k.fit;
+      }
+
+  -- a range list more
+  list_bounded : {m : ℕ} {st : EmittedUnit} (rs : List RangePart) → IsUnitBounded e is_big m st
+      → IsUnitBounded e is_big (m + (17 * length rs + 16)) (with_list rs st)
+  list_bounded {m} {st} rs k =
+      let t = k.texts_few in
+      let r = k.ranges_few in
+      let b = k.entries_few in
+      let list = spelled_ranges st.encoding st.ranges.is_big (map emitted_range rs) in
+      let grown : length (st.ranges.bytes ++ list) ≤ m + (17 * length rs + 16) =
+      sum _ _ _ _ (length rs) m r (ranges_few st.encoding st.ranges.is_big (map emitted_range rs) k.has_8_bytes)
+      (length-map rs emitted_range) (length-append st.ranges.bytes list) in
+      record {
+        has_8_bytes = k.has_8_bytes;
+        texts_few = omega arith;
+        ranges_few = grown;
+        entries_few = omega arith;
+        fit = k.fit;
+      }
+    where
+      sum : (a b k x n m : ℕ) → a ≤ m → b ≤ 17 * k + 16 → k ≡ n → x ≡ a + b → x ≤ m + (17 * n + 16)
+      sum a b k x n m f g h i = omega arith
+
+  -- an entry more that fits
+  entry_bounded : {m : ℕ} {st : EmittedUnit} (x : Entry) → AllFit (2 ^ 31) e (attributes_of x)
+      → IsUnitBounded e is_big m st
+      → IsUnitBounded e is_big (m + (10 + 10 * length (attributes_of x))) (with_entry x st)
+  entry_bounded {m} {st} x fit k =
+      let t = k.texts_few in
+      let r = k.ranges_few in
+      let grown : length (spelled_entries e is_big (st.entries ++ x ∷ [])) ≤ m + (10 + 10 * length (attributes_of x)) =
+      sum _ _ _ _ m _ k.entries_few (entry_few e is_big x eight)
+      (ap length (flat_map-append (spelled_entry e is_big) st.entries (x ∷ []))
+      ∙ length-append (spelled_entries e is_big st.entries) (spelled_entries e is_big (x ∷ [])))
+      (length-append (spelled_entry e is_big x) []) in
+      record {
+        has_8_bytes = k.has_8_bytes;
+        texts_few = omega arith;
+        ranges_few = omega arith;
+        entries_few = grown;
+        fit = All-push (λ x. AllFit (2 ^ 31) e (attributes_of x)) st.entries x k.fit fit;
+      }
+    where
+      sum : (a b c x m n : ℕ) → a ≤ m → b ≤ n → x ≡ a + c → c ≡ b + 0 → x ≤ m + n
+      sum a b c x m n f g h i = omega arith
+
+  end_bounded : {m : ℕ} {st : EmittedUnit} (b : Bool) → IsUnitBounded e is_big m st
+      → IsUnitBounded e is_big (m + 10) (with_end_of_children b st)
+  end_bounded true k = entry_bounded EndOfChildren tt k
+  end_bounded false k = bound_raised k (omega arith)
+
+  -- ---- calls
+
+  call_bounded : {m : ℕ} {st : EmittedUnit} (b : Bool) (s : Site) → IsCounted s → m + site_most s < 2 ^ 31
+      → IsUnitBounded e is_big m st → IsUnitBounded e is_big (m + site_most s) (with_call b s st)
+  call_bounded {m} {st} b s counted fits k =
+      let name_low = text_low s.name st m k.texts_few in
+      let name_fits : text_offset s.name st < 2 ^ 31 = omega arith in
+      let list_few = k.ranges_few in
+      let list_fits : list_offset st < 2 ^ 31 = omega arith in
+      bound_raised (entry_bounded (Call b (text_offset s.name st) (list_offset st) (s.file + 1) s.line s.column) (
+        (fits_word e.format (text_offset s.name st) name_fits, name_fits),
+        (
+          (fits_word e.format (list_offset st) list_fits, list_fits, refl),
+          (counted.file, (counted.line, (counted.column, tt))),
+        ),
+      ) (list_bounded s.ranges (name_bounded s.name k))) (omega arith)
+
+  pub calls_bounded : (cs : Calls) {m : ℕ} {st : EmittedUnit} → AllCounted cs → m + calls_weight cs < 2 ^ 31
+      → IsUnitBounded e is_big m st → IsUnitBounded e is_big (m + calls_weight cs) (with_calls cs st)
+  unfolding with_calls AllCounted
+  calls_bounded no_calls {m} {st} counted fits k = bound_raised k (omega arith)
+  calls_bounded (more_calls site inner others) {m} {st} counted fits k =
+      let head = call_bounded (has_calls inner) site counted.0 (omega arith) k in
+      let middle = calls_bounded inner counted.1 (omega arith) head in
+      let end = end_bounded (has_calls inner) middle in
+      bound_raised (calls_bounded others counted.2 (omega arith) end) (omega arith)
+
+  -- ---- functions
+
+  function_bounded : {m : ℕ} {st : EmittedUnit} (f : FunctionPart) → AllCounted f.calls → m + function_weight f < 2 ^ 31
+      → IsUnitBounded e is_big m st → IsUnitBounded e is_big (m + function_weight f) (with_function f st)
+  function_bounded {m} {st} f counted fits k =
+      let name_low = text_low f.name st m k.texts_few in
+      let name_fits : text_offset f.name st < 2 ^ 31 = omega arith in
+      let list_few = k.ranges_few in
+      let list_fits : list_offset st < 2 ^ 31 = omega arith in
+      let head : IsUnitBounded e is_big (m + (54 + 64 * length f.ranges + 4 * length f.name))
+      (with_function_entry f st) =
+      bound_raised (entry_bounded (Function (has_calls f.calls) (text_offset f.name st) (list_offset st)) (
+        (fits_word e.format (text_offset f.name st) name_fits, name_fits),
+        ((fits_word e.format (list_offset st) list_fits, list_fits, refl), tt),
+      ) (list_bounded f.ranges (name_bounded f.name k))) (omega arith) in
+      bound_raised (end_bounded (has_calls f.calls) (calls_bounded f.calls counted (omega arith) head)) (omega arith)
+
+  pub functions_bounded : (fs : List FunctionPart) {m : ℕ} {st : EmittedUnit} → AllFunctionsCounted fs
+      → m + sum_by function_weight fs < 2 ^ 31 → IsUnitBounded e is_big m st
+      → IsUnitBounded e is_big (m + sum_by function_weight fs) (with_functions fs st)
+  unfolding AllFunctionsCounted
+  functions_bounded [] {m} {st} counted fits k = bound_raised k (omega arith)
+  functions_bounded (f ∷ fs) {m} {st} counted fits k =
+      let whole = sum_by-cons function_weight f fs in
+      bound_raised (functions_bounded fs counted.1 (omega arith) (function_bounded f counted.0 (omega arith) k))
+      (omega arith)
+
+  -- ---- a unit
+
+  pub unit_is_bounded : {m : ℕ} {st : EmittedUnit} (line_program : ℕ) (u : UnitPart) → AllFunctionsCounted u.functions
+      → line_program < 2 ^ 31 → m + unit_most u < 2 ^ 31 → IsUnitBounded e is_big m st
+      → IsUnitBounded e is_big (m + unit_most u) (with_unit line_program u st)
+  unit_is_bounded {m} {st} line_program u counted program_fits fits k =
+      let name_low = text_low u.name st m k.texts_few in
+      let name_fits : text_offset u.name st < 2 ^ 31 = omega arith in
+      let after_name = name_bounded u.name k in
+      let directory_low = text_low u.directory (with_name u.name st) (m + (length u.name + 1)) after_name.texts_few in
+      let directory_fits : text_offset u.directory (with_name u.name st) < 2 ^ 31 = omega arith in
+      let list_few = k.ranges_few in
+      let list_fits : list_offset st < 2 ^ 31 = omega arith in
+      let zero_fits : 0 < 256 ^ e.address_size = subst (λ s. 0 < 256 ^ s) (sym eight) (omega arith) in
+      let root : IsUnitBounded e is_big (m + (120 + 64 * length u.ranges + 4 * length u.directory + 4 * length u.name))
+      (with_unit_entry line_program u st) =
+      bound_raised
+      (entry_bounded
+      (CompileUnit (text_offset u.name st) (text_offset u.directory (with_name u.name st)) line_program
+      (list_offset st)) (
+        (fits_word e.format (text_offset u.name st) name_fits, name_fits),
+        (
+          (fits_word e.format (text_offset u.directory (with_name u.name st)) directory_fits, directory_fits),
+          (
+            (fits_word e.format line_program program_fits, program_fits, refl),
+            (zero_fits, ((fits_word e.format (list_offset st) list_fits, list_fits, refl), tt)),
+          ),
+        ),
+      ) (list_bounded u.ranges (name_bounded u.directory after_name))) (omega arith) in
+      bound_raised (entry_bounded EndOfChildren tt (functions_bounded u.functions counted (omega arith) root))
+      (omega arith)

@@ -1,0 +1,10 @@
+pub use Rattle.linemap_emit_units.proofs.EmittedRowsBuilt
+pub use Rattle.linemap_emit_units.proofs.EmittedCallLemmas
+pub mod NumberSizes
+pub mod StringSectionSizes
+pub mod InstructionSizes
+pub mod EntryListSizes
+pub mod HeaderSizes
+pub mod EntrySizes
+pub mod SoundUnitFits
+pub mod EmittedUnitSizes

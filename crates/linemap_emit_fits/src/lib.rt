@@ -1,0 +1,9 @@
+//! How large what is emitted of a table becomes: no larger than the table's weight.
+#![tactic(auto)]
+
+pub mod fit_laws;
+
+pub use linemap_emit_units::{
+    Encoding, EndianVec, Error, Format, LineEncoding, LineRules, RunTimeEndian, SectionId,
+    UnitEmitter, Writer, entries_of, write_declarations, write_entries, write_program, write_unit,
+};

@@ -1,0 +1,211 @@
+-- What is emitted only grows: texts keep their places, and bytes and entries go after those before.
+use Rattle.std.proofs.Common.{◌≡◌, ℕ, ◌+◌, Bool, true, false, List, [], ◌∷◌, ◌++◌, length, map, slice_get, Some, refl, sym, ap, ◌∙◌, append_assoc, append-nil}
+use Rattle.linemap_emit_units.specs.Encoding.{Encoding}
+use Rattle.linemap_emit_units.specs.StringSections.{offset_of}
+use Rattle.linemap_emit_units.proofs.SectionTexts.{stays}
+use Rattle.linemap_emit_units.specs.TableParts.{RangePart, Site, Calls, no_calls, more_calls, FunctionPart, UnitPart}
+use Rattle.linemap_emit_units.specs.Entry.{Entry}
+use Rattle.linemap_emit_units.specs.Entry.TheVariants.{CompileUnit, Function, Call, EndOfChildren}
+use Rattle.linemap_emit_units.specs.EmittedRanges.{spelled_ranges}
+use Rattle.linemap_emit_units.specs.UnitEmission.{EmittedUnit, emitted_range, text_offset, list_offset, with_name, with_list, with_entry, has_calls, with_end_of_children, with_call, with_calls, with_function_entry, with_function, with_functions, with_unit_entry, with_unit}
+use Rattle.linemap_emit_units.specs.TableEmission.{EmittedTable, program_of, before_entries, after_entries, with_emitted_unit, with_emitted_units}
+
+-- texts keep their places, and begin where they did
+abbrev pub TextsStay : List (List ℕ) → List (List ℕ) → Type 0
+TextsStay texts more =
+    (i : ℕ) (t : List ℕ) → slice_get texts i ≡ Some t
+    → (slice_get more i ≡ Some t) × (offset_of more i ≡ offset_of texts i)
+
+pub texts_stay_on : (a b c : List (List ℕ)) → TextsStay a b → TextsStay b c → TextsStay a c
+texts_stay_on a b c g h i t there =
+    let first = g i t there in
+    let second = h i t first.0 in
+    (second.0, second.1 ∙ first.1)
+
+-- ---- within a unit
+
+pub record Grows (a b : EmittedUnit) : Type 0 where
+  pub texts : TextsStay a.texts b.texts
+  pub more_ranges : List ℕ
+  pub ranges : b.ranges.bytes ≡ a.ranges.bytes ++ more_ranges
+  pub more_entries : List Entry
+  pub entries : b.entries ≡ a.entries ++ more_entries
+
+grows_by_nothing : (a : EmittedUnit) → Grows a a
+grows_by_nothing a = record {
+  texts = λ i t there. (there, refl);
+  more_ranges = [];
+  ranges = sym (append-nil a.ranges.bytes);
+  more_entries = [];
+  entries = sym (append-nil a.entries);
+}
+
+grows_on : (a b c : EmittedUnit) → Grows a b → Grows b c → Grows a c
+grows_on a b c g h = record {
+  texts = texts_stay_on a.texts b.texts c.texts g.texts h.texts;
+  more_ranges = g.more_ranges ++ h.more_ranges;
+  ranges =
+      h.ranges ∙ ap (λ (l : List ℕ). l ++ h.more_ranges) g.ranges
+      ∙ append_assoc a.ranges.bytes g.more_ranges h.more_ranges;
+  more_entries = g.more_entries ++ h.more_entries;
+  entries =
+      h.entries ∙ ap (λ (l : List Entry). l ++ h.more_entries) g.entries
+      ∙ append_assoc a.entries g.more_entries h.more_entries;
+}
+
+-- a text
+name_grows : (text : List ℕ) (a : EmittedUnit) → Grows a (with_name text a)
+name_grows text a = record {
+  texts = λ i t there. stays a.texts text t i there;
+  more_ranges = [];
+  ranges = sym (append-nil a.ranges.bytes);
+  more_entries = [];
+  entries = sym (append-nil a.entries);
+}
+
+-- a list
+list_grows : (rs : List RangePart) (a : EmittedUnit) → Grows a (with_list rs a)
+list_grows rs a = record {
+  texts = λ i t there. (there, refl);
+  more_ranges = spelled_ranges a.encoding a.ranges.is_big (map emitted_range rs);
+  ranges = refl;
+  more_entries = [];
+  entries = sym (append-nil a.entries);
+}
+
+-- an entry
+entry_grows : (x : Entry) (a : EmittedUnit) → Grows a (with_entry x a)
+entry_grows x a = record {
+  texts = λ i t there. (there, refl);
+  more_ranges = [];
+  ranges = sym (append-nil a.ranges.bytes);
+  more_entries = x ∷ [];
+  entries = refl;
+}
+
+end_grows : (b : Bool) (a : EmittedUnit) → Grows a (with_end_of_children b a)
+end_grows true a = entry_grows EndOfChildren a
+end_grows false a = grows_by_nothing a
+
+-- a text, a list and an entry
+attributes_grow : (text : List ℕ) (rs : List RangePart) (x : Entry) (a : EmittedUnit)
+    → Grows a (with_entry x (with_list rs (with_name text a)))
+attributes_grow text rs x a =
+    let named = with_name text a in
+    let listed = with_list rs named in
+    grows_on a named (with_entry x listed) (name_grows text a)
+    (grows_on named listed (with_entry x listed) (list_grows rs named) (entry_grows x listed))
+
+call_grows : (children : Bool) (site : Site) (a : EmittedUnit) → Grows a (with_call children site a)
+call_grows children site a =
+    attributes_grow site.name site.ranges
+    (Call children (text_offset site.name a) (list_offset a) (site.file + 1) site.line site.column) a
+
+calls_grow : (cs : Calls) (a : EmittedUnit) → Grows a (with_calls cs a)
+unfolding with_calls
+calls_grow no_calls a = grows_by_nothing a
+calls_grow (more_calls site inner others) a =
+    let head = with_call (has_calls inner) site a in
+    let within = with_calls inner head in
+    let after = with_end_of_children (has_calls inner) within in
+    grows_on a head (with_calls others after) (call_grows (has_calls inner) site a)
+    (grows_on head within (with_calls others after) (calls_grow inner head)
+    (grows_on within after (with_calls others after) (end_grows (has_calls inner) within) (calls_grow others after)))
+
+function_grows : (f : FunctionPart) (a : EmittedUnit) → Grows a (with_function f a)
+function_grows f a =
+    let head = with_function_entry f a in
+    let within = with_calls f.calls head in
+    grows_on a head (with_function f a)
+    (attributes_grow f.name f.ranges (Function (has_calls f.calls) (text_offset f.name a) (list_offset a)) a)
+    (grows_on head within (with_function f a) (calls_grow f.calls head) (end_grows (has_calls f.calls) within))
+
+functions_grow : (fs : List FunctionPart) (a : EmittedUnit) → Grows a (with_functions fs a)
+functions_grow [] a = grows_by_nothing a
+functions_grow (f ∷ fs) a =
+    grows_on a (with_function f a) (with_functions fs (with_function f a)) (function_grows f a)
+    (functions_grow fs (with_function f a))
+
+-- what stands after the entry of a unit
+pub root_grows : (line_program : ℕ) (u : UnitPart) (a : EmittedUnit)
+    → Grows (with_unit_entry line_program u a) (with_unit line_program u a)
+root_grows line_program u a =
+    let root = with_unit_entry line_program u a in
+    let after = with_functions u.functions root in
+    grows_on root after (with_entry EndOfChildren after) (functions_grow u.functions root)
+    (entry_grows EndOfChildren after)
+
+-- a unit
+unit_grows : (line_program : ℕ) (u : UnitPart) (a : EmittedUnit) → Grows a (with_unit line_program u a)
+unit_grows line_program u a =
+    let named = with_name u.name a in
+    let root = with_unit_entry line_program u a in
+    let x = CompileUnit (text_offset u.name a) (text_offset u.directory named) line_program (list_offset a) in
+    grows_on a root (with_unit line_program u a)
+    (grows_on a named root (name_grows u.name a) (attributes_grow u.directory u.ranges x named))
+    (root_grows line_program u a)
+
+-- ---- units one after the other
+
+pub record Extends (a b : EmittedTable) : Type 0 where
+  pub more_lines : List ℕ
+  pub lines : b.lines ≡ a.lines ++ more_lines
+  pub texts : TextsStay a.texts b.texts
+  pub more_ranges : List ℕ
+  pub ranges : b.ranges ≡ a.ranges ++ more_ranges
+
+pub extends_by_nothing : (a : EmittedTable) → Extends a a
+extends_by_nothing a =
+    record {
+      more_lines = [];
+      lines = sym (append-nil a.lines);
+      texts = λ i t there. (there, refl);
+      more_ranges = [];
+      ranges = sym (append-nil a.ranges);
+    }
+
+pub extends_on : (a b c : EmittedTable) → Extends a b → Extends b c → Extends a c
+extends_on a b c g h = record {
+  more_lines = g.more_lines ++ h.more_lines;
+  lines = h.lines ∙ ap (λ (l : List ℕ). l ++ h.more_lines) g.lines ∙ append_assoc a.lines g.more_lines h.more_lines;
+  texts = texts_stay_on a.texts b.texts c.texts g.texts h.texts;
+  more_ranges = g.more_ranges ++ h.more_ranges;
+  ranges =
+      h.ranges ∙ ap (λ (l : List ℕ). l ++ h.more_ranges) g.ranges ∙ append_assoc a.ranges g.more_ranges h.more_ranges;
+}
+
+unit_extends : (e : Encoding) (is_big : Bool) (u : UnitPart) (a : EmittedTable)
+    → Extends a (with_emitted_unit e is_big u a)
+unit_extends e is_big u a =
+    let grown = unit_grows (length a.lines) u (before_entries e is_big a) in
+    record {
+      more_lines = program_of e is_big u;
+      lines = refl;
+      texts = grown.texts;
+      more_ranges = grown.more_ranges;
+      ranges = grown.ranges;
+    }
+
+pub all_extend : (e : Encoding) (is_big : Bool) (us : List UnitPart) (a : EmittedTable)
+    → Extends a (with_emitted_units e is_big us a)
+unfolding with_emitted_units
+all_extend e is_big [] a = extends_by_nothing a
+all_extend e is_big (u ∷ us) a =
+    extends_on a (with_emitted_unit e is_big u a) (with_emitted_units e is_big us (with_emitted_unit e is_big u a))
+    (unit_extends e is_big u a) (all_extend e is_big us (with_emitted_unit e is_big u a))
+
+-- ---- the entries of each unit
+
+unfoldable pub entries_of_all : Encoding → Bool → List UnitPart → EmittedTable → List (List Entry)
+entries_of_all e is_big [] a = []
+entries_of_all e is_big (u ∷ us) a =
+    (after_entries e is_big u a).entries ∷ entries_of_all e is_big us (with_emitted_unit e is_big u a)
+
+pub units_are : (e : Encoding) (is_big : Bool) (us : List UnitPart) (a : EmittedTable)
+    → (with_emitted_units e is_big us a).units ≡ a.units ++ entries_of_all e is_big us a
+unfolding with_emitted_units entries_of_all
+units_are e is_big [] a = sym (append-nil a.units)
+units_are e is_big (u ∷ us) a =
+    let entries = (after_entries e is_big u a).entries in
+    units_are e is_big us (with_emitted_unit e is_big u a)
+    ∙ append_assoc a.units (entries ∷ []) (entries_of_all e is_big us (with_emitted_unit e is_big u a))

@@ -1,0 +1,3 @@
+pub mod RecordedTables
+pub mod RecordedTableLaws
+pub mod EmissionLaws

@@ -1,8 +1,0 @@
-//! What is read of what is written: each function here has an empty body, and its contract is a law.
-
-ghost use Rattle.linemap_emit_lines.specs.Laws.{HeaderAgain};
-
-/// A header with its program is read again, whatever follows.
-pub fn header_again()
-    ensures { HeaderAgain }
-{}

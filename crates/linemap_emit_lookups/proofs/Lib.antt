@@ -1,4 +1,0 @@
-pub mod Sequences
-pub mod Below
-pub mod Places
-pub mod Units

@@ -1,4 +1,0 @@
-//! Lookups over debug information that says what a table says.
-#![tactic(auto)]
-
-pub mod laws;

@@ -1,0 +1,12 @@
+pub use Rattle.gimli_lines_header.proofs.ArangeSetLemmas
+pub use Rattle.gimli_lines_header.proofs.TilingLemmas
+pub mod FollowedReads
+pub mod ValuesRead
+pub mod EntryAttributesRead
+pub mod DeclarationsRead
+pub mod EntryRowsRead
+pub mod UnitsRead
+pub mod AppendedWrites
+pub mod EmittedRangesRead
+pub mod HeaderTextsRead
+pub mod EmittedHeadersRead

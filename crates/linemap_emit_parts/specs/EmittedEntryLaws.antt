@@ -1,0 +1,49 @@
+-- What is written is read again.
+use Rattle.std.specs.Prelude.{◌≡◌, ℕ, ℤ, ◌-◌, ◌+◌, Bool, List, [], ◌++◌, length, Ok}
+use Rattle.gimli_lines_write_bytes.specs.View.{View}
+use Rattle.gimli_lines_write_bytes.specs.Encoding.{Encoding}
+use Rattle.gimli_lines_header.specs.TableParsing.{table_at}
+use Rattle.gimli_lines_header.specs.Tiling.{whole_section}
+use Rattle.gimli_lines_header.specs.UnitHeaders.{units_to_come}
+use Rattle.gimli_units_entries.specs.EntryWalks.{depth_after}
+use Rattle.gimli_units_entries.specs.EntryRows.{row}
+use Rattle.linemap_emit_parts.specs.declared.entries.Entry.{Entry}
+use Rattle.linemap_emit_parts.specs.EmittedEntries.{AllFit, attributes_of, declaration_of, declarations, spelled_declarations, spelled_entry}
+use Rattle.linemap_emit_parts.specs.EmittedEntryRows.{walk_at, row_for}
+use Rattle.linemap_emit_parts.specs.EmittedUnits.{IsWritten, AllSmall, spelled_units, units_for}
+
+-- bytes from a place on
+abbrev pub bytes_at : Bool → ℕ → List ℕ → View
+bytes_at is_big first bytes = record { bytes = bytes; is_big = is_big; first = first }
+
+-- the table of declarations
+abbrev pub DeclarationsAgain : Type 0
+DeclarationsAgain =
+    (e : Encoding) (is_big : Bool) (first : ℕ)
+    → table_at 0 (bytes_at is_big first (spelled_declarations e)) ≡ Ok (declarations e)
+
+-- an entry before other bytes: its row, at the offset that the remaining bytes give, and the walk
+-- after it
+abbrev pub RowAgain : Type 0
+RowAgain =
+    (limit : ℕ) (e : Encoding) (end_offset : ℕ) (depth : ℤ) (is_big : Bool) (first : ℕ) (x : Entry)
+    (rest : List ℕ)
+    → IsWritten e → AllFit limit e (attributes_of x)
+    → row limit (walk_at e end_offset depth
+    (bytes_at is_big first (spelled_entry e is_big x ++ rest)))
+    ≡ Ok (
+      row_for e (end_offset - length (spelled_entry e is_big x ++ rest)) depth x,
+      walk_at e end_offset (depth_after depth (declaration_of e x))
+          (bytes_at is_big (first + length (spelled_entry e is_big x)) rest),
+    )
+
+-- the units of a section
+abbrev pub UnitsAgain : Type 0
+UnitsAgain =
+    (limit : ℕ) (e : Encoding) (is_big : Bool) (first : ℕ) (us : List (List Entry))
+    → IsWritten e → AllSmall limit e is_big us
+    → units_to_come limit (whole_section (bytes_at is_big first (spelled_units e is_big us)))
+    ≡ record {
+      items = units_for e is_big 0 first us;
+      ending = Ok (bytes_at is_big (first + length (spelled_units e is_big us)) []);
+    }

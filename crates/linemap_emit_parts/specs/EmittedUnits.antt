@@ -1,0 +1,84 @@
+-- Units as they are written: headers with their entries, end to end (DWARF 5, 7.5.1; versions 2 to
+-- 4: DWARF 4, 7.5.1.1).
+use Rattle.std.specs.Prelude.{◌≡◌, ℕ, ◌+◌, ◌^◌, ◌<◌, ◌≤◌, nat_le, Bool, true, List, [], ◌∷◌, ◌++◌, flat_map, length, if◌then◌else◌}
+use Rattle.gimli_lines_write_bytes.specs.TheConstants.{DW_UT_compile}
+use Rattle.gimli_lines_write_bytes.specs.Encoding.{Encoding}
+use Rattle.gimli_lines_write_bytes.specs.Format.{Format}
+use Rattle.gimli_lines_write_bytes.specs.Format.TheVariants.{Dwarf32, Dwarf64}
+use Rattle.gimli_lines_write_bytes.specs.FormatSizes.{word_size}
+use Rattle.gimli_lines_write_bytes.specs.Fixed.{number_bytes}
+use Rattle.gimli_lines_write_bytes.specs.NumberParsers.{is_address_size}
+use Rattle.gimli_lines_header.specs.UnitHeaders.{DebugUnit, compilation}
+use Rattle.linemap_emit_parts.specs.declared.entries.Entry.{Entry}
+use Rattle.linemap_emit_parts.specs.EmittedEntryRows.{spelled_entries}
+
+-- the lengths that a format can write (DWARF 5, 7.4)
+abbrev pub length_limit : Format → ℕ
+length_limit Dwarf32 = 0xfffffff0
+length_limit Dwarf64 = 2 ^ 64
+
+-- an initial length
+abbrev pub spelled_length : Format → Bool → ℕ → List ℕ
+spelled_length Dwarf32 is_big n = number_bytes is_big 4 n
+spelled_length Dwarf64 is_big n = number_bytes is_big 4 0xffffffff ++ number_bytes is_big 8 n
+
+-- an encoding that can be written
+pub record IsWritten (e : Encoding) : Type 0 where
+  pub not_before_2 : 2 ≤ e.version
+  pub not_after_5 : e.version ≤ 5
+  pub has_address_size : is_address_size e.address_size ≡ true
+
+-- The fields after the length. All units share the declarations at the start of their section.
+abbrev pub spelled_fields : Encoding → Bool → List ℕ
+spelled_fields e is_big =
+    if nat_le e.version 4
+    then number_bytes is_big 2 e.version
+    ++ (number_bytes is_big (word_size e.format) 0 ++ e.address_size ∷ [])
+    else number_bytes is_big 2 e.version
+    ++ (DW_UT_compile.0 ∷ e.address_size ∷ number_bytes is_big (word_size e.format) 0)
+
+-- the bytes of a unit after its length
+abbrev pub spelled_unit_body : Encoding → Bool → List Entry → List ℕ
+spelled_unit_body e is_big xs = spelled_fields e is_big ++ spelled_entries e is_big xs
+
+-- a unit
+abbrev pub spelled_unit : Encoding → Bool → List Entry → List ℕ
+spelled_unit e is_big xs =
+    spelled_length e.format is_big (length (spelled_unit_body e is_big xs))
+    ++ spelled_unit_body e is_big xs
+
+abbrev pub spelled_units : Encoding → Bool → List (List Entry) → List ℕ
+spelled_units e is_big us = flat_map (spelled_unit e is_big) us
+
+-- what is read of a unit at an offset, whose first byte has an identifier
+abbrev pub unit_for : Encoding → Bool → ℕ → ℕ → List Entry → DebugUnit
+unit_for e is_big offset first xs = record {
+  offset = offset;
+  unit_length = length (spelled_unit_body e is_big xs);
+  encoding = e;
+  kind = compilation;
+  abbrev_offset = 0;
+  entries = record {
+    bytes = spelled_entries e is_big xs;
+    is_big = is_big;
+    first = first + length (spelled_length e.format is_big (length (spelled_unit_body e is_big xs)))
+        + length (spelled_fields e is_big);
+  };
+}
+
+-- units from an offset on
+abbrev pub units_for : Encoding → Bool → ℕ → ℕ → List (List Entry) → List DebugUnit
+units_for e is_big offset first [] = []
+units_for e is_big offset first (u ∷ us) =
+    unit_for e is_big offset first u ∷ units_for e is_big
+    (offset + length (spelled_unit e is_big u)) (first + length (spelled_unit e is_big u)) us
+
+-- the unit's length can be written, and is an offset
+abbrev pub IsSmall : ℕ → Encoding → Bool → List Entry → Type 0
+IsSmall limit e is_big xs =
+    (length (spelled_unit_body e is_big xs) < length_limit e.format)
+    × (length (spelled_unit_body e is_big xs) < limit)
+
+abbrev pub AllSmall : ℕ → Encoding → Bool → List (List Entry) → Type 0
+AllSmall limit e is_big [] = Unit {0}
+AllSmall limit e is_big (u ∷ us) = IsSmall limit e is_big u × AllSmall limit e is_big us

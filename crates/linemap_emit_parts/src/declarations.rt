@@ -1,0 +1,193 @@
+//! The declarations of the entries (DWARF 5, 7.5.3).
+
+ghost use Rattle.std.specs.Prelude.{◌≡◌, ◌++◌, ◌∷◌, [], if◌then◌else◌, true, false};
+ghost use Rattle.gimli_lines_write_bytes.specs.Spelling.{unsigned_string};
+ghost use Rattle.linemap_emit_parts.specs.WriteResults.{Appends};
+ghost use Rattle.linemap_emit_parts.specs.EmittedEntries.{declaration_for, place_form, spelled_declaration, spelled_declarations};
+ghost use Rattle.linemap_emit_parts.specs.declared.entries.Entry.TheVariants.{CompileUnit, Function, Call};
+
+use gimli_lines_write_bytes::{
+    DW_AT_call_column, DW_AT_call_file, DW_AT_call_line, DW_AT_comp_dir, DW_AT_low_pc, DW_AT_name,
+    DW_AT_ranges, DW_AT_stmt_list, DW_FORM_addr, DW_FORM_data4, DW_FORM_data8, DW_FORM_sec_offset,
+    DW_FORM_strp, DW_FORM_udata, DW_TAG_compile_unit, DW_TAG_inlined_subroutine, DW_TAG_subprogram,
+    DwAt, DwForm, DwTag, Encoding, EndianVec, Error, Format, RunTimeEndian, Writer,
+};
+
+// The form of offsets into sections that aren't strings: data up to version 3.
+fn form_of_places(encoding: Encoding) -> DwForm
+    ensures { result.0 ≡ place_form encoding }
+{
+    if encoding.version > 3 {
+        return DW_FORM_sec_offset;
+    }
+    match encoding.format {
+        Format::Dwarf32 => DW_FORM_data4,
+        Format::Dwarf64 => DW_FORM_data8,
+    }
+}
+
+// Writes what comes before the attributes of a declaration.
+fn begin(
+    w: &mut EndianVec<RunTimeEndian>,
+    code: u64,
+    tag: DwTag,
+    has_children: bool,
+) -> Result<(), Error>
+    ensures { Appends result w.old w.new
+        (unsigned_string code ++ unsigned_string tag.0 ++ (if has_children then 1 else 0) ∷ []) }
+{
+    w.write_uleb128(code)?;
+    w.write_uleb128(tag.0 as u64)?;
+    w.write_u8(if has_children { 1 } else { 0 })
+}
+
+// Writes an attribute of a declaration.
+fn attribute(w: &mut EndianVec<RunTimeEndian>, name: DwAt, form: DwForm) -> Result<(), Error>
+    ensures { Appends result w.old w.new (unsigned_string name.0 ++ unsigned_string form.0) }
+{
+    w.write_uleb128(name.0 as u64)?;
+    w.write_uleb128(form.0 as u64)
+}
+
+// Writes the attributes of a name and of ranges.
+fn name_and_ranges(w: &mut EndianVec<RunTimeEndian>, encoding: Encoding) -> Result<(), Error>
+    ensures { Appends result w.old w.new
+        (unsigned_string DW_AT_name.0 ++ unsigned_string DW_FORM_strp.0
+        ++ unsigned_string DW_AT_ranges.0
+        ++ unsigned_string (place_form encoding)) }
+{
+    attribute(w, DW_AT_name, DW_FORM_strp)?;
+    attribute(w, DW_AT_ranges, form_of_places(encoding))
+}
+
+// Writes the attributes of a unit's name and directory.
+fn unit_texts(w: &mut EndianVec<RunTimeEndian>) -> Result<(), Error>
+    ensures { Appends result w.old w.new
+        (unsigned_string DW_AT_name.0 ++ unsigned_string DW_FORM_strp.0
+        ++ unsigned_string DW_AT_comp_dir.0
+        ++ unsigned_string DW_FORM_strp.0) }
+{
+    attribute(w, DW_AT_name, DW_FORM_strp)?;
+    attribute(w, DW_AT_comp_dir, DW_FORM_strp)
+}
+
+// Writes the attributes of a unit's line program, low address and ranges.
+fn unit_places(w: &mut EndianVec<RunTimeEndian>, encoding: Encoding) -> Result<(), Error>
+    ensures { Appends result w.old w.new
+        (unsigned_string DW_AT_stmt_list.0 ++ unsigned_string (place_form encoding)
+        ++ unsigned_string DW_AT_low_pc.0
+        ++ unsigned_string DW_FORM_addr.0 ++ unsigned_string DW_AT_ranges.0
+        ++ unsigned_string (place_form encoding)) }
+{
+    attribute(w, DW_AT_stmt_list, form_of_places(encoding))?;
+    attribute(w, DW_AT_low_pc, DW_FORM_addr)?;
+    attribute(w, DW_AT_ranges, form_of_places(encoding))
+}
+
+// Writes the attributes of the place of a call.
+fn call_attributes(w: &mut EndianVec<RunTimeEndian>) -> Result<(), Error>
+    ensures { Appends result w.old w.new
+        (unsigned_string DW_AT_call_file.0 ++ unsigned_string DW_FORM_udata.0
+        ++ unsigned_string DW_AT_call_line.0
+        ++ unsigned_string DW_FORM_udata.0 ++ unsigned_string DW_AT_call_column.0
+        ++ unsigned_string DW_FORM_udata.0) }
+{
+    attribute(w, DW_AT_call_file, DW_FORM_udata)?;
+    attribute(w, DW_AT_call_line, DW_FORM_udata)?;
+    attribute(w, DW_AT_call_column, DW_FORM_udata)
+}
+
+// Writes what comes after the attributes of a declaration.
+fn end(w: &mut EndianVec<RunTimeEndian>) -> Result<(), Error>
+    ensures { Appends result w.old w.new (0 ∷ 0 ∷ []) }
+{
+    w.write(&[0, 0])
+}
+
+// Declares compilation units.
+fn declare_unit(w: &mut EndianVec<RunTimeEndian>, encoding: Encoding) -> Result<(), Error>
+    ensures { Appends result w.old w.new
+        (spelled_declaration
+        (declaration_for encoding DW_TAG_compile_unit.0 true (CompileUnit 0 0 0 0))) }
+{
+    begin(w, 1, DW_TAG_compile_unit, true)?;
+    unit_texts(w)?;
+    unit_places(w, encoding)?;
+    end(w)
+}
+
+// Declares functions, with or without children.
+fn declare_function(
+    w: &mut EndianVec<RunTimeEndian>,
+    encoding: Encoding,
+    has_children: bool,
+) -> Result<(), Error>
+    ensures { Appends result w.old w.new
+        (spelled_declaration
+        (declaration_for encoding DW_TAG_subprogram.0 has_children (Function has_children 0 0))) }
+{
+    begin(
+        w,
+        if has_children { 2 } else { 3 },
+        DW_TAG_subprogram,
+        has_children,
+    )?;
+    name_and_ranges(w, encoding)?;
+    end(w)
+}
+
+// Declares inlined calls, with or without children.
+fn declare_call(
+    w: &mut EndianVec<RunTimeEndian>,
+    encoding: Encoding,
+    has_children: bool,
+) -> Result<(), Error>
+    ensures { Appends result w.old w.new
+        (spelled_declaration
+        (declaration_for encoding DW_TAG_inlined_subroutine.0 has_children
+        (Call has_children 0 0 0 0 0))) }
+{
+    begin(
+        w,
+        if has_children { 4 } else { 5 },
+        DW_TAG_inlined_subroutine,
+        has_children,
+    )?;
+    name_and_ranges(w, encoding)?;
+    call_attributes(w)?;
+    end(w)
+}
+
+// Declares functions with children and without.
+fn declare_functions(w: &mut EndianVec<RunTimeEndian>, encoding: Encoding) -> Result<(), Error>
+    ensures { Appends result w.old w.new
+        (spelled_declaration (declaration_for encoding DW_TAG_subprogram.0 true (Function true 0 0))
+        ++ spelled_declaration
+        (declaration_for encoding DW_TAG_subprogram.0 false (Function false 0 0))) }
+{
+    declare_function(w, encoding, true)?;
+    declare_function(w, encoding, false)
+}
+
+// Declares inlined calls with children and without.
+fn declare_calls(w: &mut EndianVec<RunTimeEndian>, encoding: Encoding) -> Result<(), Error>
+    ensures { Appends result w.old w.new
+        (spelled_declaration
+        (declaration_for encoding DW_TAG_inlined_subroutine.0 true (Call true 0 0 0 0 0))
+        ++ spelled_declaration
+        (declaration_for encoding DW_TAG_inlined_subroutine.0 false (Call false 0 0 0 0 0))) }
+{
+    declare_call(w, encoding, true)?;
+    declare_call(w, encoding, false)
+}
+
+/// Writes the declarations, in one table. Refused only where no memory is found.
+#[tactic(auto, using(crate::proofs::AppendedWrites::whole_table))]
+pub fn write_declarations(w: &mut EndianVec<RunTimeEndian>, encoding: Encoding) -> Result<(), Error>
+    ensures { Appends result w.old w.new (spelled_declarations encoding) }
+{
+    declare_unit(w, encoding)?;
+    declare_functions(w, encoding)?;
+    declare_calls(w, encoding)?;
+    w.write_u8(0)
+}

@@ -1,0 +1,15 @@
+//! Units with their entries, range lists and headers of line programs as they are written; they are read again.
+#![tactic(auto)]
+
+pub mod declarations;
+pub mod entries;
+pub mod entry_laws;
+pub mod header_laws;
+pub mod range_laws;
+pub mod range_lists;
+pub mod units;
+
+pub use declarations::write_declarations;
+pub use entries::Entry;
+pub use range_lists::write_ranges;
+pub use units::{write_length, write_unit};

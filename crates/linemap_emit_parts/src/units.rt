@@ -1,0 +1,91 @@
+//! Units: a length, a header, and the entries.
+
+ghost use Rattle.std.specs.Prelude.{◌≡◌, ◌<◌, ◌^◌, length, All};
+ghost use Rattle.gimli_lines_write_bytes.specs.Fixed.{number_bytes};
+ghost use Rattle.gimli_lines_write_bytes.specs.FormatSizes.{word_size};
+ghost use Rattle.linemap_emit_parts.specs.WriteResults.{Appends};
+ghost use Rattle.linemap_emit_parts.specs.EmittedEntries.{AllFit, attributes_of};
+ghost use Rattle.linemap_emit_parts.specs.EmittedEntryRows.{spelled_entries};
+ghost use Rattle.linemap_emit_parts.specs.EmittedUnits.{IsWritten, length_limit, spelled_length, spelled_fields, spelled_unit_body, spelled_unit};
+
+use crate::entries::{Entry, write_entry};
+use gimli_lines_write_bytes::{Encoding, EndianVec, Error, Format, RunTimeEndian, Writer};
+use std::alloc::Global;
+
+/// Writes a length, after the escape of 64-bit DWARF (DWARF 5, 7.4). Refused only where no memory
+/// is found.
+pub fn write_length(
+    w: &mut EndianVec<RunTimeEndian>,
+    format: Format,
+    length: u64,
+) -> Result<(), Error>
+    requires { length < length_limit format }
+    ensures { Appends result w.old w.new (spelled_length format w.old.is_big length) }
+{
+    match format {
+        Format::Dwarf32 => w.write_udata(length, 4),
+        Format::Dwarf64 => {
+            w.write_u32(0xffff_ffff)?;
+            w.write_u64(length)
+        }
+    }
+}
+
+// Writes the offset of the declarations, which is 0.
+fn write_offset_0(w: &mut EndianVec<RunTimeEndian>, format: Format) -> Result<(), Error>
+    ensures { Appends result w.old w.new (number_bytes w.old.is_big (word_size format) 0) }
+{
+    w.write_udata(0, format.word_size())
+}
+
+// Writes the header of a unit after its length.
+fn write_fields(w: &mut EndianVec<RunTimeEndian>, encoding: Encoding) -> Result<(), Error>
+    requires { IsWritten encoding }
+    ensures { Appends result w.old w.new (spelled_fields encoding w.old.is_big) }
+{
+    w.write_u16(encoding.version)?;
+    if encoding.version <= 4 {
+        write_offset_0(w, encoding.format)?;
+        w.write_u8(encoding.address_size)
+    } else {
+        w.write_u8(1)?;
+        w.write_u8(encoding.address_size)?;
+        write_offset_0(w, encoding.format)
+    }
+}
+
+// Writes entries one after the other.
+fn write_entries(
+    w: &mut EndianVec<RunTimeEndian>,
+    encoding: Encoding,
+    entries: &[Entry],
+) -> Result<(), Error>
+    requires written { IsWritten encoding }
+    requires fit { All (λ x. AllFit (2 ^ 64) encoding (attributes_of x)) entries.now }
+    ensures { Appends result w.old w.new (spelled_entries encoding w.old.is_big entries.now) }
+{
+    for entry in entries {
+        write_entry(w, encoding, *entry)?;
+    }
+    Ok(())
+}
+
+/// Writes a unit with its entries. Refused only where no memory is found.
+pub fn write_unit(
+    alloc: Global,
+    w: &mut EndianVec<RunTimeEndian>,
+    encoding: Encoding,
+    entries: &[Entry],
+) -> Result<(), Error>
+    requires written { IsWritten encoding }
+    requires fit { All (λ x. AllFit (2 ^ 64) encoding (attributes_of x)) entries.now }
+    requires small { length (spelled_unit_body encoding w.old.is_big entries.now)
+        < length_limit encoding.format }
+    ensures { Appends result w.old w.new (spelled_unit encoding w.old.is_big entries.now) }
+{
+    let mut body = EndianVec::new(alloc, w.endian());
+    write_fields(&mut body, encoding)?;
+    write_entries(&mut body, encoding, entries)?;
+    write_length(w, encoding.format, body.len() as u64)?;
+    w.write(body.slice())
+}

@@ -1,0 +1,213 @@
+-- Sequences that no condition refuses can be told.
+use Rattle.std.proofs.Common.{◌≡◌, ℕ, ◌<◌, ◌≤◌, ◌^◌, ◌-◌, Bool, false, ◌||◌, ◌==◌, nat_lt, nat_le, List, [], ◌∷◌, length, refl, arith}
+use Rattle.std.specs.List.{list_any}
+use Rattle.std.proofs.lemmas.Bool.{ltb-false, leb-false, le-ltb, or_parts, or_from, lt-leb}
+use Rattle.gimli_lines_write_rows.specs.Addresses.{least_tombstone}
+use Rattle.linemap_places_laws.specs.TableParts.{RowPart, SequencePart, UnitPart}
+use Rattle.linemap_places_laws.specs.Conditions.{IsSound, any_ranges, any_call, goes_back, goes_back_from, has_bad_rows, has_bad_line_or_column, has_bad_file_number, has_out_of_bounds, has_sequence_with_bad_rows, is_bad_number, is_out_of_bounds, range_out_of_bounds, sequence_out_of_bounds}
+use Rattle.linemap_places_laws.specs.Rule.TheVariants.{Bounds, Rows, LineOrColumn, FileNumber}
+use Rattle.linemap_places_laws.proofs.SoundUnits.{sound_rule}
+use Rattle.linemap_emit_programs.specs.EmittedRows.{AllShow, CanShowAll, AllSequences, CanBuild, AllBelow, CanBuildAll, AllCanBuild, AllFrom, IsOrdered, AllOrdered}
+use Rattle.linemap_emit_programs.specs.SoundSequences.{CanEmitSequences, AllCountable, AllCanEmitSequences}
+
+-- ---- rows
+
+-- what no condition says of a row
+record IsPlain (files : ℕ) (end : ℕ) (r : RowPart) : Type 0 where
+  bounds : is_out_of_bounds r.address ≡ false
+  below : r.address < end
+  line : is_bad_number r.line ≡ false
+  column : is_bad_number r.column ≡ false
+  file : r.file < files
+
+unfoldable AllPlain : ℕ → ℕ → List RowPart → Type 0
+AllPlain files end [] = Unit {0}
+AllPlain files end (r ∷ rs) = IsPlain files end r × AllPlain files end rs
+
+abbrev bad_number : RowPart → Bool
+bad_number r = is_bad_number r.line || is_bad_number r.column
+
+all_plain : (files end : ℕ) (rs : List RowPart) → list_any (λ r. is_out_of_bounds r.address) rs ≡ false
+    → list_any (λ r. nat_le end r.address) rs ≡ false → list_any bad_number rs ≡ false
+    → list_any (λ r. nat_le files r.file) rs ≡ false → AllPlain files end rs
+unfolding AllPlain
+all_plain files end [] a b c d = tt
+all_plain files end (r ∷ rs) a b c d =
+    let pa = or_parts (is_out_of_bounds r.address) (list_any (λ r. is_out_of_bounds r.address) rs) a in
+    let pb = or_parts (nat_le end r.address) (list_any (λ r. nat_le end r.address) rs) b in
+    let pc = or_parts (bad_number r) (list_any bad_number rs) c in
+    let pd = or_parts (nat_le files r.file) (list_any (λ r. nat_le files r.file) rs) d in
+    let numbers = or_parts (is_bad_number r.line) (is_bad_number r.column) pc.0 in (
+      record {
+        bounds = pa.0;
+        below = leb-false end r.address pb.0;
+        line = numbers.0;
+        column = numbers.1;
+        file = leb-false files r.file pd.0;
+      },
+      all_plain files end rs pa.1 pb.1 pc.1 pd.1,
+    )
+
+in_bounds : (a : ℕ) → is_out_of_bounds a ≡ false → a ≤ 2 ^ 64 - 3
+in_bounds a h = ltb-false (2 ^ 64 - 3) a (or_parts (nat_lt a 1) (nat_lt (2 ^ 64 - 3) a) h).1
+
+is_small : (n : ℕ) → is_bad_number n ≡ false → n ≤ 2 ^ 32 - 1
+is_small n h = ltb-false (2 ^ 32 - 1) n (or_parts (nat_lt n 1) (nat_lt (2 ^ 32 - 1) n) h).1
+
+can_build : (files end low : ℕ) (rs : List RowPart) → AllPlain files end rs → files < 2 ^ 64
+    → goes_back_from low rs ≡ false → CanBuild 8 low rs
+unfolding AllPlain CanBuild
+can_build files end low [] all few ascend = tt
+can_build files end low (r ∷ rs) all few ascend =
+    let p = or_parts (nat_lt r.address low) (goes_back_from r.address rs) ascend in
+    let after = ltb-false r.address low p.0 in
+    let high = in_bounds r.address all.0.bounds in
+    let line = is_small r.line all.0.line in
+    let column = is_small r.column all.0.column in
+    let file = all.0.file in (
+      after,
+      omega arith,
+      omega arith,
+      omega arith,
+      omega arith,
+      omega arith,
+      can_build files end r.address rs all.1 few p.1,
+    )
+
+all_below : (files end : ℕ) (rs : List RowPart) → AllPlain files end rs → AllBelow end rs
+unfolding AllPlain AllBelow
+all_below files end [] all = tt
+all_below files end (r ∷ rs) all = let below = all.0.below in (omega arith, all_below files end rs all.1)
+
+all_show : (files end begin low : ℕ) (rs : List RowPart) → AllPlain files end rs → files < 2 ^ 64 → begin ≤ low
+    → goes_back_from low rs ≡ false → AllShow begin rs
+unfolding AllPlain AllShow
+all_show files end begin low [] all few from ascend = tt
+all_show files end begin low (r ∷ rs) all few from ascend =
+    let p = or_parts (nat_lt r.address low) (goes_back_from r.address rs) ascend in
+    let after = ltb-false r.address low p.0 in
+    let file = all.0.file in (
+      record { after = omega arith; counted = omega arith },
+      all_show files end begin r.address rs all.1 few (omega arith) p.1,
+    )
+
+all_from : (begin low : ℕ) (rs : List RowPart) → begin ≤ low → goes_back_from low rs ≡ false → AllFrom begin rs
+unfolding AllFrom
+all_from begin low [] from ascend = tt
+all_from begin low (r ∷ rs) from ascend =
+    let p = or_parts (nat_lt r.address low) (goes_back_from r.address rs) ascend in
+    let after = ltb-false r.address low p.0 in
+    (omega arith, all_from begin r.address rs (omega arith) p.1)
+
+-- ---- one sequence
+
+record CanEmitSequence (s : SequencePart) : Type 0 where
+  ordered : IsOrdered s
+  can_build : CanBuildAll 8 s
+  can_show : CanShowAll s
+
+can_emit_sequence : (files : ℕ) (rs : List RowPart) (end : ℕ) → files < 2 ^ 64 → AllPlain files end rs
+    → is_out_of_bounds end ≡ false → has_bad_rows (record { rows = rs; end = end }) ≡ false
+    → CanEmitSequence (record { rows = rs; end = end })
+unfolding AllPlain
+can_emit_sequence files [] end few all bounds good = absurd cc
+can_emit_sequence files (r ∷ rs) end few all bounds good =
+    let parts =
+    or_parts ((length (r ∷ rs) == 0) || goes_back (r ∷ rs)) (list_any (λ x. nat_le end x.address) (r ∷ rs)) good in
+    let back = (or_parts (length (r ∷ rs) == 0) (goes_back (r ∷ rs)) parts.0).1 in
+    let later = (or_parts (nat_lt r.address 0) (goes_back_from r.address rs) back).1 in
+    let here : goes_back_from r.address (r ∷ rs) ≡ false = stays r.address later in
+    let below = all.0.below in
+    let low = in_bounds r.address all.0.bounds in
+    let high = in_bounds end bounds in
+    record {
+      ordered = (all_from r.address r.address (r ∷ rs) (omega arith) here, omega arith);
+      can_build = record {
+        first = r;
+        others = rs;
+        rows = refl;
+        begins = lt-leb (least_tombstone 8) r.address (omega arith);
+        ascend = can_build files end r.address (r ∷ rs) all few here;
+        above = all_below files end (r ∷ rs) all;
+        ends = omega arith;
+        ends_low = omega arith;
+      };
+      can_show = record {
+        first = r;
+        others = rs;
+        rows = refl;
+        all = all_show files end r.address r.address (r ∷ rs) all few (omega arith) here;
+        end = omega arith;
+      };
+    }
+  where
+    stays : (a : ℕ) → goes_back_from a rs ≡ false → (nat_lt a a || goes_back_from a rs) ≡ false
+    stays a h = or_from _ _ (le-ltb a a (omega arith)) h
+
+-- ---- the sequences of a unit
+
+all_can_emit_sequences : (files : ℕ) (ss : List SequencePart) → files < 2 ^ 64
+    → list_any sequence_out_of_bounds ss ≡ false → list_any has_bad_rows ss ≡ false
+    → list_any (λ s. list_any bad_number s.rows) ss ≡ false
+    → list_any (λ s. list_any (λ r. nat_le files r.file) s.rows) ss ≡ false → CanEmitSequences ss
+unfolding AllOrdered AllCanBuild AllSequences
+all_can_emit_sequences files [] few a b c d = record { ordered = tt; can_build = tt; can_show = tt }
+all_can_emit_sequences files (s ∷ ss) few a b c d =
+    let pa = or_parts (sequence_out_of_bounds s) (list_any sequence_out_of_bounds ss) a in
+    let pb = or_parts (has_bad_rows s) (list_any has_bad_rows ss) b in
+    let pc = or_parts (list_any bad_number s.rows) (list_any (λ s. list_any bad_number s.rows) ss) c in
+    let pd =
+    or_parts (list_any (λ r. nat_le files r.file) s.rows)
+    (list_any (λ s. list_any (λ r. nat_le files r.file) s.rows) ss) d in
+    let bounds = or_parts (list_any (λ r. is_out_of_bounds r.address) s.rows) (is_out_of_bounds s.end) pa.0 in
+    let rows =
+    or_parts ((length s.rows == 0) || goes_back s.rows) (list_any (λ r. nat_le s.end r.address) s.rows) pb.0 in
+    let one =
+    can_emit_sequence files s.rows s.end few (all_plain files s.end s.rows bounds.0 rows.1 pc.0 pd.0) bounds.1
+    pb.0 in
+    let others = all_can_emit_sequences files ss few pa.1 pb.1 pc.1 pd.1 in
+    record {
+      ordered = (one.ordered, others.ordered);
+      can_build = (one.can_build, others.can_build);
+      can_show = (one.can_show, others.can_show);
+    }
+
+-- ---- all units
+
+record Known (us : List UnitPart) : Type 0 where
+  bounds : list_any has_out_of_bounds us ≡ false
+  rows : list_any has_sequence_with_bad_rows us ≡ false
+  numbers : list_any has_bad_line_or_column us ≡ false
+  files : list_any has_bad_file_number us ≡ false
+
+units_can_emit_sequences : (us : List UnitPart) → Known us → AllCountable us → AllCanEmitSequences us
+unfolding AllCountable AllCanEmitSequences
+units_can_emit_sequences [] known few = tt
+units_can_emit_sequences (u ∷ us) known few =
+    let bounds = or_parts (has_out_of_bounds u) (list_any has_out_of_bounds us) known.bounds in
+    let rows = or_parts (has_sequence_with_bad_rows u) (list_any has_sequence_with_bad_rows us) known.rows in
+    let numbers = or_parts (has_bad_line_or_column u) (list_any has_bad_line_or_column us) known.numbers in
+    let files = or_parts (has_bad_file_number u) (list_any has_bad_file_number us) known.files in
+    let bound_parts =
+    or_parts (any_ranges (list_any range_out_of_bounds) u) (list_any sequence_out_of_bounds u.sequences) bounds.0 in
+    let number_parts =
+    or_parts (list_any (λ s. list_any bad_number s.rows) u.sequences)
+    (list_any (λ f. any_call (λ c. is_bad_number c.line || is_bad_number c.column) f.calls) u.functions)
+    numbers.0 in
+    let file_parts =
+    or_parts (list_any (λ s. list_any (λ r. nat_le (length u.files) r.file) s.rows) u.sequences)
+    (list_any (λ f. any_call (λ c. nat_le (length u.files) c.file) f.calls) u.functions) files.0 in (
+      all_can_emit_sequences (length u.files) u.sequences few.0 bound_parts.1 rows.0 number_parts.0 file_parts.0,
+      units_can_emit_sequences us (record { bounds = bounds.1; rows = rows.1; numbers = numbers.1; files = files.1 })
+          few.1,
+    )
+
+pub sound_can_emit : (us : List UnitPart) → IsSound us → AllCountable us → AllCanEmitSequences us
+sound_can_emit us sound few =
+    units_can_emit_sequences us
+    (record {
+      bounds = sound_rule us Bounds sound;
+      rows = sound_rule us Rows sound;
+      numbers = sound_rule us LineOrColumn sound;
+      files = sound_rule us FileNumber sound;
+    }) few

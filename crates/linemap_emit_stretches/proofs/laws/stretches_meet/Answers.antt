@@ -1,5 +1,0 @@
-use Rattle.linemap_emit_stretches.proofs.Tables.{stretches_meet as meet}
-use Rattle.linemap_emit_stretches.proofs.laws.stretches_meet.Goals as goal
-
-pub returns : goal.returns
-returns g c = λ ranges lines us xs low high sound told. meet ranges lines us xs low high sound told

@@ -1,4 +1,0 @@
-//! Stretches between two ends over debug information that says what a table says.
-#![tactic(auto)]
-
-pub mod laws;

@@ -1,2 +1,0 @@
-//! What is emitted of a table's units, one after the other: definitions.
-#![tactic(auto)]

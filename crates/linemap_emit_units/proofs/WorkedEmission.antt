@@ -1,0 +1,84 @@
+-- What is emitted of a table with one unit, byte by byte (DWARF 4, 7.5, 7.24 and 6.2).
+use Rattle.std.proofs.Common.{◌≡◌, ℕ, false, [], ◌∷◌, refl}
+use Rattle.gimli_lines_write_tables.specs.Encoding.{Encoding}
+use Rattle.gimli_lines_write_tables.specs.Format.TheVariants.{Dwarf32}
+use Rattle.gimli_lines_write_tables.specs.StringSections.{section_of}
+use Rattle.linemap_emit_programs.specs.TableParts.{RangePart, RowPart, no_calls, UnitPart}
+use Rattle.linemap_emit_programs.specs.Entry.TheVariants.{CompileUnit, Function, EndOfChildren}
+use Rattle.linemap_emit_programs.specs.EmittedUnits.{spelled_units}
+use Rattle.linemap_emit_units.specs.TableEmission.{EmittedTable, emitted_table, with_emitted_units}
+use Rattle.gimli_lines_write_tables.specs.Spelling as spelling
+use Rattle.gimli_lines_write_tables.specs.RowPieces as pieces
+use Rattle.linemap_emit_units.specs.UnitEmission as entries
+
+abbrev target : Encoding
+target = record { address_size = 8; format = Dwarf32; version = 4 }
+
+abbrev range : ℕ → ℕ → RangePart
+range begin end = record { begin = begin; end = end }
+
+abbrev row : ℕ → ℕ → ℕ → RowPart
+row address line column = record { address = address; file = 0; line = line; column = column }
+
+-- "/w", "a.c", in it "src" and "a.c", and the function "main"
+abbrev a_unit : UnitPart
+a_unit = record {
+  directory = 47 ∷ 119 ∷ [];
+  name = 97 ∷ 46 ∷ 99 ∷ [];
+  ranges = range 4096 4160 ∷ [];
+  files = record { directory = 115 ∷ 114 ∷ 99 ∷ []; name = 97 ∷ 46 ∷ 99 ∷ [] } ∷ [];
+  functions = record { name = 109 ∷ 97 ∷ 105 ∷ 110 ∷ []; ranges = range 4096 4144 ∷ []; calls = no_calls } ∷ [];
+  sequences = record { rows = row 4096 5 1 ∷ row 4112 20 2 ∷ row 4128 7 1 ∷ []; end = 4144 } ∷ [];
+}
+
+abbrev table_of_a_unit : EmittedTable
+table_of_a_unit = emitted_table target false (a_unit ∷ [])
+
+-- each text once, by first use
+texts_of_the_unit : section_of table_of_a_unit.texts ≡
+    97 ∷ 46 ∷ 99 ∷ 0 ∷ 47 ∷ 119 ∷ 0 ∷ 109 ∷ 97 ∷ 105 ∷ 110 ∷ 0 ∷ []
+unfolding section_of with_emitted_units entries.with_calls
+texts_of_the_unit = refl
+
+-- each row by a special opcode, after what changes
+lines_of_the_unit : table_of_a_unit.lines ≡
+    66 ∷ 0 ∷ 0 ∷ 0 ∷ 4 ∷ 0 ∷ 31 ∷ 0 ∷ 0 ∷ 0 ∷ 1 ∷ 1 ∷ 1 ∷ 251 ∷ 14 ∷ 13 ∷ 0 ∷ 1 ∷ 1 ∷ 1 ∷ 1 ∷ 0 ∷ 0 ∷ 0 ∷ 1 ∷ 0 ∷
+    0 ∷ 1 ∷ 115 ∷ 114 ∷ 99 ∷ 0 ∷ 0 ∷ 97 ∷ 46 ∷ 99 ∷ 0 ∷ 1 ∷ 0 ∷ 0 ∷ 0 ∷ 0 ∷ 9 ∷ 2 ∷ 0 ∷ 16 ∷ 0 ∷ 0 ∷ 0 ∷ 0 ∷ 0 ∷
+    0 ∷ 5 ∷ 1 ∷ 22 ∷ 5 ∷ 2 ∷ 3 ∷ 15 ∷ 242 ∷ 5 ∷ 1 ∷ 3 ∷ 115 ∷ 242 ∷ 2 ∷ 16 ∷ 0 ∷ 1 ∷ 1 ∷ []
+unfolding with_emitted_units spelling.unsigned_within spelling.signed_within pieces.row_piece pieces.flags
+    pieces.changes pieces.moves pieces.end_piece
+lines_of_the_unit = refl
+
+-- a list for the unit, and one for its function
+ranges_of_the_unit : table_of_a_unit.ranges ≡
+    0 ∷ 16 ∷ 0 ∷ 0 ∷ 0 ∷ 0 ∷ 0 ∷ 0 ∷ 64 ∷ 16 ∷ 0 ∷ 0 ∷ 0 ∷ 0 ∷ 0 ∷ 0 ∷ 0 ∷ 0 ∷ 0 ∷ 0 ∷ 0 ∷ 0 ∷ 0 ∷ 0 ∷ 0 ∷ 0 ∷
+    0 ∷ 0 ∷ 0 ∷ 0 ∷ 0 ∷ 0 ∷ 0 ∷ 16 ∷ 0 ∷ 0 ∷ 0 ∷ 0 ∷ 0 ∷ 0 ∷ 48 ∷ 16 ∷ 0 ∷ 0 ∷ 0 ∷ 0 ∷ 0 ∷ 0 ∷ 0 ∷ 0 ∷ 0 ∷ 0 ∷
+    0 ∷ 0 ∷ 0 ∷ 0 ∷ 0 ∷ 0 ∷ 0 ∷ 0 ∷ 0 ∷ 0 ∷ 0 ∷ 0 ∷ []
+unfolding with_emitted_units entries.with_calls
+ranges_of_the_unit = refl
+
+entries_of_the_unit : spelled_units target false table_of_a_unit.units ≡
+    42 ∷ 0 ∷ 0 ∷ 0 ∷ 4 ∷ 0 ∷ 0 ∷ 0 ∷ 0 ∷ 0 ∷ 8 ∷ 1 ∷ 0 ∷ 0 ∷ 0 ∷ 0 ∷ 4 ∷ 0 ∷ 0 ∷ 0 ∷ 0 ∷ 0 ∷ 0 ∷ 0 ∷ 0 ∷ 0 ∷ 0 ∷
+    0 ∷ 0 ∷ 0 ∷ 0 ∷ 0 ∷ 0 ∷ 0 ∷ 0 ∷ 0 ∷ 3 ∷ 7 ∷ 0 ∷ 0 ∷ 0 ∷ 32 ∷ 0 ∷ 0 ∷ 0 ∷ 0 ∷ []
+unfolding with_emitted_units entries.with_calls spelling.unsigned_within
+entries_of_the_unit = refl
+
+-- "b.c" in the same directory
+abbrev b_unit : UnitPart
+b_unit =
+    record {
+      directory = 47 ∷ 119 ∷ [];
+      name = 98 ∷ 46 ∷ 99 ∷ [];
+      ranges = range 8192 8200 ∷ [];
+      files = [];
+      functions = [];
+      sequences = [];
+    }
+
+-- a second unit refers to its own name, program and list after those of the first, and to the same directory
+second_unit_behind_the_first : (emitted_table target false (a_unit ∷ b_unit ∷ [])).units ≡
+    (CompileUnit 0 4 0 0 ∷ Function false 7 32 ∷ EndOfChildren ∷ []) ∷ (CompileUnit 12 4 70 64 ∷ EndOfChildren ∷ [])
+    ∷ []
+unfolding with_emitted_units entries.with_calls spelling.unsigned_within spelling.signed_within pieces.row_piece
+    pieces.flags pieces.changes pieces.moves pieces.end_piece
+second_unit_behind_the_first = refl

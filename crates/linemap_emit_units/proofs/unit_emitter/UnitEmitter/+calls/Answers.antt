@@ -1,0 +1,23 @@
+use Rattle.std.proofs.Common.{drop, length, ◌==◌, ap, not, sym, subst, ◌+◌, ◌∙◌}
+use Rattle.linemap_emit_programs.specs.TableViews.{calls_part}
+use Rattle.linemap_emit_units.specs.UnitEmission.{with_calls, CanEmitCalls}
+use Rattle.linemap_emit_units.proofs.EmittedCallLemmas.{call_emitted, some_in, from_here}
+use Rattle.linemap_emit_units.proofs.unit_emitter.UnitEmitter.+calls.Goals as goal
+
+pub loop-call-preserved : goal.loop-call-preserved
+loop-call-preserved n c =
+    let cs = c.args.calls.now in
+    let call = c.call-item.result in
+    let rest = drop (c.loop-call.call-index + 1) cs in
+    let here = from_here cs c.loop-call.call-index call c.loop-call-test.true c.call-item.is in
+    let kept = c.loop-call.invariant in
+    let told =
+    call_emitted c.args.self.now.encoding.address_size call rest c.loop-call.self c.call.new.self c.calls.new.self
+    c.close.new.self (with_calls (calls_part cs) c.args.self.now) (not c.is_empty-has_children.result)
+    (ap not c.is_empty-has_children.ensures ∙ ap (λ n. not (n == 0))
+    (sym c.deref.ensures.len ∙ ap length c.deref.ensures.value) ∙ sym (some_in call)) c.in_ok-call.ensures.ok
+    (c.in_ok-calls.ensures.ok ∙ ap (λ l. with_calls (calls_part l) c.call.new.self) c.deref.ensures.value)
+    c.in_ok-close.ensures.ok
+    (subst (λ l. CanEmitCalls c.args.self.now.encoding.address_size (calls_part l)) here kept.1)
+    (ap (λ l. with_calls (calls_part l) c.loop-call.self) (sym here) ∙ kept.2) in
+    (told.0 ∙ kept.0, told.1, told.2)

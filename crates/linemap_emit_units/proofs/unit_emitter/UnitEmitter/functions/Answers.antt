@@ -1,0 +1,25 @@
+use Rattle.std.proofs.Common.{drop, length, ◌==◌, ap, map, not, sym, subst, ◌+◌, ◌∙◌}
+use Rattle.linemap_emit_programs.specs.TableViews.{calls_part, function_part}
+use Rattle.linemap_emit_units.specs.UnitEmission.{with_calls, with_functions, CanEmitFunctions}
+use Rattle.linemap_emit_units.proofs.EmittedCallLemmas.{function_emitted, some_calls, from_here}
+use Rattle.linemap_emit_units.proofs.unit_emitter.UnitEmitter.functions.Goals as goal
+
+pub loop-function-preserved : goal.loop-function-preserved
+loop-function-preserved c =
+    let fs = c.args.functions.now in
+    let function = c.function-item.result in
+    let rest = drop (c.loop-function.function-index + 1) fs in
+    let here = from_here fs c.loop-function.function-index function c.loop-function-test.true c.function-item.is in
+    let kept = c.loop-function.invariant in
+    let told =
+    function_emitted c.args.self.now.encoding.address_size (function_part function) (map function_part rest)
+    c.loop-function.self c.function.new.self c.calls.new.self c.close.new.self
+    (with_functions (map function_part fs) c.args.self.now) (not c.is_empty-has_children.result)
+    (ap not c.is_empty-has_children.ensures
+    ∙ ap (λ n. not (n == 0)) (sym c.deref.ensures.len ∙ ap length c.deref.ensures.value)
+    ∙ sym (some_calls function.calls.items)) c.in_ok-function.ensures.ok
+    (c.in_ok-calls.ensures.ok ∙ ap (λ l. with_calls (calls_part l) c.function.new.self) c.deref.ensures.value)
+    c.in_ok-close.ensures.ok
+    (subst (λ l. CanEmitFunctions c.args.self.now.encoding.address_size (map function_part l)) here kept.1)
+    (ap (λ l. with_functions (map function_part l) c.loop-function.self) (sym here) ∙ kept.2) in
+    (told.0 ∙ kept.0, told.1, told.2)

@@ -1,0 +1,120 @@
+-- What is emitted of a table's units, one after the other: texts, range lists, and the entries of
+-- the current unit.
+use Rattle.std.specs.Prelude.{ℕ, Bool, true, false, List, [], ◌∷◌, ◌++◌, ◌+◌, ◌<◌, ◌^◌, length, map}
+use Rattle.gimli_lines_write_tables.specs.Encoding.{Encoding}
+use Rattle.gimli_lines_write_tables.specs.StringSections.{IsText, with_text, text_index, offset_of}
+use Rattle.gimli_lines_write_tables.specs.OutputBytes.{WriterContents, append}
+use Rattle.gimli_lines_write_tables.specs.Range.{Range}
+use Rattle.linemap_emit_programs.specs.TableParts.{RangePart, Site, Calls, no_calls, more_calls, FunctionPart, UnitPart}
+use Rattle.linemap_emit_programs.specs.Entry.{Entry}
+use Rattle.linemap_emit_programs.specs.Entry.TheVariants.{CompileUnit, Function, Call, EndOfChildren}
+use Rattle.linemap_emit_programs.specs.EmittedRanges.{AllWritable, spelled_ranges}
+
+-- In which encoding, the texts of the string section, the range lists, and entries.
+pub record EmittedUnit : Type 0 where
+  pub encoding : Encoding
+  pub texts : List (List ℕ)
+  pub ranges : WriterContents
+  pub entries : List Entry
+
+-- a range as it is written
+abbrev pub emitted_range : RangePart → Range
+emitted_range r = record { begin = r.begin; end = r.end }
+
+-- where a text will be
+abbrev pub text_offset : List ℕ → EmittedUnit → ℕ
+text_offset text st = offset_of (with_text st.texts text) (text_index st.texts text)
+
+abbrev pub with_name : List ℕ → EmittedUnit → EmittedUnit
+with_name text st = record st { texts = with_text st.texts text }
+
+-- one more range list, after the others
+abbrev pub with_list : List RangePart → EmittedUnit → EmittedUnit
+with_list rs st =
+    record st {
+      ranges = append (spelled_ranges st.encoding st.ranges.is_big (map emitted_range rs))
+          st.ranges;
+    }
+
+abbrev pub list_offset : EmittedUnit → ℕ
+list_offset st = length st.ranges.bytes
+
+abbrev pub with_entry : Entry → EmittedUnit → EmittedUnit
+with_entry x st = record st { entries = st.entries ++ x ∷ [] }
+
+-- some calls
+abbrev pub has_calls : Calls → Bool
+has_calls no_calls = false
+has_calls (more_calls site inner others) = true
+
+-- the end of children where there were some
+abbrev pub with_end_of_children : Bool → EmittedUnit → EmittedUnit
+with_end_of_children true st = with_entry EndOfChildren st
+with_end_of_children false st = st
+
+-- the entry of a call: its name, its ranges, and where it was called, files counted from 1
+abbrev pub with_call : Bool → Site → EmittedUnit → EmittedUnit
+with_call children s st =
+    with_entry (Call children (text_offset s.name st) (list_offset st) (s.file + 1) s.line s.column)
+    (with_list s.ranges (with_name s.name st))
+
+-- calls, each with those in it
+unfoldable pub with_calls : Calls → EmittedUnit → EmittedUnit
+with_calls no_calls st = st
+with_calls (more_calls site inner others) st =
+    with_calls others
+    (with_end_of_children (has_calls inner)
+    (with_calls inner (with_call (has_calls inner) site st)))
+
+-- the entry of a function
+abbrev pub with_function_entry : FunctionPart → EmittedUnit → EmittedUnit
+with_function_entry f st =
+    with_entry (Function (has_calls f.calls) (text_offset f.name st) (list_offset st))
+    (with_list f.ranges (with_name f.name st))
+
+-- a function with its calls
+abbrev pub with_function : FunctionPart → EmittedUnit → EmittedUnit
+with_function f st =
+    with_end_of_children (has_calls f.calls) (with_calls f.calls (with_function_entry f st))
+
+abbrev pub with_functions : List FunctionPart → EmittedUnit → EmittedUnit
+with_functions [] st = st
+with_functions (f ∷ fs) st = with_functions fs (with_function f st)
+
+-- the entry of a unit whose line program stands at an offset
+abbrev pub with_unit_entry : ℕ → UnitPart → EmittedUnit → EmittedUnit
+with_unit_entry line_program u st =
+    let named = with_name u.name st in
+    with_entry (CompileUnit (text_offset u.name st) (text_offset u.directory named) line_program
+    (list_offset st)) (with_list u.ranges (with_name u.directory named))
+
+-- a unit: its entry, those of its functions, and the end of its children
+abbrev pub with_unit : ℕ → UnitPart → EmittedUnit → EmittedUnit
+with_unit line_program u st =
+    with_entry EndOfChildren (with_functions u.functions (with_unit_entry line_program u st))
+
+-- no current unit
+abbrev pub without_entries : EmittedUnit → EmittedUnit
+without_entries st = record st { entries = [] }
+
+-- ---- what can be emitted
+
+-- texts without a zero byte, and ranges that can be written in an address size
+abbrev pub CanEmit : ℕ → List ℕ → List RangePart → Type 0
+CanEmit size name rs = IsText name × AllWritable size (map emitted_range rs)
+
+-- the same of calls, each with those in it, whose files can be counted from 1
+unfoldable pub CanEmitCalls : ℕ → Calls → Type 0
+CanEmitCalls size no_calls = Unit {0}
+CanEmitCalls size (more_calls site inner others) =
+    CanEmit size site.name site.ranges × (site.file + 1 < 2 ^ 64) × CanEmitCalls size inner
+    × CanEmitCalls size others
+
+abbrev pub CanEmitFunctions : ℕ → List FunctionPart → Type 0
+CanEmitFunctions size [] = Unit {0}
+CanEmitFunctions size (f ∷ fs) =
+    CanEmit size f.name f.ranges × CanEmitCalls size f.calls × CanEmitFunctions size fs
+
+abbrev pub CanEmitUnit : ℕ → UnitPart → Type 0
+CanEmitUnit size u =
+    IsText u.directory × CanEmit size u.name u.ranges × CanEmitFunctions size u.functions

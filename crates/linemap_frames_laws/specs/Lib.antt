@@ -1,0 +1,2 @@
+pub mod CallAgreement
+pub mod LookupFrameLaws

@@ -1,5 +1,0 @@
-use Rattle.linemap_meaning.proofs.Fits.{sound_fits_8 as lemma}
-use Rattle.linemap_meaning.proofs.laws.sound_fits_8.Goals as goal
-
-pub returns : goal.returns
-returns c = lemma

@@ -1,5 +1,0 @@
-use Rattle.linemap_meaning.proofs.TableStretches.{stretches_answer as lemma}
-use Rattle.linemap_meaning.proofs.laws.stretches_answer.Goals as goal
-
-pub returns : goal.returns
-returns c = lemma

@@ -1,5 +1,0 @@
-use Rattle.linemap_places.proofs.Contexts.{context_in}
-use Rattle.linemap_places.proofs.context.context_of.Goals as goal
-
-pub returns-in-Ok : goal.returns-in-Ok
-returns-in-Ok g c = context_in g.R.Offset.ReaderOffset.limit c.args.dwarf c.in-Ok.context c.in-Ok.ensures

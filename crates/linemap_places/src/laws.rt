@@ -1,8 +1,0 @@
-//! What follows from the definitions. Each function is a law: it does nothing, and its contract is proved.
-
-ghost use Rattle.linemap_places.specs.Laws.{WordsAnswered};
-
-/// Over sections that answer a table, words are answered as the table answers them.
-pub fn words_answered()
-    ensures { WordsAnswered }
-{}

@@ -1,0 +1,2 @@
+pub mod LookupStretches
+pub mod LookupStretchLaws

@@ -1,0 +1,4 @@
+pub mod AskLemmas
+pub mod SectionAnswersPrinted
+pub mod AnsweringContexts
+pub mod WordTextLemmas

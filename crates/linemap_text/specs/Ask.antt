@@ -1,0 +1,99 @@
+-- What `ask` prints, and what it leaves where it stops before its end.
+use Rattle.std.specs.Prelude.{◌≡◌, ◌⊎◌, ◌≤◌, ◌^◌, ℕ, List, [], true, false, ⊤, Option, Result, Ok, Err, codes, nat_lt, if◌then◌else◌}
+use Rattle.linemap_emit.specs.TableParts.{UnitPart}
+use Rattle.linemap_emit.specs.AnswerTexts.{ask_text}
+use Rattle.linemap_emit.specs.TableWeight.{table_weight}
+use Rattle.linemap_emit.specs.declared.error.EmitError.{EmitError}
+use Rattle.linemap_emit.specs.declared.error.EmitError.TheVariants.{Memory as NoRoom, TooLarge as TooHeavy}
+use Rattle.linemap_output.specs.ErrorLine.{EndsAtFault, EndsOutOfMemory, Fails, error_line}
+use Rattle.linemap_output.specs.declared.ended.Ended.{Ended}
+use Rattle.linemap_output.specs.declared.writing.WriteFault.{WriteFault}
+use Rattle.linemap_emit.specs.TableErrorCodes.{table_error_code}
+use Rattle.linemap_emit.specs.TableInText.{table_in}
+use Rattle.linemap_emit.specs.TableError.{TableError}
+use Rattle.linemap_emit.specs.TableError.TheVariants.{Memory as NoMemory}
+use Rattle.linemap_text.specs.declared.stops.Stop.{Stop}
+use Rattle.linemap_text.specs.declared.stops.Stop.TheVariants.{Memory, Table, TooLarge, Output}
+
+-- ---- what is printed
+
+-- what goes to the output and to the error stream, and the exit status
+pub record AskOutcome : Type 0 where
+  pub out : List ℕ
+  pub err : List ℕ
+  pub status : ℕ
+
+abbrev pub refusal : List ℕ → List ℕ → AskOutcome
+refusal message detail = record { out = []; err = error_line message detail; status = 1 }
+
+-- the answers, unless the table weighs 2^31 or more
+abbrev pub outcome_of : Result (List UnitPart) TableError → List (List ℕ) → AskOutcome
+outcome_of (Err e) words = refusal (codes "table refused: ") (table_error_code e)
+outcome_of (Ok units) words = if nat_lt (table_weight units) (2 ^ 31)
+    then record { out = ask_text units words; err = []; status = 0 }
+    else refusal (codes "emit refused: ") (codes "M2")
+
+-- what `ask` prints for a table's text and the words
+abbrev pub ask_outcome : List ℕ → List (List ℕ) → AskOutcome
+ask_outcome text words = outcome_of (table_in text) words
+
+-- ---- what stops it
+
+-- nothing outside of the program went wrong
+abbrev pub IsClean : Ended → Type 0
+IsClean e = (e.memory ≡ false) × (e.read ≡ false) × (e.write ≡ false)
+
+-- out of memory is not a refusal of the table
+abbrev pub table_stop : TableError → Stop
+table_stop NoMemory = Memory
+table_stop e = Table e
+
+-- a table that is too large is not out of memory
+abbrev pub emission_stop : EmitError → Stop
+emission_stop NoRoom = Memory
+emission_stop TooHeavy = TooLarge
+
+-- emission stops when out of memory, or where a table is too heavy
+abbrev pub EmissionStops : List UnitPart → Stop → Type 0
+EmissionStops us Memory = ⊤
+EmissionStops us (Table e) = ⊥
+EmissionStops us TooLarge = 2 ^ 31 ≤ table_weight us
+EmissionStops us (Output fault) = ⊥
+
+-- only out of memory and a fault of the writer stop the answers
+abbrev pub StopsWriting : Stop → Type 0
+StopsWriting Memory = ⊤
+StopsWriting (Table e) = ⊥
+StopsWriting TooLarge = ⊥
+StopsWriting (Output fault) = ⊤
+
+-- a refusal is the one that is to be printed, and the writer is not touched before it
+abbrev pub StopsAt : AskOutcome → Stop → Type 0
+StopsAt p Memory = ⊤
+StopsAt p (Table e) = p ≡ refusal (codes "table refused: ") (table_error_code e)
+StopsAt p TooLarge = p ≡ refusal (codes "emit refused: ") (codes "M2")
+StopsAt p (Output fault) = p.status ≡ 0
+
+-- ---- how it is reported
+
+-- out of memory and a fault of the output set their flags; each refusal has its error line
+abbrev pub Reports : Stop → Option (List ℕ) → Option (List ℕ) → Ended → Type 0
+Reports Memory old new e = EndsOutOfMemory old new e
+Reports (Table error) old new e =
+    Fails (error_line (codes "table refused: ") (table_error_code error)) old new e
+    × (e.memory ≡ false)
+Reports TooLarge old new e =
+    Fails (error_line (codes "emit refused: ") (codes "M2")) old new e × (e.memory ≡ false)
+Reports (Output fault) old new e = EndsAtFault fault old new e
+
+-- the error stream failed while the refusal was written, or else the output failed
+abbrev pub EndsAtWrite : AskOutcome → Option (List ℕ) → Option (List ℕ) → Ended → Type 0
+EndsAtWrite p old new e =
+    ((p.status ≡ 1) × Fails p.err old new e)
+    ⊎ ((p.status ≡ 0) × ((fault : WriteFault) × EndsAtFault fault old new e))
+
+-- the status and the error line of each flag; nothing was read
+pub record FlagsMean (p : AskOutcome) (old new : Option (List ℕ)) (e : Ended) : Type 0 where
+  pub memory : e.memory ≡ true → EndsOutOfMemory old new e
+  pub write : e.memory ≡ false → e.write ≡ true → EndsAtWrite p old new e
+  pub read : e.read ≡ false

@@ -1,0 +1,82 @@
+//! Why an answer stopped, and how the program reports it.
+ghost use Rattle.std.specs.Prelude.{◌≡◌};
+
+use linemap_emit::{EmitError, TableError};
+use linemap_output::{Ended, WriteFault, fail, out_of_memory, output_failed};
+use std::alloc::AllocError;
+use std::io::Write;
+
+/// Why an answer stopped before its end.
+#[derive(Clone, Copy, Debug, PartialEq, Eq)]
+pub enum Stop {
+    /// No memory was left.
+    Memory,
+    /// The text is no table.
+    Table(TableError),
+    /// The table is too heavy to be answered.
+    TooLarge,
+    /// The answers could not be written.
+    Output(WriteFault),
+}
+
+impl From<AllocError> for Stop {
+    ghost use Rattle.linemap_text.specs.declared.stops.Stop.TheVariants.{Memory};
+
+    ghost from_gives = { λ _ stop. stop ≡ Memory };
+
+    fn from(_error: AllocError) -> Stop {
+        Stop::Memory
+    }
+}
+
+impl From<WriteFault> for Stop {
+    ghost use Rattle.linemap_text.specs.declared.stops.Stop.TheVariants.{Output};
+
+    ghost from_gives = { λ fault stop. stop ≡ Output fault };
+
+    fn from(fault: WriteFault) -> Stop {
+        Stop::Output(fault)
+    }
+}
+
+impl From<TableError> for Stop {
+    ghost use Rattle.linemap_text.specs.Ask.{table_stop};
+
+    ghost from_gives = { λ error stop. stop ≡ table_stop error };
+
+    fn from(error: TableError) -> Stop {
+        match error {
+            TableError::Memory => Stop::Memory,
+            _ => Stop::Table(error),
+        }
+    }
+}
+
+impl From<EmitError> for Stop {
+    ghost use Rattle.linemap_text.specs.Ask.{emission_stop};
+
+    ghost from_gives = { λ error stop. stop ≡ emission_stop error };
+
+    fn from(error: EmitError) -> Stop {
+        match error {
+            EmitError::Memory => Stop::Memory,
+            EmitError::TooLarge => Stop::TooLarge,
+        }
+    }
+}
+
+impl Stop {
+    ghost use Rattle.linemap_text.specs.Ask.{Reports};
+
+    /// Writes the error line, where there is one. A fault of the error stream only sets a flag.
+    pub fn report<W: Write>(self, err: &mut W) -> Ended
+        ensures { Reports self (W.contents err.old) (W.contents err.new) result }
+    {
+        match self {
+            Stop::Memory => out_of_memory(err),
+            Stop::Table(error) => fail(err, "table refused: ", error.code()),
+            Stop::TooLarge => fail(err, "emit refused: ", "M2"),
+            Stop::Output(fault) => output_failed(err, fault),
+        }
+    }
+}

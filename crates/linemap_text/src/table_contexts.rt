@@ -1,0 +1,19 @@
+//! The context over a table's sections.
+
+ghost use Rattle.std.specs.Prelude.{◌≡◌, Ok, IsOk, IfOk};
+ghost use Rattle.addr2line_context.specs.Contexts.{context};
+
+use addr2line_context::{Context, Dwarf, Error, Reader};
+use std::alloc::{AllocError, Global};
+
+/// The context over sections that have one: only running out of memory is refused.
+pub fn context_of<R: Reader>(alloc: Global, dwarf: Dwarf<R>) -> Result<Context<R>, AllocError>
+    requires { IsOk (context R.Offset.limit dwarf) }
+    ensures { IfOk result (λ c. context R.Offset.limit dwarf ≡ Ok c.context) }
+{
+    match Context::from_dwarf(alloc, dwarf) {
+        Ok(context) => Ok(context),
+        Err(Error::Memory) => Err(AllocError),
+        Err(_) => unreachable!(),
+    }
+}

@@ -1,0 +1,19 @@
+-- What a refused command line ends with.
+use Rattle.std.specs.Prelude.{◌≡◌, ◌≢◌, ◌⊎◌, ◌↔◌, ℕ, Bool, false, not, IsTrue}
+use Rattle.clap.specs.Words.{kind_of}
+use Rattle.clap.specs.declared.error.ErrorKind.TheVariants.{DisplayHelp, DisplayVersion}
+use Rattle.linemap_words.specs.declared.request.WordsError.{WordsError}
+use Rattle.linemap_words.specs.declared.request.WordsError.TheVariants.{Memory, Fault}
+
+-- whether the text was asked for and is no mistake
+abbrev pub TellsHelp : WordsError → Bool → Type 0
+TellsHelp (Fault error) is_help =
+    IsTrue (not is_help) ↔ ((kind_of error ≢ DisplayHelp) × (kind_of error ≢ DisplayVersion))
+TellsHelp Memory is_help = is_help ≡ false
+
+-- 0 after help, 1 when out of memory, and 2 for a mistake
+abbrev pub HasStatus : WordsError → ℕ → Type 0
+HasStatus Memory status = status ≡ 1
+HasStatus (Fault error) status =
+    ((kind_of error ≡ DisplayHelp) ⊎ (kind_of error ≡ DisplayVersion) → status ≡ 0)
+    × (kind_of error ≢ DisplayHelp → kind_of error ≢ DisplayVersion → status ≡ 2)
