@@ -1,6 +1,6 @@
 //! What no contract says, over small files by hand and with ample memory: values worked out from
-//! the standard, and that each call succeeds. The helpers have no contracts, so that the tests carry
-//! no facts from call to call.
+//! the standard, and that each call succeeds. The helpers have no contracts, so that the tests
+//! carry no facts from call to call.
 
 mod contexts;
 mod elf;

@@ -1,5 +1,5 @@
 -- A unit of a context, and a context, from their parts.
-use Rattle.std.proofs.Common.{◌≡◌, ℕ, Bool, false, List, [], ◌∷◌, Option, Some, None, Result, Ok, Err, refl, sym, ap, ◌∙◌, slice_get, map, option_map, length, arith, if◌then◌else◌}
+use Rattle.std.proofs.Common.{◌≡◌, ℕ, Bool, false, List, [], ◌∷◌, Option, None, Result, Ok, Err, refl, sym, ap, ◌∙◌, slice_get, map, option_map, length, arith, if◌then◌else◌}
 use Rattle.std.proofs.lemmas.Option.{slice_get-map}
 use Rattle.addr2line_units.specs.Error.{Error}
 use Rattle.addr2line_units.specs.Repetition.{fault_of}
@@ -9,8 +9,8 @@ use Rattle.addr2line_units.specs.AttributeValues.{RawAttribute}
 use Rattle.addr2line_units.specs.ArangeSets.{sets_to_come}
 use Rattle.addr2line_units.specs.Tiling.{whole_section}
 use Rattle.addr2line_units.specs.Results.{and_then, unless}
-use Rattle.addr2line_units.specs.DwarfSections.{Sections, FileSections, with_its_supplements, first_supplement, supplement}
-use Rattle.addr2line_units.specs.UnitFacts.{UnitFacts, root}
+use Rattle.addr2line_units.specs.DwarfFiles.{DwarfFile, supplement}
+use Rattle.addr2line_units.specs.UnitFacts.{UnitFacts, UnitInFile, root}
 use Rattle.addr2line_units.specs.Lines.{Lines}
 use Rattle.addr2line_units.specs.PlaceLookups.{location_at}
 use Rattle.addr2line_units.specs.Contexts.{ContextUnit, Context, ranges_of, lines_of, unit_of_root, context_unit, units_of_file, units_of_supplement, context}
@@ -35,32 +35,33 @@ abbrev with_ranges : UnitFacts → Result Lines Error → List RawAttribute → 
 with_ranges u lines attributes ranges =
     Ok (record { facts = u; ranges = ranges; language = language_in attributes; lines = lines })
 
-abbrev with_root : ℕ → Sections → UnitFacts → Result Lines Error → Row → Result ContextUnit Error
-with_root limit s u lines r = unit_of_root limit s u lines r.attributes
+abbrev with_root : UnitInFile → Result Lines Error → Row → Result ContextUnit Error
+with_root u lines r = unit_of_root u lines r.attributes
 
-module _ (limit : ℕ) (s : Sections) (u : UnitFacts) (lines : Result Lines Error) where
+module _ (u : UnitInFile) (lines : Result Lines Error) where
   -- refused ranges refuse a unit
   pub ranges_refused : (attributes : List RawAttribute) (e : Error)
-      → ranges_of_attributes limit s u lines attributes ≡ Err e → unit_of_root limit s u lines attributes ≡ Err e
-  ranges_refused attributes e h = ap (λ r. and_then r (with_ranges u lines attributes)) h
+      → ranges_of_attributes u lines attributes ≡ Err e → unit_of_root u lines attributes ≡ Err e
+  ranges_refused attributes e h = ap (λ r. and_then r (with_ranges u.facts lines attributes)) h
 
   -- so does a refused root
-  pub root_refused : (e : Error) → root limit u.header u.table ≡ Err e
-      → and_then (root limit u.header u.table) (with_root limit s u lines) ≡ Err e
-  root_refused e h = ap (λ r. and_then r (with_root limit s u lines)) h
+  pub root_refused : (e : Error) → root u.file.offset_limit u.facts.header u.facts.table ≡ Err e
+      → and_then (root u.file.offset_limit u.facts.header u.facts.table) (with_root u lines) ≡ Err e
+  root_refused e h = ap (λ r. and_then r (with_root u lines)) h
 
   abbrev unit_unless_partial : Bool → Result Lines Error → Result ContextUnit Error
   unit_unless_partial b lines =
-      if b then Ok (record { facts = u; ranges = []; language = None; lines = lines })
-      else and_then (root limit u.header u.table) (with_root limit s u lines)
+      if b then Ok (record { facts = u.facts; ranges = []; language = None; lines = lines })
+      else and_then (root u.file.offset_limit u.facts.header u.facts.table) (with_root u lines)
 
   -- a unit that isn't partial
-  pub not_partial : (b : Bool) → b ≡ is_partial u.header.kind → b ≡ false
-      → ok_lines (lines_of_unit limit s u) ≡ ok_lines lines
-      → and_then (root limit u.header u.table) (with_root limit s u lines) ≡ context_unit limit s u
+  pub not_partial : (b : Bool) → b ≡ is_partial u.facts.header.kind → b ≡ false
+      → ok_lines (lines_of_unit u) ≡ ok_lines lines
+      → and_then (root u.file.offset_limit u.facts.header u.facts.table) (with_root u lines) ≡ context_unit u
   not_partial b is not same =
-      let of_unit : lines ≡ lines_of_unit limit s u = cc in
-      ap (λ c. unit_unless_partial c lines) (sym not ∙ is) ∙ ap (unit_unless_partial (is_partial u.header.kind)) of_unit
+      let of_unit : lines ≡ lines_of_unit u = cc in
+      ap (λ c. unit_unless_partial c lines) (sym not ∙ is)
+      ∙ ap (unit_unless_partial (is_partial u.facts.header.kind)) of_unit
 
 -- ---- answers
 
@@ -78,59 +79,48 @@ answers_start us a all rs ordered covering =
     sym (places_of_views unit_places us a)
     ∙ location_by_numbers (map unit_places us) a rs (covering ∙ ap (covering_ranges a) ordered)
 
--- ---- the supplement
-
-first_of_supplements : (file : FileSections) (o : Option Sections) → first_supplement (with_its_supplements file o) ≡ o
-first_of_supplements file None = refl
-first_of_supplements file (Some s) = refl
-
--- the supplement that stands after a file
-pub supplement_is : (s : Sections) (o : Option Sections) → s.supplements ≡ with_its_supplements s.file o
-    → supplement s ≡ o
-supplement_is s o h = ap first_supplement h ∙ first_of_supplements s.file o
-
 -- ---- a context
 
 abbrev with_supplement : List ContextUnit → List UnitFacts → Result Context Error
 with_supplement units supplement_units = Ok (record { units = units; supplement_units = supplement_units })
 
-abbrev with_units : ℕ → Sections → List ContextUnit → Result Context Error
-with_units limit s units = and_then (units_of_supplement limit (supplement s)) (with_supplement units)
+abbrev with_units : DwarfFile → List ContextUnit → Result Context Error
+with_units s units = and_then (units_of_supplement (supplement s)) (with_supplement units)
 
-abbrev with_sets : ℕ → Sections → Option Error → Result Context Error
-with_sets limit s fault = unless fault (and_then (units_of_file limit s) (with_units limit s))
+abbrev with_sets : DwarfFile → Option Error → Result Context Error
+with_sets s fault = unless fault (and_then (units_of_file s) (with_units s))
 
-abbrev with_sections : Sections → Context → Result FileContext Error
-with_sections s c = Ok (record { sections = s; context = c })
+abbrev with_file : DwarfFile → Context → Result FileContext Error
+with_file s c = Ok (record { file = s; context = c })
 
-module _ (limit : ℕ) (s : Sections) where
+module _ (s : DwarfFile) where
   abbrev fault_of_sets : Option Error
-  fault_of_sets = fault_of (sets_to_come limit (whole_section s.file.debug_aranges))
+  fault_of_sets = fault_of (sets_to_come s.offset_limit (whole_section s.sections.debug_aranges))
 
   -- refused by none of its parts
   context_of_parts : (units : List ContextUnit) (supplement_units : List UnitFacts) → fault_of_sets ≡ None
-      → units_of_file limit s ≡ Ok units
-      → units_of_supplement limit (supplement s) ≡ Ok supplement_units
-      → context limit s ≡ Ok (record { units = units; supplement_units = supplement_units })
+      → units_of_file s ≡ Ok units
+      → units_of_supplement (supplement s) ≡ Ok supplement_units
+      → context s ≡ Ok (record { units = units; supplement_units = supplement_units })
   context_of_parts units supplement_units sound file h =
-      ap (with_sets limit s) sound ∙ ap (λ r. and_then r (with_units limit s)) file
+      ap (with_sets s) sound ∙ ap (λ r. and_then r (with_units s)) file
       ∙ ap (λ r. and_then r (with_supplement units)) h
 
   pub file_context_of_parts : (units : List ContextUnit) (supplement_units : List UnitFacts) → fault_of_sets ≡ None
-      → units_of_file limit s ≡ Ok units
-      → units_of_supplement limit (supplement s) ≡ Ok supplement_units
-      → file_context limit s
-      ≡ Ok (record { sections = s; context = record { units = units; supplement_units = supplement_units } })
+      → units_of_file s ≡ Ok units
+      → units_of_supplement (supplement s) ≡ Ok supplement_units
+      → file_context s
+      ≡ Ok (record { file = s; context = record { units = units; supplement_units = supplement_units } })
   file_context_of_parts units supplement_units sound file h =
-      ap (λ r. and_then r (with_sections s)) (context_of_parts units supplement_units sound file h)
+      ap (λ r. and_then r (with_file s)) (context_of_parts units supplement_units sound file h)
 
   -- refused by the last of them
   pub supplement_refused : (units : List ContextUnit) (e : Error) → fault_of_sets ≡ None
-      → units_of_file limit s ≡ Ok units
-      → units_of_supplement limit (supplement s) ≡ Err e → file_context limit s ≡ Err e
+      → units_of_file s ≡ Ok units
+      → units_of_supplement (supplement s) ≡ Err e → file_context s ≡ Err e
   supplement_refused units e sound file h =
-      ap (λ r. and_then r (with_sections s))
-      (ap (with_sets limit s) sound ∙ ap (λ r. and_then r (with_units limit s)) file
+      ap (λ r. and_then r (with_file s))
+      (ap (with_sets s) sound ∙ ap (λ r. and_then r (with_units s)) file
       ∙ ap (λ r. and_then r (with_supplement units)) h)
 
 -- ---- all lines

@@ -1,10 +1,10 @@
 -- The units of a context, and what lookups use of them.
-use Rattle.std.specs.Prelude.{ℕ, List, map, Option, Some, None, Result, Ok}
+use Rattle.std.specs.Prelude.{List, map, Option, Some, None, Result, Ok}
 use Rattle.std.specs.List.{filter_map}
 use Rattle.addr2line_units.specs.Error.{Error}
 use Rattle.addr2line_units.specs.Repetition.{fault_of}
 use Rattle.addr2line_units.specs.Results.{some_of, unless}
-use Rattle.addr2line_units.specs.DwarfSections.{Sections}
+use Rattle.addr2line_units.specs.DwarfFiles.{DwarfFile}
 use Rattle.addr2line_units.specs.UnitFacts.{UnitFacts, unit_facts}
 use Rattle.addr2line_units.specs.Contexts.{ContextUnit, readable_facts, headers_of}
 use Rattle.addr2line_units.specs.UnitRange.{UnitRange}
@@ -18,10 +18,10 @@ if_any read None = Ok None
 if_any read (Some x) = some_of (read x)
 
 -- the units of a file that can be read, of types too, or the fault of a header
-abbrev pub readable_units : ℕ → Sections → Result (List UnitFacts) Error
-readable_units limit s =
-    unless (fault_of (headers_of limit s))
-    (Ok (filter_map (λ h. readable_facts (unit_facts limit s h)) (headers_of limit s).items))
+abbrev pub readable_units : DwarfFile → Result (List UnitFacts) Error
+readable_units file =
+    unless (fault_of (headers_of file))
+    (Ok (filter_map (λ h. readable_facts (unit_facts file h)) (headers_of file).items))
 
 -- ---- lookups
 

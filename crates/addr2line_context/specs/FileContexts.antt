@@ -1,27 +1,30 @@
--- A context with its sections.
+-- A context with its file.
 use Rattle.std.specs.Prelude.{ℕ, List, None, Result, Ok}
 use Rattle.addr2line_units.specs.Error.{Error}
 use Rattle.addr2line_units.specs.View.{View}
 use Rattle.addr2line_units.specs.DwarfFileType.TheVariants.{Main}
-use Rattle.addr2line_units.specs.Results.{and_then, each}
-use Rattle.addr2line_units.specs.DwarfSections.{Sections, sections_of}
+use Rattle.addr2line_units.specs.Results.{and_then, each, ◌>>=◌}
+use Rattle.addr2line_units.specs.DwarfFiles.{DwarfFile, dwarf_file}
 use Rattle.addr2line_units.specs.Lines.{Lines}
 use Rattle.addr2line_units.specs.Contexts.{ContextUnit, Context, context, lines_of}
 
--- the sections of a file, and the context over them
+-- a file, and the context over its sections
 pub record FileContext : Type 0 where
-  pub sections : Sections
+  pub file : DwarfFile
   pub context : Context
 
--- the context over a file's sections, with them, or why there is none
-abbrev pub file_context : ℕ → Sections → Result FileContext Error
-file_context limit s = and_then (context limit s) (λ c. Ok (record { sections = s; context = c }))
+-- the context over a file's sections, with the file, or why there is none
+abbrev pub file_context : DwarfFile → Result FileContext Error
+file_context file = do
+  c ← context file
+  Ok (record { file = file; context = c })
 
--- the sections of a main file without a supplement; those that aren't named here are the last
-abbrev pub main_file : (abbrevs addr aranges info line line_str ranges rnglists str str_offsets
-    others : View) → Sections
-main_file abbrevs addr aranges info line line_str ranges rnglists str str_offsets others =
-    sections_of (record {
+-- a main file without a supplement; its sections that aren't named here are the last
+abbrev pub main_file : (limit : ℕ)
+    (abbrevs addr aranges info line line_str ranges rnglists str str_offsets others : View)
+    → DwarfFile
+main_file limit abbrevs addr aranges info line line_str ranges rnglists str str_offsets others =
+    dwarf_file limit (record {
       debug_abbrev = abbrevs;
       debug_addr = addr;
       debug_aranges = aranges;

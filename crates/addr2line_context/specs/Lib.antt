@@ -22,7 +22,7 @@ pub use Rattle.addr2line_units.specs.Results
 pub use Rattle.addr2line_units.specs.Error
 pub use Rattle.addr2line_units.specs.RunTimeEndian
 pub use Rattle.addr2line_units.specs.SectionLoading
-pub use Rattle.addr2line_units.specs.DwarfSections
+pub use Rattle.addr2line_units.specs.DwarfFiles
 pub mod FileContexts
 pub mod ContextUnits
 pub mod RangeItems

@@ -38,7 +38,7 @@ impl<R: Reader> Model for Context<R> {
     ghost Value = { FileContext };
 
     ghost view = { λ c. record {
-      sections = c.sections.value;
+      file = c.sections.value;
       context = record { units = c.units.items; supplement_units = c.supplement_units.items };
     } };
 
@@ -49,7 +49,7 @@ impl<R: Reader> Context<R> {
     /// The context of a file's sections. It takes memory for what shares them, and else is
     /// `from_arc_dwarf`.
     pub fn from_dwarf(alloc: Global, sections: Dwarf<R>) -> Result<Self, Error>
-        ensures { ReturnsOrNoMemory result (file_context R.Offset.limit sections) }
+        ensures { ReturnsOrNoMemory result (file_context sections) }
     {
         match Rc::new(alloc, sections) {
             Ok(sections) => Context::from_arc_dwarf(alloc, sections),
@@ -61,7 +61,7 @@ impl<R: Reader> Context<R> {
     /// out of memory, by a header of `.debug_aranges`, by the first fault in `.debug_info`, of a
     /// unit's ranges or of a header, or by a header of the supplement, in this order.
     pub fn from_arc_dwarf(alloc: Global, sections: Rc<Dwarf<R>>) -> Result<Self, Error>
-        ensures { ReturnsOrNoMemory result (file_context R.Offset.limit sections.value) }
+        ensures { ReturnsOrNoMemory result (file_context sections.value) }
     {
         let dwarf = sections.as_ref();
         check_aranges(dwarf)?;
@@ -78,7 +78,7 @@ impl<R: Reader> Context<R> {
 
     /// The sections of the context.
     pub fn sections(&self) -> &Rc<Dwarf<R>>
-        ensures { result.now.value ≡ self.now.sections }
+        ensures { result.now.value ≡ self.now.file }
     {
         &self.sections
     }

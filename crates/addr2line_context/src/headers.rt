@@ -2,7 +2,7 @@
 
 ghost use Rattle.std.specs.Prelude.{◌≡◌, Ok};
 ghost use Rattle.addr2line_units.specs.Calls.{ReturnsOrNoMemory};
-ghost use Rattle.addr2line_units.specs.UnitFacts.{unit_facts};
+ghost use Rattle.addr2line_units.specs.UnitFacts.{in_file, unit_facts};
 ghost use Rattle.addr2line_units.specs.Contexts.{is_of_types, readable_facts, facts_of_code_unit, context_unit};
 ghost use Rattle.addr2line_context.specs.ContextUnits.{if_any};
 
@@ -17,7 +17,7 @@ pub(crate) fn readable_unit<R: Reader>(
     header: UnitHeader<R>,
 ) -> Result<Option<Unit<R>>, Error>
     ensures { ReturnsOrNoMemory result
-        (Ok (readable_facts (unit_facts R.Offset.limit dwarf.now header))) }
+        (Ok (readable_facts (unit_facts dwarf.now header))) }
 {
     match dwarf.unit(alloc, header) {
         Ok(unit) => Ok(Some(unit)),
@@ -32,7 +32,7 @@ fn code_unit<R: Reader>(
     dwarf: &Dwarf<R>,
     header: UnitHeader<R>,
 ) -> Result<Option<Unit<R>>, Error>
-    ensures { ReturnsOrNoMemory result (Ok (facts_of_code_unit R.Offset.limit dwarf.now header)) }
+    ensures { ReturnsOrNoMemory result (Ok (facts_of_code_unit dwarf.now header)) }
 {
     if is_of_types(&header) {
         return Ok(None);
@@ -47,8 +47,8 @@ pub(crate) fn context_unit<R: Reader>(
     header: UnitHeader<R>,
 ) -> Result<Option<ContextUnit<R>>, Error>
     ensures { ReturnsOrNoMemory result
-        (if_any (context_unit R.Offset.limit dwarf.now)
-        (facts_of_code_unit R.Offset.limit dwarf.now header)) }
+        (if_any (λ u. context_unit (in_file dwarf.now u))
+        (facts_of_code_unit dwarf.now header)) }
 {
     match code_unit(alloc, dwarf, header)? {
         Some(unit) => Ok(Some(ContextUnit::read(alloc, dwarf, unit)?)),

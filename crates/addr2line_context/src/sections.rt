@@ -29,7 +29,7 @@ impl<R: Reader> Context<R> {
         default_section: R,
     ) -> Result<Self, Error>
         ensures { ReturnsOrNoMemory result
-            (file_context R.Offset.limit (main_file debug_abbrev debug_addr debug_aranges debug_info
+            (file_context (main_file R.Offset.limit debug_abbrev debug_addr debug_aranges debug_info
             debug_line debug_line_str debug_ranges debug_rnglists debug_str debug_str_offsets
             (R.view default_section))) }
     {

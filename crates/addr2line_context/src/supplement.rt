@@ -4,7 +4,7 @@ ghost use Rattle.std.specs.Prelude.{◌≡◌, ◌++◌, OnOk, IfErr};
 ghost use Rattle.std.specs.Option.{option_to_list};
 ghost use Rattle.addr2line_units.specs.Calls.{ReturnsAsOrNoMemory};
 ghost use Rattle.addr2line_units.specs.Error.TheVariants.{Memory};
-ghost use Rattle.addr2line_units.specs.DwarfSections.{supplement};
+ghost use Rattle.addr2line_units.specs.DwarfFiles.{supplement};
 ghost use Rattle.addr2line_units.specs.Contexts.{units_of_supplement};
 ghost use Rattle.addr2line_context.specs.ContextUnits.{readable_units};
 
@@ -26,7 +26,7 @@ fn push_unit<R: Reader>(units: &mut Vec<Unit<R>>, unit: Option<Unit<R>>) -> Resu
 // The units of a file that can be read. Refused by a header that can't be read.
 fn readable_units<R: Reader>(alloc: Global, dwarf: &Dwarf<R>) -> Result<Vec<Unit<R>>, Error>
     ensures { ReturnsAsOrNoMemory (λ units. units.items) result
-        (readable_units R.Offset.limit dwarf.now) }
+        (readable_units dwarf.now) }
 {
     let mut units = Vec::new(alloc);
     let mut headers = dwarf.units()?;
@@ -43,9 +43,9 @@ pub(crate) fn units_of_supplement<R: Reader>(
     dwarf: &Dwarf<R>,
 ) -> Result<Vec<Unit<R>>, Error>
     ensures { ReturnsAsOrNoMemory (λ units. units.items) result
-        (units_of_supplement R.Offset.limit (supplement dwarf.now)) }
+        (units_of_supplement (supplement dwarf.now)) }
 {
-    match &dwarf.sup {
+    match dwarf.sup() {
         Some(sup) => readable_units(alloc, sup),
         None => Ok(Vec::new(alloc)),
     }

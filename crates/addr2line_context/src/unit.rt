@@ -4,7 +4,7 @@ ghost use Rattle.std.specs.Prelude.{◌≡◌, Ok, option_map};
 ghost use Rattle.addr2line_units.specs.Calls.{ReturnsAs, ReturnsOrNoMemory};
 ghost use Rattle.addr2line_units.specs.EntryViews.{raw_attributes};
 ghost use Rattle.addr2line_units.specs.Results.{and_then};
-ghost use Rattle.addr2line_units.specs.UnitFacts.{root};
+ghost use Rattle.addr2line_units.specs.UnitFacts.{in_file, root};
 ghost use Rattle.addr2line_units.specs.PlaceLookups.{place_or_refusal};
 ghost use Rattle.addr2line_units.specs.Contexts.{unit_of_root, context_unit};
 ghost use Rattle.addr2line_units.specs.UnitLines.{lines_of_unit};
@@ -13,7 +13,7 @@ ghost use Rattle.addr2line_units.specs.BorrowedLocations.{location_value};
 
 use addr2line_units::{
     Attribute, DwLang, Dwarf, Error, HasLines, Lines, Location, Range, Reader, Unit, UnitHeader,
-    UnitType, language_of, lines_of_unit, ranges_of_attributes,
+    UnitRef, UnitType, language_of, lines_of_unit, ranges_of_attributes,
 };
 use std::alloc::Global;
 use std::marker::Model;
@@ -46,9 +46,9 @@ impl<R: Reader> ContextUnit<R> {
     // The unit with its lines, and the ranges and the language that its root says. Of a partial
     // unit the root isn't looked at.
     pub(crate) fn read(alloc: Global, dwarf: &Dwarf<R>, unit: Unit<R>) -> Result<Self, Error>
-        ensures { ReturnsOrNoMemory result (context_unit R.Offset.limit dwarf.now unit) }
+        ensures { ReturnsOrNoMemory result (context_unit (in_file dwarf.now unit)) }
     {
-        let lines = lines_or_refusal(alloc, dwarf, &unit)?;
+        let lines = lines_or_refusal(alloc, &UnitRef::new(dwarf, &unit))?;
         if is_partial(&unit.header) {
             return Ok(ContextUnit {
                 unit,
@@ -68,10 +68,10 @@ impl<R: Reader> ContextUnit<R> {
         lines: Result<Lines, Error>,
     ) -> Result<Self, Error>
         ensures { ReturnsOrNoMemory result
-            (and_then (root R.Offset.limit unit.header unit.table)
-            (λ r. unit_of_root R.Offset.limit dwarf.now unit lines r.attributes)) }
+            (and_then (root dwarf.now.offset_limit unit.header unit.table)
+            (λ r. unit_of_root (in_file dwarf.now unit) lines r.attributes)) }
     {
-        let root = unit.root(alloc)?;
+        let root = UnitRef::new(dwarf, &unit).root(alloc)?;
         ContextUnit::of_root(alloc, dwarf, unit, lines, root.attrs())
     }
 
@@ -84,10 +84,11 @@ impl<R: Reader> ContextUnit<R> {
         attributes: &[Attribute<R>],
     ) -> Result<Self, Error>
         ensures { ReturnsOrNoMemory result
-            (unit_of_root R.Offset.limit dwarf.now unit lines
+            (unit_of_root (in_file dwarf.now unit) lines
             (raw_attributes R.view R.Offset.count attributes.now)) }
     {
-        let ranges = ranges_of_attributes(alloc, dwarf, &unit, &lines, attributes)?;
+        let unit_ref = UnitRef::new(dwarf, &unit);
+        let ranges = ranges_of_attributes(alloc, &unit_ref, &lines, attributes)?;
         let language = language_of(attributes)?;
         Ok(ContextUnit {
             unit,
@@ -146,12 +147,11 @@ impl<R: Reader> HasLines for ContextUnit<R> {
 // The lines of a unit, or why they can't be read; refused only when out of memory.
 fn lines_or_refusal<R: Reader>(
     alloc: Global,
-    dwarf: &Dwarf<R>,
-    unit: &Unit<R>,
+    unit: &UnitRef<'_, R>,
 ) -> Result<Result<Lines, Error>, Error>
-    ensures { ReturnsOrNoMemory result (Ok (lines_of_unit R.Offset.limit dwarf.now unit.now)) }
+    ensures { ReturnsOrNoMemory result (Ok (lines_of_unit unit.now)) }
 {
-    match lines_of_unit(alloc, dwarf, unit) {
+    match lines_of_unit(alloc, unit) {
         Ok(lines) => Ok(Ok(lines)),
         Err(Error::Memory) => Err(Error::Memory),
         Err(fault) => Ok(Err(fault)),

@@ -32,7 +32,7 @@ pub(crate) fn units_of_file<R: Reader>(
     dwarf: &Dwarf<R>,
 ) -> Result<Vec<ContextUnit<R>>, Error>
     ensures { ReturnsAsOrNoMemory (λ units. units.items) result
-        (units_of_file R.Offset.limit dwarf.now) }
+        (units_of_file dwarf.now) }
 {
     let mut units = Vec::new(alloc);
     let mut headers = dwarf.units()?;

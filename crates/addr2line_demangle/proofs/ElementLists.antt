@@ -21,10 +21,6 @@ without_other_last : (e : List ℕ) (es : List (List ℕ)) → is_hash (last_of 
 without_other_last e [] h = sym (cond-false (is_hash e) [] (e ∷ []) h)
 without_other_last e (f ∷ es) h = ap (λ (l : List (List ℕ)). e ∷ l) (without_other_last f es h)
 
-last_at : (e d : List ℕ) (es : List (List ℕ)) → get_or (e ∷ es) (length es) d ≡ last_of e es
-last_at e d [] = refl
-last_at e d (f ∷ es) = last_at f d es
-
 abbrev texts : List (Bor (List ℕ)) → List (List ℕ)
 texts xs = map (λ e. e.now) xs
 

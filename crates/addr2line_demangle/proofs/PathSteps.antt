@@ -70,7 +70,7 @@ pub ascii_some : (text : List ℕ) (e : Element) → Some e ≡ first_element te
     → IsAscii e.rest
 ascii_some text e h ascii = subst IsAsciiRest (sym h) (ascii_rest text ascii)
 
--- as many steps as there are bytes are enough
+-- a step for each byte is enough
 enough : (n m : ℕ) (text : List ℕ) → length text ≤ n → length text ≤ m
     → path_within n text ≡ path_within m text
 unfolding path_within
@@ -113,10 +113,6 @@ with_elements_before es path = record { elements = es ++ path.elements; suffix =
 
 abbrev pub path_after : List (List ℕ) → Option Path → Option Path
 path_after es path = option_map (with_elements_before es) path
-
-pub path_after_none : (path : Option Path) → path_after [] path ≡ path
-path_after_none None = refl
-path_after_none (Some path) = refl
 
 one_more : (es : List (List ℕ)) (e : List ℕ) (path : Option Path)
     → path_after es (option_map (add_first e) path) ≡ path_after (es ++ e ∷ []) path

@@ -63,7 +63,7 @@ is_character c = nat_lt c 0xd800 || is_in_range 0xe000 0x10_ffff c
 abbrev pub visible_character : ℕ → Option ℕ
 visible_character c = if is_character c && not (is_control c) then Some c else None
 
--- the character whose number one such digit or more write
+-- the character whose number is written by one or more such digits
 abbrev pub character_by_number : List ℕ → Option ℕ
 character_by_number digits =
     if nat_lt 0 (length digits) && is_lower_hexadecimal digits
@@ -75,14 +75,14 @@ abbrev pub character_of : List ℕ → Option ℕ
 character_of word =
     if slice_index word 0 == letter_u then character_by_number (drop 1 word) else sign_of word
 
--- what follows a first plain part: the character of a word and the rest, or else, from its dollar
--- sign on, the element as it is
+-- what follows a plain part: the character of a word and the rest; or, if the word has no
+-- character, the element from its dollar sign on, as it is
 abbrev pub character_then : Option ℕ → List ℕ → List ℕ → List ℕ
 character_then (Some c) rest whole = encode_utf8 c ++ rest
 character_then None rest whole = whole
 
--- The parts between an element's dollar signs: plain parts and words in turn. The first word that
--- means no character, or has no dollar sign after it, and all that follows it stay as they are.
+-- the parts between an element's dollar signs: plain parts and words in turn; the first word that
+-- means no character, or has no dollar sign after it, stays as it is, with all that follows it
 abbrev pub parts_text : List (List ℕ) → List ℕ
 parts_text [] = []
 parts_text (plain ∷ []) = dots_as_colons plain
@@ -92,13 +92,13 @@ parts_text (plain ∷ word ∷ next ∷ parts) =
     ++ character_then (character_of word) (parts_text (next ∷ parts))
     (dollar ∷ join_with_byte dollar (word ∷ next ∷ parts))
 
--- what a text after a dollar sign begins with: a word's character, and the text after the dollar
--- sign that ends the word
+-- the start of a text after a dollar sign: a word's character, and the text after the dollar sign
+-- that ends the word
 pub record Replacement : Type 0 where
   pub character : ℕ
   pub rest : List ℕ
 
--- none where no dollar sign ends the word, or the word means no character
+-- none if no dollar sign ends the word, or the word means no character
 abbrev pub first_replacement : List ℕ → Option Replacement
 first_replacement text =
     if position_or_len (λ b. b == dollar) text == length text

@@ -6,8 +6,8 @@ use Rattle.std.specs.Str.Parse.{digits_value}
 use Rattle.addr2line_demangle.specs.LegacyElements.{dollar, dot, element_text}
 use Rattle.addr2line_demangle.specs.LegacyNames.{Path, end_of_path, path_of}
 
--- a text is decimal digits, all that are there, then an element of the length that they write, and
--- a rest
+-- a text is decimal digits, as many as there are, then an element of the length that they write,
+-- and a rest
 pub record IsElementAndRest (text element rest : List ℕ) : Type 0 where
   pub digits : List ℕ
   pub split : text ≡ digits ++ (element ++ rest)
@@ -21,7 +21,7 @@ abbrev pub IsPath : List ℕ → List (List ℕ) → List ℕ → Type 0
 IsPath text [] suffix = text ≡ (end_of_path ∷ suffix)
 IsPath text (e ∷ es) suffix = (rest : List ℕ) × IsElementAndRest text e rest × IsPath rest es suffix
 
--- each such path is read as it was written
+-- each such path is read as it is written
 abbrev pub PathsAreRead : Type 0
 PathsAreRead =
     (text : List ℕ) (elements : List (List ℕ)) (suffix : List ℕ) → IsPath text elements suffix

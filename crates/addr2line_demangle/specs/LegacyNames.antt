@@ -22,7 +22,7 @@ letter_h = 0x68
 
 -- ---- before the path
 
--- the text after a prefix, where it begins with it
+-- the text after a prefix, if it begins with the prefix
 abbrev pub after_prefix : List ℕ → List ℕ → Option (List ℕ)
 after_prefix prefix text =
     if bytes_eq (take (length prefix) text) prefix then Some (drop (length prefix) text) else None
@@ -71,7 +71,7 @@ pub record Element : Type 0 where
   pub text : List ℕ
   pub rest : List ℕ
 
--- as many bytes as the length before them states, where there is a length and there are that many
+-- as many bytes as the length before them says, if there is a length and there are that many bytes
 abbrev pub first_element : List ℕ → Option Element
 first_element text =
     if nat_lt 0 (prefix_len is_ascii_digit text)
@@ -146,8 +146,8 @@ rust_text name =
 abbrev pub demangle : ℕ → List ℕ → Option (List ℕ)
 demangle language name = if language == DW_LANG_Rust.0 then rust_text name else None
 
--- the text of a name of a language, or of Rust where none is known; the name itself where it has no
--- other text
+-- the text of a name of a language, or of Rust if no language is known; the name itself if it has
+-- no other text
 abbrev pub demangle_or_name : Option ℕ → List ℕ → List ℕ
 demangle_or_name language name =
     unwrap_or (demangle (unwrap_or language DW_LANG_Rust.0) name) name

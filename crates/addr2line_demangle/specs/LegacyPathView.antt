@@ -1,4 +1,4 @@
--- A path of the code as the definitions have it.
+-- What contracts see of a path.
 use Rattle.std.specs.Prelude.{map}
 use Rattle.addr2line_demangle.specs.LegacyNames as names
 use Rattle.addr2line_demangle.specs.declared.paths.Path.{Path}

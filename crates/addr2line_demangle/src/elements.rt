@@ -77,7 +77,7 @@ fn first_replacement(text: &str) -> Option<(char, &str)>
     }
 }
 
-// The element without an underscore before a dollar sign at its start.
+// The element without an underscore at its start, if a dollar sign follows it.
 fn without_underscore(element: &str) -> &str
     ensures { result.now ≡ without_underscore element.now }
 {

@@ -2,7 +2,7 @@
 
 ghost use Rattle.addr2line_demangle.specs.LegacyNameLaws.{PathsAreRead, OnlyPathsAreRead, PlainElementsAreUnchanged};
 
-/// A path is read as it was written.
+/// A path is read as it is written.
 pub fn paths_are_read()
     ensures { PathsAreRead }
 {}

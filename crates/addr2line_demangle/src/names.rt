@@ -15,7 +15,7 @@ use gimli_core_base::{DW_LANG_Rust, DwLang};
 use std::alloc::{AllocError, Global};
 use std::borrow::CowStr;
 
-// Whether all bytes are such as the compiler's marks have.
+// Whether all bytes are among those of the compiler's marks.
 fn is_mark(text: &str) -> bool
     ensures { result ≡ is_mark text.now }
 {
@@ -135,7 +135,7 @@ fn rust_text(alloc: Global, name: &str) -> Result<Option<String>, Error>
     }
 }
 
-/// The text of a name of a language, if it has one beside the name itself. Names of Rust are read
+/// The text of a name of a language, if it has another than the name itself. Names of Rust are read
 /// in their legacy form; those of other languages (DWARF 5, 7.12) have none. The only error is out
 /// of memory.
 pub fn demangle(alloc: Global, name: &str, language: DwLang) -> Result<Option<String>, Error>
@@ -149,7 +149,7 @@ pub fn demangle(alloc: Global, name: &str, language: DwLang) -> Result<Option<St
     }
 }
 
-/// The text of a name, or the name itself where it has no other. Without a language it is read as a
+/// The text of a name, or the name itself if it has no other. Without a language it is read as a
 /// name of Rust. The only error is out of memory.
 pub fn demangle_auto<'a>(
     alloc: Global,

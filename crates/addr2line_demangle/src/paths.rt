@@ -47,7 +47,7 @@ fn first_element(text: &str) -> Option<(&str, &str)>
     }
 }
 
-/// The path that a text is, if its elements reach to its end.
+/// The path that a text is, if its elements reach its end.
 pub(crate) fn read_path(alloc: Global, text: &str) -> Result<Option<Path<'_>>, Error>
     requires { IsAscii text.now }
     ensures { ReturnsAsOrNoMemory (option_map path_view) result (Ok (path_of text.now)) }

@@ -1,5 +1,5 @@
 -- The sections of debugging information that lookups read (DWARF 5, appendix B and 7.3.2). The
--- others are taken as empty.
+-- others count as empty.
 use Rattle.std.specs.Prelude.{Bool, true, false, List, ℕ, Option, Some, None, Result, Ok, if◌then◌else◌}
 use Rattle.gimli_core_readers.specs.View.{View, prefix}
 use Rattle.gimli_core_readers.specs.SectionId.{SectionId}
@@ -46,14 +46,17 @@ is_read_split DebugStr = true
 is_read_split DebugStrOffsets = true
 is_read_split DebugTypes = false
 
+-- the bytes of a section of a main file
 abbrev pub main_section : SectionId → Image → Result View LoadError
 main_section id image =
     if is_read id then section_named (name_of id) image else Ok (prefix 0 image.file)
 
+-- the bytes of the section of a name, if there is a name
 abbrev pub named_or_empty : Option (List ℕ) → Image → Result View LoadError
 named_or_empty None image = Ok (prefix 0 image.file)
 named_or_empty (Some name) image = section_named name image
 
+-- the bytes of a section of a split file
 abbrev pub split_section : SectionId → Image → Result View LoadError
 split_section id image =
     if is_read_split id then named_or_empty (dwo_name_of id) image else Ok (prefix 0 image.file)

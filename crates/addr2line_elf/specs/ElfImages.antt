@@ -1,4 +1,4 @@
--- What an ELF file is read as (System V ABI, "ELF Header" and "Sections").
+-- The image that an ELF file is read as (System V ABI, "ELF Header" and "Sections").
 use Rattle.std.specs.Prelude.{ℕ, ◌+◌, ◌==◌, ◌^◌, ◌&&◌, ◌||◌, nat_eq, nat_lt, bit_and, Bool, true, false, List, [], ◌∷◌, codes, drop, Option, Some, None, option_map, Result, Ok, Err, if◌then◌else◌}
 use Rattle.std.specs.List.{slice_get, starts_with, position, list_any}
 use Rattle.gimli_core_readers.specs.View.{View, prefix}
@@ -66,7 +66,7 @@ abbrev pub contents_of : Option SectionHeader → View → Result View LoadError
 contents_of None file = Err Truncated
 contents_of (Some h) file = contents h file
 
--- the bytes of the section that an index names, if it names one
+-- the bytes of the section of an index; none where the index names no section
 abbrev pub linked_contents : ℕ → List SectionHeader → View → Result View LoadError
 linked_contents index sections file =
     if index == SHN_UNDEF then Ok (prefix 0 file) else contents_of (slice_get sections index) file
@@ -78,7 +78,7 @@ pub record Sections : Type 0 where
   pub headers : List SectionHeader
   pub names : View
 
--- The number of section headers, and the index of the section with their names. Where the file's
+-- The number of section headers, and the index of the section with their names. If the file's
 -- header has no room for them, they are in the first section header.
 abbrev pub section_count : FileHeader → SectionHeader → ℕ
 section_count header first = if header.count == 0 then first.size else header.count
@@ -123,7 +123,7 @@ image_in class file = do
     names = sections.names;
   })
 
--- the image that these bytes are, or why they aren't one
+-- the image of a file, or why it is refused
 abbrev pub image_of : List ℕ → Result Image LoadError
 image_of file = do
   id ← identification file
@@ -170,7 +170,7 @@ abbrev pub section_at : Option ℕ → Image → Result View LoadError
 section_at None image = Ok (prefix 0 image.file)
 section_at (Some index) image = debug_contents index (slice_get image.sections index) image
 
--- the bytes of the section of a name; none where there is no such section
+-- the bytes of the section of a name; none if there is no such section
 abbrev pub section_named : List ℕ → Image → Result View LoadError
 section_named name image = section_at (index_named name image) image
 

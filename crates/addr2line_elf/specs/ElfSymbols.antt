@@ -17,7 +17,7 @@ use Rattle.addr2line_elf.specs.ImageLoading.{read_in}
 use Rattle.addr2line_elf.specs.ElfTexts.{text_at}
 use Rattle.addr2line_elf.specs.ElfImages.{Image, contents, linked_contents}
 
--- a symbol with a name: its address, and its size in bytes, 0 where that isn't known
+-- a symbol with a name: its address, and its size in bytes, 0 if that isn't known
 pub record NamedSymbol : Type 0 where
   pub name : List ℕ
   pub address : ℕ
@@ -120,8 +120,8 @@ abbrev pub EachHolding : ℕ → (NamedSymbol → Type 0) → List NamedSymbol �
 EachHolding address P [] = Unit {0}
 EachHolding address P (t ∷ ts) = (holds address t ≡ true → P t) × EachHolding address P ts
 
--- It is one of the symbols and holds the address; those before it that do have lower addresses, and
--- those after it no higher ones.
+-- It is one of the symbols and holds the address; of the others that do, those before it have lower
+-- addresses, and those after it no higher ones.
 pub record IsFirstHighest (address : ℕ) (symbols : List NamedSymbol) (s : NamedSymbol)
     : Type 0 where
   pub before : List NamedSymbol

@@ -15,4 +15,4 @@ text_at texts offset = text_before_zero (drop offset texts)
 -- there is a text, and it is this one
 abbrev pub is_text : Option (List ℕ) → List ℕ → Bool
 is_text None text = false
-is_text (Some found) text = pointwise nat_eq found text
+is_text (Some other) text = pointwise nat_eq other text

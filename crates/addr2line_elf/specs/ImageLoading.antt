@@ -15,16 +15,16 @@ or_truncated (Err e) = Err Truncated
 abbrev pub read_in : {A : Type 0} → View → Parser A → Result A LoadError
 read_in file p = or_truncated (value_of (p file))
 
--- the given number of bytes, from an offset on
+-- a number of bytes from an offset on
 abbrev pub bytes_at : ℕ → ℕ → Parser View
 bytes_at offset size = skip offset >> truncate size >> here
 
 -- a call that reads the file's bytes, as a step of loading: an error is out of memory, or that they
 -- end too early
 abbrev pub InFile : {A : Type 0} → Result A Error → Result A LoadError → Type 0
-InFile (Ok x) made = made ≡ Ok x
-InFile (Err e) made =
-    (e ≡ debug.Memory → made ≡ Err Memory) × (e ≢ debug.Memory → made ≡ Err Truncated)
+InFile (Ok x) step = step ≡ Ok x
+InFile (Err e) step =
+    (e ≡ debug.Memory → step ≡ Err Memory) × (e ≢ debug.Memory → step ≡ Err Truncated)
 
 -- The definition's value, or its refusal, or out of memory. `see` is what a contract sees of a
 -- value.

@@ -1,4 +1,4 @@
-//! Parts of an image's bytes, and what is read of them.
+//! Parts of an image's bytes, to be read or shared.
 
 ghost use Rattle.std.specs.Prelude.{◌≡◌, Ok};
 ghost use Rattle.gimli_core_readers.specs.View.{prefix};
@@ -41,7 +41,7 @@ pub(crate) fn input_at(
     Ok(input)
 }
 
-/// That many bytes from an offset on, shared.
+/// A number of bytes from an offset on, shared.
 pub(crate) fn part_at(
     file: &EndianBytes<RunTimeEndian>,
     offset: u64,

@@ -126,7 +126,7 @@ fn read_entries(
     in_file(read_counted(alloc, table, class, count))
 }
 
-// That many entries from the start of a table.
+// A number of entries from the start of a table.
 fn read_counted(
     alloc: Global,
     table: &EndianBytes<RunTimeEndian>,
@@ -186,8 +186,8 @@ fn candidate<'a>(texts: &'a [u8], entry: &SymbolEntry, address: u64) -> Option<S
     symbol_of(texts, entry)
 }
 
-// Whether an address is among the bytes of a size from an address on; where the size is 0, these
-// are all from there on.
+// Whether an address is among the bytes of a size from `begin` on; if the size is 0, these are all
+// from there on.
 fn covers(begin: u64, size: u64, address: u64) -> bool
     ensures { result ≡ covers begin size address }
 {

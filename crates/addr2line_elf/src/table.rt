@@ -123,7 +123,7 @@ fn read_first(
     SectionHeader::parse(&mut input_at(file, offset)?, class)
 }
 
-// The given number of section headers, which begin at an offset.
+// A number of section headers, which begin at an offset.
 #[tactic(auto, using(crate::proofs::Loads::of_read))]
 fn parse_all(
     alloc: Global,
@@ -141,8 +141,8 @@ fn parse_all(
     in_file(read_all(alloc, file, class, offset, count))
 }
 
-// Whether a file has that many section headers from an offset on. Asked first, so that no memory is
-// taken for a false count.
+// Whether a file has this many section headers from an offset on. It is checked before any memory
+// is taken, so that a false count takes none.
 fn has_room(file: &EndianBytes<RunTimeEndian>, class: Class, offset: u64, count: u64) -> bool
     ensures { MatchBool result (offset + count * section_header_size class ≤ bytes_left file.now)
         (bytes_left file.now < offset + count * section_header_size class) }
@@ -219,7 +219,7 @@ pub(crate) fn contents(
     in_file(part_at(file, header.offset, header.size))
 }
 
-// No bytes, at a place of the file.
+// No bytes, at an offset of the file.
 fn no_bytes(endian: RunTimeEndian, first: u64) -> EndianBytes<RunTimeEndian>
     ensures { result ≡ record { bytes = []; is_big = is_big endian; first = first } }
 {

@@ -6,8 +6,7 @@ use Rattle.gimli_units_entries.specs.Range.{Range}
 use Rattle.gimli_units_entries.specs.EntryWalks.{Walk}
 use Rattle.gimli_units_entries.specs.EntryRows.{Row}
 use Rattle.gimli_units_entries.specs.Results.{and_then}
-use Rattle.addr2line_names.specs.DwarfSections.{Sections}
-use Rattle.addr2line_names.specs.UnitFacts.{UnitFacts}
+use Rattle.addr2line_names.specs.UnitFacts.{UnitInFile}
 use Rattle.addr2line_units.specs.EntryRanges.{ranges_of_entry}
 use Rattle.addr2line_units.specs.Functions.{is_subprogram}
 use Rattle.addr2line_units.specs.InlinedCalls.{Naming, Call, is_inlined, call_at, call_file, is_call_line, is_call_column, number_or_0, depth_count}
@@ -60,9 +59,9 @@ one_more tag e xs (Some x) = omega arith
 one_more tag e xs None = more_by e xs (is_subprogram tag) (is_inlined tag)
 
 -- the depth of a call is the one that it was made with
-depth_of : (limit : ℕ) (s : Sections) (u : UnitFacts) (naming : Naming) (depth : ℕ) (r : Row) (c : Call)
-    → call_at limit s u naming depth r ≡ Ok c → c.depth ≡ depth
-depth_of limit s u naming depth r c h = by_name (naming r.attributes) h
+depth_of : (u : UnitInFile) (naming : Naming) (depth : ℕ) (r : Row) (c : Call)
+    → call_at u naming depth r ≡ Ok c → c.depth ≡ depth
+depth_of u naming depth r c h = by_name (naming r.attributes) h
   where
     by_ranges : (name : Option View) (file : Option ℕ) (line column : ℕ) (x : Result (List Range) Error)
         → and_then x
@@ -95,7 +94,7 @@ depth_of limit s u naming depth r c h = by_name (naming r.attributes) h
 
     by_name : (x : Result (Option View) Error)
         → and_then x
-        (λ name. and_then (ranges_of_entry limit s u r.attributes)
+        (λ name. and_then (ranges_of_entry u r.attributes)
         (λ rs. Ok
         (record {
           depth =
@@ -107,15 +106,15 @@ depth_of limit s u naming depth r c h = by_name (naming r.attributes) h
           name =
               name;
           file =
-              call_file u.header.encoding.version r.attributes;
+              call_file u.facts.header.encoding.version r.attributes;
           line =
               number_or_0 is_call_line r.attributes;
           column = number_or_0 is_call_column r.attributes;
         }))) ≡ Ok c
         → c.depth ≡ depth
     by_name (Ok name) k =
-        by_ranges name (call_file u.header.encoding.version r.attributes) (number_or_0 is_call_line r.attributes)
-        (number_or_0 is_call_column r.attributes) (ranges_of_entry limit s u r.attributes) k
+        by_ranges name (call_file u.facts.header.encoding.version r.attributes) (number_or_0 is_call_line r.attributes)
+        (number_or_0 is_call_column r.attributes) (ranges_of_entry u r.attributes) k
     by_name (Err e) k = absurd cc
 
 abbrev ok_number : Option Call → Result (Option Call) Error
@@ -124,19 +123,19 @@ ok_number o = Ok o
 abbrev none : Result (Option Call) Error
 none = Ok None
 
-module _ (limit : ℕ) (s : Sections) (u : UnitFacts) (naming : Naming) where
-  call_if_ok : (r : Row) (n : ℕ) (b : Bool) (c : Option Call) → call_if limit s u naming r (cond b (Some n) None) ≡ Ok c
+module _ (limit : ℕ) (u : UnitInFile) (naming : Naming) where
+  call_if_ok : (r : Row) (n : ℕ) (b : Bool) (c : Option Call) → call_if u naming r (cond b (Some n) None) ≡ Ok c
       → ((b ≡ false) × (c ≡ None)) ⊎ ((x : Call) × (c ≡ Some x) × (x.depth ≡ n))
   call_if_ok r n false c h = inl (refl, is_none_of c h)
     where
       is_none_of : (o : Option Call) → none ≡ ok_number o → o ≡ None
       is_none_of None k = refl
       is_none_of (Some x) k = absurd cc
-  call_if_ok r n true c h = inr (by (call_at limit s u naming n r) refl h)
+  call_if_ok r n true c h = inr (by (call_at u naming n r) refl h)
     where
-      by : (x : Result Call Error) → call_at limit s u naming n r ≡ x → and_then x (λ y. Ok (Some y)) ≡ ok_number c
+      by : (x : Result Call Error) → call_at u naming n r ≡ x → and_then x (λ y. Ok (Some y)) ≡ ok_number c
           → (y : Call) × (c ≡ Some y) × (y.depth ≡ n)
-      by (Ok y) is k = let same : c ≡ Some y = cc in (y, same, depth_of limit s u naming n r y is)
+      by (Ok y) is k = let same : c ≡ Some y = cc in (y, same, depth_of u naming n r y is)
       by (Err e) is k = absurd cc
 
   few_of : (cs : List Call) (o p : Nesting) (xs : List ℤ) (nested : Option ℤ) (tag : ℕ) (e : ℤ) (c : Option Call)
@@ -162,7 +161,7 @@ module _ (limit : ℕ) (s : Sections) (u : UnitFacts) (naming : Naming) where
       subst P (sym h.1) (record { stands = omega arith; deep = omega arith })
 
   pub few_more : (w t : Walk) (o p : Nesting) (c : Option Call) (cs : List Call) → AreFew o cs
-      → HasEntry limit s u naming w t o p c → AreFew p (cs ++ option_to_list c)
+      → HasEntry limit u naming w t o p c → AreFew p (cs ++ option_to_list c)
   few_more w t o p c cs few h =
       let d = leave w.depth o in
       few_of cs o p d.calls d.nested h.row.tag h.row.depth c few (shallower_few w.depth o.calls) h.leads_to

@@ -12,8 +12,7 @@ use Rattle.gimli_units_entries.specs.EntryWalks.{Walk}
 use Rattle.gimli_units_entries.specs.EntryRows.{Row, row_choosing}
 use Rattle.gimli_units_entries.proofs.RowParts.{row-parts, row-takes}
 use Rattle.gimli_units_entries.specs.Results.{and_then, unless, each}
-use Rattle.addr2line_names.specs.DwarfSections.{Sections}
-use Rattle.addr2line_names.specs.UnitFacts.{UnitFacts}
+use Rattle.addr2line_names.specs.UnitFacts.{UnitInFile}
 use Rattle.addr2line_units.specs.InlinedCalls.{FunctionWalk, NestedEntry, Naming, Call, enclosing_rows, is_inlined, is_nested, is_call_in, is_call, calls_above, entry_of_row, entry_below, entries_below, entries_of, call_at, call_of, calls_among}
 use Rattle.addr2line_units.proofs.EntryLevels.{leads, lt_from, not_lt_from, lt_is, not_lt_is}
 use Rattle.addr2line_functions.specs.CallNesting.{Nesting, CallWalk, leave, inside_of, enter, is_call_where, call_depth, call_if, call_and_walk, next_call_in, next_call, calls_from}
@@ -29,7 +28,7 @@ refusal e = Err e
 -- ---- the entries below a function
 
 abbrev size : FunctionWalk → ℕ
-size i = bytes_left i.walk.left
+size i = bytes_left i.walk.rest
 
 outer_of : FunctionWalk → List Row
 outer_of i = enclosing_rows i.walk.depth i.before
@@ -143,39 +142,39 @@ read-first : (fault : Option Error) (r : Result Call Error) (rest : Result (List
 read-first fault (Ok c) rest = call-first fault c rest
 read-first fault (Err e) rest = refl
 
-module _ (limit : ℕ) (s : Sections) (u : UnitFacts) (naming : Naming) where
+module _ (limit : ℕ) (u : UnitInFile) (naming : Naming) where
   -- the call of an entry, if it is one
   abbrev call_in : NestedEntry → Result (Option Call) Error
-  call_in b = cond (is_call b) (and_then (call_of limit s u naming b) (λ c. Ok (Some c))) (Ok None)
+  call_in b = cond (is_call b) (and_then (call_of u naming b) (λ c. Ok (Some c))) (Ok None)
 
   by_test : (fault : Option Error) (b : NestedEntry) (bs : List NestedEntry) (t : Bool)
-      → unless_fault fault (each (call_of limit s u naming) (cond t (b ∷ bs) bs))
-      ≡ after_entry (cond t (and_then (call_of limit s u naming b) (λ c. Ok (Some c))) (Ok None))
-      (unless_fault fault (each (call_of limit s u naming) bs))
-  by_test fault b bs true = read-first fault (call_of limit s u naming b) (each (call_of limit s u naming) bs)
-  by_test fault b bs false = sym (calls_then-none (unless_fault fault (each (call_of limit s u naming) bs)))
+      → unless_fault fault (each (call_of u naming) (cond t (b ∷ bs) bs))
+      ≡ after_entry (cond t (and_then (call_of u naming b) (λ c. Ok (Some c))) (Ok None))
+      (unless_fault fault (each (call_of u naming) bs))
+  by_test fault b bs true = read-first fault (call_of u naming b) (each (call_of u naming) bs)
+  by_test fault b bs false = sym (calls_then-none (unless_fault fault (each (call_of u naming) bs)))
 
   among-first : (b : NestedEntry) (l : Listing FunctionWalk NestedEntry)
-      → calls_among limit s u naming (prepend (b ∷ []) l) ≡ after_entry (call_in b) (calls_among limit s u naming l)
+      → calls_among u naming (prepend (b ∷ []) l) ≡ after_entry (call_in b) (calls_among u naming l)
   among-first b l = by_test (fault_of l) b (filter is_call l.items) (is_call b)
 
   -- ---- the nesting shows which entries are calls, and how deep they are
 
   depth_by : (r : Row) (outer : List Row) (n : ℕ) (b c : Bool) → is_nested outer ≡ b
       → (is_nested outer ≡ false → n ≡ calls_above outer)
-      → call_if limit s u naming r (cond (not b && c) (Some n) None)
-      ≡ cond (not b && c) (and_then (call_at limit s u naming (calls_above outer) r) (λ x. Ok (Some x))) (Ok None)
+      → call_if u naming r (cond (not b && c) (Some n) None)
+      ≡ cond (not b && c) (and_then (call_at u naming (calls_above outer) r) (λ x. Ok (Some x))) (Ok None)
   depth_by r outer n true c is count = refl
   depth_by r outer n false true is count =
-      ap (λ k. and_then (call_at limit s u naming k r) (λ x. Ok (Some x))) (count is)
+      ap (λ k. and_then (call_at u naming k r) (λ x. Ok (Some x))) (count is)
   depth_by r outer n false false is count = refl
 
   -- the call of an entry by the nesting
   call_by_nesting : (r : Row) (outer : List Row) (o : Nesting) → o ≡ opens outer
-      → call_if limit s u naming r (call_depth o r.tag) ≡ call_in (record { row = r; outer = outer })
+      → call_if u naming r (call_depth o r.tag) ≡ call_in (record { row = r; outer = outer })
   call_by_nesting r outer o is =
-      ap (λ x. call_if limit s u naming r (call_depth x r.tag)) is
-      ∙ ap (λ b. call_if limit s u naming r (cond (b && is_inlined r.tag) (Some (length (opens outer).calls)) None))
+      ap (λ x. call_if u naming r (call_depth x r.tag)) is
+      ∙ ap (λ b. call_if u naming r (cond (b && is_inlined r.tag) (Some (length (opens outer).calls)) None))
       (none_nested outer)
       ∙ depth_by r outer (length (opens outer).calls) (is_nested outer) (is_inlined r.tag) refl (count_calls outer)
 
@@ -196,21 +195,21 @@ module _ (limit : ℕ) (s : Sections) (u : UnitFacts) (naming : Naming) where
   pub record HasEntry (w t : Walk) (o p : Nesting) (c : Option Call) : Type 0 where
     pub row : Row
     pub read : row_choosing limit (is_call_where (leave w.depth o)) w ≡ Ok (row, t)
-    pub called : call_if limit s u naming row (call_depth (leave w.depth o) row.tag) ≡ Ok c
+    pub called : call_if u naming row (call_depth (leave w.depth o) row.tag) ≡ Ok c
     pub leads_to : inside_of row.tag row.depth (leave w.depth o) ≡ p
 
   row_is : {A : Type 0} (x y : A) → ok_of x ≡ Ok y → x ≡ y
   row_is x y h = cc
 
   pub entry_parts : (w t : Walk) (o p : Nesting) (c : Option Call)
-      → next_call limit s u naming (record { walk = w; nesting = o }) ≡ Ok (c, record { walk = t; nesting = p })
+      → next_call limit u naming (record { walk = w; nesting = o }) ≡ Ok (c, record { walk = t; nesting = p })
       → HasEntry w t o p c
   entry_parts w t o p c h =
       let d = leave w.depth o in
-      let b = and_parts (row_choosing limit (is_call_where d) w) (λ x. call_and_walk limit s u naming d x.0 x.1)
+      let b = and_parts (row_choosing limit (is_call_where d) w) (λ x. call_and_walk u naming d x.0 x.1)
       (c, record { walk = t; nesting = p }) h in
       let r = b.0.0 in
-      let q = and_parts (call_if limit s u naming r (call_depth d r.tag))
+      let q = and_parts (call_if u naming r (call_depth d r.tag))
       (λ x. Ok (x, record { walk = b.0.1; nesting = inside_of r.tag r.depth d }))
       (c, record { walk = t; nesting = p }) b.2 in
       let there : CallWalk = record { walk = b.0.1; nesting = inside_of r.tag r.depth d } in
@@ -231,8 +230,8 @@ module _ (limit : ℕ) (s : Sections) (u : UnitFacts) (naming : Naming) where
       → pos 0 <ℤ w.depth → Matches before w.depth o → (h : HasEntry w t o p c)
       → Matches (h.row ∷ before) t.depth p
       × (calls_then (xs ++ option_to_list c)
-      (calls_from limit s u naming (record { walk = t; before = h.row ∷ before }))
-      ≡ calls_then xs (calls_from limit s u naming (record { walk = w; before = before })))
+      (calls_from limit u naming (record { walk = t; before = h.row ∷ before }))
+      ≡ calls_then xs (calls_from limit u naming (record { walk = w; before = before })))
   calls-more xs before w t o p c some same h =
       let outer = enclosing_rows w.depth before in
       let here : leave w.depth o ≡ opens outer = same w.depth (omega (arith, ints)) in
@@ -240,17 +239,17 @@ module _ (limit : ℕ) (s : Sections) (u : UnitFacts) (naming : Naming) where
       let read : row_choosing limit (is_call_in outer) w ≡ Ok (h.row, t) =
       sym (row_by_nesting w outer (leave w.depth o) here) ∙ h.read in
       let P : Nesting → Type 0 = Matches (h.row ∷ before) t.depth in
-      let rest = calls_from limit s u naming (record { walk = t; before = h.row ∷ before }) in (
+      let rest = calls_from limit u naming (record { walk = t; before = h.row ∷ before }) in (
         subst P h.leads_to (matches_after w t h.row before o (leads limit (is_call_in outer) w t h.row read) same),
         sym (calls_then-both xs (option_to_list c) rest)
-            ∙ ap (calls_then xs) (sym (ap (calls_among limit s u naming) (entries-next limit i h.row t some read)
+            ∙ ap (calls_then xs) (sym (ap (calls_among u naming) (entries-next limit i h.row t some read)
             ∙ among-first (below_of i h.row) (entries_below limit (walk_after i h.row t))
             ∙ ap (λ r. after_entry r rest) (sym (call_by_nesting h.row outer (leave w.depth o) here) ∙ h.called))),
       )
 
   -- each entry takes bytes
   pub call-takes : (w t : Walk) (o p : Nesting) (c : Option Call) → HasEntry w t o p c
-      → bytes_left t.left < bytes_left w.left
+      → bytes_left t.rest < bytes_left w.rest
   call-takes w t o p c h =
       row-takes limit (is_call_where (leave w.depth o)) w t h.row
       (row-parts limit (is_call_where (leave w.depth o)) w t h.row h.read)
@@ -258,17 +257,17 @@ module _ (limit : ℕ) (s : Sections) (u : UnitFacts) (naming : Naming) where
   error_by : (i : FunctionWalk) (o : Nesting) (e : Error) (x : Result (Row × Walk) Error) → pos 0 <ℤ i.walk.depth
       → o ≡ opens (enclosing_rows i.walk.depth i.before)
       → row_choosing limit (is_call_in (enclosing_rows i.walk.depth i.before)) i.walk ≡ x
-      → and_then x (λ y. call_and_walk limit s u naming o y.0 y.1) ≡ Err e → calls_from limit s u naming i ≡ Err e
+      → and_then x (λ y. call_and_walk u naming o y.0 y.1) ≡ Err e → calls_from limit u naming i ≡ Err e
   error_by i o e (Err d) some here is h =
       let same : d ≡ e =
-      cc in ap (calls_among limit s u naming) (entries-fault limit i d some is) ∙ ap (λ x. refusal x) same
+      cc in ap (calls_among u naming) (entries-fault limit i d some is) ∙ ap (λ x. refusal x) same
   error_by i o e (Ok r) some here is h =
       let c : call_in (below_of i r.0) ≡ Err e =
       sym (call_by_nesting r.0 (enclosing_rows i.walk.depth i.before) o here)
-      ∙ err_of (call_if limit s u naming r.0 (call_depth o r.0.tag)) h in
-      ap (calls_among limit s u naming) (entries-next limit i r.0 r.1 some is)
+      ∙ err_of (call_if u naming r.0 (call_depth o r.0.tag)) h in
+      ap (calls_among u naming) (entries-next limit i r.0 r.1 some is)
       ∙ among-first (below_of i r.0) (entries_below limit (walk_after i r.0 r.1))
-      ∙ ap (λ x. after_entry x (calls_from limit s u naming (walk_after i r.0 r.1))) c
+      ∙ ap (λ x. after_entry x (calls_from limit u naming (walk_after i r.0 r.1))) c
     where
       there : Option Call → Result (Option Call × CallWalk) Error
       there c = Ok (c, record { walk = r.1; nesting = inside_of r.0.tag r.0.depth o })
@@ -280,48 +279,48 @@ module _ (limit : ℕ) (s : Sections) (u : UnitFacts) (naming : Naming) where
   -- an entry that can't be read is the error of all
   pub calls-refused : (xs : List Call) (before : List Row) (w : Walk) (o : Nesting) (e : Error) → pos 0 <ℤ w.depth
       → Matches before w.depth o
-      → next_call limit s u naming (record { walk = w; nesting = o }) ≡ Err e
-      → calls_then xs (calls_from limit s u naming (record { walk = w; before = before })) ≡ Err e
+      → next_call limit u naming (record { walk = w; nesting = o }) ≡ Err e
+      → calls_then xs (calls_from limit u naming (record { walk = w; before = before })) ≡ Err e
   calls-refused xs before w o e some same h =
       let i : FunctionWalk = record { walk = w; before = before } in
       let here : leave w.depth o ≡ opens (enclosing_rows w.depth before) = same w.depth (omega (arith, ints)) in
       ap (calls_then xs)
       (error_by i (leave w.depth o) e
       (row_choosing limit (is_call_in (enclosing_rows w.depth before)) w) some here refl
-      (ap (λ x. and_then x (λ y. call_and_walk limit s u naming (leave w.depth o) y.0 y.1))
+      (ap (λ x. and_then x (λ y. call_and_walk u naming (leave w.depth o) y.0 y.1))
       (sym (row_by_nesting w (enclosing_rows w.depth before) (leave w.depth o) here)) ∙ h))
 
   -- at the function's own level there are no more
   pub calls-end : (xs : List Call) (before : List Row) (w : Walk) → w.depth ≤ℤ pos 0
-      → calls_then xs (calls_from limit s u naming (record { walk = w; before = before })) ≡ Ok xs
+      → calls_then xs (calls_from limit u naming (record { walk = w; before = before })) ≡ Ok xs
   calls-end xs before w low =
-      ap (λ l. calls_then xs (calls_among limit s u naming l))
+      ap (λ l. calls_then xs (calls_among u naming l))
       (entries-end limit (record { walk = w; before = before }) low) ∙ ap ok_of (append-nil xs)
 
   -- before the first entry
   pub calls-start : (xs : List Call) (w : Walk) → xs ≡ []
-      → calls_then xs (calls_from limit s u naming (record { walk = w; before = [] }))
-      ≡ calls_among limit s u naming (entries_of limit w)
+      → calls_then xs (calls_from limit u naming (record { walk = w; before = [] }))
+      ≡ calls_among u naming (entries_of limit w)
   calls-start xs w none =
-      ap (λ l. calls_then l (calls_from limit s u naming (record { walk = w; before = [] }))) none
-      ∙ calls_then-none (calls_from limit s u naming (record { walk = w; before = [] }))
+      ap (λ l. calls_then l (calls_from limit u naming (record { walk = w; before = [] }))) none
+      ∙ calls_then-none (calls_from limit u naming (record { walk = w; before = [] }))
 
   -- ---- the calls that read an entry
 
   pub call_of_entry : (w : Walk) (o now : Nesting) (depth : ℤ) (chosen : ℕ → Bool) (x : Result (Row × Walk) Error)
       → depth ≡ w.depth → now ≡ leave depth o → chosen ≡ is_call_where now
       → row_choosing limit chosen w ≡ x
-      → next_call limit s u naming (record { walk = w; nesting = o })
-      ≡ and_then x (λ r. call_and_walk limit s u naming now r.0 r.1)
+      → next_call limit u naming (record { walk = w; nesting = o })
+      ≡ and_then x (λ r. call_and_walk u naming now r.0 r.1)
   call_of_entry w o now depth chosen x at is by read =
-      ap (next_call_in limit s u naming w) (ap (λ d. leave d o) (sym at) ∙ sym is)
-      ∙ ap (λ r. and_then r (λ y. call_and_walk limit s u naming now y.0 y.1))
+      ap (next_call_in limit u naming w) (ap (λ d. leave d o) (sym at) ∙ sym is)
+      ∙ ap (λ r. and_then r (λ y. call_and_walk u naming now y.0 y.1))
       (ap (λ p. row_choosing limit p w) (sym by) ∙ read)
 
   pub entry_of_call : (r : Row) (t : Walk) (now next : Nesting) (depth : Option ℕ)
       → enter r.tag r.depth now ≡ Ok (depth, next)
-      → call_and_walk limit s u naming now r t
-      ≡ and_then (call_if limit s u naming r depth) (λ c. Ok (c, record { walk = t; nesting = next }))
+      → call_and_walk u naming now r t
+      ≡ and_then (call_if u naming r depth) (λ c. Ok (c, record { walk = t; nesting = next }))
   entry_of_call r t now next depth h =
       let counts : call_depth now r.tag ≡ depth =
       value_is (call_depth now r.tag) depth (inside_of r.tag r.depth now) next h in
@@ -333,7 +332,7 @@ module _ (limit : ℕ) (s : Sections) (u : UnitFacts) (naming : Naming) where
       there n c = Ok (c, record { walk = t; nesting = n })
 
       behind_with : Nesting → Option ℕ → Result (Option Call × CallWalk) Error
-      behind_with n o = and_then (call_if limit s u naming r o) (there n)
+      behind_with n o = and_then (call_if u naming r o) (there n)
 
 -- a result, with a value beside it
 pub returns_with :

@@ -13,8 +13,7 @@ use Rattle.gimli_units_entries.specs.UnitEntries.{walk_before}
 use Rattle.gimli_units_entries.proofs.RowParts.{row-parts, row-takes}
 use Rattle.gimli_units_entries.proofs.RowSteps.{rows-next, rows-fault, rows-end}
 use Rattle.gimli_units_entries.specs.Results.{and_then, unless, each}
-use Rattle.addr2line_names.specs.DwarfSections.{Sections}
-use Rattle.addr2line_names.specs.UnitFacts.{UnitFacts}
+use Rattle.addr2line_names.specs.UnitFacts.{UnitInFile}
 use Rattle.addr2line_units.specs.Functions.{Function, is_subprogram, has_range, function_of, functions_of_rows, functions_of_unit}
 use Rattle.addr2line_functions.specs.NextFunctions.{if_has_range, function_of_row, next_function, functions_from}
 
@@ -68,24 +67,24 @@ read-first : (fault : Option Error) (r : Result Function Error) (rest : Result (
 read-first fault (Ok f) rest = function-first fault f rest
 read-first fault (Err e) rest = refl
 
-module _ (limit : ℕ) (s : Sections) (u : UnitFacts) where
+module _ (limit : ℕ) (u : UnitInFile) where
   by_tag : (fault : Option Error) (r : Row) (rs : List Row) (b : Bool)
-      → unless_fault_with_range fault (each (function_of limit s u) (cond b (r ∷ rs) rs))
-      ≡ after_row (cond b (and_then (function_of limit s u r) (λ f. Ok (if_has_range f))) (Ok None))
-      (unless_fault_with_range fault (each (function_of limit s u) rs))
-  by_tag fault r rs true = read-first fault (function_of limit s u r) (each (function_of limit s u) rs)
-  by_tag fault r rs false = sym (functions_then-none (unless_fault_with_range fault (each (function_of limit s u) rs)))
+      → unless_fault_with_range fault (each (function_of u) (cond b (r ∷ rs) rs))
+      ≡ after_row (cond b (and_then (function_of u r) (λ f. Ok (if_has_range f))) (Ok None))
+      (unless_fault_with_range fault (each (function_of u) rs))
+  by_tag fault r rs true = read-first fault (function_of u r) (each (function_of u) rs)
+  by_tag fault r rs false = sym (functions_then-none (unless_fault_with_range fault (each (function_of u) rs)))
 
   row-first : (r : Row) (l : Listing Walk Row)
-      → functions_of_rows limit s u (prepend (r ∷ []) l)
-      ≡ after_row (function_of_row limit s u r) (functions_of_rows limit s u l)
+      → functions_of_rows u (prepend (r ∷ []) l)
+      ≡ after_row (function_of_row u r) (functions_of_rows u l)
   row-first r l = by_tag (fault_of l) r (filter (λ (x : Row). is_subprogram x.tag) l.items) (is_subprogram r.tag)
 
   -- the functions from a row on
   from-next : (w t : Walk) (r : Row) → row_choosing limit is_subprogram w ≡ Ok (r, t)
-      → functions_from limit s u w ≡ after_row (function_of_row limit s u r) (functions_from limit s u t)
+      → functions_from limit u w ≡ after_row (function_of_row u r) (functions_from limit u t)
   from-next w t r h =
-      ap (functions_of_rows limit s u) (rows-next limit is_subprogram w t r h)
+      ap (functions_of_rows u) (rows-next limit is_subprogram w t r h)
       ∙ row-first r (rows limit is_subprogram t)
 
   -- the function of a row, where it is read
@@ -102,62 +101,63 @@ module _ (limit : ℕ) (s : Sections) (u : UnitFacts) where
       refusal x = Err x
 
   -- after an entry, the functions so far with those to come are the same
-  pub functions-more : (xs : List Function) (w t : Walk) (o : Option Function) → next_function limit s u w ≡ Ok (o, t)
-      → functions_then (xs ++ option_to_list o) (functions_from limit s u t)
-      ≡ functions_then xs (functions_from limit s u w)
+  pub functions-more : (xs : List Function) (w t : Walk) (o : Option Function) → next_function limit u w ≡ Ok (o, t)
+      → functions_then (xs ++ option_to_list o) (functions_from limit u t)
+      ≡ functions_then xs (functions_from limit u w)
   functions-more xs w t o h =
-      let b = begins (row_choosing limit is_subprogram w) (λ r. lift (function_of_row limit s u r)) o t h in
-      let is = ok_of_lift (function_of_row limit s u b.0) b.1 t o b.3 in
-      sym (functions_then-both xs (option_to_list o) (functions_from limit s u t))
+      let b = begins (row_choosing limit is_subprogram w) (λ r. lift (function_of_row u r)) o t h in
+      let is = ok_of_lift (function_of_row u b.0) b.1 t o b.3 in
+      sym (functions_then-both xs (option_to_list o) (functions_from limit u t))
       ∙ ap (functions_then xs)
-      (sym (from-next w b.1 b.0 b.2 ∙ ap (λ r. after_row r (functions_from limit s u b.1)) is.0
-      ∙ ap (λ v. functions_then (option_to_list o) (functions_from limit s u v)) is.1))
+      (sym (from-next w b.1 b.0 b.2 ∙ ap (λ r. after_row r (functions_from limit u b.1)) is.0
+      ∙ ap (λ v. functions_then (option_to_list o) (functions_from limit u v)) is.1))
 
   -- each entry takes bytes
-  pub function-takes : (w t : Walk) (o : Option Function) → next_function limit s u w ≡ Ok (o, t)
-      → bytes_left t.left < bytes_left w.left
+  pub function-takes : (w t : Walk) (o : Option Function) → next_function limit u w ≡ Ok (o, t)
+      → bytes_left t.rest < bytes_left w.rest
   function-takes w t o h =
-      let b = begins (row_choosing limit is_subprogram w) (λ r. lift (function_of_row limit s u r)) o t h in
-      let is = ok_of_lift (function_of_row limit s u b.0) b.1 t o b.3 in
+      let b = begins (row_choosing limit is_subprogram w) (λ r. lift (function_of_row u r)) o t h in
+      let is = ok_of_lift (function_of_row u b.0) b.1 t o b.3 in
       let takes = row-takes limit is_subprogram w b.1 b.0 (row-parts limit is_subprogram w b.1 b.0 b.2) in
       rw is.1 at takes
 
   -- an entry that can't be read is the error of all
-  pub functions-refused : (xs : List Function) (w : Walk) (e : Error) → 0 < bytes_left w.left
-      → next_function limit s u w ≡ Err e → functions_then xs (functions_from limit s u w) ≡ Err e
+  pub functions-refused : (xs : List Function) (w : Walk) (e : Error) → 0 < bytes_left w.rest
+      → next_function limit u w ≡ Err e → functions_then xs (functions_from limit u w) ≡ Err e
   functions-refused xs w e some h = by (row_choosing limit is_subprogram w) refl h
     where
       by : (r : Result (Row × Walk) Error) → row_choosing limit is_subprogram w ≡ r
-          → proceed r (λ x. lift (function_of_row limit s u x)) ≡ Err e
-          → functions_then xs (functions_from limit s u w) ≡ Err e
+          → proceed r (λ x. lift (function_of_row u x)) ≡ Err e
+          → functions_then xs (functions_from limit u w) ≡ Err e
       by (Ok r) is h =
           ap (functions_then xs)
           (from-next w r.1 r.0 is
-          ∙ ap (λ o. after_row o (functions_from limit s u r.1))
-          (error_of_lift (function_of_row limit s u r.0) r.1 e h))
+          ∙ ap (λ o. after_row o (functions_from limit u r.1))
+          (error_of_lift (function_of_row u r.0) r.1 e h))
       by (Err d) is h =
           let same : d ≡ e = cc in
-          ap (λ l. functions_then xs (functions_of_rows limit s u l)) (rows-fault limit is_subprogram w d some is)
+          ap (λ l. functions_then xs (functions_of_rows u l)) (rows-fault limit is_subprogram w d some is)
           ∙ ap (λ x. refusal x) same
         where
           refusal : Error → Result (List Function) Error
           refusal x = Err x
 
   -- at the end there are no more
-  pub functions-end : (xs : List Function) (w : Walk) → bytes_left w.left ≡ 0
-      → functions_then xs (functions_from limit s u w) ≡ Ok xs
+  pub functions-end : (xs : List Function) (w : Walk) → bytes_left w.rest ≡ 0
+      → functions_then xs (functions_from limit u w) ≡ Ok xs
   functions-end xs w h =
-      ap (λ l. functions_then xs (functions_of_rows limit s u l)) (rows-end limit is_subprogram w h)
+      ap (λ l. functions_then xs (functions_of_rows u l)) (rows-end limit is_subprogram w h)
       ∙ ap ok_of (append-nil xs)
 
   -- before the first entry
-  pub functions-start : (xs : List Function) (w : Walk) → xs ≡ []
-      → ok_of (walk_before u.header u.table u.header.entries) ≡ Ok w
-      → functions_then xs (functions_from limit s u w) ≡ functions_of_unit limit s u
-  functions-start xs w none h =
-      let same : walk_before u.header u.table u.header.entries ≡ w = cc in
-      ap (λ l. functions_then l (functions_from limit s u w)) none ∙ functions_then-none (functions_from limit s u w)
-      ∙ ap (functions_from limit s u) (sym same)
+  pub functions-start : (xs : List Function) (w : Walk) → u.file.offset_limit ≡ limit → xs ≡ []
+      → ok_of (walk_before u.facts.header u.facts.table u.facts.header.entries) ≡ Ok w
+      → functions_then xs (functions_from limit u w) ≡ functions_of_unit u
+  functions-start xs w same_limit none h =
+      let same : walk_before u.facts.header u.facts.table u.facts.header.entries ≡ w = cc in
+      ap (λ l. functions_then l (functions_from limit u w)) none ∙ functions_then-none (functions_from limit u w)
+      ∙ ap (functions_from limit u) (sym same)
+      ∙ ap (λ n. functions_from n u (walk_before u.facts.header u.facts.table u.facts.header.entries)) (sym same_limit)
 
 -- whether bytes are left
 pub some_left : (n : ℕ) (b : Bool) → b ≡ (n == 0) → b ≡ false → 0 < n

@@ -10,39 +10,51 @@ use Rattle.gimli_units_entries.specs.EntryWalks.{Walk}
 use Rattle.gimli_units_entries.specs.EntryRows.{Row, row, present_row}
 use Rattle.gimli_units_entries.specs.UnitEntries.{walk_from}
 use Rattle.gimli_units_entries.specs.Results.{and_then}
-use Rattle.addr2line_names.specs.DwarfSections.{Sections}
-use Rattle.addr2line_names.specs.UnitFacts.{UnitFacts}
-use Rattle.addr2line_units.specs.InlinedCalls.{Naming, FunctionCalls, calls_among, entries_of, function_calls, calls_of_row, calls_of_function}
+use Rattle.addr2line_names.specs.UnitFacts.{UnitInFile}
+use Rattle.addr2line_units.specs.InlinedCalls.{Naming, Call, FunctionCalls, calls_among, entries_of, function_calls, calls_of_row, calls_of_function}
 
-module _ (limit : ℕ) (s : Sections) (u : UnitFacts) (naming : Naming) where
+module _ (limit : ℕ) (u : UnitInFile) (same_limit : u.file.offset_limit ≡ limit) (naming : Naming) where
   -- a function of a name
-  abbrev function_of_name : Walk → Option View → Result FunctionCalls Error
-  function_of_name w name =
-      and_then (calls_among limit s u naming (entries_of limit w)) (λ calls. Ok (record { name = name; calls = calls }))
+  abbrev function_of_name : ℕ → Walk → Option View → Result FunctionCalls Error
+  function_of_name n w name =
+      and_then (calls_among u naming (entries_of n w)) (λ calls. Ok (record { name = name; calls = calls }))
 
   with_name : (r : Row) (w : Walk) (attributes : List RawAttribute) (x : Result (Option View) Error)
       → attributes ≡ r.attributes → naming attributes ≡ x
-      → function_calls limit s u naming r w ≡ and_then x (function_of_name w)
-  with_name r w attributes x same h = ap (λ y. and_then y (function_of_name w)) (ap naming (sym same) ∙ h)
+      → function_calls u naming r w ≡ and_then x (function_of_name limit w)
+  with_name r w attributes x same h =
+      ap (λ y. and_then y (function_of_name u.file.offset_limit w)) (ap naming (sym same) ∙ h)
+      ∙ ap (λ n. and_then x (function_of_name n w)) same_limit
 
   pub name_refused : (r : Row) (w : Walk) (attributes : List RawAttribute) (e : Error) → attributes ≡ r.attributes
-      → naming attributes ≡ Err e → function_calls limit s u naming r w ≡ Err e
+      → naming attributes ≡ Err e → function_calls u naming r w ≡ Err e
   name_refused r w attributes e same h = with_name r w attributes (Err e) same h
 
   pub calls_refused : (r : Row) (w : Walk) (attributes : List RawAttribute) (name : Option View) (e : Error)
       → attributes ≡ r.attributes → naming attributes ≡ Ok name
-      → calls_among limit s u naming (entries_of limit w) ≡ Err e → function_calls limit s u naming r w ≡ Err e
+      → calls_among u naming (entries_of limit w) ≡ Err e → function_calls u naming r w ≡ Err e
   calls_refused r w attributes name e same h k =
       with_name r w attributes (Ok name) same h
       ∙ ap (λ y. and_then y (λ calls. Ok (record { name = name; calls = calls }))) k
 
+  pub calls_read : (r : Row) (w : Walk) (attributes : List RawAttribute) (name : Option View) (calls : List Call)
+      → attributes ≡ r.attributes → naming attributes ≡ Ok name
+      → calls_among u naming (entries_of limit w) ≡ Ok calls
+      → function_calls u naming r w ≡ Ok (record { name = name; calls = calls })
+  calls_read r w attributes name calls same h k =
+      with_name r w attributes (Ok name) same h
+      ∙ ap (λ y. and_then y (λ cs. Ok (record { name = name; calls = cs }))) k
+
   -- the entry at an offset from which a walk begins
   abbrev from_row : ℕ → Result (Row × Walk) Error → Result FunctionCalls Error
-  from_row offset x = calls_of_row limit s u naming offset x
+  from_row offset x = calls_of_row u naming offset x
 
-  from_walk : (offset : ℕ) (w : Walk) (x : Result (Row × Walk) Error) → walk_from u.header u.table (Some offset) ≡ Ok w
-      → row limit w ≡ x → calls_of_function limit s u naming offset ≡ from_row offset x
-  from_walk offset w x h k = ap (λ y. and_then y (λ v. from_row offset (row limit v))) h ∙ ap (from_row offset) k
+  from_walk : (offset : ℕ) (w : Walk) (x : Result (Row × Walk) Error)
+      → walk_from u.facts.header u.facts.table (Some offset) ≡ Ok w → row limit w ≡ x
+      → calls_of_function u naming offset ≡ from_row offset x
+  from_walk offset w x h k =
+      ap (λ y. and_then y (λ v. from_row offset (row u.file.offset_limit v))) h
+      ∙ ap (λ n. from_row offset (row n w)) same_limit ∙ ap (from_row offset) k
 
   -- a row that was read, and whether it isn't null
   abbrev not_null : Result (Row × Walk) Error → Result ((Bool × Row) × Walk) Error
@@ -55,8 +67,8 @@ module _ (limit : ℕ) (s : Sections) (u : UnitFacts) (naming : Naming) where
       refusal : Error → Result (Row × Walk) Error
       refusal x = Err x
 
-  pub entry_refused : (offset : ℕ) (w : Walk) (e : Error) → walk_from u.header u.table (Some offset) ≡ Ok w
-      → present_row limit w ≡ Err e → calls_of_function limit s u naming offset ≡ Err e
+  pub entry_refused : (offset : ℕ) (w : Walk) (e : Error) → walk_from u.facts.header u.facts.table (Some offset) ≡ Ok w
+      → present_row limit w ≡ Err e → calls_of_function u naming offset ≡ Err e
   entry_refused offset w e h k = from_walk offset w (Err e) h (not_null_error (row limit w) e k)
 
   not_null_ok : (w t : Walk) (b : Bool) (r : Row) → present_row limit w ≡ Ok ((b, r), t)
@@ -76,16 +88,16 @@ module _ (limit : ℕ) (s : Sections) (u : UnitFacts) (naming : Naming) where
   null_by : (offset : ℕ) (r : Row) (t : Walk) (b : Bool) → (r.tag == 0) ≡ b → false ≡ not b
       → from_row offset (Ok (r, t)) ≡ Err (NoEntryAtGivenOffset offset)
   null_by offset r t true is h =
-      ap (λ c. and_then (cond c (refusal offset) (Ok r)) (λ x. function_calls limit s u naming x t)) is
+      ap (λ c. and_then (cond c (refusal offset) (Ok r)) (λ x. function_calls u naming x t)) is
     where
       refusal : ℕ → Result Row Error
       refusal n = Err (NoEntryAtGivenOffset n)
   null_by offset r t false is h = absurd cc
 
   pub entry_null : (offset number : ℕ) (w t : Walk) (b : Bool) (r : Row)
-      → walk_from u.header u.table (Some offset) ≡ Ok w → present_row limit w ≡ Ok ((b, r), t) → b ≡ false
+      → walk_from u.facts.header u.facts.table (Some offset) ≡ Ok w → present_row limit w ≡ Ok ((b, r), t) → b ≡ false
       → number ≡ offset
-      → calls_of_function limit s u naming offset ≡ Err (NoEntryAtGivenOffset number)
+      → calls_of_function u naming offset ≡ Err (NoEntryAtGivenOffset number)
   entry_null offset number w t b r h k is same =
       let p = not_null_ok w t b r k in
       from_walk offset w (Ok (r, t)) h p.0 ∙ null_by offset r t (r.tag == 0) refl (sym is ∙ p.1)
@@ -95,18 +107,18 @@ module _ (limit : ℕ) (s : Sections) (u : UnitFacts) (naming : Naming) where
       refusal n = Err (NoEntryAtGivenOffset n)
 
   entry_by : (offset : ℕ) (r : Row) (t : Walk) (b : Bool) → (r.tag == 0) ≡ b → true ≡ not b
-      → from_row offset (Ok (r, t)) ≡ function_calls limit s u naming r t
+      → from_row offset (Ok (r, t)) ≡ function_calls u naming r t
   entry_by offset r t true is h = absurd cc
   entry_by offset r t false is h =
       ap (λ c. and_then (cond c (Err (NoEntryAtGivenOffset offset)) (here r))
-      (λ x. function_calls limit s u naming x t)) is
+      (λ x. function_calls u naming x t)) is
     where
       here : Row → Result Row Error
       here x = Ok x
 
-  pub entry_is_there : (offset : ℕ) (w t : Walk) (b : Bool) (r : Row) → walk_from u.header u.table (Some offset) ≡ Ok w
-      → present_row limit w ≡ Ok ((b, r), t) → b ≡ true
-      → calls_of_function limit s u naming offset ≡ function_calls limit s u naming r t
+  pub entry_is_there : (offset : ℕ) (w t : Walk) (b : Bool) (r : Row)
+      → walk_from u.facts.header u.facts.table (Some offset) ≡ Ok w → present_row limit w ≡ Ok ((b, r), t) → b ≡ true
+      → calls_of_function u naming offset ≡ function_calls u naming r t
   entry_is_there offset w t b r h k is =
       let p = not_null_ok w t b r k in
       from_walk offset w (Ok (r, t)) h p.0 ∙ entry_by offset r t (r.tag == 0) refl (sym is ∙ p.1)

@@ -6,8 +6,7 @@ use Rattle.gimli_units_entries.specs.Parsers.{Step}
 use Rattle.gimli_units_entries.specs.EntryWalks.{Walk}
 use Rattle.gimli_units_entries.specs.EntryRows.{Row, row_choosing}
 use Rattle.gimli_units_entries.specs.Results.{and_then}
-use Rattle.addr2line_names.specs.DwarfSections.{Sections}
-use Rattle.addr2line_names.specs.UnitFacts.{UnitFacts}
+use Rattle.addr2line_names.specs.UnitFacts.{UnitInFile}
 use Rattle.addr2line_units.specs.Functions.{is_subprogram}
 use Rattle.addr2line_units.specs.InlinedCalls.{Naming, Call, FunctionWalk, is_inlined, call_at, calls_among, entries_below}
 
@@ -63,33 +62,28 @@ pub record CallWalk : Type 0 where
   pub nesting : Nesting
 
 -- the call of an entry, if it is one
-abbrev pub call_if
-    : ℕ → Sections → UnitFacts → Naming → Row → Option ℕ → Result (Option Call) Error
-call_if limit s u naming r None = Ok None
-call_if limit s u naming r (Some depth) =
-    and_then (call_at limit s u naming depth r) (λ c. Ok (Some c))
+abbrev pub call_if : UnitInFile → Naming → Row → Option ℕ → Result (Option Call) Error
+call_if u naming r None = Ok None
+call_if u naming r (Some depth) = and_then (call_at u naming depth r) (λ c. Ok (Some c))
 
 -- the call of an entry, if it is one, and the walk after the entry
 abbrev pub call_and_walk
-    : ℕ → Sections → UnitFacts → Naming → Nesting → Row → Walk
-    → Result (Option Call × CallWalk) Error
-call_and_walk limit s u naming o r w =
-    and_then (call_if limit s u naming r (call_depth o r.tag)) (λ c.
+    : UnitInFile → Naming → Nesting → Row → Walk → Result (Option Call × CallWalk) Error
+call_and_walk u naming o r w =
+    and_then (call_if u naming r (call_depth o r.tag)) (λ c.
     Ok (c, record { walk = w; nesting = inside_of r.tag r.depth o }))
 
 -- the same of the next entry, by what it is in
 abbrev pub next_call_in
-    : ℕ → Sections → UnitFacts → Naming → Walk → Nesting → Result (Option Call × CallWalk) Error
-next_call_in limit s u naming w o =
-    and_then (row_choosing limit (is_call_where o) w) (λ r.
-    call_and_walk limit s u naming o r.0 r.1)
+    : ℕ → UnitInFile → Naming → Walk → Nesting → Result (Option Call × CallWalk) Error
+next_call_in limit u naming w o =
+    and_then (row_choosing limit (is_call_where o) w) (λ r. call_and_walk u naming o r.0 r.1)
 
 -- the same of the next entry, which isn't in all that the entry before it was in
-abbrev pub next_call : ℕ → Sections → UnitFacts → Naming → Step CallWalk (Option Call)
-next_call limit s u naming x =
-    next_call_in limit s u naming x.walk (leave x.walk.depth x.nesting)
+abbrev pub next_call : ℕ → UnitInFile → Naming → Step CallWalk (Option Call)
+next_call limit u naming x =
+    next_call_in limit u naming x.walk (leave x.walk.depth x.nesting)
 
 -- the calls to come
-abbrev pub calls_from
-    : ℕ → Sections → UnitFacts → Naming → FunctionWalk → Result (List Call) Error
-calls_from limit s u naming i = calls_among limit s u naming (entries_below limit i)
+abbrev pub calls_from : ℕ → UnitInFile → Naming → FunctionWalk → Result (List Call) Error
+calls_from limit u naming i = calls_among u naming (entries_below limit i)

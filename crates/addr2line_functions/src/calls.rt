@@ -7,10 +7,9 @@ ghost use Rattle.addr2line_units.specs.InlinedCalls.{calls_of_function, function
 
 use crate::call::Call;
 use crate::chain::Chain;
-use crate::entries_of;
 use crate::naming::Names;
 use crate::walk::calls_below;
-use addr2line_names::{Dwarf, Unit};
+use addr2line_units::UnitRef;
 use gimli_units_entries::{
     DebuggingInformationEntry, EntriesRaw, Error, Reader, ReaderOffset, UnitOffset,
 };
@@ -66,18 +65,19 @@ impl<R: Reader> FunctionCalls<R> {
 // A function with its calls, where a walk is after the function's entry.
 fn function_calls<R: Reader, N: Names<R>>(
     alloc: Global,
-    dwarf: &Dwarf<R>,
-    unit: &Unit<R>,
+    unit: &UnitRef<'_, R>,
     names: &N,
     entry: &DebuggingInformationEntry<R>,
     entries: EntriesRaw<'_, R>,
 ) -> Result<FunctionCalls<R>, Error>
     ensures { ReturnsOrNoMemory result
-        (function_calls R.Offset.limit dwarf.now unit.now (N.naming names.now)
+        (function_calls unit.now (N.naming names.now)
         (entry_of R.view R.Offset.count entry.now) entries.entry) }
 {
+    // (shows the prover what a unit's model says of its file)
+    let _ = &unit.dwarf;
     let name = names.name_of(entry.attrs())?;
-    let calls = calls_below(alloc, dwarf, unit, names, entries)?;
+    let calls = calls_below(alloc, unit, names, entries)?;
     Ok(FunctionCalls { name, calls })
 }
 
@@ -88,19 +88,18 @@ fn function_calls<R: Reader, N: Names<R>>(
 /// where the unit ends before the last of its children.
 pub fn calls_of_function<R: Reader, N: Names<R>>(
     alloc: Global,
-    dwarf: &Dwarf<R>,
-    unit: &Unit<R>,
+    unit: &UnitRef<'_, R>,
     names: &N,
     offset: UnitOffset<R::Offset>,
 ) -> Result<FunctionCalls<R>, Error>
     ensures { ReturnsOrNoMemory result
-        (calls_of_function R.Offset.limit dwarf.now unit.now (N.naming names.now)
+        (calls_of_function unit.now (N.naming names.now)
         (R.Offset.count offset.0)) }
 {
-    let mut entries = entries_of(unit, Some(offset))?;
+    let mut entries = unit.entries_raw(Some(offset))?;
     let mut entry = DebuggingInformationEntry::null(alloc);
     if !entries.read_entry(&mut entry)? {
         return Err(Error::NoEntryAtGivenOffset(offset.0.into_u64()));
     }
-    function_calls(alloc, dwarf, unit, names, &entry, entries)
+    function_calls(alloc, unit, names, &entry, entries)
 }

@@ -11,8 +11,7 @@ use crate::Names;
 use crate::frame::{Frame, FunctionName};
 use crate::function_at::{FunctionAt, function_with_calls};
 use crate::site::call_site;
-use addr2line_names::{Dwarf, Unit};
-use addr2line_units::{Lines, Location};
+use addr2line_units::{Lines, Location, UnitRef};
 use gimli_units_entries::{DwLang, Error, Reader, ReaderOffset, UnitOffset};
 use std::alloc::Global;
 use std::marker::Model;
@@ -139,18 +138,17 @@ fn frame_without_function<'ctx, R: Reader>(
 /// functions, of the function that holds the address, or of the lines, in this order.
 pub fn frames_of_unit<'ctx, R: Reader, N: Names<R>>(
     alloc: Global,
-    dwarf: &Dwarf<R>,
-    unit: &Unit<R>,
+    unit: &UnitRef<'_, R>,
     names: &N,
     language: Option<DwLang>,
     lines: &'ctx Result<Lines, Error>,
     probe: u64,
 ) -> Result<FrameIter<'ctx, R>, Error>
     ensures { ReturnsOrNoMemory result
-        (frames_of_unit R.Offset.limit dwarf.now unit.now (N.naming names.now)
+        (frames_of_unit unit.now (N.naming names.now)
         (option_map (λ l. l.0) language) lines.now probe) }
 {
-    let found = function_with_calls(alloc, dwarf, unit, names, probe)?;
+    let found = function_with_calls(alloc, unit, names, probe)?;
     let lines = match lines {
         Ok(lines) => lines,
         Err(error) => return Err(*error),

@@ -6,7 +6,7 @@ ghost use Rattle.addr2line_units.specs.InlinedCalls.{calls_of_function};
 ghost use Rattle.addr2line_units.specs.Frames.{function_of_offset, function_with_calls};
 
 use crate::{FunctionCalls, Names, calls_of_function, functions_of_unit};
-use addr2line_names::{Dwarf, Unit};
+use addr2line_units::UnitRef;
 use gimli_units_entries::{Error, Reader, ReaderOffset, UnitOffset};
 use std::alloc::Global;
 use std::marker::Model;
@@ -29,39 +29,31 @@ impl<R: Reader> Model for FunctionAt<R> {
 // The function whose entry is at an offset, with its calls.
 fn function_of_offset<R: Reader, N: Names<R>>(
     alloc: Global,
-    dwarf: &Dwarf<R>,
-    unit: &Unit<R>,
+    unit: &UnitRef<'_, R>,
     names: &N,
     offset: UnitOffset<R::Offset>,
 ) -> Result<FunctionAt<R>, Error>
     ensures { ReturnsOrNoMemory result (function_of_offset
-        (calls_of_function R.Offset.limit dwarf.now unit.now (N.naming names.now))
+        (calls_of_function unit.now (N.naming names.now))
         (R.Offset.count offset.0)) }
 {
-    let calls = calls_of_function(alloc, dwarf, unit, names, offset)?;
+    let calls = calls_of_function(alloc, unit, names, offset)?;
     Ok(FunctionAt { offset, calls })
 }
 
 /// The function of an address in a unit, with its calls, if there is one.
 pub(crate) fn function_with_calls<R: Reader, N: Names<R>>(
     alloc: Global,
-    dwarf: &Dwarf<R>,
-    unit: &Unit<R>,
+    unit: &UnitRef<'_, R>,
     names: &N,
     probe: u64,
 ) -> Result<Option<FunctionAt<R>>, Error>
     ensures { ReturnsOrNoMemory result
-        (function_with_calls R.Offset.limit dwarf.now unit.now (N.naming names.now) probe) }
+        (function_with_calls unit.now (N.naming names.now) probe) }
 {
-    let functions = functions_of_unit(alloc, dwarf, unit)?;
+    let functions = functions_of_unit(alloc, unit)?;
     match functions.function_at(probe) {
-        Some(function) => Ok(Some(function_of_offset(
-            alloc,
-            dwarf,
-            unit,
-            names,
-            function.offset(),
-        )?)),
+        Some(function) => Ok(Some(function_of_offset(alloc, unit, names, function.offset())?)),
         None => Ok(None),
     }
 }

@@ -8,9 +8,8 @@ ghost use Rattle.addr2line_functions.specs.NextFunctions.{if_has_range, function
 
 use crate::function::Function;
 use crate::latest::{latest_among, number_holding};
-use crate::row::{EntryRow, entries_of, next_row};
-use addr2line_names::{Dwarf, Unit};
-use addr2line_units::ranges_of_entry;
+use crate::row::{EntryRow, next_row};
+use addr2line_units::{UnitRef, ranges_of_entry};
 use gimli_units_entries::{
     Attribute, DW_TAG_subprogram, EntriesRaw, Error, Range, Reader, ReaderOffset, UnitOffset,
 };
@@ -87,35 +86,33 @@ fn if_has_range<O: ReaderOffset>(offset: UnitOffset<O>, ranges: Vec<Range>) -> O
 // The function of an entry with these attributes, if it is a function that has a range.
 fn function_of_row<R: Reader>(
     alloc: Global,
-    dwarf: &Dwarf<R>,
-    unit: &Unit<R>,
+    unit: &UnitRef<'_, R>,
     row: EntryRow<R::Offset>,
     attributes: &[Attribute<R>],
 ) -> Result<Option<Function<R::Offset>>, Error>
     ensures { ReturnsOrNoMemory result
-        (function_of_row R.Offset.limit dwarf.now unit.now
+        (function_of_row unit.now
         (row_view R.view R.Offset.count row attributes.now)) }
 {
     if row.tag != DW_TAG_subprogram {
         return Ok(None);
     }
-    let ranges = ranges_of_entry(alloc, dwarf, unit, attributes)?;
+    let ranges = ranges_of_entry(alloc, unit, attributes)?;
     Ok(if_has_range(row.offset, ranges))
 }
 
 // The function of the next entry, if it is a function that has a range.
 fn next_function<R: Reader>(
     alloc: Global,
-    dwarf: &Dwarf<R>,
-    unit: &Unit<R>,
+    unit: &UnitRef<'_, R>,
     entries: &mut EntriesRaw<'_, R>,
     attributes: &mut Vec<Attribute<R>>,
 ) -> Result<Option<Function<R::Offset>>, Error>
     ensures { ReturnsAsOrNoMemory (λ f. (f, entries.new)) result
-        (next_function R.Offset.limit dwarf.now unit.now entries.old) }
+        (next_function R.Offset.limit unit.now entries.old) }
 {
     let row = next_row(entries, Some(DW_TAG_subprogram), attributes)?;
-    function_of_row(alloc, dwarf, unit, row, attributes)
+    function_of_row(alloc, unit, row, attributes)
 }
 
 // Appends a function, if there is one.
@@ -137,16 +134,15 @@ fn push_if_any<O: ReaderOffset>(
 /// ranges can't be read, is the error.
 pub fn functions_of_unit<R: Reader>(
     alloc: Global,
-    dwarf: &Dwarf<R>,
-    unit: &Unit<R>,
+    unit: &UnitRef<'_, R>,
 ) -> Result<Functions<R::Offset>, Error>
-    ensures { ReturnsOrNoMemory result (functions_of_unit R.Offset.limit dwarf.now unit.now) }
+    ensures { ReturnsOrNoMemory result (functions_of_unit unit.now) }
 {
-    let mut entries = entries_of(unit, None)?;
+    let mut entries = unit.entries_raw(None)?;
     let mut attributes = Vec::new(alloc);
     let mut functions = Vec::new(alloc);
     while !entries.is_empty() {
-        let next = next_function(alloc, dwarf, unit, &mut entries, &mut attributes)?;
+        let next = next_function(alloc, unit, &mut entries, &mut attributes)?;
         push_if_any(&mut functions, next)?;
     }
     Ok(Functions { functions })

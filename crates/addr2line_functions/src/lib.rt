@@ -29,5 +29,5 @@ pub use functions::{Functions, functions_of_unit};
 pub use gimli_units_entries::{DebuggingInformationEntry, UnitEntries, entries_raw};
 pub use latest::{NumberedRange, latest_among, number_holding};
 pub use naming::Names;
-pub use row::{EntryRow, entries_of, next_row};
+pub use row::{EntryRow, next_row};
 pub use unit_names::UnitNames;

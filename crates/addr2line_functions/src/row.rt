@@ -1,25 +1,10 @@
 //! Entries read one after the other, where the attributes of one tag's entries are read.
 
-ghost use Rattle.std.specs.Prelude.{option_map};
-ghost use Rattle.gimli_units_entries.specs.Calls.{ReturnsAsOrNoMemory, ReturnsOrNoMemory};
+ghost use Rattle.gimli_units_entries.specs.Calls.{ReturnsAsOrNoMemory};
 ghost use Rattle.gimli_units_entries.specs.EntryRows.{row_choosing};
-ghost use Rattle.gimli_units_entries.specs.UnitEntries.{walk_from};
 ghost use Rattle.addr2line_functions.specs.EntryRowViews.{is_chosen, row_view};
 
-use addr2line_names::Unit;
-use gimli_units_entries::unit::entries_raw;
 use gimli_units_entries::{Attribute, DwTag, EntriesRaw, Error, Reader, ReaderOffset, UnitOffset};
-
-/// The walk over the entries of a unit: from an offset on, which must be among them, or over all.
-pub fn entries_of<R: Reader>(
-    unit: &Unit<R>,
-    offset: Option<UnitOffset<R::Offset>>,
-) -> Result<EntriesRaw<'_, R>, Error>
-    ensures { ReturnsOrNoMemory result
-        (walk_from unit.now.header unit.now.table (option_map (λ o. R.Offset.count o.0) offset)) }
-{
-    entries_raw(&unit.header, &unit.abbreviations, offset)
-}
 
 /// An entry without its attributes: its offset, how deep it is below the one where the walk began,
 /// and what its declaration states. A null entry has the tag 0.

@@ -26,7 +26,7 @@ impl<'a, R: Reader, U: HasUnit<R>> Model for UnitNames<'a, R, U> {
 }
 
 impl<'a, R: Reader, U: HasUnit<R>> Names<R> for UnitNames<'a, R, U> {
-    ghost naming = { λ n. name_of R.Offset.limit n.known n.holder };
+    ghost naming = { λ n. name_of n.known n.holder };
 
     fn name_of(&self, attributes: &[Attribute<R>]) -> Result<Option<R>, Error> {
         self.known.name_of(&self.holder, attributes)

@@ -11,8 +11,7 @@ use crate::naming::Names;
 use crate::nesting::Nesting;
 use crate::place::{call_file, number_or_0};
 use crate::{EntryRow, next_row};
-use addr2line_names::{Dwarf, Unit};
-use addr2line_units::ranges_of_entry;
+use addr2line_units::{UnitRef, ranges_of_entry};
 use gimli_units_entries::{
     Attribute, DW_AT_call_column, DW_AT_call_line, EntriesRaw, Error, Reader,
 };
@@ -21,19 +20,19 @@ use std::alloc::Global;
 // The call of an entry with these attributes, which is in a number of others.
 fn call_at<R: Reader, N: Names<R>>(
     alloc: Global,
-    dwarf: &Dwarf<R>,
-    unit: &Unit<R>,
+    unit: &UnitRef<'_, R>,
     names: &N,
     depth: usize,
     row: EntryRow<R::Offset>,
     attributes: &[Attribute<R>],
 ) -> Result<Call<R>, Error>
     ensures { ReturnsOrNoMemory result
-        (call_at R.Offset.limit dwarf.now unit.now (N.naming names.now) depth
+        (call_at unit.now (N.naming names.now) depth
         (row_view R.view R.Offset.count row attributes.now)) }
 {
     let name = names.name_of(attributes)?;
-    let ranges = ranges_of_entry(alloc, dwarf, unit, attributes)?;
+    let ranges = ranges_of_entry(alloc, unit, attributes)?;
+    let unit = unit.unit;
     Ok(Call {
         depth,
         offset: row.offset,
@@ -48,19 +47,18 @@ fn call_at<R: Reader, N: Names<R>>(
 // The same, if the entry is a call and so has a depth.
 fn call_if<R: Reader, N: Names<R>>(
     alloc: Global,
-    dwarf: &Dwarf<R>,
-    unit: &Unit<R>,
+    unit: &UnitRef<'_, R>,
     names: &N,
     depth: Option<usize>,
     row: EntryRow<R::Offset>,
     attributes: &[Attribute<R>],
 ) -> Result<Option<Call<R>>, Error>
     ensures { ReturnsOrNoMemory result
-        (call_if R.Offset.limit dwarf.now unit.now (N.naming names.now)
+        (call_if unit.now (N.naming names.now)
         (row_view R.view R.Offset.count row attributes.now) depth) }
 {
     match depth {
-        Some(depth) => Ok(Some(call_at(alloc, dwarf, unit, names, depth, row, attributes)?)),
+        Some(depth) => Ok(Some(call_at(alloc, unit, names, depth, row, attributes)?)),
         None => Ok(None),
     }
 }
@@ -68,8 +66,7 @@ fn call_if<R: Reader, N: Names<R>>(
 // The next entry below a function, as a call if it is one of the function's.
 fn next_call<R: Reader, N: Names<R>>(
     alloc: Global,
-    dwarf: &Dwarf<R>,
-    unit: &Unit<R>,
+    unit: &UnitRef<'_, R>,
     names: &N,
     entries: &mut EntriesRaw<'_, R>,
     nesting: &mut Nesting,
@@ -77,13 +74,13 @@ fn next_call<R: Reader, N: Names<R>>(
 ) -> Result<Option<Call<R>>, Error>
     ensures { ReturnsAsOrNoMemory
         (λ c. (c, record { walk = entries.new; nesting = nesting.new })) result
-        (next_call R.Offset.limit dwarf.now unit.now (N.naming names.now)
+        (next_call R.Offset.limit unit.now (N.naming names.now)
         (record { walk = entries.old; nesting = nesting.old })) }
 {
     nesting.leave(entries.next_depth());
     let row = next_row(entries, nesting.read_tag(), attributes)?;
     let depth = nesting.enter(row.tag, row.depth)?;
-    call_if(alloc, dwarf, unit, names, depth, row, attributes)
+    call_if(alloc, unit, names, depth, row, attributes)
 }
 
 // Appends a call, if there is one.
@@ -100,13 +97,12 @@ fn push_if_any<R: Reader>(calls: &mut Vec<Call<R>>, call: Option<Call<R>>) -> Re
 /// The calls of a function, from the entries after its own, which is at depth 0.
 pub(crate) fn calls_below<R: Reader, N: Names<R>>(
     alloc: Global,
-    dwarf: &Dwarf<R>,
-    unit: &Unit<R>,
+    unit: &UnitRef<'_, R>,
     names: &N,
     mut entries: EntriesRaw<'_, R>,
 ) -> Result<Vec<Call<R>>, Error>
     ensures value { ReturnsAsOrNoMemory (λ v. v.items) result
-        (calls_among R.Offset.limit dwarf.now unit.now (N.naming names.now)
+        (calls_among unit.now (N.naming names.now)
         (entries_of R.Offset.limit entries.entry)) }
     // Each depth has a call.
     ensures few { IfOk result (λ v. depth_count v.items ≤ length v.items) }
@@ -117,7 +113,6 @@ pub(crate) fn calls_below<R: Reader, N: Names<R>>(
     while entries.next_depth() > 0 {
         let next = next_call(
             alloc,
-            dwarf,
             unit,
             names,
             &mut entries,

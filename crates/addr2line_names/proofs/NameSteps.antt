@@ -44,20 +44,20 @@ one true is_plain (Some t) (Some x) after rest links = refl
 one false is_plain text None after rest links = again (if is_plain then Ok text else after) rest links
 one false is_plain text (Some x) after rest links = refl
 
-module _ (limit : ℕ) (h : HoldingUnit) (follow : RawValue → Answer) where
+module _ (h : HoldingUnit) (follow : RawValue → Answer) where
   -- the name so far, and that of the attributes to come
   abbrev pub name_from : Option View → List RawAttribute → Answer
   name_from found attributes =
-      then_links (name_or found (first_name (map (name_of_attribute limit h follow) attributes)))
-      (filter_map (value_of_kind (text_of limit h) is_linkage_name) attributes)
+      then_links (name_or found (first_name (map (name_of_attribute h follow) attributes)))
+      (filter_map (value_of_kind (text_of h) is_linkage_name) attributes)
 
   pub name_from-first : (found : Option View) (a : RawAttribute) (others : List RawAttribute)
-      → name_from found (a ∷ others) ≡ and_then (name_with limit h follow found a) (λ name. name_from name others)
+      → name_from found (a ∷ others) ≡ and_then (name_with h follow found a) (λ name. name_from name others)
   name_from-first found a others =
-      one (is_linkage_name a.name) (is_name a.name) (text_of limit h (value_under a.name a.value)) found
+      one (is_linkage_name a.name) (is_name a.name) (text_of h (value_under a.name a.value)) found
       (if is_reference a.name then follow (value_under a.name a.value) else Ok None)
-      (first_name (map (name_of_attribute limit h follow) others))
-      (filter_map (value_of_kind (text_of limit h) is_linkage_name) others)
+      (first_name (map (name_of_attribute h follow) others))
+      (filter_map (value_of_kind (text_of h) is_linkage_name) others)
 
   module _ {X : Type 0} (view : X → RawAttribute) where
     -- the same from a place of a list on
@@ -66,7 +66,7 @@ module _ (limit : ℕ) (h : HoldingUnit) (follow : RawValue → Answer) where
 
     by_first : (found : Option View) (xs : List X) (i : ℕ) (x : X) → i < length xs → x ≡ get_or xs i x
         → name_from_place found xs i
-        ≡ and_then (name_with limit h follow found (view x)) (λ name. name_from_place name xs (i + 1))
+        ≡ and_then (name_with h follow found (view x)) (λ name. name_from_place name xs (i + 1))
     by_first found xs i x below here =
         at_drop_more (λ (ys : List X). name_from found (map view ys)) xs i x below
         ∙ ap (λ y. name_from found (view y ∷ map view (drop (i + 1) xs))) (sym here)
@@ -75,7 +75,7 @@ module _ (limit : ℕ) (h : HoldingUnit) (follow : RawValue → Answer) where
     -- one step on, what all give is the same
     pub name_from_place-more : (found next : Option View) (xs : List X) (i : ℕ) (x : X) (all : Answer) → i < length xs
         → x ≡ get_or xs i x
-        → name_with limit h follow found (view x) ≡ Ok next → name_from_place found xs i ≡ all
+        → name_with h follow found (view x) ≡ Ok next → name_from_place found xs i ≡ all
         → name_from_place next xs (i + 1) ≡ all
     name_from_place-more found next xs i x all below here gives before =
         sym (ap (λ r. and_then r (λ name. name_from_place name xs (i + 1))) gives)
@@ -84,7 +84,7 @@ module _ (limit : ℕ) (h : HoldingUnit) (follow : RawValue → Answer) where
     -- a refusal is that of all
     pub name_from_place-refused : (found : Option View) (e : Error) (xs : List X) (i : ℕ) (x : X) (all : Answer)
         → i < length xs → x ≡ get_or xs i x
-        → name_with limit h follow found (view x) ≡ Err e → name_from_place found xs i ≡ all → all ≡ Err e
+        → name_with h follow found (view x) ≡ Err e → name_from_place found xs i ≡ all → all ≡ Err e
     name_from_place-refused found e xs i x all below here refuses before =
         sym before ∙ by_first found xs i x below here
         ∙ ap (λ r. and_then r (λ name. name_from_place name xs (i + 1))) refuses

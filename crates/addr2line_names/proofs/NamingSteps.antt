@@ -90,16 +90,16 @@ naming_and_nothing nameless = refl
 
 module _ (limit : ℕ) (h : HoldingUnit) where
   abbrev linkage_name : RawAttribute → Option View
-  linkage_name a = value_of_kind (text_of limit h) is_linkage_name a
+  linkage_name a = value_of_kind (text_of h) is_linkage_name a
 
   abbrev plain_name : RawAttribute → Option View
-  plain_name a = value_of_kind (text_of limit h) is_name a
+  plain_name a = value_of_kind (text_of h) is_name a
 
   abbrev reference : RawAttribute → Option RawValue
   reference a = value_of_kind any_value is_reference a
 
   with_one : (found : EntryNaming) (a : RawAttribute)
-      → naming_with limit h found a ≡ with_both found (plain_name a) (reference a)
+      → naming_with h found a ≡ with_both found (plain_name a) (reference a)
   with_one (by_name name) a = refl
   with_one (by_reference v) a = refl
   with_one nameless a = refl
@@ -116,7 +116,7 @@ module _ (limit : ℕ) (h : HoldingUnit) where
   not_linkage : (found : EntryNaming) (a : RawAttribute) (l : Listing Walk RawAttribute) (here : Option View)
       → linkage_name a ≡ here → here ≡ None
       → naming_from found (record { items = a ∷ l.items; ending = l.ending })
-      ≡ naming_from (naming_with limit h found a) l
+      ≡ naming_from (naming_with h found a) l
   not_linkage found a l here is none =
       ap (λ (o : Option View). linkage_name_or (first_of (cons_option o (filter_map linkage_name l.items))) (fault_of l)
       (naming_and_more found (filter_map plain_name (a ∷ l.items)) (filter_map reference (a ∷ l.items)))) (is ∙ none)
@@ -162,11 +162,11 @@ module _ (limit : ℕ) (h : HoldingUnit) where
         (found next : EntryNaming) (xs : List X) (i : ℕ) (d : X) (w after : Walk) (a : RawAttribute) (o : Option View)
         (whole : Result EntryNaming Error) → i < length xs
         → value limit (view (get_or xs i d)) w ≡ Ok (a, after) → ok_name (linkage_name a) ≡ ok_name o → o ≡ None
-        → ok_naming (naming_with limit h found a) ≡ ok_naming next
+        → ok_naming (naming_with h found a) ≡ ok_naming next
         → naming_from_place found xs i w ≡ whole → naming_from_place next xs (i + 1) after ≡ whole
     naming_from_place-more found next xs i d w after a o whole below reads gives none takes before =
         let no_name : linkage_name a ≡ None = cc in
-        let same : naming_with limit h found a ≡ next = cc in
+        let same : naming_with h found a ≡ next = cc in
         ap (λ (n : EntryNaming). naming_from_place n xs (i + 1) after) (sym same)
         ∙ sym (not_linkage found a (attributes_from limit (map view (drop (i + 1) xs)) after)
         (linkage_name a) refl no_name)

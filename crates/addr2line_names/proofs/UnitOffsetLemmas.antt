@@ -8,7 +8,7 @@ use Rattle.gimli_dwarf.specs.View.{bytes_left}
 use Rattle.gimli_dwarf.specs.Error.TheVariants.{NoEntryAtGivenOffset}
 use Rattle.gimli_dwarf.specs.UnitHeaders.{DebugUnit, IsWellFormed, size_of_header, header_size, length_including_self}
 use Rattle.gimli_dwarf.specs.UnitOffsets.{to_unit_offset}
-use Rattle.gimli_dwarf.specs.UnitFacts.{UnitFacts}
+use Rattle.gimli_dwarf.specs.UnitFacts.{UnitFacts, in_file}
 use Rattle.addr2line_names.specs.EntryReferences.{ReferredEntry, begins_below, unit_below, entry_in, or_error}
 use Rattle.addr2line_names.specs.FunctionNameLaws.{ComesAfter, OffsetsLeadIntoTheirUnit}
 
@@ -121,4 +121,4 @@ offsets_lead_into_their_unit most file s before after u offset place read stand 
     ∙ ap (λ (o : Option ℕ). or_error (NoEntryAtGivenOffset offset) (option_map (λ n. entry n) o)) inside
   where
     entry : ℕ → ReferredEntry
-    entry n = record { holder = record { file = file; sections = s; facts = u }; offset = n }
+    entry n = record { holder = record { file = file; unit = in_file s u }; offset = n }

@@ -14,7 +14,7 @@ use Rattle.gimli_dwarf.specs.EntryWalks.{Walk, entry_head, value}
 use Rattle.gimli_dwarf.specs.UnitEntries.{walk_from}
 use Rattle.gimli_dwarf.specs.Results.{and_then}
 use Rattle.gimli_dwarf.specs.Attributes.{attr_string}
-use Rattle.gimli_dwarf.specs.UnitFacts.{UnitFacts, is_name, value_of_kind, last_value_of_kind, any_value, last_value}
+use Rattle.gimli_dwarf.specs.UnitFacts.{UnitInFile, is_name, value_of_kind, last_value_of_kind, any_value, last_value}
 use Rattle.addr2line_names.specs.EntryReferences.{HoldingUnit, ReferredEntry}
 
 -- ---- attributes
@@ -28,8 +28,8 @@ abbrev pub is_reference : ℕ → Bool
 is_reference n = n == DW_AT_abstract_origin.0 || n == DW_AT_specification.0
 
 -- the text of a value of one of a unit's attributes, where it can be read
-abbrev pub text_of : ℕ → HoldingUnit → RawValue → Option View
-text_of limit h v = if_readable (attr_string limit h.sections h.facts.bases v)
+abbrev pub text_of : HoldingUnit → RawValue → Option View
+text_of h v = if_readable (attr_string h.unit.file h.unit.facts.bases v)
 
 -- the first of a list
 abbrev pub first_of : {A : Type 0} → List A → Option A
@@ -58,10 +58,10 @@ attributes_of limit offset None w = Err (NoEntryAtGivenOffset offset)
 attributes_of limit offset (Some d) w = Ok (attributes_from limit d.attributes w)
 
 -- those of the entry at an offset of a unit
-abbrev pub attributes_at : ℕ → UnitFacts → ℕ → Result (Listing Walk RawAttribute) Error
-attributes_at limit u offset =
-    and_then (walk_from u.header u.table (Some offset)) (λ w.
-    and_then (entry_head w) (λ r. attributes_of limit offset r.0 r.1))
+abbrev pub attributes_at : UnitInFile → ℕ → Result (Listing Walk RawAttribute) Error
+attributes_at u offset =
+    and_then (walk_from u.facts.header u.facts.table (Some offset)) (λ w.
+    and_then (entry_head w) (λ r. attributes_of u.file.offset_limit offset r.0 r.1))
 
 -- ---- its name
 
@@ -80,9 +80,9 @@ name_or_naming None other = other
 name_or_naming (Some name) other = by_name name
 
 -- without a linkage name: the last name that can be read, or else the last reference
-abbrev pub naming_of : ℕ → HoldingUnit → List RawAttribute → EntryNaming
-naming_of limit h attributes =
-    name_or_naming (last_value_of_kind (text_of limit h) is_name attributes)
+abbrev pub naming_of : HoldingUnit → List RawAttribute → EntryNaming
+naming_of h attributes =
+    name_or_naming (last_value_of_kind (text_of h) is_name attributes)
     (reference_or_nameless (last_value is_reference attributes))
 
 -- a linkage name ends the reading, so that no fault after it counts
@@ -92,16 +92,16 @@ linkage_name_or None (Some e) other = Err e
 linkage_name_or None None other = Ok other
 
 -- the first linkage name that can be read, or else what the other attributes give
-abbrev pub naming_in : ℕ → HoldingUnit → Listing Walk RawAttribute → Result EntryNaming Error
-naming_in limit h l =
+abbrev pub naming_in : HoldingUnit → Listing Walk RawAttribute → Result EntryNaming Error
+naming_in h l =
     linkage_name_or
-    (first_of (filter_map (value_of_kind (text_of limit h) is_linkage_name) l.items))
-    (fault_of l) (naming_of limit h l.items)
+    (first_of (filter_map (value_of_kind (text_of h) is_linkage_name) l.items))
+    (fault_of l) (naming_of h l.items)
 
 -- the naming of an entry, or why it can't be read
-abbrev pub naming_at : ℕ → ReferredEntry → Result EntryNaming Error
-naming_at limit e =
-    and_then (attributes_at limit e.holder.facts e.offset) (naming_in limit e.holder)
+abbrev pub naming_at : ReferredEntry → Result EntryNaming Error
+naming_at e =
+    and_then (attributes_at e.holder.unit e.offset) (naming_in e.holder)
 
 -- ---- attribute by attribute
 
@@ -111,9 +111,9 @@ reference_or None found = found
 reference_or (Some v) found = by_reference v
 
 -- the naming by some attributes and one more that is no linkage name
-abbrev pub naming_with : ℕ → HoldingUnit → EntryNaming → RawAttribute → EntryNaming
-naming_with limit h (by_name name) a =
-    name_or_naming (value_of_kind (text_of limit h) is_name a) (by_name name)
-naming_with limit h found a =
-    name_or_naming (value_of_kind (text_of limit h) is_name a)
+abbrev pub naming_with : HoldingUnit → EntryNaming → RawAttribute → EntryNaming
+naming_with h (by_name name) a =
+    name_or_naming (value_of_kind (text_of h) is_name a) (by_name name)
+naming_with h found a =
+    name_or_naming (value_of_kind (text_of h) is_name a)
     (reference_or (value_of_kind any_value is_reference a) found)

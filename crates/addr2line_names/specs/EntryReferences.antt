@@ -7,8 +7,8 @@ use Rattle.gimli_dwarf.specs.Error.TheVariants.{NoEntryAtGivenOffset}
 use Rattle.gimli_dwarf.specs.AttributeValues.{RawValue, unit_reference, info_reference, info_reference_sup}
 use Rattle.gimli_dwarf.specs.UnitOffsets.{to_unit_offset}
 use Rattle.gimli_dwarf.specs.Results.{some_of}
-use Rattle.gimli_dwarf.specs.DwarfSections.{Sections, supplement}
-use Rattle.gimli_dwarf.specs.UnitFacts.{UnitFacts}
+use Rattle.gimli_dwarf.specs.DwarfFiles.{DwarfFile, supplement}
+use Rattle.gimli_dwarf.specs.UnitFacts.{UnitFacts, UnitInFile, in_file}
 use Rattle.addr2line_names.specs.declared.file.DebugFile.{DebugFile}
 use Rattle.addr2line_names.specs.declared.file.DebugFile.TheVariants.{Primary, Supplementary, Dwo}
 
@@ -17,11 +17,10 @@ pub record KnownUnits : Type 0 where
   pub units : List UnitFacts
   pub supplement_units : List UnitFacts
 
--- the unit that holds an entry: the kind of its file, the file's sections, and the unit's facts
+-- the unit that holds an entry, and which of the files it is in
 pub record HoldingUnit : Type 0 where
   pub file : DebugFile
-  pub sections : Sections
-  pub facts : UnitFacts
+  pub unit : UnitInFile
 
 -- an entry that a reference leads to: the unit that holds it, and its offset in that unit
 pub record ReferredEntry : Type 0 where
@@ -45,10 +44,10 @@ abbrev pub unit_below : ℕ → List UnitFacts → Option UnitFacts
 unit_below offset units = last_or None (filter (begins_below offset) units)
 
 -- the entry at an offset of the section, if it is among those of a unit
-abbrev pub entry_in : DebugFile → Sections → ℕ → UnitFacts → Option ReferredEntry
+abbrev pub entry_in : DebugFile → DwarfFile → ℕ → UnitFacts → Option ReferredEntry
 entry_in file s offset u =
     option_map (λ o. record {
-      holder = record { file = file; sections = s; facts = u };
+      holder = record { file = file; unit = in_file s u };
       offset = o;
     }) (to_unit_offset u.header offset)
 
@@ -58,7 +57,7 @@ or_error e None = Err e
 or_error e (Some x) = Ok x
 
 -- the entry at an offset of the section
-abbrev pub entry_among : DebugFile → Sections → List UnitFacts → ℕ → Result ReferredEntry Error
+abbrev pub entry_among : DebugFile → DwarfFile → List UnitFacts → ℕ → Result ReferredEntry Error
 entry_among file s units offset =
     or_error (NoEntryAtGivenOffset offset)
     (option_and_then (entry_in file s offset) (unit_below offset units))
@@ -67,7 +66,7 @@ entry_among file s units offset =
 
 -- the entry at an offset of the supplement's section, if there is a supplement
 abbrev pub entry_in_supplement
-    : KnownUnits → ℕ → Option Sections → Result (Option ReferredEntry) Error
+    : KnownUnits → ℕ → Option DwarfFile → Result (Option ReferredEntry) Error
 entry_in_supplement known offset None = Ok None
 entry_in_supplement known offset (Some s) =
     some_of (entry_among Supplementary s known.supplement_units offset)
@@ -79,7 +78,7 @@ abbrev pub referred_entry
 referred_entry known h (unit_reference offset) =
     Ok (Some (record { holder = h; offset = offset }))
 referred_entry known h (info_reference offset) =
-    some_of (entry_among h.file h.sections (units_in h.file known) offset)
+    some_of (entry_among h.file h.unit.file (units_in h.file known) offset)
 referred_entry known h (info_reference_sup offset) =
-    entry_in_supplement known offset (supplement h.sections)
+    entry_in_supplement known offset (supplement h.unit.file)
 referred_entry known h _ = Ok None

@@ -7,8 +7,8 @@ use Rattle.gimli_dwarf.specs.AttributeMeanings.{value_under}
 use Rattle.gimli_dwarf.specs.AttributeValues.{RawValue, RawAttribute}
 use Rattle.gimli_dwarf.specs.UnitHeaders.{IsWellFormed, length_including_self}
 use Rattle.gimli_dwarf.specs.UnitOffsets.{to_unit_offset}
-use Rattle.gimli_dwarf.specs.DwarfSections.{Sections}
-use Rattle.gimli_dwarf.specs.UnitFacts.{UnitFacts, is_name}
+use Rattle.gimli_dwarf.specs.DwarfFiles.{DwarfFile}
+use Rattle.gimli_dwarf.specs.UnitFacts.{UnitFacts, in_file, is_name}
 use Rattle.addr2line_names.specs.declared.file.DebugFile.{DebugFile}
 use Rattle.addr2line_names.specs.EntryReferences.{KnownUnits, HoldingUnit, ReferredEntry, entry_among, referred_entry}
 use Rattle.addr2line_names.specs.EntryNamings.{by_name, by_reference, is_linkage_name, is_reference, text_of, naming_at}
@@ -20,54 +20,54 @@ abbrev pub IsNoReference : RawAttribute → Type 0
 IsNoReference a = is_reference a.name ≡ false
 
 -- an attribute that is a name which can be read
-abbrev pub IsNamedBy : ℕ → HoldingUnit → RawAttribute → View → Type 0
-IsNamedBy limit h a name =
+abbrev pub IsNamedBy : HoldingUnit → RawAttribute → View → Type 0
+IsNamedBy h a name =
     ((is_linkage_name a.name || is_name a.name) ≡ true)
-    × (text_of limit h (value_under a.name a.value) ≡ Some name)
+    × (text_of h (value_under a.name a.value) ≡ Some name)
 
 -- Where an attribute before all references is a name, the entry has one, and other units don't
 -- matter.
 abbrev pub OwnNameNeedsNoReference : Type 0
 OwnNameNeedsNoReference =
-    (limit : ℕ) (known other : KnownUnits) (h : HoldingUnit) (before after : List RawAttribute)
+    (known other : KnownUnits) (h : HoldingUnit) (before after : List RawAttribute)
     (a : RawAttribute) (name : View)
-    → All IsNoReference before → IsNamedBy limit h a name
-    → IsOk (name_of limit known h (before ++ a ∷ after))
-    × (name_of limit known h (before ++ a ∷ after)
-    ≡ name_of limit other h (before ++ a ∷ after))
+    → All IsNoReference before → IsNamedBy h a name
+    → IsOk (name_of known h (before ++ a ∷ after))
+    × (name_of known h (before ++ a ∷ after)
+    ≡ name_of other h (before ++ a ∷ after))
 
 -- What refuses the name of an entry refuses it whatever attributes follow.
 abbrev pub RefusalIsFinal : Type 0
 RefusalIsFinal =
-    (limit : ℕ) (known : KnownUnits) (h : HoldingUnit) (before after : List RawAttribute)
+    (known : KnownUnits) (h : HoldingUnit) (before after : List RawAttribute)
     (e : Error)
-    → name_of limit known h before ≡ Err e
-    → name_of limit known h (before ++ after) ≡ Err e
+    → name_of known h before ≡ Err e
+    → name_of known h (before ++ after) ≡ Err e
 
 -- ---- chains
 
 -- a reference that leads to an entry which refers further
-pub record RefersFurther (limit : ℕ) (known : KnownUnits) (h : HoldingUnit) (v : RawValue)
+pub record RefersFurther (known : KnownUnits) (h : HoldingUnit) (v : RawValue)
     (entry : ReferredEntry) (further : RawValue) : Type 0 where
   pub is_referred : referred_entry known h v ≡ Ok (Some entry)
-  pub refers_on : naming_at limit entry ≡ Ok (by_reference further)
+  pub refers_on : naming_at entry ≡ Ok (by_reference further)
 
 -- Two entries that refer to each other have no name.
 abbrev pub CirclesHaveNoName : Type 0
 CirclesHaveNoName =
-    (limit : ℕ) (known : KnownUnits) (one other : ReferredEntry) (v w : RawValue)
-    → RefersFurther limit known other.holder v one w
-    → RefersFurther limit known one.holder w other v
-    → (references : ℕ) → name_by_reference limit known references other.holder v ≡ Ok None
+    (known : KnownUnits) (one other : ReferredEntry) (v w : RawValue)
+    → RefersFurther known other.holder v one w
+    → RefersFurther known one.holder w other v
+    → (references : ℕ) → name_by_reference known references other.holder v ≡ Ok None
 
 -- a number of references, one after the other, lead from an entry to one that has this name
-abbrev pub LeadsTo : ℕ → KnownUnits → View → ℕ → ReferredEntry → Type 0
-LeadsTo limit known name zero e = naming_at limit e ≡ Ok (by_name name)
-LeadsTo limit known name (suc more) e =
+abbrev pub LeadsTo : KnownUnits → View → ℕ → ReferredEntry → Type 0
+LeadsTo known name zero e = naming_at e ≡ Ok (by_name name)
+LeadsTo known name (suc more) e =
     (v : RawValue) × (next : ReferredEntry)
-    × (naming_at limit e ≡ Ok (by_reference v))
+    × (naming_at e ≡ Ok (by_reference v))
     × (referred_entry known e.holder v ≡ Ok (Some next))
-    × LeadsTo limit known name more next
+    × LeadsTo known name more next
 
 -- the attribute of an instance that names its origin
 abbrev pub origin : ℕ → RawValue → RawAttribute
@@ -77,12 +77,12 @@ origin form v = record { name = DW_AT_abstract_origin.0; form = form; value = v 
 -- there are fewer than 16 of them, the name is that of the last; else there is none.
 abbrev pub ChainsAreLimited : Type 0
 ChainsAreLimited =
-    (limit : ℕ) (known : KnownUnits) (h : HoldingUnit) (form : ℕ) (v : RawValue)
+    (known : KnownUnits) (h : HoldingUnit) (form : ℕ) (v : RawValue)
     (first : ReferredEntry) (further : ℕ) (name : View)
     → referred_entry known h v ≡ Ok (Some first)
-    → LeadsTo limit known name further first
-    → (further < most_references → name_of limit known h (origin form v ∷ []) ≡ Ok (Some name))
-    × (most_references ≤ further → name_of limit known h (origin form v ∷ []) ≡ Ok None)
+    → LeadsTo known name further first
+    → (further < most_references → name_of known h (origin form v ∷ []) ≡ Ok (Some name))
+    × (most_references ≤ further → name_of known h (origin form v ∷ []) ≡ Ok None)
 
 -- ---- units
 
@@ -94,9 +94,9 @@ ComesAfter u b = u.header.offset + length_including_self u.header ≤ b.header.o
 -- them leads to that entry.
 abbrev pub OffsetsLeadIntoTheirUnit : Type 0
 OffsetsLeadIntoTheirUnit =
-    (most : ℕ) (file : DebugFile) (s : Sections) (before after : List UnitFacts) (u : UnitFacts)
+    (most : ℕ) (file : DebugFile) (s : DwarfFile) (before after : List UnitFacts) (u : UnitFacts)
     (offset place : ℕ)
     → IsWellFormed most u.header → All (ComesAfter u) after
     → to_unit_offset u.header offset ≡ Some place
     → entry_among file s (before ++ u ∷ after) offset
-    ≡ Ok (record { holder = record { file = file; sections = s; facts = u }; offset = place })
+    ≡ Ok (record { holder = record { file = file; unit = in_file s u }; offset = place })

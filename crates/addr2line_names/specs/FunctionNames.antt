@@ -23,19 +23,19 @@ name_or_follow follow nameless = Ok None
 
 -- the name of an entry, if there is one
 abbrev pub name_of_entry
-    : ℕ → (HoldingUnit → RawValue → Result (Option View) Error) → Option ReferredEntry
+    : (HoldingUnit → RawValue → Result (Option View) Error) → Option ReferredEntry
     → Result (Option View) Error
-name_of_entry limit follow None = Ok None
-name_of_entry limit follow (Some e) =
-    and_then (naming_at limit e) (name_or_follow (follow e.holder))
+name_of_entry follow None = Ok None
+name_of_entry follow (Some e) =
+    and_then (naming_at e) (name_or_follow (follow e.holder))
 
 -- the name that a value leads to by at most a number of references
 unfoldable pub name_by_reference
-    : ℕ → KnownUnits → ℕ → HoldingUnit → RawValue → Result (Option View) Error
-name_by_reference limit known zero h v = Ok None
-name_by_reference limit known (suc more) h v =
+    : KnownUnits → ℕ → HoldingUnit → RawValue → Result (Option View) Error
+name_by_reference known zero h v = Ok None
+name_by_reference known (suc more) h v =
     and_then (referred_entry known h v)
-    (name_of_entry limit (name_by_reference limit known more))
+    (name_of_entry (name_by_reference known more))
 
 -- a chain has at most this number of references
 abbrev pub most_references : ℕ
@@ -45,11 +45,11 @@ most_references = 16
 
 -- the name by one attribute: one that can be read, or that which a reference leads to
 abbrev pub name_of_attribute
-    : ℕ → HoldingUnit → (RawValue → Result (Option View) Error) → RawAttribute
+    : HoldingUnit → (RawValue → Result (Option View) Error) → RawAttribute
     → Result (Option View) Error
-name_of_attribute limit h follow a =
+name_of_attribute h follow a =
     if is_linkage_name a.name || is_name a.name
-    then Ok (text_of limit h (value_under a.name a.value))
+    then Ok (text_of h (value_under a.name a.value))
     else if is_reference a.name then follow (value_under a.name a.value)
     else Ok None
 
@@ -66,26 +66,26 @@ first_name (r ∷ rs) = and_then r (λ name. name_or name (first_name rs))
 -- The last linkage name that can be read, or else the first name by an attribute. In either
 -- case a refusal before the first name counts.
 abbrev pub name_of_attributes
-    : ℕ → HoldingUnit → (RawValue → Result (Option View) Error) → List RawAttribute
+    : HoldingUnit → (RawValue → Result (Option View) Error) → List RawAttribute
     → Result (Option View) Error
-name_of_attributes limit h follow attributes =
-    and_then (first_name (map (name_of_attribute limit h follow) attributes)) (λ first.
+name_of_attributes h follow attributes =
+    and_then (first_name (map (name_of_attribute h follow) attributes)) (λ first.
     Ok (last_or first
-    (filter_map (value_of_kind (text_of limit h) is_linkage_name) attributes)))
+    (filter_map (value_of_kind (text_of h) is_linkage_name) attributes)))
 
 -- the name of a function or a call with these attributes
 abbrev pub name_of
-    : ℕ → KnownUnits → HoldingUnit → List RawAttribute → Result (Option View) Error
-name_of limit known h attributes =
-    name_of_attributes limit h (name_by_reference limit known most_references h) attributes
+    : KnownUnits → HoldingUnit → List RawAttribute → Result (Option View) Error
+name_of known h attributes =
+    name_of_attributes h (name_by_reference known most_references h) attributes
 
 -- ---- attribute by attribute
 
 -- the name by those of some attributes and one more
 abbrev pub name_with
-    : ℕ → HoldingUnit → (RawValue → Result (Option View) Error) → Option View → RawAttribute
+    : HoldingUnit → (RawValue → Result (Option View) Error) → Option View → RawAttribute
     → Result (Option View) Error
-name_with limit h follow found a =
+name_with h follow found a =
     if is_linkage_name a.name
-    then Ok (option_or (text_of limit h (value_under a.name a.value)) found)
-    else name_or found (name_of_attribute limit h follow a)
+    then Ok (option_or (text_of h (value_under a.name a.value)) found)
+    else name_or found (name_of_attribute h follow a)

@@ -1,4 +1,4 @@
-pub use Rattle.gimli_dwarf.specs.DwarfSections
+pub use Rattle.gimli_dwarf.specs.DwarfFiles
 pub use Rattle.gimli_dwarf.specs.UnitFacts
 pub mod EntryReferences
 pub mod EntryNamings

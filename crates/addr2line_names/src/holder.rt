@@ -9,7 +9,7 @@ ghost use Rattle.addr2line_names.specs.EntryNamings.{is_linkage_name, text_of};
 
 use crate::attributes::is_linkage_name;
 use crate::file::DebugFile;
-use gimli_dwarf::{Attribute, AttributeValue, Dwarf, Error, Reader, ReaderOffset, Unit};
+use gimli_dwarf::{Attribute, AttributeValue, Error, Reader, ReaderOffset, Unit, UnitRef};
 use std::marker::Model;
 
 /// A value with a unit. A list of them can be searched for the unit that a reference leads to.
@@ -29,12 +29,11 @@ impl<R: Reader> HasUnit<R> for Unit<R> {
     }
 }
 
-/// The unit that holds an entry, with the sections of its file.
+/// The unit that holds an entry, and which of the files it is in.
 #[derive(Drop)]
 pub struct HoldingUnit<'a, R: Reader> {
     pub file: DebugFile,
-    pub dwarf: &'a Dwarf<R>,
-    pub unit: &'a Unit<R>,
+    pub unit: UnitRef<'a, R>,
 }
 
 impl<'a, R: Reader> Model for HoldingUnit<'a, R> {
@@ -42,33 +41,33 @@ impl<'a, R: Reader> Model for HoldingUnit<'a, R> {
 
     ghost Value = { Holder };
 
-    ghost view = { λ h. record { file = h.file; sections = h.dwarf.now; facts = h.unit.now } };
+    ghost view = { λ h. record { file = h.file; unit = h.unit } };
 }
 
 impl<'a, R: Reader> HoldingUnit<'a, R> {
-    pub fn new(file: DebugFile, dwarf: &'a Dwarf<R>, unit: &'a Unit<R>) -> Self
-        ensures { result ≡ record { file = file; sections = dwarf.now; facts = unit.now } }
+    pub fn new(file: DebugFile, unit: UnitRef<'a, R>) -> Self
+        ensures { result ≡ record { file = file; unit = unit.entry } }
     {
-        HoldingUnit { file, dwarf, unit }
+        HoldingUnit { file, unit }
     }
 
     /// The same unit in the same file.
     pub(crate) fn same_unit(&self) -> HoldingUnit<'a, R>
         ensures { result ≡ self.now }
     {
+        let unit = &self.unit;
         HoldingUnit {
             file: self.file,
-            dwarf: self.dwarf,
-            unit: self.unit,
+            unit: UnitRef::new(unit.dwarf, unit.unit),
         }
     }
 
     // The text of a value of an attribute of one of the unit's entries, where it can be read.
     fn text_of(&self, value: AttributeValue<R>) -> Result<Option<R>, Error>
         ensures { ReturnsAsOrNoMemory (option_map R.view) result
-            (Ok (text_of R.Offset.limit self.now (raw_value_of R.view R.Offset.count value))) }
+            (Ok (text_of self.now (raw_value_of R.view R.Offset.count value))) }
     {
-        match self.dwarf.attr_string(self.unit, value) {
+        match self.unit.attr_string(value) {
             Ok(text) => Ok(Some(text)),
             Err(Error::Memory) => Err(Error::Memory),
             Err(_) => Ok(None),
@@ -80,7 +79,7 @@ impl<'a, R: Reader> HoldingUnit<'a, R> {
     pub(crate) fn text(&self, attribute: &Attribute<R>) -> Result<Option<R>, Error>
         ensures { let a = raw_attribute_of R.view R.Offset.count attribute.now in
             ReturnsAsOrNoMemory (option_map R.view) result
-            (Ok (text_of R.Offset.limit self.now (value_under a.name a.value))) }
+            (Ok (text_of self.now (value_under a.name a.value))) }
     {
         self.text_of(attribute.value()?)
     }
@@ -88,7 +87,7 @@ impl<'a, R: Reader> HoldingUnit<'a, R> {
     /// The linkage name in an attribute, if it is one that can be read.
     pub(crate) fn linkage_name(&self, attribute: &Attribute<R>) -> Result<Option<R>, Error>
         ensures { ReturnsAsOrNoMemory (option_map R.view) result
-            (Ok (value_of_kind (text_of R.Offset.limit self.now) is_linkage_name
+            (Ok (value_of_kind (text_of self.now) is_linkage_name
             (raw_attribute_of R.view R.Offset.count attribute.now))) }
     {
         if is_linkage_name(attribute.name()) {

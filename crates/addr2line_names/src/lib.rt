@@ -12,6 +12,5 @@ mod naming;
 mod references;
 
 pub use file::DebugFile;
-pub use gimli_dwarf::{Dwarf, Unit};
 pub use holder::{HasUnit, HoldingUnit};
 pub use names::KnownUnits;

@@ -2,7 +2,7 @@
 
 ghost use Rattle.std.specs.Prelude.{◌≡◌, map, option_map};
 ghost use Rattle.gimli_dwarf.specs.Calls.{ReturnsAs, Returns, ReturnsAsOrNoMemory};
-ghost use Rattle.gimli_dwarf.specs.DwarfSections.{supplement};
+ghost use Rattle.gimli_dwarf.specs.DwarfFiles.{supplement};
 ghost use Rattle.gimli_dwarf.specs.AttributeValues.{raw_value_of, raw_attribute_of};
 ghost use Rattle.gimli_dwarf.specs.EntryViews.{raw_attributes};
 ghost use Rattle.addr2line_names.specs.EntryReferences.{referred_entry, units_in, entry_among, entry_in_supplement};
@@ -13,7 +13,7 @@ use crate::entry::ReferredEntry;
 use crate::file::DebugFile;
 use crate::holder::{HasUnit, HoldingUnit};
 use crate::naming::EntryNaming;
-use crate::references::{entry_among, supplement_of};
+use crate::references::entry_among;
 use gimli_dwarf::{Attribute, AttributeValue, DebugInfoOffset, Error, Reader, ReaderOffset, Unit};
 use std::marker::Model;
 
@@ -58,13 +58,14 @@ impl<'a, R: Reader, U: HasUnit<R>> KnownUnits<'a, R, U> {
         offset: DebugInfoOffset<R::Offset>,
     ) -> Result<ReferredEntry<'a, R>, Error>
         ensures { Returns result
-            (entry_among holder.now.file holder.now.sections (units_in holder.now.file self.now)
+            (entry_among holder.now.file holder.now.unit.file (units_in holder.now.file self.now)
             (R.Offset.count offset.0)) }
     {
+        let unit = &holder.unit;
         match holder.file {
-            DebugFile::Primary => entry_among(holder.file, holder.dwarf, self.units, offset),
+            DebugFile::Primary => entry_among(holder.file, unit.dwarf, self.units, offset),
             DebugFile::Supplementary => {
-                entry_among(holder.file, holder.dwarf, self.supplement_units, offset)
+                entry_among(holder.file, unit.dwarf, self.supplement_units, offset)
             }
             DebugFile::Dwo => Err(Error::NoEntryAtGivenOffset(offset.0.into_u64())),
         }
@@ -79,9 +80,11 @@ impl<'a, R: Reader, U: HasUnit<R>> KnownUnits<'a, R, U> {
     ) -> Result<Option<ReferredEntry<'a, R>>, Error>
         ensures { ReturnsAs (option_map (λ e. e)) result
             (entry_in_supplement self.now (R.Offset.count offset.0)
-            (supplement holder.now.sections)) }
+            (supplement holder.now.unit.file)) }
     {
-        match supplement_of(holder.dwarf) {
+        let unit = &holder.unit;
+        let dwarf = unit.dwarf;
+        match dwarf.sup() {
             Some(sup) => Ok(Some(entry_among(
                 DebugFile::Supplementary,
                 sup,
@@ -120,7 +123,7 @@ impl<'a, R: Reader, U: HasUnit<R>> KnownUnits<'a, R, U> {
         left: u32,
     ) -> Result<Option<R>, Error>
         ensures { ReturnsAsOrNoMemory (option_map R.view) result
-            (name_by_reference R.Offset.limit self.now left holder.now
+            (name_by_reference self.now left holder.now
             (raw_value_of R.view R.Offset.count value.now)) }
     {
         if left == 0 {
@@ -147,8 +150,8 @@ impl<'a, R: Reader, U: HasUnit<R>> KnownUnits<'a, R, U> {
         attribute: &Attribute<R>,
     ) -> Result<Option<R>, Error>
         ensures { ReturnsAsOrNoMemory (option_map R.view) result
-            (name_of_attribute R.Offset.limit holder.now
-            (name_by_reference R.Offset.limit self.now most_references holder.now)
+            (name_of_attribute holder.now
+            (name_by_reference self.now most_references holder.now)
             (raw_attribute_of R.view R.Offset.count attribute.now)) }
     {
         let name = attribute.name();
@@ -170,8 +173,8 @@ impl<'a, R: Reader, U: HasUnit<R>> KnownUnits<'a, R, U> {
         attribute: &Attribute<R>,
     ) -> Result<Option<R>, Error>
         ensures { ReturnsAsOrNoMemory (option_map R.view) result
-            (name_with R.Offset.limit holder.now
-            (name_by_reference R.Offset.limit self.now most_references holder.now)
+            (name_with holder.now
+            (name_by_reference self.now most_references holder.now)
             (option_map R.view found) (raw_attribute_of R.view R.Offset.count attribute.now)) }
     {
         if is_linkage_name(attribute.name()) {
@@ -194,7 +197,7 @@ impl<'a, R: Reader, U: HasUnit<R>> KnownUnits<'a, R, U> {
         attributes: &[Attribute<R>],
     ) -> Result<Option<R>, Error>
         ensures { ReturnsAsOrNoMemory (option_map R.view) result
-            (name_of R.Offset.limit self.now holder.now
+            (name_of self.now holder.now
             (raw_attributes R.view R.Offset.count attributes.now)) }
     {
         let mut found = None;

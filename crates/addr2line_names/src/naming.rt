@@ -13,7 +13,6 @@ use crate::entry::ReferredEntry;
 use crate::holder::HoldingUnit;
 use gimli_dwarf::{
     Attribute, AttributeSpecification, AttributeValue, EntriesRaw, Error, Reader, ReaderOffset,
-    entries_raw,
 };
 
 /// An entry has a name, or the value of a reference to follow, or neither.
@@ -28,7 +27,7 @@ impl<'a, R: Reader> HoldingUnit<'a, R> {
     // The name in an attribute, if it is one that can be read.
     fn plain_name(&self, attribute: &Attribute<R>) -> Result<Option<R>, Error>
         ensures { ReturnsAsOrNoMemory (option_map R.view) result
-            (Ok (value_of_kind (text_of R.Offset.limit self.now) is_name
+            (Ok (value_of_kind (text_of self.now) is_name
             (raw_attribute_of R.view R.Offset.count attribute.now))) }
     {
         if is_name(attribute.name()) {
@@ -45,7 +44,7 @@ impl<'a, R: Reader> HoldingUnit<'a, R> {
         attribute: &Attribute<R>,
     ) -> Result<EntryNaming<R>, Error>
         ensures { ReturnsAsOrNoMemory (naming_view R.view R.Offset.count) result
-            (Ok (naming_with R.Offset.limit self.now
+            (Ok (naming_with self.now
             (naming_view R.view R.Offset.count found)
             (raw_attribute_of R.view R.Offset.count attribute.now))) }
     {
@@ -65,7 +64,7 @@ impl<'a, R: Reader> HoldingUnit<'a, R> {
         specifications: &[AttributeSpecification],
     ) -> Result<EntryNaming<R>, Error>
         ensures { ReturnsAsOrNoMemory (naming_view R.view R.Offset.count) result
-            (naming_in R.Offset.limit self.now
+            (naming_in self.now
             (attributes_from R.Offset.limit
             (map attribute_view specifications.now) entries.entry)) }
     {
@@ -102,14 +101,14 @@ impl<'a, R: Reader> ReferredEntry<'a, R> {
     /// The naming of the entry, or why it can't be read.
     pub(crate) fn naming(&self) -> Result<EntryNaming<R>, Error>
         ensures { ReturnsAsOrNoMemory (naming_view R.view R.Offset.count) result
-            (naming_at R.Offset.limit self.now) }
+            (naming_at self.now) }
     {
-        let unit = self.holder.unit;
-        let mut entries = entries_raw(&unit.header, &unit.abbreviations, Some(self.offset))?;
+        let holder = &self.holder;
+        let mut entries = holder.unit.entries_raw(Some(self.offset))?;
         let Some(abbreviation) = entries.read_abbreviation()? else {
             let offset = self.offset.0.into_u64();
             return Err(Error::NoEntryAtGivenOffset(offset));
         };
-        self.holder.naming_in(entries, abbreviation.attributes())
+        holder.naming_in(entries, abbreviation.attributes())
     }
 }

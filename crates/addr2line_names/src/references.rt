@@ -2,13 +2,14 @@
 
 ghost use Rattle.std.specs.Prelude.{◌≡◌, map, option_map};
 ghost use Rattle.gimli_dwarf.specs.Calls.{Returns};
-ghost use Rattle.gimli_dwarf.specs.DwarfSections.{supplement};
 ghost use Rattle.addr2line_names.specs.EntryReferences.{begins_below, unit_below, entry_among};
 
 use crate::entry::ReferredEntry;
 use crate::file::DebugFile;
 use crate::holder::{HasUnit, HoldingUnit};
-use gimli_dwarf::{DebugInfoOffset, Dwarf, Error, OffsetInSection, Reader, ReaderOffset, Unit};
+use gimli_dwarf::{
+    DebugInfoOffset, Dwarf, Error, OffsetInSection, Reader, ReaderOffset, Unit, UnitRef,
+};
 
 // Whether a unit begins below an offset of its section.
 fn begins_below<R: Reader>(unit: &Unit<R>, offset: DebugInfoOffset<R::Offset>) -> bool
@@ -50,16 +51,6 @@ pub(crate) fn entry_among<'a, R: Reader, U: HasUnit<R>>(
     let refusal = Error::NoEntryAtGivenOffset(offset.0.into_u64());
     let unit = unit_below(units, offset).ok_or(refusal)?;
     let offset = offset.to_unit_offset(&unit.header).ok_or(refusal)?;
-    let holder = HoldingUnit { file, dwarf, unit };
+    let holder = HoldingUnit::new(file, UnitRef::new(dwarf, unit));
     Ok(ReferredEntry { holder, offset })
-}
-
-/// The sections of a file's supplement, if it has one.
-pub(crate) fn supplement_of<'a, R: Reader>(dwarf: &'a Dwarf<R>) -> Option<&'a Dwarf<R>>
-    ensures { option_map (λ s. s.now) result ≡ supplement dwarf.now }
-{
-    match &dwarf.sup {
-        Some(sup) => Some(sup),
-        None => None,
-    }
 }

@@ -4,7 +4,7 @@ use Rattle.gimli_lines_machine.specs.View.{View}
 use Rattle.gimli_lines_machine.specs.Repetition.{items_within, listing_in}
 use Rattle.gimli_lines_machine.specs.DwarfFileType.TheVariants.{Main}
 use Rattle.gimli_lines_machine.specs.Range.{Range}
-use Rattle.gimli_dwarf_spec.specs.DwarfSections.{Sections}
+use Rattle.gimli_dwarf_spec.specs.DwarfFiles.{DwarfFile}
 use Rattle.addr2line_spec.specs.Contexts.{context}
 use Rattle.addr2line_spec.specs.UnitRanges.{begins_at, ends_at, has_size, no_fact, range_of_root}
 
@@ -12,9 +12,10 @@ abbrev view : List ℕ → View
 view bytes = record { bytes = bytes; is_big = false; first = 0 }
 
 -- a file all of whose sections are empty
-abbrev no_sections : Sections
+abbrev no_sections : DwarfFile
 no_sections = record {
-  file = record {
+  offset_limit = 2 ^ 64;
+  sections = record {
     debug_abbrev = view [];
     debug_addr = view [];
     debug_aranges = view [];
@@ -34,12 +35,9 @@ no_sections = record {
   supplements = [];
 }
 
-abbrev limit : ℕ
-limit = 2 ^ 64
-
 -- ---- no sections
 
-nothing_to_look_up : context limit no_sections ≡ Ok (record { units = []; supplement_units = [] })
+nothing_to_look_up : context no_sections ≡ Ok (record { units = []; supplement_units = [] })
 unfolding items_within listing_in
 nothing_to_look_up = refl
 

@@ -149,7 +149,7 @@ all_enclosed limit (suc n) i fits = by (int_lt (pos 0) i.walk.depth) refl (all_e
 pub each_is_enclosed : (limit : ℕ) (w : Walk) → w.depth ≡ pos 1 → All IsEnclosed (entries_of limit w).items
 unfolding entries_below listing_in
 each_is_enclosed limit w one =
-    all_enclosed limit (suc (bytes_left w.left)) (record { walk = w; before = [] }) (λ d low high. record {
+    all_enclosed limit (suc (bytes_left w.rest)) (record { walk = w; before = [] }) (λ d low high. record {
       as_deep = omega (arith, ints);
       all_open = refl;
     })

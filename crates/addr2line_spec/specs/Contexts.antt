@@ -9,9 +9,9 @@ use Rattle.gimli_dwarf_spec.specs.AttributeValues.{RawAttribute}
 use Rattle.gimli_dwarf_spec.specs.ArangeSets.{sets_to_come}
 use Rattle.gimli_dwarf_spec.specs.Tiling.{whole_section}
 use Rattle.gimli_dwarf_spec.specs.UnitHeaders.{DebugUnit, UnitKind, type_unit, split_type, units_to_come}
-use Rattle.gimli_lines_machine.specs.Results.{and_then, unless, each, ◌>>=◌}
-use Rattle.gimli_dwarf_spec.specs.DwarfSections.{Sections, supplement}
-use Rattle.gimli_dwarf_spec.specs.UnitFacts.{UnitFacts, unit_facts, root}
+use Rattle.gimli_lines_machine.specs.Results.{unless, each, ◌>>=◌}
+use Rattle.gimli_dwarf_spec.specs.DwarfFiles.{DwarfFile, supplement}
+use Rattle.gimli_dwarf_spec.specs.UnitFacts.{UnitFacts, UnitInFile, in_file, unit_facts, root}
 use Rattle.addr2line_spec.specs.Lines.{Lines, Location, Stretch}
 use Rattle.addr2line_spec.specs.PlaceLookups.{location_at, stretches_between}
 use Rattle.addr2line_spec.specs.UnitLines.{lines_of_unit}
@@ -37,45 +37,48 @@ readable_facts (Ok u) = Some u
 readable_facts (Err e) = None
 
 -- the facts of a unit of code that isn't refused
-abbrev pub facts_of_code_unit : ℕ → Sections → DebugUnit → Option UnitFacts
-facts_of_code_unit limit s h =
-    if is_of_types h.kind then None else readable_facts (unit_facts limit s h)
+abbrev pub facts_of_code_unit : DwarfFile → DebugUnit → Option UnitFacts
+facts_of_code_unit file h =
+    if is_of_types h.kind then None else readable_facts (unit_facts file h)
 
 -- a unit whose root has these attributes
-abbrev pub unit_of_root : ℕ → Sections → UnitFacts → Result Lines Error → List RawAttribute
-    → Result ContextUnit Error
-unit_of_root limit s u lines attributes = do
-  ranges ← ranges_of_attributes limit s u lines attributes
-  Ok (record { facts = u; ranges = ranges; language = language_in attributes; lines = lines })
+abbrev pub unit_of_root
+    : UnitInFile → Result Lines Error → List RawAttribute → Result ContextUnit Error
+unit_of_root u lines attributes = do
+  ranges ← ranges_of_attributes u lines attributes
+  Ok (record { facts = u.facts; ranges = ranges; language = language_in attributes; lines = lines })
 
 -- a unit of a context, or the refusal of its ranges; of a partial unit the root isn't looked at
-abbrev pub context_unit : ℕ → Sections → UnitFacts → Result ContextUnit Error
-context_unit limit s u =
-    let lines = lines_of_unit limit s u in
-    if is_partial u.header.kind
-    then Ok (record { facts = u; ranges = []; language = None; lines = lines })
-    else and_then (root limit u.header u.table) (λ r. unit_of_root limit s u lines r.attributes)
+abbrev pub context_unit : UnitInFile → Result ContextUnit Error
+context_unit u =
+    let lines = lines_of_unit u in
+    if is_partial u.facts.header.kind
+    then Ok (record { facts = u.facts; ranges = []; language = None; lines = lines })
+    else (do
+      r ← root u.file.offset_limit u.facts.header u.facts.table
+      unit_of_root u lines r.attributes)
 
 -- ---- files
 
 -- the headers of a file's units, and what ends them
-abbrev pub headers_of : ℕ → Sections → Listing View DebugUnit
-headers_of limit s = units_to_come limit (whole_section s.file.debug_info)
+abbrev pub headers_of : DwarfFile → Listing View DebugUnit
+headers_of file = units_to_come file.offset_limit (whole_section file.sections.debug_info)
 
 -- a context's units of a file, or the first fault: of a unit's ranges, or of a header, which ends
 -- them
-abbrev pub units_of_file : ℕ → Sections → Result (List ContextUnit) Error
-units_of_file limit s = do
-  let headers = headers_of limit s
-  us ← each (context_unit limit s) (filter_map (facts_of_code_unit limit s) headers.items)
+abbrev pub units_of_file : DwarfFile → Result (List ContextUnit) Error
+units_of_file file = do
+  let headers = headers_of file
+  let facts = filter_map (facts_of_code_unit file) headers.items
+  us ← each (λ u. context_unit (in_file file u)) facts
   unless (fault_of headers) (Ok us)
 
 -- the units of a supplement that can be read, of types too, or the fault of a header
-abbrev pub units_of_supplement : ℕ → Option Sections → Result (List UnitFacts) Error
-units_of_supplement limit None = Ok []
-units_of_supplement limit (Some s) =
-    unless (fault_of (headers_of limit s))
-    (Ok (filter_map (λ h. readable_facts (unit_facts limit s h)) (headers_of limit s).items))
+abbrev pub units_of_supplement : Option DwarfFile → Result (List UnitFacts) Error
+units_of_supplement None = Ok []
+units_of_supplement (Some s) =
+    unless (fault_of (headers_of s))
+    (Ok (filter_map (λ h. readable_facts (unit_facts s h)) (headers_of s).items))
 
 -- ---- contexts
 
@@ -86,12 +89,12 @@ pub record Context : Type 0 where
 
 -- A context, unless it is refused: by a header of `.debug_aranges`, by the first fault in
 -- `.debug_info`, or by a header of the supplement, in this order.
-abbrev pub context : ℕ → Sections → Result Context Error
-context limit s =
-    unless (fault_of (sets_to_come limit (whole_section s.file.debug_aranges)))
+abbrev pub context : DwarfFile → Result Context Error
+context file =
+    unless (fault_of (sets_to_come file.offset_limit (whole_section file.sections.debug_aranges)))
     (do
-      units ← units_of_file limit s
-      supplement_units ← units_of_supplement limit (supplement s)
+      units ← units_of_file file
+      supplement_units ← units_of_supplement (supplement file)
       Ok (record { units = units; supplement_units = supplement_units }))
 
 -- ---- lookups

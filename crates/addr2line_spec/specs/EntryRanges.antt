@@ -5,21 +5,21 @@ use Rattle.gimli_lines_machine.specs.Range.{Range}
 use Rattle.gimli_dwarf_spec.specs.AttributeValues.{RawAttribute}
 use Rattle.gimli_lines_machine.specs.Results.{and_then, each, ◌>>=◌}
 use Rattle.gimli_dwarf_spec.specs.Attributes.{ranges_of_list}
-use Rattle.gimli_dwarf_spec.specs.DwarfSections.{Sections}
-use Rattle.gimli_dwarf_spec.specs.UnitFacts.{UnitFacts}
+use Rattle.gimli_dwarf_spec.specs.UnitFacts.{UnitInFile}
 use Rattle.addr2line_spec.specs.UnitRanges.{RangeFact, fact_of, list_in, last_of, range_of_root}
 
 -- its range list, if it has one, else what low_pc and high_pc say
-abbrev pub ranges_of_facts : ℕ → Sections → UnitFacts → List RangeFact → Option (Option ℕ)
+abbrev pub ranges_of_facts : UnitInFile → List RangeFact → Option (Option ℕ)
     → Result (List Range) Error
-ranges_of_facts limit s u facts (Some (Some offset)) =
-    and_then (ranges_of_list limit s u.bases offset) (λ rs. each (λ (r : Result Range Error). r) rs)
-ranges_of_facts limit s u facts _ = Ok (range_of_root facts)
+ranges_of_facts u facts (Some (Some offset)) =
+    and_then (ranges_of_list u.file u.facts.bases offset) (λ rs.
+    each (λ (r : Result Range Error). r) rs)
+ranges_of_facts u facts _ = Ok (range_of_root facts)
 
 -- The ranges of an entry with these attributes, or the first refusal: of an attribute, or else of
 -- the range list.
-abbrev pub ranges_of_entry : ℕ → Sections → UnitFacts → List RawAttribute
+abbrev pub ranges_of_entry : UnitInFile → List RawAttribute
     → Result (List Range) Error
-ranges_of_entry limit s u attributes = do
-  facts ← each (fact_of limit s u.bases) attributes
-  ranges_of_facts limit s u facts (last_of list_in facts)
+ranges_of_entry u attributes = do
+  facts ← each (fact_of u) attributes
+  ranges_of_facts u facts (last_of list_in facts)

@@ -5,15 +5,15 @@ use Rattle.gimli_lines_machine.specs.Range.{Range}
 use Rattle.addr2line_spec.specs.Pairs.{covering_pairs}
 use Rattle.addr2line_spec.specs.Frames.{Frame}
 
--- the first that are refused, or are some; none where each are none
-abbrev pub first_frames : List (Result (List Frame) Error) → Result (List Frame) Error
-first_frames [] = Ok []
-first_frames (Ok [] ∷ rest) = first_frames rest
-first_frames (Ok (f ∷ fs) ∷ rest) = Ok (f ∷ fs)
-first_frames (Err e ∷ rest) = Err e
+-- the first answer that is a refusal or isn't empty; the empty one where all are
+abbrev pub first_nonempty : {A : Type 0} → List (Result (List A) Error) → Result (List A) Error
+first_nonempty [] = Ok []
+first_nonempty (Ok [] ∷ rest) = first_nonempty rest
+first_nonempty (Ok (x ∷ xs) ∷ rest) = Ok (x ∷ xs)
+first_nonempty (Err e ∷ rest) = Err e
 
 -- the frames of an address: those of the first pair that covers it whose unit has some
 abbrev pub frames_at : {U : Type 0} → (U → List Range) → (U → ℕ → Result (List Frame) Error)
     → List U → ℕ → Result (List Frame) Error
 frames_at ranges frames us a =
-    first_frames (map (λ p. frames p.unit a) (covering_pairs ranges us a))
+    first_nonempty (map (λ p. frames p.unit a) (covering_pairs ranges us a))

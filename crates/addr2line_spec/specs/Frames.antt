@@ -4,8 +4,7 @@ use Rattle.std.specs.Prelude.{ℕ, ◌==◌, List, [], ◌∷◌, ◌++◌, slic
 use Rattle.gimli_lines_machine.specs.Error.{Error}
 use Rattle.gimli_lines_machine.specs.View.{View}
 use Rattle.gimli_lines_machine.specs.Results.{some_of, ◌>>=◌}
-use Rattle.gimli_dwarf_spec.specs.DwarfSections.{Sections}
-use Rattle.gimli_dwarf_spec.specs.UnitFacts.{UnitFacts}
+use Rattle.gimli_dwarf_spec.specs.UnitFacts.{UnitInFile}
 use Rattle.addr2line_spec.specs.Lines.{Lines, Location, place_in}
 use Rattle.addr2line_spec.specs.Functions.{Function, functions_of_unit, function_at}
 use Rattle.addr2line_spec.specs.InlinedCalls.{Call, FunctionCalls, Naming, calls_of_function, chain_at}
@@ -78,11 +77,11 @@ function_of_offset_if_any at None = Ok None
 function_of_offset_if_any at (Some f) = some_of (function_of_offset at f.offset)
 
 -- the function of an address in a unit, with its calls
-abbrev pub function_with_calls : ℕ → Sections → UnitFacts → Naming → ℕ
+abbrev pub function_with_calls : UnitInFile → Naming → ℕ
     → Result (Option FunctionAt) Error
-function_with_calls limit s u naming a = do
-  fs ← functions_of_unit limit s u
-  function_of_offset_if_any (calls_of_function limit s u naming) (function_at fs a)
+function_with_calls u naming a = do
+  fs ← functions_of_unit u
+  function_of_offset_if_any (calls_of_function u naming) (function_at fs a)
 
 -- the frames of an address in a unit of a language, from its lines
 abbrev pub frames_of : Option ℕ → Lines → ℕ → Option FunctionAt → List Frame
@@ -92,9 +91,9 @@ frames_of language l a (Some f) =
 
 -- The frames of an address in a unit, innermost call first. Refused by its functions, by the
 -- function that holds the address, or by its lines, in this order.
-abbrev pub frames_of_unit : ℕ → Sections → UnitFacts → Naming → Option ℕ → Result Lines Error → ℕ
+abbrev pub frames_of_unit : UnitInFile → Naming → Option ℕ → Result Lines Error → ℕ
     → Result (List Frame) Error
-frames_of_unit limit s u naming language lines a = do
-  f ← function_with_calls limit s u naming a
+frames_of_unit u naming language lines a = do
+  f ← function_with_calls u naming a
   l ← lines
   Ok (frames_of language l a f)

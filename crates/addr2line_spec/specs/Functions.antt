@@ -8,8 +8,7 @@ use Rattle.gimli_dwarf_spec.specs.EntryWalks.{Walk}
 use Rattle.gimli_dwarf_spec.specs.EntryRows.{Row, rows}
 use Rattle.gimli_dwarf_spec.specs.UnitEntries.{walk_before}
 use Rattle.gimli_lines_machine.specs.Results.{unless, each, ◌>>=◌}
-use Rattle.gimli_dwarf_spec.specs.DwarfSections.{Sections}
-use Rattle.gimli_dwarf_spec.specs.UnitFacts.{UnitFacts}
+use Rattle.gimli_dwarf_spec.specs.UnitFacts.{UnitInFile}
 use Rattle.addr2line_spec.specs.Choice.{holder}
 use Rattle.addr2line_spec.specs.Pairs.{Pair, pairs_from}
 use Rattle.addr2line_spec.specs.EntryRanges.{ranges_of_entry}
@@ -26,9 +25,9 @@ abbrev pub is_subprogram : ℕ → Bool
 is_subprogram tag = tag == DW_TAG_subprogram.0
 
 -- a function of an entry, or the refusal of its ranges
-abbrev pub function_of : ℕ → Sections → UnitFacts → Row → Result Function Error
-function_of limit s u r = do
-  rs ← ranges_of_entry limit s u r.attributes
+abbrev pub function_of : UnitInFile → Row → Result Function Error
+function_of u r = do
+  rs ← ranges_of_entry u r.attributes
   Ok (record { offset = r.offset; ranges = rs })
 
 abbrev pub has_range : Function → Bool
@@ -36,17 +35,18 @@ has_range f = not (length f.ranges == 0)
 
 -- The functions among rows, those that have a range, or the first refusal by place: of a function's
 -- ranges, or of what ends the rows.
-abbrev pub functions_of_rows : ℕ → Sections → UnitFacts → Listing Walk Row
+abbrev pub functions_of_rows : UnitInFile → Listing Walk Row
     → Result (List Function) Error
-functions_of_rows limit s u l = do
-  fs ← each (function_of limit s u) (filter (λ r. is_subprogram r.tag) l.items)
+functions_of_rows u l = do
+  fs ← each (function_of u) (filter (λ r. is_subprogram r.tag) l.items)
   unless (fault_of l) (Ok (filter has_range fs))
 
 -- those of a unit, whose other entries are skipped
-abbrev pub functions_of_unit : ℕ → Sections → UnitFacts → Result (List Function) Error
-functions_of_unit limit s u =
-    functions_of_rows limit s u
-    (rows limit is_subprogram (walk_before u.header u.table u.header.entries))
+abbrev pub functions_of_unit : UnitInFile → Result (List Function) Error
+functions_of_unit u =
+    functions_of_rows u
+    (rows u.file.offset_limit is_subprogram
+    (walk_before u.facts.header u.facts.table u.facts.header.entries))
 
 -- ---- the function of an address
 

@@ -13,8 +13,7 @@ use Rattle.gimli_dwarf_spec.specs.EntryWalks.{Walk}
 use Rattle.gimli_dwarf_spec.specs.EntryRows.{Row, row, row_choosing, not_null}
 use Rattle.gimli_dwarf_spec.specs.UnitEntries.{walk_from}
 use Rattle.gimli_lines_machine.specs.Results.{unless, each, ◌>>=◌}
-use Rattle.gimli_dwarf_spec.specs.DwarfSections.{Sections}
-use Rattle.gimli_dwarf_spec.specs.UnitFacts.{UnitFacts}
+use Rattle.gimli_dwarf_spec.specs.UnitFacts.{UnitInFile}
 use Rattle.addr2line_spec.specs.Choice.{holder}
 use Rattle.addr2line_spec.specs.Pairs.{Pair, pairs_from}
 use Rattle.addr2line_spec.specs.EntryRanges.{ranges_of_entry}
@@ -82,7 +81,7 @@ entry_below limit i =
 -- where the unit ends before
 unfoldable pub entries_below : ℕ → FunctionWalk → Listing FunctionWalk NestedEntry
 entries_below limit i =
-    listing_in (λ (x : FunctionWalk). bytes_left x.walk.left) (entry_below limit) i
+    listing_in (λ (x : FunctionWalk). bytes_left x.walk.rest) (entry_below limit) i
 
 -- those after the function's entry, which is at depth 0
 abbrev pub entries_of : ℕ → Walk → Listing FunctionWalk NestedEntry
@@ -137,28 +136,28 @@ abbrev pub Naming : Type 0
 Naming = List RawAttribute → Result (Option View) Error
 
 -- the call of an entry of a depth, or the refusal of its name, or else of its ranges
-abbrev pub call_at : ℕ → Sections → UnitFacts → Naming → ℕ → Row → Result Call Error
-call_at limit s u naming depth r = do
+abbrev pub call_at : UnitInFile → Naming → ℕ → Row → Result Call Error
+call_at u naming depth r = do
   name ← naming r.attributes
-  rs ← ranges_of_entry limit s u r.attributes
+  rs ← ranges_of_entry u r.attributes
   Ok (record {
     depth = depth;
     offset = r.offset;
     ranges = rs;
     name = name;
-    file = call_file u.header.encoding.version r.attributes;
+    file = call_file u.facts.header.encoding.version r.attributes;
     line = number_or_0 is_call_line r.attributes;
     column = number_or_0 is_call_column r.attributes;
   })
 
-abbrev pub call_of : ℕ → Sections → UnitFacts → Naming → NestedEntry → Result Call Error
-call_of limit s u naming b = call_at limit s u naming (calls_above b.outer) b.row
+abbrev pub call_of : UnitInFile → Naming → NestedEntry → Result Call Error
+call_of u naming b = call_at u naming (calls_above b.outer) b.row
 
 -- The calls among entries, or the first refusal by place: of a call, or of what ends the entries.
-abbrev pub calls_among : ℕ → Sections → UnitFacts → Naming → Listing FunctionWalk NestedEntry
+abbrev pub calls_among : UnitInFile → Naming → Listing FunctionWalk NestedEntry
     → Result (List Call) Error
-calls_among limit s u naming l = do
-  cs ← each (call_of limit s u naming) (filter is_call l.items)
+calls_among u naming l = do
+  cs ← each (call_of u naming) (filter is_call l.items)
   unless (fault_of l) (Ok cs)
 
 -- ---- a function with its calls
@@ -170,26 +169,26 @@ pub record FunctionCalls : Type 0 where
   pub calls : List Call
 
 -- a function whose entry is read
-abbrev pub function_calls : ℕ → Sections → UnitFacts → Naming → Row → Walk
+abbrev pub function_calls : UnitInFile → Naming → Row → Walk
     → Result FunctionCalls Error
-function_calls limit s u naming r w = do
+function_calls u naming r w = do
   name ← naming r.attributes
-  calls ← calls_among limit s u naming (entries_of limit w)
+  calls ← calls_among u naming (entries_of u.file.offset_limit w)
   Ok (record { name = name; calls = calls })
 
-abbrev pub calls_of_row : ℕ → Sections → UnitFacts → Naming → ℕ → Result (Row × Walk) Error
+abbrev pub calls_of_row : UnitInFile → Naming → ℕ → Result (Row × Walk) Error
     → Result FunctionCalls Error
-calls_of_row limit s u naming offset (Err e) = Err e
-calls_of_row limit s u naming offset (Ok r) = do
+calls_of_row u naming offset (Err e) = Err e
+calls_of_row u naming offset (Ok r) = do
   row ← not_null offset r.0
-  function_calls limit s u naming row r.1
+  function_calls u naming row r.1
 
 -- The function whose entry is at an offset of a unit: refused by the walk from there or by its own
 -- entry, its name, or its calls.
-abbrev pub calls_of_function : ℕ → Sections → UnitFacts → Naming → ℕ → Result FunctionCalls Error
-calls_of_function limit s u naming offset = do
-  w ← walk_from u.header u.table (Some offset)
-  calls_of_row limit s u naming offset (row limit w)
+abbrev pub calls_of_function : UnitInFile → Naming → ℕ → Result FunctionCalls Error
+calls_of_function u naming offset = do
+  w ← walk_from u.facts.header u.facts.table (Some offset)
+  calls_of_row u naming offset (row u.file.offset_limit w)
 
 -- ---- the calls of an address
 

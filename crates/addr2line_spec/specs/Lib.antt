@@ -6,7 +6,7 @@ pub use Rattle.gimli_lines_machine.specs.View
 pub use Rattle.gimli_lines_machine.specs.Error
 pub use Rattle.gimli_lines_machine.specs.Range
 pub use Rattle.gimli_dwarf_spec.specs.Attributes
-pub use Rattle.gimli_dwarf_spec.specs.DwarfSections
+pub use Rattle.gimli_dwarf_spec.specs.DwarfFiles
 pub use Rattle.gimli_dwarf_spec.specs.UnitFacts
 pub mod Choice
 pub mod LookupLaws

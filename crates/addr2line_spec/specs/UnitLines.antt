@@ -13,8 +13,7 @@ use Rattle.gimli_lines_machine.specs.Decoding.{instructions_with}
 use Rattle.gimli_lines_machine.specs.LineInstructions.{InstructionOf}
 use Rattle.gimli_lines_machine.specs.Runs.{Execution, run_of, shown_rows, files_of}
 use Rattle.gimli_lines_machine.specs.Results.{and_then, unless}
-use Rattle.gimli_dwarf_spec.specs.DwarfSections.{Sections}
-use Rattle.gimli_dwarf_spec.specs.UnitFacts.{UnitFacts}
+use Rattle.gimli_dwarf_spec.specs.UnitFacts.{UnitInFile}
 use Rattle.addr2line_spec.specs.Lines.{ProgramRow, Lines, no_lines, sequences_of_rows}
 use Rattle.addr2line_spec.specs.FileTexts.{texts_of_files}
 
@@ -58,20 +57,20 @@ with_defined_files limit h = record h { files = h.files ++ files_of (run_of_prog
 
 -- the lines of a program: its sequences and its files' texts; refused by its fault, or by the first
 -- text that can't be read
-abbrev pub lines_of_program : ℕ → Sections → UnitFacts → LineHeader → Result Lines Error
-lines_of_program limit s u h =
-    unless (fault_of_program limit h)
-    (and_then (texts_of_files limit s u (with_defined_files limit h)) (λ files.
+abbrev pub lines_of_program : UnitInFile → LineHeader → Result Lines Error
+lines_of_program u h =
+    unless (fault_of_program u.file.offset_limit h)
+    (and_then (texts_of_files u (with_defined_files u.file.offset_limit h)) (λ files.
     Ok (record {
       sequences = sequences_of_rows
-          (map program_row (shown_rows (run_of_program limit h).items));
+          (map program_row (shown_rows (run_of_program u.file.offset_limit h).items));
       files = files;
     })))
 
-abbrev pub lines_if_any : ℕ → Sections → UnitFacts → Option LineHeader → Result Lines Error
-lines_if_any limit s u None = Ok no_lines
-lines_if_any limit s u (Some h) = lines_of_program limit s u h
+abbrev pub lines_if_any : UnitInFile → Option LineHeader → Result Lines Error
+lines_if_any u None = Ok no_lines
+lines_if_any u (Some h) = lines_of_program u h
 
 -- the lines of a unit; none where it has no program
-abbrev pub lines_of_unit : ℕ → Sections → UnitFacts → Result Lines Error
-lines_of_unit limit s u = lines_if_any limit s u u.line_header
+abbrev pub lines_of_unit : UnitInFile → Result Lines Error
+lines_of_unit u = lines_if_any u u.facts.line_header

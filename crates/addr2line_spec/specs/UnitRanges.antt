@@ -9,9 +9,9 @@ use Rattle.gimli_dwarf_spec.specs.AttributeValues.{RawValue, RawAttribute, addre
 use Rattle.gimli_dwarf_spec.specs.ArangeSets.{ArangeSet, ArangePair, sets_of, pairs_of, aranges_to_come, pair_end}
 use Rattle.gimli_dwarf_spec.specs.UnitHeaders.{UnitKind, partial}
 use Rattle.gimli_lines_machine.specs.Results.{and_then, each, ◌>>=◌}
-use Rattle.gimli_dwarf_spec.specs.Attributes.{Bases, indexed_address, attr_ranges_offset, ranges_of_list}
-use Rattle.gimli_dwarf_spec.specs.DwarfSections.{Sections}
-use Rattle.gimli_dwarf_spec.specs.UnitFacts.{UnitFacts, is_low_pc, last_value_of_kind}
+use Rattle.gimli_dwarf_spec.specs.Attributes.{indexed_address, attr_ranges_offset, ranges_of_list}
+use Rattle.gimli_dwarf_spec.specs.DwarfFiles.{DwarfFile}
+use Rattle.gimli_dwarf_spec.specs.UnitFacts.{UnitInFile, is_low_pc, last_value_of_kind}
 use Rattle.addr2line_spec.specs.Lines.{Lines, range_of}
 
 -- ---- what the root says
@@ -35,30 +35,32 @@ is_ranges n = n == DW_AT_ranges.0
 abbrev pub is_language : ℕ → Bool
 is_language n = n == DW_AT_language.0
 
-abbrev pub low_pc_fact : Sections → Bases → RawValue → Result RangeFact Error
-low_pc_fact s b (address a) = Ok (begins_at a)
-low_pc_fact s b (address_index i) = and_then (indexed_address s b i) (λ a. Ok (begins_at a))
-low_pc_fact s b _ = Ok no_fact
+abbrev pub low_pc_fact : UnitInFile → RawValue → Result RangeFact Error
+low_pc_fact u (address a) = Ok (begins_at a)
+low_pc_fact u (address_index i) =
+    and_then (indexed_address u.file u.facts.bases i) (λ a. Ok (begins_at a))
+low_pc_fact u _ = Ok no_fact
 
 -- an address, or a size
-abbrev pub high_pc_fact : Sections → Bases → RawValue → Result RangeFact Error
-high_pc_fact s b (address a) = Ok (ends_at a)
-high_pc_fact s b (address_index i) = and_then (indexed_address s b i) (λ a. Ok (ends_at a))
-high_pc_fact s b (unsigned_data n) = Ok (has_size n)
-high_pc_fact s b _ = Ok no_fact
+abbrev pub high_pc_fact : UnitInFile → RawValue → Result RangeFact Error
+high_pc_fact u (address a) = Ok (ends_at a)
+high_pc_fact u (address_index i) =
+    and_then (indexed_address u.file u.facts.bases i) (λ a. Ok (ends_at a))
+high_pc_fact u (unsigned_data n) = Ok (has_size n)
+high_pc_fact u _ = Ok no_fact
 
-abbrev pub ranges_fact : ℕ → Sections → Bases → RawValue → Result RangeFact Error
-ranges_fact limit s b v = and_then (attr_ranges_offset limit s b v) (λ o. Ok (has_list o))
+abbrev pub ranges_fact : UnitInFile → RawValue → Result RangeFact Error
+ranges_fact u v = and_then (attr_ranges_offset u.file u.facts.bases v) (λ o. Ok (has_list o))
 
-abbrev pub fact_under : ℕ → Sections → Bases → ℕ → RawValue → Result RangeFact Error
-fact_under limit s b name v =
-    if is_low_pc name then low_pc_fact s b v
-    else (if is_high_pc name then high_pc_fact s b v
-    else (if is_ranges name then ranges_fact limit s b v
+abbrev pub fact_under : UnitInFile → ℕ → RawValue → Result RangeFact Error
+fact_under u name v =
+    if is_low_pc name then low_pc_fact u v
+    else (if is_high_pc name then high_pc_fact u v
+    else (if is_ranges name then ranges_fact u v
     else Ok no_fact))
 
-abbrev pub fact_of : ℕ → Sections → Bases → RawAttribute → Result RangeFact Error
-fact_of limit s b a = fact_under limit s b a.name (value_under a.name a.value)
+abbrev pub fact_of : UnitInFile → RawAttribute → Result RangeFact Error
+fact_of u a = fact_under u a.name (value_under a.name a.value)
 
 abbrev pub begin_in : RangeFact → Option ℕ
 begin_in (begins_at a) = Some a
@@ -106,10 +108,11 @@ range_of_arange (Ok p) =
 range_of_arange (Err e) = None
 
 -- those of all sets of a unit
-abbrev pub ranges_of_aranges : ℕ → Sections → ℕ → List Range
-ranges_of_aranges limit s offset =
+abbrev pub ranges_of_aranges : DwarfFile → ℕ → List Range
+ranges_of_aranges file offset =
     flat_map (λ set. filter_map range_of_arange (aranges_to_come (pairs_of set)))
-    (filter (λ (set : ArangeSet). set.info_offset == offset) (sets_of limit s.file.debug_aranges))
+    (filter (λ (set : ArangeSet). set.info_offset == offset)
+    (sets_of file.offset_limit file.sections.debug_aranges))
 
 -- ---- all together
 
@@ -120,12 +123,13 @@ or_else (r ∷ rs) others = r ∷ rs
 
 -- a unit's range list; where it has none its address ranges, and where they are none what low_pc
 -- and high_pc say
-abbrev pub declared_ranges : ℕ → Sections → UnitFacts → List RangeFact → Option (Option ℕ)
+abbrev pub declared_ranges : UnitInFile → List RangeFact → Option (Option ℕ)
     → Result (List Range) Error
-declared_ranges limit s u facts (Some (Some offset)) =
-    and_then (ranges_of_list limit s u.bases offset) (λ rs. each (λ (r : Result Range Error). r) rs)
-declared_ranges limit s u facts _ =
-    Ok (or_else (ranges_of_aranges limit s u.header.offset) (range_of_root facts))
+declared_ranges u facts (Some (Some offset)) =
+    and_then (ranges_of_list u.file u.facts.bases offset) (λ rs.
+    each (λ (r : Result Range Error). r) rs)
+declared_ranges u facts _ =
+    Ok (or_else (ranges_of_aranges u.file u.facts.header.offset) (range_of_root facts))
 
 -- the ranges of the sequences; none where the lines are refused
 abbrev pub ranges_of_lines : Result Lines Error → List Range
@@ -134,11 +138,11 @@ ranges_of_lines (Err e) = []
 
 -- the ranges of a unit whose root has these attributes: those declared, and where they are none
 -- those of its lines
-abbrev pub ranges_of_attributes : ℕ → Sections → UnitFacts → Result Lines Error → List RawAttribute
+abbrev pub ranges_of_attributes : UnitInFile → Result Lines Error → List RawAttribute
     → Result (List Range) Error
-ranges_of_attributes limit s u lines attributes = do
-  facts ← each (fact_of limit s u.bases) attributes
-  rs ← declared_ranges limit s u facts (last_of list_in facts)
+ranges_of_attributes u lines attributes = do
+  facts ← each (fact_of u) attributes
+  rs ← declared_ranges u facts (last_of list_in facts)
   Ok (or_else rs (ranges_of_lines lines))
 
 -- a unit that is only referred to has no ranges of its own (DWARF 5, 3.1.1)

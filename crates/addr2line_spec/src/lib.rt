@@ -1,4 +1,5 @@
-//! Definitions: kept sequences, places and stretches; a context over sections; functions, inlined calls and frames.
+//! Definitions: sequences, places and stretches; a context over sections; functions, inlined calls
+//! and frames.
 #![tactic(auto)]
 
 pub mod call_laws;

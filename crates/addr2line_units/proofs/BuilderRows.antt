@@ -6,7 +6,8 @@ use Rattle.gimli_lines_rows.specs.Error.{Error}
 use Rattle.gimli_lines_rows.specs.Error.TheVariants.{Memory}
 use Rattle.gimli_lines_rows.specs.View.{bytes_left}
 use Rattle.gimli_lines_rows.specs.Registers.{Registers}
-use Rattle.gimli_lines_rows.specs.ProgramRows.{Row, RowsLeft, answer, last_row, NextRow, ToNextRow, Path, stays}
+use Rattle.gimli_lines_rows.specs.Repetition.{answer}
+use Rattle.gimli_lines_rows.specs.ProgramRows.{Row, RemainingRows, last_row, NextRow, ToNextRow, Path, stays}
 use Rattle.gimli_lines_rows.proofs.RowPaths.{path_comes, path_path}
 use Rattle.gimli_lines_rows.proofs.SequenceLoops.{path_to_row, path_to_end, row_smaller}
 use Rattle.gimli_lines_rows.proofs.LineRowSteps.{step_end}
@@ -17,16 +18,16 @@ use Rattle.addr2line_units.specs.LineProgramRuns.{Adds, shown_row, AddsRows}
 use Rattle.addr2line_units.proofs.ProgramHeaders.{path_keeps_header, header_at_end}
 
 -- the rows so far
-pub record RowsSoFar (limit : ℕ) (old now : RowsLeft) (before after : PartialLines) : Type 0 where
+pub record RowsSoFar (limit : ℕ) (old now : RemainingRows) (before after : PartialLines) : Type 0 where
   pub rows : List Row
   pub path : Path limit old rows now
   pub adds : Adds before after (map shown_row rows)
 
-pub no_rows_so_far : (limit : ℕ) (s : RowsLeft) (b : PartialLines) → RowsSoFar limit s s b b
+pub no_rows_so_far : (limit : ℕ) (s : RemainingRows) (b : PartialLines) → RowsSoFar limit s s b b
 no_rows_so_far limit s b =
     record { rows = []; path = stays s; adds = λ rows e. e ∙ ap partial_lines (sym (append-nil rows)) }
 
-pub one_row_more : (limit : ℕ) (old mid new : RowsLeft) (before middle after : PartialLines) (b : Bool) → b ≡ true
+pub one_row_more : (limit : ℕ) (old mid new : RemainingRows) (before middle after : PartialLines) (b : Bool) → b ≡ true
     → RowsSoFar limit old mid before middle → ToNextRow limit (Ok b) mid new
     → Adds middle after (program_row new.last ∷ []) → RowsSoFar limit old new before after
 one_row_more limit old mid new before middle after b is p next adds =
@@ -46,12 +47,13 @@ pub adds_same_row : (old new : PartialLines) (row last : Registers) → row ≡ 
     → Adds old new (program_row last ∷ [])
 adds_same_row old new row last same = subst (λ (r : Registers). Adds old new (program_row r ∷ [])) same
 
-pub fewer_bytes_left : (limit : ℕ) (mid new : RowsLeft) (b : Bool) → b ≡ true → ToNextRow limit (Ok b) mid new
-    → bytes_left new.left < bytes_left mid.left
+pub fewer_bytes_left : (limit : ℕ) (mid new : RemainingRows) (b : Bool) → b ≡ true → ToNextRow limit (Ok b) mid new
+    → bytes_left new.rest < bytes_left mid.rest
 fewer_bytes_left limit mid new b is next = row_smaller limit mid new (path_to_row limit mid new b is next).0
 
 -- the end of the rows
-pub adds_all_rows : {A : Type 0} (limit : ℕ) (x : A) (old mid new : RowsLeft) (before after : PartialLines) (b : Bool)
+pub adds_all_rows : {A : Type 0} (limit : ℕ) (x : A) (old mid new : RemainingRows) (before after : PartialLines)
+    (b : Bool)
     → b ≡ false → RowsSoFar limit old mid before after → ToNextRow limit (Ok b) mid new
     → AddsRows {A = A} limit (Ok x) old new before after
 adds_all_rows limit x old mid new before after b is p next =
@@ -67,7 +69,7 @@ adds_all_rows limit x old mid new before after b is p next =
     )
 
 -- a fault after the rows so far
-pub fault_after_rows : {A : Type 0} (limit : ℕ) (r : Result A Error) (old mid new last : RowsLeft)
+pub fault_after_rows : {A : Type 0} (limit : ℕ) (r : Result A Error) (old mid new last : RemainingRows)
     (before middle after : PartialLines) (d : Error) → IsErrAnd r (λ e. e ≡ d) → RowsSoFar limit old mid before middle
     → NextRow limit (Err d) mid new → AddsRows limit r old last before after
 fault_after_rows limit (Ok x) old mid new last before middle after d is p next = absurd is
@@ -79,7 +81,7 @@ fault_after_rows limit (Err e) old mid new last before middle after d is p next 
 )
 
 -- no memory for a row
-pub no_memory_for_row : {A : Type 0} (limit : ℕ) (r : Result A Error) (old last : RowsLeft)
+pub no_memory_for_row : {A : Type 0} (limit : ℕ) (r : Result A Error) (old last : RemainingRows)
     (before after : PartialLines) (d : Error) → IsErrAnd r (λ e. e ≡ d) → d ≡ Memory
     → AddsRows limit r old last before after
 no_memory_for_row limit (Ok x) old last before after d is none = absurd is

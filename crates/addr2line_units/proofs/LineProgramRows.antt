@@ -6,12 +6,12 @@ use Rattle.std.specs.Result.{IsErrAnd}
 use Rattle.gimli_lines_rows.specs.Error.{Error}
 use Rattle.gimli_lines_rows.specs.Error.TheVariants.{Memory}
 use Rattle.gimli_lines_rows.specs.View.{View}
-use Rattle.gimli_lines_rows.specs.Repetition.{Listing, fault_in}
+use Rattle.gimli_lines_rows.specs.Repetition.{Listing, fault_in, answer, last_answer}
 use Rattle.gimli_lines_rows.specs.LineFiles.{FileFacts}
 use Rattle.gimli_lines_rows.specs.LineHeaders.{LineHeader}
 use Rattle.gimli_lines_rows.specs.Registers.{Registers}
 use Rattle.gimli_lines_rows.specs.Runs.{Execution, is_shown, row_of, shown_rows, files_of}
-use Rattle.gimli_lines_rows.specs.ProgramRows.{Row, RowsLeft, header_after, rows_of_run, with_ending, program_run, answer, last_answer, rows_to_come}
+use Rattle.gimli_lines_rows.specs.ProgramRows.{Row, RemainingRows, header_after, rows_of_run, with_ending, program_run, rows_to_come}
 use Rattle.gimli_lines_rows.specs.RowSequences.{registers_of, program_rows}
 use Rattle.addr2line_index.specs.Lines.{ProgramRow}
 use Rattle.addr2line_index.specs.PartialLines.{PartialLines, partial_lines}
@@ -119,10 +119,11 @@ fault_of_rows limit h rows d e =
 
 -- ---- calls
 
-abbrev ok_rows : RowsLeft → Result RowsLeft Error
+abbrev ok_rows : RemainingRows → Result RemainingRows Error
 ok_rows rows = Ok rows
 
-ok_rows_are : (limit : ℕ) (h made : LineHeader) (old : RowsLeft) → made ≡ h → ok_rows (program_rows made) ≡ ok_rows old
+ok_rows_are : (limit : ℕ) (h made : LineHeader) (old : RemainingRows) → made ≡ h
+    → ok_rows (program_rows made) ≡ ok_rows old
     → program_rows h ≡ old
 ok_rows_are limit h made old same e = let is : program_rows made ≡ old = cc in ap program_rows (sym same) ∙ is
 
@@ -132,7 +133,7 @@ last_of_whole limit h =
     ap (λ (xs : List (Execution FileFacts)). record h { files = h.files ++ files_of xs }) (run_items limit h)
 
 -- the rows of a whole program were added
-pub program_adds_rows : {A : Type 0} (limit : ℕ) (x : A) (h made : LineHeader) (old new : RowsLeft)
+pub program_adds_rows : {A : Type 0} (limit : ℕ) (x : A) (h made : LineHeader) (old new : RemainingRows)
     (before behind : PartialLines) → made ≡ h → ok_rows (program_rows made) ≡ ok_rows old
     → AddsRows {A = A} limit (Ok x) old new before behind → RunsProgram limit (Ok new) h before behind
 program_adds_rows limit x h made old new before behind same e added =
@@ -144,7 +145,8 @@ program_adds_rows limit x h made old new before behind same e added =
     )
 
 -- its fault ended them
-pub program_fault : (A : Type 0) (limit : ℕ) (r : Result RowsLeft Error) (h made : LineHeader) (old new : RowsLeft)
+pub program_fault : (A : Type 0) (limit : ℕ) (r : Result RemainingRows Error) (h made : LineHeader)
+    (old new : RemainingRows)
     (before behind last : PartialLines) (d : Error) → IsErrAnd r (λ e. e ≡ d) → made ≡ h
     → ok_rows (program_rows made) ≡ ok_rows old → AddsRows {A = A} limit (Err d) old new before behind
     → RunsProgram limit r h before last
@@ -155,7 +157,7 @@ program_fault A limit (Err x) h made old new before behind last d err same e add
     fault_of_rows limit h f.0 d (ap (rows_to_come limit) is ∙ f.1) ∙ ap (λ (y : Error). Some y) (sym err)
 
 -- no memory for the rows
-pub program_without_memory : (limit : ℕ) (r : Result RowsLeft Error) (h : LineHeader) (rows : RowsLeft)
+pub program_without_memory : (limit : ℕ) (r : Result RemainingRows Error) (h : LineHeader) (rows : RemainingRows)
     (before last : PartialLines) (d : Error) → IsErrAnd r (λ e. e ≡ d) → (d ≢ Memory → ok_rows rows ≡ Err d)
     → RunsProgram limit r h before last
 program_without_memory limit (Ok x) h rows before last d err none = absurd err

@@ -11,7 +11,7 @@ use Rattle.gimli_lines_rows.specs.LineInstructions.{InstructionOf, define_file, 
 use Rattle.gimli_lines_rows.specs.Machine.{registers_after, next_registers}
 use Rattle.gimli_lines_rows.specs.Runs.{Execution, run_step, run, instruction_of, files_of}
 use Rattle.gimli_lines_rows.specs.ProgramInstructions.{rules_of, instructions_in, next_instruction, with_rest}
-use Rattle.gimli_lines_rows.specs.ProgramRows.{Row, RowsLeft, header_after, header_with, with_ending, program_run, is_shown_by, state_after, step_to, step_of, next_step, Path, stays, shows, passes}
+use Rattle.gimli_lines_rows.specs.ProgramRows.{Row, RemainingRows, header_after, header_with, with_ending, program_run, is_shown_by, state_after, step_to, step_of, next_step, Path, stays, shows, passes}
 use Rattle.gimli_lines_rows.proofs.LineRowSteps.{listing_of_next, step_parts, rest_none}
 use Rattle.addr2line_units.specs.LineProgramRuns.{with_files, last_header}
 
@@ -51,19 +51,19 @@ abbrev executed_of : LineHeader → Registers → List (InstructionOf FileFacts)
 executed_of h r is = (run (rules_of h) r is).items
 
 -- the first instruction's part of it
-first_of : (limit : ℕ) (s : RowsLeft) (i : InstructionOf FileFacts) (w : View) (after : Registers)
-    → next_instruction limit s.header s.left ≡ Ok (Some i, w)
+first_of : (limit : ℕ) (s : RemainingRows) (i : InstructionOf FileFacts) (w : View) (after : Registers)
+    → next_instruction limit s.header s.rest ≡ Ok (Some i, w)
     → registers_after (rules_of s.header) i s.registers ≡ Ok after
-    → (program_run limit s.header s.registers s.left).items
+    → (program_run limit s.header s.registers s.rest).items
     ≡ record { before = s.registers; instruction = i; after = after }
     ∷ (program_run limit s.header (next_registers (rules_of s.header) i after) w).items
 first_of limit s i w after e c =
     let l : Listing View (InstructionOf FileFacts) = instructions_in limit s.header w in
     let r1 = next_registers (rules_of s.header) i after in
-    ended_items (instructions_in limit s.header s.left).ending
-    (run (rules_of s.header) s.registers (instructions_in limit s.header s.left).items)
+    ended_items (instructions_in limit s.header s.rest).ending
+    (run (rules_of s.header) s.registers (instructions_in limit s.header s.rest).items)
     ∙ ap (λ (m : Listing View (InstructionOf FileFacts)). executed_of s.header s.registers m.items)
-    (listing_of_next limit s.header s.left (Ok (Some i, w)) e)
+    (listing_of_next limit s.header s.rest (Ok (Some i, w)) e)
     ∙ ap (λ (r : Result Registers Error).
     (run_step s.registers i r
     (λ a. run (rules_of s.header) (next_registers (rules_of s.header) i a) l.items)).items) c
@@ -73,7 +73,7 @@ first_of limit s i w after e c =
 -- ---- steps
 
 -- a step leaves the last header as it is
-pub step_keeps_header : (limit : ℕ) (s t : RowsLeft) (b : Bool) → next_step limit s ≡ Ok (Some b, t)
+pub step_keeps_header : (limit : ℕ) (s t : RemainingRows) (b : Bool) → next_step limit s ≡ Ok (Some b, t)
     → last_header limit s ≡ last_header limit t
 step_keeps_header limit s t b e =
     let p = step_parts limit s b t e in
@@ -87,14 +87,15 @@ step_keeps_header limit s t b e =
     (sym (run_after s.takes_files p.instruction limit s.header r1 p.rest))
     ∙ ap (last_header limit) p.led_to
   where
-    files_taken : (s : RowsLeft) (i : InstructionOf FileFacts) (after : Registers) (rest : List (Execution FileFacts))
+    files_taken : (s : RemainingRows) (i : InstructionOf FileFacts) (after : Registers)
+        (rest : List (Execution FileFacts))
         → with_files s.takes_files
         (files_of (record { before = s.registers; instruction = i; after = after } ∷ rest)) s.header
         ≡ with_files s.takes_files (files_of rest) (header_after s.takes_files i s.header)
     files_taken s i after rest = files_of_first s.takes_files i (map instruction_of rest) s.header
 
 -- and so does a path
-pub path_keeps_header : {limit : ℕ} {s u : RowsLeft} {rows : List Row} → Path limit s rows u
+pub path_keeps_header : {limit : ℕ} {s u : RemainingRows} {rows : List Row} → Path limit s rows u
     → last_header limit s ≡ last_header limit u
 path_keeps_header (stays s) = refl
 path_keeps_header {limit} (shows s t u rows e p) = step_keeps_header limit s t true e ∙ path_keeps_header p
@@ -110,16 +111,17 @@ abbrev some_bool : Bool → Option Bool
 some_bool b = Some b
 
 -- after the last instruction it is the header itself
-pub header_at_end : (limit : ℕ) (s t : RowsLeft) → next_step limit s ≡ Ok (None, t) → last_header limit s ≡ s.header
-header_at_end limit s t e = by_read (with_rest (next_instruction limit s.header s.left)) refl e
+pub header_at_end : (limit : ℕ) (s t : RemainingRows) → next_step limit s ≡ Ok (None, t)
+    → last_header limit s ≡ s.header
+header_at_end limit s t e = by_read (with_rest (next_instruction limit s.header s.rest)) refl e
   where
-    ended_at : (w : View) → next_instruction limit s.header s.left ≡ Ok (None, w) → last_header limit s ≡ s.header
+    ended_at : (w : View) → next_instruction limit s.header s.rest ≡ Ok (None, w) → last_header limit s ≡ s.header
     ended_at w n =
         ap (λ (xs : List (Execution FileFacts)). with_files s.takes_files (files_of xs) s.header)
-        (ended_items (instructions_in limit s.header s.left).ending
-        (run (rules_of s.header) s.registers (instructions_in limit s.header s.left).items)
+        (ended_items (instructions_in limit s.header s.rest).ending
+        (run (rules_of s.header) s.registers (instructions_in limit s.header s.rest).items)
         ∙ ap (λ (m : Listing View (InstructionOf FileFacts)). executed_of s.header s.registers m.items)
-        (listing_of_next limit s.header s.left (Ok (None, w)) n))
+        (listing_of_next limit s.header s.rest (Ok (None, w)) n))
         ∙ no_files s.takes_files s.header
 
     by_change : (i : InstructionOf FileFacts) (w : View) (r : Result Registers Error) → step_to s i w r ≡ Ok (None, t)
@@ -132,8 +134,8 @@ header_at_end limit s t e = by_read (with_rest (next_instruction limit s.header 
         some_none k = cc
 
     by_read : (r : Result (Option (InstructionOf FileFacts × View)) Error)
-        → with_rest (next_instruction limit s.header s.left) ≡ r → step_of s r ≡ Ok (None, t)
+        → with_rest (next_instruction limit s.header s.rest) ≡ r → step_of s r ≡ Ok (None, t)
         → last_header limit s ≡ s.header
     by_read (Err d) r h = absurd cc
-    by_read (Ok None) r h = let w = rest_none (next_instruction limit s.header s.left) r in ended_at w.0 w.1
+    by_read (Ok None) r h = let w = rest_none (next_instruction limit s.header s.rest) r in ended_at w.0 w.1
     by_read (Ok (Some p)) r h = by_change p.0 p.1 (registers_after (rules_of s.header) p.0 s.registers) h

@@ -4,8 +4,7 @@ use Rattle.gimli_lines_rows.specs.Error.{Error}
 use Rattle.gimli_lines_rows.specs.Range.{Range}
 use Rattle.gimli_lines_rows.specs.AttributeValues.{RawAttribute}
 use Rattle.gimli_lines_rows.specs.Results.{and_then, each}
-use Rattle.gimli_dwarf.specs.DwarfSections.{Sections}
-use Rattle.gimli_dwarf.specs.UnitFacts.{UnitFacts}
+use Rattle.gimli_dwarf.specs.UnitFacts.{UnitInFile}
 use Rattle.addr2line_index.specs.Lines.{Lines}
 use Rattle.addr2line_index.specs.UnitRanges.{RangeFact, fact_of, list_in, last_of, range_of_root, declared_ranges, or_else, ranges_of_lines, ranges_of_attributes}
 use Rattle.addr2line_index.specs.EntryRanges.{ranges_of_facts, ranges_of_entry}
@@ -18,18 +17,18 @@ ok_facts last = Ok last
 abbrev pub ok_ranges : List Range → Result (List Range) Error
 ok_ranges rs = Ok rs
 
-module _ (limit : ℕ) (s : Sections) (u : UnitFacts) where
+module _ (u : UnitInFile) where
   by_list : (facts : List RangeFact) (list : Option (Option ℕ))
-      → declared_ranges limit s u facts list ≡ ranges_by limit s u (range_of_root facts) list
+      → declared_ranges u facts list ≡ ranges_by u (range_of_root facts) list
   by_list facts None = refl
   by_list facts (Some None) = refl
   by_list facts (Some (Some offset)) = refl
 
   by_last : (facts : Result (List RangeFact) Error) (last : LastFacts)
       → and_then facts (λ fs. Ok (last_facts fs)) ≡ ok_facts last
-      → and_then facts (λ fs. declared_ranges limit s u fs (last_of list_in fs)) ≡ declared_by limit s u last
+      → and_then facts (λ fs. declared_ranges u fs (last_of list_in fs)) ≡ declared_by u last
   by_last (Ok fs) last h = let same : last_facts fs ≡ last =
-      cc in by_list fs (last_of list_in fs) ∙ ap (declared_by limit s u) same
+      cc in by_list fs (last_of list_in fs) ∙ ap (declared_by u) same
   by_last (Err e) last h = cc
 
   and_last : (facts : Result (List RangeFact) Error) (f : List RangeFact → Result (List Range) Error)
@@ -40,32 +39,32 @@ module _ (limit : ℕ) (s : Sections) (u : UnitFacts) where
 
   -- the ranges of attributes with these last facts, which declare these ranges
   pub ranges-found : (lines : Result Lines Error) (attributes : List RawAttribute) (last : LastFacts) (rs : List Range)
-      → facts_of limit s u.bases attributes ≡ ok_facts last
-      → declared_by limit s u last ≡ ok_ranges rs
-      → ranges_of_attributes limit s u lines attributes ≡ ok_ranges (or_else rs (ranges_of_lines lines))
+      → facts_of u attributes ≡ ok_facts last
+      → declared_by u last ≡ ok_ranges rs
+      → ranges_of_attributes u lines attributes ≡ ok_ranges (or_else rs (ranges_of_lines lines))
   ranges-found lines attributes last rs h k =
-      let facts : Result (List RangeFact) Error = each (fact_of limit s u.bases) attributes in
+      let facts : Result (List RangeFact) Error = each (fact_of u) attributes in
       let ends : List Range → Result (List Range) Error = λ rs. Ok (or_else rs (ranges_of_lines lines)) in
-      and_last facts (λ fs. declared_ranges limit s u fs (last_of list_in fs)) ends
+      and_last facts (λ fs. declared_ranges u fs (last_of list_in fs)) ends
       ∙ ap (λ r. and_then r ends) (by_last facts last h ∙ k)
 
   -- ---- an entry that is no root
 
   entry_by_list : (facts : List RangeFact) (list : Option (Option ℕ))
-      → ranges_of_facts limit s u facts list ≡ entry_ranges_in limit s u (range_of_root facts) list
+      → ranges_of_facts u facts list ≡ entry_ranges_in u (range_of_root facts) list
   entry_by_list facts None = refl
   entry_by_list facts (Some None) = refl
   entry_by_list facts (Some (Some offset)) = refl
 
   entry_by_last : (facts : Result (List RangeFact) Error) (last : LastFacts)
       → and_then facts (λ fs. Ok (last_facts fs)) ≡ ok_facts last
-      → and_then facts (λ fs. ranges_of_facts limit s u fs (last_of list_in fs)) ≡ entry_ranges_by limit s u last
+      → and_then facts (λ fs. ranges_of_facts u fs (last_of list_in fs)) ≡ entry_ranges_by u last
   entry_by_last (Ok fs) last h = let same : last_facts fs ≡ last =
-      cc in entry_by_list fs (last_of list_in fs) ∙ ap (entry_ranges_by limit s u) same
+      cc in entry_by_list fs (last_of list_in fs) ∙ ap (entry_ranges_by u) same
   entry_by_last (Err e) last h = cc
 
   -- the ranges of an entry whose attributes have these last facts
   pub entry_ranges-found : (attributes : List RawAttribute) (last : LastFacts)
-      → facts_of limit s u.bases attributes ≡ ok_facts last
-      → ranges_of_entry limit s u attributes ≡ entry_ranges_by limit s u last
-  entry_ranges-found attributes last h = entry_by_last (each (fact_of limit s u.bases) attributes) last h
+      → facts_of u attributes ≡ ok_facts last
+      → ranges_of_entry u attributes ≡ entry_ranges_by u last
+  entry_ranges-found attributes last h = entry_by_last (each (fact_of u) attributes) last h

@@ -5,9 +5,7 @@ use Rattle.gimli_lines_rows.specs.Error.{Error}
 use Rattle.gimli_lines_rows.specs.Range.{Range}
 use Rattle.gimli_lines_rows.specs.AttributeValues.{RawAttribute}
 use Rattle.gimli_lines_rows.specs.Results.{and_then, each}
-use Rattle.gimli_dwarf.specs.Attributes.{Bases}
-use Rattle.gimli_dwarf.specs.DwarfSections.{Sections}
-use Rattle.gimli_dwarf.specs.UnitFacts.{UnitFacts}
+use Rattle.gimli_dwarf.specs.UnitFacts.{UnitInFile}
 use Rattle.addr2line_index.specs.UnitRanges.{RangeFact, begins_at, ends_at, has_size, has_list, no_fact, begin_in, end_in, size_in, list_in, last_of, fact_of, low_to_high, or_else, ranges_of_aranges}
 use Rattle.addr2line_units.specs.RangeListReading.{listed_ranges}
 use Rattle.addr2line_units.specs.declared.fact.Fact.{Fact}
@@ -52,31 +50,31 @@ last_facts facts =
     }
 
 -- those of all attributes, or the first refusal
-abbrev pub facts_of : ℕ → Sections → Bases → List RawAttribute → Result LastFacts Error
-facts_of limit s b attributes =
-    and_then (each (fact_of limit s b) attributes) (λ facts. Ok (last_facts facts))
+abbrev pub facts_of : UnitInFile → List RawAttribute → Result LastFacts Error
+facts_of u attributes =
+    and_then (each (fact_of u) attributes) (λ facts. Ok (last_facts facts))
 
 -- what the last of low_pc and high_pc say
 abbrev pub root_range : LastFacts → List Range
 root_range last = low_to_high last.begin last.end last.size
 
 -- by the last list, if there is one; else the address ranges, and where they are none these
-abbrev pub ranges_by : ℕ → Sections → UnitFacts → List Range → Option (Option ℕ)
+abbrev pub ranges_by : UnitInFile → List Range → Option (Option ℕ)
     → Result (List Range) Error
-ranges_by limit s u others (Some (Some offset)) = listed_ranges limit s u offset
-ranges_by limit s u others _ = Ok (or_else (ranges_of_aranges limit s u.header.offset) others)
+ranges_by u others (Some (Some offset)) = listed_ranges u offset
+ranges_by u others _ = Ok (or_else (ranges_of_aranges u.file u.facts.header.offset) others)
 
 -- what is declared by the last facts of a root
-abbrev pub declared_by : ℕ → Sections → UnitFacts → LastFacts → Result (List Range) Error
-declared_by limit s u last = ranges_by limit s u (root_range last) last.list
+abbrev pub declared_by : UnitInFile → LastFacts → Result (List Range) Error
+declared_by u last = ranges_by u (root_range last) last.list
 
 -- the ranges of an entry that is no root: by the last list, if there is one, and else what low_pc
 -- and high_pc say
-abbrev pub entry_ranges_in : ℕ → Sections → UnitFacts → List Range → Option (Option ℕ)
+abbrev pub entry_ranges_in : UnitInFile → List Range → Option (Option ℕ)
     → Result (List Range) Error
-entry_ranges_in limit s u others (Some (Some offset)) = listed_ranges limit s u offset
-entry_ranges_in limit s u others _ = Ok others
+entry_ranges_in u others (Some (Some offset)) = listed_ranges u offset
+entry_ranges_in u others _ = Ok others
 
 -- by the last facts of an entry
-abbrev pub entry_ranges_by : ℕ → Sections → UnitFacts → LastFacts → Result (List Range) Error
-entry_ranges_by limit s u last = entry_ranges_in limit s u (root_range last) last.list
+abbrev pub entry_ranges_by : UnitInFile → LastFacts → Result (List Range) Error
+entry_ranges_by u last = entry_ranges_in u (root_range last) last.list

@@ -33,7 +33,7 @@ pub use Rattle.gimli_lines_rows.specs.RunTimeEndian
 pub use Rattle.gimli_lines_rows.specs.Iterators
 pub use Rattle.gimli_lines_rows.specs.Range
 pub use Rattle.gimli_dwarf.specs.SectionLoading
-pub use Rattle.gimli_dwarf.specs.DwarfSections
+pub use Rattle.gimli_dwarf.specs.DwarfFiles
 pub use Rattle.gimli_dwarf.specs.UnitFacts
 pub use Rattle.gimli_dwarf.specs.EntryRows
 pub use Rattle.gimli_dwarf.specs.EntryViews

@@ -6,7 +6,8 @@ use Rattle.gimli_lines_rows.specs.Error.TheVariants.{Memory}
 use Rattle.gimli_lines_rows.specs.LineFiles.{FileFacts}
 use Rattle.gimli_lines_rows.specs.LineHeaders.{LineHeader}
 use Rattle.gimli_lines_rows.specs.Runs.{files_of, shown_rows}
-use Rattle.gimli_lines_rows.specs.ProgramRows.{Row, RowsLeft, answer, program_run, rows_to_come}
+use Rattle.gimli_lines_rows.specs.Repetition.{answer}
+use Rattle.gimli_lines_rows.specs.ProgramRows.{Row, RemainingRows, program_run, rows_to_come}
 use Rattle.addr2line_index.specs.Lines.{ProgramRow}
 use Rattle.addr2line_index.specs.PartialLines.{PartialLines, partial_lines}
 use Rattle.addr2line_index.specs.UnitLines.{program_row, run_of_program, fault_of_program, with_defined_files}
@@ -25,14 +26,15 @@ abbrev pub with_files : Bool → List FileFacts → LineHeader → LineHeader
 with_files takes_files files h = if takes_files then record h { files = h.files ++ files } else h
 
 -- the header after all instructions to come
-abbrev pub last_header : ℕ → RowsLeft → LineHeader
+abbrev pub last_header : ℕ → RemainingRows → LineHeader
 last_header limit s =
     with_files s.takes_files
-    (files_of (program_run limit s.header s.registers s.left).items) s.header
+    (files_of (program_run limit s.header s.registers s.rest).items) s.header
 
 -- All rows that were to come are added, and their header is after all instructions; else the fault
 -- that ends the rows is answered, or out of memory.
-abbrev pub AddsRows : {A : Type 0} → ℕ → Result A Error → RowsLeft → RowsLeft → PartialLines
+abbrev pub AddsRows : {A : Type 0} → ℕ → Result A Error → RemainingRows → RemainingRows
+    → PartialLines
     → PartialLines → Type 0
 AddsRows limit (Ok x) old new before after =
     (rows : List Row) × (rows_to_come limit old ≡ map answer rows)
@@ -42,7 +44,7 @@ AddsRows limit (Err e) old new before after =
 
 -- A program without a fault: its rows are added, and the header has the files that it defines. Else
 -- its fault is answered, or out of memory.
-abbrev pub RunsProgram : ℕ → Result RowsLeft Error → LineHeader → PartialLines → PartialLines
+abbrev pub RunsProgram : ℕ → Result RemainingRows Error → LineHeader → PartialLines → PartialLines
     → Type 0
 RunsProgram limit (Ok rows) h before after =
     (fault_of_program limit h ≡ None) × (rows.header ≡ with_defined_files limit h)

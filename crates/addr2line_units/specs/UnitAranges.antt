@@ -2,11 +2,11 @@
 use Rattle.std.specs.Prelude.{ℕ, ◌==◌, List, filter, flat_map}
 use Rattle.std.specs.List.{filter_map}
 use Rattle.gimli_lines_rows.specs.Range.{Range}
-use Rattle.gimli_lines_rows.specs.ArangeSets.{ArangeSet, PairsLeft, pairs_of, aranges_to_come}
+use Rattle.gimli_lines_rows.specs.ArangeSets.{ArangeSet, RemainingPairs, pairs_of, aranges_to_come}
 use Rattle.addr2line_index.specs.UnitRanges.{range_of_arange}
 
 -- the ranges of a set, from one of its pairs on
-abbrev pub ranges_to_come : PairsLeft → List Range
+abbrev pub ranges_to_come : RemainingPairs → List Range
 ranges_to_come pairs = filter_map range_of_arange (aranges_to_come pairs)
 
 -- those of all sets of the unit at an offset

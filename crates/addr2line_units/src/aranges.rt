@@ -10,7 +10,7 @@ ghost use Rattle.gimli_lines_rows.specs.Tiling.{whole_section};
 ghost use Rattle.addr2line_index.specs.UnitRanges.{range_of_arange, ranges_of_aranges};
 ghost use Rattle.addr2line_units.specs.UnitAranges.{ranges_to_come, ranges_of_sets};
 
-use gimli_dwarf::{Dwarf, Unit};
+use gimli_dwarf::{Dwarf, UnitRef};
 use gimli_lines_rows::{
     ArangeEntry, ArangeEntryIter, ArangeHeader, ArangeHeaderIter, Error, Range, Reader,
     ReaderOffset,
@@ -95,12 +95,13 @@ fn ranges_of_sets<R: Reader>(
 // The ranges of a unit in the section.
 pub(crate) fn ranges_of_aranges<R: Reader>(
     alloc: Global,
-    dwarf: &Dwarf<R>,
-    unit: &Unit<R>,
+    unit: &UnitRef<'_, R>,
 ) -> Result<Vec<Range>, Error>
     ensures { ReturnsAsOrNoMemory (λ v. v.items) result
-        (Ok (ranges_of_aranges R.Offset.limit dwarf.now unit.now.header.offset)) }
+        (Ok (ranges_of_aranges unit.now.file unit.now.facts.header.offset)) }
 {
+    let dwarf = unit.dwarf;
+    let unit = unit.unit;
     let offset = unit.header.offset().0.into_u64();
     ranges_of_sets(alloc, dwarf.debug_aranges.headers()?, offset)
 }
@@ -109,12 +110,12 @@ pub(crate) fn ranges_of_aranges<R: Reader>(
 /// memory only where parts of the reader do.
 pub fn check_aranges<R: Reader>(dwarf: &Dwarf<R>) -> Result<(), Error>
     ensures ok { OnOk result
-        (fault_of (sets_to_come R.Offset.limit (whole_section dwarf.now.file.debug_aranges))
-        ≡ None) }
+        (fault_of (sets_to_come dwarf.now.offset_limit
+        (whole_section dwarf.now.sections.debug_aranges)) ≡ None) }
     // Refused by the first fault, or when out of memory.
     ensures refused { IfErr result (λ e. e ≢ Memory
-        → fault_of (sets_to_come R.Offset.limit (whole_section dwarf.now.file.debug_aranges))
-        ≡ Some e) }
+        → fault_of (sets_to_come dwarf.now.offset_limit
+        (whole_section dwarf.now.sections.debug_aranges)) ≡ Some e) }
 {
     check_sets(dwarf.debug_aranges.headers()?)
 }

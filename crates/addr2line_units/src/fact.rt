@@ -5,7 +5,7 @@ ghost use Rattle.gimli_lines_rows.specs.AttributeValues.{raw_value_of, raw_attri
 ghost use Rattle.addr2line_index.specs.UnitRanges.{low_pc_fact, high_pc_fact, ranges_fact, fact_of};
 ghost use Rattle.addr2line_units.specs.LastFacts.{range_fact};
 
-use gimli_dwarf::{Dwarf, Unit};
+use gimli_dwarf::UnitRef;
 use gimli_lines_rows::{
     Attribute, AttributeValue, DW_AT_high_pc, DW_AT_low_pc, DW_AT_ranges, Error, RangeListsOffset,
     Reader,
@@ -23,65 +23,61 @@ pub enum Fact<O> {
 }
 
 fn low_pc_fact<R: Reader>(
-    dwarf: &Dwarf<R>,
-    unit: &Unit<R>,
+    unit: &UnitRef<'_, R>,
     value: AttributeValue<R>,
 ) -> Result<Fact<R::Offset>, Error>
     ensures { ReturnsAs (range_fact R.Offset.count) result
-        (low_pc_fact dwarf.now unit.now.bases (raw_value_of R.view R.Offset.count value)) }
+        (low_pc_fact unit.now (raw_value_of R.view R.Offset.count value)) }
 {
     match &value {
         AttributeValue::Addr(address) => Ok(Fact::BeginsAt(*address)),
-        AttributeValue::DebugAddrIndex(index) => Ok(Fact::BeginsAt(dwarf.address(unit, *index)?)),
+        AttributeValue::DebugAddrIndex(index) => Ok(Fact::BeginsAt(unit.address(*index)?)),
         _ => Ok(Fact::NoFact),
     }
 }
 
 fn high_pc_fact<R: Reader>(
-    dwarf: &Dwarf<R>,
-    unit: &Unit<R>,
+    unit: &UnitRef<'_, R>,
     value: AttributeValue<R>,
 ) -> Result<Fact<R::Offset>, Error>
     ensures { ReturnsAs (range_fact R.Offset.count) result
-        (high_pc_fact dwarf.now unit.now.bases (raw_value_of R.view R.Offset.count value)) }
+        (high_pc_fact unit.now (raw_value_of R.view R.Offset.count value)) }
 {
     match &value {
         AttributeValue::Addr(address) => Ok(Fact::EndsAt(*address)),
-        AttributeValue::DebugAddrIndex(index) => Ok(Fact::EndsAt(dwarf.address(unit, *index)?)),
+        AttributeValue::DebugAddrIndex(index) => Ok(Fact::EndsAt(unit.address(*index)?)),
         AttributeValue::Udata(size) => Ok(Fact::HasSize(*size)),
         _ => Ok(Fact::NoFact),
     }
 }
 
 fn ranges_fact<R: Reader>(
-    dwarf: &Dwarf<R>,
-    unit: &Unit<R>,
+    unit: &UnitRef<'_, R>,
     value: AttributeValue<R>,
 ) -> Result<Fact<R::Offset>, Error>
     ensures { ReturnsAs (range_fact R.Offset.count) result
-        (ranges_fact R.Offset.limit dwarf.now unit.now.bases
+        (ranges_fact unit.now
         (raw_value_of R.view R.Offset.count value)) }
 {
-    Ok(Fact::HasList(dwarf.attr_ranges_offset(unit, value)?))
+    Ok(Fact::HasList(unit.attr_ranges_offset(value)?))
 }
 
 // What an attribute says, or why the address or the list that it names can't be read.
 pub(crate) fn fact_of<R: Reader>(
-    dwarf: &Dwarf<R>,
-    unit: &Unit<R>,
+    unit: &UnitRef<'_, R>,
     attribute: &Attribute<R>,
 ) -> Result<Fact<R::Offset>, Error>
     ensures { ReturnsAsOrNoMemory (range_fact R.Offset.count) result
-        (fact_of R.Offset.limit dwarf.now unit.now.bases
+        (fact_of unit.now
         (raw_attribute_of R.view R.Offset.count attribute.now)) }
 {
     let name = attribute.name();
     if name == DW_AT_low_pc {
-        low_pc_fact(dwarf, unit, attribute.value()?)
+        low_pc_fact(unit, attribute.value()?)
     } else if name == DW_AT_high_pc {
-        high_pc_fact(dwarf, unit, attribute.value()?)
+        high_pc_fact(unit, attribute.value()?)
     } else if name == DW_AT_ranges {
-        ranges_fact(dwarf, unit, attribute.value()?)
+        ranges_fact(unit, attribute.value()?)
     } else {
         Ok(Fact::NoFact)
     }

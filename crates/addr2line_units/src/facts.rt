@@ -6,7 +6,7 @@ ghost use Rattle.gimli_dwarf.specs.EntryViews.{raw_attributes};
 ghost use Rattle.addr2line_units.specs.LastFacts.{range_fact, no_facts, with_fact, facts_of};
 
 use crate::fact::{Fact, fact_of};
-use gimli_dwarf::{Dwarf, Unit};
+use gimli_dwarf::UnitRef;
 use gimli_lines_rows::{Attribute, Error, RangeListsOffset, Reader, ReaderOffset};
 use std::marker::Model;
 
@@ -62,17 +62,16 @@ impl<O: ReaderOffset> LastFacts<O> {
 
 // The last facts of a root's attributes, or the refusal of the first of them that is refused.
 pub(crate) fn facts_of<R: Reader>(
-    dwarf: &Dwarf<R>,
-    unit: &Unit<R>,
+    unit: &UnitRef<'_, R>,
     attributes: &[Attribute<R>],
 ) -> Result<LastFacts<R::Offset>, Error>
     ensures { ReturnsOrNoMemory result
-        (facts_of R.Offset.limit dwarf.now unit.now.bases
+        (facts_of unit.now
         (raw_attributes R.view R.Offset.count attributes.now)) }
 {
     let mut found = LastFacts::none();
     for attribute in attributes {
-        found.take(fact_of(dwarf, unit, attribute)?);
+        found.take(fact_of(unit, attribute)?);
     }
     Ok(found)
 }

@@ -18,7 +18,7 @@ use std::alloc::Global;
 // The text that a value stands for.
 fn text_of<R: Reader>(unit: &UnitRef<'_, R>, value: &AttributeValue<R>) -> Result<R, Error>
     ensures { ReturnsAsOrNoMemory (λ text. bytes_of (R.view text)) result
-        (text_bytes R.Offset.limit unit.now.dwarf.now unit.now.unit.now
+        (text_bytes unit.now
         (raw_value_of R.view R.Offset.count value.now)) }
 {
     Ok(unit.attr_string(value.copy()?)?)
@@ -30,7 +30,7 @@ fn text_if_any<R: Reader>(
     value: Option<&AttributeValue<R>>,
 ) -> Result<Option<R>, Error>
     ensures { ReturnsAsOrNoMemory (option_map (λ text. bytes_of (R.view text))) result
-        (text_bytes_if_any R.Offset.limit unit.now.dwarf.now unit.now.unit.now
+        (text_bytes_if_any unit.now
         (option_map (λ v. raw_value_of R.view R.Offset.count v.now) value.entry)) }
 {
     match value {
@@ -90,7 +90,7 @@ fn text_of_file<R: Reader>(
     file: &FileEntry<R>,
 ) -> Result<String, Error>
     ensures { ReturnsAsOrNoMemory string_bytes result
-        (text_of_file R.Offset.limit unit.now.dwarf.now unit.now.unit.now header.now file.now) }
+        (text_of_file unit.now header.now file.now) }
 {
     let directory = text_if_any(unit, directory_of(header, file))?;
     let path = text_of(unit, file.path_name())?;
@@ -105,7 +105,7 @@ fn text_of_file_0<R: Reader>(
     header: &LineProgramHeader<R>,
 ) -> Result<String, Error>
     ensures { ReturnsAsOrNoMemory string_bytes result
-        (text_of_file_0 R.Offset.limit unit.now.dwarf.now unit.now.unit.now header.now
+        (text_of_file_0 unit.now header.now
         (file_at header.now 0)) }
 {
     match header.file(0) {
@@ -136,7 +136,7 @@ fn push_texts<R: Reader>(
     files: &[FileEntry<R>],
 ) -> Result<(), Error>
     ensures { AddsTexts result (map string_bytes texts.old.items) (map string_bytes texts.new.items)
-        (each (text_of_file R.Offset.limit unit.now.dwarf.now unit.now.unit.now header.now)
+        (each (text_of_file unit.now header.now)
         files.now) }
 {
     let alloc = *texts.allocator();
@@ -153,7 +153,7 @@ pub(crate) fn texts_of_files<R: Reader>(
     header: &LineProgramHeader<R>,
 ) -> Result<Vec<String>, Error>
     ensures { ReturnsAsOrNoMemory (λ texts. map string_bytes texts.items) result
-        (texts_of_files R.Offset.limit unit.now.dwarf.now unit.now.unit.now header.now) }
+        (texts_of_files unit.now header.now) }
 {
     let mut texts = Vec::new(alloc);
     texts.push(text_of_file_0(alloc, unit, header)?)?;

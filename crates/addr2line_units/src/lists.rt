@@ -4,7 +4,7 @@ ghost use Rattle.gimli_lines_rows.specs.Calls.{ReturnsAsOrNoMemory};
 ghost use Rattle.gimli_dwarf.specs.ListSections.{ranges_to_come};
 ghost use Rattle.addr2line_units.specs.RangeListReading.{ranges_or_refusal, listed_ranges};
 
-use gimli_dwarf::{Dwarf, RngListIter, Unit};
+use gimli_dwarf::{RngListIter, UnitRef};
 use gimli_lines_rows::{Error, Range, RangeListsOffset, Reader};
 use std::alloc::Global;
 
@@ -23,12 +23,11 @@ fn all_ranges<R: Reader>(alloc: Global, mut list: RngListIter<R>) -> Result<Vec<
 // The ranges of the list at an offset, or the first refusal.
 pub(crate) fn listed_ranges<R: Reader>(
     alloc: Global,
-    dwarf: &Dwarf<R>,
-    unit: &Unit<R>,
+    unit: &UnitRef<'_, R>,
     offset: RangeListsOffset<R::Offset>,
 ) -> Result<Vec<Range>, Error>
     ensures { ReturnsAsOrNoMemory (λ v. v.items) result
-        (listed_ranges R.Offset.limit dwarf.now unit.now (R.Offset.count offset.0)) }
+        (listed_ranges unit.now (R.Offset.count offset.0)) }
 {
-    all_ranges(alloc, dwarf.ranges(unit, offset)?)
+    all_ranges(alloc, unit.ranges(offset)?)
 }

@@ -13,7 +13,7 @@ use crate::aranges::{push_if_any, ranges_of_aranges};
 use crate::facts::{LastFacts, facts_of};
 use crate::lists::listed_ranges;
 use addr2line_index::{LineSequence, Lines};
-use gimli_dwarf::{Dwarf, Unit};
+use gimli_dwarf::UnitRef;
 use gimli_lines_rows::{Attribute, Error, Range, Reader, ReaderOffset};
 use std::alloc::Global;
 
@@ -50,15 +50,14 @@ fn root_range<O: ReaderOffset>(facts: &LastFacts<O>) -> Option<Range>
 // The address ranges of a unit, or another range where they are none.
 fn aranges_or<R: Reader>(
     alloc: Global,
-    dwarf: &Dwarf<R>,
-    unit: &Unit<R>,
+    unit: &UnitRef<'_, R>,
     other: Option<Range>,
 ) -> Result<Vec<Range>, Error>
     ensures { ReturnsAsOrNoMemory (λ v. v.items) result
-        (Ok (or_else (ranges_of_aranges R.Offset.limit dwarf.now unit.now.header.offset)
+        (Ok (or_else (ranges_of_aranges unit.now.file unit.now.facts.header.offset)
         (option_to_list other))) }
 {
-    let mut ranges = ranges_of_aranges(alloc, dwarf, unit)?;
+    let mut ranges = ranges_of_aranges(alloc, unit)?;
     if ranges.is_empty() {
         push_if_any(&mut ranges, other)?;
     }
@@ -69,16 +68,15 @@ fn aranges_or<R: Reader>(
 // high_pc say.
 fn declared_ranges<R: Reader>(
     alloc: Global,
-    dwarf: &Dwarf<R>,
-    unit: &Unit<R>,
+    unit: &UnitRef<'_, R>,
     facts: &LastFacts<R::Offset>,
 ) -> Result<Vec<Range>, Error>
     ensures { ReturnsAsOrNoMemory (λ v. v.items) result
-        (declared_by R.Offset.limit dwarf.now unit.now facts.now) }
+        (declared_by unit.now facts.now) }
 {
     match facts.list {
-        Some(Some(offset)) => listed_ranges(alloc, dwarf, unit, offset),
-        _ => aranges_or(alloc, dwarf, unit, root_range(facts)),
+        Some(Some(offset)) => listed_ranges(alloc, unit, offset),
+        _ => aranges_or(alloc, unit, root_range(facts)),
     }
 }
 
@@ -114,17 +112,16 @@ fn or_lines(
 /// then a range list.
 pub fn ranges_of_attributes<R: Reader>(
     alloc: Global,
-    dwarf: &Dwarf<R>,
-    unit: &Unit<R>,
+    unit: &UnitRef<'_, R>,
     lines: &Result<Lines, Error>,
     attributes: &[Attribute<R>],
 ) -> Result<Vec<Range>, Error>
     ensures { ReturnsAsOrNoMemory (λ v. v.items) result
-        (ranges_of_attributes R.Offset.limit dwarf.now unit.now lines.now
+        (ranges_of_attributes unit.now lines.now
         (raw_attributes R.view R.Offset.count attributes.now)) }
 {
-    let facts = facts_of(dwarf, unit, attributes)?;
-    let declared = declared_ranges(alloc, dwarf, unit, &facts)?;
+    let facts = facts_of(unit, attributes)?;
+    let declared = declared_ranges(alloc, unit, &facts)?;
     or_lines(alloc, declared, lines)
 }
 
@@ -140,15 +137,14 @@ fn list_of_range(alloc: Global, range: Option<Range>) -> Result<Vec<Range>, Erro
 // What an entry with these facts declares: its range list, or else what low_pc and high_pc say.
 fn entry_ranges<R: Reader>(
     alloc: Global,
-    dwarf: &Dwarf<R>,
-    unit: &Unit<R>,
+    unit: &UnitRef<'_, R>,
     facts: &LastFacts<R::Offset>,
 ) -> Result<Vec<Range>, Error>
     ensures { ReturnsAsOrNoMemory (λ v. v.items) result
-        (entry_ranges_by R.Offset.limit dwarf.now unit.now facts.now) }
+        (entry_ranges_by unit.now facts.now) }
 {
     if let Some(Some(offset)) = facts.list {
-        listed_ranges(alloc, dwarf, unit, offset)
+        listed_ranges(alloc, unit, offset)
     } else {
         list_of_range(alloc, root_range(facts))
     }
@@ -159,14 +155,13 @@ fn entry_ranges<R: Reader>(
 /// read, the first of them, and then a range list.
 pub fn ranges_of_entry<R: Reader>(
     alloc: Global,
-    dwarf: &Dwarf<R>,
-    unit: &Unit<R>,
+    unit: &UnitRef<'_, R>,
     attributes: &[Attribute<R>],
 ) -> Result<Vec<Range>, Error>
     ensures { ReturnsAsOrNoMemory (λ v. v.items) result
-        (ranges_of_entry R.Offset.limit dwarf.now unit.now
+        (ranges_of_entry unit.now
         (raw_attributes R.view R.Offset.count attributes.now)) }
 {
-    let facts = facts_of(dwarf, unit, attributes)?;
-    entry_ranges(alloc, dwarf, unit, &facts)
+    let facts = facts_of(unit, attributes)?;
+    entry_ranges(alloc, unit, &facts)
 }

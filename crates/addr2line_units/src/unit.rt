@@ -6,7 +6,7 @@ ghost use Rattle.addr2line_index.specs.UnitLines.{lines_of_program, lines_of_uni
 use crate::files::texts_of_files;
 use crate::rows::run_program;
 use addr2line_index::{Lines, LinesBuilder};
-use gimli_dwarf::{Dwarf, Unit, UnitRef};
+use gimli_dwarf::UnitRef;
 use gimli_lines_rows::{Error, LineProgramHeader, Reader};
 use std::alloc::Global;
 
@@ -17,8 +17,10 @@ fn lines_of_program<R: Reader>(
     header: LineProgramHeader<R>,
 ) -> Result<Lines, Error>
     ensures { ReturnsOrNoMemory result
-        (lines_of_program R.Offset.limit unit.now.dwarf.now unit.now.unit.now header) }
+        (lines_of_program unit.now header) }
 {
+    // (shows the prover what a unit's model says of its file)
+    let _ = &unit.dwarf;
     let mut builder = LinesBuilder::new(alloc);
     let rows = run_program(&mut builder, header)?;
     let files = texts_of_files(alloc, unit, rows.header())?;
@@ -29,15 +31,12 @@ fn lines_of_program<R: Reader>(
 /// their numbers; none where it has no program (DWARF 5, 6.2). Refused is a program by its fault,
 /// else by the first of its files whose text can't be read. Takes memory for a second header, to
 /// which the program adds files, for the rows and for the texts.
-pub fn lines_of_unit<R: Reader>(
-    alloc: Global,
-    dwarf: &Dwarf<R>,
-    unit: &Unit<R>,
-) -> Result<Lines, Error>
-    ensures { ReturnsOrNoMemory result (lines_of_unit R.Offset.limit dwarf.now unit.now) }
+pub fn lines_of_unit<R: Reader>(alloc: Global, unit: &UnitRef<'_, R>) -> Result<Lines, Error>
+    ensures { ReturnsOrNoMemory result (lines_of_unit unit.now) }
 {
-    match &unit.line_program {
-        Some(header) => lines_of_program(alloc, &UnitRef::new(dwarf, unit), header.copy()?),
+    let facts = unit.unit;
+    match &facts.line_program {
+        Some(header) => lines_of_program(alloc, unit, header.copy()?),
         None => Ok(Lines::new(alloc)),
     }
 }

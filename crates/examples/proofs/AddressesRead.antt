@@ -4,7 +4,7 @@ use Rattle.gimli_core.specs.Calls.{ReturnsAsOrNoMemory}
 use Rattle.gimli_core.specs.Results.{and_then, each}
 use Rattle.gimli_dwarf.specs.Error.{Error}
 use Rattle.gimli_dwarf.specs.Error.TheVariants.{Memory}
-use Rattle.gimli_lines.specs.ProgramRows.{Row, RowsLeft, NextRow, rows_to_come}
+use Rattle.gimli_lines.specs.ProgramRows.{Row, RemainingRows, NextRow, rows_to_come}
 use Rattle.examples.specs.RowAddresses.{row_address}
 
 -- what comes after a list
@@ -25,7 +25,7 @@ append_one xs y (Ok ys) = ap Ok (append_assoc xs (y ∷ []) ys)
 append_one xs y (Err e) = refl
 
 -- the next row
-pub append_next : (limit : ℕ) (old new : RowsLeft) (b : Bool) (xs ys : List ℕ) → b ≡ true
+pub append_next : (limit : ℕ) (old new : RemainingRows) (b : Bool) (xs ys : List ℕ) → b ≡ true
     → NextRow limit (Ok b) old new → ys ≡ xs ++ new.last.address ∷ []
     → append_to ys (addresses_of (rows_to_come limit new)) ≡ append_to xs (addresses_of (rows_to_come limit old))
 append_next limit old new true xs ys is next added =

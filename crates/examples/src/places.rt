@@ -14,7 +14,7 @@ pub fn source_line<R: Reader>(
     sections: Dwarf<R>,
     address: u64,
 ) -> Result<Option<u32>, Error>
-    ensures { ReturnsOrNoMemory result (source_line R.Offset.limit sections address) }
+    ensures { ReturnsOrNoMemory result (source_line sections address) }
 {
     let context = Context::from_dwarf(alloc, sections)?;
     match context.find_location(address)? {

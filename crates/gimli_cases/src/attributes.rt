@@ -26,7 +26,7 @@ pub fn answer<R: Reader>(
     Ok(true)
 }
 
-/// The attribute of the first form.
+// The attribute of the first form.
 fn first<R: Reader>(case: &Case, reader: &mut R) -> Result<Attribute<R>, Error> {
     let form = match case.forms.first() {
         Some(form) => *form,
@@ -35,7 +35,7 @@ fn first<R: Reader>(case: &Case, reader: &mut R) -> Result<Attribute<R>, Error> 
     parse_attribute(reader, case.encoding(), case.specification(form))
 }
 
-/// The attributes of the forms, and the bytes left.
+// The attributes of the forms, and the bytes left.
 fn attributes<R: Reader>(
     alloc: Global,
     case: &Case,
@@ -129,7 +129,7 @@ fn offset_of<R: Reader>(value: &AttributeValue<R>) -> (&'static str, u64) {
     }
 }
 
-/// The attribute as a number of 8, 16 and 64 bits, and with a sign.
+// The attribute as a number of 8, 16 and 64 bits, and with a sign.
 fn numbers<R: Reader>(case: &Case, reader: &mut R, out: &mut String) -> Result<(), Error> {
     let attribute = first(case, reader)?;
     let (small, middle) = (attribute.u8_value(), attribute.u16_value());
@@ -144,7 +144,7 @@ fn offset<R: Reader>(case: &Case, reader: &mut R, out: &mut String) -> Result<()
     Ok(())
 }
 
-/// The attribute's text, its own or one of the second section.
+// The attribute's text, its own or one of the second section.
 fn string<R: Reader>(
     alloc: Global,
     case: &Case,
@@ -172,7 +172,7 @@ fn expression<R: Reader>(
     }
 }
 
-/// The bytes left after the attributes of the forms are skipped, and a refusal.
+// The bytes left after the attributes of the forms are skipped, and a refusal.
 fn after_skipping<R: Reader>(
     alloc: Global,
     case: &Case,

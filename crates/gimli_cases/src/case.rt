@@ -60,7 +60,7 @@ pub struct Case {
 }
 
 impl Case {
-    /// A question without numbers and sections.
+    // A question without numbers and sections.
     fn new(alloc: Global, operation: String) -> Case {
         Case {
             operation,
@@ -212,7 +212,7 @@ impl Case {
     }
 }
 
-/// The bytes of a word, `-` for none.
+// The bytes of a word, `-` for none.
 fn bytes_of(alloc: Global, word: &str) -> Result<Vec<u8>, Mistake> {
     if word == "-" {
         return Ok(Vec::new(alloc));

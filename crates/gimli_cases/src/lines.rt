@@ -45,7 +45,7 @@ fn header<R: Reader>(
     }
 }
 
-/// The fields of a header.
+// The fields of a header.
 fn line_header<R: Reader>(
     alloc: Global,
     header: &LineProgramHeader<R>,
@@ -61,7 +61,7 @@ fn line_header<R: Reader>(
     Ok(())
 }
 
-/// What the files have, and how they are described.
+// What the files have, and how they are described.
 fn formats<R: Reader>(header: &LineProgramHeader<R>, out: &mut String) -> Result<(), Error> {
     for (is_there, word) in [
         (header.file_has_timestamp(), "[timestamp]"),
@@ -79,7 +79,7 @@ fn formats<R: Reader>(header: &LineProgramHeader<R>, out: &mut String) -> Result
     Ok(())
 }
 
-/// The directories and the files, from 0 on.
+// The directories and the files, from 0 on.
 fn files<R: Reader>(
     alloc: Global,
     header: &LineProgramHeader<R>,
@@ -111,7 +111,7 @@ fn file<R: Reader>(alloc: Global, file: &FileEntry<R>, out: &mut String) -> Resu
     Ok(())
 }
 
-/// The rows, with a refusal in its place.
+// The rows, with a refusal in its place.
 fn rows<R: Reader>(
     alloc: Global,
     header: LineProgramHeader<R>,
@@ -161,7 +161,7 @@ fn row(row: &LineRow, out: &mut String) -> Result<(), Error> {
     Ok(())
 }
 
-/// The instructions, with a refusal in its place.
+// The instructions, with a refusal in its place.
 fn instructions<R: Reader>(header: &LineProgramHeader<R>, out: &mut String) -> Result<(), Error> {
     let mut instructions = header.instructions()?;
     for _ in 0..40 {
@@ -193,7 +193,7 @@ fn instruction<R: Reader>(found: &LineInstruction<R>, out: &mut String) -> Resul
     Ok(())
 }
 
-/// The name of an instruction without an operand that is printed.
+// The name of an instruction without an operand that is printed.
 fn name_of<R: Reader>(instruction: &LineInstruction<R>) -> &'static str {
     match instruction {
         LineInstruction::Copy => "Copy",
@@ -207,7 +207,7 @@ fn name_of<R: Reader>(instruction: &LineInstruction<R>) -> &'static str {
     }
 }
 
-/// The sequences, each with the rows that it gives when it is resumed.
+// The sequences, each with the rows that it gives when it is resumed.
 fn sequences<R: Reader>(
     alloc: Global,
     header: LineProgramHeader<R>,

@@ -57,7 +57,7 @@ fn ranges_of<R: Reader>(case: &Case, sections: &Sections<R>) -> Result<RngListIt
     }
 }
 
-/// The ranges that count, with a refusal in its place.
+// The ranges that count, with a refusal in its place.
 fn ranges<R: Reader>(case: &Case, sections: &Sections<R>, out: &mut String) -> Result<(), Error> {
     let mut ranges = ranges_of(case, sections)?;
     for _ in 0..20 {
@@ -75,7 +75,7 @@ fn range(found: Range, out: &mut String) -> Result<(), Error> {
     Ok(())
 }
 
-/// The entries as they are written.
+// The entries as they are written.
 fn raw_ranges<R: Reader>(
     case: &Case,
     sections: &Sections<R>,
@@ -92,7 +92,7 @@ fn raw_ranges<R: Reader>(
     Ok(())
 }
 
-/// The entries, each converted by itself.
+// The entries, each converted by itself.
 fn ranges_by_one<R: Reader>(
     case: &Case,
     sections: &Sections<R>,
@@ -112,7 +112,7 @@ fn ranges_by_one<R: Reader>(
     Ok(())
 }
 
-/// The header of a table of lists, and the bytes left of its table.
+// The header of a table of lists, and the bytes left of its table.
 fn lists_header<R: Reader>(mut reader: R, out: &mut String) -> Result<(), Error> {
     let header = ListsHeader::parse(&mut reader)?;
     let left = reader.len().into_u64();
@@ -182,7 +182,7 @@ fn locations_of<R: Reader>(case: &Case, sections: &Sections<R>) -> Result<LocLis
     }
 }
 
-/// The locations, with a refusal in its place.
+// The locations, with a refusal in its place.
 fn locations<R: Reader>(
     alloc: Global,
     case: &Case,
@@ -212,7 +212,7 @@ fn location<R: Reader>(
     Ok(())
 }
 
-/// The kinds of the entries as they are written.
+// The kinds of the entries as they are written.
 fn raw_locations<R: Reader>(
     case: &Case,
     sections: &Sections<R>,
@@ -249,7 +249,7 @@ fn raw_location<R: Reader>(entry: &RawLocListEntry<R>, out: &mut String) -> Resu
     Ok(())
 }
 
-/// The entries, each converted by itself.
+// The entries, each converted by itself.
 fn locations_by_one<R: Reader>(
     alloc: Global,
     case: &Case,

@@ -37,7 +37,7 @@ fn main(rt: HostRuntime) -> Result<(), Mistake> {
     Ok(())
 }
 
-/// The answer to a question, which both readers have to give.
+// The answer to a question, which both readers have to give.
 fn answer_line(alloc: Global, line: &str) -> Result<String, Mistake> {
     let case = Case::parse(alloc, line)?;
     let borrowed = answer_borrowed(alloc, &case)?;
@@ -49,7 +49,7 @@ fn answer_line(alloc: Global, line: &str) -> Result<String, Mistake> {
     }
 }
 
-/// The answer from borrowed bytes, whose order is a type.
+// The answer from borrowed bytes, whose order is a type.
 fn answer_borrowed(alloc: Global, case: &Case) -> Result<String, AllocError> {
     if case.is_big {
         answer_with(alloc, case, borrowed_sections(case, BigEndian))
@@ -71,7 +71,7 @@ fn borrowed_reader<E: Endianity>(case: &Case, number: usize, order: E) -> Endian
     EndianSlice::with_first_id(case.section(number), order, first)
 }
 
-/// The answer from shared bytes, whose order is a value.
+// The answer from shared bytes, whose order is a value.
 fn answer_shared(alloc: Global, case: &Case) -> Result<String, AllocError> {
     let sections = Sections {
         first: shared_reader(alloc, case, 0)?,
@@ -91,7 +91,7 @@ fn shared_reader(
     Ok(EndianBytes::with_first_id(bytes, case.order(), first))
 }
 
-/// The answer, with the refusal that ends it.
+// The answer, with the refusal that ends it.
 fn answer_with<R: Reader>(
     alloc: Global,
     case: &Case,

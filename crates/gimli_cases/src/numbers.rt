@@ -25,7 +25,7 @@ pub fn answer<R: Reader>(
     Ok(true)
 }
 
-/// Reads a number, and says how many bytes are left.
+// Reads a number, and says how many bytes are left.
 fn read<R: Reader>(case: &Case, reader: &mut R, out: &mut String) -> Result<bool, Error> {
     match case.operation.as_str() {
         "fixed" => fixed(case.size, reader, out)?,
@@ -85,7 +85,7 @@ fn initial_length<R: Reader>(reader: &mut R, out: &mut String) -> Result<(), Err
     Ok(())
 }
 
-/// The text with its faults replaced, and the text if it has none.
+// The text with its faults replaced, and the text if it has none.
 fn texts<R: Reader>(alloc: Global, reader: &mut R, out: &mut String) -> Result<(), Error> {
     text::lossy(alloc, out, reader)?;
     out.push_str(" ")?;
@@ -99,7 +99,7 @@ fn string_of(alloc: Global, string: Leb128, out: &mut String) -> Result<(), Erro
     Ok(())
 }
 
-/// A number of each width, -2 and 5 more, and a wide number.
+// A number of each width, -2 and 5 more, and a wide number.
 fn offsets<O: ReaderOffset>(wide: u64, out: &mut String) -> Result<(), Error> {
     let (small, middle, large) = (O::from_u8(7), O::from_u16(700), O::from_u32(70_000));
     write!(out, "{small:?} {middle:?} {large:?}")?;

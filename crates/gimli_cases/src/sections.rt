@@ -49,7 +49,7 @@ pub fn table<R: Reader>(
     DebugAbbrev::from(section).abbreviations(alloc, DebugAbbrevOffset(offset))
 }
 
-/// The declarations of the first codes.
+// The declarations of the first codes.
 fn abbreviations<R: Reader>(
     alloc: Global,
     case: &Case,
@@ -81,7 +81,7 @@ fn declaration(found: &Abbreviation, out: &mut String) -> Result<(), Error> {
     Ok(())
 }
 
-/// Whether the declarations of code 1 in two tables are equal.
+// Whether the declarations of code 1 in two tables are equal.
 fn same_abbreviation<R: Reader>(
     alloc: Global,
     sections: &Sections<R>,
@@ -94,7 +94,7 @@ fn same_abbreviation<R: Reader>(
     Ok(())
 }
 
-/// The bytes of the values of the forms, where the encoding decides them.
+// The bytes of the values of the forms, where the encoding decides them.
 fn widths(case: &Case, out: &mut String) -> Result<(), Error> {
     let encoding = case.encoding();
     for form in case.forms.iter() {
@@ -141,7 +141,7 @@ fn address_at<R: Reader>(case: &Case, section: R, out: &mut String) -> Result<()
     Ok(())
 }
 
-/// The sets, one after the other, with a refusal in its place.
+// The sets, one after the other, with a refusal in its place.
 fn address_sets<R: Reader>(section: R, out: &mut String) -> Result<(), Error> {
     let mut headers = DebugAddr::from(section).headers()?;
     for _ in 0..20 {
@@ -172,7 +172,7 @@ fn address_set<R: Reader>(set: &AddrHeader<R>, out: &mut String) -> Result<(), E
     Ok(())
 }
 
-/// Where the string offsets, range lists and location lists of a unit without bases begin.
+// Where the string offsets, range lists and location lists of a unit without bases begin.
 fn default_bases(case: &Case, out: &mut String) -> Result<(), Error> {
     let encoding = case.encoding();
     let file = if case.is_split {

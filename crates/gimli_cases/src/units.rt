@@ -40,7 +40,7 @@ fn unit<R: Reader>(case: &Case, section: R) -> Result<UnitHeader<R>, Error> {
     DebugInfo::from(section).header_from_offset(DebugInfoOffset(case.offset()?))
 }
 
-/// The units, one after the other, with a refusal in its place.
+// The units, one after the other, with a refusal in its place.
 fn units<R: Reader>(alloc: Global, section: R, out: &mut String) -> Result<(), Error> {
     let mut units = DebugInfo::from(section).units()?;
     for _ in 0..20 {
@@ -73,7 +73,7 @@ fn tombstone<R: Reader>(case: &Case, unit: &UnitHeader<R>, out: &mut String) -> 
     Ok(())
 }
 
-/// The sets of address ranges, one after the other, with a refusal in its place.
+// The sets of address ranges, one after the other, with a refusal in its place.
 fn arange_sets<R: Reader>(section: R, out: &mut String) -> Result<(), Error> {
     let mut sets = DebugAranges::from(section).headers()?;
     for _ in 0..20 {
@@ -93,13 +93,13 @@ fn arange_set<R: Reader>(set: &ArangeHeader<R>, out: &mut String) -> Result<(), 
     Ok(())
 }
 
-/// The pairs of the set at the offset.
+// The pairs of the set at the offset.
 fn pairs<R: Reader>(case: &Case, section: R) -> Result<ArangeEntryIter<R>, Error> {
     let set = DebugAranges::from(section).header(DebugArangesOffset(case.offset()?))?;
     set.entries()
 }
 
-/// The ranges of a set, with a refusal in its place.
+// The ranges of a set, with a refusal in its place.
 fn aranges<R: Reader>(case: &Case, section: R, out: &mut String) -> Result<(), Error> {
     let mut pairs = pairs(case, section)?;
     for _ in 0..20 {
@@ -115,7 +115,7 @@ fn aranges<R: Reader>(case: &Case, section: R, out: &mut String) -> Result<(), E
     Ok(())
 }
 
-/// The pairs of a set as they are written, and whether each counts.
+// The pairs of a set as they are written, and whether each counts.
 fn aranges_by_one<R: Reader>(case: &Case, section: R, out: &mut String) -> Result<(), Error> {
     let mut pairs = pairs(case, section)?;
     for _ in 0..20 {
@@ -130,7 +130,7 @@ fn aranges_by_one<R: Reader>(case: &Case, section: R, out: &mut String) -> Resul
     Ok(())
 }
 
-/// The first unit, and the declarations of its entries in the second section.
+// The first unit, and the declarations of its entries in the second section.
 fn first_unit<R: Reader>(
     alloc: Global,
     sections: &Sections<R>,
@@ -142,7 +142,7 @@ fn first_unit<R: Reader>(
     Ok((unit, table))
 }
 
-/// All entries, read.
+// All entries, read.
 fn entries<R: Reader>(
     alloc: Global,
     sections: &Sections<R>,
@@ -180,7 +180,7 @@ fn row<R: Reader>(
     Ok(())
 }
 
-/// All entries, whose attributes are skipped.
+// All entries, whose attributes are skipped.
 fn entries_skipped<R: Reader>(
     alloc: Global,
     sections: &Sections<R>,
@@ -209,7 +209,7 @@ fn skip_entry<R: Reader>(entries: &mut EntriesRaw<'_, R>, out: &mut String) -> R
     Ok(())
 }
 
-/// The entry at the offset.
+// The entry at the offset.
 fn entry_at<R: Reader>(
     alloc: Global,
     case: &Case,
@@ -230,7 +230,7 @@ fn entry<R: Reader>(
     unit.entry(alloc, &table, UnitOffset(case.offset()?))
 }
 
-/// The attribute of the name, as it is read and as its name makes it.
+// The attribute of the name, as it is read and as its name makes it.
 fn attribute_of_entry<R: Reader>(
     alloc: Global,
     case: &Case,

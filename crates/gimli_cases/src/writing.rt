@@ -66,7 +66,7 @@ fn write_unit_field<W: Writer>(case: &Case, w: &mut W) -> Result<bool, Error> {
     Ok(true)
 }
 
-/// Writes the value in as many bytes as the question says.
+// Writes the value in as many bytes as the question says.
 fn write_fixed<W: Writer>(case: &Case, w: &mut W) -> Result<(), Error> {
     match case.size {
         1 => w.write_u8(case.narrow()?),
@@ -77,7 +77,7 @@ fn write_fixed<W: Writer>(case: &Case, w: &mut W) -> Result<(), Error> {
     }
 }
 
-/// Writes the value into the bytes at the offset.
+// Writes the value into the bytes at the offset.
 fn write_fixed_at<W: Writer>(case: &Case, w: &mut W) -> Result<(), Error> {
     let place = case.place();
     match case.size {

@@ -14,6 +14,7 @@ pub use Rattle.gimli_core_abbrev.specs.Spelling
 pub use Rattle.gimli_core_abbrev.specs.Readers
 pub use Rattle.gimli_core_abbrev.specs.SectionReads
 pub use Rattle.gimli_core_abbrev.specs.Iterators
+pub use Rattle.gimli_core_abbrev.specs.Tiling
 pub use Rattle.gimli_core_abbrev.specs.AddressSets
 pub use Rattle.gimli_core_abbrev.specs.DefaultBases
 pub use Rattle.gimli_core_abbrev.specs.Declarations

@@ -1,5 +1,5 @@
-//! The reading core: bytes, numbers, readers, abbreviations, strings and addresses. Each name stands in one of the crates
-//! below, which are proved apart, and is passed on here unchanged.
+//! The reading core: bytes, numbers, readers, abbreviations, strings and addresses. Each name is
+//! from one of the crates below, which are proved apart.
 #![tactic(auto)]
 
 pub use gimli_core_abbrev::Abbreviation;

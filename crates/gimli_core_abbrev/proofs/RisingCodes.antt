@@ -22,10 +22,6 @@ Counted (d ∷ ds) = (0 < d.code) × Counted ds
 
 -- ---- what is put among those that rise
 
-lower : (m n : ℕ) (ds : List Declaration) → m ≤ n → Rise n ds → Rise m ds
-lower m n [] le rises = tt
-lower m n (d ∷ ds) le rises = (omega (arith, rises.0), rises.1)
-
 -- the first one isn't found, nor is one behind it
 pub others : (b : Bool) (e : Declaration) (o : Option Declaration) → cond b (Some e) o ≡ None → (b ≡ false) × (o ≡ None)
 others true e o h = absurd cc

@@ -170,9 +170,6 @@ record HasCode (code : ℕ) (r : Result (Declaration × View) Error) : Type 0 wh
 HasCode-Ok : {code : ℕ} {d : Declaration} {s : View} → d.code ≡ code → HasCode code (Ok (d, s))
 HasCode-Ok {code} {d} {s} h = record { is = λ x t e. sym (ap (λ (y : Declaration). y.code) (value_is d x s t e)) ∙ h }
 
-HasCode-Err : {code : ℕ} {e : Error} → HasCode code (Err e)
-HasCode-Err = record { is = λ x t e. absurd cc }
-
 HasCode-proceed : {A : Type 0} {code : ℕ} (r : Result (A × View) Error) (f : A → Step View Declaration)
     → ((x : A) (s : View) → HasCode code (f x s)) → HasCode code (proceed r f)
 HasCode-proceed r f h = record { is = λ y t e. let b = begins r f y t e in (h b.0 b.1).is y t b.3 }

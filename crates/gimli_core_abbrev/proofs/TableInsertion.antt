@@ -114,18 +114,18 @@ pub next_in_order : (ds : List Declaration) (es : List (ℕ × Declaration)) (d 
 next_in_order ds es d is_kept next absent =
     let among : declaration_at (suc (length ds)) (values es)
     ≡ None = subst (λ (c : ℕ). declaration_at c (values es) ≡ None) (next ∙ omega arith)
-    (sym (found_behind 1 ds (values es) d.code is_kept.counted (λ h. omega (arith, h, next))
+    (sym (found_behind 1 ds (values es) d.code is_kept.counts_up (λ h. omega (arith, h, next))
     (λ h. omega (arith, h, next))) ∙ absent) in
-    let further = rises_further (length ds) es is_kept.rising among in
+    let further = rises_further (length ds) es is_kept.rises among in
     let len : length (ds ++ d ∷ []) ≡ suc (length ds) = length-append ds (d ∷ []) ∙ omega arith in
     let code : d.code ≡ suc (length ds) = next ∙ omega arith in
     let placed : put d (all_declarations ds es) ≡ ds ++ d
-    ∷ values es = put_behind 1 d ds (values es) is_kept.counted (omega (arith, next))
+    ∷ values es = put_behind 1 d ds (values es) is_kept.counts_up (omega (arith, next))
     ∙ ap (λ (rest : List Declaration). ds ++ rest)
     (put_before d es (subst (λ (n : ℕ). RiseAbove n es) (sym code) further)) in (
       record {
-        counted = counts_further 1 ds d is_kept.counted next;
-        rising = subst (λ (n : ℕ). RiseAbove n es) (sym len)
+        counts_up = counts_further 1 ds d is_kept.counts_up next;
+        rises = subst (λ (n : ℕ). RiseAbove n es) (sym len)
             further;
       },
       append_assoc ds (d ∷ []) (values es) ∙ sym placed,
@@ -160,16 +160,16 @@ pub other_code : (ds : List Declaration) (es : List (ℕ × Declaration)) (d : D
     → IsLayout ds (insert_entry nat_cmp es d.code d)
     × (all_declarations ds (insert_entry nat_cmp es d.code d) ≡ put d (all_declarations ds es))
 other_code ds es d is_kept counts not_next absent = elim (cases_lt d.code (1 + length ds)) [
-  | inl among ↦ absurd (let found = found_in_order 1 ds (values es) d.code d is_kept.counted (omega arith) among
+  | inl among ↦ absurd (let found = found_in_order 1 ds (values es) d.code d is_kept.counts_up (omega arith) among
       in let both = sym found ∙ absent in cc)
   | inr above ↦
       let behind : declaration_at d.code (values es)
-      ≡ None = sym (found_behind 1 ds (values es) d.code is_kept.counted (λ h. omega (arith, h, counts))
+      ≡ None = sym (found_behind 1 ds (values es) d.code is_kept.counts_up (λ h. omega (arith, h, counts))
       (λ h. omega (arith, h, above))) ∙ absent in
-      let placed = entry_at_place (length ds) es d is_kept.rising (omega (arith, above, not_next)) behind in (
-        record { counted = is_kept.counted; rising = placed.0 },
+      let placed = entry_at_place (length ds) es d is_kept.rises (omega (arith, above, not_next)) behind in (
+        record { counts_up = is_kept.counts_up; rises = placed.0 },
         ap (λ (rest : List Declaration). ds ++ rest) placed.1
-            ∙ sym (put_behind 1 d ds (values es) is_kept.counted (omega arith)),
+            ∙ sym (put_behind 1 d ds (values es) is_kept.counts_up (omega arith)),
       )
 ]
 
@@ -224,7 +224,7 @@ get_low items es code a is_kept low high item =
     ap (λ (x : Abbreviation). Some (declaration_view x)) item
     ∙ ap Some (sym (get_or-map declaration_view items (code - 1) a (declaration_view a) (omega arith)))
     ∙ sym (found_in_order 1 (map declaration_view items) (values (map entry_view es)) code (declaration_view a)
-    is_kept.counted low (omega (arith, len)))
+    is_kept.counts_up low (omega (arith, len)))
 
 pub get_high : (items : List Abbreviation) (es : List (ℕ × Abbreviation)) (code : ℕ) (o : Option Abbreviation)
     → IsLayout (map declaration_view items) (map entry_view es) → (1 ≤ code → code ≤ length items → ⊥)
@@ -232,10 +232,11 @@ pub get_high : (items : List Abbreviation) (es : List (ℕ × Abbreviation)) (co
     ≡ declaration_at code (all_declarations (map declaration_view items) (map entry_view es))
 get_high items es code o is_kept outside found =
     let len = length-map items declaration_view in
-    ap (option_map declaration_view) found ∙ found_by_key (length (map declaration_view items)) code es is_kept.rising
+    ap (option_map declaration_view) found ∙ found_by_key (length (map declaration_view items)) code es is_kept.rises
     ∙ sym (elim (cases_lt code 1) [
-      | inl zero_code ↦ found_behind_0 1 (map declaration_view items) (values (map entry_view es)) code is_kept.counted
+      | inl zero_code ↦
+          found_behind_0 1 (map declaration_view items) (values (map entry_view es)) code is_kept.counts_up
           zero_code
-      | inr some ↦ found_behind 1 (map declaration_view items) (values (map entry_view es)) code is_kept.counted
+      | inr some ↦ found_behind 1 (map declaration_view items) (values (map entry_view es)) code is_kept.counts_up
           (λ h. omega (arith, h, some)) (λ h. outside some (omega (arith, h, len)))
     ])

@@ -19,6 +19,7 @@ pub use Rattle.gimli_core_readers.specs.Fault
 pub use Rattle.gimli_core_readers.specs.AddressSets
 pub use Rattle.gimli_core_readers.specs.DefaultBases
 pub use Rattle.gimli_core_readers.specs.Iterators
+pub use Rattle.gimli_core_readers.specs.Tiling
 pub use Rattle.gimli_core_readers.specs.Readers
 pub use Rattle.gimli_core_readers.specs.SectionReads
 pub mod Declarations

@@ -22,15 +22,14 @@ is_chosen Duplicates offset offsets = nat_le 2 (count_by (λ o. o == offset) off
 
 -- an entry of the map: a table or a refusal
 abbrev pub table_view : Result (Rc Abbreviations Global) Error → Result (List Declaration) Error
-table_view (Ok shared) = Ok shared.value
+table_view (Ok table) = Ok table.value
 table_view (Err e) = Err e
 
 -- the cached table of an offset
 abbrev pub entry_at : ℕ → AbbreviationsCache → Option (Result (List Declaration) Error)
 entry_at offset cache = option_map table_view (get nat_cmp cache.tables offset)
 
--- what comes before the end of the offsets, or before a fault other than of memory, which ends them
--- too
+-- what ends the offsets: there are no more, or a fault other than out of memory comes
 abbrev pub EndsOffsets : {O : Type 0} → Option (Result O Error) → Type 0
 EndsOffsets None = Unit {0}
 EndsOffsets (Some (Ok o)) = ⊥

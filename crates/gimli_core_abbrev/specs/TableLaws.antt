@@ -54,20 +54,20 @@ abbrev pub table_to_0_at : ℕ → View → Result (List Declaration) Error
 table_to_0_at offset section =
     value_of ((skip offset >> λ v. table_of (listing_in bytes_left coded_declaration v)) section)
 
--- The end of the section ends the table: there is one, and none where the code 0 alone ends it.
+-- The end of the section closes the table: there is one, and none where the code 0 alone closes it.
 abbrev pub IsEndedBySection : ℕ → View → Type 0
 IsEndedBySection offset section =
     IsOk (table_at offset section) × IsErr (table_to_0_at offset section)
 
--- Further bytes after a section change no answer in which its end doesn't show: none but the
--- refusal of a read that met the end, and a table that the end ends.
+-- Further bytes after a section change no answer but those that depend on its end: the refusal of a
+-- read that met the end, and a table that the end closed.
 abbrev pub AnswersStay : Type 0
 AnswersStay = (offset : ℕ) (section : View) (more : List ℕ)
     → ((id : ReaderOffsetId) → table_at offset section ≢ Err (UnexpectedEof id))
     → ¬ IsEndedBySection offset section
     → table_at offset (with_more_bytes more section) ≡ table_at offset section
 
--- the end of a section ends a table as a code 0 after it does
+-- the end of a section closes a table as a code 0 after it does
 abbrev pub EndsAsCode0 : Type 0
 EndsAsCode0 = (offset : ℕ) (section : View) (more : List ℕ) → IsEndedBySection offset section
     → table_at offset (with_more_bytes (0 ∷ more) section) ≡ table_at offset section

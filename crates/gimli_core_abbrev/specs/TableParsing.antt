@@ -2,7 +2,7 @@
 use Rattle.std.specs.Prelude.{ℕ, ℤ, ◌==◌, Bool, true, false, not, ◌&&◌, List, [], ◌∷◌, Option, Some, None, Result, Ok, Err}
 use Rattle.gimli_core_readers.specs.Error.{Error}
 use Rattle.gimli_core_readers.specs.Error.TheVariants.{AbbreviationTagZero, AttributeNameZero, AttributeFormZero, InvalidAbbreviationChildren, DuplicateAbbreviationCode}
-use Rattle.gimli_core_readers.specs.TheConstants.{DW_FORM_implicit_const}
+use Rattle.gimli_core_readers.specs.TheConstants.{DW_FORM_implicit_const, DW_CHILDREN_no, DW_CHILDREN_yes}
 use Rattle.gimli_core_readers.specs.View.{View, bytes_left}
 use Rattle.gimli_core_readers.specs.Parsers.{Parser, ◌>>=◌, ◌>>◌, give, fail, branch, demand, skip, value_of, proceed}
 use Rattle.gimli_core_readers.specs.Repetition.{Listing, listing_in, all_of, whole}
@@ -44,8 +44,8 @@ attributes = all_of bytes_left attribute
 unfoldable pub children : Parser Bool
 children = do
   byte ← fixed 1
-  branch (byte == 0) (give false)
-      (branch (byte == 1) (give true) (fail (InvalidAbbreviationChildren byte)))
+  branch (byte == DW_CHILDREN_no.0) (give false)
+      (branch (byte == DW_CHILDREN_yes.0) (give true) (fail (InvalidAbbreviationChildren byte)))
 
 -- what follows a code
 unfoldable pub declaration_of : ℕ → Parser Declaration

@@ -7,13 +7,13 @@ ghost use Rattle.gimli_core_abbrev.specs.AbbreviationViews.{declaration_view, at
 ghost use Rattle.gimli_core_abbrev.specs.FormWidths.{width_of};
 
 use gimli_core_readers::{
-    DW_FORM_GNU_ref_alt, DW_FORM_GNU_strp_alt, DW_FORM_addr, DW_FORM_addrx1, DW_FORM_addrx2,
-    DW_FORM_addrx3, DW_FORM_addrx4, DW_FORM_data1, DW_FORM_data2, DW_FORM_data4, DW_FORM_data8,
-    DW_FORM_data16, DW_FORM_flag, DW_FORM_flag_present, DW_FORM_implicit_const, DW_FORM_line_strp,
-    DW_FORM_ref_addr, DW_FORM_ref_sig8, DW_FORM_ref_sup4, DW_FORM_ref_sup8, DW_FORM_ref1,
-    DW_FORM_ref2, DW_FORM_ref4, DW_FORM_ref8, DW_FORM_sec_offset, DW_FORM_strp, DW_FORM_strp_sup,
-    DW_FORM_strx1, DW_FORM_strx2, DW_FORM_strx3, DW_FORM_strx4, DwAt, DwForm, DwTag, Encoding,
-    Error, Reader,
+    DW_CHILDREN_no, DW_CHILDREN_yes, DW_FORM_GNU_ref_alt, DW_FORM_GNU_strp_alt, DW_FORM_addr,
+    DW_FORM_addrx1, DW_FORM_addrx2, DW_FORM_addrx3, DW_FORM_addrx4, DW_FORM_data1, DW_FORM_data2,
+    DW_FORM_data4, DW_FORM_data8, DW_FORM_data16, DW_FORM_flag, DW_FORM_flag_present,
+    DW_FORM_implicit_const, DW_FORM_line_strp, DW_FORM_ref_addr, DW_FORM_ref_sig8,
+    DW_FORM_ref_sup4, DW_FORM_ref_sup8, DW_FORM_ref1, DW_FORM_ref2, DW_FORM_ref4, DW_FORM_ref8,
+    DW_FORM_sec_offset, DW_FORM_strp, DW_FORM_strp_sup, DW_FORM_strx1, DW_FORM_strx2,
+    DW_FORM_strx3, DW_FORM_strx4, DwAt, DwChildren, DwForm, DwTag, Encoding, Error, Reader,
 };
 use smallvec::SmallVec;
 use std::alloc::Global;
@@ -78,7 +78,7 @@ impl AttributeSpecification {
 }
 
 impl AttributeSpecification {
-    /// The bytes of the attribute's value, where the form alone tells how many there are (DWARF 5,
+    /// The bytes of the attribute's value, where the form alone says how many there are (DWARF 5,
     /// 7.5.6).
     pub fn size(&self, encoding: Encoding) -> Option<usize>
         ensures { result ≡ width_of encoding (attribute_view self.now).form }
@@ -146,7 +146,7 @@ impl Abbreviation {
 
 // ---- reading
 
-// The value that a declaration itself has, after an attribute's form.
+// The value that a declaration itself holds, after an attribute's form.
 #[tactic(auto, unfolding(crate::specs::TableParsing::implicit_const))]
 fn parse_implicit_const<R: Reader>(input: &mut R, form: DwForm) -> Result<Option<i64>, Error>
     ensures { Reads result (R.view input.old) (R.view input.new)
@@ -187,7 +187,7 @@ fn parse_attributes<R: Reader>(
     alloc: Global,
     input: &mut R,
 ) -> Result<SmallVec<AttributeSpecification, 5>, Error>
-    ensures { ReturnsAsOrNoMemory (λ found. (map attribute_view found.items, R.view input.new))
+    ensures { ReturnsAsOrNoMemory (λ list. (map attribute_view list.items, R.view input.new))
         result (attributes (R.view input.old)) }
 {
     let mut found = SmallVec::new(alloc);
@@ -203,10 +203,10 @@ fn parse_children<R: Reader>(input: &mut R) -> Result<bool, Error>
     ensures { ReturnsAsOrNoMemory (λ b. (b, R.view input.new)) result
         (children (R.view input.old)) }
 {
-    match input.read_u8()? {
-        0 => Ok(false),
-        1 => Ok(true),
-        other => Err(Error::InvalidAbbreviationChildren(other)),
+    match DwChildren(input.read_u8()?) {
+        DW_CHILDREN_no => Ok(false),
+        DW_CHILDREN_yes => Ok(true),
+        other => Err(Error::InvalidAbbreviationChildren(other.0)),
     }
 }
 

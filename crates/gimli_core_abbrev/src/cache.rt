@@ -19,7 +19,7 @@ use std::alloc::Global;
 use std::collections::{BTreeMap, BTreeSet};
 use std::rc::Rc;
 
-/// Which tables a cache reads beforehand.
+/// Which tables a cache reads at once.
 #[derive(Clone, Copy, Debug, PartialEq, Eq)]
 pub enum AbbreviationsCacheStrategy {
     /// Those that at least two units share.
@@ -49,7 +49,7 @@ impl AbbreviationsCache {
     }
 
     /// Reads the tables of a section at these offsets, in place of those before. A fault among the
-    /// offsets ends them.
+    /// offsets ends them. Out of memory, nothing changes.
     pub fn populate<R, I>(
         &mut self,
         alloc: Global,
@@ -62,10 +62,10 @@ impl AbbreviationsCache {
         I: Iterator<Item = Result<DebugAbbrevOffset<R::Offset>, Error>> + Drop,
         requires can { I.can_next offsets }
         requires ends { IsFinite (I.remaining offsets) }
-        ensures ok { OnOk result ((given : List (DebugAbbrevOffset R.Offset))
-            × (last : Option (Result (DebugAbbrevOffset R.Offset) Error)) × (left : I)
-            × YieldsThen I.next_gives offsets (map (λ o. Ok o) given) last left × EndsOffsets last
-            × HoldsTables strategy (map (λ o. R.Offset.count o.0) given) section.now self.new) }
+        ensures ok { OnOk result ((items : List (DebugAbbrevOffset R.Offset))
+            × (last : Option (Result (DebugAbbrevOffset R.Offset) Error)) × (rest : I)
+            × YieldsThen I.next_gives offsets (map (λ o. Ok o) items) last rest × EndsOffsets last
+            × HoldsTables strategy (map (λ o. R.Offset.count o.0) items) section.now self.new) }
         ensures err { IfErr result (λ e. (e ≡ Memory) × (self.new ≡ self.old)) }
     {
         let offsets = offsets_of(alloc, offsets)?;
@@ -127,9 +127,9 @@ where
     I: Iterator<Item = Result<DebugAbbrevOffset<O>, Error>> + Drop,
     requires can { I.can_next offsets }
     requires ends { IsFinite (I.remaining offsets) }
-    ensures ok { IfOk result (λ found. (last : Option (Result (DebugAbbrevOffset O) Error))
-        × (left : I)
-        × YieldsThen I.next_gives offsets (map (λ o. Ok o) found.items) last left
+    ensures ok { IfOk result (λ list. (last : Option (Result (DebugAbbrevOffset O) Error))
+        × (rest : I)
+        × YieldsThen I.next_gives offsets (map (λ o. Ok o) list.items) last rest
         × EndsOffsets last) }
     ensures err { IfErr result (λ e. e ≡ Memory) }
 {
@@ -146,7 +146,7 @@ where
     Ok(found)
 }
 
-// Out of memory is handed on; any other fault only ends the offsets.
+// Out of memory is returned; any other fault only ends the offsets.
 fn fault_of_offsets(fault: Error) -> Result<(), Error>
     ensures ok { OnOk result (fault ≢ Memory) }
     ensures err { IfErr result (λ e. e ≡ Memory) }
@@ -163,8 +163,8 @@ fn chosen_of<O: ReaderOffset>(
     strategy: AbbreviationsCacheStrategy,
     offsets: Vec<DebugAbbrevOffset<O>>,
 ) -> Result<Vec<DebugAbbrevOffset<O>>, Error>
-    ensures ok { IfOk result (λ chosen. (offset : ℕ) → list_any (λ o. o == offset)
-        (map (λ o. O.count o.0) chosen.items)
+    ensures ok { IfOk result (λ list. (offset : ℕ) → list_any (λ o. o == offset)
+        (map (λ o. O.count o.0) list.items)
         ≡ is_chosen strategy offset (map (λ o. O.count o.0) offsets.items)) }
     ensures err { IfErr result (λ e. e ≡ Memory) }
 {
@@ -179,8 +179,8 @@ fn repeated_of<O: ReaderOffset>(
     alloc: Global,
     offsets: &[DebugAbbrevOffset<O>],
 ) -> Result<Vec<DebugAbbrevOffset<O>>, Error>
-    ensures ok { IfOk result (λ found. (offset : ℕ) → list_any (λ o. o == offset)
-        (map (λ o. O.count o.0) found.items)
+    ensures ok { IfOk result (λ list. (offset : ℕ) → list_any (λ o. o == offset)
+        (map (λ o. O.count o.0) list.items)
         ≡ nat_le 2 (count_by (λ o. o == offset) (map (λ o. O.count o.0) offsets.now))) }
     ensures err { IfErr result (λ e. e ≡ Memory) }
 {
@@ -240,16 +240,16 @@ fn cached_table<R: Reader>(
     section: &DebugAbbrev<R>,
     offset: DebugAbbrevOffset<R::Offset>,
 ) -> Result<CachedTable, Error>
-    ensures ok { IfOk result (λ cached. table_view cached ≡ table_at (R.Offset.count offset.0)
+    ensures ok { IfOk result (λ entry. table_view entry ≡ table_at (R.Offset.count offset.0)
         section.now) }
     ensures err { IfErr result (λ e. e ≡ Memory) }
 {
     shared_table(alloc, section.abbreviations(alloc, offset))
 }
 
-// A table to share, or the fault of one that can't be read. Out of memory is handed on.
+// A table to share, or the fault of one that can't be read. Out of memory is returned.
 fn shared_table(alloc: Global, table: Result<Abbreviations, Error>) -> Result<CachedTable, Error>
-    ensures ok { IfOk result (λ cached. (table_view cached ≡ table) × (table ≢ Err Memory)) }
+    ensures ok { IfOk result (λ entry. (table_view entry ≡ table) × (table ≢ Err Memory)) }
     ensures err { IfErr result (λ e. e ≡ Memory) }
 {
     match table {

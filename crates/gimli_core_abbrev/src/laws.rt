@@ -24,8 +24,8 @@ pub fn finds_in_byte_order()
     ensures { FindsInByteOrder }
 {}
 
-/// Bytes after a section change no answer but those that its end made: the refusal of a read that
-/// met the end, and a table that the end closed in place of a code 0 (DWARF 5, 7.5.3).
+/// Bytes after a section change no answer but those that depend on its end: the refusal of a read
+/// that met the end, and a table that the end closed in place of a code 0 (DWARF 5, 7.5.3).
 pub fn answers_stay()
     ensures { AnswersStay }
 {}

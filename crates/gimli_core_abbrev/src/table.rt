@@ -95,7 +95,7 @@ fn put_under(
     Ok(())
 }
 
-/// Reads declarations up to the code 0 or the end of the bytes.
+// Reads declarations up to the code 0 or the end of the bytes.
 #[tactic(auto, unfolding(crate::specs::TableParsing::table))]
 pub(crate) fn parse<R: Reader>(alloc: Global, input: &mut R) -> Result<Abbreviations, Error>
     ensures { ReturnsAsOrNoMemory (λ t. (t, R.view input.new)) result (table (R.view input.old)) }

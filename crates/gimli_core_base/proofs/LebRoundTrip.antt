@@ -58,9 +58,9 @@ unsigned_digits (suc j) n i below = elim (cases_lt n 128) [
       rw (unsigned_within-more (suc j) n more, tail, digit) (split_digit n (128 ^ i) (128 ^ (i + 1)) (next_power i))
 ]
 
-pub unsigned_again : (n : ℕ) (rest : List ℕ) → n < 2 ^ 64
+pub unsigned_string_reads_back : (n : ℕ) (rest : List ℕ) → n < 2 ^ 64
     → unsigned_at 10 (2 ^ 64) (unsigned_string n ++ rest) ≡ Ok (n, length (unsigned_string n))
-unsigned_again n rest h =
+unsigned_string_reads_back n rest h =
     let below : n < 128 ^ 10 = omega arith in
     let found = unsigned_found 9 n rest below in
     let number : unsigned_number (unsigned_string n) ≡ n = unsigned_digits 9 n 0 below ∙ omega arith in
@@ -209,9 +209,9 @@ signed_value (negsuc n) below =
     less : (sum top : ℕ) → sum + (n + 1) ≡ top → pos sum -ℤ pos top ≡ negsuc n
     less sum top h = omega (arith, ints)
 
-pub signed_again : (z : ℤ) (rest : List ℕ) → FitsSigned w64 z
+pub signed_string_reads_back : (z : ℤ) (rest : List ℕ) → FitsSigned w64 z
     → signed_at (signed_string z ++ rest) ≡ Ok (z, length (signed_string z))
-signed_again z rest fits =
+signed_string_reads_back z rest fits =
     let below : Within 9 z = omega (arith, fits.sfits) in
     let found = signed_found 9 z rest below in
     let number = signed_value z below in

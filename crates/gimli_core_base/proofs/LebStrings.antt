@@ -21,11 +21,6 @@ string_at-goes_on b bs h = rw (le-ltb b 128 h) refl
 
 -- ---- its length
 
-length_map : (b : ℕ) (o : Option (List ℕ)) → option_map length (option_map (λ (s : List ℕ). b ∷ s) o)
-    ≡ option_map suc (option_map length o)
-length_map b None = refl
-length_map b (Some s) = refl
-
 -- the length of the string that begins i bytes before these
 abbrev pub length_from : ℕ → List ℕ → Option ℕ
 length_from i bytes = option_map (λ (s : List ℕ). i + length s) (leb_string bytes)
@@ -43,13 +38,6 @@ map_front : (front : List ℕ) (b : ℕ) (o : Option (List ℕ))
     ≡ option_map (λ (s : List ℕ). (front ++ b ∷ []) ++ s) o
 map_front front b None = refl
 map_front front b (Some s) = ap Some (sym (append_assoc front (b ∷ []) s))
-
-map_none : (o : Option (List ℕ)) → option_map (λ (s : List ℕ). [] ++ s) o ≡ o
-map_none None = refl
-map_none (Some s) = refl
-
-pub judged-from : (limit : ℕ) (bytes : List ℕ) → judged_from limit [] bytes ≡ bounded_string limit bytes
-judged-from limit bytes = rw (map_none (leb_string (take limit bytes))) refl
 
 more_test : (a b : ℕ) → ltb (suc a) (suc b) ≡ ltb a b
 more_test a b =
@@ -72,9 +60,6 @@ judged_from-goes_on limit front b rest h =
 pub judged_from-last : (limit : ℕ) (front : List ℕ) (b : ℕ) (rest : List ℕ) → b < 128
     → judged_from (suc limit) front (b ∷ rest) ≡ Ok (front ++ b ∷ [])
 judged_from-last limit front b rest h = rw (string_at-last b (take limit rest) h) refl
-
-pub judged_from-cut : (limit : ℕ) (front : List ℕ) → judged_from (suc limit) front [] ≡ Err Cut
-judged_from-cut limit front = rw (lt-ltb 0 (suc limit) (omega arith)) refl
 
 pub judged_from-long : (front : List ℕ) (b : ℕ) (rest : List ℕ) → 128 ≤ b → judged_from 1 front (b ∷ rest) ≡ Err Bad
 judged_from-long front b rest h =

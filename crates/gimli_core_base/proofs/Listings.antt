@@ -41,10 +41,6 @@ listing_next {size = size} {p = p} h s = next_same (p s) (items_within (size s) 
     let lt : size t < size s = (h.smaller s (size s) (omega arith)).left x t e in within-enough h (size s)
     (suc (size t)) t lt (omega arith))
 
--- nothing in front
-pub prepend_none : {S A : Type 0} (l : Listing S A) → prepend [] l ≡ l
-prepend_none l = refl
-
 -- an item that is read goes behind those in front
 pub listing_item : {S A : Type 0} {size : S → ℕ} {p : Step S (Option A)} → Shrinks size p
     → (xs : List A) (x : A) (s t : S) → p s ≡ Ok (Some x, t)

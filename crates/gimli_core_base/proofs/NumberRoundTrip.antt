@@ -12,7 +12,7 @@ use Rattle.gimli_core_base.specs.Fixed.{little, big, number, number_bytes}
 use Rattle.gimli_core_base.specs.Leb128.{unsigned_at, signed_at}
 use Rattle.gimli_core_base.specs.NumberParsers.{number_and_rest, fixed, unsigned, signed}
 use Rattle.gimli_core_base.specs.Spelling.{unsigned_string, signed_string}
-use Rattle.gimli_core_base.proofs.LebRoundTrip.{unsigned_again, signed_again}
+use Rattle.gimli_core_base.proofs.LebRoundTrip.{unsigned_string_reads_back, signed_string_reads_back}
 
 abbrev left : View → ℕ → List ℕ → View
 left v k rest = record { bytes = rest; is_big = v.is_big; first = v.first + k }
@@ -21,18 +21,18 @@ after_is : (v : View) (front rest : List ℕ) (k : ℕ) → v.bytes ≡ front ++
     → after k v ≡ left v k rest
 after_is v front rest k whole len = ap (λ (bs : List ℕ). left v k bs) (ap (drop k) whole ∙ drop_at front rest k len)
 
-pub unsigned_is_read_again : (n : ℕ) (rest : List ℕ) (v : View) → n < 2 ^ 64 → v.bytes ≡ unsigned_string n ++ rest
+pub unsigned_reads_back : (n : ℕ) (rest : List ℕ) (v : View) → n < 2 ^ 64 → v.bytes ≡ unsigned_string n ++ rest
     → unsigned v ≡ Ok (n, left v (length (unsigned_string n)) rest)
 unfolding unsigned
-unsigned_is_read_again n rest v h whole =
-    ap (number_and_rest BadUnsignedLeb128 v) (ap (unsigned_at 10 (2 ^ 64)) whole ∙ unsigned_again n rest h)
+unsigned_reads_back n rest v h whole =
+    ap (number_and_rest BadUnsignedLeb128 v) (ap (unsigned_at 10 (2 ^ 64)) whole ∙ unsigned_string_reads_back n rest h)
     ∙ ap (λ (w : View). Ok (n, w)) (after_is v (unsigned_string n) rest (length (unsigned_string n)) whole refl)
 
-pub signed_is_read_again : (z : ℤ) (rest : List ℕ) (v : View) → FitsSigned w64 z → v.bytes ≡ signed_string z ++ rest
+pub signed_reads_back : (z : ℤ) (rest : List ℕ) (v : View) → FitsSigned w64 z → v.bytes ≡ signed_string z ++ rest
     → signed v ≡ Ok (z, left v (length (signed_string z)) rest)
 unfolding signed
-signed_is_read_again z rest v h whole =
-    ap (number_and_rest BadSignedLeb128 v) (ap signed_at whole ∙ signed_again z rest h)
+signed_reads_back z rest v h whole =
+    ap (number_and_rest BadSignedLeb128 v) (ap signed_at whole ∙ signed_string_reads_back z rest h)
     ∙ ap (λ (w : View). Ok (z, w)) (after_is v (signed_string z) rest (length (signed_string z)) whole refl)
 
 -- ---- fixed numbers
@@ -93,10 +93,10 @@ pub number_again : (is_big : Bool) (n x : ℕ) → x < 256 ^ n → number is_big
 number_again true n x h = high_again n x ∙ mod-eq_of_lt h
 number_again false n x h = low_again n 0 x (rw (div-one x) h) ∙ div-one x
 
-pub fixed_is_read_again : (n x : ℕ) (rest : List ℕ) (v : View) → x < 256 ^ n
+pub fixed_reads_back : (n x : ℕ) (rest : List ℕ) (v : View) → x < 256 ^ n
     → v.bytes ≡ number_bytes v.is_big n x ++ rest → fixed n v ≡ Ok (x, left v n rest)
 unfolding fixed
-fixed_is_read_again n x rest v h whole =
+fixed_reads_back n x rest v h whole =
     let len = length-spelled v.is_big n x in
     let enough = le-ltb (length v.bytes) n
     (omega (arith, ap length whole, length-append (number_bytes v.is_big n x) rest, len)) in

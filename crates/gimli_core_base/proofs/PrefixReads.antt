@@ -33,10 +33,6 @@ part_again v xs rest k whole len =
     both : View → View → Result (View × View) Error
     both w u = Ok (w, u)
 
-pub byte_again : (v : View) (x : ℕ) (rest : List ℕ) → v.bytes ≡ x ∷ rest → byte v ≡ Ok (x, left v 1 rest)
-byte_again v x rest whole =
-    ap (λ (bs : List ℕ). byte_of bs v) whole ∙ ap (λ (w : View). Ok (x, w)) (after_is v (x ∷ []) rest 1 whole refl)
-
 -- ---- texts: bytes without a zero byte, and then one
 
 -- the first zero byte is the one behind the text

@@ -108,14 +108,6 @@ pub SomeBelow-Below : {S A : Type 0} {size : S → ℕ} {n : ℕ} {r : Result (O
     → SomeBelow size n r
 SomeBelow-Below h = record { left = λ x s e. h.left (Some x) s e }
 
-pub AtMost-le : {S A : Type 0} {size : S → ℕ} {m n : ℕ} {r : Result (A × S) Error} → AtMost size m r → m ≤ n
-    → AtMost size n r
-AtMost-le h k = record { left = λ x s e. let le = h.left x s e in omega arith }
-
-pub Below-le : {S A : Type 0} {size : S → ℕ} {m n : ℕ} {r : Result (A × S) Error} → Below size m r → m ≤ n
-    → Below size n r
-Below-le h k = record { left = λ x s e. let lt = h.left x s e in omega arith }
-
 pub Below-lt : {S A : Type 0} {size : S → ℕ} {m n : ℕ} {r : Result (A × S) Error} → AtMost size m r → m < n
     → Below size n r
 Below-lt h k = record { left = λ x s e. let le = h.left x s e in omega arith }

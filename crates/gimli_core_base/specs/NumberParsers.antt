@@ -37,18 +37,18 @@ string_fault bad v Bad = bad
 -- a number and the bytes after its string
 abbrev pub number_and_rest : {A : Type 0} → Error → View → Result (A × ℕ) Fault
     → Result (A × View) Error
-number_and_rest bad v (Ok found) = Ok (found.0, after found.1 v)
+number_and_rest bad v (Ok p) = Ok (p.0, after p.1 v)
 number_and_rest bad v (Err fault) = Err (string_fault bad v fault)
 
 -- an unsigned number in 64 bits
 unfoldable pub unsigned : Parser ℕ
 unsigned v = number_and_rest BadUnsignedLeb128 v (unsigned_at 10 (2 ^ 64) v.bytes)
 
--- one in 16 bits, of at most three bytes
+-- an unsigned number in 16 bits, of at most three bytes
 unfoldable pub unsigned_16 : Parser ℕ
 unsigned_16 v = number_and_rest BadUnsignedLeb128 v (unsigned_at 3 (2 ^ 16) v.bytes)
 
--- one in 32 bits
+-- an unsigned number in 32 bits
 unfoldable pub unsigned_32 : Parser ℕ
 unsigned_32 = do
   n ← unsigned
@@ -58,7 +58,7 @@ unsigned_32 = do
 unfoldable pub signed : Parser ℤ
 signed v = number_and_rest BadSignedLeb128 v (signed_at v.bytes)
 
--- a string of any length, whatever its number
+-- the bytes after a string of any length, whatever its number
 abbrev pub rest_after_string : View → Option (List ℕ) → Result (Unit {0} × View) Error
 rest_after_string v (Some string) = Ok (tt, after (length string) v)
 rest_after_string v None = Err (string_fault BadUnsignedLeb128 v Cut)

@@ -79,7 +79,7 @@ part n v =
 abbrev pub skip : ℕ → Parser (Unit {0})
 skip n v = if nat_lt (length v.bytes) n then Err (unexpected_end v) else Ok (tt, after n v)
 
--- keeps the first n bytes alone
+-- drops all but the first n bytes
 abbrev pub truncate : ℕ → Parser (Unit {0})
 truncate n v =
     if nat_lt (length v.bytes) n then Err (unexpected_end v) else Ok (tt, prefix n v)

@@ -1,5 +1,5 @@
 -- Items that follow each other: read until there are no more or one can't be read.
-use Rattle.std.specs.Prelude.{ℕ, zero, suc, ◌==◌, List, [], ◌∷◌, ◌++◌, length, Option, Some, None, Result, Ok, Err, if◌then◌else◌}
+use Rattle.std.specs.Prelude.{ℕ, zero, suc, ◌==◌, List, [], ◌∷◌, ◌++◌, map, length, Option, Some, None, Result, Ok, Err, if◌then◌else◌}
 use Rattle.gimli_core_base.specs.declared.error.Error.{Error}
 use Rattle.gimli_core_base.specs.Parsers.{Step, Parser, ◌>>=◌, proceed, give}
 
@@ -55,6 +55,19 @@ fault_in (Err e) = Some e
 
 abbrev pub fault_of : {S A : Type 0} → Listing S A → Option Error
 fault_of l = fault_in l.ending
+
+-- an item as an answer
+abbrev pub answer : {A : Type 0} → A → Result A Error
+answer x = Ok x
+
+-- the fault that ends a listing as the last answer, if one does
+abbrev pub last_answer : {S A : Type 0} → Result S Error → List (Result A Error)
+last_answer (Ok s) = []
+last_answer (Err e) = Err e ∷ []
+
+-- the items as answers, and the fault that ends them, if one does
+abbrev pub answers_of : {S A : Type 0} → Listing S A → List (Result A Error)
+answers_of l = map answer l.items ++ last_answer l.ending
 
 -- an item, or none where no byte is left
 abbrev pub until_end : {A : Type 0} → Parser A → Parser (Option A)

@@ -23,7 +23,7 @@ abbrev pub is_digit : ℤ → Bool
 is_digit (pos n) = nat_lt n 64
 is_digit (negsuc n) = nat_lt n 64
 
--- the same in two's complement
+-- the digits of a signed number in two's complement; of at most k bytes
 unfoldable pub signed_within : ℕ → ℤ → List ℕ
 signed_within zero z = []
 signed_within (suc k) z =

@@ -177,6 +177,14 @@ pub const DW_TAG_type_unit: DwTag = DwTag(0x41);
 
 pub const DW_TAG_skeleton_unit: DwTag = DwTag(0x4a);
 
+/// Whether entries of a code have children (DWARF 5, 7.5.3).
+#[derive(Clone, Copy, Debug, PartialEq, Eq, PartialOrd, Ord, Hash)]
+pub struct DwChildren(pub u8);
+
+pub const DW_CHILDREN_no: DwChildren = DwChildren(0x00);
+
+pub const DW_CHILDREN_yes: DwChildren = DwChildren(0x01);
+
 /// The name of an attribute (DWARF 5, 7.5.4).
 #[derive(Clone, Copy, Debug, PartialEq, Eq, PartialOrd, Ord, Hash)]
 pub struct DwAt(pub u16);

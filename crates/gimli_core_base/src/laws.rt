@@ -10,14 +10,14 @@ ghost use Rattle.gimli_core_base.specs.Leb128.{leb_string, unsigned_number, sign
 ghost use Rattle.gimli_core_base.specs.declared.leb128.Fault.TheVariants.{Cut};
 ghost use Rattle.gimli_core_base.specs.Spelling.{unsigned_string, signed_string};
 
-/// The string of an unsigned number is read again, whatever follows it.
-pub fn unsigned_again()
+/// The string of an unsigned number reads back as the number, whatever follows it.
+pub fn unsigned_string_reads_back()
     ensures { (n : ℕ) (rest : List ℕ) → n < 2 ^ 64
         → unsigned_at 10 (2 ^ 64) (unsigned_string n ++ rest) ≡ Ok (n, length (unsigned_string n)) }
 {}
 
-/// The string of a signed number is read again, whatever follows it.
-pub fn signed_again()
+/// The string of a signed number reads back as the number, whatever follows it.
+pub fn signed_string_reads_back()
     ensures { (z : ℤ) (rest : List ℕ) → FitsSigned w64 z → signed_at (signed_string z ++ rest)
         ≡ Ok (z, length (signed_string z)) }
 {}
@@ -50,7 +50,7 @@ pub fn signed_shortest()
 
 /// A view that begins with the string of an unsigned number gives the number, and leaves what
 /// follows.
-pub fn unsigned_is_read_again()
+pub fn unsigned_reads_back()
     ensures { (n : ℕ) (rest : List ℕ) (v : View) → n < 2 ^ 64 → v.bytes ≡ unsigned_string n ++ rest
         → unsigned v ≡ Ok (
           n,
@@ -60,7 +60,7 @@ pub fn unsigned_is_read_again()
 {}
 
 /// A view that begins with the string of a signed number gives the number, and leaves what follows.
-pub fn signed_is_read_again()
+pub fn signed_reads_back()
     ensures { (z : ℤ) (rest : List ℕ) (v : View) → FitsSigned w64 z → v.bytes ≡ signed_string z
         ++ rest
         → signed v ≡ Ok (
@@ -71,7 +71,7 @@ pub fn signed_is_read_again()
 {}
 
 /// A view that begins with the bytes of a number gives the number, and leaves what follows.
-pub fn fixed_is_read_again()
+pub fn fixed_reads_back()
     ensures { (n x : ℕ) (rest : List ℕ) (v : View) → x < 256 ^ n → v.bytes
         ≡ number_bytes v.is_big n x ++ rest
         → fixed n v ≡ Ok (x, record { bytes = rest; is_big = v.is_big; first = v.first + n }) }

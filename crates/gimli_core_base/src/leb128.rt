@@ -1,4 +1,4 @@
-//! LEB128 (DWARF 5, 7.6): strings of bytes from 128 on that a byte below 128 ends.
+//! LEB128 (DWARF 5, 7.6): a string is bytes from 128 on, and a last one below 128.
 
 ghost use Rattle.std.specs.Prelude.{◌≡◌, ◌^◌, ◌*◌, ◌<◌, ◌≤◌, ◌-ℤ◌, pos, length, option_map};
 ghost use Rattle.gimli_core_base.specs.Leb128.{leb_string, unsigned_at, signed_at};
@@ -16,8 +16,7 @@ pub enum Fault {
     Bad,
 }
 
-/// The length of the first string, however long it is; none where its last byte doesn't
-/// come.
+/// The length of the first string, however long it is; none where the bytes end before it does.
 pub fn skip(bytes: &[u8]) -> Option<usize>
     ensures { result ≡ option_map length (leb_string bytes.now) }
 {
@@ -29,8 +28,7 @@ pub fn skip(bytes: &[u8]) -> Option<usize>
     None
 }
 
-/// The number of the first string, unsigned and of at most ten bytes, and the string's
-/// length.
+/// The number of the first string, unsigned and of at most ten bytes, and the string's length.
 pub fn unsigned(bytes: &[u8]) -> Result<(u64, usize), Fault>
     ensures { result ≡ unsigned_at 10 (2 ^ 64) bytes.now }
 {
@@ -51,8 +49,8 @@ pub fn unsigned(bytes: &[u8]) -> Result<(u64, usize), Fault>
     Err(Fault::Cut)
 }
 
-/// The number of the first string, unsigned, below 2^16 and of at most three
-/// bytes, and the string's length.
+/// The number of the first string, unsigned, below 2^16 and of at most three bytes, and the
+/// string's length.
 pub fn unsigned_16(bytes: &[u8]) -> Result<(u16, usize), Fault>
     ensures { result ≡ unsigned_at 3 (2 ^ 16) bytes.now }
 {
@@ -80,8 +78,7 @@ fn negative(sum: u64, length: usize) -> i64
     sum as i64 - half - half
 }
 
-/// The number of the first string, signed and of at most ten bytes, and the string's
-/// length.
+/// The number of the first string, signed and of at most ten bytes, and the string's length.
 pub fn signed(bytes: &[u8]) -> Result<(i64, usize), Fault>
     ensures { result ≡ signed_at bytes.now }
 {

@@ -1,5 +1,6 @@
-//! What the crates above have in common: refusals, the standard's constants, plain values and numbers as bytes, and
-//! in `specs/` the words in which reading is defined: a view of bytes, a parser of one, and how a call's answer relates to it.
+//! What the crates above have in common: refusals, the standard's constants, plain values and
+//! numbers as bytes, and in `specs/` the words in which reading is defined: a view of bytes,
+//! parsers of views, and how a call's result relates to its meaning.
 #![tactic(auto)]
 
 pub mod common;

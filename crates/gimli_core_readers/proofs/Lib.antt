@@ -10,6 +10,8 @@ pub mod LebStringFits
 pub mod ViewCuts
 pub mod Utf8Texts
 pub mod EqualReaders
+pub mod ByteCountLemmas
+pub mod TilingLemmas
 pub mod AddressSetLemmas
 pub mod MemoryLemmas
 pub mod Wrapping

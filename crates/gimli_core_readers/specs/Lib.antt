@@ -25,6 +25,7 @@ pub use Rattle.gimli_core_base.specs.declared.order.RunTimeEndian
 pub mod Readers
 pub mod SectionReads
 pub mod Iterators
+pub mod Tiling
 pub mod AddressSets
 pub mod DefaultBases
 pub mod Addresses

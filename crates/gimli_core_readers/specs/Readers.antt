@@ -11,7 +11,7 @@ use Rattle.gimli_core_base.specs.View.{View}
 
 -- The bytes are few enough for a slice, for offsets below the limit, and for identifiers of 64
 -- bits, the end's included.
-pub record IsPlaced (limit : ℕ) (v : View) : Type 0 where
+pub record IsIndexable (limit : ℕ) (v : View) : Type 0 where
   pub length_fits : length v.bytes < 2 ^ 63
   pub offsets_fit : length v.bytes < limit
   pub identifiers_fit : v.first + length v.bytes < 2 ^ 64

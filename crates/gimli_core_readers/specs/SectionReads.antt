@@ -12,8 +12,8 @@ use Rattle.gimli_core_base.specs.NumberParsers.{word, address}
 abbrev pub string_at : ℕ → View → Result View Error
 string_at offset section = value_of ((skip offset >> null_terminated) section)
 
--- The place of an index behind a base: one behind the other, each of a width. Places are numbers of
--- 64 bits.
+-- The place of an index after a base, where each index takes as many bytes as the width. Places are
+-- numbers of 64 bits.
 abbrev pub offset_of_index : ℕ → ℕ → ℕ → Result ℕ Error
 offset_of_index base index width =
     if nat_lt (base + index * width) (2 ^ 64) then Ok (base + index * width)
@@ -23,9 +23,9 @@ offset_of_index base index width =
 abbrev pub skip_to_index : ℕ → ℕ → ℕ → Parser (Unit {0})
 skip_to_index base index width = lift (offset_of_index base index width) >>= skip
 
--- the offset of a string at an index (DWARF 5, 7.26)
-abbrev pub string_offset_at : ℕ → Format → ℕ → ℕ → View → Result ℕ Error
-string_offset_at limit format base index section =
+-- the offset at an index, in a table of offsets (DWARF 5, 7.26, 7.28 and 7.29)
+abbrev pub table_offset_at : ℕ → Format → ℕ → ℕ → View → Result ℕ Error
+table_offset_at limit format base index section =
     value_of ((skip_to_index base index (word_size format) >> word limit format) section)
 
 -- the address at an index (DWARF 5, 7.27)

@@ -11,17 +11,17 @@ use std::marker::Model;
 /// The addresses of a set, from one of them on.
 #[derive(Debug, Drop)]
 pub struct AddrEntryIter<R: Reader> {
-    /// The bytes from the next address on.
+    // The bytes from the next address on.
     input: R,
     address_size: u8,
 }
 
 impl<R: Reader> Model for AddrEntryIter<R> {
-    ghost use Rattle.gimli_core_readers.specs.AddressSets.{AddressesLeft};
+    ghost use Rattle.gimli_core_readers.specs.AddressSets.{RemainingAddresses};
 
-    ghost Value = { AddressesLeft };
+    ghost Value = { RemainingAddresses };
 
-    ghost view = { λ a. record { address_size = a.address_size; left = R.view a.input } };
+    ghost view = { λ a. record { address_size = a.address_size; rest = R.view a.input } };
 }
 
 impl<R: Reader> AddrEntryIter<R> {
@@ -39,7 +39,7 @@ impl<R: Reader> AddrEntryIter<R> {
     /// The next address, none at the set's end. After an address that can't be read there are no
     /// more. Takes no memory.
     pub fn next(&mut self) -> Result<Option<u64>, Error>
-        ensures value { ReadsOrEnds result self.old.left self.new.left (next_address self.old) }
+        ensures value { ReadsOrEnds result self.old.rest self.new.rest (next_address self.old) }
         ensures size { self.new.address_size ≡ self.old.address_size }
         ensures order { ComesNext result (addresses_to_come self.old) (addresses_to_come self.new) }
     {

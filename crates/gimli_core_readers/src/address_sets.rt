@@ -1,9 +1,9 @@
-ghost use Rattle.std.specs.Prelude.{◌≡◌, ◌≢◌, ◌-◌, IsTrue, Ok, Err};
-ghost use Rattle.gimli_core_base.specs.View.{bytes_left};
+ghost use Rattle.std.specs.Prelude.{◌≡◌, ◌≢◌, IsTrue, Ok, Err};
 ghost use Rattle.gimli_core_base.specs.Calls.{ReturnsAs, ReturnsAsOrNoMemory, ReturnsOrNoMemory};
 ghost use Rattle.gimli_core_base.specs.declared.error.Error.TheVariants.{Memory};
-ghost use Rattle.gimli_core_readers.specs.AddressSets.{set_encoding, address_set, all_sets, next_set, sets_to_come, all_addresses};
+ghost use Rattle.gimli_core_readers.specs.AddressSets.{set_encoding, address_set, next_set, sets_to_come, all_addresses};
 ghost use Rattle.gimli_core_readers.specs.Iterators.{ReadsOrEndsOrNoMemory, ComesNext};
+ghost use Rattle.gimli_core_readers.specs.Tiling.{whole_section, next_offset};
 
 use crate::Reader;
 use crate::address_entries::AddrEntryIter;
@@ -14,26 +14,26 @@ use std::marker::Model;
 /// The sets of `.debug_addr`, from one of them on.
 #[derive(Debug, Drop)]
 pub struct AddrHeaderIter<R: Reader> {
-    /// The bytes from the next set on.
+    // The bytes from the next set on.
     input: R,
     section_len: R::Offset,
 }
 
 impl<R: Reader> Model for AddrHeaderIter<R> {
     ghost use Rattle.std.specs.Prelude.{◌≤◌, length};
-    ghost use Rattle.gimli_core_readers.specs.AddressSets.{SetsLeft};
+    ghost use Rattle.gimli_core_readers.specs.Tiling.{RemainingSection};
 
-    ghost Value = { SetsLeft };
+    ghost Value = { RemainingSection };
 
     ghost view = { λ s. record
-        { section_length = R.Offset.count s.section_len; left = R.view s.input } };
+        { section_length = R.Offset.count s.section_len; rest = R.view s.input } };
 
     ghost invariant = { λ s. length (R.view s.input).bytes ≤ R.Offset.count s.section_len };
 }
 
 impl<R: Reader> AddrHeaderIter<R> {
     pub(crate) fn new(section: &R) -> Result<Self, Error>
-        ensures value { ReturnsOrNoMemory result (Ok (all_sets (R.view section.now))) }
+        ensures value { ReturnsOrNoMemory result (Ok (whole_section (R.view section.now))) }
         ensures free { IsTrue R.copies_freely → result ≢ Err Memory }
     {
         Ok(AddrHeaderIter {
@@ -45,7 +45,7 @@ impl<R: Reader> AddrHeaderIter<R> {
     /// The next set, none at the section's end. After a set that can't be read there are no more.
     /// Takes memory only where a part of the reader does, and changes nothing when out of memory.
     pub fn next(&mut self) -> Result<Option<AddrHeader<R>>, Error>
-        ensures value { ReadsOrEndsOrNoMemory result self.old.left self.new.left
+        ensures value { ReadsOrEndsOrNoMemory result self.old.rest self.new.rest
             (next_set R.Offset.limit self.old) }
         ensures section { self.new.section_length ≡ self.old.section_length }
         ensures free { IsTrue R.copies_freely → result ≢ Err Memory }
@@ -69,9 +69,9 @@ impl<R: Reader> AddrHeaderIter<R> {
         }
     }
 
-    /// The offset of the next set.
+    // The offset of the next set.
     fn offset(&self) -> DebugAddrOffset<R::Offset>
-        ensures { R.Offset.count result.0 ≡ self.now.section_length - bytes_left self.now.left }
+        ensures { R.Offset.count result.0 ≡ next_offset self.now }
     {
         DebugAddrOffset(self.section_len.checked_sub(self.input.len()).unwrap())
     }

@@ -3,7 +3,8 @@ ghost use Rattle.std.specs.Fn.{FnOnceReturnsAt};
 ghost use Rattle.gimli_core_base.specs.Calls.{Returns, ReturnsOrNoMemory};
 ghost use Rattle.gimli_core_base.specs.declared.error.Error.TheVariants.{Memory};
 ghost use Rattle.gimli_core_readers.specs.SectionReads.{address_at};
-ghost use Rattle.gimli_core_readers.specs.AddressSets.{all_sets, sets_to_come, Tile};
+ghost use Rattle.gimli_core_readers.specs.AddressSets.{address_set, set_size, sets_to_come};
+ghost use Rattle.gimli_core_readers.specs.Tiling.{whole_section, Tile};
 
 use crate::address_sets::AddrHeaderIter;
 use crate::places::reader_at_index;
@@ -50,7 +51,7 @@ impl<R: Reader> Section<R> for DebugAddr<R> {
         &self.section
     }
 
-    ghost from_reader = { λ _ _ made. made };
+    ghost from_reader = { λ _ _ same. same };
 }
 
 impl<'a, E: Endianity> DebugAddr<EndianSlice<'a, E>> {
@@ -69,8 +70,8 @@ impl<R: Reader> DebugAddr<R> {
         F: FnOnce(&'a R) -> S,
         S: Reader,
         requires { F.IsAlwaysCallable f }
-        ensures { (reader : R) × (borrowed : S) × (R.view reader ≡ self.now)
-            × FnOnceReturnsAt F.FnOnce f reader borrowed × (result ≡ S.view borrowed) }
+        ensures { (reader : R) × (output : S) × (R.view reader ≡ self.now)
+            × FnOnceReturnsAt F.FnOnce f reader output × (result ≡ S.view output) }
     {
         DebugAddr {
             section: f(&self.section),
@@ -92,11 +93,12 @@ impl<R: Reader> DebugAddr<R> {
 
     /// The sets of the section, in order. Takes memory only where a copy of the reader does.
     pub fn headers(&self) -> Result<AddrHeaderIter<R>, Error>
-        ensures value { ReturnsOrNoMemory result (Ok (all_sets self.now)) }
+        ensures value { ReturnsOrNoMemory result (Ok (whole_section self.now)) }
         ensures free { IsTrue R.copies_freely → result ≢ Err Memory }
-        // They follow each other, from the section's start to its end or to one that can't be read.
+        // They lie end to end, from the section's start to its end or to one that can't be read.
         ensures tile { IfOk result (λ sets. let all = sets_to_come R.Offset.limit sets in
-            Tile R.Offset.limit self.now all.items all.ending 0) }
+            Tile (address_set R.Offset.limit) (λ s. s.offset) set_size self.now 0 all.items
+            all.ending) }
     {
         AddrHeaderIter::new(&self.section)
     }

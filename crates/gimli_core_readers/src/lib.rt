@@ -1,5 +1,5 @@
-//! Readers: numbers, texts and parts of a section's bytes, read one after the other; string sections, string offsets and
-//! address sets; ranges of addresses.
+//! Readers: numbers, texts and parts of a section's bytes, read one after the other; string
+//! sections, string offsets and address sets; ranges of addresses.
 #![tactic(auto)]
 
 pub mod address;
@@ -93,6 +93,8 @@ pub use gimli_core_base::RawRangeListsOffset;
 pub use gimli_core_base::ReaderOffset;
 pub use gimli_core_base::RunTimeEndian;
 pub use gimli_core_base::SectionId;
+pub use gimli_core_base::constants::DW_CHILDREN_no;
+pub use gimli_core_base::constants::DW_CHILDREN_yes;
 pub use gimli_core_base::constants::DW_FORM_GNU_addr_index;
 pub use gimli_core_base::constants::DW_FORM_GNU_ref_alt;
 pub use gimli_core_base::constants::DW_FORM_GNU_str_index;
@@ -140,6 +142,7 @@ pub use gimli_core_base::constants::DW_FORM_strx2;
 pub use gimli_core_base::constants::DW_FORM_strx3;
 pub use gimli_core_base::constants::DW_FORM_strx4;
 pub use gimli_core_base::constants::DW_FORM_udata;
+pub use gimli_core_base::constants::DwChildren;
 pub use gimli_core_base::constants::DwForm;
 pub use gimli_core_base::constants::DwLle;
 pub use gimli_core_base::constants::DwRle;

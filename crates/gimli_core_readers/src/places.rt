@@ -2,14 +2,14 @@
 
 ghost use Rattle.std.specs.Prelude.{◌≡◌};
 ghost use Rattle.gimli_core_base.specs.Calls.{ReturnsAs};
-ghost use Rattle.gimli_core_readers.specs.SectionReads.{skip_to_index, string_offset_at};
+ghost use Rattle.gimli_core_readers.specs.SectionReads.{skip_to_index, table_offset_at};
 
 use crate::{EndianSlice, Reader};
 use gimli_core_base::error::Error;
 use gimli_core_base::{Format, ReaderOffset};
 
-/// The bytes of a section from the place of an index on: the base plus the index times the width.
-/// Takes no memory.
+// The bytes of a section from the place of an index on: the base plus the index times the width.
+// Takes no memory.
 pub(crate) fn reader_at_index<'a, R: Reader>(
     section: &'a R,
     base: R::Offset,
@@ -40,7 +40,7 @@ pub fn offset_at<R: Reader>(
     index: R::Offset,
 ) -> Result<R::Offset, Error>
     ensures { ReturnsAs R.Offset.count result
-        (string_offset_at R.Offset.limit format (R.Offset.count base) (R.Offset.count index)
+        (table_offset_at R.Offset.limit format (R.Offset.count base) (R.Offset.count index)
         (R.view section.now)) }
 {
     let mut input = reader_at_index(section, base, index, format.word_size())?;

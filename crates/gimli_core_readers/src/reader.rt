@@ -8,7 +8,7 @@ ghost use Rattle.gimli_core_base.specs.View.{View, after, prefix, unexpected_end
 ghost use Rattle.gimli_core_base.specs.Parsers.{map_value, value_of, part, skip, truncate, find_byte, null_terminated};
 ghost use Rattle.gimli_core_base.specs.Calls.{ReadsAs, Reads, ReadsAsOrNoMemory, ReturnsAsOrNoMemory, ReturnsAs};
 ghost use Rattle.gimli_core_base.specs.NumberParsers.{fixed, fixed_signed, skip_leb, unsigned, unsigned_32, unsigned_16, signed, address_size, address, is_address_size, sized_offset, word, initial_length, string_fault};
-ghost use Rattle.gimli_core_readers.specs.Readers.{IsPlaced, Holds, utf8_of};
+ghost use Rattle.gimli_core_readers.specs.Readers.{IsIndexable, Holds, utf8_of};
 ghost use Rattle.gimli_core_base.specs.declared.error.Error.TheVariants.{Memory, BadUnsignedLeb128};
 ghost use Rattle.gimli_core_base.specs.declared.leb128.Fault.TheVariants.{Cut};
 
@@ -35,10 +35,10 @@ pub trait Reader: Drop {
     fn endian(&self) -> Self::Endian
         ensures { Self.Endian.is_big result ≡ (view self.now).is_big };
 
-    /// The bytes that are left.
+    /// The bytes left, lent.
     fn as_bytes(&self) -> &[u8]
         ensures value { result.now ≡ (view self.now).bytes }
-        ensures placed { IsPlaced Self.Offset.limit (view self.now) };
+        ensures indexable { IsIndexable Self.Offset.limit (view self.now) };
 
     /// The identifier of the first byte left.
     fn offset_id(&self) -> ReaderOffsetId
@@ -62,7 +62,7 @@ pub trait Reader: Drop {
     /// How many bytes are left.
     final fn len(&self) -> Self::Offset
         ensures value { Self.Offset.count result ≡ length (view self.now).bytes }
-        ensures placed { IsPlaced Self.Offset.limit (view self.now) }
+        ensures indexable { IsIndexable Self.Offset.limit (view self.now) }
     {
         let count = self.as_bytes().len();
         Self::Offset::from_u64(count as u64).unwrap()

@@ -39,17 +39,17 @@ pub trait Section<R: Reader>: From<R> {
     /// The section over the reader that a loader gives for it, or the loader's refusal.
     final fn load<F: FnOnce(SectionId) -> Result<R, E>, E>(f: F) -> Result<Self, E>
         requires { F.pre f section_id }
-        ensures { (loaded : Result R E) × F.post f section_id loaded
-            × MatchResult result (λ section. (reader : R) × (loaded ≡ Ok reader)
-            × (section_view section ≡ R.view reader)) (λ e. loaded ≡ Err e) }
+        ensures { (answer : Result R E) × F.post f section_id answer
+            × MatchResult result (λ section. (reader : R) × (answer ≡ Ok reader)
+            × (section_view section ≡ R.view reader)) (λ e. answer ≡ Err e) }
     {
         Ok(Self::from(f(Self::id())?))
     }
 
     /// The section and the offset in it of the place that an identifier names, the end included.
     final fn lookup_offset_id(&self, id: ReaderOffsetId) -> Option<(SectionId, R::Offset)>
-        ensures section { IfSome result (λ found. found.0 ≡ section_id) }
-        ensures offset { option_map (λ found. R.Offset.count found.1) result
+        ensures section { IfSome result (λ p. p.0 ≡ section_id) }
+        ensures offset { option_map (λ p. R.Offset.count p.1) result
             ≡ index_of id.0 (section_view self.now) }
     {
         self.reader()

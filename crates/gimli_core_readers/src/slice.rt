@@ -7,7 +7,7 @@ ghost use Rattle.std.specs.List.{position};
 ghost use Rattle.std.specs.Cmp.{partial_equiv_from_equiv};
 ghost use Rattle.gimli_core_base.specs.View.{View, after, prefix};
 ghost use Rattle.gimli_core_base.specs.Calls.{ReturnsAs, ReturnsAsOrNoMemory};
-ghost use Rattle.gimli_core_readers.specs.Readers.{IsPlaced, Holds, utf8_of, is_same, same_laws, hash_bytes, equal_hash_alike};
+ghost use Rattle.gimli_core_readers.specs.Readers.{IsIndexable, Holds, utf8_of, is_same, same_laws, hash_bytes, equal_hash_alike};
 
 use crate::reader::Reader;
 use crate::text::{lossy_text_of, position_of, text_of};

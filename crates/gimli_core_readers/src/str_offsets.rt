@@ -1,7 +1,7 @@
 ghost use Rattle.std.specs.Prelude.{◌≡◌};
 ghost use Rattle.std.specs.Fn.{FnOnceReturnsAt};
 ghost use Rattle.gimli_core_base.specs.Calls.{ReturnsAs};
-ghost use Rattle.gimli_core_readers.specs.SectionReads.{string_offset_at};
+ghost use Rattle.gimli_core_readers.specs.SectionReads.{table_offset_at};
 
 use crate::places::offset_at;
 use crate::section::Section;
@@ -49,7 +49,7 @@ impl<R: Reader> Section<R> for DebugStrOffsets<R> {
         &self.section
     }
 
-    ghost from_reader = { λ _ _ made. made };
+    ghost from_reader = { λ _ _ same. same };
 }
 
 impl<'a, E: Endianity> DebugStrOffsets<EndianSlice<'a, E>> {
@@ -68,8 +68,8 @@ impl<R: Reader> DebugStrOffsets<R> {
         F: FnOnce(&'a R) -> S,
         S: Reader,
         requires { F.IsAlwaysCallable f }
-        ensures { (reader : R) × (borrowed : S) × (R.view reader ≡ self.now)
-            × FnOnceReturnsAt F.FnOnce f reader borrowed × (result ≡ S.view borrowed) }
+        ensures { (reader : R) × (output : S) × (R.view reader ≡ self.now)
+            × FnOnceReturnsAt F.FnOnce f reader output × (result ≡ S.view output) }
     {
         DebugStrOffsets {
             section: f(&self.section),
@@ -84,7 +84,7 @@ impl<R: Reader> DebugStrOffsets<R> {
         index: DebugStrOffsetsIndex<R::Offset>,
     ) -> Result<DebugStrOffset<R::Offset>, Error>
         ensures { ReturnsAs (λ offset. R.Offset.count offset.0) result
-            (string_offset_at R.Offset.limit format (R.Offset.count base.0) (R.Offset.count index.0)
+            (table_offset_at R.Offset.limit format (R.Offset.count base.0) (R.Offset.count index.0)
             self.now) }
     {
         Ok(DebugStrOffset(offset_at(&self.section, format, base.0, index.0)?))

@@ -14,12 +14,12 @@ use Rattle.gimli_dwarf_spec.specs.UnitFacts.{root, unless_null}
 
 -- a walk over a unit's entries that has bytes left reads the root
 root_read : (limit : ℕ) (u : DebugUnit) (table : List Declaration) (w : Walk) (b : Bool)
-    → walk_of u table (Ok u.entries) ≡ Ok w → b ≡ (bytes_left w.left == 0)
+    → walk_of u table (Ok u.entries) ≡ Ok w → b ≡ (bytes_left w.rest == 0)
     → b ≡ false → root limit u table ≡ and_then (value_of (row limit w)) unless_null
 root_read limit u table w b opened empty some =
     let same : walk_before u table u.entries ≡ w = cc in
     let left : (bytes_left u.entries == 0) ≡ false =
-    ap (λ (x : Walk). bytes_left x.left == 0) same ∙ sym empty ∙ some in
+    ap (λ (x : Walk). bytes_left x.rest == 0) same ∙ sym empty ∙ some in
     ap (λ t. if t then Err MissingUnitDie
     else and_then (value_of (row limit (walk_before u table u.entries))) unless_null) left
     ∙ ap (λ x. and_then (value_of (row limit x)) unless_null) same
@@ -65,7 +65,7 @@ present_row_is_root (Ok q) b r w h k =
 present_row_is_root (Err d) b r w h k = cc
 
 module _ (limit : ℕ) (u : DebugUnit) (table : List Declaration) (w : Walk) (b : Bool)
-    (opened : walk_of u table (Ok u.entries) ≡ Ok w) (empty : b ≡ (bytes_left w.left == 0)) (some : b ≡ false) where
+    (opened : walk_of u table (Ok u.entries) ≡ Ok w) (empty : b ≡ (bytes_left w.rest == 0)) (some : b ≡ false) where
   pub root-refused : (e : Error) → present_row limit w ≡ Err e → root limit u table ≡ Err e
   root-refused e h = root_read limit u table w b opened empty some ∙ refusal_of_row (row limit w) e h
 

@@ -3,6 +3,7 @@ use Rattle.std.proofs.Common.{◌≡◌, ℕ, List, Option, option_map, Result, 
 use Rattle.gimli_dwarf_spec.specs.Error.{Error}
 use Rattle.gimli_dwarf_spec.specs.DwarfFileType.{DwarfFileType}
 use Rattle.gimli_dwarf_spec.specs.Declarations.{Declaration}
+use Rattle.gimli_dwarf_spec.specs.TableParsing.{table_at}
 use Rattle.gimli_dwarf_spec.specs.EntryRows.{Row}
 use Rattle.gimli_dwarf_spec.specs.EntryViews.{attribute_named}
 use Rattle.gimli_dwarf_spec.specs.AttributeMeanings.{value_under}
@@ -10,44 +11,50 @@ use Rattle.gimli_dwarf_spec.specs.AttributeValues.{RawAttribute}
 use Rattle.gimli_dwarf_spec.specs.UnitHeaders.{DebugUnit}
 use Rattle.gimli_dwarf_spec.specs.LineHeaders.{LineHeader}
 use Rattle.gimli_dwarf_spec.specs.Results.{and_then}
-use Rattle.gimli_dwarf_spec.specs.DwarfSections.{Sections}
+use Rattle.gimli_dwarf_spec.specs.DwarfFiles.{DwarfFile}
 use Rattle.gimli_dwarf_spec.specs.UnitFacts.{UnitFacts, root, dwo_name, dwo_name_number, facts_of, line_header_of, address_or_0, last_value_of_kind, last_value, line_reference_of, is_stmt_list, is_low_pc}
 use Rattle.gimli_dwarf.specs.Roots.{facts_without_texts, facts_with_texts, line_unit, with_program_and_begin, facts_with_program}
+
+-- the facts of a unit whose root is read with a limit of offsets
+abbrev pub facts_with_limit : ℕ → DwarfFile → DebugUnit → Result UnitFacts Error
+facts_with_limit limit file u =
+    and_then (table_at u.abbrev_offset file.sections.debug_abbrev) (λ table.
+    and_then (root limit u table) (λ r. facts_of file u table r.attributes))
 
 -- facts that were read
 abbrev pub ok_facts : UnitFacts → Result UnitFacts Error
 ok_facts u = Ok u
 
-pub facts_by_steps : (limit : ℕ) (s : Sections) (u : DebugUnit) (table : List Declaration)
+pub facts_by_steps : (file : DwarfFile) (u : DebugUnit) (table : List Declaration)
     (attributes : List RawAttribute) (file_type : DwarfFileType) (first second : UnitFacts)
-    → file_type ≡ s.file.file_type → ok_facts (facts_without_texts file_type u table attributes) ≡ ok_facts first
-    → ok_facts (facts_with_texts limit s first attributes) ≡ ok_facts second
-    → facts_with_program limit s second attributes ≡ facts_of limit s u table attributes
-facts_by_steps limit s u table attributes file_type first second type bare named =
+    → file_type ≡ file.sections.file_type → ok_facts (facts_without_texts file_type u table attributes) ≡ ok_facts first
+    → ok_facts (facts_with_texts file first attributes) ≡ ok_facts second
+    → facts_with_program file second attributes ≡ facts_of file u table attributes
+facts_by_steps file u table attributes file_type first second type bare named =
     let one : facts_without_texts file_type u table attributes ≡ first = cc in
-    let two : facts_with_texts limit s first attributes ≡ second = cc in
-    ap (λ (x : UnitFacts). facts_with_program limit s x attributes) (sym two)
-    ∙ ap (λ (x : UnitFacts). facts_with_program limit s (facts_with_texts limit s x attributes) attributes) (sym one)
-    ∙ ap (λ t. facts_with_program limit s
-    (facts_with_texts limit s (facts_without_texts t u table attributes) attributes) attributes) type
+    let two : facts_with_texts file first attributes ≡ second = cc in
+    ap (λ (x : UnitFacts). facts_with_program file x attributes) (sym two)
+    ∙ ap (λ (x : UnitFacts). facts_with_program file (facts_with_texts file x attributes) attributes) (sym one)
+    ∙ ap (λ t. facts_with_program file
+    (facts_with_texts file (facts_without_texts t u table attributes) attributes) attributes) type
 
-module _ (limit : ℕ) (s : Sections) (u : UnitFacts) (attributes : List RawAttribute) (e : Error) where
+module _ (file : DwarfFile) (u : UnitFacts) (attributes : List RawAttribute) (e : Error) where
   -- a refused line header refuses the unit
-  pub refused_line_header : line_header_of limit s (line_unit u)
+  pub refused_line_header : line_header_of file (line_unit u)
       (last_value_of_kind line_reference_of is_stmt_list attributes) ≡ Err e
-      → facts_with_program limit s u attributes ≡ Err e
+      → facts_with_program file u attributes ≡ Err e
   refused_line_header h =
       ap (λ (o : Result (Option LineHeader) Error).
-      and_then o (λ l. with_program_and_begin u l (address_or_0 s u.bases (last_value is_low_pc attributes)))) h
+      and_then o (λ l. with_program_and_begin u l (address_or_0 file u.bases (last_value is_low_pc attributes)))) h
 
   -- and so does a refused begin
   pub refused_low_pc : (l : Option LineHeader)
-      → line_header_of limit s (line_unit u) (last_value_of_kind line_reference_of is_stmt_list attributes) ≡ Ok l
-      → address_or_0 s u.bases (last_value is_low_pc attributes) ≡ Err e
-      → facts_with_program limit s u attributes ≡ Err e
+      → line_header_of file (line_unit u) (last_value_of_kind line_reference_of is_stmt_list attributes) ≡ Ok l
+      → address_or_0 file u.bases (last_value is_low_pc attributes) ≡ Err e
+      → facts_with_program file u attributes ≡ Err e
   refused_low_pc l h k =
       ap (λ (o : Result (Option LineHeader) Error).
-      and_then o (λ l. with_program_and_begin u l (address_or_0 s u.bases (last_value is_low_pc attributes)))) h
+      and_then o (λ l. with_program_and_begin u l (address_or_0 file u.bases (last_value is_low_pc attributes)))) h
       ∙ ap (with_program_and_begin u l) k
 
 -- what names a split file, by the root and the number of the attribute

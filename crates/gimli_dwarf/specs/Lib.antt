@@ -7,7 +7,7 @@ pub use Rattle.gimli_dwarf_spec.specs.View
 pub use Rattle.gimli_dwarf_spec.specs.TheConstants
 pub use Rattle.gimli_dwarf_spec.specs.Error
 pub use Rattle.gimli_dwarf_spec.specs.Attributes
-pub use Rattle.gimli_dwarf_spec.specs.DwarfSections
+pub use Rattle.gimli_dwarf_spec.specs.DwarfFiles
 pub use Rattle.gimli_dwarf_spec.specs.UnitFacts
 pub use Rattle.gimli_dwarf_spec.specs.EntryRows
 pub use Rattle.gimli_dwarf_spec.specs.EntryViews

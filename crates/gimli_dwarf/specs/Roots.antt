@@ -9,7 +9,7 @@ use Rattle.gimli_dwarf_spec.specs.UnitHeaders.{DebugUnit}
 use Rattle.gimli_dwarf_spec.specs.LineHeaders.{LineHeader}
 use Rattle.gimli_dwarf_spec.specs.HeaderParsing.{LineUnit}
 use Rattle.gimli_dwarf_spec.specs.Results.{◌>>=◌}
-use Rattle.gimli_dwarf_spec.specs.DwarfSections.{Sections}
+use Rattle.gimli_dwarf_spec.specs.DwarfFiles.{DwarfFile}
 use Rattle.gimli_dwarf_spec.specs.UnitFacts.{UnitFacts, bases_of, with_low_pc, dwo_id_in, dwo_id_of, last_value, last_value_of_kind, line_reference_of, is_stmt_list, is_dwo_id, is_name, is_comp_dir, is_low_pc, readable_text, line_header_of, address_or_0}
 
 -- its header, its declarations, its bases and its identifier
@@ -27,10 +27,10 @@ facts_without_texts file_type u table attributes = record {
 }
 
 -- with its texts
-abbrev pub facts_with_texts : ℕ → Sections → UnitFacts → List RawAttribute → UnitFacts
-facts_with_texts limit s u attributes = record u {
-  name = readable_text limit s u.bases (last_value is_name attributes);
-  comp_dir = readable_text limit s u.bases (last_value is_comp_dir attributes);
+abbrev pub facts_with_texts : DwarfFile → UnitFacts → List RawAttribute → UnitFacts
+facts_with_texts file u attributes = record u {
+  name = readable_text file u.bases (last_value is_name attributes);
+  comp_dir = readable_text file u.bases (last_value is_comp_dir attributes);
 }
 
 -- what a line header takes of it
@@ -46,9 +46,9 @@ with_program_and_begin u line_header low_pc = do
   Ok (record u { bases = with_low_pc a u.bases; line_header = line_header })
 
 -- with its line header, and where it begins
-abbrev pub facts_with_program : ℕ → Sections → UnitFacts → List RawAttribute
+abbrev pub facts_with_program : DwarfFile → UnitFacts → List RawAttribute
     → Result UnitFacts Error
-facts_with_program limit s u attributes = do
+facts_with_program file u attributes = do
   let program = last_value_of_kind line_reference_of is_stmt_list attributes
-  h ← line_header_of limit s (line_unit u) program
-  with_program_and_begin u h (address_or_0 s u.bases (last_value is_low_pc attributes))
+  h ← line_header_of file (line_unit u) program
+  with_program_and_begin u h (address_or_0 file u.bases (last_value is_low_pc attributes))

@@ -1,18 +1,19 @@
 -- All sections of a file, by what a function answers for each.
-use Rattle.std.specs.Prelude.{◌≡◌, List, [], ◌∷◌, ◌++◌, ℕ, suc, length, Option, Some, None, Result, Ok, Err}
+use Rattle.std.specs.Prelude.{◌≡◌, List, [], ◌∷◌, ◌++◌, ℕ, suc, length, map, Option, Some, None, Result, Ok, Err}
 use Rattle.std.specs.List.{FoldsTo}
 use Rattle.gimli_dwarf_spec.specs.View.{View}
 use Rattle.gimli_dwarf_spec.specs.DwarfFileType.TheVariants.{Main}
 use Rattle.gimli_dwarf_spec.specs.SectionId.{SectionId}
 use Rattle.gimli_dwarf_spec.specs.SectionId.TheVariants.{DebugAbbrev, DebugAddr, DebugAranges, DebugInfo, DebugLine, DebugLineStr, DebugLoc, DebugLocLists, DebugMacinfo, DebugMacro, DebugNames, DebugRanges, DebugRngLists, DebugStr, DebugStrOffsets, DebugTypes}
-use Rattle.gimli_dwarf_spec.specs.Tiling.{SectionLeft}
+use Rattle.gimli_dwarf_spec.specs.Tiling.{RemainingSection}
 use Rattle.gimli_dwarf_spec.specs.UnitHeaders.{units_to_come}
-use Rattle.gimli_dwarf_spec.specs.DwarfSections.{Sections, sections_of}
+use Rattle.gimli_dwarf_spec.specs.DwarfFiles.{DwarfFile, dwarf_file}
 
 -- those of a main file without a supplement
-abbrev pub main_sections : (SectionId → View) → Sections
-main_sections contents = record {
-  file = record {
+abbrev pub loaded_file : ℕ → (SectionId → View) → DwarfFile
+loaded_file limit contents = record {
+  offset_limit = limit;
+  sections = record {
     debug_abbrev = contents DebugAbbrev;
     debug_addr = contents DebugAddr;
     debug_aranges = contents DebugAranges;
@@ -40,6 +41,22 @@ load_order =
     ∷ DebugLocLists ∷ DebugMacinfo ∷ DebugMacro ∷ DebugNames ∷ DebugRanges ∷ DebugRngLists
     ∷ DebugStr ∷ DebugStrOffsets ∷ DebugTypes ∷ []
 
+module _ {F R E : Type 0} (step : F → SectionId → Result R E → F → Type 0) where
+  -- Calls for sections, one after the other, answered these readers.
+  pub record Answers (before : F) (calls : List (SectionId × R)) (after : F) : Type 0 where
+    pub each : FoldsTo (λ p call q. step p call.0 (Ok call.1) q) before calls after
+
+  -- Some of these sections were asked for, in order, up to one that was refused.
+  pub record RefusesOneOf (ids : List SectionId) (before : F) (e : E) : Type 0 where
+    pub calls : List (SectionId × R)
+    pub id : SectionId
+    pub rest : List SectionId
+    pub before_refusal : F
+    pub after : F
+    pub order : ids ≡ map (λ call. call.0) calls ++ id ∷ rest
+    pub answers : Answers before calls before_refusal
+    pub refusal : step before_refusal id (Err e) after
+
 module _ {F R E : Type 0} (step : F → SectionId → Result R E → F → Type 0) (view : R → View) where
   -- a call for a section answered a reader over these bytes
   abbrev pub GivesSection : (SectionId → View) → F → SectionId → F → Type 0
@@ -50,12 +67,12 @@ module _ {F R E : Type 0} (step : F → SectionId → Result R E → F → Type 
   abbrev pub GivesSections : (SectionId → View) → F → List SectionId → F → Type 0
   GivesSections contents before ids after = FoldsTo (GivesSection contents) before ids after
 
-  -- Each section was asked for, and these are the file's.
-  pub record Loads (before : F) (sections : Sections) : Type 0 where
+  -- Each section was asked for, and these are the file's, whose offsets have this limit.
+  pub record Loads (limit : ℕ) (before : F) (file : DwarfFile) : Type 0 where
     pub contents : SectionId → View
     pub after : F
     pub calls : GivesSections contents before load_order after
-    pub are : sections ≡ main_sections contents
+    pub are : file ≡ loaded_file limit contents
 
   -- The sections were asked for up to one that was refused.
   pub record RefusesToLoad (before : F) (e : E) : Type 0 where
@@ -70,10 +87,10 @@ module _ {F R E : Type 0} (step : F → SectionId → Result R E → F → Type 
     pub refusal : step before_refusal id (Err e) after
 
 -- a file with another's sections for its supplement's
-abbrev pub with_supplement : Sections → Sections → Sections
-with_supplement supplement s = sections_of s.file (Some supplement)
+abbrev pub with_supplement : DwarfFile → DwarfFile → DwarfFile
+with_supplement supplement file = dwarf_file file.offset_limit file.sections (Some supplement)
 
 -- a bound on the offsets of a section's units, with a fault after them
-abbrev pub offsets_left : ℕ → Option SectionLeft → ℕ
+abbrev pub offsets_left : ℕ → Option RemainingSection → ℕ
 offsets_left limit None = 0
 offsets_left limit (Some s) = suc (length (units_to_come limit s).items)

@@ -22,7 +22,7 @@ impl<R: Reader> Dwarf<R> {
     /// reader does.
     pub fn attr_string(&self, unit: &Unit<R>, attr: AttributeValue<R>) -> Result<R, Error>
         ensures { ReturnsAsOrNoMemory R.view result
-            (attr_string R.Offset.limit self.now unit.now.bases
+            (attr_string self.now unit.now.bases
             (raw_value_of R.view R.Offset.count attr)) }
     {
         match attr {
@@ -76,7 +76,7 @@ impl<R: Reader> Dwarf<R> {
         offset: RawRangeListsOffset<R::Offset>,
     ) -> Result<RangeListsOffset<R::Offset>, Error>
         ensures { ReturnsAs (λ o. R.Offset.count o.0) result
-            (ranges_offset_from_raw R.Offset.limit self.now unit.now.bases
+            (ranges_offset_from_raw self.now unit.now.bases
             (R.Offset.count offset.0)) }
     {
         if self.file_type == DwarfFileType::Dwo && unit.header.version() < 5 {
@@ -99,7 +99,7 @@ impl<R: Reader> Dwarf<R> {
         index: DebugRngListsIndex<R::Offset>,
     ) -> Result<RangeListsOffset<R::Offset>, Error>
         ensures { ReturnsAs (λ o. R.Offset.count o.0) result
-            (ranges_offset R.Offset.limit self.now unit.now.bases (R.Offset.count index.0)) }
+            (ranges_offset self.now unit.now.bases (R.Offset.count index.0)) }
     {
         let encoding = unit.header.encoding();
         self.ranges.get_offset(encoding, unit.rnglists_base, index)
@@ -113,7 +113,7 @@ impl<R: Reader> Dwarf<R> {
         attr: AttributeValue<R>,
     ) -> Result<Option<RangeListsOffset<R::Offset>>, Error>
         ensures { ReturnsAs (option_map (λ o. R.Offset.count o.0)) result
-            (attr_ranges_offset R.Offset.limit self.now unit.now.bases
+            (attr_ranges_offset self.now unit.now.bases
             (raw_value_of R.view R.Offset.count attr)) }
     {
         match &attr {
@@ -138,7 +138,7 @@ impl<R: Reader> Dwarf<R> {
         ensures free { IsTrue R.copies_freely → result ≢ Err Memory }
         // There are no more of them, refusals among them, than bytes.
         ensures few { IfOk result
-            (λ ranges. length (ranges_to_come R.Offset.limit ranges) ≤ bytes_left ranges.raw.left) }
+            (λ ranges. length (ranges_to_come R.Offset.limit ranges) ≤ bytes_left ranges.raw.rest) }
     {
         let encoding = unit.header.encoding();
         self.ranges.ranges(

@@ -7,7 +7,7 @@ ghost use Rattle.gimli_dwarf_spec.specs.SectionReads.{string_at};
 ghost use Rattle.gimli_dwarf_spec.specs.TableParsing.{table_at};
 ghost use Rattle.gimli_dwarf_spec.specs.Tiling.{whole_section};
 ghost use Rattle.gimli_dwarf_spec.specs.Attributes.{supplement_string};
-ghost use Rattle.gimli_dwarf_spec.specs.DwarfSections.{supplement};
+ghost use Rattle.gimli_dwarf_spec.specs.DwarfFiles.{supplement};
 ghost use Rattle.gimli_dwarf_spec.specs.Splitting.{split_from};
 ghost use Rattle.gimli_dwarf_spec.specs.UnitFacts.{unit_facts};
 
@@ -48,12 +48,12 @@ pub struct Dwarf<R: Reader> {
 
 impl<R: Reader> Model for Dwarf<R> {
     ghost use Rattle.std.specs.Prelude.{option_map, length};
-    ghost use Rattle.gimli_dwarf_spec.specs.DwarfSections.{Sections, sections_of};
+    ghost use Rattle.gimli_dwarf_spec.specs.DwarfFiles.{DwarfFile, dwarf_file};
     ghost use Rattle.gimli_dwarf.specs.OwnCaches.{KeepsOwn};
 
-    ghost Value = { Sections };
+    ghost Value = { DwarfFile };
 
-    ghost view = { λ d. sections_of (record {
+    ghost view = { λ d. dwarf_file R.Offset.limit (record {
       debug_abbrev = d.debug_abbrev;
       debug_addr = d.debug_addr;
       debug_aranges = d.debug_aranges;
@@ -84,7 +84,7 @@ impl<R: Reader> Dwarf<R> {
     /// The string at an offset of `.debug_str`. Takes memory only where a copy of the reader does.
     pub fn string(&self, offset: DebugStrOffset<R::Offset>) -> Result<R, Error>
         ensures { ReturnsAsOrNoMemory R.view result
-            (string_at (R.Offset.count offset.0) self.now.file.debug_str) }
+            (string_at (R.Offset.count offset.0) self.now.sections.debug_str) }
     {
         self.debug_str.get_str(offset)
     }
@@ -101,17 +101,29 @@ impl<R: Reader> Dwarf<R> {
         }
     }
 
+    /// The supplement, if the file has one (DWARF 5, 7.3.6).
+    pub fn sup(&self) -> Option<&Dwarf<R>>
+        ensures { option_map (λ s. s.now) result ≡ supplement self.now }
+    {
+        let sup: &Dwarf<R> = self.sup.as_ref()?;
+        // (shows the prover what the model says of a file's offsets)
+        let _ = &sup.file_type;
+        Some(sup)
+    }
+
     /// The headers of the file's units, in order (DWARF 5, 7.5.1).
     pub fn units(&self) -> Result<DebugInfoUnitHeadersIter<R>, Error>
-        ensures value { ReturnsOrNoMemory result (Ok (whole_section self.now.file.debug_info)) }
+        ensures value { ReturnsOrNoMemory result (Ok (whole_section self.now.sections.debug_info)) }
         ensures free { IsTrue R.copies_freely → result ≢ Err Memory }
+        // Offsets in the headers are the file's.
+        ensures limit { self.now.offset_limit ≡ R.Offset.limit }
     {
         self.debug_info.units()
     }
 
     /// The unit of a header, with the facts of its root.
     pub fn unit(&self, alloc: Global, header: UnitHeader<R>) -> Result<Unit<R>, Error>
-        ensures { ReturnsOrNoMemory result (unit_facts R.Offset.limit self.now header) }
+        ensures { ReturnsOrNoMemory result (unit_facts self.now header) }
     {
         Unit::new(alloc, self, header)
     }
@@ -122,8 +134,10 @@ impl<R: Reader> Dwarf<R> {
         alloc: Global,
         offset: DebugAbbrevOffset<R::Offset>,
     ) -> Result<Rc<Abbreviations>, Error>
-        ensures { ReturnsAsOrNoMemory (λ t. t.value) result
-            (table_at (R.Offset.count offset.0) self.now.file.debug_abbrev) }
+        ensures value { ReturnsAsOrNoMemory (λ t. t.value) result
+            (table_at (R.Offset.count offset.0) self.now.sections.debug_abbrev) }
+        // Offsets in the file are the reader's.
+        ensures limit { self.now.offset_limit ≡ R.Offset.limit }
     {
         self.abbreviations_cache
             .get(alloc, &self.debug_abbrev, offset)

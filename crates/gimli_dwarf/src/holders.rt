@@ -42,7 +42,7 @@ impl<R: Reader> Section<R> for DebugMacinfo<R> {
         &self.section
     }
 
-    ghost from_reader = { λ _ _ made. made };
+    ghost from_reader = { λ _ _ same. same };
 }
 
 /// `.debug_macro`: macro information from version 5 on (DWARF 5, 6.3). It is held, and not read.
@@ -84,7 +84,7 @@ impl<R: Reader> Section<R> for DebugMacro<R> {
         &self.section
     }
 
-    ghost from_reader = { λ _ _ made. made };
+    ghost from_reader = { λ _ _ same. same };
 }
 
 /// `.debug_names`: an index of names (DWARF 5, 6.1.1). It is held, and not read.
@@ -126,7 +126,7 @@ impl<R: Reader> Section<R> for DebugNames<R> {
         &self.section
     }
 
-    ghost from_reader = { λ _ _ made. made };
+    ghost from_reader = { λ _ _ same. same };
 }
 
 /// `.debug_types`: type units of version 4 (DWARF 4, 7.5.1.2). It is held, and not read.
@@ -168,5 +168,5 @@ impl<R: Reader> Section<R> for DebugTypes<R> {
         &self.section
     }
 
-    ghost from_reader = { λ _ _ made. made };
+    ghost from_reader = { λ _ _ same. same };
 }

@@ -15,7 +15,7 @@ pub use gimli_dwarf_spec::{
     Attribute, AttributeSpecification, AttributeValue, DW_AT_MIPS_linkage_name,
     DW_AT_abstract_origin, DW_AT_linkage_name, DW_AT_name, DW_AT_specification, DebugInfoOffset,
     DebugRanges, DebugRngLists, DwAt, EntriesRaw, Error, LocationLists, OffsetInSection,
-    RangeLists, Reader, ReaderOffset, RngListIter, UnitOffset, entries_raw,
+    RangeLists, Reader, ReaderOffset, RngListIter, UnitOffset,
 };
 pub use holders::{DebugMacinfo, DebugMacro, DebugNames, DebugTypes};
 pub use unit::Unit;

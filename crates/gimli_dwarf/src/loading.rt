@@ -1,9 +1,9 @@
 //! All sections of a file, from a function that loads each.
 
-ghost use Rattle.std.specs.Prelude.{◌≡◌, ◌⊎◌, IfOk, IfErr, OnOk, OnErr, alloc_error};
+ghost use Rattle.std.specs.Prelude.{◌≡◌, ◌⊎◌, [], ◌∷◌, IfOk, IfErr, OnOk, OnErr, alloc_error};
 ghost use Rattle.gimli_dwarf_spec.specs.Error.TheVariants.{Memory};
-ghost use Rattle.gimli_dwarf_spec.specs.DwarfSections.{Sections};
-ghost use Rattle.gimli_dwarf.specs.SectionLoading.{Loads, RefusesToLoad, with_supplement};
+ghost use Rattle.gimli_dwarf_spec.specs.DwarfFiles.{DwarfFile};
+ghost use Rattle.gimli_dwarf.specs.SectionLoading.{Answers, RefusesOneOf, Loads, RefusesToLoad, with_supplement};
 
 use crate::dwarf::Dwarf;
 use gimli_dwarf_spec::{
@@ -20,25 +20,37 @@ impl<R: Reader> Dwarf<R> {
     where
         F: FnMut(SectionId) -> Result<R, E>,
         requires { F.IsAlwaysCallable section }
-        ensures loaded { IfOk result (λ dwarf. Loads F.step R.view section dwarf) }
+        ensures loaded { IfOk result (λ dwarf. Loads F.step R.view R.Offset.limit section dwarf) }
         ensures refused { IfErr result (λ e. RefusesToLoad F.step R.view section e) }
     {
-        let debug_abbrev = section(SectionId::DebugAbbrev)?;
-        let debug_addr = section(SectionId::DebugAddr)?;
-        let debug_aranges = section(SectionId::DebugAranges)?;
-        let debug_info = section(SectionId::DebugInfo)?;
-        let debug_line = section(SectionId::DebugLine)?;
-        let debug_line_str = section(SectionId::DebugLineStr)?;
-        let debug_loc = section(SectionId::DebugLoc)?;
-        let debug_loclists = section(SectionId::DebugLocLists)?;
-        let debug_macinfo = section(SectionId::DebugMacinfo)?;
-        let debug_macro = section(SectionId::DebugMacro)?;
-        let debug_names = section(SectionId::DebugNames)?;
-        let debug_ranges = section(SectionId::DebugRanges)?;
-        let debug_rnglists = section(SectionId::DebugRngLists)?;
-        let debug_str = section(SectionId::DebugStr)?;
-        let debug_str_offsets = section(SectionId::DebugStrOffsets)?;
-        let debug_types = section(SectionId::DebugTypes)?;
+        let (debug_abbrev, debug_addr, debug_aranges, debug_info) = load_four(
+            &mut section,
+            SectionId::DebugAbbrev,
+            SectionId::DebugAddr,
+            SectionId::DebugAranges,
+            SectionId::DebugInfo,
+        )?;
+        let (debug_line, debug_line_str, debug_loc, debug_loclists) = load_four(
+            &mut section,
+            SectionId::DebugLine,
+            SectionId::DebugLineStr,
+            SectionId::DebugLoc,
+            SectionId::DebugLocLists,
+        )?;
+        let (debug_macinfo, debug_macro, debug_names, debug_ranges) = load_four(
+            &mut section,
+            SectionId::DebugMacinfo,
+            SectionId::DebugMacro,
+            SectionId::DebugNames,
+            SectionId::DebugRanges,
+        )?;
+        let (debug_rnglists, debug_str, debug_str_offsets, debug_types) = load_four(
+            &mut section,
+            SectionId::DebugRngLists,
+            SectionId::DebugStr,
+            SectionId::DebugStrOffsets,
+            SectionId::DebugTypes,
+        )?;
         Ok(Dwarf {
             debug_abbrev: DebugAbbrev::from(debug_abbrev),
             debug_addr: debug_addr.into(),
@@ -68,11 +80,13 @@ impl<R: Reader> Dwarf<R> {
         F: FnMut(SectionId) -> Result<R, E>,
         E: From<AllocError>,
         requires { F.IsAlwaysCallable section }
-        ensures ok { OnOk result ((supplement : Sections) × Loads F.step R.view section supplement
+        ensures ok { OnOk result ((supplement : DwarfFile)
+            × Loads F.step R.view R.Offset.limit section supplement
             × (self.new ≡ with_supplement supplement self.old)) }
         ensures unchanged { OnErr result (self.new ≡ self.old) }
         ensures refused { IfErr result (λ e. RefusesToLoad F.step R.view section e
-            ⊎ ((supplement : Sections) × Loads F.step R.view section supplement
+            ⊎ ((supplement : DwarfFile)
+            × Loads F.step R.view R.Offset.limit section supplement
             × E.from_gives alloc_error e)) }
     {
         let supplement = Dwarf::load(alloc, section)?;
@@ -101,6 +115,30 @@ impl<R: Reader> Dwarf<R> {
         self.abbreviations_cache
             .populate(alloc, strategy, &self.debug_abbrev, offsets)
     }
+}
+
+// The readers that a function gives for four sections, each asked for once, in order, or its first
+// refusal.
+fn load_four<R: Drop, E, F: FnMut(SectionId) -> Result<R, E>>(
+    section: &mut F,
+    first: SectionId,
+    second: SectionId,
+    third: SectionId,
+    fourth: SectionId,
+) -> Result<(R, R, R, R), E>
+    requires { F.IsAlwaysCallable section.old }
+    ensures callable { F.IsAlwaysCallable section.new }
+    ensures answers { IfOk result (λ r. Answers F.step section.old ((first, r.0) ∷ (second, r.1)
+        ∷ (third, r.2) ∷ (fourth, r.3) ∷ []) section.new) }
+    ensures refused { IfErr result (λ e. RefusesOneOf F.step
+        (first ∷ second ∷ third ∷ fourth ∷ []) section.old e) }
+{
+    Ok((
+        section(first)?,
+        section(second)?,
+        section(third)?,
+        section(fourth)?,
+    ))
 }
 
 // The offsets of the abbreviation tables of units, in order, up to the first unit that can't be

@@ -1,6 +1,8 @@
 //! A unit with the sections of its file.
 
 ghost use Rattle.std.specs.Prelude.{◌≡◌, option_map};
+ghost use Rattle.gimli_dwarf_spec.specs.EntryViews.{entry_of};
+ghost use Rattle.gimli_dwarf_spec.specs.UnitFacts.{in_file, root};
 ghost use Rattle.gimli_dwarf_spec.specs.Calls.{ReturnsAs, Returns, ReturnsAsOrNoMemory, ReturnsOrNoMemory};
 ghost use Rattle.gimli_dwarf_spec.specs.AttributeValues.{raw_value_of};
 ghost use Rattle.gimli_dwarf_spec.specs.UnitEntries.{walk_from};
@@ -9,9 +11,11 @@ ghost use Rattle.gimli_dwarf_spec.specs.Attributes.{attr_string, indexed_address
 use crate::dwarf::Dwarf;
 use crate::unit::Unit;
 use gimli_dwarf_spec::{
-    AttributeValue, DebugAddrIndex, EntriesRaw, Error, RangeListsOffset, Reader, RngListIter,
-    UnitOffset, entries_raw,
+    AttributeValue, DebugAddrIndex, DebuggingInformationEntry, EntriesRaw, Error, RangeListsOffset,
+    Reader, RngListIter, UnitOffset, entries_raw,
 };
+use std::alloc::Global;
+use std::marker::Model;
 
 /// A unit and the sections of its file. Each call is the sections' call for that unit.
 #[derive(Drop)]
@@ -20,18 +24,39 @@ pub struct UnitRef<'a, R: Reader> {
     pub unit: &'a Unit<R>,
 }
 
+impl<'a, R: Reader> Model for UnitRef<'a, R> {
+    ghost use Rattle.std.specs.Prelude.{◌≡◌};
+    ghost use Rattle.gimli_dwarf_spec.specs.UnitFacts.{UnitInFile};
+
+    ghost Value = { UnitInFile };
+
+    ghost view = { λ u. record { file = u.dwarf.now; facts = u.unit.now } };
+
+    ghost invariant = { λ u. u.dwarf.now.offset_limit ≡ R.Offset.limit };
+}
+
 impl<'a, R: Reader> UnitRef<'a, R> {
     pub fn new(dwarf: &'a Dwarf<R>, unit: &'a Unit<R>) -> Self
-        ensures dwarf { result.dwarf.now ≡ dwarf.now }
-        ensures unit { result.unit.now ≡ unit.now }
+        ensures { result ≡ in_file dwarf.now unit.now }
     {
+        // (shows the prover what the model says of a file's offsets)
+        let _ = &dwarf.file_type;
         UnitRef { dwarf, unit }
+    }
+
+    /// The unit's root: its first entry, with its attributes. Refused is one that is missing, null
+    /// or can't be read.
+    pub fn root(&self, alloc: Global) -> Result<DebuggingInformationEntry<R>, Error>
+        ensures { ReturnsAsOrNoMemory (entry_of R.view R.Offset.count) result
+            (root self.now.file.offset_limit self.now.facts.header self.now.facts.table) }
+    {
+        self.unit.root(alloc)
     }
 
     /// The address that an index stands for (DWARF 5, 7.27). Takes no memory.
     pub fn address(&self, index: DebugAddrIndex<R::Offset>) -> Result<u64, Error>
         ensures { Returns result
-            (indexed_address self.now.dwarf.now self.now.unit.now.bases (R.Offset.count index.0)) }
+            (indexed_address self.now.file self.now.facts.bases (R.Offset.count index.0)) }
     {
         self.dwarf.address(self.unit, index)
     }
@@ -39,7 +64,7 @@ impl<'a, R: Reader> UnitRef<'a, R> {
     /// The text that a value of one of the unit's attributes stands for.
     pub fn attr_string(&self, attr: AttributeValue<R>) -> Result<R, Error>
         ensures { ReturnsAsOrNoMemory R.view result
-            (attr_string R.Offset.limit self.now.dwarf.now self.now.unit.now.bases
+            (attr_string self.now.file self.now.facts.bases
             (raw_value_of R.view R.Offset.count attr)) }
     {
         self.dwarf.attr_string(self.unit, attr)
@@ -47,8 +72,10 @@ impl<'a, R: Reader> UnitRef<'a, R> {
 
     /// The ranges of the list at an offset.
     pub fn ranges(&self, offset: RangeListsOffset<R::Offset>) -> Result<RngListIter<R>, Error>
-        ensures { ReturnsOrNoMemory result
-            (ranges self.now.dwarf.now self.now.unit.now.bases (R.Offset.count offset.0)) }
+        ensures value { ReturnsOrNoMemory result
+            (ranges self.now.file self.now.facts.bases (R.Offset.count offset.0)) }
+        // Offsets in the list are the file's.
+        ensures limit { self.now.file.offset_limit ≡ R.Offset.limit }
     {
         self.dwarf.ranges(self.unit, offset)
     }
@@ -60,7 +87,7 @@ impl<'a, R: Reader> UnitRef<'a, R> {
         attr: AttributeValue<R>,
     ) -> Result<Option<RangeListsOffset<R::Offset>>, Error>
         ensures { ReturnsAs (option_map (λ o. R.Offset.count o.0)) result
-            (attr_ranges_offset R.Offset.limit self.now.dwarf.now self.now.unit.now.bases
+            (attr_ranges_offset self.now.file self.now.facts.bases
             (raw_value_of R.view R.Offset.count attr)) }
     {
         self.dwarf.attr_ranges_offset(self.unit, attr)
@@ -72,9 +99,11 @@ impl<'a, R: Reader> UnitRef<'a, R> {
         &self,
         offset: Option<UnitOffset<R::Offset>>,
     ) -> Result<EntriesRaw<'a, R>, Error>
-        ensures { ReturnsOrNoMemory result
-            (walk_from self.now.unit.now.header self.now.unit.now.table
+        ensures value { ReturnsOrNoMemory result
+            (walk_from self.now.facts.header self.now.facts.table
             (option_map (λ o. R.Offset.count o.0) offset)) }
+        // Offsets in the walk are the file's.
+        ensures limit { self.now.file.offset_limit ≡ R.Offset.limit }
     {
         let unit = self.unit;
         entries_raw(&unit.header, &unit.abbreviations, offset)

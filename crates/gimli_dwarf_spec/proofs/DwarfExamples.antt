@@ -7,7 +7,7 @@ use Rattle.gimli_units_entries.specs.Format.TheVariants.{Dwarf32}
 use Rattle.gimli_lines_header.specs.AttributeValues.{RawValue, RawAttribute, address, address_base}
 use Rattle.gimli_lines_header.specs.UnitHeaders.{skeleton, split_compilation}
 use Rattle.gimli_dwarf_spec.specs.Attributes.{Bases, attr_string, counts_from_base, supplement_string}
-use Rattle.gimli_dwarf_spec.specs.DwarfSections.{Sections}
+use Rattle.gimli_dwarf_spec.specs.DwarfFiles.{DwarfFile}
 use Rattle.gimli_dwarf_spec.specs.Splitting.{split_from, relocated_from}
 use Rattle.gimli_dwarf_spec.specs.UnitFacts.{UnitFacts, bases_of, dwo_id_in, dwo_name_number}
 
@@ -48,8 +48,8 @@ last_base = refl
 
 -- ---- values
 
-no_text : (limit : ℕ) (s : Sections) (b : Bases) → attr_string limit s b (address 1) ≡ Err ExpectedStringAttributeValue
-no_text limit s b = refl
+no_text : (file : DwarfFile) (b : Bases) → attr_string file b (address 1) ≡ Err ExpectedStringAttributeValue
+no_text file b = refl
 
 no_supplement : supplement_string 0 None ≡ Err ExpectedStringAttributeValue
 no_supplement = refl
@@ -77,14 +77,15 @@ old_name = refl
 new_name : dwo_name_number (encoding 5) ≡ 0x76
 new_name = refl
 
-parents_addresses : (parent s : Sections) → (split_from parent s).file.debug_addr ≡ parent.file.debug_addr
+parents_addresses : (parent s : DwarfFile) → (split_from parent s).sections.debug_addr ≡ parent.sections.debug_addr
 parents_addresses parent s = refl
 
-parents_old_ranges : (parent s : Sections)
-    → (split_from parent s).file.ranges.debug_ranges ≡ parent.file.ranges.debug_ranges
+parents_old_ranges : (parent s : DwarfFile)
+    → (split_from parent s).sections.ranges.debug_ranges ≡ parent.sections.ranges.debug_ranges
 parents_old_ranges parent s = refl
 
-own_ranges : (parent s : Sections) → (split_from parent s).file.ranges.debug_rnglists ≡ s.file.ranges.debug_rnglists
+own_ranges : (parent s : DwarfFile)
+    → (split_from parent s).sections.ranges.debug_rnglists ≡ s.sections.ranges.debug_rnglists
 own_ranges parent s = refl
 
 begin_of_its_skeleton : (other u : UnitFacts) → (relocated_from other u).bases.low_pc ≡ other.bases.low_pc

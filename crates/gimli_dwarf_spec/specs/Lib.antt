@@ -28,6 +28,6 @@ pub use Rattle.gimli_lines_header.specs.UnitHeaders
 pub use Rattle.gimli_lines_header.specs.UnitOffsets
 pub use Rattle.gimli_units_lists.specs.ListSections
 pub mod Attributes
-pub mod DwarfSections
+pub mod DwarfFiles
 pub mod Splitting
 pub mod UnitFacts

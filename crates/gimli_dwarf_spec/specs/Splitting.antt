@@ -1,19 +1,20 @@
 -- What a split file and its units take from the file that names them (DWARF 5, 7.3.2 and 7.3.5).
 use Rattle.std.specs.Prelude.{nat_lt, if◌then◌else◌}
 use Rattle.gimli_units_entries.specs.DwarfFileType.TheVariants.{Dwo}
-use Rattle.gimli_dwarf_spec.specs.DwarfSections.{Sections}
+use Rattle.gimli_dwarf_spec.specs.DwarfFiles.{DwarfFile}
 use Rattle.gimli_dwarf_spec.specs.UnitFacts.{UnitFacts}
 
 -- a split file: addresses and range lists of old versions, which linkers write, are in the main
 -- file alone, as is the supplement
-abbrev pub split_from : Sections → Sections → Sections
-split_from parent s = record {
-  file = record s.file {
-    debug_addr = parent.file.debug_addr;
+abbrev pub split_from : DwarfFile → DwarfFile → DwarfFile
+split_from parent file = record {
+  offset_limit = file.offset_limit;
+  sections = record file.sections {
+    debug_addr = parent.sections.debug_addr;
     ranges =
         record {
-          debug_ranges = parent.file.ranges.debug_ranges;
-          debug_rnglists = s.file.ranges.debug_rnglists;
+          debug_ranges = parent.sections.ranges.debug_ranges;
+          debug_rnglists = file.sections.ranges.debug_rnglists;
         };
     file_type = Dwo;
   };

@@ -20,7 +20,7 @@ use Rattle.gimli_units_entries.specs.EntryViews.{attribute_named}
 use Rattle.gimli_units_entries.specs.UnitEntries.{walk_before}
 use Rattle.gimli_lines_header.specs.LineHeaders.{LineHeader}
 use Rattle.gimli_lines_header.specs.HeaderParsing.{LineUnit, header_at}
-use Rattle.gimli_dwarf_spec.specs.DwarfSections.{Sections}
+use Rattle.gimli_dwarf_spec.specs.DwarfFiles.{DwarfFile}
 use Rattle.gimli_units_entries.specs.Results.{and_then, ◌>>=◌}
 use Rattle.gimli_dwarf_spec.specs.Attributes.{Bases, attr_string, attr_address}
 
@@ -35,6 +35,14 @@ pub record UnitFacts : Type 0 where
   pub bases : Bases
   pub line_header : Option LineHeader
   pub dwo_id : Option ℕ
+
+-- a unit in its file
+pub record UnitInFile : Type 0 where
+  pub file : DwarfFile
+  pub facts : UnitFacts
+
+abbrev pub in_file : DwarfFile → UnitFacts → UnitInFile
+in_file file u = record { file = file; facts = u }
 
 -- ---- the root
 
@@ -147,19 +155,19 @@ abbrev pub with_low_pc : ℕ → Bases → Bases
 with_low_pc a b = record b { low_pc = a }
 
 -- the text of a value, where there is one that can be read
-abbrev pub readable_text : ℕ → Sections → Bases → Option RawValue → Option View
-readable_text limit s b value = option_and_then (λ v. if_readable (attr_string limit s b v)) value
+abbrev pub readable_text : DwarfFile → Bases → Option RawValue → Option View
+readable_text file b value = option_and_then (λ v. if_readable (attr_string file b v)) value
 
 -- the address of a value; 0 where there is none
-abbrev pub address_or_0 : Sections → Bases → Option RawValue → Result ℕ Error
-address_or_0 s b None = Ok 0
-address_or_0 s b (Some v) = and_then (attr_address s b v) (λ a. Ok (unwrap_or a 0))
+abbrev pub address_or_0 : DwarfFile → Bases → Option RawValue → Result ℕ Error
+address_or_0 file b None = Ok 0
+address_or_0 file b (Some v) = and_then (attr_address file b v) (λ a. Ok (unwrap_or a 0))
 
 -- the header of a line number program, where a unit has one
-abbrev pub line_header_of : ℕ → Sections → LineUnit → Option ℕ → Result (Option LineHeader) Error
-line_header_of limit s unit None = Ok None
-line_header_of limit s unit (Some offset) =
-    and_then (header_at limit offset unit s.file.debug_line) (λ h. Ok (Some h))
+abbrev pub line_header_of : DwarfFile → LineUnit → Option ℕ → Result (Option LineHeader) Error
+line_header_of file unit None = Ok None
+line_header_of file unit (Some offset) =
+    and_then (header_at file.offset_limit offset unit file.sections.debug_line) (λ h. Ok (Some h))
 
 -- the identifier in a header (DWARF 5, 7.5.1.2)
 abbrev pub dwo_id_in : UnitKind → Option ℕ
@@ -169,18 +177,18 @@ dwo_id_in _ = None
 
 -- The facts of a unit whose root has these attributes. A refused line header comes before a refused
 -- low_pc.
-abbrev pub facts_of : ℕ → Sections → DebugUnit → List Declaration → List RawAttribute
+abbrev pub facts_of : DwarfFile → DebugUnit → List Declaration → List RawAttribute
     → Result UnitFacts Error
-facts_of limit s u table attributes =
-    let b = bases_of s.file.file_type u.encoding attributes in
-    let name = readable_text limit s b (last_value is_name attributes) in
-    let comp_dir = readable_text limit s b (last_value is_comp_dir attributes) in
+facts_of file u table attributes =
+    let b = bases_of file.sections.file_type u.encoding attributes in
+    let name = readable_text file b (last_value is_name attributes) in
+    let comp_dir = readable_text file b (last_value is_comp_dir attributes) in
     let line_unit : LineUnit =
     record { address_bytes = u.encoding.address_size; directory = comp_dir; name = name } in
     let program = last_value_of_kind line_reference_of is_stmt_list attributes in
     do
-      line_header ← line_header_of limit s line_unit program
-      low_pc ← address_or_0 s b (last_value is_low_pc attributes)
+      line_header ← line_header_of file line_unit program
+      low_pc ← address_or_0 file b (last_value is_low_pc attributes)
       Ok (record {
         header = u;
         table = table;
@@ -195,11 +203,11 @@ facts_of limit s u table attributes =
 
 -- The facts of a unit, or its refusal: of its declarations, of its root, of its line header, or of
 -- its low_pc, in this order.
-abbrev pub unit_facts : ℕ → Sections → DebugUnit → Result UnitFacts Error
-unit_facts limit s u = do
-  table ← table_at u.abbrev_offset s.file.debug_abbrev
-  r ← root limit u table
-  facts_of limit s u table r.attributes
+abbrev pub unit_facts : DwarfFile → DebugUnit → Result UnitFacts Error
+unit_facts file u = do
+  table ← table_at u.abbrev_offset file.sections.debug_abbrev
+  r ← root file.offset_limit u table
+  facts_of file u table r.attributes
 
 -- The attribute that names the file of a unit's split part (DWARF 5, 3.1.2; before version 5
 -- GNU's).

@@ -1,5 +1,5 @@
-//! Line number programs (DWARF 5, 6.2): read, and in `write` built and written. Each name is in one
-//! of the crates below, which are proved apart, and is passed on here unchanged.
+//! Line number programs (DWARF 5, 6.2): read, and in `write` built and written. Each name is from
+//! one of the crates below, which are proved apart.
 #![tactic(auto)]
 
 pub use gimli_lines_rows::{

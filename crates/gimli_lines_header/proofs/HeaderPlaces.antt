@@ -20,7 +20,7 @@ use Rattle.gimli_lines_header.specs.LineHeaders.{LineHeader}
 use Rattle.gimli_lines_header.specs.TableEntries.{entry_format, entry_formats}
 use Rattle.gimli_lines_header.specs.HeaderTables.{directory_texts, file_texts, directory_entries, file_entries, directories_of_5, directories, files_of_5, files}
 use Rattle.gimli_lines_header.specs.HeaderParsing.{LineUnit, Bounds, encoding_of_5, line_sizes, operations, operations_of_4, line_parameters, opcodes, header_fields, header_in, line_header}
-use Rattle.gimli_lines_header.specs.LineHeaderLaws.{sizes_bytes, counted_bytes, IsPlacedAt, LengthsPlace, bytes_needed, TablesFit}
+use Rattle.gimli_lines_header.specs.LineHeaderLaws.{sizes_bytes, counted_bytes, LengthsDelimit, LengthsDelimitHeaders, bytes_needed, TablesFit}
 use Rattle.gimli_lines_header.proofs.TextSizes.{directory_text-takes, file_text-takes}
 use Rattle.gimli_lines_header.proofs.TableSizes.{times_room, all_room, directory_entry-takes, file_entry-takes, entry_format-takes}
 
@@ -253,7 +253,7 @@ header_is_in limit offset unit unit_length format v =
 
 -- what is so of a header at the start of v, where w is left
 record IsWhole (v : View) (h : LineHeader) (w : View) : Type 0 where
-  stands : IsPlacedAt v h w
+  stands : LengthsDelimit v h w
   room : bytes_needed h ≤ h.header_length
 
 header_is_whole : (limit offset : ℕ) (unit : LineUnit) (v : View)
@@ -272,7 +272,7 @@ header_is_whole limit offset unit v =
       stands = record {
         program =
             found.0.program_at ∙ placed l.0 l.1 x bytes (j.0 ∙ ap (prefix l.0) h.rest) found.0.long found.0.in_format;
-        behind = found.1 ∙ both.rest ∙ ap (λ (n : ℕ). after n v) size;
+        after_program = found.1 ∙ both.rest ∙ ap (λ (n : ℕ). after n v) size;
         enough = (let fits = both.enough in omega arith);
       };
       room = found.0.room;
@@ -294,8 +294,9 @@ header_is_whole limit offset unit v =
         ∙ ap (λ (f : Format). after (sizes_bytes x.encoding + (word_size f + x.header_length))
         (prefix x.unit_length (after (initial_length_size f) v))) (sym same)
 
-pub lengths_place : LengthsPlace
-lengths_place limit offset unit v rest h read = ((header_is_whole limit offset unit v).hold h rest read).stands
+pub lengths_delimit_headers : LengthsDelimitHeaders
+lengths_delimit_headers limit offset unit v rest h read =
+    ((header_is_whole limit offset unit v).hold h rest read).stands
 
 pub tables_fit : TablesFit
 tables_fit limit offset unit v rest h read = ((header_is_whole limit offset unit v).hold h rest read).room

@@ -1,4 +1,4 @@
--- What contracts see of what is known of a header before its fields.
+-- What contracts see of a header's bounds, which are known before its fields.
 use Rattle.std.specs.Prelude.{ℕ}
 use Rattle.gimli_units_headers.specs.View.{View}
 use Rattle.gimli_lines_header.specs.HeaderParsing as parsing

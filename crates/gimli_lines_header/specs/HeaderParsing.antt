@@ -113,7 +113,7 @@ header_fields limit directory name b = do
   })
 
 -- A header after its length: a second length bounds its fields, and the program is what follows
--- those bytes, whatever the fields have taken.
+-- those bytes, whatever the fields take.
 unfoldable pub header_in : ℕ → ℕ → LineUnit → ℕ → Format → Parser LineHeader
 header_in limit offset unit unit_length format = do
   e ← line_sizes format unit.address_bytes

@@ -17,19 +17,18 @@ sizes_bytes e = 2 + (if e.version == 5 then 2 else 0)
 abbrev pub counted_bytes : View → LineHeader → View
 counted_bytes v h = prefix h.unit_length (after (initial_length_size h.encoding.format) v)
 
--- A header is where its lengths say: the first counts the header and its program, and what is left
--- follows them; the program begins as many bytes after the second as that says, whatever the tables
--- have taken.
-pub record IsPlacedAt (v : View) (h : LineHeader) (rest : View) : Type 0 where
+-- Lengths delimit a header: the first counts the header and its program, and the rest follows them;
+-- the program begins as many bytes after the second as that says, whatever the tables take.
+pub record LengthsDelimit (v : View) (h : LineHeader) (rest : View) : Type 0 where
   pub program : h.program ≡ after
       (sizes_bytes h.encoding + (word_size h.encoding.format + h.header_length)) (counted_bytes v h)
-  pub behind : rest ≡ after (initial_length_size h.encoding.format + h.unit_length) v
+  pub after_program : rest ≡ after (initial_length_size h.encoding.format + h.unit_length) v
   pub enough : initial_length_size h.encoding.format + h.unit_length ≤ bytes_left v
 
--- each header is where its lengths say
-abbrev pub LengthsPlace : Type 0
-LengthsPlace = (limit offset : ℕ) (unit : LineUnit) (v rest : View) (h : LineHeader)
-    → line_header limit offset unit v ≡ Ok (h, rest) → IsPlacedAt v h rest
+-- its lengths delimit each header
+abbrev pub LengthsDelimitHeaders : Type 0
+LengthsDelimitHeaders = (limit offset : ℕ) (unit : LineUnit) (v rest : View) (h : LineHeader)
+    → line_header limit offset unit v ≡ Ok (h, rest) → LengthsDelimit v h rest
 
 -- the least bytes that the tables of a header take: a byte for each standard opcode, directory and
 -- file, two for each format
@@ -38,7 +37,7 @@ bytes_needed h =
     bytes_left h.standard_opcode_lengths + 2 * length h.directory_formats + length h.directories + 2
     * length h.file_formats + length h.files
 
--- the tables stand in the bytes that the second length counts
+-- the tables are within the bytes that the second length counts
 abbrev pub TablesFit : Type 0
 TablesFit = (limit offset : ℕ) (unit : LineUnit) (v rest : View) (h : LineHeader)
     → line_header limit offset unit v ≡ Ok (h, rest) → bytes_needed h ≤ h.header_length

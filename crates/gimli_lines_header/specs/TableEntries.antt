@@ -1,4 +1,4 @@
--- The entries of directories and files in version 5: fields, whose contents and forms stand before
+-- The entries of directories and files in version 5: fields, whose contents and forms come before
 -- them (DWARF 5, 6.2.4.1).
 use Rattle.std.specs.Prelude.{ℕ, ◌==◌, min, Bool, List, [], ◌∷◌, count_by, Option, Some, None, unwrap_or, if◌then◌else◌}
 use Rattle.std.specs.List.{list_any}
@@ -88,7 +88,7 @@ content_as content meaning field = if field.content == content then meaning fiel
 abbrev pub whole_value : RawValue → Option (Option RawValue)
 whole_value value = Some (Some value)
 
--- The digest: sixteen bytes, in the order in which they stand. A block of another length is none.
+-- The digest: sixteen bytes, in their order. A block of another length is none.
 abbrev pub digest_of : Bool → RawValue → Option (List ℕ)
 digest_of is_big (data_16 n) = Some (number_bytes is_big 16 n)
 digest_of is_big (block bytes) = if bytes_left bytes == 16 then Some bytes.bytes else None

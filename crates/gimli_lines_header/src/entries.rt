@@ -18,7 +18,7 @@ use gimli_units_headers::{
 };
 use std::marker::Model;
 
-// A form that fields may have: the value of each takes a byte at least.
+// Whether fields may have a form: the value of each such form takes a byte at least.
 fn is_entry_form(form: DwForm) -> bool
     ensures { result ≡ is_entry_form form.0 }
 {
@@ -91,7 +91,7 @@ fn digest_of<R: Reader>(value: &AttributeValue<R>, endian: R::Endian) -> Option<
     }
 }
 
-/// What the fields of an entry say.
+// What the fields of an entry say.
 #[derive(Drop)]
 pub(crate) struct EntryFields<R: Reader> {
     path: Option<AttributeValue<R>>,
@@ -175,7 +175,7 @@ fn parse_fields<R: Reader>(
     Ok(fields)
 }
 
-/// A directory: the path of an entry.
+// A directory: the path of an entry.
 #[tactic(auto, unfolding(crate::specs::TableEntries::directory_entry))]
 pub(crate) fn parse_directory<R: Reader>(
     input: &mut R,
@@ -190,7 +190,7 @@ pub(crate) fn parse_directory<R: Reader>(
     fields.path.ok_or(Error::MissingFileEntryFormatPath)
 }
 
-/// A file.
+// A file.
 #[tactic(auto, unfolding(crate::specs::TableEntries::file_entry))]
 pub(crate) fn parse_file<R: Reader>(
     input: &mut R,

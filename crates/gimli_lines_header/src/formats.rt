@@ -9,7 +9,7 @@ use gimli_units_headers::{DW_LNCT_path, DwForm, DwLnct, Error, Reader};
 use std::alloc::Global;
 
 /// What a field of directory or file entries holds, and the form of its values (DWARF 5, 6.2.4.1).
-/// Contents from 0xffff on are kept as 0xffff, which the standard doesn't number.
+/// All contents from 0xffff on are 0xffff here, which the standard doesn't number.
 #[derive(Clone, Copy, Debug, PartialEq, Eq)]
 pub struct FileEntryFormat {
     pub content_type: DwLnct,
@@ -46,7 +46,7 @@ fn parse_counted<R: Reader>(
     Ok(formats)
 }
 
-// Exactly one of the fields is the path.
+// Whether exactly one of the fields is the path.
 fn lists_one_path(formats: &[FileEntryFormat]) -> bool
     ensures { result ≡ has_one_path formats.now }
 {
@@ -57,7 +57,7 @@ fn lists_one_path(formats: &[FileEntryFormat]) -> bool
         == 1
 }
 
-/// The formats of directory entries, or of file entries.
+// The formats of directory entries, or of file entries.
 #[tactic(auto, unfolding(crate::specs::TableEntries::entry_formats))]
 pub(crate) fn parse<R: Reader>(alloc: Global, input: &mut R) -> Result<Vec<FileEntryFormat>, Error>
     ensures { ReturnsAsOrNoMemory (λ formats. (formats.items, R.view input.new)) result

@@ -271,8 +271,8 @@ impl<R: Reader> LineProgramHeader<R> {
         item_at(self.encoding.version, unit_file, &self.file_names, file)
     }
 
-    /// A further file after the others, as an instruction up to version 4 may define one. Refused,
-    /// the header is unchanged.
+    /// A further file after the others, as an instruction up to version 4 may define one. A
+    /// refusal leaves the header unchanged.
     pub fn add_file(&mut self, file: FileEntry<R>) -> Result<(), Error>
         ensures ok { OnOk result (self.new ≡ with_file file self.old) }
         ensures err { IfErr result (λ e. (e ≡ Memory) × (self.new ≡ self.old)) }
@@ -281,21 +281,21 @@ impl<R: Reader> LineProgramHeader<R> {
         Ok(())
     }
 
-    /// Files have a time of their last modification: up to version 4 all have.
+    /// Whether files have a time of their last modification: up to version 4 all have.
     pub fn file_has_timestamp(&self) -> bool
         ensures { result ≡ files_have timestamp_content self.now }
     {
         self.encoding.version <= 4 || lists(&self.file_name_entry_format, DW_LNCT_timestamp)
     }
 
-    /// Files have a size: up to version 4 all have.
+    /// Whether files have a size: up to version 4 all have.
     pub fn file_has_size(&self) -> bool
         ensures { result ≡ files_have size_content self.now }
     {
         self.encoding.version <= 4 || lists(&self.file_name_entry_format, DW_LNCT_size)
     }
 
-    /// Files have a digest: up to version 4 none has.
+    /// Whether files have a digest: up to version 4 none has.
     pub fn file_has_md5(&self) -> bool
         ensures value { result ≡ has_content md5_content self.now.file_formats }
         ensures older { self.now.encoding.version ≤ 4 → result ≡ false }
@@ -303,7 +303,7 @@ impl<R: Reader> LineProgramHeader<R> {
         lists(&self.file_name_entry_format, DW_LNCT_MD5)
     }
 
-    /// Files have their text: up to version 4 none has.
+    /// Whether files have their text: up to version 4 none has.
     pub fn file_has_source(&self) -> bool
         ensures value { result ≡ has_content source_content self.now.file_formats }
         ensures older { self.now.encoding.version ≤ 4 → result ≡ false }
@@ -325,7 +325,7 @@ fn item_at<'a, T>(version: u16, zeroth: Option<&'a T>, items: &'a [T], number: u
     }
 }
 
-// A field has this content.
+// Whether a field has this content.
 fn lists(formats: &[FileEntryFormat], content_type: DwLnct) -> bool
     ensures { result ≡ has_content content_type.0 formats.now }
 {

@@ -1,14 +1,14 @@
 //! What holds of every header: each function here has an empty body, and its contract is a law.
 
-ghost use Rattle.gimli_lines_header.specs.LineHeaderLaws.{LengthsPlace, TablesFit, EntriesTakeBytes};
+ghost use Rattle.gimli_lines_header.specs.LineHeaderLaws.{LengthsDelimitHeaders, TablesFit, EntriesTakeBytes};
 
-/// A header and its program stand in the bytes that the lengths count: the program where the
-/// header's own length says, whatever the tables have taken (DWARF 5, 6.2.4).
-pub fn lengths_place()
-    ensures { LengthsPlace }
+/// A header and its program are the bytes that the lengths count: the program begins where the
+/// header's own length says, whatever the tables take (DWARF 5, 6.2.4).
+pub fn lengths_delimit_headers()
+    ensures { LengthsDelimitHeaders }
 {}
 
-/// There are no more directories and files than bytes that the header's own length counts, also
+/// There are no more directories and files than bytes that the header's own length counts, even
 /// where a number of entries says more.
 pub fn tables_fit()
     ensures { TablesFit }

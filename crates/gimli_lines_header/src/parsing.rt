@@ -29,7 +29,7 @@ fn parse_sizes<R: Reader>(
     requires { IsTrue (is_address_size address_size) }
     ensures value { ReturnsAs (λ encoding. (encoding, R.view input.new)) result
         (line_sizes format address_size (R.view input.old)) }
-    ensures known { IfOk result (λ encoding. (2 ≤ encoding.version) × (encoding.version ≤ 5)) }
+    ensures versions { IfOk result (λ encoding. (2 ≤ encoding.version) × (encoding.version ≤ 5)) }
     ensures address { IfOk result (λ encoding. IsTrue (is_address_size encoding.address_size)) }
 {
     let version = input.read_u16()?;
@@ -101,10 +101,10 @@ fn parse_parameters<R: Reader>(input: &mut R, version: u16) -> Result<LineEncodi
 // The first special opcode, and the lengths of the standard opcodes below it.
 #[tactic(auto, unfolding(crate::specs::HeaderParsing::opcodes))]
 fn parse_opcodes<R: Reader>(input: &mut R) -> Result<(u8, R), Error>
-    ensures value { ReturnsAsOrNoMemory (λ found. ((found.0, R.view found.1), R.view input.new))
+    ensures value { ReturnsAsOrNoMemory (λ p. ((p.0, R.view p.1), R.view input.new))
         result (opcodes (R.view input.old)) }
-    ensures each { IfOk result (λ found. (0 < found.0)
-        × (bytes_left (R.view found.1) + 1 ≡ found.0)) }
+    ensures each { IfOk result (λ p. (0 < p.0)
+        × (bytes_left (R.view p.1) + 1 ≡ p.0)) }
 {
     let opcode_base = input.read_u8()?;
     if opcode_base == 0 {
@@ -184,9 +184,9 @@ fn parse_fields<R: Reader>(
 }
 
 impl<R: Reader> LineProgramHeader<R> {
-    /// The header at the start, which begins at an offset of `.debug_line`. The unit gives the
-    /// bytes of an address, which count up to version 4, its directory and its name. Where the
-    /// header is refused, the input may have moved.
+    /// The header that the input begins with, at an offset of `.debug_line`. The unit gives the
+    /// bytes of an address, which count up to version 4, its directory and its name. A refusal may
+    /// have moved the input.
     #[tactic(auto, unfolding(crate::specs::HeaderParsing::line_header, crate::specs::HeaderParsing::header_in))]
     pub fn parse(
         alloc: Global,

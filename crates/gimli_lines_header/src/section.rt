@@ -43,7 +43,7 @@ impl<R: Reader> Section<R> for DebugLine<R> {
         &self.section
     }
 
-    ghost from_reader = { λ _ _ made. made };
+    ghost from_reader = { λ _ _ same. same };
 }
 
 impl<'a, E: Endianity> DebugLine<EndianSlice<'a, E>> {
@@ -62,8 +62,8 @@ impl<R: Reader> DebugLine<R> {
         F: FnOnce(&'a R) -> S,
         S: Reader,
         requires { F.IsAlwaysCallable f }
-        ensures { (reader : R) × (borrowed : S) × (R.view reader ≡ self.now)
-            × FnOnceReturnsAt F.FnOnce f reader borrowed × (result ≡ S.view borrowed) }
+        ensures { (reader : R) × (output : S) × (R.view reader ≡ self.now)
+            × FnOnceReturnsAt F.FnOnce f reader output × (result ≡ S.view output) }
     {
         DebugLine {
             section: f(&self.section),

@@ -51,8 +51,8 @@ fn parse_directory_texts<R: Reader>(
     alloc: Global,
     input: &mut R,
 ) -> Result<Vec<AttributeValue<R>>, Error>
-    ensures { ReturnsAsOrNoMemory (λ found.
-        (map (raw_value_of R.view R.Offset.count) found.items, R.view input.new)) result
+    ensures { ReturnsAsOrNoMemory (λ list.
+        (map (raw_value_of R.view R.Offset.count) list.items, R.view input.new)) result
         (directory_texts (R.view input.old)) }
 {
     let mut found = Vec::new(alloc);
@@ -65,7 +65,7 @@ fn parse_directory_texts<R: Reader>(
 // The files up to an empty path.
 #[tactic(auto, unfolding(crate::specs::HeaderTables::file_texts))]
 fn parse_file_texts<R: Reader>(alloc: Global, input: &mut R) -> Result<Vec<FileEntry<R>>, Error>
-    ensures { ReturnsAsOrNoMemory (λ found. (found.items, R.view input.new)) result
+    ensures { ReturnsAsOrNoMemory (λ list. (list.items, R.view input.new)) result
         (file_texts (R.view input.old)) }
 {
     let mut found = Vec::new(alloc);
@@ -85,8 +85,8 @@ fn parse_counted_directories<R: Reader>(
     formats: &[FileEntryFormat],
     count: u64,
 ) -> Result<Vec<AttributeValue<R>>, Error>
-    ensures { ReturnsAsOrNoMemory (λ found.
-        (map (raw_value_of R.view R.Offset.count) found.items, R.view input.new)) result
+    ensures { ReturnsAsOrNoMemory (λ list.
+        (map (raw_value_of R.view R.Offset.count) list.items, R.view input.new)) result
         (times count (directory_entry R.Offset.limit encoding formats.now) (R.view input.old)) }
 {
     let mut found = Vec::new(alloc);
@@ -104,7 +104,7 @@ fn parse_counted_files<R: Reader>(
     formats: &[FileEntryFormat],
     count: u64,
 ) -> Result<Vec<FileEntry<R>>, Error>
-    ensures { ReturnsAsOrNoMemory (λ found. (found.items, R.view input.new)) result
+    ensures { ReturnsAsOrNoMemory (λ list. (list.items, R.view input.new)) result
         (times count (file_entry R.Offset.limit encoding formats.now) (R.view input.old)) }
 {
     let mut found = Vec::new(alloc);
@@ -122,8 +122,8 @@ fn parse_directory_entries<R: Reader>(
     encoding: Encoding,
     formats: &[FileEntryFormat],
 ) -> Result<Vec<AttributeValue<R>>, Error>
-    ensures { ReturnsAsOrNoMemory (λ found.
-        (map (raw_value_of R.view R.Offset.count) found.items, R.view input.new)) result
+    ensures { ReturnsAsOrNoMemory (λ list.
+        (map (raw_value_of R.view R.Offset.count) list.items, R.view input.new)) result
         (directory_entries R.Offset.limit encoding formats.now (R.view input.old)) }
 {
     let count = input.read_uleb128()?;
@@ -138,7 +138,7 @@ fn parse_file_entries<R: Reader>(
     encoding: Encoding,
     formats: &[FileEntryFormat],
 ) -> Result<Vec<FileEntry<R>>, Error>
-    ensures { ReturnsAsOrNoMemory (λ found. (found.items, R.view input.new)) result
+    ensures { ReturnsAsOrNoMemory (λ list. (list.items, R.view input.new)) result
         (file_entries R.Offset.limit encoding formats.now (R.view input.old)) }
 {
     let count = input.read_uleb128()?;
@@ -152,8 +152,8 @@ fn parse_described_directories<R: Reader>(
     input: &mut R,
     encoding: Encoding,
 ) -> Result<(Vec<FileEntryFormat>, Vec<AttributeValue<R>>), Error>
-    ensures { ReturnsAsOrNoMemory (λ found.
-        ((found.0.items, map (raw_value_of R.view R.Offset.count) found.1.items), R.view input.new))
+    ensures { ReturnsAsOrNoMemory (λ p.
+        ((p.0.items, map (raw_value_of R.view R.Offset.count) p.1.items), R.view input.new))
         result
         (directories_of_5 R.Offset.limit encoding (R.view input.old)) }
 {
@@ -169,7 +169,7 @@ fn parse_described_files<R: Reader>(
     input: &mut R,
     encoding: Encoding,
 ) -> Result<(Vec<FileEntryFormat>, Vec<FileEntry<R>>), Error>
-    ensures { ReturnsAsOrNoMemory (λ found. ((found.0.items, found.1.items), R.view input.new))
+    ensures { ReturnsAsOrNoMemory (λ p. ((p.0.items, p.1.items), R.view input.new))
         result
         (files_of_5 R.Offset.limit encoding (R.view input.old)) }
 {
@@ -180,15 +180,15 @@ fn parse_described_files<R: Reader>(
 
 // ---- in every version
 
-/// The formats of directories, none up to version 4, and the directories.
+// The formats of directories, none up to version 4, and the directories.
 #[tactic(auto, unfolding(crate::specs::HeaderTables::directories))]
 pub(crate) fn parse_directories<R: Reader>(
     alloc: Global,
     input: &mut R,
     encoding: Encoding,
 ) -> Result<(Vec<FileEntryFormat>, Vec<AttributeValue<R>>), Error>
-    ensures { ReturnsAsOrNoMemory (λ found.
-        ((found.0.items, map (raw_value_of R.view R.Offset.count) found.1.items), R.view input.new))
+    ensures { ReturnsAsOrNoMemory (λ p.
+        ((p.0.items, map (raw_value_of R.view R.Offset.count) p.1.items), R.view input.new))
         result
         (directories R.Offset.limit encoding (R.view input.old)) }
 {
@@ -199,17 +199,17 @@ pub(crate) fn parse_directories<R: Reader>(
     Ok((Vec::new(alloc), found))
 }
 
-/// The formats of files, none up to version 4, and the files.
+// The formats of files, none up to version 4, and the files.
 #[tactic(auto, unfolding(crate::specs::HeaderTables::files))]
 pub(crate) fn parse_files<R: Reader>(
     alloc: Global,
     input: &mut R,
     encoding: Encoding,
 ) -> Result<(Vec<FileEntryFormat>, Vec<FileEntry<R>>), Error>
-    ensures value { ReturnsAsOrNoMemory (λ found.
-        ((found.0.items, found.1.items), R.view input.new)) result
+    ensures value { ReturnsAsOrNoMemory (λ p.
+        ((p.0.items, p.1.items), R.view input.new)) result
         (files R.Offset.limit encoding (R.view input.old)) }
-    ensures older { encoding.version ≤ 4 → IfOk result (λ found. found.0.items ≡ []) }
+    ensures older { encoding.version ≤ 4 → IfOk result (λ p. p.0.items ≡ []) }
 {
     if encoding.version > 4 {
         return parse_described_files(alloc, input, encoding);

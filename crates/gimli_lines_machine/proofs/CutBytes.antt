@@ -1,10 +1,10 @@
 -- What a step that reads from the front says of bytes that are cut after what it took: it gives the same.
-use Rattle.std.proofs.Common.{◌≡◌, ℕ, zero, suc, ◌+◌, ◌-◌, ◌<◌, ◌≤◌, Bool, true, false, cond, ltb, List, [], ◌∷◌, length, take, drop, Result, Ok, Err, refl, sym, ap, subst, ◌∙◌, arith, length-drop, ◌⊎◌, inl, inr}
+use Rattle.std.proofs.Common.{◌≡◌, ℕ, zero, suc, ◌+◌, ◌-◌, ◌<◌, ◌≤◌, Bool, true, false, cond, ltb, List, [], ◌∷◌, length, take, drop, Result, Ok, Err, sym, ap, ◌∙◌, arith, length-drop, ◌⊎◌, inl, inr}
 use Rattle.std.proofs.lemmas.List.{drop-drop, drop-take, take-take, length-take}
 use Rattle.std.proofs.lemmas.Bool.{le-ltb, lt-ltb, cases_lt}
 use Rattle.gimli_core_readers.specs.Error.{Error}
 use Rattle.gimli_core_readers.specs.View.{View, after, prefix, bytes_left, unexpected_end}
-use Rattle.gimli_core_readers.specs.Parsers.{Step, Parser, proceed, give, fail, ◌>>=◌, branch, lift, part, map_value}
+use Rattle.gimli_core_readers.specs.Parsers.{Parser, proceed, give, ◌>>=◌, branch, lift, part, map_value}
 use Rattle.gimli_core_readers.specs.Repetition.{times}
 use Rattle.gimli_core_readers.proofs.StepParts.{begins, read, value_is, state_is}
 use Rattle.gimli_lines_machine.specs.Decoding.{span_of}

@@ -1,5 +1,5 @@
 -- Numbers are read again from any prefix of their bytes that has them.
-use Rattle.std.proofs.Common.{◌≡◌, ℕ, zero, suc, ◌+◌, ◌^◌, ◌<◌, ◌≤◌, Bool, true, false, cond, ltb, List, [], ◌∷◌, length, take, drop, Option, Some, None, option_map, min, Result, Ok, Err, refl, sym, ap, subst, ◌∙◌, arith, inl, inr, ◌⊎◌}
+use Rattle.std.proofs.Common.{◌≡◌, ℕ, zero, suc, ◌^◌, ◌<◌, ◌≤◌, Bool, true, false, cond, ltb, List, [], ◌∷◌, length, take, Option, Some, None, option_map, Result, Ok, Err, refl, sym, ap, ◌∙◌, arith, inl, inr, ◌⊎◌}
 use Rattle.std.specs.Prelude.{ℤ}
 use Rattle.std.specs.Option.{ok_or}
 use Rattle.std.proofs.lemmas.List.{take-take, length-take, take_all}
@@ -13,9 +13,9 @@ use Rattle.gimli_core_readers.specs.Fault.TheVariants.{Cut, Bad}
 use Rattle.gimli_core_readers.specs.Fixed.{number}
 use Rattle.gimli_core_readers.specs.Leb128.{leb_string, bounded_string, unsigned_of, signed_of, unsigned_number, signed_number, fits_i64}
 use Rattle.gimli_core_readers.specs.NumberParsers.{fixed, number_and_rest, unsigned, signed}
-use Rattle.gimli_core_readers.proofs.NumberReadSizes.{Stands, judged_stands}
+use Rattle.gimli_core_readers.proofs.NumberReadSizes.{judged_stands}
 use Rattle.gimli_core_readers.proofs.LebStrings.{string_at-last, string_at-goes_on}
-use Rattle.gimli_lines_machine.proofs.CutBytes.{ReadsCutAt, ReadsCut, front_front, long_enough}
+use Rattle.gimli_lines_machine.proofs.CutBytes.{ReadsCutAt, ReadsCut, long_enough}
 
 -- ---- fixed numbers
 

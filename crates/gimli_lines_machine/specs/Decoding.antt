@@ -65,7 +65,7 @@ extended_of make rules opcode =
     (branch (opcode == DW_LNE_set_discriminator.0) (map_value set_discriminator unsigned)
     (map_value (unknown_extended opcode) here))))
 
--- an opcode and its operands, which need not take all of the bytes that they stand in
+-- an opcode and its operands, which need not take all of their bytes
 unfoldable pub extended_in : {F : Type 0} → FileMaker F → LineRules → Parser (InstructionOf F)
 extended_in make rules = fixed 1 >>= extended_of make rules
 

@@ -16,11 +16,11 @@ pub record IsSound (rules : LineRules) : Type 0 where
   pub has_operations : 0 < rules.line_encoding.maximum_operations_per_instruction
   pub has_lines : 0 < rules.line_encoding.line_range
 
--- The registers after a call are those that were meant; refused, they are as before.
+-- The registers after a call are those of its meaning; refused, they are as before.
 abbrev pub Becomes : {A : Type 0} → Result A Error → Registers → Registers → Result Registers Error
     → Type 0
-Becomes (Ok x) old new meant = meant ≡ Ok new
-Becomes (Err e) old new meant = (meant ≡ Err e) × (new ≡ old)
+Becomes (Ok x) old new meaning = meaning ≡ Ok new
+Becomes (Err e) old new meaning = (meaning ≡ Err e) × (new ≡ old)
 
 -- the registers at the start of a sequence (DWARF 5, table 6.4)
 abbrev pub start : LineRules → Registers
@@ -63,8 +63,7 @@ abbrev pub registers_at : Registers → ℕ → Result ℕ Error → Result Regi
 registers_at r op_index (Ok address) = Ok (record r { address = address; op_index = op_index })
 registers_at r op_index (Err e) = Err e
 
--- n operations on (6.2.5.1): the instructions that they make up move the address. While rows are
--- hidden the address stays.
+-- the number of an operation n after the current one, from the instruction's first on (6.2.5.1)
 abbrev pub operation_sum : Registers → ℕ → ℕ
 operation_sum r n = (r.op_index + n) % 2 ^ 64
 
@@ -80,7 +79,7 @@ to_operation rules r operations =
     registers_at r (operations % rules.line_encoding.maximum_operations_per_instruction)
     (address_within rules.encoding.address_size (r.address + address_advance rules operations))
 
--- the registers n operations on
+-- the registers n operations on; while rows are hidden the address stays
 abbrev pub after_operations : LineRules → ℕ → Registers → Result Registers Error
 after_operations rules n r = if r.is_hidden then Ok r else to_operation rules r (operation_sum r n)
 

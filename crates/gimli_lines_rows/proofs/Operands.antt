@@ -1,12 +1,12 @@
 -- The bytes of `count` operands: how a loop that reads them goes on.
-use Rattle.std.proofs.Common.{◌≡◌, ◌^◌, ℕ, zero, suc, ◌+◌, ◌-◌, ◌<◌, ◌≤◌, Bool, true, false, cond, List, [], ◌∷◌, ◌++◌, length, drop, Result, Ok, Err, refl, sym, ap, subst, ◌∙◌, arith, length-drop, nat_lt}
+use Rattle.std.proofs.Common.{◌≡◌, ◌^◌, ℕ, suc, ◌+◌, ◌-◌, ◌<◌, ◌≤◌, Bool, true, false, cond, List, [], ◌∷◌, ◌++◌, length, drop, Result, Ok, Err, refl, sym, ap, subst, ◌∙◌, arith, length-drop, nat_lt}
 use Rattle.std.proofs.lemmas.Bool.{le-ltb}
 use Rattle.gimli_lines_machine.specs.Error.{Error}
 use Rattle.gimli_lines_machine.specs.Error.TheVariants.{BadUnsignedLeb128}
 use Rattle.gimli_lines_machine.specs.View.{View, after, prefix, bytes_left, unexpected_end}
 use Rattle.gimli_lines_machine.specs.Parsers.{proceed, give, truncate}
 use Rattle.gimli_lines_machine.specs.Repetition.{times}
-use Rattle.gimli_lines_machine.proofs.StepParts.{read, state_is}
+use Rattle.gimli_lines_machine.proofs.StepParts.{state_is}
 use Rattle.gimli_lines_machine.proofs.Times.{behind, times_item, times_fault, times_end}
 use Rattle.gimli_lines_machine.specs.Fault.{Fault}
 use Rattle.gimli_lines_machine.specs.Leb128.{bounded_string, unsigned_of, unsigned_number}

@@ -1,11 +1,11 @@
 -- Rows of a path, given again by a reader of the bytes that the path took, whatever files its header has.
-use Rattle.std.proofs.Common.{◌≡◌, ◌≢◌, ℕ, ◌+◌, ◌-◌, ◌<◌, ◌≤◌, Bool, true, false, cond, eqb, ◌&&◌, List, [], ◌∷◌, ◌++◌, map, length, take, Option, Some, None, Result, Ok, Err, refl, sym, ap, subst, ◌∙◌, arith, length-drop}
+use Rattle.std.proofs.Common.{◌≡◌, ◌≢◌, ℕ, ◌+◌, ◌-◌, ◌<◌, ◌≤◌, Bool, true, false, cond, eqb, ◌&&◌, List, [], ◌∷◌, ◌++◌, map, length, take, Option, Some, None, Result, Ok, Err, refl, sym, ap, ◌∙◌, arith, length-drop}
 use Rattle.std.proofs.lemmas.List.{length-take}
-use Rattle.std.proofs.lemmas.Bool.{eqb-true, eqb-false, ne_eqb}
+use Rattle.std.proofs.lemmas.Bool.{ne_eqb}
 use Rattle.gimli_lines_machine.specs.Error.{Error}
 use Rattle.gimli_lines_machine.specs.View.{View, after, prefix, bytes_left}
 use Rattle.gimli_lines_machine.specs.Parsers.{proceed, give}
-use Rattle.gimli_lines_machine.specs.Repetition.{until_end}
+use Rattle.gimli_lines_machine.specs.Repetition.{until_end, answer}
 use Rattle.gimli_lines_machine.proofs.StepParts.{begins, read, value_is, state_is}
 use Rattle.gimli_lines_header.specs.LineFiles.{FileFacts, file_in}
 use Rattle.gimli_lines_header.specs.LineHeaders.{LineHeader}
@@ -14,10 +14,10 @@ use Rattle.gimli_lines_machine.specs.declared.rules.LineRules.{LineRules}
 use Rattle.gimli_lines_machine.specs.LineInstructions.{InstructionOf, define_file}
 use Rattle.gimli_lines_machine.specs.Machine.{registers_after, next_registers, after_row, gives_row}
 use Rattle.gimli_lines_machine.specs.Decoding.{instruction_with}
-use Rattle.gimli_lines_machine.proofs.CutBytes.{ReadsCutAt, after_after, after_front, after_zero}
+use Rattle.gimli_lines_machine.proofs.CutBytes.{after_after, after_front, after_zero}
 use Rattle.gimli_lines_machine.proofs.CutInstructions.{cut-instruction}
 use Rattle.gimli_lines_rows.specs.ProgramInstructions.{rules_of, instruction_in, next_instruction}
-use Rattle.gimli_lines_rows.specs.ProgramRows.{Row, RowsLeft, header_after, header_with, answer, rows_to_come, last_row, is_shown_by, state_after, next_step, Path, stays, shows, passes}
+use Rattle.gimli_lines_rows.specs.ProgramRows.{Row, RemainingRows, header_after, header_with, rows_to_come, last_row, is_shown_by, state_after, next_step, Path, stays, shows, passes}
 use Rattle.gimli_lines_rows.specs.RowSequences.{registers_of, row_under}
 use Rattle.gimli_lines_rows.proofs.LineRowSteps.{Stepped, step_parts, step_smaller, come_after, come_nothing, row_first}
 
@@ -126,32 +126,33 @@ took_more u v w k fits at t =
     let inner : t.count ≤ bytes_left v = t.fits in
     record { count = k + t.count; fits = omega arith; rest = t.rest ∙ ap (after t.count) at ∙ after_after k t.count u }
 
-step_read : (limit : ℕ) (s : RowsLeft) (b : Bool) (t : RowsLeft) → (p : Stepped limit s b t) → t.left ≡ p.rest
-step_read limit s b t p = sym (ap (λ (x : RowsLeft). x.left) p.led_to)
+step_read : (limit : ℕ) (s : RemainingRows) (b : Bool) (t : RemainingRows) → (p : Stepped limit s b t) → t.rest ≡ p.rest
+step_read limit s b t p = sym (ap (λ (x : RemainingRows). x.rest) p.led_to)
 
-pub path_took : {limit : ℕ} {s u : RowsLeft} {rows : List Row} → Path limit s rows u → Took s.left u.left
-path_took (stays s) = record { count = 0; fits = omega arith; rest = after_zero s.left }
+pub path_took : {limit : ℕ} {s u : RemainingRows} {rows : List Row} → Path limit s rows u → Took s.rest u.rest
+path_took (stays s) = record { count = 0; fits = omega arith; rest = after_zero s.rest }
 path_took {limit} (shows s t u rows e p) =
     let parts = step_parts limit s true t e in
-    let k = reads_cut_step limit s.header s.left parts.rest parts.instruction parts.was_read in
-    took_more s.left t.left u.left k.count k.fits (step_read limit s true t parts ∙ k.rest) (path_took p)
+    let k = reads_cut_step limit s.header s.rest parts.rest parts.instruction parts.was_read in
+    took_more s.rest t.rest u.rest k.count k.fits (step_read limit s true t parts ∙ k.rest) (path_took p)
 path_took {limit} (passes s t u rows e p) =
     let parts = step_parts limit s false t e in
-    let k = reads_cut_step limit s.header s.left parts.rest parts.instruction parts.was_read in
-    took_more s.left t.left u.left k.count k.fits (step_read limit s false t parts ∙ k.rest) (path_took p)
+    let k = reads_cut_step limit s.header s.rest parts.rest parts.instruction parts.was_read in
+    took_more s.rest t.rest u.rest k.count k.fits (step_read limit s false t parts ∙ k.rest) (path_took p)
 
 -- ---- the same rows
 
 -- a reader of some prefix, under a header
-abbrev over_front : LineHeader → Registers → Registers → View → RowsLeft
-over_front h r last v = record { header = h; takes_files = false; registers = r; last = last; left = v }
+abbrev over_front : LineHeader → Registers → Registers → View → RemainingRows
+over_front h r last v = record { header = h; takes_files = false; registers = r; last = last; rest = v }
 
 -- a step, taken under another header of the same rules, over a prefix of k bytes that has the step's
-step_again : (limit : ℕ) (s : RowsLeft) (b : Bool) (t : RowsLeft) (h : LineHeader) (r last : Registers) (v : View)
+step_again : (limit : ℕ) (s : RemainingRows) (b : Bool) (t : RemainingRows) (h : LineHeader) (r last : Registers)
+    (v : View)
     (k m : ℕ) → (p : Stepped limit s b t) → rules_of h ≡ rules_of s.header → counts_of h ≡ counts_of s.header
-    → r ≡ s.registers → v ≡ prefix k s.left → (c : Read limit s.header s.left p.rest p.instruction) → k ≡ c.count + m
+    → r ≡ s.registers → v ≡ prefix k s.rest → (c : Read limit s.header s.rest p.rest p.instruction) → k ≡ c.count + m
     → (last' : Registers) × (rows_to_come limit (over_front h r last v) ≡ map answer (row_first b h p.after)
-    ++ rows_to_come limit (over_front h t.registers last' (prefix m t.left)))
+    ++ rows_to_come limit (over_front h t.registers last' (prefix m t.rest)))
 step_again limit s b t h r last v k m p same_rules same_counts same_registers at c long =
     let i = p.instruction in
     let w = after c.count v in
@@ -167,12 +168,12 @@ step_again limit s b t h r last v k m p same_rules same_counts same_registers at
     let state = over_front h r last v in
     let next = state_after state i w p.after in
     let registers : next.registers ≡ t.registers =
-    ap (λ (x : LineRules). next_registers x i p.after) same_rules ∙ ap (λ (x : RowsLeft). x.registers) p.led_to in
+    ap (λ (x : LineRules). next_registers x i p.after) same_rules ∙ ap (λ (x : RemainingRows). x.registers) p.led_to in
     let m_is : k - c.count ≡ m = omega arith in
-    let left : w ≡ prefix m t.left =
-    ap (after c.count) at ∙ after_front c.count k s.left le
+    let left : w ≡ prefix m t.rest =
+    ap (after c.count) at ∙ after_front c.count k s.rest le
     ∙ ap (prefix (k - c.count)) (sym c.rest ∙ sym (step_read limit s b t p))
-    ∙ ap (λ (n : ℕ). prefix n t.left) m_is in (
+    ∙ ap (λ (n : ℕ). prefix n t.rest) m_is in (
       next.last,
       come_after limit state i w p.after was_read was_executed
           ∙ ap (λ (x : LineHeader). map answer (row_first (is_shown_by i p.after) x p.after)
@@ -186,15 +187,15 @@ step_again limit s b t h r last v k m p same_rules same_counts same_registers at
     )
 
 -- the header after a step has the same rules
-step_rules : (limit : ℕ) (s : RowsLeft) (b : Bool) (t : RowsLeft) → (p : Stepped limit s b t)
+step_rules : (limit : ℕ) (s : RemainingRows) (b : Bool) (t : RemainingRows) → (p : Stepped limit s b t)
     → (rules_of t.header ≡ rules_of s.header) × (counts_of t.header ≡ counts_of s.header)
 step_rules limit s b t p =
     let same = rules_after s.takes_files p.instruction s.header in (
-      ap (λ (x : RowsLeft). rules_of x.header) (sym p.led_to) ∙ same.0,
-      ap (λ (x : RowsLeft). counts_of x.header) (sym p.led_to) ∙ same.1,
+      ap (λ (x : RemainingRows). rules_of x.header) (sym p.led_to) ∙ same.0,
+      ap (λ (x : RemainingRows). counts_of x.header) (sym p.led_to) ∙ same.1,
     )
 
-pub path_rules : {limit : ℕ} {s u : RowsLeft} {rows : List Row} → Path limit s rows u
+pub path_rules : {limit : ℕ} {s u : RemainingRows} {rows : List Row} → Path limit s rows u
     → (rules_of u.header ≡ rules_of s.header) × (counts_of u.header ≡ counts_of s.header)
 path_rules (stays s) = (refl, refl)
 path_rules {limit} (shows s t u rows e p) =
@@ -202,37 +203,37 @@ path_rules {limit} (shows s t u rows e p) =
 path_rules {limit} (passes s t u rows e p) =
     let a = step_rules limit s false t (step_parts limit s false t e) in let b = path_rules p in (b.0 ∙ a.0, b.1 ∙ a.1)
 
-last_row_of : (limit : ℕ) (s t : RowsLeft) → (p : Stepped limit s true t) → p.after ≡ t.last
+last_row_of : (limit : ℕ) (s t : RemainingRows) → (p : Stepped limit s true t) → p.after ≡ t.last
 last_row_of limit s t p =
-    ap (λ (b : Bool). cond b p.after s.last) (sym p.was_shown) ∙ ap (λ (x : RowsLeft). x.last) p.led_to
+    ap (λ (b : Bool). cond b p.after s.last) (sym p.was_shown) ∙ ap (λ (x : RemainingRows). x.last) p.led_to
 
-pub resumed_rows : {limit : ℕ} {s u : RowsLeft} {rows : List Row} → (path : Path limit s rows u)
+pub resumed_rows : {limit : ℕ} {s u : RemainingRows} {rows : List Row} → (path : Path limit s rows u)
     → (h : LineHeader) (r last : Registers) (v : View) (k : ℕ) → rules_of h ≡ rules_of s.header
-    → counts_of h ≡ counts_of s.header → r ≡ s.registers → k ≡ (path_took path).count → v ≡ prefix k s.left
+    → counts_of h ≡ counts_of s.header → r ≡ s.registers → k ≡ (path_took path).count → v ≡ prefix k s.rest
     → rows_to_come limit (over_front h r last v) ≡ map (row_under h) (map registers_of rows)
 unfolding path_took took_more
 resumed_rows {limit} (stays s) h r last v k same_rules same_counts same_registers long at =
-    let none : v ≡ prefix 0 s.left = at ∙ ap (λ (n : ℕ). prefix n s.left) long in
-    come_nothing limit (over_front h r last v) s.left none
+    let none : v ≡ prefix 0 s.rest = at ∙ ap (λ (n : ℕ). prefix n s.rest) long in
+    come_nothing limit (over_front h r last v) s.rest none
 resumed_rows {limit} (shows s t u rows e p) h r last v k same_rules same_counts same_registers long at =
     let parts = step_parts limit s true t e in
-    let c = reads_cut_step limit s.header s.left parts.rest parts.instruction parts.was_read in
+    let c = reads_cut_step limit s.header s.rest parts.rest parts.instruction parts.was_read in
     let m = (path_took p).count in
     let same = step_rules limit s true t parts in
     let step = step_again limit s true t h r last v k m parts same_rules same_counts same_registers at c long in
     step.1
-    ∙ ap (λ (x : Registers). row_under h x ∷ rows_to_come limit (over_front h t.registers step.0 (prefix m t.left)))
+    ∙ ap (λ (x : Registers). row_under h x ∷ rows_to_come limit (over_front h t.registers step.0 (prefix m t.rest)))
     (last_row_of limit s t parts)
     ∙ ap (λ (xs : List (Result Row Error)). row_under h t.last ∷ xs)
-    (resumed_rows p h t.registers step.0 (prefix m t.left) m (same_rules ∙ sym same.0) (same_counts ∙ sym same.1) refl
+    (resumed_rows p h t.registers step.0 (prefix m t.rest) m (same_rules ∙ sym same.0) (same_counts ∙ sym same.1) refl
     refl refl)
 resumed_rows {limit} (passes s t u rows e p) h r last v k same_rules same_counts same_registers long at =
     let parts = step_parts limit s false t e in
-    let c = reads_cut_step limit s.header s.left parts.rest parts.instruction parts.was_read in
+    let c = reads_cut_step limit s.header s.rest parts.rest parts.instruction parts.was_read in
     let m = (path_took p).count in
     let same = step_rules limit s false t parts in
     let step = step_again limit s false t h r last v k m parts same_rules same_counts same_registers at c long in
-    step.1 ∙ resumed_rows p h t.registers step.0 (prefix m t.left) m (same_rules ∙ sym same.0)
+    step.1 ∙ resumed_rows p h t.registers step.0 (prefix m t.rest) m (same_rules ∙ sym same.0)
     (same_counts ∙ sym same.1) refl refl refl
 
 -- ---- after a row
@@ -242,43 +243,43 @@ and_left true b e = refl
 and_left false b e = absurd cc
 
 -- the registers after a row are cleared
-pub row_cleared : (limit : ℕ) (s t : RowsLeft) → next_step limit s ≡ Ok (Some true, t)
+pub row_cleared : (limit : ℕ) (s t : RemainingRows) → next_step limit s ≡ Ok (Some true, t)
     → t.registers ≡ after_row (rules_of t.header) t.last
 row_cleared limit s t e =
     let p = step_parts limit s true t e in
     let gives : gives_row p.instruction ≡ true = and_left (gives_row p.instruction) _ p.was_shown in
     let same = step_rules limit s true t p in
-    sym (ap (λ (x : RowsLeft). x.registers) p.led_to)
+    sym (ap (λ (x : RemainingRows). x.registers) p.led_to)
     ∙ ap (λ (b : Bool). cond b (after_row (rules_of s.header) p.after) p.after) gives
     ∙ ap (after_row (rules_of s.header)) (last_row_of limit s t p)
     ∙ ap (λ (x : LineRules). after_row x t.last) (sym same.0)
 
 -- ---- paths take bytes where they show a row
 
-pub path_at_most : {limit : ℕ} {s u : RowsLeft} {rows : List Row} → Path limit s rows u
-    → bytes_left u.left ≤ bytes_left s.left
+pub path_at_most : {limit : ℕ} {s u : RemainingRows} {rows : List Row} → Path limit s rows u
+    → bytes_left u.rest ≤ bytes_left s.rest
 path_at_most {s = s} {u = u} p =
     let t = path_took p in
-    let left : bytes_left u.left ≡ bytes_left s.left - t.count = ap bytes_left t.rest
-    ∙ length-drop t.count s.left.bytes in
+    let left : bytes_left u.rest ≡ bytes_left s.rest - t.count = ap bytes_left t.rest
+    ∙ length-drop t.count s.rest.bytes in
     omega arith
 
-step_less : (limit : ℕ) (s : RowsLeft) (b : Bool) (t : RowsLeft) → next_step limit s ≡ Ok (Some b, t)
-    → bytes_left t.left < bytes_left s.left
+step_less : (limit : ℕ) (s : RemainingRows) (b : Bool) (t : RemainingRows) → next_step limit s ≡ Ok (Some b, t)
+    → bytes_left t.rest < bytes_left s.rest
 step_less limit s b t e = step_smaller limit s b t e
 
-fewer_rows : {limit : ℕ} {s u : RowsLeft} {rows : List Row} → Path limit s rows u → rows ≢ []
-    → bytes_left u.left < bytes_left s.left
+fewer_rows : {limit : ℕ} {s u : RemainingRows} {rows : List Row} → Path limit s rows u → rows ≢ []
+    → bytes_left u.rest < bytes_left s.rest
 fewer_rows (stays s) some = absurd (some refl)
 fewer_rows {limit} (shows s t u rows e p) some =
-    let lt : bytes_left t.left < bytes_left s.left = step_less limit s true t e in
-    let le : bytes_left u.left ≤ bytes_left t.left = path_at_most p in
+    let lt : bytes_left t.rest < bytes_left s.rest = step_less limit s true t e in
+    let le : bytes_left u.rest ≤ bytes_left t.rest = path_at_most p in
     omega arith
 fewer_rows {limit} (passes s t u rows e p) some =
-    let lt : bytes_left t.left < bytes_left s.left = step_less limit s false t e in
-    let le : bytes_left u.left ≤ bytes_left t.left = path_at_most p in
+    let lt : bytes_left t.rest < bytes_left s.rest = step_less limit s false t e in
+    let le : bytes_left u.rest ≤ bytes_left t.rest = path_at_most p in
     omega arith
 
-pub path_smaller : {limit : ℕ} {s u : RowsLeft} {rows : List Row} → Path limit s rows u → rows ≢ []
-    → bytes_left u.left < bytes_left s.left
+pub path_smaller : {limit : ℕ} {s u : RemainingRows} {rows : List Row} → Path limit s rows u → rows ≢ []
+    → bytes_left u.rest < bytes_left s.rest
 path_smaller p some = fewer_rows p some

@@ -10,14 +10,14 @@ use Rattle.gimli_lines_machine.specs.View.{View, after, prefix, bytes_left}
 use Rattle.gimli_lines_machine.specs.Readers.{Holds}
 use Rattle.gimli_lines_header.specs.LineHeaders.{LineHeader}
 use Rattle.gimli_lines_machine.specs.declared.registers.Registers.{Registers}
-use Rattle.gimli_lines_machine.specs.declared.rules.LineRules.{LineRules}
 use Rattle.gimli_lines_machine.specs.Machine.{start, after_row}
 use Rattle.gimli_lines_rows.specs.ProgramInstructions.{rules_of}
-use Rattle.gimli_lines_rows.specs.ProgramRows.{Row, RowsLeft, answer, rows_to_come, last_row, next_step, NextRow, ToNextRow, Path}
-use Rattle.gimli_lines_rows.specs.RowSequences.{SequenceLeft, registers_of, pieces_after, pieces, start_of, end_of, row_under, sequence_rows, program_rows, IsSequence, AreSequences, SequencesOf, StartIs, NoEnd, EndsOnce, NextPiece, NoPiece, NextSequence}
+use Rattle.gimli_lines_machine.specs.Repetition.{answer}
+use Rattle.gimli_lines_rows.specs.ProgramRows.{Row, RemainingRows, last_row, next_step, NextRow, ToNextRow, Path}
+use Rattle.gimli_lines_rows.specs.RowSequences.{RowSequence, registers_of, pieces_after, pieces, start_of, end_of, program_rows, IsSequence, AreSequences, SequencesOf, StartIs, NoEnd, EndsOnce, NextPiece, NoPiece, NextSequence}
 use Rattle.gimli_lines_rows.proofs.RowPaths.{path_comes, path_path}
 use Rattle.gimli_lines_rows.proofs.LineRowSteps.{step_end}
-use Rattle.gimli_lines_rows.proofs.ResumedRows.{Took, path_took, path_rules, path_smaller, resumed_rows}
+use Rattle.gimli_lines_rows.proofs.ResumedRows.{path_took, path_rules, path_smaller, resumed_rows}
 
 abbrev Rows : Type 0
 Rows = List Registers
@@ -68,20 +68,20 @@ end_at_end (s ∷ t ∷ rows) r = end_at_end (t ∷ rows) r
 -- ---- one sequence
 
 -- the rows so far of a sequence that began at one state and stands at another
-pub record Searched (limit : ℕ) (start_address : Option ℕ) (old now : RowsLeft) : Type 0 where
+pub record Searched (limit : ℕ) (start_address : Option ℕ) (old now : RemainingRows) : Type 0 where
   pub rows : List Row
   pub path : Path limit old rows now
   pub none_ends : NoEnd (map registers_of rows)
   pub starts : StartIs start_address (map registers_of rows)
 
-pub searched_none : (limit : ℕ) (s : RowsLeft) → Path limit s [] s → Searched limit None s s
+pub searched_none : (limit : ℕ) (s : RemainingRows) → Path limit s [] s → Searched limit None s s
 searched_none limit s p = record { rows = []; path = p; none_ends = no_end_none; starts = refl }
 
 registers_more : (rows : List Row) (r : Row) → map registers_of (rows ++ r ∷ []) ≡ map registers_of rows ++ r.registers
     ∷ []
 registers_more rows r = map-append registers_of rows (r ∷ [])
 
-pub searched_more : (limit : ℕ) (o : Option ℕ) (old mid new : RowsLeft) → Searched limit o old mid
+pub searched_more : (limit : ℕ) (o : Option ℕ) (old mid new : RemainingRows) → Searched limit o old mid
     → Path limit mid (last_row new ∷ []) new → new.last.end_sequence ≡ false
     → Searched limit (option_or o (Some new.last.address)) old new
 searched_more limit o old mid new s p is =
@@ -95,27 +95,27 @@ searched_more limit o old mid new s p is =
     }
 
 -- the bytes of a path
-pub path_holds : {limit : ℕ} {s u : RowsLeft} {rows : List Row} → Path limit s rows u → Holds s.left u.left
+pub path_holds : {limit : ℕ} {s u : RemainingRows} {rows : List Row} → Path limit s rows u → Holds s.rest u.rest
 path_holds {s = s} {u = u} p =
     let t = path_took p in
-    let fits : t.count ≤ bytes_left s.left = t.fits in
-    let place : u.left.first ≡ s.left.first + t.count = ap (λ (v : View). v.first) t.rest in
-    let left : bytes_left u.left ≡ bytes_left s.left - t.count = ap bytes_left t.rest
-    ∙ length-drop t.count s.left.bytes in
+    let fits : t.count ≤ bytes_left s.rest = t.fits in
+    let place : u.rest.first ≡ s.rest.first + t.count = ap (λ (v : View). v.first) t.rest in
+    let left : bytes_left u.rest ≡ bytes_left s.rest - t.count = ap bytes_left t.rest
+    ∙ length-drop t.count s.rest.bytes in
     (omega arith, omega arith)
 
-pub path_count : {limit : ℕ} {s u : RowsLeft} {rows : List Row} → (p : Path limit s rows u)
-    → u.left.first - s.left.first ≡ (path_took p).count
+pub path_count : {limit : ℕ} {s u : RemainingRows} {rows : List Row} → (p : Path limit s rows u)
+    → u.rest.first - s.rest.first ≡ (path_took p).count
 path_count {s = s} {u = u} p =
     let t = path_took p in
-    let place : u.left.first ≡ s.left.first + t.count = ap (λ (v : View). v.first) t.rest in
+    let place : u.rest.first ≡ s.rest.first + t.count = ap (λ (v : View). v.first) t.rest in
     omega arith
 
 -- the piece of a row that ends it
-pub piece_found : (limit : ℕ) (o : Option ℕ) (old mid new : RowsLeft) (q : SequenceLeft) → Searched limit o old mid
+pub piece_found : (limit : ℕ) (o : Option ℕ) (old mid new : RemainingRows) (q : RowSequence) → Searched limit o old mid
     → Path limit mid (last_row new ∷ []) new → new.registers ≡ after_row (rules_of new.header) new.last
     → new.last.end_sequence ≡ true → q.start ≡ unwrap_or o 0 → q.end ≡ new.last.address
-    → q.left ≡ prefix (new.left.first - old.left.first) old.left → NextPiece limit q old new
+    → q.instructions ≡ prefix (new.rest.first - old.rest.first) old.rest → NextPiece limit q old new
 piece_found limit o old mid new q s p clear is starts ends taken =
     let same = registers_more s.rows (last_row new) in
     record {
@@ -124,14 +124,15 @@ piece_found limit o old mid new q s p clear is starts ends taken =
       piece = subst EndsOnce (sym same) (ends_once (map registers_of s.rows) new.last s.none_ends is);
       starts = starts ∙ start_at_end (map registers_of s.rows) new.last o s.starts is ∙ ap start_of (sym same);
       ends = ends ∙ sym (end_at_end (map registers_of s.rows) new.last) ∙ ap end_of (sym same);
-      taken = taken;
+      instructions = taken;
       begins = clear ∙ ap (λ (b : Bool). cond b (start (rules_of new.header)) (row_kept new.last)) is;
     }
   where
     row_kept : Registers → Registers
     row_kept r = record r { basic_block = false; prologue_end = false; epilogue_begin = false; discriminator = 0 }
 
-pub piece_none : (limit : ℕ) (o : Option ℕ) (old mid new : RowsLeft) → Searched limit o old mid → Path limit mid [] new
+pub piece_none : (limit : ℕ) (o : Option ℕ) (old mid new : RemainingRows) → Searched limit o old mid
+    → Path limit mid [] new
     → next_step limit new ≡ Ok (None, new) → NoPiece limit old new
 piece_none limit o old mid new s p ended =
     let same : s.rows ++ [] ≡ s.rows = append-nil s.rows in
@@ -139,7 +140,7 @@ piece_none limit o old mid new s p ended =
       rows = s.rows;
       path = subst (λ (rows : List Row). Path limit old rows new) same (path_path s.path p);
       none_ends = s.none_ends;
-      ended = ended;
+      at_end = ended;
     }
 
 answers_joined : (xs ys : List Row) (end : List (Result Row Error)) → map answer xs ++ (map answer ys ++ end)
@@ -148,7 +149,7 @@ answers_joined xs ys end = sym (append_assoc (map answer xs) (map answer ys) end
     ∙ ap (λ (zs : List (Result Row Error)). zs ++ end) (sym (map-append answer xs ys))
 
 -- a fault on the way
-pub piece_fault : (limit : ℕ) (r : Result (Option SequenceLeft) Error) (o : Option ℕ) (old mid new : RowsLeft)
+pub piece_fault : (limit : ℕ) (r : Result (Option RowSequence) Error) (o : Option ℕ) (old mid new : RemainingRows)
     (d : Error) → IsErrAnd r (λ e. e ≡ d) → Searched limit o old mid → NextRow limit (Err d) mid new
     → NextSequence limit r old new
 piece_fault limit (Ok x) o old mid new d h s next = absurd h
@@ -161,7 +162,7 @@ piece_fault limit (Err e) o old mid new d h s next = λ ne. (
 -- ---- all sequences
 
 -- sequences that are resumed alike under every header of these rules
-abbrev pub AreResumed : ℕ → LineHeader → List Rows → List SequenceLeft → Type 0
+abbrev pub AreResumed : ℕ → LineHeader → List Rows → List RowSequence → Type 0
 AreResumed limit h0 [] [] = Unit {0}
 AreResumed limit h0 (p ∷ ps) (q ∷ qs) =
     ((h : LineHeader) → rules_of h ≡ rules_of h0 → h.standard_opcode_lengths.bytes ≡ h0.standard_opcode_lengths.bytes
@@ -170,7 +171,7 @@ AreResumed limit h0 (p ∷ ps) (q ∷ qs) =
 AreResumed limit h0 [] (q ∷ qs) = ⊥
 AreResumed limit h0 (p ∷ ps) [] = ⊥
 
-resumed_more : (limit : ℕ) (h0 : LineHeader) (ps : List Rows) (qs : List SequenceLeft) (p : Rows) (q : SequenceLeft)
+resumed_more : (limit : ℕ) (h0 : LineHeader) (ps : List Rows) (qs : List RowSequence) (p : Rows) (q : RowSequence)
     → AreResumed limit h0 ps qs → AreResumed limit h0 (p ∷ []) (q ∷ [])
     → AreResumed limit h0 (ps ++ p ∷ []) (qs ++ q ∷ [])
 resumed_more limit h0 [] [] p q all one = one
@@ -178,7 +179,7 @@ resumed_more limit h0 (a ∷ ps) (b ∷ qs) p q all one = (all.0, resumed_more l
 resumed_more limit h0 [] (b ∷ qs) p q all one = absurd all
 resumed_more limit h0 (a ∷ ps) [] p q all one = absurd all
 
-sequences_under : (limit : ℕ) (h0 h : LineHeader) (ps : List Rows) (qs : List SequenceLeft) → rules_of h ≡ rules_of h0
+sequences_under : (limit : ℕ) (h0 h : LineHeader) (ps : List Rows) (qs : List RowSequence) → rules_of h ≡ rules_of h0
     → h.standard_opcode_lengths.bytes ≡ h0.standard_opcode_lengths.bytes → AreResumed limit h0 ps qs
     → AreSequences limit h ps qs
 sequences_under limit h0 h [] [] same counts all = tt
@@ -188,7 +189,7 @@ sequences_under limit h0 h [] (q ∷ qs) same counts all = absurd all
 sequences_under limit h0 h (p ∷ ps) [] same counts all = absurd all
 
 -- the sequences so far
-pub record Found (limit : ℕ) (old now : RowsLeft) (qs : List SequenceLeft) : Type 0 where
+pub record Found (limit : ℕ) (old now : RemainingRows) (qs : List RowSequence) : Type 0 where
   pub rows : List Row
   pub path : Path limit old rows now
   pub pieces_found : List Rows
@@ -196,13 +197,13 @@ pub record Found (limit : ℕ) (old now : RowsLeft) (qs : List SequenceLeft) : T
   pub each : AreResumed limit old.header pieces_found qs
   pub begins : now.registers ≡ start (rules_of now.header)
 
-pub sequences_none : (limit : ℕ) (s : RowsLeft) → Path limit s [] s → s.registers ≡ start (rules_of s.header)
+pub sequences_none : (limit : ℕ) (s : RemainingRows) → Path limit s [] s → s.registers ≡ start (rules_of s.header)
     → Found limit s s []
 sequences_none limit s p begins =
     record { rows = []; path = p; pieces_found = []; cuts = λ more. refl; each = tt; begins = begins }
 
 -- a piece is resumed under every header of the rules
-piece_resumed : (limit : ℕ) (old mid new : RowsLeft) (q : SequenceLeft) → (f : NextPiece limit q mid new)
+piece_resumed : (limit : ℕ) (old mid new : RemainingRows) (q : RowSequence) → (f : NextPiece limit q mid new)
     → rules_of mid.header ≡ rules_of old.header → mid.header.standard_opcode_lengths.bytes
     ≡ old.header.standard_opcode_lengths.bytes → mid.registers ≡ start (rules_of mid.header) → (h : LineHeader)
     → rules_of h ≡ rules_of old.header → h.standard_opcode_lengths.bytes ≡ old.header.standard_opcode_lengths.bytes
@@ -212,11 +213,12 @@ piece_resumed limit old mid new q f same counts begins h same_h counts_h =
     record {
       starts = f.starts;
       ends = f.ends;
-      resumes = resumed_rows f.path h (start (rules_of h)) (start (rules_of h)) q.left (new.left.first - mid.left.first)
-          rules (counts_h ∙ sym counts) (ap start rules ∙ sym begins) (path_count f.path) f.taken;
+      resumes = resumed_rows f.path h (start (rules_of h)) (start (rules_of h)) q.instructions
+          (new.rest.first - mid.rest.first)
+          rules (counts_h ∙ sym counts) (ap start rules ∙ sym begins) (path_count f.path) f.instructions;
     }
 
-pub sequences_more : (limit : ℕ) (old mid new : RowsLeft) (qs rs : List SequenceLeft) (q : SequenceLeft)
+pub sequences_more : (limit : ℕ) (old mid new : RemainingRows) (qs rs : List RowSequence) (q : RowSequence)
     → Found limit old mid qs → NextPiece limit q mid new → rs ≡ qs ++ q ∷ [] → Found limit old new rs
 sequences_more limit old mid new qs rs q all f pushed =
     let ours = map registers_of all.rows in
@@ -239,8 +241,8 @@ sequences_more limit old mid new qs rs q all f pushed =
     }
 
 -- the end of the program
-pub pieces_found_all : {A : Type 0} (limit : ℕ) (see : A → LineHeader × List SequenceLeft) (x : A) (h : LineHeader)
-    (mid new : RowsLeft) (qs : List SequenceLeft) → Found limit (program_rows h) mid qs → NoPiece limit mid new
+pub pieces_found_all : {A : Type 0} (limit : ℕ) (see : A → LineHeader × List RowSequence) (x : A) (h : LineHeader)
+    (mid new : RemainingRows) (qs : List RowSequence) → Found limit (program_rows h) mid qs → NoPiece limit mid new
     → (see x).0 ≡ new.header → (see x).1 ≡ qs → SequencesOf limit see (Ok x) h
 pieces_found_all limit see x h mid new qs all f header sequences =
     let ours = map registers_of all.rows in
@@ -254,8 +256,8 @@ pieces_found_all limit see x h mid new qs all f header sequences =
     let here = sequences_under limit (program_rows h).header new.header all.pieces_found qs same.0 same.1 all.each in (
       all.rows ++ f.rows,
       path_comes path ∙ ap (λ (xs : List (Result Row Error)). map answer (all.rows ++ f.rows) ++ xs)
-          ((step_end limit new new f.ended).0) ∙ append-nil (map answer (all.rows ++ f.rows)),
-      (new, path, f.ended, header),
+          ((step_end limit new new f.at_end).0) ∙ append-nil (map answer (all.rows ++ f.rows)),
+      (new, path, f.at_end, header),
       subst (λ (g : LineHeader). AreSequences limit g (pieces (map registers_of (all.rows ++ f.rows))) (see x).1)
           (sym header)
           (subst (λ (ps : List Rows). AreSequences limit new.header ps (see x).1) (sym found)
@@ -263,8 +265,8 @@ pieces_found_all limit see x h mid new qs all f header sequences =
     )
 
 -- a fault after the sequences so far
-pub sequences_fault : {A : Type 0} (limit : ℕ) (see : A → LineHeader × List SequenceLeft) (r : Result A Error)
-    (h : LineHeader) (mid new : RowsLeft) (qs : List SequenceLeft) (d : Error) → IsErrAnd r (λ e. e ≡ d)
+pub sequences_fault : {A : Type 0} (limit : ℕ) (see : A → LineHeader × List RowSequence) (r : Result A Error)
+    (h : LineHeader) (mid new : RemainingRows) (qs : List RowSequence) (d : Error) → IsErrAnd r (λ e. e ≡ d)
     → Found limit (program_rows h) mid qs → NextSequence limit (Err d) mid new → SequencesOf limit see r h
 sequences_fault limit see (Ok x) h mid new qs d is all next = absurd is
 sequences_fault limit see (Err e) h mid new qs d is all next = λ ne.
@@ -278,8 +280,8 @@ sequences_fault limit see (Err e) h mid new qs d is all next = λ ne.
 -- ---- measures
 
 -- a row was shown
-pub row_smaller : (limit : ℕ) (s u : RowsLeft) → Path limit s (last_row u ∷ []) u
-    → bytes_left u.left < bytes_left s.left
+pub row_smaller : (limit : ℕ) (s u : RemainingRows) → Path limit s (last_row u ∷ []) u
+    → bytes_left u.rest < bytes_left s.rest
 row_smaller limit s u p = path_smaller p (λ none. absurd cc)
 
 some_rows : (rows : List Row) → EndsOnce (map registers_of rows) → rows ≢ []
@@ -289,17 +291,17 @@ some_rows [] once = absurd (none_some (once [] []))
     none_some k = cc
 some_rows (r ∷ rows) once = λ none. absurd cc
 
-pub piece_smaller : (limit : ℕ) (q : SequenceLeft) (old new : RowsLeft) → NextPiece limit q old new
-    → bytes_left new.left < bytes_left old.left
+pub piece_smaller : (limit : ℕ) (q : RowSequence) (old new : RemainingRows) → NextPiece limit q old new
+    → bytes_left new.rest < bytes_left old.rest
 piece_smaller limit q old new f = path_smaller f.path (some_rows f.rows f.piece)
 
 -- ---- what calls answered
 
-pub path_to_row : (limit : ℕ) (old new : RowsLeft) (b : Bool) → b ≡ true → ToNextRow limit (Ok b) old new
+pub path_to_row : (limit : ℕ) (old new : RemainingRows) (b : Bool) → b ≡ true → ToNextRow limit (Ok b) old new
     → Path limit old (last_row new ∷ []) new × (new.registers ≡ after_row (rules_of new.header) new.last)
 path_to_row limit old new b is h = subst (λ (x : Bool). ToNextRow limit (Ok x) old new) is h
 
-pub path_to_end : (limit : ℕ) (old new : RowsLeft) (b : Bool) → b ≡ false → ToNextRow limit (Ok b) old new
+pub path_to_end : (limit : ℕ) (old new : RemainingRows) (b : Bool) → b ≡ false → ToNextRow limit (Ok b) old new
     → Path limit old [] new × (next_step limit new ≡ Ok (None, new))
 path_to_end limit old new b is h = subst (λ (x : Bool). ToNextRow limit (Ok x) old new) is h
 
@@ -313,21 +315,21 @@ up_to_is before rest old new field same behind e =
     sym is ∙ ap (λ (v : View). prefix (rest.first - v.first) v) same
     ∙ ap (λ (v : View). prefix (v.first - old.first) old) behind
 
-pub next_some : (limit : ℕ) (o : Option SequenceLeft) (q : SequenceLeft) (old new : RowsLeft) → o ≡ Some q
+pub next_some : (limit : ℕ) (o : Option RowSequence) (q : RowSequence) (old new : RemainingRows) → o ≡ Some q
     → NextSequence limit (Ok o) old new → NextPiece limit q old new
-next_some limit o q old new is h = subst (λ (x : Option SequenceLeft). NextSequence limit (Ok x) old new) is h
+next_some limit o q old new is h = subst (λ (x : Option RowSequence). NextSequence limit (Ok x) old new) is h
 
-pub next_ended : (limit : ℕ) (o : Option SequenceLeft) (old new : RowsLeft) → o ≡ None
+pub next_ended : (limit : ℕ) (o : Option RowSequence) (old new : RemainingRows) → o ≡ None
     → NextSequence limit (Ok o) old new → NoPiece limit old new
-next_ended limit o old new is h = subst (λ (x : Option SequenceLeft). NextSequence limit (Ok x) old new) is h
+next_ended limit o old new is h = subst (λ (x : Option RowSequence). NextSequence limit (Ok x) old new) is h
 
-abbrev rows_ok : RowsLeft → Result RowsLeft Error
+abbrev rows_ok : RemainingRows → Result RemainingRows Error
 rows_ok s = Ok s
 
-pub rows_are : (s t : RowsLeft) → rows_ok s ≡ Ok t → s ≡ t
+pub rows_are : (s t : RemainingRows) → rows_ok s ≡ Ok t → s ≡ t
 rows_are s t e = cc
 
-pub memory_refused : {A : Type 0} (limit : ℕ) (see : A → LineHeader × List SequenceLeft) (r : Result A Error)
+pub memory_refused : {A : Type 0} (limit : ℕ) (see : A → LineHeader × List RowSequence) (r : Result A Error)
     (h : LineHeader) → IsErrAnd r (λ e. e ≡ Memory) → SequencesOf limit see r h
 memory_refused limit see (Ok x) h is = absurd is
 memory_refused limit see (Err e) h is = λ ne. absurd (ne is)

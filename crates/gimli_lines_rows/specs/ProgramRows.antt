@@ -4,11 +4,11 @@ use Rattle.std.specs.Prelude.{◌≡◌, ◌≢◌, ℕ, Bool, ◌&&◌, not, Li
 use Rattle.gimli_lines_machine.specs.Error.{Error}
 use Rattle.gimli_lines_machine.specs.Error.TheVariants.{Memory}
 use Rattle.gimli_lines_machine.specs.View.{View, prefix}
-use Rattle.gimli_lines_machine.specs.Repetition.{Listing}
+use Rattle.gimli_lines_machine.specs.Repetition.{Listing, answer, last_answer}
 use Rattle.gimli_lines_header.specs.LineFiles.{FileFacts}
 use Rattle.gimli_lines_header.specs.LineHeaders.{LineHeader, with_file}
 use Rattle.gimli_lines_machine.specs.declared.registers.Registers.{Registers}
-use Rattle.gimli_lines_machine.specs.LineInstructions.{InstructionOf, special, copy, advance_pc, advance_line, set_file, set_column, negate_stmt, set_basic_block, const_add_pc, fixed_advance_pc, set_prologue_end, set_epilogue_begin, set_isa, unknown_standard_0, unknown_standard_1, unknown_standard_n, end_sequence, set_address, define_file, set_discriminator, unknown_extended}
+use Rattle.gimli_lines_machine.specs.LineInstructions.{InstructionOf, define_file}
 use Rattle.gimli_lines_machine.specs.Machine.{gives_row, registers_after, next_registers, after_row}
 use Rattle.gimli_lines_machine.specs.Runs.{Execution, run, is_shown}
 use Rattle.gimli_lines_rows.specs.ProgramInstructions.{rules_of, instructions_in, next_instruction, with_rest}
@@ -65,31 +65,22 @@ program_run limit h r v = with_ending (instructions_in limit h v).ending
 
 -- Its header, whether the program takes files, the registers before the next instruction, the last
 -- row, and the bytes from the next instruction on.
-pub record RowsLeft : Type 0 where
+pub record RemainingRows : Type 0 where
   pub header : LineHeader
   pub takes_files : Bool
   pub registers : Registers
   pub last : Registers
-  pub left : View
-
--- a row, as it is answered
-abbrev pub answer : Row → Result Row Error
-answer row = Ok row
-
--- the fault that ends a run, if one does
-abbrev pub last_answer : {S : Type 0} → Result S Error → List (Result Row Error)
-last_answer (Ok s) = []
-last_answer (Err e) = Err e ∷ []
+  pub rest : View
 
 -- the rows of a run, and the fault that ends it
-abbrev pub answers_of : Bool → LineHeader → Listing Registers (Execution FileFacts)
+abbrev pub row_answers : Bool → LineHeader → Listing Registers (Execution FileFacts)
     → List (Result Row Error)
-answers_of takes_files h l = map answer (rows_of_run takes_files h l.items) ++ last_answer l.ending
+row_answers takes_files h l = map answer (rows_of_run takes_files h l.items) ++ last_answer l.ending
 
--- what it answers from here on: the rows, and the fault that ends them
-abbrev pub rows_to_come : ℕ → RowsLeft → List (Result Row Error)
+-- what a reader answers from here on: the rows, and the fault that ends them
+abbrev pub rows_to_come : ℕ → RemainingRows → List (Result Row Error)
 rows_to_come limit s =
-    answers_of s.takes_files s.header (program_run limit s.header s.registers s.left)
+    row_answers s.takes_files s.header (program_run limit s.header s.registers s.rest)
 
 -- ---- steps
 
@@ -98,50 +89,50 @@ abbrev pub is_shown_by : InstructionOf FileFacts → Registers → Bool
 is_shown_by i after = gives_row i && not after.is_hidden
 
 -- the state after an instruction that left the registers so, where w follows it
-abbrev pub state_after : RowsLeft → InstructionOf FileFacts → View → Registers → RowsLeft
+abbrev pub state_after : RemainingRows → InstructionOf FileFacts → View → Registers → RemainingRows
 state_after s i w after = record {
   header = header_after s.takes_files i s.header;
   takes_files = s.takes_files;
   registers = next_registers (rules_of s.header) i after;
   last = if is_shown_by i after then after else s.last;
-  left = w;
+  rest = w;
 }
 
 -- the step of an instruction, where it is executed to these registers
-abbrev pub step_to : RowsLeft → InstructionOf FileFacts → View → Result Registers Error
-    → Result (Option Bool × RowsLeft) Error
+abbrev pub step_to : RemainingRows → InstructionOf FileFacts → View → Result Registers Error
+    → Result (Option Bool × RemainingRows) Error
 step_to s i w (Ok after) = Ok (Some (is_shown_by i after), state_after s i w after)
 step_to s i w (Err e) = Err e
 
 -- the step of what was read
-abbrev pub step_of : RowsLeft → Result (Option (InstructionOf FileFacts × View)) Error
-    → Result (Option Bool × RowsLeft) Error
+abbrev pub step_of : RemainingRows → Result (Option (InstructionOf FileFacts × View)) Error
+    → Result (Option Bool × RemainingRows) Error
 step_of s (Ok None) = Ok (None, s)
 step_of s (Ok (Some p)) = step_to s p.0 p.1 (registers_after (rules_of s.header) p.0 s.registers)
 step_of s (Err e) = Err e
 
 -- The next instruction, executed: whether it shows a row, and the state after it; none at the end
 -- of the program.
-abbrev pub next_step : ℕ → RowsLeft → Result (Option Bool × RowsLeft) Error
-next_step limit s = step_of s (with_rest (next_instruction limit s.header s.left))
+abbrev pub next_step : ℕ → RemainingRows → Result (Option Bool × RemainingRows) Error
+next_step limit s = step_of s (with_rest (next_instruction limit s.header s.rest))
 
 -- ---- calls
 
 -- A call that takes a step; after a fault no instructions are left, and out of memory changes
 -- nothing.
-abbrev pub OneStep : ℕ → Result (Option Bool) Error → RowsLeft → RowsLeft → Type 0
-OneStep limit (Ok done) old new = next_step limit old ≡ Ok (done, new)
+abbrev pub OneStep : ℕ → Result (Option Bool) Error → RemainingRows → RemainingRows → Type 0
+OneStep limit (Ok o) old new = next_step limit old ≡ Ok (o, new)
 OneStep limit (Err e) old new =
-    (e ≢ Memory → (next_step limit old ≡ Err e) × (new ≡ record old { left = prefix 0 old.left }))
+    (e ≢ Memory → (next_step limit old ≡ Err e) × (new ≡ record old { rest = prefix 0 old.rest }))
     × (e ≡ Memory → new ≡ old)
 
--- the last row, as it is given
-abbrev pub last_row : RowsLeft → Row
+-- the last row, with the header
+abbrev pub last_row : RemainingRows → Row
 last_row s = record { header = s.header; registers = s.last }
 
 -- The next row is the first that was to come: where there is none, none is to come; out of memory
 -- leaves all to come.
-abbrev pub NextRow : ℕ → Result Bool Error → RowsLeft → RowsLeft → Type 0
+abbrev pub NextRow : ℕ → Result Bool Error → RemainingRows → RemainingRows → Type 0
 NextRow limit (Ok b) old new =
     MatchBool b (rows_to_come limit old ≡ Ok (last_row new) ∷ rows_to_come limit new)
     ((rows_to_come limit old ≡ []) × (rows_to_come limit new ≡ []))
@@ -150,16 +141,16 @@ NextRow limit (Err e) old new =
     × (e ≡ Memory → rows_to_come limit new ≡ rows_to_come limit old)
 
 -- Instructions lead from one state to another, and show these rows on the way.
-pub data Path (limit : ℕ) : RowsLeft → List Row → RowsLeft → Type 0 where
-  stays : (s : RowsLeft) → Path limit s [] s
-  shows : (s t u : RowsLeft) (rows : List Row) → next_step limit s ≡ Ok (Some true, t)
+pub data Path (limit : ℕ) : RemainingRows → List Row → RemainingRows → Type 0 where
+  stays : (s : RemainingRows) → Path limit s [] s
+  shows : (s t u : RemainingRows) (rows : List Row) → next_step limit s ≡ Ok (Some true, t)
       → Path limit t rows u → Path limit s (last_row t ∷ rows) u
-  passes : (s t u : RowsLeft) (rows : List Row) → next_step limit s ≡ Ok (Some false, t)
+  passes : (s t u : RemainingRows) (rows : List Row) → next_step limit s ≡ Ok (Some false, t)
       → Path limit t rows u → Path limit s rows u
 
 -- The way to the next row, after which what holds for it alone is cleared; or to the end of the
 -- program.
-abbrev pub ToNextRow : ℕ → Result Bool Error → RowsLeft → RowsLeft → Type 0
+abbrev pub ToNextRow : ℕ → Result Bool Error → RemainingRows → RemainingRows → Type 0
 ToNextRow limit (Ok b) old new =
     Path limit old (if b then last_row new ∷ [] else []) new
     × MatchBool b (new.registers ≡ after_row (rules_of new.header) new.last)
@@ -175,12 +166,12 @@ LendsRow see (Ok (Some p)) rows = (rest : List (Result Row Error))
     × (rows ≡ Ok (record { header = (see p).0; registers = (see p).1 }) ∷ rest)
 LendsRow see (Err e) rows = e ≢ Memory → rows ≡ Err e ∷ []
 
--- An executed instruction makes what is meant of the registers, and says whether it gives a row;
--- refused, they are as before.
+-- An instruction is executed: the registers become its meaning, and the result says whether it
+-- gives a row; refused, they are as before.
 abbrev pub Executes : Result Bool Error → Registers → Registers → Result Registers Error
     → InstructionOf FileFacts → Type 0
-Executes (Ok b) old new meant i = (meant ≡ Ok new) × (b ≡ gives_row i)
-Executes (Err e) old new meant i = (e ≢ Memory → meant ≡ Err e) × (new ≡ old)
+Executes (Ok b) old new meaning i = (meaning ≡ Ok new) × (b ≡ gives_row i)
+Executes (Err e) old new meaning i = (e ≢ Memory → meaning ≡ Err e) × (new ≡ old)
 
 -- the header after it; refused, it is as before
 abbrev pub HeaderAfter : Result Bool Error → Bool → InstructionOf FileFacts → LineHeader

@@ -12,7 +12,7 @@ use crate::program::LineProgram;
 use gimli_lines_header::LineProgramHeader;
 use gimli_lines_machine::{Error, LineRules, Reader, Registers};
 
-/// What the instructions of a header's program depend on.
+// What the instructions of a header's program depend on.
 pub(crate) fn rules_of<R: Reader>(header: &LineProgramHeader<R>) -> LineRules
     ensures value { result ≡ rules_of header.now }
     ensures sound { IsSound result }
@@ -24,8 +24,8 @@ pub(crate) fn rules_of<R: Reader>(header: &LineProgramHeader<R>) -> LineRules
     }
 }
 
-/// Executes an instruction, and says whether it gives a row. Refused, nothing changes. Takes memory
-/// only for a file that it defines.
+// Executes an instruction, and says whether it gives a row. Refused, nothing changes. Takes memory
+// only for a file that it defines.
 pub(crate) fn execute<R: Reader, P: LineProgram<R>>(
     registers: &mut Registers,
     instruction: LineInstruction<R>,

@@ -18,7 +18,7 @@ use std::marker::Model;
 /// The instructions of a program, from one of them on.
 #[derive(Debug, Drop)]
 pub struct LineInstructions<R: Reader> {
-    /// The bytes from the next instruction on.
+    // The bytes from the next instruction on.
     input: R,
 }
 
@@ -69,7 +69,7 @@ impl<R: Reader> LineInstructions<R> {
         Ok(Some((instruction, LineInstructions { input })))
     }
 
-    /// Those before other ones, which are left of these.
+    /// The instructions before others, which are the last of these.
     pub fn up_to(self, rest: &LineInstructions<R>) -> Result<Self, Error>
         requires { Holds self rest.now }
         ensures { ReturnsOrNoMemory result (Ok (prefix (rest.now.first - self.first) self)) }
@@ -80,7 +80,7 @@ impl<R: Reader> LineInstructions<R> {
         Ok(LineInstructions { input })
     }
 
-    /// A second one.
+    /// A second iterator at the same place.
     pub fn copy(&self) -> Result<Self, Error>
         ensures { ReturnsOrNoMemory result (Ok self.now) }
     {
@@ -88,8 +88,8 @@ impl<R: Reader> LineInstructions<R> {
     }
 
     /// The next instruction, none at the end of the program. After one that can't be read there are
-    /// no more. Takes memory only where a part of the reader does, and moves nothing where there is
-    /// none.
+    /// no more. Takes memory only where a part of the reader does, and changes nothing when out of
+    /// memory.
     pub fn next_instruction(
         &mut self,
         header: &LineProgramHeader<R>,

@@ -1,4 +1,5 @@
-//! Line programs, read: the instructions of a program one after the other, and the rows that they show.
+//! Line programs, read: the instructions of a program one after the other, and the rows that they
+//! show.
 #![tactic(auto)]
 
 mod execution;

@@ -21,7 +21,7 @@ use gimli_lines_machine::{
     DwLns, Error, Reader, ReaderOffset,
 };
 
-/// The instruction at the start. Takes memory only where a part of the reader does.
+// The instruction at the start. Takes memory only where a part of the reader does.
 #[tactic(auto, unfolding(gimli_lines_machine::specs::Decoding::instruction_with))]
 pub(crate) fn parse_instruction<R: Reader>(
     input: &mut R,

@@ -7,10 +7,8 @@ ghost use Rattle.gimli_lines_machine.specs.View.{View};
 ghost use Rattle.gimli_lines_machine.specs.NumberParsers.{is_address_size};
 ghost use Rattle.gimli_lines_header.specs.LineHeaders.{LineHeader};
 ghost use Rattle.gimli_lines_header.specs.HeaderParsing.{header_at};
-ghost use Rattle.gimli_lines_rows.specs.ProgramInstructions.{rules_of};
-ghost use Rattle.gimli_lines_machine.specs.Machine.{start};
 ghost use Rattle.gimli_lines_rows.specs.ProgramRows.{header_with_any, header_with};
-ghost use Rattle.gimli_lines_rows.specs.RowSequences.{SequencesOf, sequence_rows};
+ghost use Rattle.gimli_lines_rows.specs.RowSequences.{SequencesOf, program_rows, sequence_rows};
 
 use crate::rows::LineRows;
 use crate::sequence::{LineSequence, next_sequence};
@@ -144,14 +142,7 @@ impl<R: Reader> IncompleteLineProgram<R> {
 
     /// The rows, from the first on. Takes memory only where a copy of the reader does.
     pub fn rows(self) -> Result<LineRows<R, IncompleteLineProgram<R>>, Error>
-        ensures { ReturnsOrNoMemory result (Ok
-            (record {
-              header = self;
-              takes_files = true;
-              registers = start (rules_of self);
-              last = start (rules_of self);
-              left = self.program;
-            })) }
+        ensures { ReturnsOrNoMemory result (Ok (program_rows self)) }
     {
         LineRows::new(self)
     }
@@ -223,7 +214,7 @@ impl<R: Reader> CompleteLineProgram<R> {
         &self,
         sequence: &LineSequence<R>,
     ) -> Result<LineRows<R, &CompleteLineProgram<R>>, Error>
-        ensures { ReturnsOrNoMemory result (Ok (sequence_rows self.now sequence.now.left)) }
+        ensures { ReturnsOrNoMemory result (Ok (sequence_rows self.now sequence.now.instructions)) }
     {
         Ok(LineRows::over(self, sequence.instructions().copy()?))
     }

@@ -48,7 +48,7 @@ impl LineRow {
         LineRow::of(Registers::start(rules_of(header)))
     }
 
-    /// The row that registers make.
+    // The row that registers make.
     pub(crate) fn of(registers: Registers) -> Self
         ensures { result ≡ registers }
     {
@@ -103,35 +103,35 @@ impl LineRow {
         }
     }
 
-    /// The address is a good place for a breakpoint on the line.
+    /// Whether the address is a good place for a breakpoint on the line.
     pub fn is_stmt(&self) -> bool
         ensures { result ≡ self.now.is_stmt }
     {
         self.registers.is_stmt
     }
 
-    /// A basic block begins here.
+    /// Whether a basic block begins here.
     pub fn basic_block(&self) -> bool
         ensures { result ≡ self.now.basic_block }
     {
         self.registers.basic_block
     }
 
-    /// The address is the first one after a sequence, and the row has no other meaning.
+    /// Whether the address is the first one after a sequence, and the row has no other meaning.
     pub fn end_sequence(&self) -> bool
         ensures { result ≡ self.now.end_sequence }
     {
         self.registers.end_sequence
     }
 
-    /// The address is a good place for a breakpoint at a function's entry.
+    /// Whether the address is a good place for a breakpoint at a function's entry.
     pub fn prologue_end(&self) -> bool
         ensures { result ≡ self.now.prologue_end }
     {
         self.registers.prologue_end
     }
 
-    /// The address is a good place for a breakpoint at a function's exit.
+    /// Whether the address is a good place for a breakpoint at a function's exit.
     pub fn epilogue_begin(&self) -> bool
         ensures { result ≡ self.now.epilogue_begin }
     {
@@ -145,7 +145,7 @@ impl LineRow {
         self.registers.isa
     }
 
-    /// Tells apart the blocks of one line, 0 where it doesn't.
+    /// Distinguishes the blocks of one line; 0 where there is one.
     pub fn discriminator(&self) -> u64
         ensures { result ≡ self.now.discriminator }
     {

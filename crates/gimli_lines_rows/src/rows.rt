@@ -2,9 +2,8 @@
 
 ghost use Rattle.std.specs.Prelude.{◌≡◌, Ok};
 ghost use Rattle.gimli_lines_machine.specs.Calls.{ReturnsOrNoMemory, ReadsOrNoMemory};
-ghost use Rattle.gimli_lines_rows.specs.ProgramInstructions.{rules_of};
-ghost use Rattle.gimli_lines_machine.specs.Machine.{start};
 ghost use Rattle.gimli_lines_rows.specs.ProgramRows.{NextRow, ToNextRow, OneStep, LendsRow, rows_to_come, next_step};
+ghost use Rattle.gimli_lines_rows.specs.RowSequences.{rows_under};
 
 use crate::LineInstructions;
 use crate::execution::{execute, rules_of};
@@ -19,53 +18,39 @@ use std::marker::Model;
 pub struct LineRows<R: Reader, P: LineProgram<R> + Drop> {
     program: P,
     instructions: LineInstructions<R>,
-    /// The registers before the next instruction.
+    // The registers before the next instruction.
     registers: Registers,
-    /// The last row.
+    // The last row.
     row: LineRow,
 }
 
 impl<R: Reader, P: LineProgram<R> + Drop> Model for LineRows<R, P> {
-    ghost use Rattle.gimli_lines_rows.specs.ProgramRows.{RowsLeft};
+    ghost use Rattle.gimli_lines_rows.specs.ProgramRows.{RemainingRows};
 
-    ghost Value = { RowsLeft };
+    ghost Value = { RemainingRows };
 
     ghost view = { λ r. record {
       header = P.header_of r.program;
       takes_files = P.takes_files;
       registers = r.registers;
       last = r.row;
-      left = r.instructions;
+      rest = r.instructions;
     } };
 }
 
 impl<R: Reader, P: LineProgram<R> + Drop> LineRows<R, P> {
-    /// The rows of a program that begins its instructions.
+    // The rows of a program from its first instruction on.
     pub(crate) fn new(program: P) -> Result<Self, Error>
-        ensures { ReturnsOrNoMemory result (Ok
-            (record {
-              header = P.header_of program;
-              takes_files = P.takes_files;
-              registers = start (rules_of (P.header_of program));
-              last =
-                  start (rules_of (P.header_of program));
-              left = (P.header_of program).program;
-            })) }
+        ensures { ReturnsOrNoMemory result
+            (Ok (rows_under P.takes_files (P.header_of program) (P.header_of program).program)) }
     {
         let instructions = LineInstructions::new(program.header().raw_program_buf()?);
         Ok(LineRows::over(program, instructions))
     }
 
-    /// The rows that instructions make from the start of a sequence on.
+    // The rows that instructions make from the start of a sequence on.
     pub(crate) fn over(program: P, instructions: LineInstructions<R>) -> Self
-        ensures { result ≡ record {
-          header = P.header_of program;
-          takes_files = P.takes_files;
-          registers = start (rules_of (P.header_of program));
-          last =
-              start (rules_of (P.header_of program));
-          left = instructions;
-        } }
+        ensures { result ≡ rows_under P.takes_files (P.header_of program) instructions }
     {
         let registers = Registers::start(rules_of(program.header()));
         LineRows {
@@ -85,12 +70,12 @@ impl<R: Reader, P: LineProgram<R> + Drop> LineRows<R, P> {
 
     /// The instructions that are left.
     pub fn instructions(&self) -> &LineInstructions<R>
-        ensures { result.now ≡ self.now.left }
+        ensures { result.now ≡ self.now.rest }
     {
         &self.instructions
     }
 
-    /// The program, with the files that were defined so far.
+    // The program, with the files that were defined so far.
     pub(crate) fn into_program(self) -> P
         ensures { P.header_of result ≡ self.header }
     {
@@ -132,8 +117,8 @@ impl<R: Reader, P: LineProgram<R> + Drop> LineRows<R, P> {
         }
     }
 
-    /// Executes the next instruction, and says whether it shows a row; none at the end of the
-    /// program. After a fault there are none. Out of memory, nothing changes.
+    // Executes the next instruction, and says whether it shows a row; none at the end of the
+    // program and after a fault. Out of memory, nothing changes.
     fn step(&mut self) -> Result<Option<bool>, Error>
         ensures { OneStep R.Offset.limit result self.old self.new }
     {
@@ -147,7 +132,7 @@ impl<R: Reader, P: LineProgram<R> + Drop> LineRows<R, P> {
         }
     }
 
-    /// The same; refused, nothing changes.
+    // The same; refused, nothing changes.
     fn try_step(&mut self) -> Result<Option<bool>, Error>
         ensures { ReadsOrNoMemory result self.old self.new (next_step R.Offset.limit self.old) }
     {

@@ -20,17 +20,17 @@ pub struct LineSequence<R: Reader> {
 }
 
 impl<R: Reader> Model for LineSequence<R> {
-    ghost use Rattle.gimli_lines_rows.specs.RowSequences.{SequenceLeft};
+    ghost use Rattle.gimli_lines_rows.specs.RowSequences.{RowSequence};
 
-    ghost Value = { SequenceLeft };
+    ghost Value = { RowSequence };
 
-    ghost view = { λ s. record { start = s.start; end = s.end; left = s.instructions } };
+    ghost view = { λ s. record { start = s.start; end = s.end; instructions = s.instructions } };
 }
 
 impl<R: Reader> LineSequence<R> {
-    /// The instructions that make the rows.
+    // The instructions that make the rows.
     pub(crate) fn instructions(&self) -> &LineInstructions<R>
-        ensures { result.now ≡ self.now.left }
+        ensures { result.now ≡ self.now.instructions }
     {
         &self.instructions
     }

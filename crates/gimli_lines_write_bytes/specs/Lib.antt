@@ -19,3 +19,4 @@ pub use Rattle.gimli_core_base.specs.declared.order.RunTimeEndian
 pub mod WriteErrorText
 pub mod OutputBytes
 pub mod NumberBytes
+pub mod BytesAt

@@ -1,8 +1,9 @@
 -- The bytes that are written of numbers, addresses and lengths (DWARF 5, 7.1, 7.3 and 7.4).
-use Rattle.std.specs.Prelude.{ℕ, ℤ, pos, negsuc, ◌+◌, ◌-◌, ◌*◌, ◌^◌, nat_lt, Bool, List, [], ◌∷◌, Result, Ok, Err, if◌then◌else◌}
+use Rattle.std.specs.Prelude.{ℕ, ℤ, pos, negsuc, ◌+◌, ◌-◌, ◌*◌, ◌^◌, nat_lt, Bool, List, [], ◌∷◌, Result, Ok, Err, if◌then◌else◌, ◌++◌}
 use Rattle.gimli_core_base.specs.declared.common.Format.{Format}
 use Rattle.gimli_core_base.specs.declared.common.Format.TheVariants.{Dwarf32, Dwarf64}
 use Rattle.gimli_core_base.specs.Fixed.{number_bytes}
+use Rattle.gimli_core_base.specs.FormatSizes.{word_size}
 use Rattle.gimli_core_base.specs.NumberParsers.{is_address_size}
 use Rattle.gimli_lines_write_bytes.specs.declared.error.Error.{Error}
 use Rattle.gimli_lines_write_bytes.specs.declared.error.Error.TheVariants.{ValueTooLarge, UnsupportedWordSize, InitialLengthOverflow, InvalidAddress}
@@ -16,7 +17,7 @@ bytes_in_width is_big size n =
     else Err ValueTooLarge)
     else Err UnsupportedWordSize
 
--- half of what `size` bytes can spell is above any number of this size, below 0 too
+-- `size` bytes hold a signed number: half of the numbers that they spell are below 0
 abbrev pub fits_signed : ℕ → ℤ → Bool
 fits_signed size (pos n) = nat_lt (2 * n) (256 ^ size)
 fits_signed size (negsuc n) = nat_lt (2 * n) (256 ^ size)
@@ -53,3 +54,12 @@ abbrev pub length_bytes : Bool → Format → ℕ → Result (List ℕ) Error
 length_bytes is_big Dwarf32 n =
     if nat_lt n 0xfffffff0 then Ok (number_bytes is_big 4 n) else Err InitialLengthOverflow
 length_bytes is_big Dwarf64 n = bytes_in_width is_big 8 n
+
+-- the lengths that a format can write
+abbrev pub length_limit : Format → ℕ
+length_limit Dwarf32 = 0xfffffff0
+length_limit Dwarf64 = 2 ^ 64
+
+-- the bytes of such a length, after the escape of 64-bit DWARF
+abbrev pub spelled_length : Format → Bool → ℕ → List ℕ
+spelled_length format is_big n = escape format ++ number_bytes is_big (word_size format) n

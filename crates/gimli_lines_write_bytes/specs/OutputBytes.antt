@@ -25,7 +25,7 @@ replace offset bytes w = record {
   is_big = w.is_big;
 }
 
--- the same where they all stand within what has been written
+-- the same where they are all within what has been written
 abbrev pub replace_within : ℕ → List ℕ → WriterContents → Result WriterContents Error
 replace_within offset bytes w =
     if nat_lt (length w.bytes) offset then Err OffsetOutOfBounds
@@ -37,14 +37,14 @@ abbrev pub replace_result : ℕ → Result (List ℕ) Error → WriterContents �
 replace_result offset (Ok bytes) w = replace_within offset bytes w
 replace_result offset (Err e) w = Err e
 
--- A write that may find no memory, and else is the definition's; refused, it changes nothing.
+-- A write that has this meaning, or is out of memory; refused, it changes nothing.
 abbrev pub Writes : {A : Type 0} → Result A Error → WriterContents → WriterContents
     → Result WriterContents Error → Type 0
-Writes (Ok _) old new written = written ≡ Ok new
-Writes (Err e) old new written = (e ≢ Memory → written ≡ Err e) × (new ≡ old)
+Writes (Ok _) old new meaning = meaning ≡ Ok new
+Writes (Err e) old new meaning = (e ≢ Memory → meaning ≡ Err e) × (new ≡ old)
 
--- A write that takes no memory; refused, it changes nothing.
+-- A write that has this meaning, and takes no memory; refused, it changes nothing.
 abbrev pub Overwrites : {A : Type 0} → Result A Error → WriterContents → WriterContents
     → Result WriterContents Error → Type 0
-Overwrites (Ok _) old new written = written ≡ Ok new
-Overwrites (Err e) old new written = (written ≡ Err e) × (new ≡ old)
+Overwrites (Ok _) old new meaning = meaning ≡ Ok new
+Overwrites (Err e) old new meaning = (meaning ≡ Err e) × (new ≡ old)

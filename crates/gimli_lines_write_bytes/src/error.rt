@@ -1,10 +1,10 @@
 use std::alloc::{AllocError, AllocFailed};
 use std::fmt;
 
-/// Why something wasn't written. Displayed as `W` and the number beside each refusal.
+/// Why something wasn't written. Displayed as `W` and the number that each refusal has here.
 #[derive(Clone, Copy, Debug, PartialEq, Eq)]
 pub enum Error {
-    /// W1: Memory could not be had.
+    /// W1: Out of memory.
     Memory,
     /// W2: A number that doesn't fit its width.
     ValueTooLarge,

@@ -12,7 +12,8 @@ pub use endian_vec::EndianVec;
 pub use error::Error;
 pub use gimli_core_base::constants::{
     DW_FORM_addr, DW_FORM_data4, DW_FORM_data8, DW_FORM_data16, DW_FORM_line_strp,
-    DW_FORM_sec_offset, DW_FORM_string, DW_FORM_strp, DW_FORM_udata, DwForm,
+    DW_FORM_sec_offset, DW_FORM_string, DW_FORM_strp, DW_FORM_udata, DW_RLE_end_of_list,
+    DW_RLE_start_end, DW_UT_compile, DwForm,
 };
 pub use gimli_core_base::leb128::Leb128;
 pub use gimli_core_base::{

@@ -1,4 +1,4 @@
-//! What every writer can do, whatever keeps its bytes.
+//! What every writer can do, wherever its bytes go.
 
 ghost use Rattle.std.specs.Prelude.{◌≡◌, ◌+◌, ◌<◌, ◌^◌, ℕ, Result, Ok, IfOk, length, replicate, ◌++◌, ◌∷◌, []};
 ghost use Rattle.gimli_core_base.specs.FormatSizes.{word_size};
@@ -44,8 +44,8 @@ pub trait Writer {
         ensures { Writes result (contents self.old) (contents self.new)
             (Ok (append bytes.now (contents self.old))) };
 
-    /// Writes bytes over those from an offset on, refused where they don't all stand there. It
-    /// takes no memory.
+    /// Writes bytes over those from an offset on, refused where there are fewer. It takes no
+    /// memory.
     fn write_at(&mut self, offset: usize, bytes: &[u8]) -> Result<(), Error>
         ensures { Overwrites result (contents self.old) (contents self.new)
             (replace_within offset bytes.now (contents self.old)) };
@@ -248,8 +248,8 @@ pub trait Writer {
         }
     }
 
-    /// Writes a length that is now known to its room. In 32-bit DWARF those from 0xfffffff0 on are
-    /// refused.
+    /// Writes a length, once it is known, into its room. In 32-bit DWARF those from 0xfffffff0 on
+    /// are refused.
     final fn write_initial_length_at(
         &mut self,
         offset: InitialLengthOffset,
@@ -266,7 +266,7 @@ pub trait Writer {
         self.write_udata_at(offset.0, length, format.word_size())
     }
 
-    /// A number is written of an address that is known.
+    // A number is written of an address that is known.
     ghost use Rattle.gimli_lines_write_bytes.specs.declared.address.Address.TheVariants.{Constant};
 
     ghost constants: { (n : ℕ) → address_of (Constant n) ≡ Ok n };

@@ -9,7 +9,8 @@ use Rattle.gimli_lines_write_unit.specs.LineFiles.{timestamp_content, size_conte
 use Rattle.gimli_lines_write_unit.specs.WriteError.{Error}
 use Rattle.gimli_lines_write_unit.specs.EntryBytes.{join_bytes}
 use Rattle.gimli_lines_write_unit.specs.HeaderTexts.{form_of, spelled_text}
-use Rattle.gimli_lines_write_unit.specs.EntryFields.{WrittenFile, WrittenField, Details, when, text_field, number_field, digest_field, leading_fields, spelled_fields, spelled_file}
+use Rattle.gimli_lines_write_unit.specs.RowPieces.{when}
+use Rattle.gimli_lines_write_unit.specs.EntryFields.{WrittenFile, WrittenField, Details, text_field, number_field, digest_field, leading_fields, spelled_fields, spelled_file}
 use Rattle.gimli_lines_write_unit.specs.HeaderSpelling.{spelled_file_to_4}
 use Rattle.gimli_lines_write_unit.specs.HeaderBytes.{text_bytes, bytes_after_path, details_bytes, file_bytes_to_4, file_bytes_of_5}
 use Rattle.gimli_lines_write_laws.proofs.SpelledPieces.{Fits, both_parts, same_ok, text_is}

@@ -9,13 +9,12 @@ use Rattle.gimli_lines_write_unit.specs.Fixed.{number_bytes}
 use Rattle.gimli_lines_write_unit.specs.WriteError.{Error}
 use Rattle.gimli_lines_write_unit.specs.WriteError.TheVariants.{InitialLengthOverflow, UnsupportedVersion, NeedVersion}
 use Rattle.gimli_lines_write_unit.specs.Address.{Address}
-use Rattle.gimli_lines_write_unit.specs.NumberBytes.{bytes_in_width, escape, length_bytes}
+use Rattle.gimli_lines_write_unit.specs.NumberBytes.{bytes_in_width, escape, length_bytes, length_limit, spelled_length}
 use Rattle.gimli_lines_write_unit.specs.LineRules.{LineRules}
 use Rattle.gimli_lines_write_unit.specs.LineEntry.{LineEntry}
 use Rattle.gimli_lines_write_unit.specs.BuiltRows.{first_row}
 use Rattle.gimli_lines_write_unit.specs.EntryBytes.{join_bytes, entries_bytes}
-use Rattle.gimli_lines_write_unit.specs.HeaderSpelling.{Tables, spelled_sizes, spelled_header, spelled_body, spelled_length, spelled_unit}
-use Rattle.gimli_lines_write_unit.specs.HeaderReadBack.{length_limit}
+use Rattle.gimli_lines_write_unit.specs.HeaderSpelling.{Tables, spelled_sizes, spelled_header, spelled_body, spelled_unit}
 use Rattle.gimli_lines_write_unit.specs.HeaderBytes.{header_bytes}
 use Rattle.gimli_lines_write_unit.specs.UnitBytes.{body_with_header, body_bytes, with_length, unit_with_length, unit_bytes}
 use Rattle.gimli_lines_write_laws.proofs.SpelledPieces.{both_parts, same_ok, sized_is}

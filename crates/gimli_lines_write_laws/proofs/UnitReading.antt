@@ -10,13 +10,15 @@ use Rattle.gimli_lines_write_unit.proofs.RowsDecoding.{bytes_read}
 use Rattle.gimli_lines_write_unit.specs.HeaderParsing.{line_header}
 use Rattle.gimli_lines_write_unit.specs.HeaderTexts.{WrittenText, in_place, in_strings, in_line_strings, form_of, form_in, IsReadableText, IsEntry}
 use Rattle.gimli_lines_write_unit.specs.EntryFields.{WrittenFile, IsReadableFile}
-use Rattle.gimli_lines_write_unit.specs.HeaderSpelling.{Tables, path_form, source_form, spelled_header, spelled_body, spelled_length, fields_at, header_value}
-use Rattle.gimli_lines_write_unit.specs.HeaderReadBack.{bytes_at, FitsVersion4, FitsVersion5, CanWrite}
+use Rattle.gimli_lines_write_unit.specs.HeaderSpelling.{Tables, path_form, source_form, spelled_header, spelled_body, fields_at, header_value}
+use Rattle.gimli_lines_write_unit.specs.HeaderReadBack.{FitsVersion4, FitsVersion5, CanWrite}
 use Rattle.gimli_lines_write_unit.proofs.LineUnitsAgain.{unit_again}
 use Rattle.gimli_lines_write_laws.specs.UnitReadBack.{IsBelow, FileBelow, HasNoZero, HasBytes, FileReadsBack, records_sources, TablesReadBack, UnitReadsBack}
 use Rattle.gimli_lines_write_laws.proofs.SpelledPieces.{Fits}
 use Rattle.gimli_lines_write_laws.proofs.TableBytes.{DirectoryIs, FileIs, form_at, header_is}
 use Rattle.gimli_lines_write_laws.proofs.UnitBytesAgain.{unit_is}
+use Rattle.gimli_lines_write_unit.specs.BytesAt.{bytes_at}
+use Rattle.gimli_lines_write_unit.specs.NumberBytes.{spelled_length}
 
 -- ---- texts
 
@@ -71,8 +73,8 @@ module _ (rules : LineRules) (t : Tables) (told : TablesReadBack rules.encoding.
   stands_to_4 ds fs old =
       let earlier : nat_le rules.encoding.version 4 ≡ true = le-leb rules.encoding.version 4 old in
       record {
-        directories = λ k d h. entry_stands _ (rw earlier at (ds k d h).0) (told.directories_filled old k d h);
-        paths = λ k d h. entry_stands _ (rw earlier at (fs k d h).0.0) (told.paths_filled old k d h);
+        directories = λ k d h. entry_stands _ (rw earlier at (ds k d h).0) (told.directories_not_empty old k d h);
+        paths = λ k d h. entry_stands _ (rw earlier at (fs k d h).0.0) (told.paths_not_empty old k d h);
       }
 
   -- texts in version 5

@@ -1,3 +1,4 @@
+pub use Rattle.gimli_lines_write_unit.specs.LineDefaults
 pub use Rattle.gimli_lines_write_unit.specs.Encoding
 pub use Rattle.gimli_lines_write_unit.specs.Format
 pub use Rattle.gimli_lines_write_unit.specs.LineEncoding

@@ -1,4 +1,4 @@
--- A unit that was written, read again (DWARF 5, 6.2.4).
+-- A unit that was written reads back (DWARF 5, 6.2.4).
 use Rattle.std.specs.Prelude.{◌≡◌, ℕ, ◌+◌, ◌<◌, ◌^◌, Bool, List, ◌++◌, All, length, Ok}
 use Rattle.gimli_lines_write_unit.specs.LineRules.{LineRules}
 use Rattle.gimli_lines_write_unit.specs.Registers.{Registers}
@@ -7,7 +7,6 @@ use Rattle.gimli_lines_write_unit.specs.HeaderParsing.{LineUnit, line_header}
 use Rattle.gimli_lines_write_unit.specs.HeaderTexts.{WrittenText, in_place, in_strings, in_line_strings}
 use Rattle.gimli_lines_write_unit.specs.EntryFields.{WrittenFile, IsDigest}
 use Rattle.gimli_lines_write_unit.specs.HeaderSpelling.{Tables, fields_at, header_value}
-use Rattle.gimli_lines_write_unit.specs.HeaderReadBack.{bytes_at}
 use Rattle.std.specs.List.{list_any}
 use Rattle.gimli_lines_write_unit.specs.WriteError.{Error}
 use Rattle.gimli_lines_write_unit.specs.Address.{Address}
@@ -17,6 +16,7 @@ use Rattle.gimli_lines_write_unit.specs.BuiltRows.{first_row, follows, rows_of, 
 use Rattle.gimli_lines_write_unit.specs.RowPieces.{IsBuildable}
 use Rattle.gimli_lines_write_unit.specs.UnitBytes.{unit_bytes}
 use Rattle.std.specs.Prelude.{◌==◌, ◌≢◌, ◌≤◌, ◌&&◌, not, nat_le, [], true, false, Result}
+use Rattle.gimli_lines_write_unit.specs.BytesAt.{bytes_at}
 
 -- an offset that a reader can hold
 abbrev pub IsBelow : ℕ → WrittenText → Type 0
@@ -63,8 +63,8 @@ pub record TablesReadBack (version : ℕ) (t : Tables) : Type 0 where
   -- texts of files that aren't recorded are empty
   pub no_sources : records_sources version t ≡ false
       → All (λ (f : WrittenFile). f.source ≡ in_place []) t.files
-  pub directories_filled : version ≤ 4 → All HasBytes t.directories
-  pub paths_filled : version ≤ 4 → All (λ (f : WrittenFile). HasBytes f.path) t.files
+  pub directories_not_empty : version ≤ 4 → All HasBytes t.directories
+  pub paths_not_empty : version ≤ 4 → All (λ (f : WrittenFile). HasBytes f.path) t.files
 
 -- The bytes read as a header with these tables, whatever follows them, for each reader that can
 -- hold their length and the offsets of texts; and the header's program reads as the rows.

@@ -1,4 +1,4 @@
-//! Units of `.debug_line` that were written are read again as what was recorded (DWARF 5, 6.2).
+//! Units of `.debug_line` that were written read back as what was recorded (DWARF 5, 6.2).
 #![tactic(auto)]
 
 pub mod laws;

@@ -1,16 +1,17 @@
 -- A line number program as it is built: directories and files, what is recorded of files, and rows.
-use Rattle.std.specs.Prelude.{◌≡◌, ℕ, nat_le, Bool, true, false, List, [], ◌∷◌, ◌++◌, Result, if◌then◌else◌, negsuc}
+use Rattle.std.specs.Prelude.{◌≡◌, ℕ, nat_le, Bool, true, false, List, [], ◌∷◌, ◌++◌, Result, if◌then◌else◌}
 use Rattle.gimli_lines_write_laws.specs.Encoding.{Encoding}
 use Rattle.gimli_lines_write_laws.specs.Format.TheVariants.{Dwarf32}
 use Rattle.gimli_lines_write_laws.specs.LineEncoding.{LineEncoding}
+use Rattle.gimli_lines_write_laws.specs.LineDefaults.{default_line_encoding}
 use Rattle.gimli_lines_write_laws.specs.LineRules.{LineRules}
 use Rattle.gimli_lines_write_laws.specs.WriteError.{Error}
 use Rattle.gimli_lines_write_laws.specs.Address.{Address}
 use Rattle.gimli_lines_write_laws.specs.OutputBytes.{WriterContents}
 use Rattle.gimli_lines_write_laws.specs.BuiltRows.{first_row, rows_of, IsReadable}
-use Rattle.gimli_lines_write_laws.specs.RowsBuilding.{Building}
+use Rattle.gimli_lines_write_laws.specs.RowsBuilding.{BuilderState}
 use Rattle.gimli_lines_write_laws.specs.FileDetails.{FileDetails}
-use Rattle.gimli_lines_write_laws.specs.HeaderContents.{header_tables, empty_form_of, strings_after, line_strings_after, AllKnown, GainsEmpty}
+use Rattle.gimli_lines_write_laws.specs.HeaderContents.{header_tables, empty_form_of, strings_after, line_strings_after, AllKnown}
 use Rattle.gimli_lines_write_laws.specs.UnitBytes.{unit_bytes}
 use Rattle.gimli_lines_write_laws.specs.UnitReadBack.{TablesReadBack, UnitDecodesTo}
 use Rattle.gimli_lines_write_laws.specs.FileTables.{Text, in_header, File, Info, no_info, ProgramFiles}
@@ -22,7 +23,7 @@ pub record Program : Type 0 where
   pub is_none : Bool
   pub tables : ProgramFiles
   pub details : FileDetails
-  pub rows : Building
+  pub rows : BuilderState
 
 -- the header records no details
 abbrev pub no_details : FileDetails
@@ -34,7 +35,7 @@ rules_with encoding line_encoding =
     record { encoding = encoding; line_encoding = line_encoding; opcode_base = 13 }
 
 -- no rows yet
-abbrev pub no_rows : LineRules → Building
+abbrev pub no_rows : LineRules → BuilderState
 no_rows rules = record {
   rules = rules;
   entries = [];
@@ -66,16 +67,10 @@ new_program encoding line_encoding working_dir source_file = record {
   rows = no_rows (rules_with encoding line_encoding);
 }
 
--- no program: of version 2 in 32-bit format, with addresses of eight bytes
+-- the rules of no program: version 2 in 32-bit format, with addresses of eight bytes
 abbrev pub none_rules : LineRules
-none_rules = rules_with (record { address_size = 8; format = Dwarf32; version = 2 })
-    (record {
-      minimum_instruction_length = 1;
-      maximum_operations_per_instruction = 1;
-      default_is_stmt = true;
-      line_base = negsuc 4;
-      line_range = 14;
-    })
+none_rules =
+    rules_with (record { address_size = 8; format = Dwarf32; version = 2 }) default_line_encoding
 
 -- no program
 abbrev pub none_program : Program

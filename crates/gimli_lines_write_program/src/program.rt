@@ -3,7 +3,8 @@
 ghost use Rattle.std.specs.Prelude.{◌≡◌, ◌≢◌, ◌≤◌, ◌<◌, ℕ, List, ◌++◌, [], ◌==◌, ◌&&◌, true, false, length, map, set, Some, slice_get, option_map, OnOk, OnErr, IfOk, IfErr};
 ghost use Rattle.gimli_lines_write_laws.specs.WriteError.TheVariants.{Memory};
 ghost use Rattle.gimli_lines_write_laws.specs.RowPieces.{IsBuildable};
-ghost use Rattle.gimli_lines_write_laws.specs.FileTables.{Text, text_of, file_of, info_of, is_same, is_same_file, item_index, with_directory, with_file, IsZeroFree, IsFilled};
+ghost use Rattle.gimli_lines_write_laws.specs.FileTables.{Text, text_of, file_of, info_of, is_same, is_same_file, with_directory, with_file, HasNoZero, HasBytes};
+ghost use Rattle.gimli_lines_write_laws.specs.StringSections.{item_index};
 ghost use Rattle.gimli_lines_write_program.specs.BuiltPrograms.{Program, rules_with, no_rows, new_program, none_program, HasItsTexts, program_bytes, ReadsBack, strings_with, line_strings_with};
 ghost use Rattle.gimli_lines_write_laws.specs.BuiltRows.{first_row, row_after_row, can_place, can_follow};
 ghost use Rattle.gimli_lines_write_laws.specs.EntryBytes.{Continues};
@@ -29,13 +30,13 @@ pub struct LineProgram {
     is_none: bool,
     tables: FileTable,
     rows: RowsBuilder,
-    /// Whether files of version 5 tell when they were modified.
+    /// Whether times of last modification are recorded of files, in version 5.
     pub file_has_timestamp: bool,
-    /// Whether files of version 5 tell their sizes.
+    /// Whether sizes are recorded of files, in version 5.
     pub file_has_size: bool,
-    /// Whether files of version 5 tell their digests.
+    /// Whether digests are recorded of files, in version 5.
     pub file_has_md5: bool,
-    /// Whether files of version 5 tell their texts.
+    /// Whether texts are recorded of files, in version 5.
     pub file_has_source: bool,
 }
 
@@ -82,8 +83,8 @@ impl LineProgram {
         source_file: LineString,
     ) -> Result<Self, Error>
         requires buildable { IsBuildable (rules_with encoding line_encoding) }
-        requires working_dir { IsZeroFree (text_of working_dir) }
-        requires source_file { IsZeroFree (text_of source_file) }
+        requires working_dir { HasNoZero (text_of working_dir) }
+        requires source_file { HasNoZero (text_of source_file) }
         ensures ok { IfOk result (λ p. p ≡ new_program encoding line_encoding (text_of working_dir)
             (text_of source_file)) }
         ensures refused { IfErr result (λ e. e ≡ Memory) }
@@ -179,9 +180,9 @@ impl LineProgram {
     /// The id of a directory, which is added where it isn't there. It holds no zero byte, and up to
     /// version 4 it isn't empty, the working directory apart.
     pub fn add_directory(&mut self, directory: LineString) -> Result<DirectoryId, Error>
-        requires zero_free { IsZeroFree (text_of directory) }
-        requires filled { self.old.tables.version ≤ 4 → self.old.tables.directories ≢ []
-            → IsFilled (text_of directory) }
+        requires zero_free { HasNoZero (text_of directory) }
+        requires not_empty { self.old.tables.version ≤ 4 → self.old.tables.directories ≢ []
+            → HasBytes (text_of directory) }
         ensures ok { OnOk result (self.new ≡ record self.old
             { tables = with_directory (text_of directory) self.old.tables }) }
         ensures place { IfOk result (λ id. id.0 ≡ item_index is_same self.old.tables.directories
@@ -209,8 +210,8 @@ impl LineProgram {
         directory: DirectoryId,
         info: Option<FileInfo>,
     ) -> Result<FileId, Error>
-        requires zero_free { IsZeroFree (text_of file) }
-        requires filled { self.old.tables.version ≤ 4 → IsFilled (text_of file) }
+        requires zero_free { HasNoZero (text_of file) }
+        requires not_empty { self.old.tables.version ≤ 4 → HasBytes (text_of file) }
         ensures ok { OnOk result (self.new ≡ record self.old {
           tables = with_file (record { path = text_of file; directory = directory.0 })
               (option_map info_of info) self.old.tables;

@@ -6,7 +6,7 @@ use Rattle.gimli_lines_write_rows.specs.declared.entry.LineEntry.{LineEntry}
 use Rattle.gimli_lines_write_rows.specs.declared.entry.LineEntry.TheVariants.{SetAddress, Row, EndSequence}
 use Rattle.gimli_lines_write_rows.specs.BuiltRows.{follows, row_after_entries, first_row}
 use Rattle.gimli_lines_write_rows.specs.EntryBytes.{next_row, can_come}
-use Rattle.gimli_lines_write_rows.specs.RowsBuilding.{IsBuilt}
+use Rattle.gimli_lines_write_rows.specs.RowsBuilding.{IsBuilderState}
 use Rattle.gimli_lines_write_rows.proofs.Moves.{and-first, and-second}
 use Rattle.gimli_lines_write_rows.proofs.JoinedWrites.{follows-cons}
 
@@ -43,11 +43,11 @@ follows-push rules previous (e ∷ entries) entry f can =
     (ap (λ p. can_come rules p entry) (sym (behind-cons rules previous e entries)) ∙ can))
 
 pub built-push : (rules : LineRules) (entries : List LineEntry) (previous : LineRow) (entry : LineEntry)
-    → IsBuilt rules entries previous → can_come rules previous entry ≡ true
-    → IsBuilt rules (entries ++ entry ∷ []) (next_row rules previous entry)
+    → IsBuilderState rules entries previous → can_come rules previous entry ≡ true
+    → IsBuilderState rules (entries ++ entry ∷ []) (next_row rules previous entry)
 built-push rules entries previous entry built can = record {
   buildable = built.buildable;
   in_order = follows-push rules (first_row rules) entries entry built.in_order
-      (ap (λ p. can_come rules p entry) built.behind ∙ can);
-  behind = behind-push rules (first_row rules) entries entry ∙ ap (λ p. next_row rules p entry) built.behind;
+      (ap (λ p. can_come rules p entry) built.last_row ∙ can);
+  last_row = behind-push rules (first_row rules) entries entry ∙ ap (λ p. next_row rules p entry) built.last_row;
 }

@@ -8,7 +8,7 @@ use Rattle.gimli_lines_write_bytes.specs.Parsers.{Parser, ◌>>=◌, proceed, gi
 use Rattle.gimli_lines_write_bytes.specs.Fixed.{number, number_bytes}
 use Rattle.gimli_lines_write_bytes.specs.NumberParsers.{fixed, unsigned, signed}
 use Rattle.gimli_lines_write_bytes.specs.Spelling.{unsigned_within, unsigned_string, signed_string}
-use Rattle.gimli_lines_write_bytes.proofs.NumberRoundTrip.{unsigned_is_read_again, signed_is_read_again, fixed_is_read_again, length-spelled}
+use Rattle.gimli_lines_write_bytes.proofs.NumberRoundTrip.{unsigned_reads_back, signed_reads_back, fixed_reads_back, length-spelled}
 
 -- after so many bytes, where others stand
 abbrev pub view_after : View → ℕ → List ℕ → View
@@ -53,14 +53,14 @@ again_give x = record {
 -- ---- numbers
 
 pub again_unsigned : {is_big : Bool} (n : ℕ) → n < 2 ^ 64 → Again is_big unsigned (unsigned_string n) n
-again_unsigned n h = record { read = λ rest v o e. unsigned_is_read_again n rest v h e }
+again_unsigned n h = record { read = λ rest v o e. unsigned_reads_back n rest v h e }
 
 pub again_signed : {is_big : Bool} (z : ℤ) → FitsSigned w64 z → Again is_big signed (signed_string z) z
-again_signed z h = record { read = λ rest v o e. signed_is_read_again z rest v h e }
+again_signed z h = record { read = λ rest v o e. signed_reads_back z rest v h e }
 
 pub again_fixed : (is_big : Bool) (n x : ℕ) → x < 256 ^ n → Again is_big (fixed n) (number_bytes is_big n x) x
 again_fixed is_big n x h = record {
-  read = λ rest v o e. fixed_is_read_again n x rest v h (e ∙ ap (λ b. number_bytes b n x ++ rest) (sym o))
+  read = λ rest v o e. fixed_reads_back n x rest v h (e ∙ ap (λ b. number_bytes b n x ++ rest) (sym o))
       ∙ ap (λ k. Ok (x, view_after v k rest)) (sym (length-spelled is_big n x));
 }
 

@@ -28,7 +28,7 @@ use Rattle.gimli_lines_write_bytes.specs.NumberBytes.{bytes_in_width}
 use Rattle.gimli_lines_write_rows.specs.BuiltRows.{raw_file, operations_to, operations_between, can_place, can_follow, are_words, follows, IsReadable, row_at_address, row_after_row, first_row}
 use Rattle.gimli_lines_write_rows.specs.EntryBytes.{join_bytes, address_entry, entries_bytes}
 use Rattle.gimli_lines_write_rows.specs.EntryInstructions.{onto, instructions_from}
-use Rattle.gimli_lines_write_rows.specs.RowPieces.{IsBuildable, to_instruction, when, flags, changes, is_special, line_step, room, is_const, advance, operations_left, moves, row_piece, end_piece}
+use Rattle.gimli_lines_write_rows.specs.RowPieces.{IsBuildable, to_instruction, when, flags, changes, is_special, line_step, room, is_const, advance, opcode_operations, moves, row_piece, end_piece}
 use Rattle.gimli_lines_write_rows.proofs.Moves.{and-first, and-second}
 use Rattle.gimli_lines_write_rows.proofs.ProgramRuns.{follows_by}
 use Rattle.gimli_lines_write_rows.proofs.RowTests.{row_fits_place, row_high, row_words}
@@ -344,7 +344,7 @@ row_written w previous row can low =
     (operations_between w previous row.address_offset row.op_index)
     (fewer previous.op_index (operations_to w previous row.address_offset row.op_index) f.counted)) (
       above (line_step w.line_encoding (pos row.line -ℤ pos previous.line))
-          (w.line_encoding.line_range * operations_left w.line_encoding
+          (w.line_encoding.line_range * opcode_operations w.line_encoding
           (line_step w.line_encoding (pos row.line -ℤ pos previous.line))
           (operations_between w previous row.address_offset row.op_index)),
       tt,

@@ -8,7 +8,7 @@ use Rattle.gimli_lines_write_rows.specs.declared.row.LineRow.{LineRow}
 use Rattle.gimli_lines_write_rows.specs.declared.instruction.LineInstruction.{LineInstruction}
 use Rattle.gimli_lines_write_rows.specs.declared.instruction.LineInstruction.TheVariants.{Special, AdvancePc, AdvanceLine, SetFile, SetColumn, NegateStatement, SetBasicBlock, ConstAddPc, SetPrologueEnd, SetEpilogueBegin, SetIsa, SetDiscriminator}
 use Rattle.gimli_lines_write_rows.specs.BuiltRows.{raw_file, operations_between}
-use Rattle.gimli_lines_write_rows.specs.RowPieces.{when, flags, changes, is_special, line_step, room, is_const, advance, operations_left, moves, row_piece}
+use Rattle.gimli_lines_write_rows.specs.RowPieces.{when, flags, changes, is_special, line_step, room, is_const, advance, opcode_operations, moves, row_piece}
 
 length-when : (b : Bool) (i : LineInstruction) → length (when b i) ≤ 1
 length-when true i = omega arith
@@ -56,7 +56,7 @@ length-moves e lines operations =
     ++ last ∷ [])) (length-append (advance e (line_step e lines) operations) (last ∷ []))
   where
     last : LineInstruction
-    last = Special (13 + line_step e lines + e.line_range * operations_left e (line_step e lines) operations)
+    last = Special (13 + line_step e lines + e.line_range * opcode_operations e (line_step e lines) operations)
 
     sum : (p q x y : ℕ) → p ≤ 1 → q ≤ 1 → x ≡ p + y → y ≡ q + 1 → x ≤ 3
     sum p q x y e f u v = omega arith
@@ -98,7 +98,7 @@ row_piece-one rules previous row f c s r =
     ++ (advance rules.line_encoding (line_step rules.line_encoding (pos row.line -ℤ pos previous.line))
     (operations_between rules previous row.address_offset row.op_index)
     ++ Special (13 + line_step rules.line_encoding (pos row.line -ℤ pos previous.line)
-    + rules.line_encoding.line_range * operations_left rules.line_encoding
+    + rules.line_encoding.line_range * opcode_operations rules.line_encoding
     (line_step rules.line_encoding (pos row.line -ℤ pos previous.line))
     (operations_between rules previous row.address_offset row.op_index)) ∷ []))) s
     ∙ ap
@@ -108,6 +108,6 @@ row_piece-one rules previous row f c s r =
     (operations_between rules previous row.address_offset row.op_index)) (ConstAddPc ∷ [])
     (AdvancePc (operations_between rules previous row.address_offset row.op_index) ∷ []))
     ++ Special (13 + line_step rules.line_encoding (pos row.line -ℤ pos previous.line)
-    + rules.line_encoding.line_range * operations_left rules.line_encoding
+    + rules.line_encoding.line_range * opcode_operations rules.line_encoding
     (line_step rules.line_encoding (pos row.line -ℤ pos previous.line))
     (operations_between rules previous row.address_offset row.op_index)) ∷ [])) r

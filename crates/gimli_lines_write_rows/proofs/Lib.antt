@@ -1,3 +1,4 @@
+pub use Rattle.gimli_lines_write_bytes.proofs.FollowedReads
 pub use Rattle.gimli_lines_write_bytes.proofs.Listings
 pub use Rattle.gimli_lines_write_bytes.proofs.NumberRoundTrip
 pub use Rattle.gimli_lines_write_bytes.proofs.PrefixReads

@@ -3,18 +3,18 @@ use Rattle.std.proofs.Common.{◌≡◌, ℕ, ℤ, ◌+◌, ◌*◌, not, Bool, 
 use Rattle.std.proofs.lemmas.List.Concat.{flat_map-append}
 use Rattle.gimli_lines_write_bytes.specs.LineEncoding.{LineEncoding}
 use Rattle.gimli_lines_write_rows.specs.declared.instruction.LineInstruction.TheVariants.{AdvanceLine, Special}
-use Rattle.gimli_lines_write_rows.specs.RowPieces.{when, is_special, line_step, advance, operations_left, moves}
+use Rattle.gimli_lines_write_rows.specs.RowPieces.{when, is_special, line_step, advance, opcode_operations, moves}
 use Rattle.gimli_lines_write_rows.specs.LineInstructionBytes.{instruction_bytes, instructions_bytes}
 
 pub moves_bytes : (o first second : List ℕ) (e : LineEncoding) (lines : ℤ) (operations step left opcode : ℕ) (is : Bool)
     → first ≡ o ++ instructions_bytes (when (not is) (AdvanceLine lines)) → is ≡ is_special e lines
     → second ≡ first ++ instructions_bytes (advance e step operations) → step ≡ line_step e lines
-    → left ≡ operations_left e step operations → opcode ≡ 13 + step + e.line_range * left
+    → left ≡ opcode_operations e step operations → opcode ≡ 13 + step + e.line_range * left
     → second ++ instruction_bytes (Special opcode) ≡ o ++ instructions_bytes (moves e lines operations)
 unfolding moves
 moves_bytes o first second e lines operations step left opcode is h1 s h2 d l p =
     ap (λ x. second ++ x ∷ []) (p ∙ ap (λ x. 13 + step + e.line_range * x) l
-    ∙ ap (λ x. 13 + x + e.line_range * operations_left e x operations) d)
+    ∙ ap (λ x. 13 + x + e.line_range * opcode_operations e x operations) d)
     ∙ ap (λ x. x ++ last ∷ []) (h2 ∙ ap (λ x. first ++ instructions_bytes (advance e x operations)) d
     ∙ ap (λ x. x ++ middle) (h1 ∙ ap (λ b. o ++ instructions_bytes (when (not b) (AdvanceLine lines))) s))
     ∙ append_assoc (o ++ front) middle (last ∷ []) ∙ append_assoc o front (middle ++ last ∷ [])
@@ -24,7 +24,7 @@ moves_bytes o first second e lines operations step left opcode is h1 s h2 d l p 
     (Special last ∷ []))))
   where
     last : ℕ
-    last = 13 + line_step e lines + e.line_range * operations_left e (line_step e lines) operations
+    last = 13 + line_step e lines + e.line_range * opcode_operations e (line_step e lines) operations
 
     front : List ℕ
     front = instructions_bytes (when (not (is_special e lines)) (AdvanceLine lines))

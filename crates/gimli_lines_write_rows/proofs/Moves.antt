@@ -15,7 +15,7 @@ use Rattle.gimli_lines_machine.specs.LineInstructions.{InstructionOf, special, a
 use Rattle.gimli_lines_machine.specs.Machine.{after_row, after_operations, to_operation, address_within, registers_at, line_after, with_line, line_advance, operation_advance}
 use Rattle.gimli_lines_write_rows.specs.declared.instruction.LineInstruction.TheVariants.{ConstAddPc, AdvancePc, AdvanceLine}
 use Rattle.gimli_lines_write_rows.specs.BuiltRows.{FitsSize}
-use Rattle.gimli_lines_write_rows.specs.RowPieces.{IsBuildable, when, is_special, lines_left, line_step, most_operations, room, is_const, advance, operations_left, moves}
+use Rattle.gimli_lines_write_rows.specs.RowPieces.{IsBuildable, when, is_special, opcode_lines, line_step, most_operations, room, is_const, advance, opcode_operations, moves}
 use Rattle.gimli_lines_write_rows.specs.EntryInstructions.{shows, onto}
 use Rattle.gimli_lines_write_rows.proofs.PieceRuns.{onto-append, plain_step, row_step}
 
@@ -186,7 +186,7 @@ module _ {F : Type 0} (w : LineRules) (can_build : IsBuildable w) where
   pub advance_told : (d n : ℕ) (r : Registers) (rest : List (InstructionOf F)) → d < w.line_encoding.line_range
       → CanMove w n r
       → shows w r (onto (advance w.line_encoding d n)
-      (special (13 + d + w.line_encoding.line_range * operations_left w.line_encoding d n) ∷ rest))
+      (special (13 + d + w.line_encoding.line_range * opcode_operations w.line_encoding d n) ∷ rest))
       ≡ prepend (with_line (line_after r.line (w.line_encoding.line_base +ℤ pos d)) (moved_by w n r) ∷ [])
       (shows w (after_row w (with_line (line_after r.line (w.line_encoding.line_base +ℤ pos d)) (moved_by w n r))) rest)
   advance_told d n r rest low can = by (nat_le n (room w.line_encoding d)) (is_const w.line_encoding d n) refl
@@ -264,8 +264,8 @@ step_low b z n h g = by (z -ℤ b) refl
 
 module _ (w : LineRules) (can_build : IsBuildable w) (z : ℤ) where
   -- what a special opcode is to move lies between its bounds
-  left_bounds : (w.line_encoding.line_base ≤ℤ lines_left w.line_encoding z)
-      × (lines_left w.line_encoding z <ℤ (w.line_encoding.line_base +ℤ pos w.line_encoding.line_range))
+  left_bounds : (w.line_encoding.line_base ≤ℤ opcode_lines w.line_encoding z)
+      × (opcode_lines w.line_encoding z <ℤ (w.line_encoding.line_base +ℤ pos w.line_encoding.line_range))
   left_bounds = by (is_special w.line_encoding z) refl
     where
       by : (b : Bool) → is_special w.line_encoding z ≡ b → (w.line_encoding.line_base ≤ℤ cond b z (pos 0))
@@ -281,11 +281,11 @@ module _ (w : LineRules) (can_build : IsBuildable w) (z : ℤ) where
       by false e = (can_build.base_is_low, can_build.covers_zero)
 
   pub step_is_low : line_step w.line_encoding z < w.line_encoding.line_range
-  step_is_low = step_low w.line_encoding.line_base (lines_left w.line_encoding z) w.line_encoding.line_range
+  step_is_low = step_low w.line_encoding.line_base (opcode_lines w.line_encoding z) w.line_encoding.line_range
       left_bounds.0 left_bounds.1
 
-  pub step_is_back : w.line_encoding.line_base +ℤ pos (line_step w.line_encoding z) ≡ lines_left w.line_encoding z
-  step_is_back = step_back w.line_encoding.line_base (lines_left w.line_encoding z) left_bounds.0
+  pub step_is_back : w.line_encoding.line_base +ℤ pos (line_step w.line_encoding z) ≡ opcode_lines w.line_encoding z
+  step_is_back = step_back w.line_encoding.line_base (opcode_lines w.line_encoding z) left_bounds.0
 
 -- ---- all moves of a row
 
@@ -299,7 +299,7 @@ module _ {F : Type 0} (w : LineRules) (can_build : IsBuildable w) where
       ≡ onto (when (not (is_special w.line_encoding (pos line -ℤ pos r.line))) (AdvanceLine (pos line -ℤ pos r.line)))
       (onto (advance w.line_encoding (line_step w.line_encoding (pos line -ℤ pos r.line)) n)
       (special (13 + line_step w.line_encoding (pos line -ℤ pos r.line) + w.line_encoding.line_range
-      * operations_left w.line_encoding (line_step w.line_encoding (pos line -ℤ pos r.line)) n) ∷ rest)) =
+      * opcode_operations w.line_encoding (line_step w.line_encoding (pos line -ℤ pos r.line)) n) ∷ rest)) =
       simp onto-append in
       ap (shows w r) laid ∙ by (is_special w.line_encoding (pos line -ℤ pos r.line)) refl
       (line_step w.line_encoding (pos line -ℤ pos r.line)) (step_is_low w can_build (pos line -ℤ pos r.line))
@@ -307,10 +307,10 @@ module _ {F : Type 0} (w : LineRules) (can_build : IsBuildable w) where
     where
       by : (b : Bool) → is_special w.line_encoding (pos line -ℤ pos r.line) ≡ b → (d : ℕ)
           → d < w.line_encoding.line_range
-          → w.line_encoding.line_base +ℤ pos d ≡ lines_left w.line_encoding (pos line -ℤ pos r.line)
+          → w.line_encoding.line_base +ℤ pos d ≡ opcode_lines w.line_encoding (pos line -ℤ pos r.line)
           → shows w r (onto (when (not b) (AdvanceLine (pos line -ℤ pos r.line)))
           (onto (advance w.line_encoding d n)
-          (special (13 + d + w.line_encoding.line_range * operations_left w.line_encoding d n) ∷ rest)))
+          (special (13 + d + w.line_encoding.line_range * opcode_operations w.line_encoding d n) ∷ rest)))
           ≡ prepend (with_line line (moved_by w n r) ∷ [])
           (shows w (after_row w (with_line line (moved_by w n r))) rest)
       by true e d low back_to =
@@ -322,7 +322,7 @@ module _ {F : Type 0} (w : LineRules) (can_build : IsBuildable w) where
       by false e d low back_to =
           plain_step w (advance_line (pos line -ℤ pos r.line)) r (with_line line r)
           (onto (advance w.line_encoding d n)
-          (special (13 + d + w.line_encoding.line_range * operations_left w.line_encoding d n) ∷ rest))
+          (special (13 + d + w.line_encoding.line_range * opcode_operations w.line_encoding d n) ∷ rest))
           (ap (λ l. Ok (with_line l r)) (line_reached r.line line high)) refl
           ∙ advance_told w can_build d n (with_line line r) rest low
           (record { visible = can.visible; counted = can.counted; fits = can.fits; size = can.size })

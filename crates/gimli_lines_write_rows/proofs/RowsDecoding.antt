@@ -26,7 +26,7 @@ module _ (address_of : Address → Result ℕ Error) (constants : (n : ℕ) → 
       (first_placed rules can_build) f readable in
       record {
         program = instructions_from rules (first_row rules) entries;
-        parsed = λ limit counts v wide o same.
+        parses = λ limit counts v wide o same.
             tiled_listed is_big (instruction_with file_of_fields limit rules counts)
             (instructions_from rules (first_row rules) entries) v
             (subst (λ b. IsTiledBy is_big (instruction_with file_of_fields limit rules counts) b

@@ -26,6 +26,7 @@ pub use Rattle.gimli_lines_machine.specs.Runs
 pub use Rattle.gimli_lines_machine.specs.declared.registers.Registers
 pub use Rattle.gimli_lines_machine.specs.declared.rules.LineRules
 pub use Rattle.gimli_lines_write_bytes.specs.NumberBytes
+pub use Rattle.gimli_lines_write_bytes.specs.BytesAt
 pub use Rattle.gimli_lines_write_bytes.specs.OutputBytes
 pub use Rattle.gimli_lines_write_bytes.specs.WriteErrorText
 pub use Rattle.gimli_lines_write_bytes.specs.declared.address.Address
@@ -37,3 +38,4 @@ pub mod EntryInstructions
 pub mod EntryBytes
 pub mod RowsBuilding
 pub mod RowsReadBack
+pub mod RowLaws

@@ -37,9 +37,9 @@ pub record IsBuildable (rules : LineRules) : Type 0 where
   pub range_is_low : rules.line_encoding.line_range ≤ 127
   pub first_special : rules.opcode_base ≡ 13
 
--- an instruction where a test holds
-abbrev pub when : Bool → LineInstruction → List LineInstruction
-when b i = if b then i ∷ [] else []
+-- an item where a test holds
+abbrev pub when : {A : Type 0} → Bool → A → List A
+when b x = if b then x ∷ [] else []
 
 -- what holds for the row alone
 unfoldable pub flags : LineRow → List LineInstruction
@@ -63,12 +63,12 @@ abbrev pub is_special : LineEncoding → ℤ → Bool
 is_special e lines = int_le e.line_base lines && int_lt lines (e.line_base +ℤ pos e.line_range)
 
 -- the lines that a special opcode is to move
-abbrev pub lines_left : LineEncoding → ℤ → ℤ
-lines_left e lines = if is_special e lines then lines else pos 0
+abbrev pub opcode_lines : LineEncoding → ℤ → ℤ
+opcode_lines e lines = if is_special e lines then lines else pos 0
 
 -- how far above the line base they are
 abbrev pub line_step : LineEncoding → ℤ → ℕ
-line_step e lines = unsigned_abs (lines_left e lines -ℤ e.line_base)
+line_step e lines = unsigned_abs (opcode_lines e lines -ℤ e.line_base)
 
 -- the operations that the greatest special opcode stands for
 abbrev pub most_operations : LineEncoding → ℕ
@@ -89,9 +89,9 @@ advance e step operations =
     if nat_le operations (room e step) then []
     else (if is_const e step operations then ConstAddPc ∷ [] else AdvancePc operations ∷ [])
 
--- the operations that are left to it
-abbrev pub operations_left : LineEncoding → ℕ → ℕ → ℕ
-operations_left e step operations =
+-- the operations that the special opcode stands for
+abbrev pub opcode_operations : LineEncoding → ℕ → ℕ → ℕ
+opcode_operations e step operations =
     if nat_le operations (room e step) then operations
     else (if is_const e step operations then operations - most_operations e else 0)
 
@@ -100,7 +100,7 @@ unfoldable pub moves : LineEncoding → ℤ → ℕ → List LineInstruction
 moves e lines operations =
     when (not (is_special e lines)) (AdvanceLine lines)
     ++ (advance e (line_step e lines) operations
-    ++ Special (13 + line_step e lines + e.line_range * operations_left e (line_step e lines)
+    ++ Special (13 + line_step e lines + e.line_range * opcode_operations e (line_step e lines)
     operations) ∷ [])
 
 -- a row after another one

@@ -10,7 +10,7 @@ use Rattle.gimli_lines_write_rows.specs.RowPieces.{IsBuildable}
 use Rattle.gimli_lines_write_rows.specs.EntryBytes.{next_row}
 
 -- The entries so far, the row after them, the row that comes next, and whether a sequence is open.
-pub record Building : Type 0 where
+pub record BuilderState : Type 0 where
   pub rules : LineRules
   pub entries : List LineEntry
   pub previous : LineRow
@@ -18,22 +18,22 @@ pub record Building : Type 0 where
   pub in_sequence : Bool
 
 -- what holds of every builder
-pub record IsBuilt (rules : LineRules) (entries : List LineEntry) (previous : LineRow) : Type 0
-  where
-    pub buildable : IsBuildable rules
-    pub in_order : follows rules (first_row rules) entries ≡ true
-    pub behind : row_after_entries rules (first_row rules) entries ≡ previous
+pub record IsBuilderState (rules : LineRules) (entries : List LineEntry) (previous : LineRow) :
+    Type 0 where
+  pub buildable : IsBuildable rules
+  pub in_order : follows rules (first_row rules) entries ≡ true
+  pub last_row : row_after_entries rules (first_row rules) entries ≡ previous
 
 -- with an entry after the others
-abbrev pub with_entry : LineEntry → Building → Building
+abbrev pub with_entry : LineEntry → BuilderState → BuilderState
 with_entry entry b =
     record b { entries = b.entries ++ entry ∷ []; previous = next_row b.rules b.previous entry }
 
 -- with an address set, where the next row is
-abbrev pub with_address : Address → Building → Building
+abbrev pub with_address : Address → BuilderState → BuilderState
 with_address address b = record (with_entry (SetAddress address) b) { row = row_at_address b.row }
 
 -- with a sequence begun
-abbrev pub with_sequence : Option Address → Building → Building
+abbrev pub with_sequence : Option Address → BuilderState → BuilderState
 with_sequence (Some address) b = record (with_address address b) { in_sequence = true }
 with_sequence None b = record b { row = row_at_address b.row; in_sequence = true }

@@ -1,11 +1,14 @@
--- The bytes of a program, read again (DWARF 5, 6.2).
-use Rattle.std.specs.Prelude.{◌≡◌, ℕ, ◌+◌, ◌≤◌, Bool, List, [], length, Ok}
+-- The bytes of a program read back (DWARF 5, 6.2).
+use Rattle.std.specs.Prelude.{◌≡◌, ℕ, ◌+◌, ◌++◌, ◌≤◌, Bool, List, [], length, Ok}
 use Rattle.gimli_lines_write_bytes.specs.View.{View}
+use Rattle.gimli_lines_write_bytes.specs.OutputBytes.{WriterContents}
 use Rattle.gimli_lines_machine.specs.declared.rules.LineRules.{LineRules}
 use Rattle.gimli_lines_machine.specs.declared.registers.Registers.{Registers}
 use Rattle.gimli_lines_machine.specs.LineInstructions.{Instruction}
 use Rattle.gimli_lines_machine.specs.Machine.{start}
 use Rattle.gimli_lines_machine.specs.Decoding.{instructions}
+use Rattle.gimli_lines_write_rows.specs.declared.entry.LineEntry.{LineEntry}
+use Rattle.gimli_lines_write_rows.specs.BuiltRows.{first_row, rows_of, IsReadable}
 use Rattle.gimli_lines_write_rows.specs.EntryInstructions.{shows}
 
 -- The bytes read as instructions, whatever offsets a reader can hold and however it counts the
@@ -14,7 +17,7 @@ use Rattle.gimli_lines_write_rows.specs.EntryInstructions.{shows}
 pub record DecodesTo (rules : LineRules) (is_big : Bool) (bytes : List ℕ) (rows : List Registers) :
     Type 0 where
   pub program : List Instruction
-  pub parsed : (limit : ℕ) (counts : List ℕ) (v : View) → 128 ≤ limit → v.is_big ≡ is_big
+  pub parses : (limit : ℕ) (counts : List ℕ) (v : View) → 128 ≤ limit → v.is_big ≡ is_big
       → v.bytes ≡ bytes
       → instructions limit rules counts v
       ≡ record {
@@ -24,3 +27,10 @@ pub record DecodesTo (rules : LineRules) (is_big : Bool) (bytes : List ℕ) (row
       }
   pub ending : Registers
   pub run : shows rules (start rules) program ≡ record { items = rows; ending = Ok ending }
+
+-- Where a reader can follow the addresses, the bytes written from old to new read back as the rows.
+abbrev pub EntriesReadBack : LineRules → List LineEntry → WriterContents → WriterContents → Type 0
+EntriesReadBack rules entries old new =
+    IsReadable rules 0 (first_row rules) entries
+    → (more : List ℕ) × (new.bytes ≡ old.bytes ++ more)
+    × DecodesTo rules old.is_big more (rows_of rules entries)

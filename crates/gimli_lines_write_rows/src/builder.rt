@@ -1,9 +1,9 @@
 //! Rows as they are built.
 
-ghost use Rattle.std.specs.Prelude.{◌≡◌, ℕ, List, ◌++◌, [], ◌==◌, ◌&&◌, length, true, false, OnOk, OnErr, IfErr};
+ghost use Rattle.std.specs.Prelude.{◌≡◌, [], ◌==◌, ◌&&◌, length, true, false, OnOk, OnErr, IfErr};
 ghost use Rattle.gimli_lines_write_bytes.specs.declared.error.Error.TheVariants.{Memory};
-ghost use Rattle.gimli_lines_write_rows.specs.BuiltRows.{first_row, row_after_row, rows_of, can_place, can_follow, follows, IsReadable};
-ghost use Rattle.gimli_lines_write_rows.specs.RowsReadBack.{DecodesTo};
+ghost use Rattle.gimli_lines_write_rows.specs.BuiltRows.{first_row, row_after_row, can_place, can_follow, follows};
+ghost use Rattle.gimli_lines_write_rows.specs.RowsReadBack.{EntriesReadBack};
 ghost use Rattle.gimli_lines_write_rows.specs.RowPieces.{IsBuildable};
 ghost use Rattle.gimli_lines_write_rows.specs.EntryBytes.{can_come, entries_bytes, Continues};
 ghost use Rattle.gimli_lines_write_rows.specs.RowsBuilding.{with_entry, with_address, with_sequence};
@@ -30,9 +30,9 @@ pub struct RowsBuilder {
 }
 
 impl Model for RowsBuilder {
-    ghost use Rattle.gimli_lines_write_rows.specs.RowsBuilding.{Building, IsBuilt};
+    ghost use Rattle.gimli_lines_write_rows.specs.RowsBuilding.{BuilderState, IsBuilderState};
 
-    ghost Value = { Building };
+    ghost Value = { BuilderState };
 
     ghost view = { λ b. record {
       rules = b.rules;
@@ -42,7 +42,7 @@ impl Model for RowsBuilder {
       in_sequence = b.in_sequence;
     } };
 
-    ghost invariant = { λ b. IsBuilt b.rules b.entries.items b.previous };
+    ghost invariant = { λ b. IsBuilderState b.rules b.entries.items b.previous };
 }
 
 impl RowsBuilder {
@@ -161,9 +161,9 @@ impl RowsBuilder {
             self.now.row) }
     {
         let offset = self.row.address_offset;
-        let placed = can_place(self.rules, &self.previous, offset, self.row.op_index);
-        let shown = can_show(self.row);
-        self.in_sequence && placed && shown
+        let is_after = can_place(self.rules, &self.previous, offset, self.row.op_index);
+        let has_line = can_show(self.row);
+        self.in_sequence && is_after && has_line
     }
 
     /// Whether the sequence can end that many bytes after the address that was set last.
@@ -222,12 +222,8 @@ impl RowsBuilder {
         ensures bytes { Continues result (W.contents w.old) (W.contents w.new)
             (entries_bytes W.address_of (W.contents w.old).is_big self.now.rules
             (first_row self.now.rules) self.now.entries) }
-        // Where a reader can follow the addresses, the bytes read back as the rows.
-        ensures reads_back { OnOk result (IsReadable self.now.rules 0 (first_row self.now.rules)
-            self.now.entries
-            → (more : List ℕ) × ((W.contents w.new).bytes ≡ (W.contents w.old).bytes ++ more)
-            × DecodesTo self.now.rules (W.contents w.old).is_big more
-            (rows_of self.now.rules self.now.entries)) }
+        ensures reads_back { OnOk result (EntriesReadBack self.now.rules self.now.entries
+            (W.contents w.old) (W.contents w.new)) }
     {
         write_entries(alloc, w, self.rules, self.entries.as_slice())
     }

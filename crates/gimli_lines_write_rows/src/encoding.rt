@@ -3,7 +3,7 @@
 ghost use Rattle.std.specs.Prelude.{◌≡◌, ◌+◌, ◌-◌, ◌*◌, ◌^◌, ◌<◌, ◌≤◌, ◌++◌, ◌-ℤ◌, pos, true, not, ◌==◌, OnOk, IfOk, IfErr};
 ghost use Rattle.gimli_lines_write_bytes.specs.declared.error.Error.TheVariants.{Memory};
 ghost use Rattle.gimli_lines_write_rows.specs.BuiltRows.{raw_file, can_place, operations_between};
-ghost use Rattle.gimli_lines_write_rows.specs.RowPieces.{IsBuildable, flags, changes, is_special, line_step, most_operations, room, advance, operations_left, moves, row_piece, end_piece};
+ghost use Rattle.gimli_lines_write_rows.specs.RowPieces.{IsBuildable, flags, changes, is_special, line_step, most_operations, room, advance, opcode_operations, moves, row_piece, end_piece};
 ghost use Rattle.gimli_lines_write_rows.specs.LineInstructionBytes.{instructions_bytes};
 
 use crate::instruction::LineInstruction;
@@ -93,7 +93,7 @@ fn encode_advance(
     requires low { step < rules.line_encoding.line_range }
     ensures ok { OnOk result (out.new.items ≡ out.old.items
         ++ instructions_bytes (advance rules.line_encoding step operations)) }
-    ensures left { IfOk result (λ left. left ≡ operations_left rules.line_encoding step
+    ensures left { IfOk result (λ left. left ≡ opcode_operations rules.line_encoding step
         operations) }
     ensures fits { IfOk result (λ left. left ≤ room rules.line_encoding step) }
     ensures refused { IfErr result (λ e. e ≡ Memory) }

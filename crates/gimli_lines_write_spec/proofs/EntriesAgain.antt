@@ -13,11 +13,12 @@ use Rattle.gimli_lines_header.specs.declared.formats.FileEntryFormat.{FileEntryF
 use Rattle.gimli_lines_header.specs.LineFiles.{no_md5, path_content, directory_content, timestamp_content, size_content, source_content}
 use Rattle.gimli_lines_header.specs.TableEntries.{Field, EntryFacts, no_facts, facts_after, entry, entry_fields, directory_entry, file_entry}
 use Rattle.gimli_lines_write_spec.specs.HeaderTexts.{WrittenText, form_of, spelled_text, value_of_text, IsReadableText}
-use Rattle.gimli_lines_write_spec.specs.EntryFields.{WrittenFile, WrittenField, Details, text_field, number_field, digest_field, when, leading_fields, file_fields, spelled_fields, spelled_file, directory_formats, file_formats, values_at, file_facts, IsReadableFile}
-use Rattle.gimli_lines_write_spec.specs.HeaderReadBack.{bytes_at}
-use Rattle.gimli_lines_write_spec.proofs.StringsAgain.{Again, again_then}
+use Rattle.gimli_lines_write_rows.specs.RowPieces.{when}
+use Rattle.gimli_lines_write_spec.specs.EntryFields.{WrittenFile, WrittenField, Details, text_field, number_field, digest_field, leading_fields, file_fields, spelled_fields, spelled_file, directory_formats, file_formats, file_facts, IsReadableFile}
+use Rattle.gimli_lines_write_rows.proofs.FollowedReads.{Again, again_then}
 use Rattle.gimli_lines_write_spec.proofs.Digests.{digest_again}
 use Rattle.gimli_lines_write_spec.proofs.FieldsAgain.{FieldAgain, format_of, field_read, bytes_of, fields_again, text_again, unsigned_value, digest_value}
+use Rattle.gimli_lines_write_rows.specs.BytesAt.{bytes_at, values_at}
 
 -- ---- what fields say
 

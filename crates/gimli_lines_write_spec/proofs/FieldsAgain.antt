@@ -21,9 +21,9 @@ use Rattle.gimli_lines_header.specs.AttributeValues.{RawValue, RawAttribute, str
 use Rattle.gimli_lines_header.specs.AttributeReading.{attribute, final_form, form_within, value, number_value, from_number}
 use Rattle.gimli_lines_header.specs.TableEntries.{Field, entry_value, entry_fields}
 use Rattle.gimli_lines_write_spec.specs.HeaderTexts.{WrittenText, in_place, in_strings, in_line_strings, form_of, spelled_text, value_of_text, IsReadableText}
-use Rattle.gimli_lines_write_spec.specs.EntryFields.{WrittenField, field_format, spelled_fields, values_at}
-use Rattle.gimli_lines_write_spec.specs.HeaderReadBack.{bytes_at}
-use Rattle.gimli_lines_write_spec.proofs.StringsAgain.{Again, again_nothing, again_onward, again_then, again_same, again_fixed, again_unsigned, null_again, below}
+use Rattle.gimli_lines_write_spec.specs.EntryFields.{WrittenField, field_format, spelled_fields}
+use Rattle.gimli_lines_write_rows.proofs.FollowedReads.{Again, again_nothing, again_onward, again_then, again_same, again_fixed, again_unsigned, null_again, offset_is_below}
+use Rattle.gimli_lines_write_rows.specs.BytesAt.{bytes_at, values_at}
 
 -- ---- values
 
@@ -72,8 +72,8 @@ module _ (limit : ℕ) (e : Encoding) (is_big : Bool) (first : ℕ) where
       (meant e.format refl))
     where
       meant : (format : Format) → e.format ≡ format → number_value limit e 0 0x0e offset ≡ Ok (string_reference offset)
-      meant Dwarf32 is = rw (is, below limit offset low) refl
-      meant Dwarf64 is = rw (is, below limit offset low) refl
+      meant Dwarf32 is = rw (is, offset_is_below limit offset low) refl
+      meant Dwarf64 is = rw (is, offset_is_below limit offset low) refl
 
   line_offset_value : (offset : ℕ) → offset < limit → offset < 256 ^ word_size e.format
       → Again is_big first (entry_value limit e 0x1f) (line_string_reference offset)
@@ -86,8 +86,8 @@ module _ (limit : ℕ) (e : Encoding) (is_big : Bool) (first : ℕ) where
     where
       meant : (format : Format) → e.format ≡ format → number_value limit e 0 0x1f offset
           ≡ Ok (line_string_reference offset)
-      meant Dwarf32 is = rw (is, below limit offset low) refl
-      meant Dwarf64 is = rw (is, below limit offset low) refl
+      meant Dwarf32 is = rw (is, offset_is_below limit offset low) refl
+      meant Dwarf64 is = rw (is, offset_is_below limit offset low) refl
 
   pub unsigned_value : (n : ℕ) → n < 2 ^ 64
       → Again is_big first (entry_value limit e 0x0f) (unsigned_data n) (unsigned_string n)

@@ -24,11 +24,12 @@ use Rattle.gimli_lines_header.specs.TableEntries as entries
 use Rattle.gimli_lines_header.specs.TableEntries.{entry_formats, has_one_path, directory_entry, file_entry}
 use Rattle.gimli_lines_header.specs.HeaderTables.{directory_entries, file_entries, directories_of_5, files_of_5}
 use Rattle.gimli_lines_write_spec.specs.HeaderTexts.{WrittenText, in_place, in_strings, in_line_strings, form_of, form_in, spelled_text, value_of_text, IsReadableText}
-use Rattle.gimli_lines_write_spec.specs.EntryFields.{WrittenFile, Details, when, spelled_file, directory_formats, field_format, file_formats, spelled_format, spelled_formats, values_at, file_facts, IsReadableFile}
-use Rattle.gimli_lines_write_spec.specs.HeaderReadBack.{bytes_at}
-use Rattle.gimli_lines_write_spec.proofs.StringsAgain.{Again, again_onward, again_then, again_unsigned, one_byte}
+use Rattle.gimli_lines_write_rows.specs.RowPieces.{when}
+use Rattle.gimli_lines_write_spec.specs.EntryFields.{WrittenFile, Details, spelled_file, directory_formats, field_format, file_formats, spelled_format, spelled_formats, file_facts, IsReadableFile}
+use Rattle.gimli_lines_write_rows.proofs.FollowedReads.{Again, again_onward, again_then, again_unsigned, one_byte}
 use Rattle.gimli_lines_write_spec.proofs.TablesAgain.{times_again}
 use Rattle.gimli_lines_write_spec.proofs.EntriesAgain.{file_again, directory_again}
+use Rattle.gimli_lines_write_rows.specs.BytesAt.{bytes_at, values_at}
 
 -- ---- formats
 

@@ -14,8 +14,8 @@ use Rattle.gimli_lines_write_rows.specs.LineRules.{LineRules}
 use Rattle.gimli_lines_write_rows.specs.RowPieces.{IsBuildable}
 use Rattle.gimli_lines_header.specs.HeaderParsing.{operations, operations_of_4, line_parameters, opcodes}
 use Rattle.gimli_lines_write_spec.specs.HeaderSpelling.{operand_counts, spelled_parameters, spelled_opcodes}
-use Rattle.gimli_lines_write_spec.specs.HeaderReadBack.{bytes_at}
-use Rattle.gimli_lines_write_spec.proofs.StringsAgain.{Again, again_nothing, again_onward, again_then, again_same, one_byte, part_is}
+use Rattle.gimli_lines_write_rows.proofs.FollowedReads.{Again, again_nothing, again_onward, again_then, again_same, one_byte, part_is}
+use Rattle.gimli_lines_write_rows.specs.BytesAt.{bytes_at}
 
 -- ---- parameters
 

@@ -1,4 +1,3 @@
-pub mod StringsAgain
 pub mod TablesAgain
 pub mod FieldsAgain
 pub mod Digests

@@ -22,13 +22,15 @@ use Rattle.gimli_lines_header.specs.LineHeaders.{LineHeader}
 use Rattle.gimli_lines_header.specs.HeaderTables.{directories, files, directory_texts}
 use Rattle.gimli_lines_header.specs.HeaderParsing.{LineUnit, encoding_of_5, line_sizes, line_parameters, header_fields, header_in, line_header, Bounds}
 use Rattle.gimli_lines_write_spec.specs.HeaderTexts.{spelled_text, value_of_text}
-use Rattle.gimli_lines_write_spec.specs.EntryFields.{WrittenFile, spelled_file, spelled_formats, values_at}
-use Rattle.gimli_lines_write_spec.specs.HeaderSpelling.{Tables, path_form, source_form, formats_of_directories, formats_of_files, spelled_directories_to_4, spelled_directories_of_5, spelled_files_of_5, operand_counts, spelled_parameters, spelled_opcodes, spelled_sizes, spelled_directories, spelled_files, spelled_header, spelled_body, spelled_length, spelled_unit, fields_at, directories_at, files_at, formats_in, directory_values, facts_of_files, header_value}
-use Rattle.gimli_lines_write_spec.specs.HeaderReadBack.{bytes_at, length_limit, CanWrite}
-use Rattle.gimli_lines_write_spec.proofs.StringsAgain.{Again, again_nothing, again_onward, again_then, again_same, again_fixed, one_byte, part_is, word_again, length_again}
+use Rattle.gimli_lines_write_spec.specs.EntryFields.{WrittenFile, spelled_file, spelled_formats}
+use Rattle.gimli_lines_write_spec.specs.HeaderSpelling.{Tables, path_form, source_form, formats_of_directories, formats_of_files, spelled_directories_to_4, spelled_directories_of_5, spelled_files_of_5, operand_counts, spelled_parameters, spelled_opcodes, spelled_sizes, spelled_directories, spelled_files, spelled_header, spelled_body, spelled_unit, fields_at, directories_at, files_at, formats_in, directory_values, facts_of_files, header_value}
+use Rattle.gimli_lines_write_spec.specs.HeaderReadBack.{CanWrite}
+use Rattle.gimli_lines_write_rows.proofs.FollowedReads.{Again, again_nothing, again_onward, again_then, again_same, again_fixed, one_byte, part_is, word_again, length_again}
 use Rattle.gimli_lines_write_spec.proofs.FormatsAgain.{directories_again_5, files_again_5, low_form_in, items_take_bytes, text_some, file_some}
 use Rattle.gimli_lines_write_spec.proofs.TablesToVersion4.{directories_again_4, files_again_4}
 use Rattle.gimli_lines_write_spec.proofs.HeadersAgain.{parameters_again, opcodes_again}
+use Rattle.gimli_lines_write_rows.specs.BytesAt.{bytes_at, values_at}
+use Rattle.gimli_lines_write_rows.specs.NumberBytes.{length_limit, spelled_length}
 
 -- ---- lengths
 

@@ -11,11 +11,10 @@ use Rattle.gimli_lines_header.specs.LineFiles.{FileFacts, file_in}
 use Rattle.gimli_lines_header.specs.HeaderTables.{directory_text, file_text, file_after_path, directory_texts, file_texts}
 use Rattle.gimli_lines_header.proofs.TextSizes.{directory_text-shrinks, file_text-shrinks}
 use Rattle.gimli_lines_write_spec.specs.HeaderTexts.{WrittenText, in_place, in_strings, in_line_strings, spelled_text, value_of_text, IsReadableText, IsEntry}
-use Rattle.gimli_lines_write_spec.specs.EntryFields.{WrittenFile, IsReadableFile, values_at}
+use Rattle.gimli_lines_write_spec.specs.EntryFields.{WrittenFile, IsReadableFile}
 use Rattle.gimli_lines_write_spec.specs.HeaderSpelling.{spelled_file_to_4, file_facts_to_4}
-use Rattle.gimli_lines_write_spec.specs.HeaderReadBack.{bytes_at}
-use Rattle.gimli_lines_write_spec.proofs.StringsAgain.{Again, again_onward, again_then, again_same, again_unsigned, null_again}
-use Rattle.gimli_lines_write_spec.proofs.TablesAgain.{all_again}
+use Rattle.gimli_lines_write_rows.proofs.FollowedReads.{Again, again_onward, again_then, again_same, again_unsigned, null_again, all_again}
+use Rattle.gimli_lines_write_rows.specs.BytesAt.{bytes_at, values_at}
 
 -- an entry of the directories
 directory_again : (limit : ℕ) (format : Format) (is_big : Bool) (first : ℕ) (t : WrittenText)

@@ -5,6 +5,7 @@ use Rattle.gimli_lines_write_rows.specs.TheConstants.{DW_FORM_udata, DW_FORM_dat
 use Rattle.gimli_lines_write_rows.specs.Format.{Format}
 use Rattle.gimli_lines_write_rows.specs.Fixed.{number}
 use Rattle.gimli_lines_write_rows.specs.Spelling.{unsigned_string}
+use Rattle.gimli_lines_write_rows.specs.RowPieces.{when}
 use Rattle.gimli_lines_header.specs.AttributeValues.{RawValue, unsigned_data, data_16}
 use Rattle.gimli_lines_header.specs.declared.formats.FileEntryFormat.{FileEntryFormat}
 use Rattle.gimli_lines_header.specs.LineFiles.{FileFacts, no_md5, path_content, directory_content, timestamp_content, size_content, md5_content, source_content}
@@ -20,7 +21,7 @@ pub record WrittenFile : Type 0 where
   pub md5 : List ℕ
   pub source : WrittenText
 
--- what files of version 5 tell beside path and directory
+-- what files of version 5 have beside path and directory
 pub record Details : Type 0 where
   pub has_timestamp : Bool
   pub has_size : Bool
@@ -61,10 +62,6 @@ digest_field is_big md5 = record {
   bytes = md5;
   value = λ _. data_16 (number is_big md5);
 }
-
--- something where a test holds
-abbrev pub when : {A : Type 0} → Bool → A → List A
-when b x = if b then x ∷ [] else []
 
 -- the fields of a file, the source apart
 abbrev pub leading_fields : Bool → Format → Details → WrittenFile → List WrittenField
@@ -123,13 +120,7 @@ spelled_formats formats = length formats ∷ flat_map spelled_format formats
 
 -- ---- what is read
 
--- what items are read as, the first of which begins at an identifier
-abbrev pub values_at : {T A : Type 0} → (T → List ℕ) → (ℕ → T → A) → ℕ → List T → List A
-values_at string value first [] = []
-values_at string value first (t ∷ ts) =
-    value first t ∷ values_at string value (first + length (string t)) ts
-
--- A file of version 5: what its details tell.
+-- A file of version 5: what its details say.
 abbrev pub file_facts : Bool → Format → Details → ℕ → WrittenFile → FileFacts
 file_facts is_big format d first f = record {
   path = value_of_text is_big first f.path;

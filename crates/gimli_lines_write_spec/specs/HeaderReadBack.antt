@@ -1,23 +1,13 @@
--- What is written of a header is read again.
-use Rattle.std.specs.Prelude.{◌≡◌, ℕ, ◌+◌, ◌^◌, ◌<◌, ◌≤◌, Bool, List, ◌++◌, All, length, Ok}
-use Rattle.gimli_lines_write_rows.specs.View.{View}
-use Rattle.gimli_lines_write_rows.specs.Format.{Format}
-use Rattle.gimli_lines_write_rows.specs.Format.TheVariants.{Dwarf32, Dwarf64}
+-- What is written of a header reads back.
+use Rattle.std.specs.Prelude.{◌≡◌, ℕ, ◌+◌, ◌<◌, ◌≤◌, Bool, List, ◌++◌, All, length, Ok}
 use Rattle.gimli_lines_write_rows.specs.LineRules.{LineRules}
 use Rattle.gimli_lines_write_rows.specs.RowPieces.{IsBuildable}
 use Rattle.gimli_lines_header.specs.HeaderParsing.{LineUnit, line_header}
 use Rattle.gimli_lines_write_spec.specs.HeaderTexts.{WrittenText, form_of, form_in, IsReadableText, IsEntry}
 use Rattle.gimli_lines_write_spec.specs.EntryFields.{WrittenFile, IsReadableFile}
 use Rattle.gimli_lines_write_spec.specs.HeaderSpelling.{Tables, path_form, source_form, spelled_body, spelled_unit, fields_at, header_value}
-
--- bytes from a place on
-abbrev pub bytes_at : Bool → ℕ → List ℕ → View
-bytes_at is_big first bytes = record { bytes = bytes; is_big = is_big; first = first }
-
--- the lengths that a format can tell (DWARF 5, 7.4)
-abbrev pub length_limit : Format → ℕ
-length_limit Dwarf32 = 0xfffffff0
-length_limit Dwarf64 = 2 ^ 64
+use Rattle.gimli_lines_write_rows.specs.BytesAt.{bytes_at}
+use Rattle.gimli_lines_write_rows.specs.NumberBytes.{length_limit}
 
 -- up to version 4 each text is in its place, and none is empty
 pub record FitsVersion4 (t : Tables) : Type 0 where

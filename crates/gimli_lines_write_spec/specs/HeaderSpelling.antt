@@ -6,7 +6,7 @@ use Rattle.gimli_lines_write_rows.specs.Format.{Format}
 use Rattle.gimli_lines_write_rows.specs.FormatSizes.{word_size}
 use Rattle.gimli_lines_write_rows.specs.Fixed.{number_bytes}
 use Rattle.gimli_lines_write_rows.specs.Spelling.{unsigned_string}
-use Rattle.gimli_lines_write_rows.specs.NumberBytes.{complement, escape}
+use Rattle.gimli_lines_write_rows.specs.NumberBytes.{complement, spelled_length}
 use Rattle.gimli_lines_write_rows.specs.LineRules.{LineRules}
 use Rattle.gimli_lines_header.specs.AttributeValues.{RawValue, string}
 use Rattle.gimli_lines_header.specs.declared.formats.FileEntryFormat.{FileEntryFormat}
@@ -14,8 +14,9 @@ use Rattle.gimli_lines_header.specs.LineFiles.{FileFacts, no_md5, file_named}
 use Rattle.gimli_lines_header.specs.LineHeaders.{LineHeader}
 use Rattle.gimli_lines_header.specs.HeaderParsing.{LineUnit}
 use Rattle.gimli_lines_write_spec.specs.HeaderTexts.{WrittenText, form_in, spelled_text, value_of_text}
-use Rattle.gimli_lines_write_spec.specs.EntryFields.{WrittenFile, Details, spelled_file, directory_formats, file_formats, spelled_formats, values_at, file_facts}
+use Rattle.gimli_lines_write_spec.specs.EntryFields.{WrittenFile, Details, spelled_file, directory_formats, file_formats, spelled_formats, file_facts}
 use Rattle.std.specs.Prelude.{None}
+use Rattle.gimli_lines_write_rows.specs.BytesAt.{values_at}
 
 -- the directories and files of a header, and what it records of files in version 5
 pub record Tables : Type 0 where
@@ -120,10 +121,6 @@ spelled_body rules is_big t program =
     ++ (number_bytes is_big (word_size rules.encoding.format)
     (length (spelled_header rules is_big t)) ++ (spelled_header rules is_big t ++ program))
 
--- a length, after the escape of 64-bit DWARF (7.4)
-abbrev pub spelled_length : Format → Bool → ℕ → List ℕ
-spelled_length format is_big n = escape format ++ number_bytes is_big (word_size format) n
-
 -- a header and its program
 abbrev pub spelled_unit : LineRules → Bool → Tables → List ℕ → List ℕ
 spelled_unit rules is_big t program =
@@ -180,7 +177,7 @@ facts_of_files e is_big first t =
     else values_at (spelled_file is_big e.format t.details) (file_facts is_big e.format t.details)
     (first + entries_offset e (formats_of_files t) (length t.files)) t.files
 
--- formats stand in version 5 alone
+-- there are formats in version 5 alone
 abbrev pub formats_in : Encoding → List FileEntryFormat → List FileEntryFormat
 formats_in e formats = if nat_le e.version 4 then [] else formats
 

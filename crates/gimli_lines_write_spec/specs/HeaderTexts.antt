@@ -45,7 +45,7 @@ IsReadableText limit format (in_strings offset) =
 IsReadableText limit format (in_line_strings offset) =
     (offset < limit) × (offset < 256 ^ word_size format)
 
--- a text that can stand in the tables up to version 4, which an empty text ends
+-- a text that can be in the tables up to version 4, which an empty text ends
 abbrev pub IsEntry : WrittenText → Type 0
 IsEntry (in_place text) = length text ≢ 0
 IsEntry (in_strings offset) = ⊥

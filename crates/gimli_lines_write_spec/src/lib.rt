@@ -1,5 +1,5 @@
 //! The headers of line number programs as they are written, in versions 2 to 5 (DWARF 5, 6.2.4),
-//! and that they are read again.
+//! and the law that they read back.
 #![tactic(auto)]
 
 pub mod laws;

@@ -1,10 +1,11 @@
 -- What is kept stays so as directories and files are added.
-use Rattle.std.proofs.Common.{◌≡◌, ◌≢◌, ℕ, ◌+◌, ◌≤◌, Bool, true, false, cond, List, [], ◌∷◌, ◌++◌, length, drop, sym, ap, ◌∙◌}
+use Rattle.std.proofs.Common.{◌≢◌, ℕ, ◌+◌, ◌≤◌, Bool, true, false, cond, List, [], ◌∷◌, ◌++◌, drop, sym, ap, ◌∙◌}
 use Rattle.std.specs.Prelude.{All}
 use Rattle.std.specs.List.{list_any}
 use Rattle.std.proofs.lemmas.List.{length-append}
 use Rattle.std.proofs.lemmas.List.Elements.{All-push, All-nil}
-use Rattle.gimli_lines_write_tables.specs.FileTables.{Text, File, Info, IsConsistent, IsZeroFree, IsFilled, is_same, with_item}
+use Rattle.gimli_lines_write_tables.specs.FileTables.{Text, File, Info, IsConsistent, HasNoZero, HasBytes, is_same}
+use Rattle.gimli_lines_write_tables.specs.StringSections.{with_item}
 
 module _ {A : Type 0} (P : A → Type 0) (same : A → A → Bool) where
   pub All-with : (things : List A) (x : A) → All P things → P x → All P (with_item same things x)
@@ -25,30 +26,31 @@ module _ {A : Type 0} (P : A → Type 0) (same : A → A → Bool) where
       by false = All-push P things x all (is (λ e. absurd (cc)))
 
 pub consistent_with_directory : (version : ℕ) (directories : List Text) (files : List File) (infos : List Info)
-    (t : Text) → IsConsistent version directories files infos → IsZeroFree t
-    → (version ≤ 4 → directories ≢ [] → IsFilled t)
+    (t : Text) → IsConsistent version directories files infos → HasNoZero t
+    → (version ≤ 4 → directories ≢ [] → HasBytes t)
     → IsConsistent version (with_item is_same directories t) files infos
 consistent_with_directory version directories files infos t kept free filled = record {
-  counted = kept.counted;
-  directories_zero_free = All-with IsZeroFree is_same directories t kept.directories_zero_free free;
+  same_length = kept.same_length;
+  directories_zero_free = All-with HasNoZero is_same directories t kept.directories_zero_free free;
   paths_zero_free = kept.paths_zero_free;
-  directories_filled = λ old. All-with-behind IsFilled is_same directories t (kept.directories_filled old) (filled old);
-  paths_filled = kept.paths_filled;
+  directories_not_empty = λ old.
+      All-with-behind HasBytes is_same directories t (kept.directories_not_empty old) (filled old);
+  paths_not_empty = kept.paths_not_empty;
 }
 
 abbrev PathFree : File → Type 0
-PathFree f = IsZeroFree f.path
+PathFree f = HasNoZero f.path
 
 abbrev PathFilled : File → Type 0
-PathFilled f = IsFilled f.path
+PathFilled f = HasBytes f.path
 
 pub consistent_with_file : (version : ℕ) (directories : List Text) (files : List File) (infos : List Info) (f : File)
-    (info : Info) → IsConsistent version directories files infos → IsZeroFree f.path → (version ≤ 4 → IsFilled f.path)
+    (info : Info) → IsConsistent version directories files infos → HasNoZero f.path → (version ≤ 4 → HasBytes f.path)
     → IsConsistent version directories (files ++ f ∷ []) (infos ++ info ∷ [])
 consistent_with_file version directories files infos f info kept free filled = record {
-  counted = length-append infos (info ∷ []) ∙ ap (λ n. n + 1) kept.counted ∙ sym (length-append files (f ∷ []));
+  same_length = length-append infos (info ∷ []) ∙ ap (λ n. n + 1) kept.same_length ∙ sym (length-append files (f ∷ []));
   directories_zero_free = kept.directories_zero_free;
   paths_zero_free = All-push PathFree files f kept.paths_zero_free free;
-  directories_filled = kept.directories_filled;
-  paths_filled = λ old. All-push PathFilled files f (kept.paths_filled old) (filled old);
+  directories_not_empty = kept.directories_not_empty;
+  paths_not_empty = λ old. All-push PathFilled files f (kept.paths_not_empty old) (filled old);
 }

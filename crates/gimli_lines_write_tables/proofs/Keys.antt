@@ -9,7 +9,8 @@ use Rattle.gimli_lines_write_tables.specs.contracts.line_string.LineStringPartia
 use Rattle.std.specs.Prelude.{◌&&◌, nat_eq}
 use Rattle.gimli_lines_write_tables.specs.declared.file.FileKey.{FileKey}
 use Rattle.gimli_lines_write_tables.specs.contracts.file.FileKeyPartialEq.TheImpl as file_equality
-use Rattle.gimli_lines_write_tables.specs.FileTables.{text_of, is_same, file_of, is_same_file, with_item, item_index}
+use Rattle.gimli_lines_write_tables.specs.FileTables.{text_of, is_same, file_of, is_same_file}
+use Rattle.gimli_lines_write_tables.specs.StringSections.{with_item, item_index}
 
 pub equal_is_same : (a b : LineString) → equality.eq-value.it a b ≡ is_same (text_of a) (text_of b)
 equal_is_same (String a) (String b) = refl

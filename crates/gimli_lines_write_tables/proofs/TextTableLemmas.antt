@@ -90,13 +90,15 @@ with_text-new texts t h = ap (λ b. cond b texts (texts ++ t ∷ [])) h
 
 pub text_table-none : IsTextTable [] [] []
 unfolding section_of
-text_table-none = record { counted = refl; begins = λ i h. absurd (omega arith); bytes = refl; no_zeros = search rules }
+text_table-none =
+    record { same_length = refl; begins = λ i h. absurd (omega arith); bytes = refl; no_zeros = search rules }
 
 pub text_table-push : (texts : List (List ℕ)) (offsets section t : List ℕ) → IsTextTable texts offsets section
     → IsText t
     → IsTextTable (texts ++ t ∷ []) (offsets ++ length section ∷ []) (section ++ (t ++ 0 ∷ []))
 text_table-push texts offsets section t kept is_text = record {
-  counted = omega (arith, length-append offsets (length section ∷ []), length-append texts (t ∷ []), kept.counted);
+  same_length =
+      omega (arith, length-append offsets (length section ∷ []), length-append texts (t ∷ []), kept.same_length);
   begins = begins;
   bytes = ap (λ s. s ++ (t ++ 0 ∷ [])) kept.bytes ∙ sym (section_of-push texts t);
   no_zeros = All-push IsText texts t kept.no_zeros is_text;
@@ -105,7 +107,8 @@ text_table-push texts offsets section t kept is_text = record {
     begins : (i : ℕ) → i < length (texts ++ t ∷ []) → slice_index (offsets ++ length section ∷ []) i
         ≡ offset_of (texts ++ t ∷ []) i
     begins i h = elim (eq-or-lt_of_le (at_most i h)) [
-      | inr below ↦ get_or-append offsets (length section ∷ []) 0 i (omega (arith, kept.counted)) ∙ kept.begins i below
+      | inr below ↦ get_or-append offsets (length section ∷ []) 0 i (omega (arith, kept.same_length))
+          ∙ kept.begins i below
           ∙ sym (offset_of-before texts t i (omega arith))
       | inl at ↦ at_end i at
     ]
@@ -115,7 +118,7 @@ text_table-push texts offsets section t kept is_text = record {
 
         at_end : (j : ℕ) → j ≡ length texts → slice_index (offsets ++ length section ∷ []) j
             ≡ offset_of (texts ++ t ∷ []) j
-        at_end j e = ap (λ k. slice_index (offsets ++ length section ∷ []) k) (e ∙ sym kept.counted)
+        at_end j e = ap (λ k. slice_index (offsets ++ length section ∷ []) k) (e ∙ sym kept.same_length)
             ∙ get_or-append_seam offsets (length section) [] 0 ∙ ap length kept.bytes ∙ sym (offset_of-end texts)
             ∙ ap (offset_of texts) (sym e) ∙ sym (offset_of-before texts t j (omega arith))
 

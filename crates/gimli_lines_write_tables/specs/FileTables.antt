@@ -1,9 +1,9 @@
 -- The directories and files of a program as they are built: each once, in the order of the first
 -- adds.
 use Rattle.std.specs.Prelude.{◌≡◌, ◌≢◌, ℕ, ◌≤◌, nat_eq, ◌&&◌, Bool, true, false, List, [], ◌∷◌, ◌++◌, All, Option, Some, None, map, option_map, length, drop, replicate, set, if◌then◌else◌}
-use Rattle.std.specs.List.{list_any, position_or_len}
+use Rattle.std.specs.List.{list_any}
 use Rattle.std.specs.Cmp.Lexicographic.{pointwise}
-use Rattle.gimli_lines_write_tables.specs.StringSections.{IsText}
+use Rattle.gimli_lines_write_tables.specs.StringSections.{IsText, with_item, item_index}
 use Rattle.gimli_lines_write_tables.specs.declared.line_string.LineString.{LineString}
 use Rattle.gimli_lines_write_tables.specs.declared.line_string.LineString.TheVariants.{String, StringRef, LineStringRef}
 use Rattle.gimli_lines_write_tables.specs.declared.file.FileInfo.{FileInfo}
@@ -31,18 +31,18 @@ is_same (of_line_strings a) (of_line_strings b) = nat_eq a b
 is_same _ _ = false
 
 -- a text in a header holds no zero byte
-abbrev pub IsZeroFree : Text → Type 0
-IsZeroFree (in_header bytes) = IsText bytes
-IsZeroFree (of_strings _) = Unit {0}
-IsZeroFree (of_line_strings _) = Unit {0}
+abbrev pub HasNoZero : Text → Type 0
+HasNoZero (in_header bytes) = IsText bytes
+HasNoZero (of_strings _) = Unit {0}
+HasNoZero (of_line_strings _) = Unit {0}
 
 -- and isn't empty
-abbrev pub IsFilled : Text → Type 0
-IsFilled (in_header bytes) = length bytes ≢ 0
-IsFilled (of_strings _) = Unit {0}
-IsFilled (of_line_strings _) = Unit {0}
+abbrev pub HasBytes : Text → Type 0
+HasBytes (in_header bytes) = length bytes ≢ 0
+HasBytes (of_strings _) = Unit {0}
+HasBytes (of_line_strings _) = Unit {0}
 
--- ---- what is kept
+-- ---- files
 
 -- a file: its path, and the number of its directory
 pub record File : Type 0 where
@@ -86,14 +86,6 @@ pub record ProgramFiles : Type 0 where
 
 -- ---- adding
 
--- things, with another after them where none is the same
-abbrev pub with_item : {A : Type 0} → (A → A → Bool) → List A → A → List A
-with_item same things x = if list_any (same x) things then things else things ++ x ∷ []
-
--- the place of the first that is the same, or the place after the last
-abbrev pub item_index : {A : Type 0} → (A → A → Bool) → List A → A → ℕ
-item_index same things x = position_or_len (same x) things
-
 -- with a directory, where it isn't there yet
 abbrev pub with_directory : Text → ProgramFiles → ProgramFiles
 with_directory directory k = record k { directories = with_item is_same k.directories directory }
@@ -114,14 +106,14 @@ with_file file info k = record k {
       (list_any (is_same_file file) k.files) info;
 }
 
--- ---- what holds of all that is kept
+-- ---- what holds of every table
 
 -- Each file has its information, and the texts fit their version.
 pub record IsConsistent (version : ℕ) (directories : List Text) (files : List File)
     (infos : List Info) : Type 0 where
-  pub counted : length infos ≡ length files
-  pub directories_zero_free : All IsZeroFree directories
-  pub paths_zero_free : All (λ (f : File). IsZeroFree f.path) files
+  pub same_length : length infos ≡ length files
+  pub directories_zero_free : All HasNoZero directories
+  pub paths_zero_free : All (λ (f : File). HasNoZero f.path) files
   -- up to version 4 an empty text ends a table; the first directory isn't in it
-  pub directories_filled : version ≤ 4 → All IsFilled (drop 1 directories)
-  pub paths_filled : version ≤ 4 → All (λ (f : File). IsFilled f.path) files
+  pub directories_not_empty : version ≤ 4 → All HasBytes (drop 1 directories)
+  pub paths_not_empty : version ≤ 4 → All (λ (f : File). HasBytes f.path) files

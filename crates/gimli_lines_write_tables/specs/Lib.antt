@@ -1,5 +1,6 @@
 pub use Rattle.gimli_lines_write_rows.specs.Fixed
 pub use Rattle.gimli_lines_write_rows.specs.FormatSizes
+pub use Rattle.gimli_lines_write_rows.specs.LineDefaults
 pub use Rattle.gimli_lines_write_rows.specs.NumberParsers
 pub use Rattle.gimli_lines_write_rows.specs.Parsers
 pub use Rattle.gimli_lines_write_rows.specs.Repetition
@@ -18,6 +19,7 @@ pub use Rattle.gimli_lines_write_rows.specs.SectionReads
 pub use Rattle.gimli_lines_write_rows.specs.Range
 pub use Rattle.gimli_lines_write_rows.specs.Registers
 pub use Rattle.gimli_lines_write_rows.specs.LineRules
+pub use Rattle.gimli_lines_write_rows.specs.BytesAt
 pub use Rattle.gimli_lines_write_rows.specs.NumberBytes
 pub use Rattle.gimli_lines_write_rows.specs.OutputBytes
 pub use Rattle.gimli_lines_write_rows.specs.WriteErrorText

@@ -3,6 +3,18 @@ use Rattle.std.specs.Prelude.{◌≢◌, ℕ, ◌+◌, nat_eq, Bool, List, [], �
 use Rattle.std.specs.List.{list_any, position_or_len}
 use Rattle.std.specs.Cmp.Lexicographic.{pointwise}
 
+-- ---- items, each once
+
+-- the items, with another after them where none is the same
+abbrev pub with_item : {A : Type 0} → (A → A → Bool) → List A → A → List A
+with_item same items x = if list_any (same x) items then items else items ++ x ∷ []
+
+-- the place of the first that is the same, or the place after the last
+abbrev pub item_index : {A : Type 0} → (A → A → Bool) → List A → A → ℕ
+item_index same items x = position_or_len (same x) items
+
+-- ---- texts
+
 -- the same bytes
 abbrev pub same_bytes : List ℕ → List ℕ → Bool
 same_bytes a b = pointwise nat_eq a b
@@ -13,11 +25,11 @@ IsText bytes = All (λ b. b ≢ 0) bytes
 
 -- the texts, with another after them where it isn't among them
 abbrev pub with_text : List (List ℕ) → List ℕ → List (List ℕ)
-with_text texts t = if list_any (same_bytes t) texts then texts else texts ++ t ∷ []
+with_text texts t = with_item same_bytes texts t
 
 -- the place of a text among them, or the place after the last
 abbrev pub text_index : List (List ℕ) → List ℕ → ℕ
-text_index texts t = position_or_len (same_bytes t) texts
+text_index texts t = item_index same_bytes texts t
 
 -- the bytes of the section
 unfoldable pub section_of : List (List ℕ) → List ℕ

@@ -2,7 +2,8 @@
 
 ghost use Rattle.std.specs.Prelude.{◌≡◌, ◌≢◌, ◌<◌, ◌≤◌, [], ◌∷◌, ◌++◌, Some, option_map, map, set, true, false, length, slice_get, OnOk, OnErr, IfOk, IfErr};
 ghost use Rattle.gimli_lines_write_rows.specs.WriteError.TheVariants.{Memory};
-ghost use Rattle.gimli_lines_write_tables.specs.FileTables.{ProgramFiles, is_same, is_same_file, text_of, info_of, IsZeroFree, IsFilled, with_directory, with_file, item_index, file_of, with_info, IsConsistent};
+ghost use Rattle.gimli_lines_write_tables.specs.FileTables.{ProgramFiles, is_same, is_same_file, text_of, info_of, HasNoZero, HasBytes, with_directory, with_file, file_of, with_info, IsConsistent};
+ghost use Rattle.gimli_lines_write_tables.specs.StringSections.{item_index};
 ghost use Rattle.std.specs.Borrow.{Lends, sem};
 ghost use Rattle.gimli_lines_write_tables.specs.contracts.file_table.FileTable.{the_row};
 ghost use Rattle.gimli_lines_write_tables.specs.contracts.file.FileInfo.{the_row as info_row};
@@ -78,9 +79,9 @@ impl FileTable {
 
     /// The id of a directory, which is added where it isn't there.
     pub fn add_directory(&mut self, directory: LineString) -> Result<DirectoryId, Error>
-        requires zero_free { IsZeroFree (text_of directory) }
-        requires filled { self.old.version ≤ 4 → self.old.directories ≢ []
-            → IsFilled (text_of directory) }
+        requires zero_free { HasNoZero (text_of directory) }
+        requires not_empty { self.old.version ≤ 4 → self.old.directories ≢ []
+            → HasBytes (text_of directory) }
         ensures ok { OnOk result (self.new ≡ with_directory (text_of directory) self.old) }
         ensures place { IfOk result (λ id. id.0 ≡ item_index is_same self.old.directories
             (text_of directory)) }
@@ -102,8 +103,8 @@ impl FileTable {
     // Adds a file that isn't there.
     fn push_file(&mut self, key: FileKey, info: FileInfo) -> Result<FileId, Error>
         requires absent { list_any (is_same_file (file_of key)) self.old.files ≡ false }
-        requires zero_free { IsZeroFree (text_of key.path) }
-        requires filled { self.old.version ≤ 4 → IsFilled (text_of key.path) }
+        requires zero_free { HasNoZero (text_of key.path) }
+        requires not_empty { self.old.version ≤ 4 → HasBytes (text_of key.path) }
         ensures ok { OnOk result (self.new ≡ record self.old {
           files = self.old.files ++ file_of key
               ∷ [];
@@ -143,8 +144,8 @@ impl FileTable {
         directory: DirectoryId,
         info: Option<FileInfo>,
     ) -> Result<FileId, Error>
-        requires zero_free { IsZeroFree (text_of path) }
-        requires filled { self.old.version ≤ 4 → IsFilled (text_of path) }
+        requires zero_free { HasNoZero (text_of path) }
+        requires not_empty { self.old.version ≤ 4 → HasBytes (text_of path) }
         ensures ok { OnOk result (self.new ≡ with_file
             (record { path = text_of path; directory = directory.0 }) (option_map info_of info)
             self.old) }

@@ -31,7 +31,7 @@ impl LineString {
         line_strings: &mut LineStringTable,
     ) -> Result<LineString, Error>
         requires { IsText bytes.now }
-        ensures made { IfOk result (HoldsText encoding.version bytes.now line_strings.old) }
+        ensures text { IfOk result (HoldsText encoding.version bytes.now line_strings.old) }
         ensures table { IfOk result (λ _. line_strings.new ≡ table_after encoding.version bytes.now
             line_strings.old) }
         ensures err { OnErr result (line_strings.new ≡ line_strings.old) }

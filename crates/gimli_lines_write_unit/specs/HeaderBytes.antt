@@ -31,7 +31,7 @@ abbrev pub text_bytes : Bool → Encoding → ℕ → WrittenText → Result (Li
 text_bytes is_big e form t =
     if form_of t == form then sized_text is_big e.format t else Err (mismatch e.version)
 
--- things one after the other
+-- the bytes of items, one after the other
 abbrev pub all_bytes : {A : Type 0} → (A → Result (List ℕ) Error) → List A → Result (List ℕ) Error
 all_bytes f [] = Ok []
 all_bytes f (x ∷ xs) = join_bytes (f x) (all_bytes f xs)
@@ -79,15 +79,15 @@ directories_bytes is_big e directories =
     (all_bytes (text_bytes is_big e DW_FORM_string.0) directories) (Ok (0 ∷ []))
     else directory_entries_bytes is_big e directories
 
--- the forms of the paths and of the texts of files
+-- the form of the files' paths
 abbrev pub form_of_paths : List WrittenFile → ℕ
 form_of_paths files = form_in (map (λ (f : WrittenFile). f.path) files)
 
--- and of their texts
+-- the form of the files' texts
 abbrev pub form_of_sources : List WrittenFile → ℕ
 form_of_sources files = form_in (map (λ (f : WrittenFile). f.source) files)
 
--- the same of files, whose formats are of these forms
+-- in version 5 formats of these forms, how many files there are, and the files
 abbrev pub entries_of_files : Bool → Encoding → Details → ℕ → ℕ → List WrittenFile
     → Result (List ℕ) Error
 entries_of_files is_big e d path_form source_form files =

@@ -117,7 +117,7 @@ pub record AllKnown (strings line_strings : List (List ℕ)) (k : ProgramFiles) 
   pub sources : records_source k.version d ≡ true
       → All (λ (i : Info). IsKnown strings line_strings (unwrap_or i.source empty)) k.infos
 
--- the tables of a header and of the string sections, which may have gained the empty text
+-- the same of a program's files
 abbrev pub empty_form_of : ProgramFiles → FileDetails → Option Text
 empty_form_of k d = empty_form k.version d k.infos
 
@@ -128,6 +128,6 @@ header_tables strings line_strings k d =
     (line_strings_after (empty_form_of k d) line_strings) k d
     (empty_text strings line_strings (empty_form_of k d))
 
--- a table that a refused write was handed: as before, or with the empty text
+-- a table after a refused write: as before, or with the empty text
 abbrev pub GainsEmpty : List (List ℕ) → List (List ℕ) → Type 0
 GainsEmpty old new = (new ≡ old) ⊎ (new ≡ with_text old [])

@@ -1,5 +1,6 @@
 pub use Rattle.gimli_lines_write_tables.specs.Fixed
 pub use Rattle.gimli_lines_write_tables.specs.FormatSizes
+pub use Rattle.gimli_lines_write_tables.specs.LineDefaults
 pub use Rattle.gimli_lines_write_tables.specs.Spelling
 pub use Rattle.gimli_lines_write_tables.specs.Encoding
 pub use Rattle.gimli_lines_write_tables.specs.Format
@@ -8,6 +9,7 @@ pub use Rattle.gimli_lines_write_spec.specs.HeaderParsing
 pub use Rattle.gimli_lines_write_spec.specs.LineFiles
 pub use Rattle.gimli_lines_write_tables.specs.Registers
 pub use Rattle.gimli_lines_write_tables.specs.LineRules
+pub use Rattle.gimli_lines_write_tables.specs.BytesAt
 pub use Rattle.gimli_lines_write_tables.specs.NumberBytes
 pub use Rattle.gimli_lines_write_tables.specs.OutputBytes
 pub use Rattle.gimli_lines_write_tables.specs.WriteErrorText

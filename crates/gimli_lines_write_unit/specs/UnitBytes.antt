@@ -52,7 +52,7 @@ unit_bytes address_of is_big rules t entries =
     && nat_lt 1 rules.line_encoding.maximum_operations_per_instruction then Err NeedVersion
     else unit_with_length address_of is_big rules t entries)
 
--- An answer that may find no memory, and else is the definition's.
+-- A result that has this meaning, or is out of memory.
 abbrev pub Makes : {A B : Type 0} → (A → B) → Result A Error → Result B Error → Type 0
-Makes see (Ok x) made = made ≡ Ok (see x)
-Makes see (Err e) made = e ≢ Memory → made ≡ Err e
+Makes see (Ok x) meaning = meaning ≡ Ok (see x)
+Makes see (Err e) meaning = e ≢ Memory → meaning ≡ Err e

@@ -24,7 +24,7 @@ fn write_files_and_end<W: Writer>(
     files: &[FileKey],
     infos: &[FileInfo],
 ) -> Result<(), Error>
-    requires counted { length infos.now ≡ length files.now }
+    requires same_length { length infos.now ≡ length files.now }
     requires paths { All (λ f. IsKnown strings.now line_strings.now (text_of f.path)) files.now }
     ensures { Continues result (W.contents w.old) (W.contents w.new)
         (join_bytes (all_bytes (file_bytes_to_4 (W.contents w.old).is_big encoding)
@@ -47,7 +47,7 @@ fn write_described_files<W: Writer>(
     infos: &[FileInfo],
     empty: &LineString,
 ) -> Result<(), Error>
-    requires counted { length infos.now ≡ length files.now }
+    requires same_length { length infos.now ≡ length files.now }
     requires paths { All (λ f. IsKnown strings.now line_strings.now (text_of f.path)) files.now }
     requires sources { details.has_source ≡ true
         → All (λ i. IsKnown strings.now line_strings.now
@@ -85,7 +85,7 @@ fn write_files<W: Writer>(
     infos: &[FileInfo],
     empty: &LineString,
 ) -> Result<(), Error>
-    requires counted { length infos.now ≡ length files.now }
+    requires same_length { length infos.now ≡ length files.now }
     requires paths { All (λ f. IsKnown strings.now line_strings.now (text_of f.path)) files.now }
     requires sources { records_source encoding.version details ≡ true
         → All (λ i. IsKnown strings.now line_strings.now

@@ -29,7 +29,7 @@ pub fn write_files_to_4<W: Writer>(
     files: &[FileKey],
     infos: &[FileInfo],
 ) -> Result<(), Error>
-    requires counted { length infos.now ≡ length files.now }
+    requires same_length { length infos.now ≡ length files.now }
     requires paths { All (λ f. IsKnown strings.now line_strings.now (text_of f.path)) files.now }
     ensures { Continues result (W.contents w.old) (W.contents w.new)
         (all_bytes (file_bytes_to_4 (W.contents w.old).is_big encoding)
@@ -61,7 +61,7 @@ pub fn write_files_of_5<W: Writer>(
     infos: &[FileInfo],
     empty: &LineString,
 ) -> Result<(), Error>
-    requires counted { length infos.now ≡ length files.now }
+    requires same_length { length infos.now ≡ length files.now }
     requires paths { All (λ f. IsKnown strings.now line_strings.now (text_of f.path)) files.now }
     requires sources { details.has_source ≡ true
         → All (λ i. IsKnown strings.now line_strings.now
@@ -209,7 +209,7 @@ pub fn write_entries_of_files<W: Writer>(
     infos: &[FileInfo],
     empty: &LineString,
 ) -> Result<(), Error>
-    requires counted { length infos.now ≡ length files.now }
+    requires same_length { length infos.now ≡ length files.now }
     requires paths { All (λ f. IsKnown strings.now line_strings.now (text_of f.path)) files.now }
     requires sources { details.has_source ≡ true
         → All (λ i. IsKnown strings.now line_strings.now

@@ -15,7 +15,7 @@ pub use Rattle.gimli_units_entries.specs.UnitEntries
 pub use Rattle.gimli_units_entries.specs.EntryLaws
 pub use Rattle.gimli_units_entries.specs.EntryViews
 pub use Rattle.gimli_units_lists.specs.ListEntries
-pub use Rattle.gimli_units_lists.specs.ListAnswers
+pub use Rattle.gimli_units_lists.specs.ListResolutions
 pub use Rattle.gimli_units_lists.specs.ListEntryFields
 pub use Rattle.gimli_units_lists.specs.RangeEntries
 pub use Rattle.gimli_units_lists.specs.LocationEntries

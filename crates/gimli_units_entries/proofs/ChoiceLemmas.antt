@@ -14,7 +14,7 @@ use Rattle.gimli_units_entries.proofs.RowLaws.{row-all, row-choice}
 item-choice : (limit : ℕ) (chosen : ℕ → Bool) (w t : Walk) (o : Option Row) → row_or_end limit any_tag w ≡ Ok (o, t)
     → row_or_end limit chosen w ≡ Ok (option_map (row_under_choice chosen) o, t)
 unfolding row_or_end
-item-choice limit chosen w t o e = by_test (eqb (bytes_left w.left) 0) e
+item-choice limit chosen w t o e = by_test (eqb (bytes_left w.rest) 0) e
   where
     some : Row → Option Row
     some r = Some r
@@ -75,4 +75,4 @@ within-choice limit chosen (suc n) w none =
 pub rows-choice : (limit : ℕ) (chosen : ℕ → Bool) (w : Walk) → fault_of (rows limit any_tag w) ≡ None
     → rows limit chosen w ≡ rows_under_choice chosen (rows limit any_tag w)
 unfolding rows listing_in
-rows-choice limit chosen w well = within-choice limit chosen (suc (bytes_left w.left)) w well
+rows-choice limit chosen w well = within-choice limit chosen (suc (bytes_left w.rest)) w well

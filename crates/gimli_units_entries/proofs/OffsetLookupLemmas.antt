@@ -67,32 +67,32 @@ contents-after : (limit : ℕ) (e : Encoding) (d : Option Declaration) (v w : Vi
 contents-after limit e None v w found h = record { count = 0; leads = run-zero v ∙ ap leaves (state_is [] found v w h) }
 contents-after limit e (Some d) v w found h = attributes-after limit e d.attributes v w found h
 
-row-after : (limit : ℕ) (w t : Walk) (r : Row) → HasRow limit any_tag w r t → IsAfter w.left t.left
+row-after : (limit : ℕ) (w t : Walk) (r : Row) → HasRow limit any_tag w r t → IsAfter w.rest t.rest
 row-after limit w t r h =
-    let rest : h.rest ≡ t.left = ap (λ (x : Walk). x.left) h.leads in
-    let all = IsAfter-IsAfter w.left h.behind_its_code h.rest
-    (unsigned-after h.headed.code w.left h.behind_its_code h.headed.coded)
+    let rest : h.rest ≡ t.rest = ap (λ (x : Walk). x.rest) h.leads in
+    let all = IsAfter-IsAfter w.rest h.behind_its_code h.rest
+    (unsigned-after h.headed.code w.rest h.behind_its_code h.headed.coded)
     (contents-after limit w.encoding h.declaration h.behind_its_code h.rest h.found h.filled) in
-    subst (λ (v : View). IsAfter w.left v) rest all
+    subst (λ (v : View). IsAfter w.rest v) rest all
 
 -- ---- walks in a unit
 
 abbrev unit_walk : DebugUnit → List Declaration → ℤ → View → Walk
 unit_walk u table depth v =
-    record { encoding = u.encoding; table = table; end_offset = length_including_self u; depth = depth; left = v }
+    record { encoding = u.encoding; table = table; end_offset = length_including_self u; depth = depth; rest = v }
 
 -- a walk over the entries of a unit, with its declarations
 record InUnit (u : DebugUnit) (table : List Declaration) (w : Walk) : Type 0 where
-  pub is : unit_walk u table w.depth w.left ≡ w
-  pub from : IsAfter u.entries w.left
+  pub is : unit_walk u table w.depth w.rest ≡ w
+  pub from : IsAfter u.entries w.rest
 
 InUnit-next : (limit : ℕ) (u : DebugUnit) (table : List Declaration) (w t : Walk) (r : Row) → InUnit u table w
     → HasRow limit any_tag w r t → InUnit u table t
 InUnit-next limit u table w t r i h = record {
   is =
-      ap (λ (x : Walk). unit_walk u table x.depth x.left) (sym h.leads)
+      ap (λ (x : Walk). unit_walk u table x.depth x.rest) (sym h.leads)
       ∙ ap (λ (x : Walk). walk_after_code x h.declaration h.rest) i.is ∙ h.leads;
-  from = IsAfter-IsAfter u.entries w.left t.left i.from (row-after limit w t r h);
+  from = IsAfter-IsAfter u.entries w.rest t.rest i.from (row-after limit w t r h);
 }
 
 row_of-depth : (offset : ℕ) (depth : ℤ) (d : Option Declaration) (found : List RawAttribute)
@@ -102,9 +102,9 @@ row_of-depth offset depth (Some d) found = refl
 
 -- the same row where a walk begins at it
 row-again : (limit : ℕ) (u : DebugUnit) (table : List Declaration) (w t : Walk) (r : Row) → InUnit u table w
-    → HasRow limit any_tag w r t → (s : Walk) × (row limit (walk_before u table w.left) ≡ Ok (at_depth_0 r, s))
+    → HasRow limit any_tag w r t → (s : Walk) × (row limit (walk_before u table w.rest) ≡ Ok (at_depth_0 r, s))
 row-again limit u table w t r i h =
-    let start = walk_before u table w.left in
+    let start = walk_before u table w.rest in
     let s = walk_after_code start h.declaration h.rest in
     let offset : next_offset start ≡ next_offset w = ap next_offset i.is in (
       s,
@@ -159,10 +159,10 @@ unfolding entry_at
 row-lookup limit most u table w t r read_well i h =
     let less = row-takes limit any_tag w t r h in
     let place = (row-place limit any_tag w t r h).0 in
-    let offset : r.offset ≡ length_including_self u - bytes_left w.left = place ∙ sym (ap next_offset i.is) in
+    let offset : r.offset ≡ length_including_self u - bytes_left w.rest = place ∙ sym (ap next_offset i.is) in
     let again = row-again limit u table w t r i h in
     ap (λ (x : Result View Error). row_of_walk limit r.offset (walk_of u table x))
-    (bytes_from-walk most u w.left r.offset read_well i.from (omega arith) offset)
+    (bytes_from-walk most u w.rest r.offset read_well i.from (omega arith) offset)
     ∙ ap (not_null_in r.offset) again.1
 
 -- ---- all rows

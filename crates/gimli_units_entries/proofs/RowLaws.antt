@@ -26,8 +26,8 @@ pub skip_values-as_read : (limit : ℕ) (ss : List Attribute) (w t : Walk) (foun
     → values limit ss w ≡ Ok (found, t) → skip_values ss w ≡ Ok (tt, t)
 unfolding values skip_values
 skip_values-as_read limit ss w t found e =
-    let c = read_in_walk-Ok w (forms.attributes limit w.encoding ss w.left) found t e in
-    ap (read_in_walk w) (skip_values-attributes limit w.encoding ss w.left c.0 found c.1) ∙ ap (read tt) c.2
+    let c = read_in_walk-Ok w (forms.attributes limit w.encoding ss w.rest) found t e in
+    ap (read_in_walk w) (skip_values-attributes limit w.encoding ss w.rest c.0 found c.1) ∙ ap (read tt) c.2
 
 -- ---- a choice of tags
 
@@ -99,7 +99,7 @@ row-choice limit chosen w t r e =
 -- ---- the rows of a walk
 
 abbrev pub size : Walk → ℕ
-size w = bytes_left w.left
+size w = bytes_left w.rest
 
 pub row-below : (limit : ℕ) (chosen : ℕ → Bool) (w : Walk) (n : ℕ) → size w ≤ n
     → Below size n (row_choosing limit chosen w)
@@ -114,7 +114,7 @@ rows-shrink limit chosen = record {
       (SomeBelow-proceed (row-below limit chosen w n h) (λ x s lt. SomeBelow-Ok lt));
 }
 
-pub rows-few : (limit : ℕ) (chosen : ℕ → Bool) (w : Walk) → length (rows limit chosen w).items ≤ bytes_left w.left
+pub rows-few : (limit : ℕ) (chosen : ℕ → Bool) (w : Walk) → length (rows limit chosen w).items ≤ bytes_left w.rest
 unfolding rows
 rows-few limit chosen w = listing_few (rows-shrink limit chosen) w
 
@@ -172,14 +172,14 @@ row-place limit chosen w t r h =
     place (Some d) = refl
 
 -- what a walk lists from its place on grows from there
-rows-grow : (limit : ℕ) (chosen : ℕ → Bool) (n : ℕ) (w : Walk) → bytes_left w.left ≤ w.end_offset
+rows-grow : (limit : ℕ) (chosen : ℕ → Bool) (n : ℕ) (w : Walk) → bytes_left w.rest ≤ w.end_offset
     → GrowFrom (next_offset w) (offsets (items_within n (row_or_end limit chosen) w).items)
 unfolding items_within
 rows-grow limit chosen zero w h = tt
 rows-grow limit chosen (suc n) w h = stepped (row_or_end limit chosen w) refl (rows-grow limit chosen n)
   where
     item : (r : Row) (t : Walk) → row_or_end limit chosen w ≡ Ok (Some r, t)
-        → (bytes_left t.left ≤ t.end_offset
+        → (bytes_left t.rest ≤ t.end_offset
         → GrowFrom (next_offset t) (offsets (items_within n (row_or_end limit chosen) t).items))
         → GrowFrom (next_offset w) (offsets (r ∷ (items_within n (row_or_end limit chosen) t).items))
     item r t e again =
@@ -194,14 +194,14 @@ rows-grow limit chosen (suc n) w h = stepped (row_or_end limit chosen w) refl (r
         )
 
     optional : (o : Option Row) (t : Walk) → row_or_end limit chosen w ≡ Ok (o, t)
-        → (bytes_left t.left ≤ t.end_offset
+        → (bytes_left t.rest ≤ t.end_offset
         → GrowFrom (next_offset t) (offsets (items_within n (row_or_end limit chosen) t).items))
         → GrowFrom (next_offset w) (offsets (item_or_end o t (items_within n (row_or_end limit chosen))).items)
     optional None t e again = tt
     optional (Some r) t e again = item r t e again
 
     stepped : (x : Result (Option Row × Walk) Error) → row_or_end limit chosen w ≡ x
-        → ((t : Walk) → bytes_left t.left ≤ t.end_offset
+        → ((t : Walk) → bytes_left t.rest ≤ t.end_offset
         → GrowFrom (next_offset t) (offsets (items_within n (row_or_end limit chosen) t).items))
         → GrowFrom (next_offset w) (offsets (next_item x (items_within n (row_or_end limit chosen))).items)
     stepped (Err d) e again = tt

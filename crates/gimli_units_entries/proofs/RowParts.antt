@@ -13,12 +13,12 @@ use Rattle.gimli_units_forms.specs.AttributeValues.{RawAttribute}
 use Rattle.gimli_units_forms.specs.AttributeReading as forms
 use Rattle.gimli_units_forms.specs.AttributeSkipping as form_skips
 use Rattle.gimli_units_forms.proofs.FormSizes.{AtMost-attributes, AtMost-skip_values}
-use Rattle.gimli_units_entries.specs.EntryWalks.{Walk, walk_with_left, read_in_walk, declaration_of_code, depth_after, change_depth, next_offset, entry_head, values, skip_values}
+use Rattle.gimli_units_entries.specs.EntryWalks.{Walk, walk_with_rest, read_in_walk, declaration_of_code, depth_after, change_depth, next_offset, entry_head, values, skip_values}
 use Rattle.gimli_units_entries.specs.EntryRows.{Row, row_of, skip_attributes_of, contents, row_choosing}
 
 -- what a walk makes of what was read of its bytes
 pub read_in_walk-Ok : {A : Type 0} (w : Walk) (r : Result (A × View) Error) (x : A) (t : Walk)
-    → read_in_walk w r ≡ Ok (x, t) → (v : View) × (r ≡ Ok (x, v)) × (walk_with_left v w ≡ t)
+    → read_in_walk w r ≡ Ok (x, t) → (v : View) × (r ≡ Ok (x, v)) × (walk_with_rest v w ≡ t)
 read_in_walk-Ok {A} w (Ok p) x t e = (p.1, ap (λ (y : A). read y p.1) (value_is p.0 x _ t e), state_is p.0 x _ t e)
 read_in_walk-Ok w (Err d) x t e = absurd cc
 
@@ -28,12 +28,12 @@ read_in_walk-Ok w (Err d) x t e = absurd cc
 abbrev pub walk_after_code : Walk → Option Declaration → View → Walk
 walk_after_code w d v =
     record
-    { encoding = w.encoding; table = w.table; end_offset = w.end_offset; depth = depth_after w.depth d; left = v }
+    { encoding = w.encoding; table = w.table; end_offset = w.end_offset; depth = depth_after w.depth d; rest = v }
 
 -- a code was read, and stands for a declaration
 pub record HasHead (w : Walk) (d : Option Declaration) (v : View) : Type 0 where
   pub code : ℕ
-  pub coded : unsigned w.left ≡ Ok (code, v)
+  pub coded : unsigned w.rest ≡ Ok (code, v)
   pub known : declaration_of_code code w.table ≡ Ok d
 
 pub entry_head-from : (w : Walk) (d : Option Declaration) (v : View) → HasHead w d v
@@ -42,20 +42,20 @@ unfolding entry_head
 entry_head-from w d v h =
     ap (λ (r : Result (ℕ × View) Error). proceed (read_in_walk w r)
     (λ code s. proceed (here s) (λ x y. proceed (lift (declaration_of_code code x.table) y) change_depth))) h.coded
-    ∙ ap (λ (r : Result (Option Declaration) Error). proceed (lift r (walk_with_left v w)) change_depth) h.known
+    ∙ ap (λ (r : Result (Option Declaration) Error). proceed (lift r (walk_with_rest v w)) change_depth) h.known
 
 pub entry_head-parts : (w t : Walk) (d : Option Declaration) → entry_head w ≡ Ok (d, t)
     → (v : View) × HasHead w d v × (walk_after_code w d v ≡ t)
 unfolding entry_head
 entry_head-parts w t d e =
-    let b = begins (read_in_walk w (unsigned w.left))
+    let b = begins (read_in_walk w (unsigned w.rest))
     (λ code s. proceed (here s) (λ x y. proceed (lift (declaration_of_code code x.table) y) change_depth)) d t e in
-    let c = read_in_walk-Ok w (unsigned w.left) b.0 b.1 b.2 in
+    let c = read_in_walk-Ok w (unsigned w.rest) b.0 b.1 b.2 in
     let k = begins (lift (declaration_of_code b.0 b.1.table) b.1) change_depth d t b.3 in
     let l = lift-Ok (declaration_of_code b.0 b.1.table) b.1 k.0 k.1 k.2 in
     let same : k.0 ≡ d = value_is _ _ _ _ k.3 in
-    let is : walk_after_code k.1 k.0 k.1.left ≡ t = state_is _ _ _ _ k.3 in
-    let at : k.1 ≡ walk_with_left c.0 w = l.1 ∙ sym c.2 in (
+    let is : walk_after_code k.1 k.0 k.1.rest ≡ t = state_is _ _ _ _ k.3 in
+    let at : k.1 ≡ walk_with_rest c.0 w = l.1 ∙ sym c.2 in (
       c.0,
       record {
         code = b.0;
@@ -63,8 +63,8 @@ entry_head-parts w t d e =
         known = ap (λ (x : Walk). declaration_of_code b.0 x.table) c.2 ∙ l.0
             ∙ ap ok same;
       },
-      ap (λ (x : Walk). walk_after_code x d x.left) (sym at)
-          ∙ ap (λ (o : Option Declaration). walk_after_code k.1 o k.1.left) (sym same) ∙ is,
+      ap (λ (x : Walk). walk_after_code x d x.rest) (sym at)
+          ∙ ap (λ (o : Option Declaration). walk_after_code k.1 o k.1.rest) (sym same) ∙ is,
     )
   where
     ok : Option Declaration → Result (Option Declaration) Error
@@ -88,16 +88,16 @@ read_in_walk-drop w (Ok p) = refl
 read_in_walk-drop w (Err d) = refl
 
 contents-is : (limit : ℕ) (chosen : ℕ → Bool) (d : Option Declaration) (w : Walk)
-    → contents limit chosen d w ≡ read_in_walk w (contents_in limit chosen w.encoding d w.left)
+    → contents limit chosen d w ≡ read_in_walk w (contents_in limit chosen w.encoding d w.rest)
 unfolding values skip_values
 contents-is limit chosen None w = refl
 contents-is limit chosen (Some d) w =
     elim (chosen d.tag) as (λ b. cond b (values limit d.attributes w) (skip_attributes_of d w)
     ≡ read_in_walk w
-    (cond b (forms.attributes limit w.encoding d.attributes w.left)
-    (proceed (form_skips.skip_values w.encoding d.attributes w.left) (λ _. give [])))) [
+    (cond b (forms.attributes limit w.encoding d.attributes w.rest)
+    (proceed (form_skips.skip_values w.encoding d.attributes w.rest) (λ _. give [])))) [
       | true ↦ refl
-      | false ↦ read_in_walk-drop w (form_skips.skip_values w.encoding d.attributes w.left)
+      | false ↦ read_in_walk-drop w (form_skips.skip_values w.encoding d.attributes w.rest)
     ]
 
 contents_in-AtMost : (limit : ℕ) (chosen : ℕ → Bool) (e : Encoding) (d : Option Declaration) (v : View)
@@ -158,12 +158,12 @@ row-from limit chosen w t r h =
 
 -- a row takes a byte at least
 pub row-takes : (limit : ℕ) (chosen : ℕ → Bool) (w t : Walk) (r : Row) → HasRow limit chosen w r t
-    → bytes_left t.left < bytes_left w.left
+    → bytes_left t.rest < bytes_left w.rest
 row-takes limit chosen w t r h =
-    let code : bytes_left h.behind_its_code < bytes_left w.left = (Below-unsigned w.left (omega arith)).left _ _
+    let code : bytes_left h.behind_its_code < bytes_left w.rest = (Below-unsigned w.rest (omega arith)).left _ _
     h.headed.coded in
     let attributes : bytes_left h.rest
     ≤ bytes_left h.behind_its_code = (contents_in-AtMost limit chosen w.encoding h.declaration h.behind_its_code).left _
     _ h.filled in
-    let same : bytes_left h.rest ≡ bytes_left t.left = ap (λ (x : Walk). bytes_left x.left) h.leads in
+    let same : bytes_left h.rest ≡ bytes_left t.rest = ap (λ (x : Walk). bytes_left x.rest) h.leads in
     omega arith

@@ -16,14 +16,14 @@ use Rattle.gimli_units_entries.proofs.RowLaws.{rows-shrink}
 abbrev item_of : Result (Row × Walk) Error → Result (Option Row × Walk) Error
 item_of r = proceed r (λ x. give (Some x))
 
-row_or_end-there : (limit : ℕ) (chosen : ℕ → Bool) (w : Walk) (r : Result (Row × Walk) Error) → 0 < bytes_left w.left
+row_or_end-there : (limit : ℕ) (chosen : ℕ → Bool) (w : Walk) (r : Result (Row × Walk) Error) → 0 < bytes_left w.rest
     → row_choosing limit chosen w ≡ r → row_or_end limit chosen w ≡ item_of r
 unfolding row_or_end
-row_or_end-there limit chosen w r some h = by_test (eqb (bytes_left w.left) 0) refl
+row_or_end-there limit chosen w r some h = by_test (eqb (bytes_left w.rest) 0) refl
   where
-    by_test : (b : Bool) → eqb (bytes_left w.left) 0 ≡ b
+    by_test : (b : Bool) → eqb (bytes_left w.rest) 0 ≡ b
         → cond b (read None w) (item_of (row_choosing limit chosen w)) ≡ item_of r
-    by_test true e = let zero = eqb-true (bytes_left w.left) 0 e in absurd (omega arith)
+    by_test true e = let zero = eqb-true (bytes_left w.rest) 0 e in absurd (omega arith)
     by_test false e = ap item_of h
 
 -- a row that is read comes first
@@ -35,14 +35,14 @@ rows-next limit chosen w t r h =
     listing_item (rows-shrink limit chosen) [] r w t (row_or_end-there limit chosen w (read r t) (omega arith) h)
 
 -- a row that can't be read ends them
-pub rows-fault : (limit : ℕ) (chosen : ℕ → Bool) (w : Walk) (d : Error) → 0 < bytes_left w.left
+pub rows-fault : (limit : ℕ) (chosen : ℕ → Bool) (w : Walk) (d : Error) → 0 < bytes_left w.rest
     → row_choosing limit chosen w ≡ Err d → rows limit chosen w ≡ no_items (Err d)
 unfolding rows
 rows-fault limit chosen w d some h =
     listing_fault (rows-shrink limit chosen) w d (row_or_end-there limit chosen w (Err d) some h)
 
 -- they end where no byte is left
-pub rows-end : (limit : ℕ) (chosen : ℕ → Bool) (w : Walk) → bytes_left w.left ≡ 0
+pub rows-end : (limit : ℕ) (chosen : ℕ → Bool) (w : Walk) → bytes_left w.rest ≡ 0
     → rows limit chosen w ≡ no_items (Ok w)
 unfolding rows row_or_end
 rows-end limit chosen w h =

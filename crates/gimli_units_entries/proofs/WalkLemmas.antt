@@ -7,14 +7,14 @@ use Rattle.gimli_core_base.specs.declared.error.Error.{Error}
 use Rattle.gimli_core_base.specs.View.{View, bytes_left}
 use Rattle.gimli_core_base.specs.Calls.{ReadsAs, ReadsAsOrNoMemory}
 use Rattle.gimli_core_base.proofs.StepSizes.{AtMost}
-use Rattle.gimli_units_entries.specs.EntryWalks.{Walk, IsWithin, walk_with_left}
+use Rattle.gimli_units_entries.specs.EntryWalks.{Walk, IsWithin, walk_with_rest}
 
 -- a view, as what a call answers
 abbrev copy_result : View → Result View Error
 copy_result v = Ok v
 
-pub IsWithin-with_left : (w : Walk) (v : View) → IsWithin w → bytes_left v ≤ bytes_left w.left
-    → IsWithin (walk_with_left v w)
+pub IsWithin-with_left : (w : Walk) (v : View) → IsWithin w → bytes_left v ≤ bytes_left w.rest
+    → IsWithin (walk_with_rest v w)
 IsWithin-with_left w v h le = record {
   is_before = omega (arith, h.is_before);
   not_low = omega (arith, ints, h.not_low);
@@ -34,7 +34,7 @@ Takes-fewer see (Err e) v v' read h most = let same = ap bytes_left h.1 in omega
 
 -- what is read leaves a walk
 pub IsWithin-leaves : {B : Type 0} (w : Walk) (v : View) (read : Result (B × View) Error) (x : B) → IsWithin w
-    → read ≡ Ok (x, v) → AtMost bytes_left (bytes_left w.left) read → IsWithin (walk_with_left v w)
+    → read ≡ Ok (x, v) → AtMost bytes_left (bytes_left w.rest) read → IsWithin (walk_with_rest v w)
 IsWithin-leaves w v read x h e most = IsWithin-with_left w v h (most.left x v e)
 
 -- a copy has as many bytes left

@@ -20,43 +20,43 @@ SkippingFollowsReading =
 abbrev pub any_tag : ℕ → Bool
 any_tag tag = true
 
--- a row whose attributes are read is the row of which all tags are chosen
+-- a row whose attributes are read is the row for which all tags are chosen
 abbrev pub AllChosenIsRead : Type 0
 AllChosenIsRead = (limit : ℕ) (w : Walk) → row_choosing limit any_tag w ≡ row limit w
 
 -- a row without its attributes, where its tag isn't chosen
 abbrev pub row_under_choice : (ℕ → Bool) → Row → Row
-row_under_choice chosen r = record {
+row_under_choice choice r = record {
   offset = r.offset;
   depth = r.depth;
   tag = r.tag;
   has_children = r.has_children;
-  attributes = if chosen r.tag then r.attributes else [];
+  attributes = if choice r.tag then r.attributes else [];
 }
 
 -- where a row is read, a choice of tags changes nothing but its attributes
 abbrev pub ChoiceDropsAttributes : Type 0
-ChoiceDropsAttributes = (limit : ℕ) (chosen : ℕ → Bool) (w rest : Walk) (r : Row)
+ChoiceDropsAttributes = (limit : ℕ) (choice : ℕ → Bool) (w rest : Walk) (r : Row)
     → row limit w ≡ Ok (r, rest)
-    → row_choosing limit chosen w ≡ Ok (row_under_choice chosen r, rest)
+    → row_choosing limit choice w ≡ Ok (row_under_choice choice r, rest)
 
 -- where all rows of a walk can be read, a choice of tags changes nothing but attributes
 abbrev pub RowsByChoice : Type 0
-RowsByChoice = (limit : ℕ) (chosen : ℕ → Bool) (w : Walk) → fault_of (rows limit any_tag w) ≡ None
-    → rows limit chosen w ≡ record {
-      items = map (row_under_choice chosen) (rows limit any_tag w).items;
+RowsByChoice = (limit : ℕ) (choice : ℕ → Bool) (w : Walk) → fault_of (rows limit any_tag w) ≡ None
+    → rows limit choice w ≡ record {
+      items = map (row_under_choice choice) (rows limit any_tag w).items;
       ending = (rows limit any_tag w).ending;
     }
 
 -- each row takes a byte at least
 abbrev pub NoMoreRowsThanBytes : Type 0
-NoMoreRowsThanBytes = (limit : ℕ) (chosen : ℕ → Bool) (w : Walk)
-    → length (rows limit chosen w).items ≤ bytes_left w.left
+NoMoreRowsThanBytes = (limit : ℕ) (choice : ℕ → Bool) (w : Walk)
+    → length (rows limit choice w).items ≤ bytes_left w.rest
 
 -- each row comes after the one before
 abbrev pub OffsetsGrow : Type 0
-OffsetsGrow = (limit : ℕ) (chosen : ℕ → Bool) (w : Walk) → IsWithin w
-    → IsStrictlyIncreasing (map (λ r. r.offset) (rows limit chosen w).items)
+OffsetsGrow = (limit : ℕ) (choice : ℕ → Bool) (w : Walk) → IsWithin w
+    → IsStrictlyIncreasing (map (λ r. r.offset) (rows limit choice w).items)
 
 -- the same row where a walk begins at it
 abbrev pub at_depth_0 : Row → Row

@@ -49,17 +49,17 @@ skip_attributes_of d = skip_values d.attributes >>= λ _. give []
 
 -- the attributes of an entry: read where its tag is chosen, else skipped; a null entry has none
 abbrev pub contents : ℕ → (ℕ → Bool) → Option Declaration → Step Walk (List RawAttribute)
-contents limit chosen None = give []
-contents limit chosen (Some d) =
-    branch (chosen d.tag) (values limit d.attributes) (skip_attributes_of d)
+contents limit choice None = give []
+contents limit choice (Some d) =
+    branch (choice d.tag) (values limit d.attributes) (skip_attributes_of d)
 
 -- the next row, where the attributes of the chosen tags are read
 unfoldable pub row_choosing : ℕ → (ℕ → Bool) → Step Walk Row
-row_choosing limit chosen = do
+row_choosing limit choice = do
   place ← here
   d ← entry_head
-  found ← contents limit chosen d
-  give (row_of (next_offset place) place.depth d found)
+  attributes ← contents limit choice d
+  give (row_of (next_offset place) place.depth d attributes)
 
 -- the attributes of an entry, read
 abbrev pub all_contents : ℕ → Option Declaration → Step Walk (List RawAttribute)
@@ -71,8 +71,8 @@ unfoldable pub row : ℕ → Step Walk Row
 row limit = do
   place ← here
   d ← entry_head
-  found ← all_contents limit d
-  give (row_of (next_offset place) place.depth d found)
+  attributes ← all_contents limit d
+  give (row_of (next_offset place) place.depth d attributes)
 
 -- the next row, and whether it isn't a null entry
 abbrev pub present_row : ℕ → Step Walk (Bool × Row)
@@ -80,14 +80,14 @@ present_row limit = row limit >>= λ r. give (not (r.tag == 0), r)
 
 -- the next row, none at the unit's end
 unfoldable pub row_or_end : ℕ → (ℕ → Bool) → Step Walk (Option Row)
-row_or_end limit chosen w =
-    if bytes_left w.left == 0 then Ok (None, w)
-    else proceed (row_choosing limit chosen w) (λ r. give (Some r))
+row_or_end limit choice w =
+    if bytes_left w.rest == 0 then Ok (None, w)
+    else proceed (row_choosing limit choice w) (λ r. give (Some r))
 
 -- All rows of a walk from here on, and what ends them: the unit's end, or the fault of a row that
 -- can't be read.
 unfoldable pub rows : ℕ → (ℕ → Bool) → Walk → Listing Walk Row
-rows limit chosen w = listing_in (λ (x : Walk). bytes_left x.left) (row_or_end limit chosen) w
+rows limit choice w = listing_in (λ (x : Walk). bytes_left x.rest) (row_or_end limit choice) w
 
 -- an entry that is asked for isn't null
 abbrev pub not_null : ℕ → Row → Result Row Error

@@ -6,12 +6,12 @@ use Rattle.gimli_units_forms.specs.declared.value.Attribute.{Attribute}
 use Rattle.gimli_units_entries.specs.EntryRows.{Row}
 use Rattle.gimli_units_entries.specs.declared.entry.DebuggingInformationEntry.{DebuggingInformationEntry}
 
--- attributes, whose readers and offsets are seen by these functions
+-- attributes, with their readers and offsets as these functions see them
 abbrev pub raw_attributes : {R E O : Type 0} → (R → View) → (O → ℕ) → List (Attribute R E O)
     → List RawAttribute
 raw_attributes view count attributes = map (raw_attribute_of view count) attributes
 
--- an entry, seen by the same functions
+-- an entry, as the same functions see it
 abbrev pub entry_of : {R E O : Type 0} → (R → View) → (O → ℕ) → DebuggingInformationEntry R E O
     → Row
 entry_of view count e = record {

@@ -21,30 +21,30 @@ pub record Walk : Type 0 where
   pub table : List Declaration
   pub end_offset : ℕ
   pub depth : ℤ
-  pub left : View
+  pub rest : View
 
 -- the offset of the next byte, from the start of the unit
 abbrev pub next_offset : Walk → ℕ
-next_offset w = w.end_offset - bytes_left w.left
+next_offset w = w.end_offset - bytes_left w.rest
 
 -- the same walk before other bytes
-abbrev pub walk_with_left : View → Walk → Walk
-walk_with_left v w = record {
+abbrev pub walk_with_rest : View → Walk → Walk
+walk_with_rest v w = record {
   encoding = w.encoding;
   table = w.table;
   end_offset = w.end_offset;
   depth = w.depth;
-  left = v;
+  rest = v;
 }
 
 -- what a read of the bytes left makes of the walk
 abbrev pub read_in_walk : {A : Type 0} → Walk → Result (A × View) Error → Result (A × Walk) Error
-read_in_walk w (Ok r) = Ok (r.0, walk_with_left r.1 w)
+read_in_walk w (Ok r) = Ok (r.0, walk_with_rest r.1 w)
 read_in_walk w (Err e) = Err e
 
 -- a parser of the bytes left, as a step of the walk
-abbrev pub parse_left : {A : Type 0} → Parser A → Step Walk A
-parse_left p w = read_in_walk w (p w.left)
+abbrev pub parse_rest : {A : Type 0} → Parser A → Step Walk A
+parse_rest p w = read_in_walk w (p w.rest)
 
 -- a declaration that the unit's table must have
 abbrev pub declaration_or_fault : ℕ → Option Declaration → Result (Option Declaration) Error
@@ -71,33 +71,33 @@ change_depth d w =
         table = w.table;
         end_offset = w.end_offset;
         depth = depth_after w.depth d;
-        left = w.left;
+        rest = w.rest;
       },
     )
 
 -- the code of an entry, as the declaration that it stands for; none for a null entry
 unfoldable pub entry_head : Step Walk (Option Declaration)
 entry_head = do
-  code ← parse_left unsigned
+  code ← parse_rest unsigned
   w ← here
   d ← lift (declaration_of_code code w.table)
   change_depth d
 
 -- the attribute that a declaration describes, read
 unfoldable pub value : ℕ → Attribute → Step Walk RawAttribute
-value limit s w = parse_left (forms.attribute limit w.encoding s) w
+value limit s w = parse_rest (forms.attribute limit w.encoding s) w
 
 -- several, one after the other
 unfoldable pub values : ℕ → List Attribute → Step Walk (List RawAttribute)
-values limit ss w = parse_left (forms.attributes limit w.encoding ss) w
+values limit ss w = parse_rest (forms.attributes limit w.encoding ss) w
 
 -- several, skipped by their widths
 unfoldable pub skip_values : List Attribute → Step Walk (Unit {0})
-skip_values ss w = parse_left (form_skips.skip_values w.encoding ss) w
+skip_values ss w = parse_rest (form_skips.skip_values w.encoding ss) w
 
 -- What holds of every walk: it is before the unit's end, and its depth stays within 64 bits, since
 -- each byte changes it by one at most.
 pub record IsWithin (w : Walk) : Type 0 where
-  pub is_before : bytes_left w.left ≤ w.end_offset
-  pub not_low : pos (bytes_left w.left) ≤ℤ (w.depth +ℤ pos (2 ^ 63))
-  pub not_high : (w.depth +ℤ pos (bytes_left w.left)) <ℤ pos (2 ^ 63)
+  pub is_before : bytes_left w.rest ≤ w.end_offset
+  pub not_low : pos (bytes_left w.rest) ≤ℤ (w.depth +ℤ pos (2 ^ 63))
+  pub not_high : (w.depth +ℤ pos (bytes_left w.rest)) <ℤ pos (2 ^ 63)

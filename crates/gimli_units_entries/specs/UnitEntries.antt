@@ -14,7 +14,7 @@ walk_before u table v = record {
   table = table;
   end_offset = length_including_self u;
   depth = pos 0;
-  left = v;
+  rest = v;
 }
 
 -- the same over bytes that may be refused

@@ -11,8 +11,8 @@ use gimli_core_base::error::Error;
 use gimli_units_forms::{Attribute, AttributeSpecification, push_attribute};
 use gimli_units_headers::Reader;
 
-/// Reads the attributes that declarations describe in place of those of a list. Where it is refused
-/// it leaves what it read so far, and a reader that may have moved.
+// Reads the attributes that declarations describe in place of those of a list. A refusal leaves
+// those that were read so far, and a reader that may have moved.
 fn fill<R: Reader>(
     attrs: &mut Vec<Attribute<R>>,
     input: &mut R,
@@ -31,8 +31,8 @@ fn fill<R: Reader>(
     Ok(())
 }
 
-/// Reads the attributes that declarations describe in place of those of a list, whose room it
-/// takes. Where it is refused it leaves an empty list, and a reader that may have moved.
+// Reads the attributes that declarations describe in place of those of a list, whose memory they
+// take. A refusal leaves an empty list, and a reader that may have moved.
 pub(crate) fn read_each<R: Reader>(
     attrs: &mut Vec<Attribute<R>>,
     input: &mut R,

@@ -37,7 +37,7 @@ impl<R: Reader> DebuggingInformationEntry<R> {
         }
     }
 
-    /// The entry is a null entry, which ends the children of an entry.
+    /// Whether the entry is a null entry, which ends the children of an entry.
     pub fn is_null(&self) -> bool
         ensures { result ≡ ((entry_of R.view R.Offset.count self.now).tag == 0) }
     {
@@ -79,7 +79,7 @@ impl<R: Reader> DebuggingInformationEntry<R> {
         self.attrs.as_slice()
     }
 
-    /// Makes it the null entry at a place.
+    // Makes it the null entry at a place.
     pub(crate) fn set_null(&mut self, offset: UnitOffset<R::Offset>, depth: isize)
         ensures { entry_of R.view R.Offset.count self.new
             ≡ null_at (R.Offset.count offset.0) depth }
@@ -101,7 +101,7 @@ impl<R: Reader> DebuggingInformationEntry<R> {
         self.attrs.iter().find(|attribute| attribute.name() == name)
     }
 
-    /// There is an attribute of the name.
+    /// Whether there is an attribute of the name.
     pub fn has_attr(&self, name: DwAt) -> bool
         ensures { result ≡ is_some
             (attribute_named name.0 (entry_of R.view R.Offset.count self.now)) }

@@ -7,7 +7,7 @@ pub fn skipping_follows_reading()
     ensures { SkippingFollowsReading }
 {}
 
-/// A row whose attributes are read is the row of which all tags are chosen.
+/// A row whose attributes are read is the row for which all tags are chosen.
 pub fn all_chosen_is_read()
     ensures { AllChosenIsRead }
 {}

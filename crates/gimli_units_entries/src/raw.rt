@@ -43,7 +43,7 @@ impl<'abbrev, R: Reader> Model for EntriesRaw<'abbrev, R> {
       table = e.abbreviations.now;
       end_offset = R.Offset.count e.end_offset.0;
       depth = e.depth;
-      left = R.view e.input;
+      rest = R.view e.input;
     } };
 
     ghost invariant = { λ e. IsWithin (record {
@@ -51,14 +51,14 @@ impl<'abbrev, R: Reader> Model for EntriesRaw<'abbrev, R> {
       table = e.abbreviations.now;
       end_offset = R.Offset.count e.end_offset.0;
       depth = e.depth;
-      left = R.view e.input;
+      rest = R.view e.input;
     }) };
 }
 
 impl<'abbrev, R: Reader> EntriesRaw<'abbrev, R> {
-    /// No byte of the unit is left.
+    /// Whether no byte of the unit is left.
     pub fn is_empty(&self) -> bool
-        ensures { result ≡ (bytes_left self.now.left == 0) }
+        ensures { result ≡ (bytes_left self.now.rest == 0) }
     {
         self.input.is_empty()
     }
@@ -151,8 +151,8 @@ impl<'abbrev, R: Reader> EntriesRaw<'abbrev, R> {
         skip_attributes(&mut self.input, self.encoding, specifications)
     }
 
-    /// The attributes that declarations describe, read in place of those of a list, whose room they
-    /// take. A refusal leaves the walk as it was, and the list empty.
+    /// Reads the attributes that declarations describe in place of those of a list, whose memory
+    /// they take. A refusal leaves the walk as it was, and the list empty.
     #[tactic(auto, unfolding(crate::specs::EntryWalks::values))]
     pub fn read_attributes(
         &mut self,
@@ -171,8 +171,8 @@ impl<'abbrev, R: Reader> EntriesRaw<'abbrev, R> {
         Ok(())
     }
 
-    /// The next entry with its attributes, read in place of another, whose room they take; answers
-    /// whether it is none of the null entries. A refusal leaves the walk as it was, and the entry
+    /// Reads the next entry with its attributes in place of another, whose memory they take, and
+    /// returns whether it isn't a null entry. A refusal leaves the walk as it was, and the entry
     /// null at the walk's place.
     pub fn read_entry(&mut self, entry: &mut DebuggingInformationEntry<R>) -> Result<bool, Error>
         ensures value { StepsAsOrNoMemory
@@ -187,8 +187,8 @@ impl<'abbrev, R: Reader> EntriesRaw<'abbrev, R> {
         Ok(!entry.is_null())
     }
 
-    /// The walk after the next entry, which is read into a null one at its place. Where it is
-    /// refused it leaves that.
+    // The walk after the next entry, which is read into a null one at its place. A refusal leaves
+    // that one.
     #[tactic(auto, unfolding(crate::specs::EntryRows::row))]
     fn read_into(
         mut self,
@@ -211,8 +211,8 @@ impl<'abbrev, R: Reader> EntriesRaw<'abbrev, R> {
         Ok(after_entry)
     }
 
-    /// The walk after attributes, which are read in place of those of a list. Where it is refused
-    /// it leaves an empty list.
+    // The walk after attributes, which are read in place of those of a list. A refusal leaves an
+    // empty list.
     #[tactic(auto, unfolding(crate::specs::EntryWalks::values))]
     fn read_values(
         self,
@@ -241,7 +241,7 @@ impl<'abbrev, R: Reader> EntriesRaw<'abbrev, R> {
         })
     }
 
-    /// A second walk at the same place.
+    // A second walk at the same place.
     fn copy(&self) -> Result<EntriesRaw<'abbrev, R>, Error>
         ensures { ReturnsOrNoMemory result (Ok self.now) }
     {
@@ -255,7 +255,7 @@ impl<'abbrev, R: Reader> EntriesRaw<'abbrev, R> {
     }
 }
 
-/// The next code, and how many bytes it takes.
+// The next code, and how many bytes it takes.
 #[inline(always)]
 #[tactic(auto, unfolding(gimli_core_base::specs::NumberParsers::unsigned))]
 fn code_at<R: Reader>(input: &R) -> Result<(u64, usize), Error>

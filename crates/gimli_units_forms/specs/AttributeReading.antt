@@ -23,7 +23,7 @@ use Rattle.gimli_units_forms.specs.AttributeValues.{RawValue, RawAttribute, addr
 abbrev pub Meaning : Type 0
 Meaning = ℕ → ℕ → Result RawValue Error
 
--- the number itself
+-- the number itself, as a value of a kind
 abbrev pub plain_number : (ℕ → RawValue) → Meaning
 plain_number kind limit n = Ok (kind n)
 
@@ -166,12 +166,16 @@ spelled_value limit e name form constant Unknown = fail (UnknownForm (record { 0
 unfoldable pub value : ℕ → Encoding → ℕ → Option ℤ → ℕ → Parser RawValue
 value limit e name constant form = spelled_value limit e name form constant (spelling e form)
 
+-- an attribute by its parts
+abbrev pub raw_attribute : ℕ → ℕ → RawValue → RawAttribute
+raw_attribute name form x = record { name = name; form = form; value = x }
+
 -- the attribute that a declaration describes
 unfoldable pub attribute : ℕ → Encoding → Attribute → Parser RawAttribute
 attribute limit e s = do
   form ← final_form s.form
   x ← value limit e s.name s.implicit_const form
-  give (record { name = s.name; form = form; value = x })
+  give (raw_attribute s.name form x)
 
 -- the attributes of several declarations, one after the other
 unfoldable pub attributes : ℕ → Encoding → List Attribute → Parser (List RawAttribute)

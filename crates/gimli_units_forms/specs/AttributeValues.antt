@@ -47,7 +47,7 @@ pub record RawAttribute : Type 0 where
   pub form : ℕ
   pub value : RawValue
 
--- a value, whose readers and offsets are seen by these functions
+-- a value, with its readers and offsets as these functions see them
 abbrev pub raw_value_of : {R O E P : Type 0} → (R → View) → (O → ℕ) → AttributeValue R O E P
     → RawValue
 raw_value_of view count (Addr n) = address n
@@ -84,7 +84,7 @@ raw_value_of view count (Language l) = language l.0
 raw_value_of view count (FileIndex n) = file_index n
 raw_value_of view count (DwoId i) = dwo_id i.0
 
--- an attribute, seen by the same functions
+-- an attribute, as the same functions see it
 abbrev pub raw_attribute_of : {R E O : Type 0} → (R → View) → (O → ℕ) → Attribute R E O
     → RawAttribute
 raw_attribute_of view count a =

@@ -102,8 +102,8 @@ impl<R: Reader> AttributeValue<R> {
         }
     }
 
-    /// The value that a name makes of this one, where it fits.
-    fn converted_under(&self, name: DwAt) -> Option<AttributeValue<R>>
+    // The value that a name makes of this one, where it fits.
+    fn conversion_under(&self, name: DwAt) -> Option<AttributeValue<R>>
         ensures { option_map (raw_value_of R.view R.Offset.count) result
             ≡ conversion_under name.0 (raw_value_of R.view R.Offset.count self.now) }
     {
@@ -216,7 +216,7 @@ impl<R: Reader> Attribute<R> {
             (Ok (value_under a.name a.value)) }
         ensures free { IsTrue R.copies_freely → IsOk result }
     {
-        match self.value.converted_under(self.name) {
+        match self.value.conversion_under(self.name) {
             Some(value) => Ok(value),
             None => self.value.copy(),
         }

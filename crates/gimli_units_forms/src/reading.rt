@@ -4,7 +4,7 @@ ghost use Rattle.gimli_core_abbrev.specs.Calls.{ReturnsAs, ReturnsAsOrNoMemory, 
 ghost use Rattle.gimli_core_abbrev.specs.View.{View};
 ghost use Rattle.gimli_core_abbrev.specs.NumberParsers.{fixed, unsigned};
 ghost use Rattle.gimli_core_abbrev.specs.AbbreviationViews.{attribute_view};
-ghost use Rattle.gimli_units_forms.specs.AttributeReading.{number_value, is_offset_data, meaning_in, offset_meanings, FitsSpelling, FitsWidth, final_form, bytes_value, bytes_by_length, value, attribute};
+ghost use Rattle.gimli_units_forms.specs.AttributeReading.{number_value, is_offset_data, meaning_in, offset_meanings, FitsSpelling, FitsWidth, final_form, bytes_value, bytes_by_length, value, raw_attribute, attribute};
 ghost use Rattle.gimli_units_forms.specs.FormSpellings.{spelling};
 ghost use Rattle.gimli_units_forms.specs.AttributeValues.{raw_value_of, raw_attribute_of};
 
@@ -25,8 +25,8 @@ use gimli_core_abbrev::{
     UnitOffset,
 };
 
-/// Whether data of a form stands for an offset: data of an offset's width, under `DW_AT_stmt_list`
-/// and `DW_AT_ranges`.
+// Whether data of a form stands for an offset: data of an offset's width, under `DW_AT_stmt_list`
+// and `DW_AT_ranges`.
 #[inline(always)]
 fn is_offset_data_of(encoding: Encoding, name: DwAt, form: DwForm) -> bool
     ensures { result ≡ is_offset_data encoding name.0 form.0 }
@@ -38,7 +38,7 @@ fn is_offset_data_of(encoding: Encoding, name: DwAt, form: DwForm) -> bool
     form == word_form && (name == DW_AT_stmt_list || name == DW_AT_ranges)
 }
 
-/// The value of a form that spells an offset or an index.
+// The value of a form that spells an offset or an index.
 #[inline(always)]
 fn offset_value_of<R: Reader>(form: DwForm, number: u64) -> Result<AttributeValue<R>, Error>
     ensures { ReturnsAs (raw_value_of R.view R.Offset.count) result
@@ -79,7 +79,7 @@ fn offset_value_of<R: Reader>(form: DwForm, number: u64) -> Result<AttributeValu
     })
 }
 
-/// The value of a form that spells a number.
+// The value of a form that spells a number.
 #[tactic(auto, unfolding(crate::specs::AttributeReading::number_value))]
 #[inline(always)]
 fn number_value_of<R: Reader>(
@@ -109,7 +109,7 @@ fn number_value_of<R: Reader>(
     })
 }
 
-/// A number of at most eight bytes.
+// A number of at most eight bytes.
 #[inline(always)]
 pub(crate) fn read_fixed<R: Reader>(reader: &mut R, width: u8) -> Result<u64, Error>
     requires { width ≤ 8 }
@@ -125,7 +125,7 @@ pub(crate) fn read_fixed<R: Reader>(reader: &mut R, width: u8) -> Result<u64, Er
     })
 }
 
-/// The form of a value: after `DW_FORM_indirect` comes the number of the form.
+// The form of a value: after `DW_FORM_indirect` comes the number of the form.
 #[inline(always)]
 pub(crate) fn read_form<R: Reader>(reader: &mut R, form: DwForm) -> Result<DwForm, Error>
     ensures { ReturnsAs (λ f. (f.0, R.view reader.new)) result
@@ -138,7 +138,7 @@ pub(crate) fn read_form<R: Reader>(reader: &mut R, form: DwForm) -> Result<DwFor
     Ok(form)
 }
 
-/// Bytes as a value of a form.
+// Bytes as a value of a form.
 fn bytes_value_of<R: Reader>(form: DwForm, bytes: R) -> AttributeValue<R>
     ensures { raw_value_of R.view R.Offset.count result ≡ bytes_value form.0 (R.view bytes) }
 {
@@ -149,7 +149,7 @@ fn bytes_value_of<R: Reader>(form: DwForm, bytes: R) -> AttributeValue<R>
     }
 }
 
-/// As many bytes as a length of that width says.
+// As many bytes as a length of that width says.
 #[tactic(auto, unfolding(crate::specs::AttributeReading::bytes_by_length))]
 fn read_block<R: Reader>(reader: &mut R, width: u8) -> Result<R, Error>
     requires { width ≤ 8 }
@@ -163,7 +163,7 @@ fn read_block<R: Reader>(reader: &mut R, width: u8) -> Result<R, Error>
     reader.split(R::Offset::from_u64(length)?)
 }
 
-/// As many bytes as an unsigned LEB128 length says.
+// As many bytes as an unsigned LEB128 length says.
 #[tactic(auto, unfolding(crate::specs::AttributeReading::bytes_by_length))]
 fn read_long_block<R: Reader>(reader: &mut R) -> Result<R, Error>
     ensures value { ReturnsAsOrNoMemory (λ bytes. (R.view bytes, R.view reader.new)) result
@@ -176,7 +176,7 @@ fn read_long_block<R: Reader>(reader: &mut R) -> Result<R, Error>
     reader.split(R::Offset::from_u64(length)?)
 }
 
-/// The value of a form that isn't `DW_FORM_indirect`.
+// The value of a form that isn't `DW_FORM_indirect`.
 #[tactic(auto, unfolding(crate::specs::AttributeReading::value))]
 fn read_value<R: Reader>(
     reader: &mut R,
@@ -218,68 +218,119 @@ fn read_value<R: Reader>(
     }
 }
 
-// What is done with the name, the form and the value of the attribute that a declaration describes.
-// The commonest forms have arms of their own, so that what is made of the value is made at once.
-macro_rules! with_attribute {
-    (
-        $reader:ident, $encoding:ident, $specification:ident,
-        |$name:ident, $form:ident, $value:ident| $done:expr
-    ) => {{
-        let $name = $specification.name();
-        let constant = $specification.implicit_const_value();
-        let $form = read_form($reader, $specification.form())?;
+// The attribute of a name and of a form that isn't `DW_FORM_indirect`.
+#[inline(always)]
+fn attribute_of_form<R: Reader>(
+    reader: &mut R,
+    encoding: Encoding,
+    name: DwAt,
+    constant: Option<i64>,
+    form: DwForm,
+) -> Result<Attribute<R>, Error>
+    ensures value { ReturnsAsOrNoMemory
+        (λ a. (raw_attribute_of R.view R.Offset.count a, R.view reader.new)) result
+        (map_value (raw_attribute name.0 form.0)
+        (value R.Offset.limit encoding name.0 constant form.0) (R.view reader.old)) }
+    ensures free { IsTrue R.copies_freely
+        → ReturnsAs (λ a. (raw_attribute_of R.view R.Offset.count a, R.view reader.new)) result
+        (map_value (raw_attribute name.0 form.0)
+        (value R.Offset.limit encoding name.0 constant form.0) (R.view reader.old)) }
+{
+    let value = read_value(reader, encoding, name, constant, form)?;
+    Ok(Attribute { name, form, value })
+}
+
+// The same, at the end of a list.
+#[inline(always)]
+fn push_attribute_of_form<R: Reader>(
+    attributes: &mut Vec<Attribute<R>>,
+    reader: &mut R,
+    encoding: Encoding,
+    name: DwAt,
+    constant: Option<i64>,
+    form: DwForm,
+) -> Result<(), Error>
+    ensures { ReturnsAsOrNoMemory
+        (λ _.
+        (map (raw_attribute_of R.view R.Offset.count) attributes.new.items, R.view reader.new))
+        result
+        (map_value
+        (λ x. map (raw_attribute_of R.view R.Offset.count) attributes.old.items
+        ++ raw_attribute name.0 form.0 x ∷ [])
+        (value R.Offset.limit encoding name.0 constant form.0) (R.view reader.old)) }
+{
+    let value = read_value(reader, encoding, name, constant, form)?;
+    attributes.push(Attribute { name, form, value })?;
+    Ok(())
+}
+
+// A call at a form, its last argument. The commonest forms are constants there, so that each has
+// code of its own, and what is made of its value is made at once.
+macro_rules! at_form {
+    ($form:ident, $call:ident($($argument:ident),*)) => {
         match $form {
-            DW_FORM_addr => {
-                let number = $reader.read_address($encoding.address_size)?;
-                let $value = number_value_of($encoding, $name, DW_FORM_addr, number)?;
-                $done
-            }
-            DW_FORM_data1 => {
-                let number = u64::from($reader.read_u8()?);
-                let $value = number_value_of($encoding, $name, DW_FORM_data1, number)?;
-                $done
-            }
-            DW_FORM_data2 => {
-                let number = u64::from($reader.read_u16()?);
-                let $value = number_value_of($encoding, $name, DW_FORM_data2, number)?;
-                $done
-            }
-            DW_FORM_data4 => {
-                let number = u64::from($reader.read_u32()?);
-                let $value = number_value_of($encoding, $name, DW_FORM_data4, number)?;
-                $done
-            }
-            DW_FORM_ref4 => {
-                let number = u64::from($reader.read_u32()?);
-                let $value = number_value_of($encoding, $name, DW_FORM_ref4, number)?;
-                $done
-            }
-            DW_FORM_udata => {
-                let number = $reader.read_uleb128()?;
-                let $value = number_value_of($encoding, $name, DW_FORM_udata, number)?;
-                $done
-            }
-            DW_FORM_strp => {
-                let number = read_fixed($reader, $encoding.format.word_size())?;
-                let $value = number_value_of($encoding, $name, DW_FORM_strp, number)?;
-                $done
-            }
-            DW_FORM_sec_offset => {
-                let number = read_fixed($reader, $encoding.format.word_size())?;
-                let $value = number_value_of($encoding, $name, DW_FORM_sec_offset, number)?;
-                $done
-            }
-            _ => {
-                let $value = read_value($reader, $encoding, $name, constant, $form)?;
-                $done
-            }
+            DW_FORM_addr => $call($($argument,)* DW_FORM_addr),
+            DW_FORM_data1 => $call($($argument,)* DW_FORM_data1),
+            DW_FORM_data2 => $call($($argument,)* DW_FORM_data2),
+            DW_FORM_data4 => $call($($argument,)* DW_FORM_data4),
+            DW_FORM_ref4 => $call($($argument,)* DW_FORM_ref4),
+            DW_FORM_udata => $call($($argument,)* DW_FORM_udata),
+            DW_FORM_strp => $call($($argument,)* DW_FORM_strp),
+            DW_FORM_sec_offset => $call($($argument,)* DW_FORM_sec_offset),
+            _ => $call($($argument,)* $form),
         }
-    }};
+    };
+}
+
+// The same as `attribute_of_form`, and faster.
+#[inline(always)]
+fn attribute_of_any_form<R: Reader>(
+    reader: &mut R,
+    encoding: Encoding,
+    name: DwAt,
+    constant: Option<i64>,
+    form: DwForm,
+) -> Result<Attribute<R>, Error>
+    ensures value { ReturnsAsOrNoMemory
+        (λ a. (raw_attribute_of R.view R.Offset.count a, R.view reader.new)) result
+        (map_value (raw_attribute name.0 form.0)
+        (value R.Offset.limit encoding name.0 constant form.0) (R.view reader.old)) }
+    ensures free { IsTrue R.copies_freely
+        → ReturnsAs (λ a. (raw_attribute_of R.view R.Offset.count a, R.view reader.new)) result
+        (map_value (raw_attribute name.0 form.0)
+        (value R.Offset.limit encoding name.0 constant form.0) (R.view reader.old)) }
+{
+    at_form!(form, attribute_of_form(reader, encoding, name, constant))
+}
+
+// The same as `push_attribute_of_form`, and faster.
+#[inline(always)]
+fn push_attribute_of_any_form<R: Reader>(
+    attributes: &mut Vec<Attribute<R>>,
+    reader: &mut R,
+    encoding: Encoding,
+    name: DwAt,
+    constant: Option<i64>,
+    form: DwForm,
+) -> Result<(), Error>
+    ensures { ReturnsAsOrNoMemory
+        (λ _.
+        (map (raw_attribute_of R.view R.Offset.count) attributes.new.items, R.view reader.new))
+        result
+        (map_value
+        (λ x. map (raw_attribute_of R.view R.Offset.count) attributes.old.items
+        ++ raw_attribute name.0 form.0 x ∷ [])
+        (value R.Offset.limit encoding name.0 constant form.0) (R.view reader.old)) }
+{
+    at_form!(
+        form,
+        push_attribute_of_form(attributes, reader, encoding, name, constant)
+    )
 }
 
 /// Reads the attribute that a declaration describes, and may move the reader also where it is
 /// refused: for who reads several on a copy.
-#[tactic(auto, unfolding(crate::specs::AttributeReading::attribute, crate::specs::AttributeReading::value))]
+#[tactic(auto, unfolding(crate::specs::AttributeReading::attribute))]
 pub fn read_attribute<R: Reader>(
     reader: &mut R,
     encoding: Encoding,
@@ -293,17 +344,15 @@ pub fn read_attribute<R: Reader>(
         → ReturnsAs (λ a. (raw_attribute_of R.view R.Offset.count a, R.view reader.new)) result
         (attribute R.Offset.limit encoding (attribute_view specification) (R.view reader.old)) }
 {
-    with_attribute!(
-        reader,
-        encoding,
-        specification,
-        |name, form, value| Ok(Attribute { name, form, value })
-    )
+    let name = specification.name();
+    let constant = specification.implicit_const_value();
+    let form = read_form(reader, specification.form())?;
+    attribute_of_any_form(reader, encoding, name, constant, form)
 }
 
 /// Reads the attribute that a declaration describes, adds it to a list, and may move the reader
 /// also where it is refused.
-#[tactic(auto, unfolding(crate::specs::AttributeReading::attribute, crate::specs::AttributeReading::value))]
+#[tactic(auto, unfolding(crate::specs::AttributeReading::attribute))]
 pub fn push_attribute<R: Reader>(
     attributes: &mut Vec<Attribute<R>>,
     reader: &mut R,
@@ -318,10 +367,10 @@ pub fn push_attribute<R: Reader>(
         (λ a. map (raw_attribute_of R.view R.Offset.count) attributes.old.items ++ a ∷ [])
         (attribute R.Offset.limit encoding (attribute_view specification)) (R.view reader.old)) }
 {
-    with_attribute!(reader, encoding, specification, |name, form, value| {
-        attributes.push(Attribute { name, form, value })?;
-        Ok(())
-    })
+    let name = specification.name();
+    let constant = specification.implicit_const_value();
+    let form = read_form(reader, specification.form())?;
+    push_attribute_of_any_form(attributes, reader, encoding, name, constant, form)
 }
 
 /// Reads the attribute that a declaration describes. A refusal leaves the reader as it was.

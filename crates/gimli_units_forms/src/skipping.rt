@@ -12,7 +12,7 @@ use crate::reading::{read_fixed, read_form};
 use crate::spelling::{Spelling, spelling_of};
 use gimli_core_abbrev::{AttributeSpecification, DwForm, Encoding, EndianSlice, Error, Reader};
 
-/// The width of a form's value, where it doesn't depend on the bytes.
+// The width of a form's value, where it doesn't depend on the bytes.
 #[inline(always)]
 #[tactic(auto, unfolding(crate::specs::AttributeSkipping::way_of))]
 fn fixed_width(encoding: Encoding, form: DwForm) -> Option<u8>
@@ -27,7 +27,7 @@ fn fixed_width(encoding: Encoding, form: DwForm) -> Option<u8>
     }
 }
 
-/// Skips bytes that aren't looked at.
+// Skips bytes that aren't looked at.
 #[tactic(auto, unfolding(crate::specs::AttributeSkipping::run))]
 fn skip_run<R: Reader>(place: &mut R, width: u64) -> Result<(), Error>
     ensures { ReturnsAs (λ u. (u, R.view place.new)) result (run_of width (R.view place.old)) }
@@ -39,7 +39,7 @@ fn skip_run<R: Reader>(place: &mut R, width: u64) -> Result<(), Error>
     Ok(())
 }
 
-/// Skips a text and its zero byte.
+// Skips a text and its zero byte.
 fn skip_string<R: Reader>(place: &mut R) -> Result<(), Error>
     ensures { ReturnsAs (λ u. (u, R.view place.new)) result (skip_text (R.view place.old)) }
 {
@@ -49,7 +49,7 @@ fn skip_string<R: Reader>(place: &mut R) -> Result<(), Error>
     Ok(())
 }
 
-/// Looks at the bytes of a form's value, and returns how many more follow.
+// Looks at the bytes of a form's value, and returns how many more follow.
 #[tactic(auto, unfolding(crate::specs::AttributeSkipping::look_at_value))]
 fn look<R: Reader>(place: &mut R, encoding: Encoding, form: DwForm) -> Result<u64, Error>
     ensures { ReturnsAs (λ more. (more, R.view place.new)) result
@@ -75,7 +75,7 @@ fn look<R: Reader>(place: &mut R, encoding: Encoding, form: DwForm) -> Result<u6
     }
 }
 
-/// Skips one value after a run, and returns the run after it.
+// Skips one value after a run, and returns the run after it.
 #[inline(always)]
 fn skip_value<R: Reader>(
     place: &mut R,
@@ -100,8 +100,8 @@ fn skip_value<R: Reader>(
     }
 }
 
-/// Skips the values that declarations describe, and where it is refused leaves a reader that may
-/// have moved.
+// Skips the values that declarations describe, and where it is refused leaves a reader that may
+// have moved.
 #[tactic(auto, unfolding(crate::specs::AttributeSkipping::skip_values))]
 fn skip_all<R: Reader>(
     place: &mut R,
@@ -118,7 +118,7 @@ fn skip_all<R: Reader>(
     skip_run(place, run)
 }
 
-/// How many bytes the values take that declarations describe.
+// How many bytes the values take that declarations describe.
 fn bytes_to_skip<R: Reader>(
     reader: &R,
     encoding: Encoding,

@@ -1,6 +1,5 @@
 -- What is known of a set of address ranges that was read, and how its ranges follow one another.
-use Rattle.std.proofs.Common.{◌≡◌, ℕ, suc, ◌+◌, ◌*◌, ◌<◌, ◌≤◌, Bool, true, false, cond, ltb, eqb, length, List, [], ◌∷◌, Option, Some, None, Result, Ok, Err, refl, sym, ◌∙◌, ap, subst, arith, ◌||◌}
-use Rattle.std.proofs.lemmas.Bool.{eqb-true}
+use Rattle.std.proofs.Common.{◌≡◌, ℕ, suc, ◌+◌, ◌*◌, ◌<◌, ◌≤◌, Bool, true, false, cond, ltb, eqb, length, List, [], ◌∷◌, Option, Some, None, Result, Ok, Err, refl, sym, ◌∙◌, ap, subst, arith}
 use Rattle.std.specs.Prelude.{IsTrue}
 use Rattle.std.specs.Result.{IfOk, IsErrAnd}
 use Rattle.std.specs.List.{filter_map, cons_option}
@@ -16,9 +15,10 @@ use Rattle.gimli_core_base.proofs.Listings.{Shrinks, listing_end, listing_item}
 use Rattle.gimli_core_base.specs.declared.common.Format.{Format}
 use Rattle.gimli_core_base.specs.FormatSizes.{initial_length_size}
 use Rattle.gimli_core_base.specs.NumberParsers.{is_address_size}
-use Rattle.gimli_units_headers.specs.ArangeSets.{ArangeSet, ArangePair, PairsLeft, arange_fields, arange_padding, arange_set_in, arange_set, set_size, pair, next_pair, arange_of, transpose, pairs_of, pairs_to_come, aranges_to_come, IsFirst}
-use Rattle.gimli_units_headers.proofs.ByteCountLemmas.{Took, took_left, took_both, took_same, Yields, yields-Ok, yields-Err, yields-proceed, yields-cond, yields-weaker, yields-within, four_at_least, fixed_took, part_took, skip_took, word_took, address_size_took, initial_length_took}
-use Rattle.gimli_units_headers.proofs.TilingLemmas.{Parts, listing_few}
+use Rattle.gimli_core_readers.specs.Iterators.{ReturnsNext}
+use Rattle.gimli_units_headers.specs.ArangeSets.{ArangeSet, ArangePair, RemainingPairs, arange_fields, arange_padding, arange_set_in, arange_set, set_size, pair, next_pair, arange_of, transpose, pairs_of, pairs_to_come, aranges_to_come}
+use Rattle.gimli_core_readers.proofs.ByteCountLemmas.{Took, took_left, took_both, took_same, Yields, yields-Ok, yields-Err, yields-proceed, yields-cond, yields-weaker, yields-within, four_at_least, some_size, fixed_took, part_took, skip_took, word_took, address_size_took, initial_length_took}
+use Rattle.gimli_core_readers.proofs.TilingLemmas.{Parts, listing_few}
 
 -- ---- sets
 
@@ -79,21 +79,6 @@ sets_are_parts limit = record {
 
 -- ---- pairs
 
-pub some_size : (n : ℕ) → IsTrue (is_address_size n) → 0 < n
-some_size n h = one (eqb n 1) refl h
-  where
-    four : (b : Bool) → eqb n 4 ≡ b → IsTrue (b || eqb n 8) → 0 < n
-    four true e k = let is = eqb-true n 4 e in omega arith
-    four false e k = let is = eqb-true n 8 k in omega arith
-
-    two : (b : Bool) → eqb n 2 ≡ b → IsTrue ((b || eqb n 4) || eqb n 8) → 0 < n
-    two true e k = let is = eqb-true n 2 e in omega arith
-    two false e k = four (eqb n 4) refl k
-
-    one : (b : Bool) → eqb n 1 ≡ b → IsTrue (((b || eqb n 2) || eqb n 4) || eqb n 8) → 0 < n
-    one true e k = let is = eqb-true n 1 e in omega arith
-    one false e k = two (eqb n 2) refl k
-
 pair_took : (size : ℕ) (v : View) → Yields (λ p w. Took (size + size) v w) (pair size v)
 unfolding pair
 pair_took size v =
@@ -119,18 +104,18 @@ ranges_of : ℕ → Listing View ArangePair → List (Result ArangePair Error)
 ranges_of size l = filter_map (λ p. transpose (arange_of size p)) l.items
 
 -- what is to come begins with what the next pair stands for
-pub pair_next : (old new : PairsLeft) (p : ArangePair) (r : Result (Option ArangePair) Error)
+pub pair_next : (old new : RemainingPairs) (p : ArangePair) (r : Result (Option ArangePair) Error)
     → IsTrue (is_address_size old.address_size) → new.address_size ≡ old.address_size
-    → next_pair old.address_size old.left ≡ Ok (Some p, new.left) → r ≡ arange_of old.address_size p
+    → next_pair old.address_size old.rest ≡ Ok (Some p, new.rest) → r ≡ arange_of old.address_size p
     → aranges_to_come old ≡ cons_option (transpose r) (aranges_to_come new)
 unfolding ranges_of
 pair_next old new p r h same e resolved =
     let size = old.address_size in
-    let item = listing_item (pairs_shrink size (some_size size h)) [] p old.left new.left e in
+    let item = listing_item (pairs_shrink size (some_size size h)) [] p old.rest new.rest e in
     ap (ranges_of size) item
     ∙ ap (λ (o : Result (Option ArangePair) Error). cons_option (transpose o)
-    (ranges_of size (listing_in bytes_left (next_pair size) new.left))) (sym resolved)
-    ∙ ap (λ (n : ℕ). cons_option (transpose r) (ranges_of n (listing_in bytes_left (next_pair n) new.left))) (sym same)
+    (ranges_of size (listing_in bytes_left (next_pair size) new.rest))) (sym resolved)
+    ∙ ap (λ (n : ℕ). cons_option (transpose r) (ranges_of n (listing_in bytes_left (next_pair n) new.rest))) (sym same)
 
 -- where there is no pair, nothing is read
 pub none_moves : (size : ℕ) (v w : View) → next_pair size v ≡ Ok (None, w) → w ≡ v
@@ -148,18 +133,19 @@ none_moves size v w e = at (ltb (bytes_left v) (2 * size)) e
         absurd cc
 
 -- without a further pair nothing is to come, then and later
-pub no_pair : (old new : PairsLeft) → IsTrue (is_address_size old.address_size) → new.address_size ≡ old.address_size
-    → next_pair old.address_size old.left ≡ Ok (None, new.left)
+pub no_pair : (old new : RemainingPairs) → IsTrue (is_address_size old.address_size)
+    → new.address_size ≡ old.address_size
+    → next_pair old.address_size old.rest ≡ Ok (None, new.rest)
     → (aranges_to_come old ≡ []) × (aranges_to_come new ≡ [])
 unfolding ranges_of
 no_pair old new h same e =
     let size = old.address_size in
-    let ends = listing_end (pairs_shrink size (some_size size h)) old.left new.left e in
+    let ends = listing_end (pairs_shrink size (some_size size h)) old.rest new.rest e in
     let none : aranges_to_come old ≡ [] = ap (ranges_of size) ends in
     let still : aranges_to_come new ≡ aranges_to_come old =
-    ap (λ (n : ℕ). ranges_of n (listing_in bytes_left (next_pair n) new.left)) same
+    ap (λ (n : ℕ). ranges_of n (listing_in bytes_left (next_pair n) new.rest)) same
     ∙ ap (λ (v : View). ranges_of size (listing_in bytes_left (next_pair size) v))
-    (none_moves size old.left new.left e) in
+    (none_moves size old.rest new.rest e) in
     (none, still ∙ none)
 
 -- a pair leaves fewer bytes
@@ -169,7 +155,7 @@ pair_smaller size v p w h e = ((pairs_shrink size (some_size size h)).smaller v 
 
 -- a pair whose end is refused is the first answer, a refusal
 pub first_is_refusal : (r : Result (Option ArangePair) Error) (old new : List (Result ArangePair Error)) (d : Error)
-    → IsErrAnd r (λ e. e ≡ d) → old ≡ Err d ∷ new → IsFirst r old new
+    → IsErrAnd r (λ e. e ≡ d) → old ≡ Err d ∷ new → ReturnsNext (λ x. x) r old new
 first_is_refusal (Ok o) old new d h k = absurd h
 first_is_refusal (Err e) old new d h k = k ∙ ap (λ (f : Error). refusal f ∷ new) (sym h)
   where
@@ -186,17 +172,18 @@ filter_map_few : {A B : Type 0} (f : A → Option B) (xs : List A) → length (f
 filter_map_few f [] = omega arith
 filter_map_few f (x ∷ xs) = cons_few (f x) (filter_map f xs) (length xs) (filter_map_few f xs)
 
-few_ranges : (s : PairsLeft) → IsTrue (is_address_size s.address_size) → length (aranges_to_come s) ≤ bytes_left s.left
+few_ranges : (s : RemainingPairs) → IsTrue (is_address_size s.address_size)
+    → length (aranges_to_come s) ≤ bytes_left s.rest
 few_ranges s h =
     let kept = filter_map_few (λ p. transpose (arange_of s.address_size p)) (pairs_to_come s) in
-    let few = listing_few (pairs_shrink s.address_size (some_size s.address_size h)) s.left in
+    let few = listing_few (pairs_shrink s.address_size (some_size s.address_size h)) s.rest in
     omega arith
 
 -- the ranges of a set are no more than its bytes
-pub few_in_set : (set : ArangeSet) (result : Result PairsLeft Error)
+pub few_in_set : (set : ArangeSet) (result : Result RemainingPairs Error)
     → IsTrue (is_address_size set.encoding.address_size) → ReturnsOrNoMemory result (Ok (pairs_of set))
     → IfOk result (λ s. length (aranges_to_come s) ≤ bytes_left set.pairs)
 few_in_set set (Ok s) h e =
     let is : pairs_of set ≡ s = cc in
-    subst (λ (t : PairsLeft). length (aranges_to_come t) ≤ bytes_left set.pairs) is (few_ranges (pairs_of set) h)
+    subst (λ (t : RemainingPairs). length (aranges_to_come t) ≤ bytes_left set.pairs) is (few_ranges (pairs_of set) h)
 few_in_set set (Err d) h e = tt

@@ -1,66 +1,10 @@
 -- What is defined by bytes alone never runs out of memory.
-use Rattle.std.proofs.Common.{◌≡◌, ℕ, Bool, true, false, cond, ltb, leb, eqb, length, ◌&&◌, Result, Ok, Err, ap}
-use Rattle.gimli_core_base.specs.declared.error.Error.{Error}
-use Rattle.gimli_core_base.specs.declared.error.Error.TheVariants.{Memory}
+use Rattle.std.proofs.Common.{ℕ, ltb, leb, eqb, length, ◌&&◌}
 use Rattle.gimli_core_base.specs.View.{View}
-use Rattle.gimli_core_base.specs.Parsers.{Step, proceed, lift}
 use Rattle.gimli_core_base.specs.declared.common.Format.{Format}
-use Rattle.gimli_core_base.specs.FormatSizes.{word_size}
-use Rattle.gimli_core_base.specs.NumberParsers.{fixed, sized_offset, offset_below, word, address_size, is_address_size}
-use Rattle.gimli_core_readers.proofs.MemoryLemmas.{IsFree}
+use Rattle.gimli_core_readers.proofs.MemoryLemmas.{IsFree, free-onward, free-cond, free-fixed, free-word, free-address_size}
 use Rattle.gimli_units_headers.specs.UnitHeaders.{UnitKind, type_unit, skeleton, split_compilation, split_type, unit_type, with_dwo_id, with_signature, kind_of_type, fields_to_4, fields_of_5, unit_fields}
 use Rattle.gimli_units_headers.specs.ArangeSets.{arange_fields, arange_padding}
-
--- ---- steps
-
-free-onward : {S A B : Type 0} {r : Result (A × S) Error} {f : A → Step S B} → IsFree r
-    → ((x : A) (s : S) → IsFree (f x s)) → IsFree (proceed r f)
-free-onward {r = Ok r} {f = f} h k = k r.0 r.1
-free-onward {S = S} {A = A} {B = B} {r = Err e} {f = f} h k =
-    λ is. let same : e ≡ Memory = is_refusal e is in h (ap refusal same)
-  where
-    refusal : Error → Result (A × S) Error
-    refusal d = Err d
-
-    after_refusal : Error → Result (B × S) Error
-    after_refusal d = Err d
-
-    is_refusal : (d : Error) → after_refusal d ≡ Err Memory → d ≡ Memory
-    is_refusal d h = cc
-
-free-cond : {A : Type 0} (b : Bool) {x y : Result A Error} → IsFree x → IsFree y → IsFree (cond b x y)
-free-cond true h k = h
-free-cond false h k = k
-
-free-lift : {S A : Type 0} (r : Result A Error) (s : S) → IsFree r → IsFree (lift r s)
-free-lift (Ok x) s h = λ is. absurd cc
-free-lift {S} {A} (Err e) s h = λ is. let same : e ≡ Memory = is_refusal e is in h (ap refusal same)
-  where
-    refusal : Error → Result A Error
-    refusal d = Err d
-
-    lifted : Error → Result (A × S) Error
-    lifted d = Err d
-
-    is_refusal : (d : Error) → lifted d ≡ Err Memory → d ≡ Memory
-    is_refusal d k = cc
-
--- ---- numbers
-
-free-fixed : (n : ℕ) (v : View) → IsFree (fixed n v)
-unfolding fixed
-free-fixed n v = free-cond (ltb (length v.bytes) n) (λ h. absurd cc) (λ h. absurd cc)
-
-free-word : (limit : ℕ) (format : Format) (v : View) → IsFree (word limit format v)
-unfolding word sized_offset
-free-word limit format v =
-    free-onward (free-fixed (word_size format) v)
-    (λ x s. free-lift (offset_below limit x) s (free-cond (ltb x limit) (λ h. absurd cc) (λ h. absurd cc)))
-
-free-address_size : (v : View) → IsFree (address_size v)
-unfolding address_size
-free-address_size v =
-    free-onward (free-fixed 1 v) (λ n s. free-cond (is_address_size n) (λ h. absurd cc) (λ h. absurd cc))
 
 -- ---- unit headers
 

@@ -4,8 +4,8 @@ pub use Rattle.gimli_core_base.proofs.RefusedCalls
 pub use Rattle.gimli_core_base.proofs.StepParts
 pub use Rattle.gimli_core_base.proofs.StepSizes
 pub use Rattle.gimli_core_base.proofs.Times
-pub mod ByteCountLemmas
-pub mod TilingLemmas
+pub use Rattle.gimli_core_readers.proofs.ByteCountLemmas
+pub use Rattle.gimli_core_readers.proofs.TilingLemmas
 pub mod UnitHeaderLemmas
 pub mod ArangeSetLemmas
 pub mod HeaderMemoryLemmas

@@ -8,34 +8,36 @@ use Rattle.gimli_core_base.specs.View.{View, bytes_left}
 use Rattle.gimli_core_base.specs.Repetition.{Listing, listing_in}
 use Rattle.gimli_core_base.proofs.Listings.{listing_end, listing_item}
 use Rattle.gimli_core_base.specs.NumberParsers.{is_address_size}
-use Rattle.gimli_units_headers.specs.ArangeSets.{ArangePair, PairsLeft, next_pair, arange_of, pairs_to_come, SkipsPairs, Consumes}
-use Rattle.gimli_units_headers.proofs.ArangeSetLemmas.{some_size, pairs_shrink, none_moves}
+use Rattle.gimli_units_headers.specs.ArangeSets.{ArangePair, RemainingPairs, next_pair, arange_of, pairs_to_come, SkipsPairs, Consumes}
+use Rattle.gimli_core_readers.proofs.ByteCountLemmas.{some_size}
+use Rattle.gimli_units_headers.proofs.ArangeSetLemmas.{pairs_shrink, none_moves}
 
 -- the pairs of a listing
 items_of : Listing View ArangePair → List ArangePair
 items_of l = l.items
 
 -- the next pair comes first
-pub first_pair : (old new : PairsLeft) (p : ArangePair) → IsTrue (is_address_size old.address_size)
-    → new.address_size ≡ old.address_size → next_pair old.address_size old.left ≡ Ok (Some p, new.left)
+pub first_pair : (old new : RemainingPairs) (p : ArangePair) → IsTrue (is_address_size old.address_size)
+    → new.address_size ≡ old.address_size → next_pair old.address_size old.rest ≡ Ok (Some p, new.rest)
     → pairs_to_come old ≡ p ∷ pairs_to_come new
 unfolding items_of
 first_pair old new p h same e =
     let size = old.address_size in
-    ap items_of (listing_item (pairs_shrink size (some_size size h)) [] p old.left new.left e)
-    ∙ ap (λ (n : ℕ). p ∷ items_of (listing_in bytes_left (next_pair n) new.left)) (sym same)
+    ap items_of (listing_item (pairs_shrink size (some_size size h)) [] p old.rest new.rest e)
+    ∙ ap (λ (n : ℕ). p ∷ items_of (listing_in bytes_left (next_pair n) new.rest)) (sym same)
 
 -- without a further pair none is to come, then and later
-pub no_pairs : (old new : PairsLeft) → IsTrue (is_address_size old.address_size) → new.address_size ≡ old.address_size
-    → next_pair old.address_size old.left ≡ Ok (None, new.left) → (pairs_to_come old ≡ []) × (pairs_to_come new ≡ [])
+pub no_pairs : (old new : RemainingPairs) → IsTrue (is_address_size old.address_size)
+    → new.address_size ≡ old.address_size
+    → next_pair old.address_size old.rest ≡ Ok (None, new.rest) → (pairs_to_come old ≡ []) × (pairs_to_come new ≡ [])
 unfolding items_of
 no_pairs old new h same e =
     let size = old.address_size in
     let none : pairs_to_come old
-    ≡ [] = ap items_of (listing_end (pairs_shrink size (some_size size h)) old.left new.left e) in
+    ≡ [] = ap items_of (listing_end (pairs_shrink size (some_size size h)) old.rest new.rest e) in
     let still : pairs_to_come new ≡ pairs_to_come old =
-    ap (λ (n : ℕ). items_of (listing_in bytes_left (next_pair n) new.left)) same
-    ∙ ap (λ (v : View). items_of (listing_in bytes_left (next_pair size) v)) (none_moves size old.left new.left e) in
+    ap (λ (n : ℕ). items_of (listing_in bytes_left (next_pair n) new.rest)) same
+    ∙ ap (λ (v : View). items_of (listing_in bytes_left (next_pair size) v)) (none_moves size old.rest new.rest e) in
     (none, still ∙ none)
 
 -- nothing is skipped yet
@@ -75,14 +77,15 @@ pub skips_all : (size : ℕ) (begun at : List ArangePair) → SkipsPairs size be
 skips_all size begun at h e = (h.0, h.1 ∙ ap (λ (t : List ArangePair). h.0 ++ t) e, h.2)
 
 -- where a step leads, and what the pair there stands for
-pub record PairStep (begun old new : PairsLeft) (p : ArangePair) (r : Result (Option ArangePair) Error) : Type 0 where
+pub record PairStep (begun old new : RemainingPairs) (p : ArangePair) (r : Result (Option ArangePair) Error) :
+    Type 0 where
   pub so_far : SkipsPairs begun.address_size (pairs_to_come begun) (p ∷ pairs_to_come new)
   pub stands_for : arange_of begun.address_size p ≡ r
 
-pub pair_step : (begun old new : PairsLeft) (p : ArangePair) (r : Result (Option ArangePair) Error)
+pub pair_step : (begun old new : RemainingPairs) (p : ArangePair) (r : Result (Option ArangePair) Error)
     → SkipsPairs begun.address_size (pairs_to_come begun) (pairs_to_come old) → old.address_size ≡ begun.address_size
     → IsTrue (is_address_size old.address_size) → new.address_size ≡ old.address_size
-    → next_pair old.address_size old.left ≡ Ok (Some p, new.left) → r ≡ arange_of old.address_size p
+    → next_pair old.address_size old.rest ≡ Ok (Some p, new.rest) → r ≡ arange_of old.address_size p
     → PairStep begun old new p r
 pair_step begun old new p r so_far began h same e resolved = record {
   so_far =

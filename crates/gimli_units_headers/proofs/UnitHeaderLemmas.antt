@@ -8,8 +8,8 @@ use Rattle.gimli_core_base.specs.declared.common.Format.{Format}
 use Rattle.gimli_core_base.specs.FormatSizes.{initial_length_size, word_size}
 use Rattle.gimli_core_base.specs.NumberParsers.{is_address_size}
 use Rattle.gimli_units_headers.specs.UnitHeaders.{UnitKind, compilation, type_unit, partial, skeleton, split_compilation, split_type, DebugUnit, HeaderFields, unit_type, with_dwo_id, with_signature, kind_of_type, fields_to_4, fields_of_5, unit_fields, unit_in, unit, length_including_self, kind_size, fields_size, size_of_header, IsWellFormed}
-use Rattle.gimli_units_headers.proofs.ByteCountLemmas.{Took, took_left, took_both, took_same, Yields, yields-Ok, yields-Err, yields-proceed, yields-cond, yields-weaker, yields-within, four_at_least, fixed_took, part_took, word_took, address_size_took, initial_length_took}
-use Rattle.gimli_units_headers.proofs.TilingLemmas.{Parts}
+use Rattle.gimli_core_readers.proofs.ByteCountLemmas.{Took, took_left, took_both, took_same, Yields, yields-Ok, yields-Err, yields-proceed, yields-cond, yields-weaker, yields-within, four_at_least, fixed_took, part_took, word_took, address_size_took, initial_length_took}
+use Rattle.gimli_core_readers.proofs.TilingLemmas.{Parts}
 
 -- ---- what a type adds
 

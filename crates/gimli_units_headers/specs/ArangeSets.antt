@@ -12,7 +12,7 @@ use Rattle.gimli_core_base.specs.declared.common.Encoding.{Encoding}
 use Rattle.gimli_core_base.specs.FormatSizes.{initial_length_size, word_size}
 use Rattle.gimli_core_base.specs.NumberParsers.{fixed, initial_length, word, address_size}
 use Rattle.gimli_core_readers.specs.Addresses.{is_tombstone}
-use Rattle.gimli_units_headers.specs.Tiling.{SectionLeft, whole_section, next_part, parts_to_come}
+use Rattle.gimli_core_readers.specs.Tiling.{RemainingSection, whole_section, next_part, parts_to_come}
 
 -- ---- sets
 
@@ -78,11 +78,11 @@ abbrev pub set_size : ArangeSet → ℕ
 set_size s = initial_length_size s.encoding.format + s.length
 
 -- the next set, none at the section's end
-abbrev pub next_set : ℕ → SectionLeft → Result (Option ArangeSet × View) Error
+abbrev pub next_set : ℕ → RemainingSection → Result (Option ArangeSet × View) Error
 next_set limit s = next_part (arange_set limit) s
 
 -- the sets from there on, and what ends them: the section's end, or the first fault
-abbrev pub sets_to_come : ℕ → SectionLeft → Listing View ArangeSet
+abbrev pub sets_to_come : ℕ → RemainingSection → Listing View ArangeSet
 sets_to_come limit s = parts_to_come (arange_set limit) s
 
 -- the sets of a section
@@ -101,17 +101,17 @@ pub record ArangePair : Type 0 where
   pub length : ℕ
 
 -- what is left of a set from one of its pairs on
-pub record PairsLeft : Type 0 where
+pub record RemainingPairs : Type 0 where
   pub address_size : ℕ
-  pub left : View
+  pub rest : View
 
 -- pairs of an address size, before the first of them
-abbrev pub pairs_left : ℕ → View → PairsLeft
-pairs_left size pairs = record { address_size = size; left = pairs }
+abbrev pub remaining_pairs : ℕ → View → RemainingPairs
+remaining_pairs size pairs = record { address_size = size; rest = pairs }
 
 -- all pairs of a set
-abbrev pub pairs_of : ArangeSet → PairsLeft
-pairs_of s = pairs_left s.encoding.address_size s.pairs
+abbrev pub pairs_of : ArangeSet → RemainingPairs
+pairs_of s = remaining_pairs s.encoding.address_size s.pairs
 
 -- the pair here
 unfoldable pub pair : ℕ → Parser ArangePair
@@ -143,19 +143,12 @@ transpose (Ok (Some p)) = Some (Ok p)
 transpose (Err e) = Some (Err e)
 
 -- the pairs of a set from one of them on, in order
-abbrev pub pairs_to_come : PairsLeft → List ArangePair
-pairs_to_come s = (listing_in bytes_left (next_pair s.address_size) s.left).items
+abbrev pub pairs_to_come : RemainingPairs → List ArangePair
+pairs_to_come s = (listing_in bytes_left (next_pair s.address_size) s.rest).items
 
 -- the entries from there on, refused ones in their places
-abbrev pub aranges_to_come : PairsLeft → List (Result ArangePair Error)
+abbrev pub aranges_to_come : RemainingPairs → List (Result ArangePair Error)
 aranges_to_come s = filter_map (λ p. transpose (arange_of s.address_size p)) (pairs_to_come s)
-
--- What a call answers is the first of what was to come before it, and the rest is to come after it.
-abbrev pub IsFirst : {A : Type 0} → Result (Option A) Error
-    → List (Result A Error) → List (Result A Error) → Type 0
-IsFirst (Ok None) old new = (old ≡ []) × (new ≡ [])
-IsFirst (Ok (Some x)) old new = old ≡ Ok x ∷ new
-IsFirst (Err e) old new = old ≡ Err e ∷ new
 
 -- From the old place in a set to the new one, all pairs are skipped.
 abbrev pub SkipsPairs : ℕ → List ArangePair → List ArangePair → Type 0

@@ -11,8 +11,8 @@ pub use Rattle.gimli_core_base.specs.declared.common.LineEncoding
 pub use Rattle.gimli_core_base.specs.declared.common.SectionId
 pub use Rattle.gimli_core_base.specs.declared.constants.TheConstants
 pub use Rattle.gimli_core_base.specs.declared.error.Error
+pub use Rattle.gimli_core_readers.specs.Tiling
 pub use Rattle.gimli_core_readers.specs.declared.range.Range
-pub mod Tiling
 pub mod UnitHeaders
 pub mod UnitOffsets
 pub mod ArangeSets

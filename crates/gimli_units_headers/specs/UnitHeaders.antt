@@ -11,7 +11,7 @@ use Rattle.gimli_core_base.specs.declared.common.Format.{Format}
 use Rattle.gimli_core_base.specs.declared.common.Encoding.{Encoding}
 use Rattle.gimli_core_base.specs.FormatSizes.{initial_length_size, word_size}
 use Rattle.gimli_core_base.specs.NumberParsers.{fixed, initial_length, word, address_size, is_address_size}
-use Rattle.gimli_units_headers.specs.Tiling.{SectionLeft, whole_section, next_part, parts_to_come}
+use Rattle.gimli_core_readers.specs.Tiling.{RemainingSection, whole_section, next_part, parts_to_come}
 
 -- what a unit is, and what its header says for that (DWARF 5, 7.5.1.1 to 7.5.1.3)
 pub data UnitKind : Type 0 where
@@ -126,11 +126,11 @@ unit limit offset = do
 -- ---- a section of units
 
 -- the next unit, none at the section's end
-abbrev pub next_unit : ℕ → SectionLeft → Result (Option DebugUnit × View) Error
+abbrev pub next_unit : ℕ → RemainingSection → Result (Option DebugUnit × View) Error
 next_unit limit s = next_part (unit limit) s
 
 -- the units from there on, and what ends them: the section's end, or the first fault
-abbrev pub units_to_come : ℕ → SectionLeft → Listing View DebugUnit
+abbrev pub units_to_come : ℕ → RemainingSection → Listing View DebugUnit
 units_to_come limit s = parts_to_come (unit limit) s
 
 -- the units of a section

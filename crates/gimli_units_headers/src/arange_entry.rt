@@ -4,7 +4,8 @@ ghost use Rattle.std.specs.Prelude.{◌≡◌, ◌≢◌, IsOk, IsTrue, Ok, Err}
 ghost use Rattle.gimli_core_base.specs.Calls.{ReturnsAsOrNoMemory, ReturnsOrNoMemory};
 ghost use Rattle.gimli_core_base.specs.declared.error.Error.TheVariants.{Memory};
 ghost use Rattle.gimli_core_base.specs.NumberParsers.{is_address_size};
-ghost use Rattle.gimli_units_headers.specs.ArangeSets.{next_pair, arange_of, aranges_to_come, pairs_to_come, pairs_left, pair_end, Consumes, IsFirst};
+ghost use Rattle.gimli_core_readers.specs.Iterators.{ReturnsNext};
+ghost use Rattle.gimli_units_headers.specs.ArangeSets.{next_pair, arange_of, aranges_to_come, pairs_to_come, remaining_pairs, pair_end, Consumes};
 
 use gimli_core_base::error::Error;
 use gimli_core_readers::{Range, Reader, greatest_address, least_tombstone};
@@ -58,7 +59,7 @@ impl ArangeEntry {
 /// The ranges of a set, from one of them on.
 #[derive(Debug, Drop)]
 pub struct ArangeEntryIter<R: Reader> {
-    /// The bytes from the next pair on.
+    // The bytes from the next pair on.
     input: R,
     address_size: u8,
 }
@@ -66,11 +67,11 @@ pub struct ArangeEntryIter<R: Reader> {
 impl<R: Reader> Model for ArangeEntryIter<R> {
     ghost use Rattle.std.specs.Prelude.{IsTrue};
     ghost use Rattle.gimli_core_base.specs.NumberParsers.{is_address_size};
-    ghost use Rattle.gimli_units_headers.specs.ArangeSets.{PairsLeft};
+    ghost use Rattle.gimli_units_headers.specs.ArangeSets.{RemainingPairs};
 
-    ghost Value = { PairsLeft };
+    ghost Value = { RemainingPairs };
 
-    ghost view = { λ a. record { address_size = a.address_size; left = R.view a.input } };
+    ghost view = { λ a. record { address_size = a.address_size; rest = R.view a.input } };
 
     ghost invariant = { λ a. IsTrue (is_address_size a.address_size) };
 }
@@ -79,7 +80,7 @@ impl<R: Reader> ArangeEntryIter<R> {
     pub(crate) fn new(entries: &R, address_size: u8) -> Result<Self, Error>
         requires { IsTrue (is_address_size address_size) }
         ensures value { ReturnsOrNoMemory result
-            (Ok (pairs_left address_size (R.view entries.now))) }
+            (Ok (remaining_pairs address_size (R.view entries.now))) }
         ensures free { IsTrue R.copies_freely → result ≢ Err Memory }
     {
         Ok(ArangeEntryIter {
@@ -91,7 +92,8 @@ impl<R: Reader> ArangeEntryIter<R> {
     /// The next range, none at the set's end. One whose end the address size can't hold is refused
     /// in its place, and the ranges go on after it. Takes no memory.
     pub fn next(&mut self) -> Result<Option<ArangeEntry>, Error>
-        ensures order { IsFirst result (aranges_to_come self.old) (aranges_to_come self.new) }
+        ensures order { ReturnsNext (λ e. e) result (aranges_to_come self.old)
+            (aranges_to_come self.new) }
         // No pair after the one that is answered is touched, so that `next_raw` may go on.
         ensures pairs { Consumes self.old.address_size result (pairs_to_come self.old)
             (pairs_to_come self.new) }
@@ -108,8 +110,8 @@ impl<R: Reader> ArangeEntryIter<R> {
     /// The next pair, not converted; none where less than a pair is left. Takes no memory.
     #[tactic(auto, unfolding(crate::specs::ArangeSets::next_pair, crate::specs::ArangeSets::pair, gimli_core_base::specs::NumberParsers::address, gimli_core_base::specs::NumberParsers::fixed))]
     pub fn next_raw(&mut self) -> Result<Option<ArangeEntry>, Error>
-        ensures value { ReturnsAsOrNoMemory (λ pair. (pair, self.new.left)) result
-            (next_pair self.old.address_size self.old.left) }
+        ensures value { ReturnsAsOrNoMemory (λ pair. (pair, self.new.rest)) result
+            (next_pair self.old.address_size self.old.rest) }
         ensures read { IsOk result }
         ensures size { self.new.address_size ≡ self.old.address_size }
         ensures address { IsTrue (is_address_size self.old.address_size) }

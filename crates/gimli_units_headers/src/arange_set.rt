@@ -90,7 +90,7 @@ pub struct ArangeFields<O> {
     pub debug_info_offset: DebugInfoOffset<O>,
 }
 
-/// The next set, which begins at an offset of its section.
+// The next set, which begins at an offset of its section.
 #[tactic(auto, unfolding(crate::specs::ArangeSets::arange_set, crate::specs::ArangeSets::arange_set_in))]
 pub(crate) fn parse_arange_header<R: Reader>(
     input: &mut R,
@@ -112,7 +112,7 @@ pub(crate) fn parse_arange_header<R: Reader>(
     })
 }
 
-/// The fields after the length, and the padding.
+// The fields after the length, and the padding.
 #[tactic(auto, unfolding(crate::specs::ArangeSets::arange_fields))]
 fn parse_fields<R: Reader>(input: &mut R, format: Format) -> Result<ArangeFields<R::Offset>, Error>
     ensures value { ReturnsAs (λ fields. (arange_fields_of R.Offset.count fields, R.view input.new))
@@ -140,7 +140,7 @@ fn parse_fields<R: Reader>(input: &mut R, format: Format) -> Result<ArangeFields
     })
 }
 
-/// The bytes between the header and the first pair, which is at a multiple of a pair's size.
+// The bytes between the header and the first pair, which is at a multiple of a pair's size.
 fn padding(format: Format, address_size: u8) -> u8
     requires { IsTrue (is_address_size address_size) }
     ensures { result ≡ arange_padding format address_size }

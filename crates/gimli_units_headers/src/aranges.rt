@@ -6,7 +6,7 @@ ghost use Rattle.gimli_core_base.specs.View.{bytes_left};
 ghost use Rattle.gimli_core_base.specs.Calls.{ReturnsOrNoMemory};
 ghost use Rattle.gimli_core_base.specs.declared.error.Error.TheVariants.{Memory};
 ghost use Rattle.gimli_core_readers.specs.Iterators.{ReadsOrEndsOrNoMemory, ComesNext};
-ghost use Rattle.gimli_units_headers.specs.Tiling.{whole_section, next_offset, Tile};
+ghost use Rattle.gimli_core_readers.specs.Tiling.{whole_section, next_offset, Tile};
 ghost use Rattle.gimli_units_headers.specs.ArangeSets.{arange_set, next_set, sets_to_come, sets_of, arange_set_at, set_size};
 
 use crate::arange_set::{ArangeHeader, parse_arange_header};
@@ -52,7 +52,7 @@ impl<R: Reader> Section<R> for DebugAranges<R> {
         &self.section
     }
 
-    ghost from_reader = { λ _ _ made. made };
+    ghost from_reader = { λ _ _ same. same };
 }
 
 impl<'a, E: Endianity> DebugAranges<EndianSlice<'a, E>> {
@@ -71,8 +71,8 @@ impl<R: Reader> DebugAranges<R> {
         F: FnOnce(&'a R) -> S,
         S: Reader,
         requires { F.IsAlwaysCallable f }
-        ensures { (reader : R) × (borrowed : S) × (R.view reader ≡ self.now)
-            × FnOnceReturnsAt F.FnOnce f reader borrowed × (result ≡ S.view borrowed) }
+        ensures { (reader : R) × (output : S) × (R.view reader ≡ self.now)
+            × FnOnceReturnsAt F.FnOnce f reader output × (result ≡ S.view output) }
     {
         DebugAranges {
             section: f(&self.section),
@@ -115,20 +115,20 @@ impl<R: Reader> DebugAranges<R> {
 /// The sets of `.debug_aranges`, from one of them on.
 #[derive(Debug, Drop)]
 pub struct ArangeHeaderIter<R: Reader> {
-    /// The bytes from the next set on.
+    // The bytes from the next set on.
     input: R,
     section_len: R::Offset,
 }
 
 impl<R: Reader> Model for ArangeHeaderIter<R> {
     ghost use Rattle.std.specs.Prelude.{◌≤◌, length};
-    ghost use Rattle.gimli_units_headers.specs.Tiling.{SectionLeft};
+    ghost use Rattle.gimli_core_readers.specs.Tiling.{RemainingSection};
 
-    ghost Value = { SectionLeft };
+    ghost Value = { RemainingSection };
 
     ghost view = { λ s. record {
       section_length = R.Offset.count s.section_len;
-      left = R.view s.input;
+      rest = R.view s.input;
     } };
 
     ghost invariant = { λ s. length (R.view s.input).bytes ≤ R.Offset.count s.section_len };
@@ -136,9 +136,9 @@ impl<R: Reader> Model for ArangeHeaderIter<R> {
 
 impl<R: Reader> ArangeHeaderIter<R> {
     /// The next set, none at the section's end. After a set that can't be read there are no more.
-    /// Takes memory only where a part of the reader does, and moves nothing where there is none.
+    /// Takes memory only where a part of the reader does, and changes nothing when out of memory.
     pub fn next(&mut self) -> Result<Option<ArangeHeader<R>>, Error>
-        ensures value { ReadsOrEndsOrNoMemory result self.old.left self.new.left
+        ensures value { ReadsOrEndsOrNoMemory result self.old.rest self.new.rest
             (next_set R.Offset.limit self.old) }
         ensures free { IsTrue R.copies_freely → result ≢ Err Memory }
         ensures section { self.new.section_length ≡ self.old.section_length }
@@ -162,7 +162,7 @@ impl<R: Reader> ArangeHeaderIter<R> {
         }
     }
 
-    /// The offset of the next set.
+    // The offset of the next set.
     fn offset(&self) -> DebugArangesOffset<R::Offset>
         ensures { R.Offset.count result.0 ≡ next_offset self.now }
     {

@@ -1,4 +1,4 @@
-//! What a unit's header says after its length (DWARF 5, 7.5.1).
+//! The fields of a unit's header after its length (DWARF 5, 7.5.1).
 
 ghost use Rattle.std.specs.Prelude.{◌≡◌, ℕ};
 ghost use Rattle.gimli_core_base.specs.Calls.{ReturnsAs};
@@ -36,7 +36,7 @@ pub enum UnitType<O> {
 }
 
 impl<O> UnitType<O> {
-    /// The bytes that the type adds to the header.
+    // The bytes that the type adds to the header.
     pub(crate) fn size(&self, format: Format) -> usize
         ensures { (count : O → ℕ) → result ≡ kind_size format (kind_of count self.now) }
     {
@@ -50,6 +50,7 @@ impl<O> UnitType<O> {
     }
 }
 
+/// What a unit's header says after its length.
 #[derive(Clone, Copy)]
 pub struct UnitFields<O> {
     pub encoding: Encoding,
@@ -57,7 +58,7 @@ pub struct UnitFields<O> {
     pub debug_abbrev_offset: DebugAbbrevOffset<O>,
 }
 
-/// The fields after the length.
+// The fields after the length.
 #[tactic(auto, unfolding(crate::specs::UnitHeaders::unit_fields))]
 pub(crate) fn parse_fields<R: Reader>(
     input: &mut R,
@@ -74,7 +75,7 @@ pub(crate) fn parse_fields<R: Reader>(
     }
 }
 
-/// The fields after the version, up to version 4.
+// The fields after the version, up to version 4.
 #[tactic(auto, unfolding(crate::specs::UnitHeaders::fields_to_4))]
 fn parse_fields_to_4<R: Reader>(
     input: &mut R,
@@ -97,7 +98,7 @@ fn parse_fields_to_4<R: Reader>(
     })
 }
 
-/// The fields after the version, in version 5.
+// The fields after the version, in version 5.
 #[tactic(auto, unfolding(crate::specs::UnitHeaders::fields_of_5))]
 fn parse_fields_of_5<R: Reader>(
     input: &mut R,
@@ -121,7 +122,7 @@ fn parse_fields_of_5<R: Reader>(
     })
 }
 
-/// A unit type that the standard numbers.
+// A unit type that the standard numbers.
 #[tactic(auto, unfolding(crate::specs::UnitHeaders::unit_type))]
 fn parse_unit_type<R: Reader>(input: &mut R) -> Result<DwUt, Error>
     ensures { ReturnsAs (λ t. (t.0, R.view input.new)) result (unit_type (R.view input.old)) }
@@ -138,7 +139,7 @@ fn parse_unit_type<R: Reader>(input: &mut R) -> Result<DwUt, Error>
     }
 }
 
-/// What a unit's type adds to the header.
+// What a unit's type adds to the header.
 #[tactic(auto, unfolding(crate::specs::UnitHeaders::kind_of_type, crate::specs::UnitHeaders::with_dwo_id, crate::specs::UnitHeaders::with_signature))]
 fn parse_kind<R: Reader>(
     input: &mut R,

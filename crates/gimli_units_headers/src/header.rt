@@ -165,7 +165,7 @@ impl<R: Reader> UnitHeader<R> {
         &self.entries
     }
 
-    /// An offset of the entries.
+    // Whether an offset is one of the entries.
     pub(crate) fn holds(&self, offset: &UnitOffset<R::Offset>) -> bool
         ensures { result ≡ is_in_bounds self.now (R.Offset.count offset.now.0) }
     {
@@ -173,7 +173,7 @@ impl<R: Reader> UnitHeader<R> {
         self.header_size().into_u64() <= offset && offset < self.length_including_self().into_u64()
     }
 
-    /// An offset of the unit, counted from the start of the section.
+    // An offset of the unit, counted from the start of the section.
     pub(crate) fn section_offset_of(
         &self,
         offset: &UnitOffset<R::Offset>,
@@ -232,8 +232,8 @@ impl<R: Reader> UnitHeader<R> {
         Ok(bytes)
     }
 
-    /// An address that a linker writes for what it left out: one of the last two of the address
-    /// size.
+    /// Whether an address is one that linkers write for what they left out: one of the last two of
+    /// the address size.
     pub fn is_tombstone_address(&self, address: u64) -> bool
         ensures { result ≡ is_tombstone self.now.encoding.address_size address }
     {
@@ -241,7 +241,7 @@ impl<R: Reader> UnitHeader<R> {
     }
 }
 
-/// The next unit, which begins at an offset of its section.
+// The next unit, which begins at an offset of its section.
 #[tactic(auto, unfolding(crate::specs::UnitHeaders::unit, crate::specs::UnitHeaders::unit_in))]
 pub(crate) fn parse_unit_header<R: Reader>(
     input: &mut R,
@@ -251,7 +251,7 @@ pub(crate) fn parse_unit_header<R: Reader>(
         (unit R.Offset.limit (R.Offset.count offset.0) (R.view input.old)) }
     ensures free { IsTrue R.copies_freely → result ≢ Err Memory }
 {
-    // Their number is an offset.
+    // The number of bytes is an offset.
     let _bytes = input.as_bytes();
     let (unit_length, format) = input.read_initial_length()?;
     let mut entries = input.split(unit_length)?;

@@ -6,7 +6,7 @@ ghost use Rattle.gimli_core_base.specs.View.{bytes_left};
 ghost use Rattle.gimli_core_base.specs.Calls.{ReturnsOrNoMemory};
 ghost use Rattle.gimli_core_base.specs.declared.error.Error.TheVariants.{Memory};
 ghost use Rattle.gimli_core_readers.specs.Iterators.{ReadsOrEndsOrNoMemory, ComesNext};
-ghost use Rattle.gimli_units_headers.specs.Tiling.{whole_section, next_offset, Tile};
+ghost use Rattle.gimli_core_readers.specs.Tiling.{whole_section, next_offset, Tile};
 ghost use Rattle.gimli_units_headers.specs.UnitHeaders.{unit, next_unit, units_to_come, units_of, unit_at, length_including_self};
 
 use crate::header::{UnitHeader, parse_unit_header};
@@ -52,7 +52,7 @@ impl<R: Reader> Section<R> for DebugInfo<R> {
         &self.section
     }
 
-    ghost from_reader = { λ _ _ made. made };
+    ghost from_reader = { λ _ _ same. same };
 }
 
 impl<'a, E: Endianity> DebugInfo<EndianSlice<'a, E>> {
@@ -71,8 +71,8 @@ impl<R: Reader> DebugInfo<R> {
         F: FnOnce(&'a R) -> S,
         S: Reader,
         requires { F.IsAlwaysCallable f }
-        ensures { (reader : R) × (borrowed : S) × (R.view reader ≡ self.now)
-            × FnOnceReturnsAt F.FnOnce f reader borrowed × (result ≡ S.view borrowed) }
+        ensures { (reader : R) × (output : S) × (R.view reader ≡ self.now)
+            × FnOnceReturnsAt F.FnOnce f reader output × (result ≡ S.view output) }
     {
         DebugInfo {
             section: f(&self.section),
@@ -118,20 +118,20 @@ impl<R: Reader> DebugInfo<R> {
 /// The units of `.debug_info`, from one of them on.
 #[derive(Debug, Drop)]
 pub struct DebugInfoUnitHeadersIter<R: Reader> {
-    /// The bytes from the next unit on.
+    // The bytes from the next unit on.
     input: R,
     section_len: R::Offset,
 }
 
 impl<R: Reader> Model for DebugInfoUnitHeadersIter<R> {
     ghost use Rattle.std.specs.Prelude.{◌≤◌, length};
-    ghost use Rattle.gimli_units_headers.specs.Tiling.{SectionLeft};
+    ghost use Rattle.gimli_core_readers.specs.Tiling.{RemainingSection};
 
-    ghost Value = { SectionLeft };
+    ghost Value = { RemainingSection };
 
     ghost view = { λ s. record {
       section_length = R.Offset.count s.section_len;
-      left = R.view s.input;
+      rest = R.view s.input;
     } };
 
     ghost invariant = { λ s. length (R.view s.input).bytes ≤ R.Offset.count s.section_len };
@@ -139,9 +139,9 @@ impl<R: Reader> Model for DebugInfoUnitHeadersIter<R> {
 
 impl<R: Reader> DebugInfoUnitHeadersIter<R> {
     /// The next unit, none at the section's end. After a unit that can't be read there are no more.
-    /// Takes memory only where a part of the reader does, and moves nothing where there is none.
+    /// Takes memory only where a part of the reader does, and changes nothing when out of memory.
     pub fn next(&mut self) -> Result<Option<UnitHeader<R>>, Error>
-        ensures value { ReadsOrEndsOrNoMemory result self.old.left self.new.left
+        ensures value { ReadsOrEndsOrNoMemory result self.old.rest self.new.rest
             (next_unit R.Offset.limit self.old) }
         ensures free { IsTrue R.copies_freely → result ≢ Err Memory }
         ensures section { self.new.section_length ≡ self.old.section_length }
@@ -165,7 +165,7 @@ impl<R: Reader> DebugInfoUnitHeadersIter<R> {
         }
     }
 
-    /// The offset of the next unit.
+    // The offset of the next unit.
     fn offset(&self) -> DebugInfoOffset<R::Offset>
         ensures { R.Offset.count result.0 ≡ next_offset self.now }
     {

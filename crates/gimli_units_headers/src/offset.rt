@@ -7,7 +7,7 @@ use crate::header::UnitHeader;
 use gimli_core_base::ReaderOffset;
 use gimli_core_readers::{DebugInfoOffset, Reader, UnitOffset};
 
-/// What an offset of the section is in a unit of it.
+/// An offset of the section, which may be one of a unit.
 pub trait OffsetInSection<R: Reader> {
     /// The number of the offset.
     ghost number: { Self → ℕ };
@@ -35,12 +35,12 @@ impl<R: Reader> OffsetInSection<R> for DebugInfoOffset<R::Offset> {
     }
 }
 
-/// What an offset of a unit is in that unit and in the section.
+/// An offset of a unit, which is also one of the section.
 pub trait OffsetInUnit<R: Reader> {
     /// The number of the offset.
     ghost number: { Self → ℕ };
 
-    /// The offset is among the unit's entries.
+    /// Whether the offset is among the unit's entries.
     fn is_in_bounds(&self, unit: &UnitHeader<R>) -> bool
         ensures { result ≡ is_in_bounds unit.now (number self.now) };
 

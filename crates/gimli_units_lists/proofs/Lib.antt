@@ -1,3 +1,4 @@
+pub use Rattle.gimli_core_readers.proofs.ByteCountLemmas
 pub use Rattle.gimli_core_readers.proofs.Wrapping
 pub mod RawListSteps
 pub mod RangeEntrySizes

@@ -2,7 +2,7 @@
 use Rattle.std.proofs.Common.{◌≡◌, ℕ, List, [], ◌∷◌, ◌++◌, Option, Some, None, unwrap_or, Result, Ok, Err, refl, sym, ◌∙◌, ap, append_assoc, append-nil}
 use Rattle.std.specs.List.{filter_map, last_or, cons_option}
 use Rattle.gimli_core_readers.specs.Error.{Error}
-use Rattle.gimli_units_lists.specs.ListAnswers.{base_after, answer_list, resolutions_after, resolutions}
+use Rattle.gimli_units_lists.specs.ListResolutions.{base_after, answer_list, resolutions_after, resolutions}
 use Rattle.gimli_units_lists.specs.ListEntries.{Setting}
 
 -- with one that sets a base, the first doesn't count

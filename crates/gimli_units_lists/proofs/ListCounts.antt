@@ -4,11 +4,11 @@ use Rattle.std.proofs.lemmas.Bool.{eqb-false}
 use Rattle.gimli_core_readers.specs.Error.{Error}
 use Rattle.gimli_core_readers.specs.View.{View, bytes_left}
 use Rattle.gimli_core_readers.specs.Parsers.{Parser}
-use Rattle.gimli_units_lists.specs.ListAnswers.{base_after, answer_list, resolutions_after}
+use Rattle.gimli_units_lists.specs.ListResolutions.{base_after, answer_list, resolutions_after}
 use Rattle.gimli_units_lists.specs.ListEntries.{base_in, range_of}
-use Rattle.gimli_units_lists.specs.RangeEntries.{RawRangesLeft, raw_ranges_to_come}
-use Rattle.gimli_units_lists.specs.LocationEntries.{RawLocationsLeft, raw_locations_to_come, location_base_in, location_of}
-use Rattle.gimli_units_lists.specs.ListSections.{RangesLeft, ranges_to_come, LocationsLeft, locations_to_come}
+use Rattle.gimli_units_lists.specs.RangeEntries.{RemainingRawRanges, raw_ranges_to_come}
+use Rattle.gimli_units_lists.specs.LocationEntries.{RemainingRawLocations, raw_locations_to_come, location_base_in, location_of}
+use Rattle.gimli_units_lists.specs.ListSections.{RemainingRanges, ranges_to_come, RemainingLocations, locations_to_come}
 use Rattle.gimli_units_lists.proofs.RangeEntrySizes.{range_entry_takes}
 use Rattle.gimli_units_lists.proofs.LocationEntrySizes.{location_entry_takes}
 use Rattle.gimli_units_lists.proofs.RawListSteps.{Takes, to_come, step, entry_here, come_none, come_item, come_end}
@@ -77,20 +77,21 @@ few_answers h v = few_within h (suc (bytes_left v)) v (omega arith)
 
 -- ---- lists
 
-pub few_raw_ranges : (limit : ℕ) (r : RawRangesLeft) → length (raw_ranges_to_come limit r) ≤ bytes_left r.left
-few_raw_ranges limit r = few_answers (range_entry_takes limit r.encoding) r.left
+pub few_raw_ranges : (limit : ℕ) (r : RemainingRawRanges) → length (raw_ranges_to_come limit r) ≤ bytes_left r.rest
+few_raw_ranges limit r = few_answers (range_entry_takes limit r.encoding) r.rest
 
-pub few_ranges : (limit : ℕ) (r : RangesLeft) → length (ranges_to_come limit r) ≤ bytes_left r.raw.left
+pub few_ranges : (limit : ℕ) (r : RemainingRanges) → length (ranges_to_come limit r) ≤ bytes_left r.raw.rest
 few_ranges limit r =
     let raw = few_raw_ranges limit r.raw in
     let some = few_resolutions (base_in r.against.setting) (range_of r.against.setting) r.against.base []
     (raw_ranges_to_come limit r.raw) in
     omega (arith, raw, some)
 
-pub few_raw_locations : (limit : ℕ) (r : RawLocationsLeft) → length (raw_locations_to_come limit r) ≤ bytes_left r.left
-few_raw_locations limit r = few_answers (location_entry_takes limit r.encoding r.by_kind) r.left
+pub few_raw_locations : (limit : ℕ) (r : RemainingRawLocations)
+    → length (raw_locations_to_come limit r) ≤ bytes_left r.rest
+few_raw_locations limit r = few_answers (location_entry_takes limit r.encoding r.by_kind) r.rest
 
-pub few_locations : (limit : ℕ) (r : LocationsLeft) → length (locations_to_come limit r) ≤ bytes_left r.raw.left
+pub few_locations : (limit : ℕ) (r : RemainingLocations) → length (locations_to_come limit r) ≤ bytes_left r.raw.rest
 few_locations limit r =
     let raw = few_raw_locations limit r.raw in
     let some = few_resolutions (location_base_in r.against.setting) (location_of r.against.setting) r.against.base []

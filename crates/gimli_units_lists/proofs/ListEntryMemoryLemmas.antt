@@ -4,11 +4,11 @@ use Rattle.gimli_core_readers.specs.View.{View}
 use Rattle.gimli_core_readers.specs.Parsers.{Parser, proceed, give}
 use Rattle.gimli_core_readers.specs.Encoding.{Encoding}
 use Rattle.gimli_core_readers.specs.NumberParsers.{offset_below}
-use Rattle.gimli_core_readers.proofs.MemoryLemmas.{IsFree}
+use Rattle.gimli_core_readers.proofs.MemoryLemmas.{IsFree, free-onward, free-cond, free-Ok, free-lift, free-fixed, free-unsigned, free-offset, free-part, free-address}
 use Rattle.gimli_units_lists.specs.ListEntries.{RawEntry, address_or_offset_pair, base_address, base_addressx, startx_endx, startx_length, offset_pair, start_end, start_length}
 use Rattle.gimli_units_lists.specs.RangeEntries as ranges
 use Rattle.gimli_units_lists.specs.LocationEntries as locations
-use Rattle.gimli_units_lists.proofs.FieldMemoryLemmas.{free-onward, free-cond, free-Ok, free-lift, free-both, free-fixed, free-unsigned, free-offset, free-part, free-address, free-index, free-indexes, free-offsets, free-addresses, free-address_and_length}
+use Rattle.gimli_units_lists.proofs.FieldMemoryLemmas.{free-both, free-index, free-indexes, free-offsets, free-addresses, free-address_and_length}
 
 -- ---- range lists
 

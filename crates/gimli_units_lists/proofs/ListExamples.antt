@@ -7,10 +7,10 @@ use Rattle.gimli_core_readers.specs.Encoding.{Encoding}
 use Rattle.gimli_core_readers.specs.Format.TheVariants.{Dwarf32}
 use Rattle.gimli_core_readers.specs.NumberParsers.{fixed, address}
 use Rattle.gimli_core_readers.specs.declared.range.Range.{Range}
-use Rattle.gimli_units_lists.specs.ListAnswers.{resolutions}
+use Rattle.gimli_units_lists.specs.ListResolutions.{resolutions}
 use Rattle.gimli_units_lists.specs.ListEntries.{RawEntry, Setting, address_or_offset_pair, base_address, base_in, range_of}
 use Rattle.gimli_units_lists.specs.ListEntryFields.{addresses}
-use Rattle.gimli_units_lists.specs.ListSections.{RangesLeft, from_low_pc, ranges_to_come}
+use Rattle.gimli_units_lists.specs.ListSections.{RemainingRanges, from_low_pc, ranges_to_come}
 use Rattle.gimli_units_lists.specs.RangeEntries.{range_entry, range_pair}
 
 -- version 4, in 32-bit DWARF, with addresses of four bytes
@@ -42,9 +42,9 @@ each_base_in_turn = refl
 -- ---- bytes
 
 -- a list from its start, with a base
-abbrev list : ℕ → List ℕ → RangesLeft
+abbrev list : ℕ → List ℕ → RemainingRanges
 list base bytes =
-    record { raw = record { encoding = encoding; left = view bytes }; against = from_low_pc encoding base 0 (view []) }
+    record { raw = record { encoding = encoding; rest = view bytes }; against = from_low_pc encoding base 0 (view []) }
 
 -- a pair, a base after the greatest address, a pair, and the end
 base_in_the_middle : ranges_to_come (2 ^ 64) (list 0x01000000 (

@@ -4,8 +4,8 @@ use Rattle.std.specs.Result.{IsErrAnd}
 use Rattle.gimli_core_readers.specs.Error.{Error}
 use Rattle.gimli_core_readers.specs.Error.TheVariants.{Memory}
 use Rattle.gimli_core_readers.specs.declared.range.Range.{Range}
-use Rattle.gimli_units_lists.specs.ListAnswers.{ReturnsNext, ReturnsNextOrNoMemory}
-use Rattle.gimli_units_lists.specs.ListSections.{RangesLeft, LocationsLeft}
+use Rattle.gimli_core_readers.specs.Iterators.{ReturnsNext, ReturnsNextOrNoMemory}
+use Rattle.gimli_units_lists.specs.ListSections.{RemainingRanges, RemainingLocations}
 use Rattle.gimli_units_lists.specs.LocationEntries.{Location}
 use Rattle.gimli_units_lists.specs.ListProgress.{FindsRange, TakesRange, FindsLocation, SkipsLocations, TakesLocation}
 
@@ -23,13 +23,14 @@ refusal_is_next_or_no_memory {A} {B} see (Err e) old new d h k m =
     ((λ ne. k (λ is. ne (h ∙ is)) ∙ ap (λ (x : Error). Err x ∷ new) (sym h)), (λ is. m (sym h ∙ is)))
 
 -- and the entries up to where it comes from are taken
-pub refusal_takes_range : (limit : ℕ) (r : Result (Option Range) Error) (old new : RangesLeft) (d : Error)
+pub refusal_takes_range : (limit : ℕ) (r : Result (Option Range) Error) (old new : RemainingRanges) (d : Error)
     → IsErrAnd r (λ e. e ≡ d) → FindsRange limit old new (Err d) → TakesRange limit r old new
 refusal_takes_range limit (Ok x) old new d h k = absurd h
 refusal_takes_range limit (Err e) old new d h k = subst (λ (x : Error). FindsRange limit old new (Err x)) (sym h) k
 
 pub refusal_takes_location : {L : Type 0} (see : L → Location) (limit : ℕ) (r : Result (Option L) Error)
-    (old new : LocationsLeft) (d : Error) → IsErrAnd r (λ e. e ≡ d) → (d ≢ Memory → FindsLocation limit old new (Err d))
+    (old new : RemainingLocations) (d : Error) → IsErrAnd r (λ e. e ≡ d)
+    → (d ≢ Memory → FindsLocation limit old new (Err d))
     → (d ≡ Memory → SkipsLocations limit old new) → TakesLocation see limit r old new
 refusal_takes_location see limit (Ok x) old new d h k m = absurd h
 refusal_takes_location see limit (Err e) old new d h k m = (

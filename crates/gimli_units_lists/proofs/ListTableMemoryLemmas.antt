@@ -3,15 +3,9 @@ use Rattle.std.proofs.Common.{ℕ, ltb, eqb, length}
 use Rattle.gimli_core_readers.specs.View.{View}
 use Rattle.gimli_core_readers.specs.Format.{Format}
 use Rattle.gimli_core_readers.specs.FormatSizes.{word_size}
-use Rattle.gimli_core_readers.specs.NumberParsers.{word, sized_offset, address_size, is_address_size, offset_below}
-use Rattle.gimli_core_readers.specs.SectionReads.{string_offset_at}
-use Rattle.gimli_core_readers.proofs.MemoryLemmas.{IsFree, free-initial_length}
+use Rattle.gimli_core_readers.specs.SectionReads.{table_offset_at}
+use Rattle.gimli_core_readers.proofs.MemoryLemmas.{IsFree, free-onward, free-value_of, free-cond, free-Ok, free-fixed, free-word, free-initial_length, free-address_size, free-to_place}
 use Rattle.gimli_units_lists.specs.ListSections.{header_fields, lists_header}
-use Rattle.gimli_units_lists.proofs.FieldMemoryLemmas.{free-onward, free-value_of, free-lift, free-cond, free-Ok, free-fixed, free-offset, free-to_place}
-
-free-address_size : (v : View) → IsFree (address_size v)
-unfolding address_size
-free-address_size v = free-onward (free-fixed 1 v) (λ n s. free-cond (is_address_size n) (free-Ok _) (λ h. absurd cc))
 
 free-header_fields : (format : Format) (v : View) → IsFree (header_fields format v)
 unfolding header_fields
@@ -30,12 +24,7 @@ free-lists_header limit v =
     free-onward (free-cond (ltb (length s.bytes) table.0) (λ h. absurd cc) (free-Ok _)) (λ cut t.
     free-header_fields table.1 t))
 
-free-word : (limit : ℕ) (format : Format) (v : View) → IsFree (word limit format v)
-unfolding word sized_offset
-free-word limit format v =
-    free-onward (free-fixed (word_size format) v) (λ x s. free-lift (offset_below limit x) s (free-offset limit x))
-
-pub free-string_offset_at : (limit : ℕ) (format : Format) (base index : ℕ) (v : View)
-    → IsFree (string_offset_at limit format base index v)
-free-string_offset_at limit format base index v =
+pub free-table_offset_at : (limit : ℕ) (format : Format) (base index : ℕ) (v : View)
+    → IsFree (table_offset_at limit format base index v)
+free-table_offset_at limit format base index v =
     free-value_of (free-onward (free-to_place base index (word_size format) v) (λ x s. free-word limit format s))

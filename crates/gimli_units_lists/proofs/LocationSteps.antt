@@ -2,12 +2,13 @@
 use Rattle.std.proofs.Common.{◌≡◌, ℕ, ◌∷◌, ◌++◌, unwrap_or, Option, Result, Ok, Err, sym, ◌∙◌, ap}
 use Rattle.gimli_core_readers.specs.Error.{Error}
 use Rattle.gimli_units_lists.specs.LocationEntries.{RawLocation, Location, location_base_in, location_of, raw_locations_to_come}
-use Rattle.gimli_units_lists.specs.ListAnswers.{answer_list, resolutions}
-use Rattle.gimli_units_lists.specs.ListSections.{Resolution, LocationsLeft, locations_to_come}
+use Rattle.gimli_units_lists.specs.ListResolutions.{answer_list, resolutions}
+use Rattle.gimli_units_lists.specs.ListSections.{Resolution, RemainingLocations, locations_to_come}
 use Rattle.gimli_units_lists.proofs.ListBaseLemmas.{resolutions_next}
 
 -- an entry e was read, between the states old and mid, and resolved to r, which left the state new
-pub location_step : (limit : ℕ) (old mid new : LocationsLeft) (e : RawLocation) (r : Result (Option Location) Error)
+pub location_step : (limit : ℕ) (old mid new : RemainingLocations) (e : RawLocation)
+    (r : Result (Option Location) Error)
     → raw_locations_to_come limit old.raw ≡ Ok e ∷ raw_locations_to_come limit mid.raw → mid.against ≡ old.against
     → location_of mid.against.setting mid.against.base e ≡ r → new.raw ≡ mid.raw
     → new.against.setting ≡ mid.against.setting
@@ -22,7 +23,7 @@ location_step limit old mid new e r is same resolves raw setting base =
     ∙ ap (λ (x : Result (Option Location) Error). answer_list x ++ locations_to_come limit new) resolves
 
 -- an entry couldn't be read
-pub location_fault : (limit : ℕ) (old new : LocationsLeft) (d : Error)
+pub location_fault : (limit : ℕ) (old new : RemainingLocations) (d : Error)
     → raw_locations_to_come limit old.raw ≡ Err d ∷ raw_locations_to_come limit new.raw → new.against ≡ old.against
     → locations_to_come limit old ≡ Err d ∷ locations_to_come limit new
 location_fault limit old new d is same =
@@ -32,7 +33,7 @@ location_fault limit old new d is same =
     (sym same)
 
 -- nothing was read
-pub locations_same : (limit : ℕ) (old new : LocationsLeft)
+pub locations_same : (limit : ℕ) (old new : RemainingLocations)
     → raw_locations_to_come limit new.raw ≡ raw_locations_to_come limit old.raw → new.against ≡ old.against
     → locations_to_come limit new ≡ locations_to_come limit old
 locations_same limit old new is same =

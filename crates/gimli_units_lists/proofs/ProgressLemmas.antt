@@ -2,11 +2,11 @@
 use Rattle.std.proofs.Common.{◌≡◌, ℕ, List, [], ◌∷◌, ◌++◌, Option, None, unwrap_or, Result, Ok, Err, refl, sym, ◌∙◌, ap, append_assoc}
 use Rattle.gimli_core_readers.specs.Error.{Error}
 use Rattle.gimli_core_readers.specs.declared.range.Range.{Range}
-use Rattle.gimli_units_lists.specs.ListAnswers.{answer_list, resolutions}
+use Rattle.gimli_units_lists.specs.ListResolutions.{answer_list, resolutions}
 use Rattle.gimli_units_lists.specs.ListEntries.{RawEntry, Setting, base_in, range_of}
 use Rattle.gimli_units_lists.specs.RangeEntries.{raw_ranges_to_come}
 use Rattle.gimli_units_lists.specs.LocationEntries.{RawLocation, Location, location_base_in, location_of, raw_locations_to_come}
-use Rattle.gimli_units_lists.specs.ListSections.{Resolution, RangesLeft, LocationsLeft}
+use Rattle.gimli_units_lists.specs.ListSections.{Resolution, RemainingRanges, RemainingLocations}
 use Rattle.gimli_units_lists.specs.ListProgress.{StandFor, SkipsEntries, StopsAfter, SkipsRanges, FindsRange, SkipsLocations, FindsLocation}
 use Rattle.gimli_units_lists.proofs.ListBaseLemmas.{resolutions_step}
 
@@ -24,17 +24,17 @@ stand_one {E} {A} sets resolve b c e r is at = λ rest.
 -- none so far
 pub passes_none : {E A : Type 0} (sets : E → Option ℕ) (resolve : ℕ → E → Result (Option A) Error) (b : ℕ)
     (l : List (Result E Error)) → SkipsEntries sets resolve b b l l
-passes_none sets resolve b l = record { passed = []; front = refl; nothing = λ rest. refl }
+passes_none sets resolve b l = record { skips = []; splits = refl; nothing = λ rest. refl }
 
 -- one more that stands for nothing
 passes_one : {E A : Type 0} (sets : E → Option ℕ) (resolve : ℕ → E → Result (Option A) Error) (first b c : ℕ)
     (all l m : List (Result E Error)) (e : E) → SkipsEntries sets resolve first b all l → l ≡ Ok e ∷ m
     → resolve b e ≡ Ok None → c ≡ unwrap_or (sets e) b → SkipsEntries sets resolve first c all m
 passes_one {E} {A} sets resolve first b c all l m e p is none at = record {
-  passed = p.passed ++ Ok e ∷ [];
-  front = p.front ∙ ap (λ (x : List (Result E Error)). p.passed ++ x) is ∙ sym (append_assoc p.passed (Ok e ∷ []) m);
+  skips = p.skips ++ Ok e ∷ [];
+  splits = p.splits ∙ ap (λ (x : List (Result E Error)). p.skips ++ x) is ∙ sym (append_assoc p.skips (Ok e ∷ []) m);
   nothing = λ rest.
-      ap (resolutions sets resolve first) (append_assoc p.passed (Ok e ∷ []) rest)
+      ap (resolutions sets resolve first) (append_assoc p.skips (Ok e ∷ []) rest)
       ∙ p.nothing (Ok e ∷ rest)
       ∙ stand_one sets resolve b c e (Ok None) none at rest;
 }
@@ -45,10 +45,10 @@ stops_at : {E A : Type 0} (sets : E → Option ℕ) (resolve : ℕ → E → Res
     → SkipsEntries sets resolve first b all l → l ≡ Ok e ∷ m → resolve b e ≡ r → answer_list r ≡ x ∷ []
     → c ≡ unwrap_or (sets e) b → StopsAfter sets resolve first c all m x
 stops_at {E} {A} sets resolve first b c all l m e r x p is resolves one at = record {
-  passed = p.passed;
+  skips = p.skips;
   last = Ok e;
   between = b;
-  front = p.front ∙ ap (λ (y : List (Result E Error)). p.passed ++ y) is;
+  splits = p.splits ∙ ap (λ (y : List (Result E Error)). p.skips ++ y) is;
   nothing = p.nothing;
   answer =
       λ rest. stand_one sets resolve b c e r resolves at rest
@@ -60,10 +60,10 @@ stops_at_fault : {E A : Type 0} (sets : E → Option ℕ) (resolve : ℕ → E �
     (all l m : List (Result E Error)) (d : Error) → SkipsEntries sets resolve first b all l → l ≡ Err d ∷ m → c ≡ b
     → StopsAfter sets resolve first c all m (Err d)
 stops_at_fault {E} {A} sets resolve first b c all l m d p is at = record {
-  passed = p.passed;
+  skips = p.skips;
   last = Err d;
   between = b;
-  front = p.front ∙ ap (λ (y : List (Result E Error)). p.passed ++ y) is;
+  splits = p.splits ∙ ap (λ (y : List (Result E Error)). p.skips ++ y) is;
   nothing = p.nothing;
   answer = λ rest. ap (λ (k : ℕ). Err d ∷ resolutions sets resolve k rest) (sym at);
 }
@@ -73,8 +73,8 @@ passes_same : {E A : Type 0} (sets : E → Option ℕ) (resolve : ℕ → E → 
     (all l m : List (Result E Error)) → SkipsEntries sets resolve first b all l → l ≡ m → c ≡ b
     → SkipsEntries sets resolve first c all m
 passes_same {E} {A} sets resolve first b c all l m p is at = record {
-  passed = p.passed;
-  front = p.front ∙ ap (λ (y : List (Result E Error)). p.passed ++ y) is;
+  skips = p.skips;
+  splits = p.splits ∙ ap (λ (y : List (Result E Error)). p.skips ++ y) is;
   nothing = λ rest. p.nothing rest ∙ ap (λ (k : ℕ). resolutions sets resolve k rest) (sym at);
 }
 
@@ -93,7 +93,7 @@ leaves_base {E} sets s b c t e same at is =
 -- ---- ranges
 
 -- an entry e was read, between the states old and mid, and resolved to nothing, which left the state new
-pub range_passes : (limit : ℕ) (first old mid new : RangesLeft) (e : RawEntry) → SkipsRanges limit first old
+pub range_passes : (limit : ℕ) (first old mid new : RemainingRanges) (e : RawEntry) → SkipsRanges limit first old
     → old.against.setting ≡ first.against.setting
     → raw_ranges_to_come limit old.raw ≡ Ok e ∷ raw_ranges_to_come limit mid.raw → mid.against ≡ old.against
     → range_of mid.against.setting mid.against.base e ≡ Ok None → new.raw ≡ mid.raw
@@ -108,7 +108,7 @@ range_passes limit first old mid new e p same is against none raw base =
     (resolves_as range_of first.against.setting old.against.base mid.against e (Ok None) setting at none)
     (leaves_base base_in first.against.setting old.against.base new.against.base mid.against e setting at base)
 
-pub range_stops : (limit : ℕ) (first old mid new : RangesLeft) (e : RawEntry) (r : Result (Option Range) Error)
+pub range_stops : (limit : ℕ) (first old mid new : RemainingRanges) (e : RawEntry) (r : Result (Option Range) Error)
     (x : Result Range Error) → answer_list r ≡ x ∷ [] → SkipsRanges limit first old
     → old.against.setting ≡ first.against.setting
     → raw_ranges_to_come limit old.raw ≡ Ok e ∷ raw_ranges_to_come limit mid.raw → mid.against ≡ old.against
@@ -125,7 +125,7 @@ range_stops limit first old mid new e r x one p same is against resolves raw bas
     one
     (leaves_base base_in first.against.setting old.against.base new.against.base mid.against e setting at base)
 
-pub range_stops_at_fault : (limit : ℕ) (first old new : RangesLeft) (d : Error) → SkipsRanges limit first old
+pub range_stops_at_fault : (limit : ℕ) (first old new : RemainingRanges) (d : Error) → SkipsRanges limit first old
     → raw_ranges_to_come limit old.raw ≡ Err d ∷ raw_ranges_to_come limit new.raw → new.against ≡ old.against
     → FindsRange limit first new (Err d)
 range_stops_at_fault limit first old new d p is same =
@@ -137,7 +137,8 @@ range_stops_at_fault limit first old new d p is same =
 -- ---- locations
 
 -- an entry e was read, between the states old and mid, and resolved to nothing, which left the state new
-pub location_passes : (limit : ℕ) (first old mid new : LocationsLeft) (e : RawLocation) → SkipsLocations limit first old
+pub location_passes : (limit : ℕ) (first old mid new : RemainingLocations) (e : RawLocation)
+    → SkipsLocations limit first old
     → old.against.setting ≡ first.against.setting
     → raw_locations_to_come limit old.raw ≡ Ok e ∷ raw_locations_to_come limit mid.raw → mid.against ≡ old.against
     → location_of mid.against.setting mid.against.base e ≡ Ok None → new.raw ≡ mid.raw
@@ -154,7 +155,7 @@ location_passes limit first old mid new e p same is against none raw base =
     (resolves_as location_of first.against.setting old.against.base mid.against e (Ok None) setting at none)
     (leaves_base location_base_in first.against.setting old.against.base new.against.base mid.against e setting at base)
 
-pub location_stops : (limit : ℕ) (first old mid new : LocationsLeft) (e : RawLocation)
+pub location_stops : (limit : ℕ) (first old mid new : RemainingLocations) (e : RawLocation)
     (r : Result (Option Location) Error) (x : Result Location Error) → answer_list r ≡ x ∷ []
     → SkipsLocations limit first old → old.against.setting ≡ first.against.setting
     → raw_locations_to_come limit old.raw ≡ Ok e ∷ raw_locations_to_come limit mid.raw → mid.against ≡ old.against
@@ -173,7 +174,8 @@ location_stops limit first old mid new e r x one p same is against resolves raw 
     one
     (leaves_base location_base_in first.against.setting old.against.base new.against.base mid.against e setting at base)
 
-pub location_stops_at_fault : (limit : ℕ) (first old new : LocationsLeft) (d : Error) → SkipsLocations limit first old
+pub location_stops_at_fault : (limit : ℕ) (first old new : RemainingLocations) (d : Error)
+    → SkipsLocations limit first old
     → raw_locations_to_come limit old.raw ≡ Err d ∷ raw_locations_to_come limit new.raw → new.against ≡ old.against
     → FindsLocation limit first new (Err d)
 location_stops_at_fault limit first old new d p is same =
@@ -183,7 +185,7 @@ location_stops_at_fault limit first old new d p is same =
     d
     p is (ap (λ (a : Resolution). a.base) same)
 
-pub skips_all_locations : (limit : ℕ) (first old new : LocationsLeft) → SkipsLocations limit first old
+pub skips_all_locations : (limit : ℕ) (first old new : RemainingLocations) → SkipsLocations limit first old
     → raw_locations_to_come limit old.raw ≡ raw_locations_to_come limit new.raw → new.against ≡ old.against
     → SkipsLocations limit first new
 skips_all_locations limit first old new p is same =

@@ -5,7 +5,7 @@ use Rattle.gimli_core_readers.specs.Error.TheVariants.{UnsupportedAddressSize}
 use Rattle.gimli_core_readers.specs.View.{View, bytes_left}
 use Rattle.gimli_core_readers.specs.Parsers.{Parser}
 use Rattle.gimli_core_readers.proofs.StepParts.{begins}
-use Rattle.gimli_core_readers.proofs.StepSizes.{Below, AtMost, SomeBelow, SomeBelow-Below, Below-Ok, Below-Err, Below-proceed, Below-cond, sizes}
+use Rattle.gimli_core_readers.proofs.StepSizes.{Below, SomeBelow, SomeBelow-Below, Below-Ok, Below-Err, Below-proceed, Below-cond, sizes}
 use Rattle.gimli_core_readers.specs.NumberParsers.{fixed, unsigned, address, is_address_size}
 use Rattle.gimli_core_readers.proofs.NumberReadSizes.{number_sizes, Below-fixed}
 use Rattle.gimli_core_readers.specs.Encoding.{Encoding}

@@ -2,14 +2,14 @@
 use Rattle.std.proofs.Common.{◌≡◌, ℕ, [], ◌∷◌, ◌++◌, unwrap_or, Option, Result, Ok, Err, sym, ◌∙◌, ap}
 use Rattle.gimli_core_readers.specs.Error.{Error}
 use Rattle.gimli_core_readers.specs.declared.range.Range.{Range}
-use Rattle.gimli_units_lists.specs.ListAnswers.{answer_list, resolutions}
+use Rattle.gimli_units_lists.specs.ListResolutions.{answer_list, resolutions}
 use Rattle.gimli_units_lists.specs.ListEntries.{RawEntry, base_in, range_of}
 use Rattle.gimli_units_lists.specs.RangeEntries.{raw_ranges_to_come}
-use Rattle.gimli_units_lists.specs.ListSections.{Resolution, RangesLeft, ranges_to_come}
+use Rattle.gimli_units_lists.specs.ListSections.{Resolution, RemainingRanges, ranges_to_come}
 use Rattle.gimli_units_lists.proofs.ListBaseLemmas.{resolutions_next}
 
 -- an entry e was read, between the states old and mid, and resolved to r, which left the state new
-pub range_step : (limit : ℕ) (old mid new : RangesLeft) (e : RawEntry) (r : Result (Option Range) Error)
+pub range_step : (limit : ℕ) (old mid new : RemainingRanges) (e : RawEntry) (r : Result (Option Range) Error)
     → raw_ranges_to_come limit old.raw ≡ Ok e ∷ raw_ranges_to_come limit mid.raw → mid.against ≡ old.against
     → range_of mid.against.setting mid.against.base e ≡ r → new.raw ≡ mid.raw
     → new.against.setting ≡ mid.against.setting
@@ -24,12 +24,13 @@ range_step limit old mid new e r is same resolves raw setting base =
     ∙ ap (λ (x : Result (Option Range) Error). answer_list x ++ ranges_to_come limit new) resolves
 
 -- the list ended
-pub range_end : (limit : ℕ) (old : RangesLeft) → raw_ranges_to_come limit old.raw ≡ [] → ranges_to_come limit old ≡ []
+pub range_end : (limit : ℕ) (old : RemainingRanges) → raw_ranges_to_come limit old.raw ≡ []
+    → ranges_to_come limit old ≡ []
 range_end limit old is =
     ap (resolutions (base_in old.against.setting) (range_of old.against.setting) old.against.base) is
 
 -- an entry couldn't be read
-pub range_fault : (limit : ℕ) (old new : RangesLeft) (d : Error)
+pub range_fault : (limit : ℕ) (old new : RemainingRanges) (d : Error)
     → raw_ranges_to_come limit old.raw ≡ Err d ∷ raw_ranges_to_come limit new.raw → new.against ≡ old.against
     → ranges_to_come limit old ≡ Err d ∷ ranges_to_come limit new
 range_fault limit old new d is same =

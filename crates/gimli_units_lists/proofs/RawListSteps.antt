@@ -3,10 +3,9 @@ use Rattle.std.proofs.Common.{◌≡◌, ℕ, ◌≤◌, Bool, true, false, cond
 use Rattle.gimli_core_readers.specs.Error.{Error}
 use Rattle.gimli_core_readers.specs.View.{View, bytes_left}
 use Rattle.gimli_core_readers.specs.Parsers.{Parser}
-use Rattle.gimli_core_readers.specs.Repetition.{listing_in, next_item}
+use Rattle.gimli_core_readers.specs.Repetition.{listing_in, next_item, answers_of}
 use Rattle.gimli_core_readers.proofs.StepSizes.{SomeBelow, SomeBelow-cond, SomeBelow-None}
 use Rattle.gimli_core_readers.proofs.Listings.{Shrinks, listing_next}
-use Rattle.gimli_units_lists.specs.ListAnswers.{answers_of}
 use Rattle.gimli_units_lists.specs.ListEntryFields.{entry_or_end}
 
 -- entries that take a byte each

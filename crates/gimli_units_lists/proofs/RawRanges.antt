@@ -4,27 +4,28 @@ use Rattle.gimli_core_readers.specs.Error.{Error}
 use Rattle.gimli_core_readers.specs.View.{View}
 use Rattle.gimli_core_readers.specs.Encoding.{Encoding}
 use Rattle.gimli_units_lists.specs.ListEntries.{RawEntry}
-use Rattle.gimli_units_lists.specs.RangeEntries.{RawRangesLeft, range_entry, raw_ranges_to_come}
+use Rattle.gimli_units_lists.specs.RangeEntries.{RemainingRawRanges, range_entry, raw_ranges_to_come}
 use Rattle.gimli_units_lists.proofs.RawListSteps.{to_come, come_none, come_item, come_end, come_fault}
 use Rattle.gimli_units_lists.proofs.RangeEntrySizes.{range_entry_takes}
 
-pub raw_none : (limit : ℕ) (r : RawRangesLeft) → (eqb (length r.left.bytes) 0) ≡ true → raw_ranges_to_come limit r ≡ []
-raw_none limit r none = come_none (range_entry_takes limit r.encoding) r.left none
+pub raw_none : (limit : ℕ) (r : RemainingRawRanges) → (eqb (length r.rest.bytes) 0) ≡ true
+    → raw_ranges_to_come limit r ≡ []
+raw_none limit r none = come_none (range_entry_takes limit r.encoding) r.rest none
 
-pub raw_item : (limit : ℕ) (old new : RawRangesLeft) (x : RawEntry) → new.encoding ≡ old.encoding
-    → (eqb (length old.left.bytes) 0) ≡ false → range_entry limit old.encoding old.left ≡ Ok (Some x, new.left)
+pub raw_item : (limit : ℕ) (old new : RemainingRawRanges) (x : RawEntry) → new.encoding ≡ old.encoding
+    → (eqb (length old.rest.bytes) 0) ≡ false → range_entry limit old.encoding old.rest ≡ Ok (Some x, new.rest)
     → raw_ranges_to_come limit old ≡ Ok x ∷ raw_ranges_to_come limit new
 raw_item limit old new x same some e =
-    come_item (range_entry_takes limit old.encoding) old.left new.left x some e
-    ∙ ap (λ (c : Encoding). Ok x ∷ to_come (range_entry limit c) new.left) (sym same)
+    come_item (range_entry_takes limit old.encoding) old.rest new.rest x some e
+    ∙ ap (λ (c : Encoding). Ok x ∷ to_come (range_entry limit c) new.rest) (sym same)
 
-pub raw_end : (limit : ℕ) (old : RawRangesLeft) (w : View) → (eqb (length old.left.bytes) 0) ≡ false
-    → range_entry limit old.encoding old.left ≡ Ok (None, w) → raw_ranges_to_come limit old ≡ []
-raw_end limit old w some e = come_end (range_entry_takes limit old.encoding) old.left w some e
+pub raw_end : (limit : ℕ) (old : RemainingRawRanges) (w : View) → (eqb (length old.rest.bytes) 0) ≡ false
+    → range_entry limit old.encoding old.rest ≡ Ok (None, w) → raw_ranges_to_come limit old ≡ []
+raw_end limit old w some e = come_end (range_entry_takes limit old.encoding) old.rest w some e
 
-pub raw_fault : (limit : ℕ) (old new : RawRangesLeft) (d : Error) → new.encoding ≡ old.encoding
-    → (eqb (length old.left.bytes) 0) ≡ false → range_entry limit old.encoding old.left ≡ Err d
-    → (eqb (length new.left.bytes) 0) ≡ true → raw_ranges_to_come limit old ≡ Err d ∷ raw_ranges_to_come limit new
+pub raw_fault : (limit : ℕ) (old new : RemainingRawRanges) (d : Error) → new.encoding ≡ old.encoding
+    → (eqb (length old.rest.bytes) 0) ≡ false → range_entry limit old.encoding old.rest ≡ Err d
+    → (eqb (length new.rest.bytes) 0) ≡ true → raw_ranges_to_come limit old ≡ Err d ∷ raw_ranges_to_come limit new
 raw_fault limit old new d same some e none =
-    come_fault (range_entry_takes limit old.encoding) old.left new.left d some e none
-    ∙ ap (λ (c : Encoding). Err d ∷ to_come (range_entry limit c) new.left) (sym same)
+    come_fault (range_entry_takes limit old.encoding) old.rest new.rest d some e none
+    ∙ ap (λ (c : Encoding). Err d ∷ to_come (range_entry limit c) new.rest) (sym same)

@@ -3,7 +3,7 @@ pub use Rattle.gimli_core_readers.specs.DefaultBases
 pub use Rattle.gimli_core_readers.specs.SectionReads
 pub use Rattle.gimli_core_readers.specs.declared.range.Range
 pub mod ListEntries
-pub mod ListAnswers
+pub mod ListResolutions
 pub mod ListEntryFields
 pub mod RangeEntries
 pub mod LocationEntries

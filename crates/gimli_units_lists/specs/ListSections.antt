@@ -11,13 +11,13 @@ use Rattle.gimli_core_readers.specs.Format.{Format}
 use Rattle.gimli_core_readers.specs.SectionId.{SectionId}
 use Rattle.gimli_core_readers.specs.SectionId.TheVariants.{DebugRanges, DebugRngLists, DebugLoc, DebugLocLists}
 use Rattle.gimli_core_readers.specs.NumberParsers.{fixed, initial_length, address_size, offset_below}
-use Rattle.gimli_core_readers.specs.SectionReads.{string_offset_at}
+use Rattle.gimli_core_readers.specs.SectionReads.{table_offset_at}
 use Rattle.gimli_core_readers.specs.declared.range.Range.{Range}
 use Rattle.gimli_units_lists.specs.declared.header.ListsHeader.{ListsHeader}
-use Rattle.gimli_units_lists.specs.ListAnswers.{resolutions}
+use Rattle.gimli_units_lists.specs.ListResolutions.{resolutions}
 use Rattle.gimli_units_lists.specs.ListEntries.{Setting, base_in, range_of}
-use Rattle.gimli_units_lists.specs.RangeEntries.{RawRangesLeft, raw_ranges_to_come}
-use Rattle.gimli_units_lists.specs.LocationEntries.{RawLocationsLeft, raw_locations_to_come, Location, location_base_in, location_of}
+use Rattle.gimli_units_lists.specs.RangeEntries.{RemainingRawRanges, raw_ranges_to_come}
+use Rattle.gimli_units_lists.specs.LocationEntries.{RemainingRawLocations, raw_locations_to_come, Location, location_base_in, location_of}
 
 -- ---- resolved lists
 
@@ -39,23 +39,23 @@ from_low_pc encoding low_pc addr_base addresses =
     }
 
 -- what an iterator over the ranges of a list has left
-pub record RangesLeft : Type 0 where
-  pub raw : RawRangesLeft
+pub record RemainingRanges : Type 0 where
+  pub raw : RemainingRawRanges
   pub against : Resolution
 
 -- the ranges that it answers from here on, and the faults among them
-abbrev pub ranges_to_come : ℕ → RangesLeft → List (Result Range Error)
+abbrev pub ranges_to_come : ℕ → RemainingRanges → List (Result Range Error)
 ranges_to_come limit r =
     resolutions (base_in r.against.setting) (range_of r.against.setting) r.against.base
     (raw_ranges_to_come limit r.raw)
 
 -- what an iterator over the locations of a list has left
-pub record LocationsLeft : Type 0 where
-  pub raw : RawLocationsLeft
+pub record RemainingLocations : Type 0 where
+  pub raw : RemainingRawLocations
   pub against : Resolution
 
 -- the locations that it answers from here on, and the faults among them
-abbrev pub locations_to_come : ℕ → LocationsLeft → List (Result Location Error)
+abbrev pub locations_to_come : ℕ → RemainingLocations → List (Result Location Error)
 locations_to_come limit r =
     resolutions (location_base_in r.against.setting) (location_of r.against.setting) r.against.base
     (raw_locations_to_come limit r.raw)
@@ -92,38 +92,40 @@ lists_at f (Ok v) = Ok (f v)
 lists_at f (Err e) = Err e
 
 -- the entries of a range list
-abbrev pub raw_ranges_at : Encoding → ℕ → RangeSections → Result RawRangesLeft Error
+abbrev pub raw_ranges_at : Encoding → ℕ → RangeSections → Result RemainingRawRanges Error
 raw_ranges_at encoding offset s =
-    lists_at (λ left. record { encoding = encoding; left = left })
+    lists_at (λ bytes. record { encoding = encoding; rest = bytes })
     (from_offset offset (range_section encoding s))
 
 -- the ranges of a range list
-abbrev pub ranges_at : Encoding → ℕ → Resolution → RangeSections → Result RangesLeft Error
+abbrev pub ranges_at : Encoding → ℕ → Resolution → RangeSections → Result RemainingRanges Error
 ranges_at encoding offset against s =
     lists_at
-    (λ left. record { raw = record { encoding = encoding; left = left }; against = against })
+    (λ bytes. record { raw = record { encoding = encoding; rest = bytes }; against = against })
     (from_offset offset (range_section encoding s))
 
--- what is left of a location list; in a split file its entries begin with their kind in every
--- version
-abbrev pub location_list_from : Encoding → Bool → View → RawLocationsLeft
-location_list_from encoding split left = record {
+-- what is left of a location list, these bytes; in a split file its entries begin with their kind
+-- in every version
+abbrev pub location_list_from : Encoding → Bool → View → RemainingRawLocations
+location_list_from encoding is_split bytes = record {
   encoding = encoding;
-  by_kind = (if split then true else nat_lt 4 encoding.version);
-  left = left;
+  by_kind = (if is_split then true else nat_lt 4 encoding.version);
+  rest = bytes;
 }
 
 -- the entries of a location list
-abbrev pub raw_locations_at : Encoding → Bool → ℕ → LocationSections → Result RawLocationsLeft Error
-raw_locations_at encoding split offset s =
-    lists_at (λ left. location_list_from encoding split left)
+abbrev pub raw_locations_at : Encoding → Bool → ℕ → LocationSections
+    → Result RemainingRawLocations Error
+raw_locations_at encoding is_split offset s =
+    lists_at (λ bytes. location_list_from encoding is_split bytes)
     (from_offset offset (location_section encoding s))
 
 -- the locations of a location list
 abbrev pub locations_at : Encoding → Bool → ℕ → Resolution → LocationSections
-    → Result LocationsLeft Error
-locations_at encoding split offset against s =
-    lists_at (λ left. record { raw = location_list_from encoding split left; against = against })
+    → Result RemainingLocations Error
+locations_at encoding is_split offset against s =
+    lists_at
+    (λ bytes. record { raw = location_list_from encoding is_split bytes; against = against })
     (from_offset offset (location_section encoding s))
 
 -- ---- offsets of lists
@@ -137,7 +139,7 @@ offset_from_base limit base offset =
 -- the offset of a list that an index stands for: the section has an offset from the base there
 abbrev pub list_offset_at : ℕ → Format → ℕ → ℕ → View → Result ℕ Error
 list_offset_at limit format base index section =
-    value_of ((lift (string_offset_at limit format base index section)
+    value_of ((lift (table_offset_at limit format base index section)
     >>= λ offset. lift (offset_from_base limit base offset)) section)
 
 -- ---- places

@@ -6,11 +6,10 @@ use Rattle.gimli_core_readers.specs.Error.{Error}
 use Rattle.gimli_core_readers.specs.Error.TheVariants.{UnknownLocListsEntry}
 use Rattle.gimli_core_readers.specs.View.{View, bytes_left}
 use Rattle.gimli_core_readers.specs.Parsers.{Parser, ◌>>=◌, give, fail, branch, lift, part}
-use Rattle.gimli_core_readers.specs.Repetition.{Listing, listing_in}
+use Rattle.gimli_core_readers.specs.Repetition.{Listing, listing_in, answers_of}
 use Rattle.gimli_core_readers.specs.Encoding.{Encoding}
 use Rattle.gimli_core_readers.specs.NumberParsers.{fixed, unsigned, address, offset_below}
 use Rattle.gimli_core_readers.specs.declared.range.Range.{Range}
-use Rattle.gimli_units_lists.specs.ListAnswers.{answers_of}
 use Rattle.gimli_units_lists.specs.ListEntries.{RawEntry, base_address, base_addressx, startx_endx, startx_length, offset_pair, start_end, start_length, Setting, base_in, range_of}
 use Rattle.gimli_units_lists.specs.ListEntryFields.{entry_or_end, both, index, indexes, offsets, addresses, address_and_length}
 use Rattle.gimli_units_lists.specs.RangeEntries.{pair_entry}
@@ -110,18 +109,18 @@ location_entry limit encoding by_kind =
     branch by_kind (location_kind limit encoding) (location_pair limit encoding)
 
 -- what an iterator over the entries of a location list has left
-pub record RawLocationsLeft : Type 0 where
+pub record RemainingRawLocations : Type 0 where
   pub encoding : Encoding
   pub by_kind : Bool
-  pub left : View
+  pub rest : View
 
 -- the entries up to the list's end, or to the first fault
-abbrev pub location_entries : ℕ → RawLocationsLeft → Listing View RawLocation
+abbrev pub location_entries : ℕ → RemainingRawLocations → Listing View RawLocation
 location_entries limit r =
-    listing_in bytes_left (entry_or_end (location_entry limit r.encoding r.by_kind)) r.left
+    listing_in bytes_left (entry_or_end (location_entry limit r.encoding r.by_kind)) r.rest
 
 -- what the iterator answers from here on
-abbrev pub raw_locations_to_come : ℕ → RawLocationsLeft → List (Result RawLocation Error)
+abbrev pub raw_locations_to_come : ℕ → RemainingRawLocations → List (Result RawLocation Error)
 raw_locations_to_come limit r = answers_of (location_entries limit r)
 
 -- ---- what the entries stand for

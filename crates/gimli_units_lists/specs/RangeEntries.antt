@@ -6,11 +6,10 @@ use Rattle.gimli_core_readers.specs.Error.{Error}
 use Rattle.gimli_core_readers.specs.Error.TheVariants.{UnknownRangeListsEntry}
 use Rattle.gimli_core_readers.specs.View.{View, bytes_left}
 use Rattle.gimli_core_readers.specs.Parsers.{Parser, ◌>>=◌, give, fail, branch}
-use Rattle.gimli_core_readers.specs.Repetition.{Listing, listing_in}
+use Rattle.gimli_core_readers.specs.Repetition.{Listing, listing_in, answers_of}
 use Rattle.gimli_core_readers.specs.Encoding.{Encoding}
 use Rattle.gimli_core_readers.specs.NumberParsers.{fixed, unsigned, address}
 use Rattle.gimli_core_readers.specs.Addresses.{greatest_address}
-use Rattle.gimli_units_lists.specs.ListAnswers.{answers_of}
 use Rattle.gimli_units_lists.specs.ListEntries.{RawEntry, address_or_offset_pair, base_address, base_addressx, startx_endx, startx_length, offset_pair, start_end, start_length}
 use Rattle.gimli_units_lists.specs.ListEntryFields.{entry_or_end, both, index, indexes, offsets, addresses, address_and_length}
 
@@ -67,14 +66,14 @@ range_entry limit encoding =
     (range_kind limit encoding.address_size)
 
 -- what an iterator over the entries of a range list has left
-pub record RawRangesLeft : Type 0 where
+pub record RemainingRawRanges : Type 0 where
   pub encoding : Encoding
-  pub left : View
+  pub rest : View
 
 -- the entries up to the list's end, or to the first fault
-abbrev pub range_entries : ℕ → RawRangesLeft → Listing View RawEntry
-range_entries limit r = listing_in bytes_left (entry_or_end (range_entry limit r.encoding)) r.left
+abbrev pub range_entries : ℕ → RemainingRawRanges → Listing View RawEntry
+range_entries limit r = listing_in bytes_left (entry_or_end (range_entry limit r.encoding)) r.rest
 
 -- what the iterator answers from here on
-abbrev pub raw_ranges_to_come : ℕ → RawRangesLeft → List (Result RawEntry Error)
+abbrev pub raw_ranges_to_come : ℕ → RemainingRawRanges → List (Result RawEntry Error)
 raw_ranges_to_come limit r = answers_of (range_entries limit r)

@@ -3,7 +3,7 @@ ghost use Rattle.gimli_units_lists.specs.ListEntryFields.{index, indexes, offset
 
 use gimli_core_readers::{DebugAddrIndex, Error, Reader, ReaderOffset};
 
-/// An index into the addresses.
+// An index into the addresses.
 #[tactic(auto, unfolding(crate::specs::ListEntryFields::index))]
 pub(crate) fn read_index<R: Reader>(input: &mut R) -> Result<DebugAddrIndex<R::Offset>, Error>
     ensures { ReturnsAs (λ index. (R.Offset.count index.0, R.view input.new)) result
@@ -13,7 +13,7 @@ pub(crate) fn read_index<R: Reader>(input: &mut R) -> Result<DebugAddrIndex<R::O
     Ok(DebugAddrIndex(R::Offset::from_u64(index)?))
 }
 
-/// The indexes of begin and end.
+// The indexes of begin and end.
 #[tactic(auto, unfolding(crate::specs::ListEntryFields::indexes))]
 pub(crate) fn read_indexes<R: Reader>(
     input: &mut R,
@@ -27,7 +27,7 @@ pub(crate) fn read_indexes<R: Reader>(
     Ok((begin, end))
 }
 
-/// The offsets of begin and end.
+// The offsets of begin and end.
 #[tactic(auto, unfolding(crate::specs::ListEntryFields::offsets))]
 pub(crate) fn read_offsets<R: Reader>(input: &mut R) -> Result<(u64, u64), Error>
     ensures { ReturnsAs (λ p. (p, R.view input.new)) result (offsets (R.view input.old)) }
@@ -37,7 +37,7 @@ pub(crate) fn read_offsets<R: Reader>(input: &mut R) -> Result<(u64, u64), Error
     Ok((begin, end))
 }
 
-/// The addresses of begin and end.
+// The addresses of begin and end.
 #[tactic(auto, unfolding(crate::specs::ListEntryFields::addresses))]
 pub(crate) fn read_addresses<R: Reader>(
     input: &mut R,
@@ -51,7 +51,7 @@ pub(crate) fn read_addresses<R: Reader>(
     Ok((begin, end))
 }
 
-/// An address and a length.
+// An address and a length.
 #[tactic(auto, unfolding(crate::specs::ListEntryFields::address_and_length))]
 pub(crate) fn read_address_and_length<R: Reader>(
     input: &mut R,

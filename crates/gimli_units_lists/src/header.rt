@@ -54,7 +54,7 @@ impl ListsHeader {
     }
 }
 
-/// A length, and the fields after it.
+// A length, and the fields after it.
 #[tactic(auto, unfolding(crate::specs::ListSections::lists_header))]
 fn parse_header<R: Reader>(input: &mut R) -> Result<ListsHeader, Error>
     ensures { ReturnsAs (λ header. (header, R.view input.new)) result

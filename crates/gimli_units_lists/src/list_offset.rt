@@ -6,8 +6,8 @@ ghost use Rattle.gimli_units_lists.specs.ListSections.{list_offset_at};
 use gimli_core_readers::places::offset_at;
 use gimli_core_readers::{Error, Format, Reader, ReaderOffset};
 
-/// The offset of the list that an index stands for: the base plus the offset that the section has
-/// for the index.
+// The offset of the list that an index stands for: the base plus the offset that the section has
+// for the index.
 pub(crate) fn list_offset<R: Reader>(
     section: &R,
     format: Format,

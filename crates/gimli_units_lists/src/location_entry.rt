@@ -65,7 +65,7 @@ pub enum RawLocListEntry<R: Reader> {
     },
 }
 
-/// The next entry of a list, none at its end.
+// The next entry of a list, none at its end.
 #[tactic(auto, unfolding(crate::specs::LocationEntries::location_entry))]
 pub(crate) fn parse_entry<R: Reader>(
     input: &mut R,
@@ -84,7 +84,7 @@ pub(crate) fn parse_entry<R: Reader>(
     }
 }
 
-/// An entry of `.debug_loc`.
+// An entry of `.debug_loc`.
 #[tactic(auto, unfolding(crate::specs::LocationEntries::location_pair))]
 fn parse_pair<R: Reader>(
     input: &mut R,
@@ -112,7 +112,7 @@ fn parse_pair<R: Reader>(
     }))
 }
 
-/// An entry of `.debug_loclists`, or of `.debug_loc` in a split file.
+// An entry of `.debug_loclists`, or of `.debug_loc` in a split file.
 #[tactic(auto, unfolding(crate::specs::LocationEntries::location_kind))]
 fn parse_kind<R: Reader>(
     input: &mut R,
@@ -187,7 +187,7 @@ fn parse_kind<R: Reader>(
     }))
 }
 
-/// An index and a length, whose width depends on the version.
+// An index and a length, whose width depends on the version.
 #[tactic(auto, unfolding(crate::specs::LocationEntries::index_and_length))]
 fn read_index_and_length<R: Reader>(
     input: &mut R,
@@ -205,7 +205,7 @@ fn read_index_and_length<R: Reader>(
     Ok((begin, length))
 }
 
-/// The next expression, after its length. Takes memory only where a part of the reader does.
+// The next expression, after its length. Takes memory only where a part of the reader does.
 #[tactic(auto, unfolding(crate::specs::LocationEntries::expression))]
 fn parse_expression<R: Reader>(input: &mut R, encoding: Encoding) -> Result<Expression<R>, Error>
     ensures value { ReturnsAsOrNoMemory (λ x. (R.view x.0, R.view input.new)) result
@@ -221,7 +221,7 @@ fn parse_expression<R: Reader>(input: &mut R, encoding: Encoding) -> Result<Expr
     Ok(Expression(input.split(length)?))
 }
 
-/// An entry by what is resolved of it.
+// An entry by what is resolved of it.
 #[derive(Drop)]
 pub(crate) enum Parts<R: Reader> {
     /// A base.
@@ -232,7 +232,7 @@ pub(crate) enum Parts<R: Reader> {
     Default(Expression<R>),
 }
 
-/// What an entry has: the entry of a range list that says the same, and the expression.
+// What an entry has: the entry of a range list that says the same, and the expression.
 pub(crate) fn parts_of<R: Reader>(entry: RawLocListEntry<R>) -> Parts<R>
     ensures { raw_parts R.view R.Offset.count result ≡ raw_location R.view R.Offset.count entry }
 {

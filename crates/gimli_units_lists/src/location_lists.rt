@@ -66,7 +66,7 @@ impl<R: Reader> LocationLists<R> {
         // There are no more of them, refusals among them, than bytes.
         ensures few { IfOk result
             (λ locations. length (locations_to_come R.Offset.limit locations)
-            ≤ bytes_left locations.raw.left) }
+            ≤ bytes_left locations.raw.rest) }
     {
         let resolver = Resolver::new(unit_encoding, base_address, debug_addr, debug_addr_base)?;
         let raw = self.raw_locations(offset, unit_encoding)?;
@@ -92,7 +92,7 @@ impl<R: Reader> LocationLists<R> {
         // There are no more of them, refusals among them, than bytes.
         ensures few { IfOk result
             (λ locations. length (locations_to_come R.Offset.limit locations)
-            ≤ bytes_left locations.raw.left) }
+            ≤ bytes_left locations.raw.rest) }
     {
         let resolver = Resolver::new(unit_encoding, base_address, debug_addr, debug_addr_base)?;
         let raw = self.raw_locations_dwo(offset, unit_encoding)?;
@@ -113,7 +113,7 @@ impl<R: Reader> LocationLists<R> {
         // There are no more of them than bytes.
         ensures few { IfOk result
             (λ entries. length (raw_locations_to_come R.Offset.limit entries)
-            ≤ bytes_left entries.left) }
+            ≤ bytes_left entries.rest) }
     {
         let input = self.section_from(offset, unit_encoding)?;
         let by_kind = unit_encoding.version > 4;
@@ -133,13 +133,13 @@ impl<R: Reader> LocationLists<R> {
         // There are no more of them than bytes.
         ensures few { IfOk result
             (λ entries. length (raw_locations_to_come R.Offset.limit entries)
-            ≤ bytes_left entries.left) }
+            ≤ bytes_left entries.rest) }
     {
         let input = self.section_from(offset, unit_encoding)?;
         Ok(RawLocListIter::new(input, unit_encoding, true))
     }
 
-    /// The bytes of the section of a unit's version, from an offset on.
+    // The bytes of the section of a unit's version, from an offset on.
     fn section_from(
         &self,
         offset: LocationListsOffset<R::Offset>,
@@ -177,7 +177,7 @@ impl<R: Reader> LocationLists<R> {
 
     /// The section and the offset in it of the place that an identifier names, `.debug_loc` first.
     pub fn lookup_offset_id(&self, id: ReaderOffsetId) -> Option<(SectionId, R::Offset)>
-        ensures { option_map (λ found. (found.0, R.Offset.count found.1)) result
+        ensures { option_map (λ p. (p.0, R.Offset.count p.1)) result
             ≡ location_place_of id.0 self.now }
     {
         self.debug_loc

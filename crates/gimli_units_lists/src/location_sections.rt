@@ -41,7 +41,7 @@ impl<R: Reader> Section<R> for DebugLoc<R> {
         &self.section
     }
 
-    ghost from_reader = { λ _ _ made. made };
+    ghost from_reader = { λ _ _ same. same };
 }
 
 impl<'a, E: Endianity> DebugLoc<EndianSlice<'a, E>> {
@@ -60,8 +60,8 @@ impl<R: Reader> DebugLoc<R> {
         F: FnOnce(&'a R) -> S,
         S: Reader,
         requires { F.IsAlwaysCallable f }
-        ensures { (reader : R) × (borrowed : S) × (R.view reader ≡ self.now)
-            × FnOnceReturnsAt F.FnOnce f reader borrowed × (result ≡ S.view borrowed) }
+        ensures { (reader : R) × (output : S) × (R.view reader ≡ self.now)
+            × FnOnceReturnsAt F.FnOnce f reader output × (result ≡ S.view output) }
     {
         DebugLoc {
             section: f(&self.section),
@@ -106,7 +106,7 @@ impl<R: Reader> Section<R> for DebugLocLists<R> {
         &self.section
     }
 
-    ghost from_reader = { λ _ _ made. made };
+    ghost from_reader = { λ _ _ same. same };
 }
 
 impl<'a, E: Endianity> DebugLocLists<EndianSlice<'a, E>> {
@@ -125,8 +125,8 @@ impl<R: Reader> DebugLocLists<R> {
         F: FnOnce(&'a R) -> S,
         S: Reader,
         requires { F.IsAlwaysCallable f }
-        ensures { (reader : R) × (borrowed : S) × (R.view reader ≡ self.now)
-            × FnOnceReturnsAt F.FnOnce f reader borrowed × (result ≡ S.view borrowed) }
+        ensures { (reader : R) × (output : S) × (R.view reader ≡ self.now)
+            × FnOnceReturnsAt F.FnOnce f reader output × (result ≡ S.view output) }
     {
         DebugLocLists {
             section: f(&self.section),

@@ -1,7 +1,7 @@
 ghost use Rattle.std.specs.Prelude.{◌≡◌, ◌≢◌, IsTrue, IfOk, IfSome, unwrap_or, option_map, Err};
 ghost use Rattle.gimli_core_readers.specs.Calls.{ReturnsAs};
 ghost use Rattle.gimli_core_readers.specs.Error.TheVariants.{Memory};
-ghost use Rattle.gimli_units_lists.specs.ListAnswers.{ReturnsNextOrNoMemory};
+ghost use Rattle.gimli_core_readers.specs.Iterators.{ReturnsNextOrNoMemory};
 ghost use Rattle.gimli_units_lists.specs.ListEntries.{IsValidRange};
 ghost use Rattle.gimli_units_lists.specs.ListSections.{locations_to_come};
 ghost use Rattle.gimli_units_lists.specs.ListProgress.{TakesLocation};
@@ -29,9 +29,9 @@ pub struct LocListIter<R: Reader> {
 }
 
 impl<R: Reader> Model for LocListIter<R> {
-    ghost use Rattle.gimli_units_lists.specs.ListSections.{LocationsLeft};
+    ghost use Rattle.gimli_units_lists.specs.ListSections.{RemainingLocations};
 
-    ghost Value = { LocationsLeft };
+    ghost Value = { RemainingLocations };
 
     ghost view = { λ r. record { raw = r.raw; against = r.resolver } };
 }

@@ -51,7 +51,7 @@ pub enum RawRngListEntry<T> {
     },
 }
 
-/// The next entry of a list, none at its end.
+// The next entry of a list, none at its end.
 #[tactic(auto, unfolding(crate::specs::RangeEntries::range_entry))]
 pub(crate) fn parse_entry<R: Reader>(
     input: &mut R,
@@ -68,7 +68,7 @@ pub(crate) fn parse_entry<R: Reader>(
     }
 }
 
-/// An entry of `.debug_ranges`.
+// An entry of `.debug_ranges`.
 #[tactic(auto, unfolding(crate::specs::RangeEntries::range_pair))]
 fn parse_pair<R: Reader>(
     input: &mut R,
@@ -88,7 +88,7 @@ fn parse_pair<R: Reader>(
     Ok(Some(RawRngListEntry::AddressOrOffsetPair { begin, end }))
 }
 
-/// An entry of `.debug_rnglists`.
+// An entry of `.debug_rnglists`.
 #[tactic(auto, unfolding(crate::specs::RangeEntries::range_kind))]
 fn parse_kind<R: Reader>(
     input: &mut R,

@@ -90,7 +90,7 @@ impl<R: Reader> RangeLists<R> {
         ensures free { IsTrue R.copies_freely → result ≢ Err Memory }
         // There are no more of them, refusals among them, than bytes.
         ensures few { IfOk result
-            (λ ranges. length (ranges_to_come R.Offset.limit ranges) ≤ bytes_left ranges.raw.left) }
+            (λ ranges. length (ranges_to_come R.Offset.limit ranges) ≤ bytes_left ranges.raw.rest) }
     {
         let resolver = Resolver::new(unit_encoding, base_address, debug_addr, debug_addr_base)?;
         let raw = self.raw_ranges(offset, unit_encoding)?;
@@ -111,7 +111,7 @@ impl<R: Reader> RangeLists<R> {
         // There are no more of them than bytes.
         ensures few { IfOk result
             (λ entries. length (raw_ranges_to_come R.Offset.limit entries)
-            ≤ bytes_left entries.left) }
+            ≤ bytes_left entries.rest) }
     {
         let mut input = if unit_encoding.version <= 4 {
             self.debug_ranges.reader().copy()?
@@ -142,7 +142,7 @@ impl<R: Reader> RangeLists<R> {
     /// The section and the offset in it of the place that an identifier names, `.debug_ranges`
     /// first.
     pub fn lookup_offset_id(&self, id: ReaderOffsetId) -> Option<(SectionId, R::Offset)>
-        ensures { option_map (λ found. (found.0, R.Offset.count found.1)) result
+        ensures { option_map (λ p. (p.0, R.Offset.count p.1)) result
             ≡ range_place_of id.0 self.now }
     {
         self.debug_ranges

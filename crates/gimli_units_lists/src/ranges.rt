@@ -1,7 +1,7 @@
 ghost use Rattle.std.specs.Prelude.{◌≡◌, ◌≢◌, IfOk, IfSome, unwrap_or, Ok, Err};
 ghost use Rattle.gimli_core_readers.specs.Calls.{Returns};
 ghost use Rattle.gimli_core_readers.specs.Error.TheVariants.{Memory};
-ghost use Rattle.gimli_units_lists.specs.ListAnswers.{ReturnsNext};
+ghost use Rattle.gimli_core_readers.specs.Iterators.{ReturnsNext};
 ghost use Rattle.gimli_units_lists.specs.ListEntries.{base_in, range_of, IsValidRange};
 ghost use Rattle.gimli_units_lists.specs.ListSections.{ranges_to_come};
 ghost use Rattle.gimli_units_lists.specs.ListProgress.{TakesRange};
@@ -22,9 +22,9 @@ pub struct RngListIter<R: Reader> {
 }
 
 impl<R: Reader> Model for RngListIter<R> {
-    ghost use Rattle.gimli_units_lists.specs.ListSections.{RangesLeft};
+    ghost use Rattle.gimli_units_lists.specs.ListSections.{RemainingRanges};
 
-    ghost Value = { RangesLeft };
+    ghost Value = { RemainingRanges };
 
     ghost view = { λ r. record { raw = r.raw; against = r.resolver } };
 }

@@ -1,6 +1,6 @@
 ghost use Rattle.std.specs.Prelude.{◌≡◌, ◌≢◌, IsTrue, Err};
 ghost use Rattle.gimli_core_readers.specs.Error.TheVariants.{Memory};
-ghost use Rattle.gimli_units_lists.specs.ListAnswers.{ReturnsNextOrNoMemory};
+ghost use Rattle.gimli_core_readers.specs.Iterators.{ReturnsNextOrNoMemory};
 ghost use Rattle.gimli_units_lists.specs.LocationEntries.{raw_locations_to_come};
 ghost use Rattle.gimli_units_lists.specs.ListEntryViews.{raw_location};
 
@@ -11,28 +11,28 @@ use std::marker::Model;
 /// The entries of a location list, from one of them on.
 #[derive(Debug, Drop)]
 pub struct RawLocListIter<R: Reader> {
-    /// The bytes from the next entry on.
+    // The bytes from the next entry on.
     input: R,
     encoding: Encoding,
-    /// The entries begin with their kind.
+    // The entries begin with their kind.
     by_kind: bool,
 }
 
 impl<R: Reader> Model for RawLocListIter<R> {
-    ghost use Rattle.gimli_units_lists.specs.LocationEntries.{RawLocationsLeft};
+    ghost use Rattle.gimli_units_lists.specs.LocationEntries.{RemainingRawLocations};
 
-    ghost Value = { RawLocationsLeft };
+    ghost Value = { RemainingRawLocations };
 
     ghost view = { λ r. record {
       encoding = r.encoding;
       by_kind = r.by_kind;
-      left = R.view r.input;
+      rest = R.view r.input;
     } };
 }
 
 impl<R: Reader> RawLocListIter<R> {
     pub(crate) fn new(input: R, encoding: Encoding, by_kind: bool) -> Self
-        ensures { result ≡ record { encoding = encoding; by_kind = by_kind; left = R.view input } }
+        ensures { result ≡ record { encoding = encoding; by_kind = by_kind; rest = R.view input } }
     {
         RawLocListIter {
             input,
@@ -42,7 +42,7 @@ impl<R: Reader> RawLocListIter<R> {
     }
 
     /// The next entry, none at the list's end. After an entry that can't be read there are no more.
-    /// Takes memory only where a part of the reader does, and moves nothing where there is none.
+    /// Takes memory only where a part of the reader does, and changes nothing when out of memory.
     pub fn next(&mut self) -> Result<Option<RawLocListEntry<R>>, Error>
         ensures next { ReturnsNextOrNoMemory (raw_location R.view R.Offset.count) result
             (raw_locations_to_come R.Offset.limit self.old)

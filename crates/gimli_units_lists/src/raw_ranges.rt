@@ -1,6 +1,6 @@
 ghost use Rattle.std.specs.Prelude.{◌≡◌, ◌≢◌, IsTrue, Ok, Err};
 ghost use Rattle.gimli_core_readers.specs.Error.TheVariants.{Memory};
-ghost use Rattle.gimli_units_lists.specs.ListAnswers.{ReturnsNext};
+ghost use Rattle.gimli_core_readers.specs.Iterators.{ReturnsNext};
 ghost use Rattle.gimli_units_lists.specs.RangeEntries.{raw_ranges_to_come};
 ghost use Rattle.gimli_units_lists.specs.ListEntryViews.{raw_entry};
 
@@ -11,22 +11,22 @@ use std::marker::Model;
 /// The entries of a range list, from one of them on.
 #[derive(Debug, Drop)]
 pub struct RawRngListIter<R: Reader> {
-    /// The bytes from the next entry on.
+    // The bytes from the next entry on.
     input: R,
     encoding: Encoding,
 }
 
 impl<R: Reader> Model for RawRngListIter<R> {
-    ghost use Rattle.gimli_units_lists.specs.RangeEntries.{RawRangesLeft};
+    ghost use Rattle.gimli_units_lists.specs.RangeEntries.{RemainingRawRanges};
 
-    ghost Value = { RawRangesLeft };
+    ghost Value = { RemainingRawRanges };
 
-    ghost view = { λ r. record { encoding = r.encoding; left = R.view r.input } };
+    ghost view = { λ r. record { encoding = r.encoding; rest = R.view r.input } };
 }
 
 impl<R: Reader> RawRngListIter<R> {
     pub(crate) fn new(input: R, encoding: Encoding) -> Self
-        ensures { result ≡ record { encoding = encoding; left = R.view input } }
+        ensures { result ≡ record { encoding = encoding; rest = R.view input } }
     {
         RawRngListIter { input, encoding }
     }

@@ -13,11 +13,11 @@ use gimli_core_readers::{
 };
 use std::marker::Model;
 
-/// What the ranges of a list's entries are made with.
+// What the ranges of a list's entries are made with.
 #[derive(Debug, Drop)]
 pub(crate) struct Resolver<R: Reader> {
     address_size: u8,
-    /// The base of the entries to come.
+    // The base of the entries to come.
     base_address: u64,
     debug_addr: DebugAddr<R>,
     debug_addr_base: DebugAddrBase<R::Offset>,
@@ -64,8 +64,8 @@ impl<R: Reader> Resolver<R> {
         })
     }
 
-    /// The range of an entry at the base, none for a base and an invalid range. An entry that isn't
-    /// refused sets its base.
+    // The range of an entry at the base, none for a base and an invalid range. An entry that isn't
+    // refused sets its base.
     pub(crate) fn range(
         &mut self,
         entry: RawRngListEntry<R::Offset>,
@@ -106,7 +106,7 @@ impl<R: Reader> Resolver<R> {
         }
     }
 
-    /// The range of a default location: all addresses, whatever the size of an address.
+    // The range of a default location: all addresses, whatever the size of an address.
     #[tactic(auto, using(crate::proofs::Tombstones::zero_below_tombstones))]
     pub(crate) fn everywhere(&self) -> Range
         ensures value { result ≡ record { begin = 0; end = 2 ^ 64 - 1 } }
@@ -119,7 +119,7 @@ impl<R: Reader> Resolver<R> {
         }
     }
 
-    /// The address of an index.
+    // The address of an index.
     fn address(&self, index: DebugAddrIndex<R::Offset>) -> Result<u64, Error>
         ensures value { Returns result
             (address_of_index self.now.setting (R.Offset.count index.0)) }
@@ -129,7 +129,7 @@ impl<R: Reader> Resolver<R> {
             .get_address(self.address_size, self.debug_addr_base, index)
     }
 
-    /// A range, if it begins before it ends and below the tombstones.
+    // A range, if it begins before it ends and below the tombstones.
     fn valid_range(&self, begin: u64, end: u64) -> Option<Range>
         ensures value { result ≡ valid_range self.now.setting.address_size begin end }
         ensures valid { IfSome result (IsValidRange self.now.setting.address_size) }
@@ -141,7 +141,7 @@ impl<R: Reader> Resolver<R> {
         }
     }
 
-    /// A range relative to the base, which may be a tombstone.
+    // A range relative to the base, which may be a tombstone.
     fn relative_range(&self, begin: u64, end: u64) -> Option<Range>
         ensures value { result ≡ relative_range self.now.setting.address_size self.now.base
             begin end }
@@ -155,7 +155,7 @@ impl<R: Reader> Resolver<R> {
         self.valid_range(begin, end)
     }
 
-    /// A range by its begin and its bytes.
+    // A range by its begin and its bytes.
     fn range_of_length(&self, begin: u64, length: u64) -> Option<Range>
         ensures value { result ≡ range_of_length self.now.setting.address_size begin length }
         ensures valid { IfSome result (IsValidRange self.now.setting.address_size) }

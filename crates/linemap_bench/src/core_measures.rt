@@ -1,5 +1,5 @@
-//! What is timed of the reading core: each reads its bytes to the first refusal, and gives a
-//! checksum of what it read.
+//! The measures of the reading core. Each reads its bytes to the first refusal, and returns a
+//! checksum of what it reads.
 
 use crate::core_bytes;
 use crate::timing::mix;
@@ -61,7 +61,7 @@ pub fn texts<R: Reader>(mut input: R) -> u64 {
     sum
 }
 
-/// Tables of abbreviations, and each declaration found by its code.
+/// Tables of abbreviations, and each declaration by its code.
 pub fn tables<R: Reader>(alloc: Global, section: R) -> u64 {
     let end = section.len().into_u64();
     let section = DebugAbbrev::from(section);

@@ -88,7 +88,7 @@ fn request_of(words: &[String]) -> Option<Request<'_>> {
     }
 }
 
-// Does all that is asked for, and gives the exit status.
+// Does what the request asks for, and returns the exit status.
 fn obey<R: Runtime + Files + AllocGlobal, O: Write, E: Write>(
     rt: &R,
     request: &Request<'_>,

@@ -1,4 +1,4 @@
-//! Prints a section of a table's debug information, so that other tools can be shown what is
+//! Prints a section of a table's debug information, so that other tools can read what is
 //! emitted.
 
 use gimli_core::{Format, SectionId};

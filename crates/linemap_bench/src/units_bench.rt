@@ -18,13 +18,13 @@ pub fn time<R: Runtime + AllocGlobal>(rt: &R, size: usize) -> io::Result<()> {
 fn time_borrowed<R: Runtime + AllocGlobal>(rt: &R, sections: &Sections) -> io::Result<()> {
     let (info, abbrev) = (sections.info.as_slice(), ABBREVIATIONS);
     let start = Instant::now(rt)?;
-    let sum = units_measures::read(rt.alloc(), slice(info), slice(abbrev));
+    let sum = units_measures::read_all(rt.alloc(), slice(info), slice(abbrev));
     report(rt, "read slice", sum, start)?;
     let start = Instant::now(rt)?;
-    let sum = units_measures::whole(rt.alloc(), slice(info), slice(abbrev));
+    let sum = units_measures::read_whole(rt.alloc(), slice(info), slice(abbrev));
     report(rt, "whole slice", sum, start)?;
     let start = Instant::now(rt)?;
-    let sum = units_measures::skipped(rt.alloc(), slice(info), slice(abbrev));
+    let sum = units_measures::skip_all(rt.alloc(), slice(info), slice(abbrev));
     report(rt, "skipped slice", sum, start)?;
     let (lists, addresses) = (slice(&sections.lists), slice(&sections.addresses));
     let start = Instant::now(rt)?;
@@ -35,15 +35,15 @@ fn time_borrowed<R: Runtime + AllocGlobal>(rt: &R, sections: &Sections) -> io::R
 fn time_shared<R: Runtime + AllocGlobal>(rt: &R, sections: &Sections) -> io::Result<()> {
     let (info, abbrev) = (shared(rt, &sections.info)?, shared(rt, ABBREVIATIONS)?);
     let start = Instant::now(rt)?;
-    let sum = units_measures::read(rt.alloc(), info, abbrev);
+    let sum = units_measures::read_all(rt.alloc(), info, abbrev);
     report(rt, "read bytes", sum, start)?;
     let (info, abbrev) = (shared(rt, &sections.info)?, shared(rt, ABBREVIATIONS)?);
     let start = Instant::now(rt)?;
-    let sum = units_measures::whole(rt.alloc(), info, abbrev);
+    let sum = units_measures::read_whole(rt.alloc(), info, abbrev);
     report(rt, "whole bytes", sum, start)?;
     let (info, abbrev) = (shared(rt, &sections.info)?, shared(rt, ABBREVIATIONS)?);
     let start = Instant::now(rt)?;
-    let sum = units_measures::skipped(rt.alloc(), info, abbrev);
+    let sum = units_measures::skip_all(rt.alloc(), info, abbrev);
     report(rt, "skipped bytes", sum, start)
 }
 

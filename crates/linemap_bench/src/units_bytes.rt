@@ -16,7 +16,7 @@ pub const ABBREVIATIONS: &[u8] = &[
     3, 0x05, 0, 0x03, 0x0e, 0x3a, 0x0b, 0x3b, 0x05, 0x39, 0x0b, 0x49, 0x13, 0x02, 0x18, 0, 0,
     // A variable: name, decl_file, decl_line, decl_column, type, location.
     4, 0x34, 0, 0x03, 0x0e, 0x3a, 0x0b, 0x3b, 0x05, 0x39, 0x0b, 0x49, 0x13, 0x02, 0x17, 0, 0,
-    // A variable of a short name, which stands in the entry.
+    // A variable with a short name, which is in the entry.
     5, 0x34, 0, 0x03, 0x08, 0x3a, 0x0b, 0x3b, 0x05, 0x39, 0x0b, 0x49, 0x13, 0x02, 0x17, 0, 0,
     // An inlined call: abstract_origin, low_pc, high_pc, call_file, call_line, call_column,
     // sibling.
@@ -155,7 +155,7 @@ fn headed(alloc: Global, entries: &[u8]) -> Result<Vec<u8>, AllocError> {
 
 // ---- lists of ranges
 
-// How many addresses lists name by their indexes.
+// The number of addresses that lists name by their indexes.
 const ADDRESSES: u16 = 128;
 
 // `.debug_addr`: a header, and addresses of eight bytes.

@@ -1,5 +1,5 @@
-//! What is timed of the reading of units: each goes over all of its bytes, and gives a checksum of
-//! what it read.
+//! The measures of reading units. Each goes over all of its bytes, and returns a checksum of what
+//! it reads.
 
 use crate::timing::mix;
 use gimli_core::{
@@ -31,7 +31,7 @@ fn abbreviations<R: Reader>(
 // ---- entries, read
 
 /// All entries of a unit, with the values of all attributes.
-pub fn read<R: Reader>(alloc: Global, info: R, abbrev: R) -> Result<u64, Error> {
+pub fn read_all<R: Reader>(alloc: Global, info: R, abbrev: R) -> Result<u64, Error> {
     let unit = first_unit(info)?;
     let abbreviations = abbreviations(alloc, &unit, abbrev)?;
     let mut entries = entries_raw(&unit, &abbreviations, None)?;
@@ -58,7 +58,7 @@ fn read_entry<R: Reader>(entries: &mut EntriesRaw<'_, R>, sum: u64) -> Result<u6
 }
 
 /// All entries of a unit, each read whole in place of the one before it.
-pub fn whole<R: Reader>(alloc: Global, info: R, abbrev: R) -> Result<u64, Error> {
+pub fn read_whole<R: Reader>(alloc: Global, info: R, abbrev: R) -> Result<u64, Error> {
     let unit = first_unit(info)?;
     let abbreviations = abbreviations(alloc, &unit, abbrev)?;
     let mut entries = entries_raw(&unit, &abbreviations, None)?;
@@ -77,7 +77,7 @@ pub fn whole<R: Reader>(alloc: Global, info: R, abbrev: R) -> Result<u64, Error>
     Ok(sum)
 }
 
-// A number for each value: of bytes how many there are.
+// A number for each value; for bytes, how many there are.
 fn number_of<R: Reader>(attribute: &Attribute<R>) -> Result<u64, Error> {
     Ok(match attribute.raw_value()? {
         AttributeValue::Addr(address) => address,
@@ -100,7 +100,7 @@ fn number_of<R: Reader>(attribute: &Attribute<R>) -> Result<u64, Error> {
 // ---- entries, skipped
 
 /// All entries of a unit, their attributes skipped.
-pub fn skipped<R: Reader>(alloc: Global, info: R, abbrev: R) -> Result<u64, Error> {
+pub fn skip_all<R: Reader>(alloc: Global, info: R, abbrev: R) -> Result<u64, Error> {
     let unit = first_unit(info)?;
     let abbreviations = abbreviations(alloc, &unit, abbrev)?;
     let mut entries = entries_raw(&unit, &abbreviations, None)?;
@@ -130,7 +130,7 @@ const ENCODING: Encoding = Encoding {
     version: 5,
 };
 
-/// As many lists of ranges, each found by its index: the begins and ends of their ranges.
+/// A number of lists of ranges, each by its index: the begins and ends of their ranges.
 pub fn ranges<R: Reader>(count: usize, nothing: R, lists: R, addresses: R) -> Result<u64, Error> {
     let lists = RangeLists::new(DebugRanges::from(nothing), DebugRngLists::from(lists));
     let addresses = DebugAddr::from(addresses);

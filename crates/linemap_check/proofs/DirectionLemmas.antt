@@ -8,7 +8,7 @@ use Rattle.linemap_meaning.specs.TableParts.{RangePart}
 use Rattle.linemap_meaning.specs.Conditions.{overlap, any_overlap}
 use Rattle.linemap_check.proofs.PartLists.{flat_map_drop, flat_map_drop_all}
 use Rattle.linemap_check.proofs.OverlapLemmas.{any_overlap_append}
-use Rattle.linemap_check.specs.RangePasses.{any_meets, in_direction}
+use Rattle.linemap_check.specs.RangePasses.{any_overlaps_later, in_direction}
 
 -- ---- places
 
@@ -91,13 +91,14 @@ module _ {T : Type 0} (ranges : T → List RangePart) where
       ∙ or_exchange (list_any p (flat_map ranges xs)) (list_any p (ranges x))
       ∙ sym (list_any-append p (ranges x) (flat_map ranges xs))
 
-  any_meets_reverse : (rs : List RangePart) (xs : List T)
-      → any_meets rs (flat_map ranges (reverse xs)) ≡ any_meets rs (flat_map ranges xs)
-  any_meets_reverse [] xs = refl
-  any_meets_reverse (r ∷ rs) xs =
-      ap (λ b. list_any (overlap r) rs || b || any_meets rs (flat_map ranges (reverse xs)))
+  any_overlaps_later_reverse : (rs : List RangePart) (xs : List T)
+      → any_overlaps_later rs (flat_map ranges (reverse xs)) ≡ any_overlaps_later rs (flat_map ranges xs)
+  any_overlaps_later_reverse [] xs = refl
+  any_overlaps_later_reverse (r ∷ rs) xs =
+      ap (λ b. list_any (overlap r) rs || b || any_overlaps_later rs (flat_map ranges (reverse xs)))
       (list_any_reverse (overlap r) xs)
-      ∙ ap (λ b. list_any (overlap r) rs || list_any (overlap r) (flat_map ranges xs) || b) (any_meets_reverse rs xs)
+      ∙ ap (λ b. list_any (overlap r) rs || list_any (overlap r) (flat_map ranges xs) || b)
+      (any_overlaps_later_reverse rs xs)
 
   any_overlap_reverse : (xs : List T)
       → any_overlap (flat_map ranges (reverse xs)) ≡ any_overlap (flat_map ranges xs)
@@ -105,8 +106,8 @@ module _ {T : Type 0} (ranges : T → List RangePart) where
   any_overlap_reverse (x ∷ xs) =
       ap any_overlap (last_first x xs) ∙ any_overlap_swap (flat_map ranges (reverse xs)) (ranges x)
       ∙ any_overlap_append (ranges x) (flat_map ranges (reverse xs))
-      ∙ ap (λ b. b || any_overlap (flat_map ranges (reverse xs))) (any_meets_reverse (ranges x) xs)
-      ∙ ap (λ b. any_meets (ranges x) (flat_map ranges xs) || b) (any_overlap_reverse xs)
+      ∙ ap (λ b. b || any_overlap (flat_map ranges (reverse xs))) (any_overlaps_later_reverse (ranges x) xs)
+      ∙ ap (λ b. any_overlaps_later (ranges x) (flat_map ranges xs) || b) (any_overlap_reverse xs)
       ∙ sym (any_overlap_append (ranges x) (flat_map ranges xs))
 
   -- what the items from i on have, in a direction: what the i-th has, and then what those after it have

@@ -5,4 +5,3 @@ mod OverlapLemmas
 mod DirectionLemmas
 mod RangePassLemmas
 mod RuleLemmas
-mod SaturationLemmas

@@ -1,4 +1,4 @@
--- Overlaps in a list of ranges that is made of others.
+-- Overlaps in a list of ranges that joins others.
 use Rattle.std.proofs.Common.{◌≡◌, ℕ, ◌+◌, ◌-◌, ◌<◌, ◌≤◌, max, length, drop, take, flat_map, get_or, Bool, true, false, ◌&&◌, ◌||◌, nat_lt, cond, List, [], ◌∷◌, ◌++◌, Option, Some, None, option_and_then, refl, sym, ap, ◌∙◌, arith}
 use Rattle.std.proofs.lemmas.Bool.Decides.{nat_tests}
 use Rattle.std.proofs.lemmas.List.{take_all, length-drop}
@@ -7,9 +7,10 @@ use Rattle.std.specs.List.{list_any}
 use Rattle.linemap_meaning.specs.TableParts.{RangePart}
 use Rattle.linemap_meaning.specs.Conditions.{overlap, any_overlap}
 use Rattle.linemap_check.proofs.PartLists.{flat_map_drop}
-use Rattle.linemap_check.specs.RangePasses.{ordered_end, any_meets}
+use Rattle.linemap_check.specs.RangePasses.{ordered_end, any_overlaps_later}
 
-cond_then : (b : Bool) (o : Option ℕ) (k : ℕ → Option ℕ) (whole : Option ℕ) → whole ≡ option_and_then k o
+pub cond_then : {A : Type 0} (b : Bool) (o : Option A) (k : A → Option A) (whole : Option A)
+    → whole ≡ option_and_then k o
     → cond b None whole ≡ option_and_then k (cond b None o)
 cond_then true o k whole e = refl
 cond_then false o k whole e = e
@@ -24,14 +25,16 @@ or_apart true b c d = refl
 or_apart false true c d = refl
 or_apart false false c d = refl
 
-pub any_overlap_append : (rs ss : List RangePart) → any_overlap (rs ++ ss) ≡ (any_meets rs ss || any_overlap ss)
+pub any_overlap_append : (rs ss : List RangePart) → any_overlap (rs ++ ss)
+    ≡ (any_overlaps_later rs ss || any_overlap ss)
 any_overlap_append [] ss = refl
 any_overlap_append (r ∷ rs) ss =
     ap (λ b. b || any_overlap (rs ++ ss)) (list_any-append (overlap r) rs ss)
     ∙ ap (λ b. (list_any (overlap r) rs || list_any (overlap r) ss) || b) (any_overlap_append rs ss)
-    ∙ (or_apart (list_any (overlap r) rs) (list_any (overlap r) ss) (any_meets rs ss) (any_overlap ss))
+    ∙ (or_apart (list_any (overlap r) rs) (list_any (overlap r) ss) (any_overlaps_later rs ss) (any_overlap ss))
 
-cond_parts : (b : Bool) (o : Option ℕ) (last : ℕ) → cond b None o ≡ Some last → (b ≡ false) × (o ≡ Some last)
+pub cond_parts : {A : Type 0} (b : Bool) (o : Option A) (last : A) → cond b None o ≡ Some last
+    → (b ≡ false) × (o ≡ Some last)
 cond_parts true o last is = absurd (let no : None ≡ Some last = is in cc)
 cond_parts false o last is = (refl, is)
 
@@ -65,12 +68,12 @@ rest_whole : {T : Type 0} (items : List T) (i : ℕ) → take (length items - i)
 rest_whole items i = take_all (length items - i) (drop i items) (omega (arith, length-drop i items))
 
 -- the overlaps of the items from i on: one of the i-th item's, or of those after it
-pub any_overlap_step : {T : Type 0} (ranges : T → List RangePart) (items : List T) (i : ℕ) (item : T) (meets : Bool)
+pub any_overlap_step : {T : Type 0} (ranges : T → List RangePart) (items : List T) (i : ℕ) (item : T) (here : Bool)
     → i < length items → item ≡ get_or items i item
-    → meets ≡ any_meets (ranges item) (flat_map ranges (take (length items - (i + 1)) (drop (i + 1) items)))
-    → any_overlap (flat_map ranges (drop i items)) ≡ (meets || any_overlap (flat_map ranges (drop (i + 1) items)))
-any_overlap_step ranges items i item meets below is met =
+    → here ≡ any_overlaps_later (ranges item) (flat_map ranges (take (length items - (i + 1)) (drop (i + 1) items)))
+    → any_overlap (flat_map ranges (drop i items)) ≡ (here || any_overlap (flat_map ranges (drop (i + 1) items)))
+any_overlap_step ranges items i item here below is is_here =
     ap any_overlap (flat_map_drop ranges items i item below is)
     ∙ any_overlap_append (ranges item) (flat_map ranges (drop (i + 1) items))
     ∙ ap (λ b. b || any_overlap (flat_map ranges (drop (i + 1) items)))
-    (sym (met ∙ ap (λ rest. any_meets (ranges item) (flat_map ranges rest)) (rest_whole items (i + 1))))
+    (sym (is_here ∙ ap (λ rest. any_overlaps_later (ranges item) (flat_map ranges rest)) (rest_whole items (i + 1))))

@@ -1,13 +1,18 @@
 -- Lists of parts, item by item.
-use Rattle.std.proofs.Common.{◌≡◌, ℕ, zero, suc, ◌+◌, ◌<◌, ◌≤◌, Bool, true, false, ◌||◌, List, [], ◌∷◌, ◌++◌, length, drop, flat_map, get_or, map, refl, sym, ap, ◌∙◌, arith, add-one, drop-cons}
+use Rattle.std.proofs.Common.{◌≡◌, ℕ, zero, suc, ◌+◌, ◌<◌, ◌≤◌, Bool, true, false, ◌||◌, List, [], ◌∷◌, ◌++◌, length, drop, flat_map, sum_by, get_or, map, refl, sym, ap, ◌∙◌, arith, add-one, drop-cons}
 use Rattle.std.proofs.Math.ListN.{drop_of_length-le}
 use Rattle.std.specs.List.{list_any}
+use Rattle.std.proofs.lemmas.List.Folds.{fold-map}
 
 -- a test over parts is a test over what they are parts of
 pub list_any_map : {A B : Type 0} (test : B → Bool) (part : A → B) (xs : List A)
     → list_any test (map part xs) ≡ list_any (λ x. test (part x)) xs
 list_any_map test part [] = refl
 list_any_map test part (x ∷ xs) = ap (λ b. test (part x) || b) (list_any_map test part xs)
+
+pub sum_by_map : {A B : Type 0} (f : B → ℕ) (part : A → B) (xs : List A)
+    → sum_by f (map part xs) ≡ sum_by (λ x. f (part x)) xs
+sum_by_map f part xs = fold-map (λ n y. n + f y) part 0 xs
 
 -- what the items from i on have: what the i-th has, and then what those after it have
 pub flat_map_drop : {A B : Type 0} (f : A → List B) (xs : List A) (i : ℕ) (x : A) → i < length xs → x ≡ get_or xs i x

@@ -1,5 +1,5 @@
--- What a pass over ranges tells of their overlaps.
-use Rattle.std.proofs.Common.{◌≡◌, ℕ, ◌<◌, ◌≤◌, max, Bool, true, false, not, ◌&&◌, ◌||◌, nat_lt, nat_le, cond, List, [], ◌∷◌, ◌++◌, Option, Some, None, option_and_then, refl, ap, ◌∙◌, arith}
+-- What a pass over ranges shows of their overlaps.
+use Rattle.std.proofs.Common.{◌≡◌, ℕ, ◌<◌, ◌≤◌, max, Bool, true, false, not, ◌&&◌, ◌||◌, nat_lt, nat_le, cond, List, [], ◌∷◌, ◌++◌, Some, None, option_and_then, refl, ap, ◌∙◌, arith}
 use Rattle.std.proofs.lemmas.Bool.Decides.{nat_tests}
 use Rattle.std.proofs.lemmas.Bool.{leb-true, leb-false, lt-ltb, le-leb, and_parts, and_from, and_left, and_right, or_parts, or_from, or_left, or_right}
 use Rattle.std.specs.List.{list_any}
@@ -7,17 +7,13 @@ use Rattle.linemap_meaning.specs.TableParts.{RangePart}
 use Rattle.linemap_meaning.specs.Conditions.{overlap, any_overlap, is_empty_range}
 use Rattle.linemap_meaning.specs.TableRangeLaws.{begins_ascend_from, follow_from}
 use Rattle.linemap_meaning.proofs.TableRangeLemmas.{following_apart, neighbours_suffice}
-use Rattle.linemap_check.specs.RangePasses.{is_ascending, later_end, last_unmet, ordered_end}
+use Rattle.linemap_check.proofs.OverlapLemmas.{cond_then, cond_parts}
+use Rattle.linemap_check.specs.RangePasses.{is_ascending, later_end, last_apart, ordered_end}
 
-cond_then : (b : Bool) (o : Option RangePart) (k : RangePart → Option RangePart) (whole : Option RangePart)
-    → whole ≡ option_and_then k o → cond b None whole ≡ option_and_then k (cond b None o)
-cond_then true o k whole e = refl
-cond_then false o k whole e = e
-
-pub last_unmet_append : (q : RangePart) (rs ss : List RangePart)
-    → last_unmet q (rs ++ ss) ≡ option_and_then (λ next. last_unmet next ss) (last_unmet q rs)
-last_unmet_append q [] ss = refl
-last_unmet_append q (r ∷ rs) ss = cond_then (overlap q r) _ _ _ (last_unmet_append (later_end q r) rs ss)
+pub last_apart_append : (q : RangePart) (rs ss : List RangePart)
+    → last_apart q (rs ++ ss) ≡ option_and_then (λ next. last_apart next ss) (last_apart q rs)
+last_apart_append q [] ss = refl
+last_apart_append q (r ∷ rs) ss = cond_then (overlap q r) _ _ _ (last_apart_append (later_end q r) rs ss)
 
 -- what overlaps in a list without its second range or without its first overlaps in it
 drop_second : (b c d e : Bool) → (b || c) ≡ true → ((d || b) || (e || c)) ≡ true
@@ -33,16 +29,16 @@ later_overlap false q r rs h =
     drop_second (list_any (overlap q) rs) (any_overlap rs) (overlap q r) (list_any (overlap r) rs) h
 
 -- where a range overlaps the one that ends last of those before it, some two overlap
-pub met_overlap : (q : RangePart) (rs : List RangePart) → last_unmet q rs ≡ None → any_overlap (q ∷ rs) ≡ true
-met_overlap q [] none = absurd (let no : Some q ≡ None = none in cc)
-met_overlap q (r ∷ rs) none =
-    let by_case : (b : Bool) → overlap q r ≡ b → cond b None (last_unmet (later_end q r) rs) ≡ None
+pub overlap_of_none : (q : RangePart) (rs : List RangePart) → last_apart q rs ≡ None → any_overlap (q ∷ rs) ≡ true
+overlap_of_none q [] none = absurd (let no : Some q ≡ None = none in cc)
+overlap_of_none q (r ∷ rs) none =
+    let by_case : (b : Bool) → overlap q r ≡ b → cond b None (last_apart (later_end q r) rs) ≡ None
     → any_overlap (q ∷ r ∷ rs) ≡ true = λ b e n.
-    elim b as (λ b. overlap q r ≡ b → cond b None (last_unmet (later_end q r) rs) ≡ None
+    elim b as (λ b. overlap q r ≡ b → cond b None (last_apart (later_end q r) rs) ≡ None
     → any_overlap (q ∷ r ∷ rs) ≡ true) [
       | true ↦ λ e n. or_left (list_any (overlap q) (r ∷ rs)) (any_overlap (r ∷ rs))
           (or_left (overlap q r) (list_any (overlap q) rs) e)
-      | false ↦ λ e n. later_overlap (nat_lt q.end r.end) q r rs (met_overlap (later_end q r) rs n)
+      | false ↦ λ e n. later_overlap (nat_lt q.end r.end) q r rs (overlap_of_none (later_end q r) rs n)
     ] e n in
     by_case (overlap q r) refl none
 
@@ -63,46 +59,42 @@ or_rest : (a b : Bool) → a ≡ false → (a || b) ≡ true → b ≡ true
 or_rest true b left h = absurd (let wrong : true ≡ false = left in cc)
 or_rest false b left h = h
 
-pub met_from_start : (rs : List RangePart) → last_unmet empty_range rs ≡ None → any_overlap rs ≡ true
-met_from_start rs none =
-    or_rest (list_any (overlap empty_range) rs) (any_overlap rs) (nothing_at_start rs) (met_overlap empty_range rs none)
-
-cond_parts : (b : Bool) (o : Option RangePart) (last : RangePart) → cond b None o ≡ Some last
-    → (b ≡ false) × (o ≡ Some last)
-cond_parts true o last is = absurd (let no : None ≡ Some last = is in cc)
-cond_parts false o last is = (refl, is)
+pub overlap_from_start : (rs : List RangePart) → last_apart empty_range rs ≡ None → any_overlap rs ≡ true
+overlap_from_start rs none =
+    or_rest (list_any (overlap empty_range) rs) (any_overlap rs) (nothing_at_start rs)
+    (overlap_of_none empty_range rs none)
 
 past_end : (a b c d : ℕ) → a ≤ c → c < d → (nat_lt a d && nat_lt c b) ≡ false → b ≤ c
 past_end a b c d le lt apart = grind (arith, nat_tests)
 
 -- of ranges that ascend and that don't overlap the one that ends last of those before them, each follows the one before
 -- it
-unmet_follow : (q : RangePart) (rs : List RangePart) (last : RangePart)
-    → list_any is_empty_range rs ≡ false → begins_ascend_from q.begin rs ≡ true → last_unmet q rs ≡ Some last
+apart_follow : (q : RangePart) (rs : List RangePart) (last : RangePart)
+    → list_any is_empty_range rs ≡ false → begins_ascend_from q.begin rs ≡ true → last_apart q rs ≡ Some last
     → follow_from q.end rs ≡ true
-unmet_follow q [] last full ascend is = refl
-unmet_follow q (r ∷ rs) last full ascend is =
+apart_follow q [] last full ascend is = refl
+apart_follow q (r ∷ rs) last full ascend is =
     let f = or_parts (is_empty_range r) (list_any is_empty_range rs) full in
     let p = and_parts (nat_le q.begin r.begin) (begins_ascend_from r.begin rs) ascend in
-    let unmet = cond_parts (overlap q r) (last_unmet (later_end q r) rs) last is in
+    let apart = cond_parts (overlap q r) (last_apart (later_end q r) rs) last is in
     let lt : r.begin < r.end = leb-false r.end r.begin f.0 in
     let le : q.begin ≤ r.begin = leb-true q.begin r.begin p.0 in
-    let past : q.end ≤ r.begin = past_end q.begin q.end r.begin r.end le lt unmet.0 in
+    let past : q.end ≤ r.begin = past_end q.begin q.end r.begin r.end le lt apart.0 in
     let ends : nat_lt q.end r.end ≡ true = lt-ltb q.end r.end (omega arith) in
-    let rest : last_unmet r rs ≡ Some last = rw ends at unmet.1 in
+    let rest : last_apart r rs ≡ Some last = rw ends at apart.1 in
     and_from (nat_le q.end r.begin) (follow_from r.end rs) (le-leb q.end r.begin past)
-    (unmet_follow r rs last f.1 p.1 rest)
+    (apart_follow r rs last f.1 p.1 rest)
 
 not_true : (b : Bool) → not b ≡ true → b ≡ false
 not_true true h = absurd (let wrong : false ≡ true = h in cc)
 not_true false h = refl
 
-pub unmet_from_start : (rs : List RangePart) (last : RangePart) → is_ascending rs ≡ true
-    → last_unmet empty_range rs ≡ Some last → any_overlap rs ≡ false
-unmet_from_start rs last ascending is =
+pub apart_from_start : (rs : List RangePart) (last : RangePart) → is_ascending rs ≡ true
+    → last_apart empty_range rs ≡ Some last → any_overlap rs ≡ false
+apart_from_start rs last ascending is =
     let p = and_parts (not (list_any is_empty_range rs)) (begins_ascend_from 0 rs) ascending in
     let full : list_any is_empty_range rs ≡ false = not_true (list_any is_empty_range rs) p.0 in
-    following_apart 0 rs full (unmet_follow empty_range rs last full p.1 is)
+    following_apart 0 rs full (apart_follow empty_range rs last full p.1 is)
 
 not_in_order : (low : ℕ) (rs : List RangePart) → list_any is_empty_range rs ≡ false → ordered_end low rs ≡ None
     → follow_from low rs ≡ false
@@ -129,7 +121,7 @@ not_in_order low (r ∷ rs) full none =
     begins_past : (a b : ℕ) → nat_lt a b ≡ false → b ≤ a
     begins_past a b h = grind (arith, nat_tests)
 
--- of ranges that ascend and don't stand in order, some two overlap
+-- of ranges that ascend and aren't in order, some two overlap
 pub ascending_unordered : (rs : List RangePart) → is_ascending rs ≡ true → ordered_end 0 rs ≡ None
     → any_overlap rs ≡ true
 ascending_unordered rs ascending none =

@@ -79,7 +79,7 @@ fn any_inner_overlap(calls: &[TableCall]) -> bool
     false
 }
 
-/// Whether calls are nested more than so deep.
+/// Whether calls are nested deeper than a limit.
 pub fn is_deeper(calls: &[TableCall], limit: usize) -> bool
     ensures { result ≡ nat_lt limit (depth (calls_part calls.now)) }
 {

@@ -2,7 +2,7 @@
 
 ghost use Rattle.std.specs.Prelude.{◌≡◌, ◌||◌, map, nat_le, nat_lt};
 ghost use Rattle.std.specs.List.{list_any};
-ghost use Rattle.linemap_meaning.specs.Conditions.{any_call, any_call_outside, any_calls_overlap, depth, is_bad_number, is_bad_text};
+ghost use Rattle.linemap_meaning.specs.Conditions.{any_call, any_call_outside, any_calls_overlap, depth, greatest_depth, is_bad_number, is_bad_text};
 ghost use Rattle.linemap_meaning.specs.TableViews.{function_part};
 
 use crate::calls::{CallTest, any_call, any_call_outside, any_calls_overlap, is_deeper};
@@ -27,7 +27,7 @@ pub fn has_calls_overlap(functions: &[TableFunction]) -> bool
         .any(|function| any_calls_overlap(&function.calls))
 }
 
-/// Whether a call of the functions passes the test.
+// Whether a call of the functions passes the test.
 fn any_function_call<T: CallTest>(test: &T, functions: &[TableFunction]) -> bool
     ensures { result ≡ list_any
         (λ f. any_call (T.passes test.now) f.calls) (map function_part functions.now) }
@@ -49,6 +49,7 @@ pub fn any_bad_line_or_column(functions: &[TableFunction]) -> bool
     any_function_call(&BadPlace, functions)
 }
 
+// The test for a call with a line or column that isn't allowed.
 struct BadPlace;
 
 impl CallTest for BadPlace {
@@ -67,7 +68,7 @@ pub fn any_bad_file_number(functions: &[TableFunction], files: usize) -> bool
     any_function_call(&FilePast { files }, functions)
 }
 
-/// The test of a call whose file's number isn't below the number of files.
+// The test for a call whose file number is not below the number of files.
 #[derive(Drop)]
 struct FilePast {
     files: usize,
@@ -91,6 +92,7 @@ pub fn any_bad_name(functions: &[TableFunction]) -> bool
         || any_call(&BadName, &function.calls))
 }
 
+// The test for a call with a name that isn't allowed.
 struct BadName;
 
 impl CallTest for BadName {
@@ -103,7 +105,8 @@ impl CallTest for BadName {
 
 /// B19.
 pub fn has_deep_calls(functions: &[TableFunction]) -> bool
-    ensures { result ≡ list_any (λ f. nat_lt 50 (depth f.calls)) (map function_part functions.now) }
+    ensures { result ≡ list_any
+        (λ f. nat_lt greatest_depth (depth f.calls)) (map function_part functions.now) }
 {
     functions
         .iter()

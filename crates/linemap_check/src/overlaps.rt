@@ -3,28 +3,28 @@
 
 ghost use Rattle.std.specs.Prelude.{◌≡◌, ◌<◌, drop, flat_map, false, get_or, length, true, not, option_map, IsTrue};
 ghost use Rattle.std.specs.List.{list_any};
-ghost use Rattle.linemap_check.specs.RangePasses.{any_meets, in_direction, is_ascending, last_unmet, ordered_end};
+ghost use Rattle.linemap_check.specs.RangePasses.{any_overlaps_later, in_direction, is_ascending, last_apart, ordered_end};
 ghost use Rattle.linemap_meaning.specs.Conditions.{any_overlap, overlap};
 ghost use Rattle.linemap_meaning.specs.TableViews.{range_part};
 
+use crate::range_owners::RangeOwner;
 use crate::ranges::overlap;
-use crate::spanned::Spanned;
 use linemap_meaning::table::TableRange;
 
-/// Whether two of the items' ranges overlap. Linear where the ranges ascend, from the first item on
-/// or from the last, overlap or not (neighbours suffice then); else it may take the square of their
-/// number.
-pub fn any_overlap<T: Spanned>(items: &[T]) -> bool
+/// Whether two of the items' ranges overlap. Linear where the ranges ascend or descend, whether
+/// they overlap or not, since then neighbours overlap if any do; else it may take the square of
+/// their number.
+pub fn any_overlap<T: RangeOwner>(items: &[T]) -> bool
     ensures { result ≡ any_overlap (flat_map T.ranges items.now) }
 {
     if is_ordered(items, false) || is_ordered(items, true) {
         return false;
     }
-    any_meets_last(items, false) || any_meets_last(items, true) || any_pair_overlaps(items)
+    any_overlaps_last(items, false) || any_overlaps_last(items, true) || any_pair_overlaps(items)
 }
 
-// The item at an index, counted from the last one where it goes backwards.
-fn item_at<T: Spanned>(items: &[T], index: usize, backwards: bool) -> &T
+// The item at an index, which counts from the last item if it goes backwards.
+fn item_at<T: RangeOwner>(items: &[T], index: usize, backwards: bool) -> &T
     requires { index < length items.now }
     ensures { result.now ≡ get_or (in_direction backwards items.now) index result.now }
 {
@@ -36,7 +36,7 @@ fn item_at<T: Spanned>(items: &[T], index: usize, backwards: bool) -> &T
 }
 
 // Whether each range begins at or past the ends of those before it, in a direction.
-fn is_ordered<T: Spanned>(items: &[T], backwards: bool) -> bool
+fn is_ordered<T: RangeOwner>(items: &[T], backwards: bool) -> bool
     ensures apart { IsTrue result → any_overlap (flat_map T.ranges items.now) ≡ false }
     ensures ascending { IsTrue (is_ascending (flat_map T.ranges (in_direction backwards items.now)))
         → result ≡ not (any_overlap (flat_map T.ranges items.now)) }
@@ -51,8 +51,8 @@ fn is_ordered<T: Spanned>(items: &[T], backwards: bool) -> bool
     true
 }
 
-// The greatest end so far, with the item's ranges, where they are in order.
-fn end_after<T: Spanned>(end: u64, item: &T) -> Option<u64>
+// The greatest of an end and those of the item's ranges, if these are in order after it.
+fn end_after<T: RangeOwner>(end: u64, item: &T) -> Option<u64>
     ensures { result ≡ ordered_end end (T.ranges item.now) }
 {
     let mut greatest = end;
@@ -67,9 +67,9 @@ fn end_after<T: Spanned>(end: u64, item: &T) -> Option<u64>
     Some(greatest)
 }
 
-// Whether a range overlaps the one that ends last of those before it, in a direction. Ranges that
-// ascend in it and overlap have such a one.
-fn any_meets_last<T: Spanned>(items: &[T], backwards: bool) -> bool
+// Whether some range overlaps the one that ends last of those before it, in a direction. Where
+// ranges ascend in that direction and some overlap, there is one.
+fn any_overlaps_last<T: RangeOwner>(items: &[T], backwards: bool) -> bool
     ensures found { IsTrue result → any_overlap (flat_map T.ranges items.now) ≡ true }
     ensures ascending { IsTrue (is_ascending (flat_map T.ranges (in_direction backwards items.now)))
         → result ≡ any_overlap (flat_map T.ranges items.now) }
@@ -84,10 +84,10 @@ fn any_meets_last<T: Spanned>(items: &[T], backwards: bool) -> bool
     false
 }
 
-// The one that ends last of a range and the item's, where none of these overlaps the last of those
-/// before it.
-fn last_after<T: Spanned>(last: TableRange, item: &T) -> Option<TableRange>
-    ensures { option_map range_part result ≡ last_unmet (range_part last) (T.ranges item.now) }
+// The one that ends last of a range and the item's, if none of the item's overlaps the one that
+// ends last of those before it.
+fn last_after<T: RangeOwner>(last: TableRange, item: &T) -> Option<TableRange>
+    ensures { option_map range_part result ≡ last_apart (range_part last) (T.ranges item.now) }
 {
     let mut latest = last;
     let mut index = 0;
@@ -103,14 +103,14 @@ fn last_after<T: Spanned>(last: TableRange, item: &T) -> Option<TableRange>
     Some(latest)
 }
 
-// Whether some pair overlaps, each tried: for ranges that ascend in no direction.
-fn any_pair_overlaps<T: Spanned>(items: &[T]) -> bool
+// Whether some pair overlaps; it tries each. For ranges that ascend in no direction.
+fn any_pair_overlaps<T: RangeOwner>(items: &[T]) -> bool
     requires forwards { is_ascending (flat_map T.ranges (in_direction false items.now)) ≡ false }
     requires backwards { is_ascending (flat_map T.ranges (in_direction true items.now)) ≡ false }
     ensures { result ≡ any_overlap (flat_map T.ranges items.now) }
 {
     for (i, item) in items.iter().enumerate() {
-        if any_meets(item, &items[i + 1..]) {
+        if any_overlaps_later(item, &items[i + 1..]) {
             return true;
         }
     }
@@ -118,24 +118,24 @@ fn any_pair_overlaps<T: Spanned>(items: &[T]) -> bool
 }
 
 // Whether a range of the item overlaps a later one of it, or one of the later items.
-fn any_meets<T: Spanned>(item: &T, later: &[T]) -> bool
-    ensures { result ≡ any_meets (T.ranges item.now) (flat_map T.ranges later.now) }
+fn any_overlaps_later<T: RangeOwner>(item: &T, later: &[T]) -> bool
+    ensures { result ≡ any_overlaps_later (T.ranges item.now) (flat_map T.ranges later.now) }
 {
     let mut index = 0;
     while let Some(range) = item.range_at(index) {
         index += 1;
-        if meets(&range, item, index) || meets_any(&range, later) {
+        if overlaps_from(&range, item, index) || overlaps_any(&range, later) {
             return true;
         }
     }
     false
 }
 
-fn meets_any<T: Spanned>(range: &TableRange, items: &[T]) -> bool
+fn overlaps_any<T: RangeOwner>(range: &TableRange, items: &[T]) -> bool
     ensures { result ≡ list_any (overlap (range_part range.now)) (flat_map T.ranges items.now) }
 {
     for item in items {
-        if meets(range, item, 0) {
+        if overlaps_from(range, item, 0) {
             return true;
         }
     }
@@ -143,7 +143,7 @@ fn meets_any<T: Spanned>(range: &TableRange, items: &[T]) -> bool
 }
 
 // Whether the range overlaps one of the item's from a place on.
-fn meets<T: Spanned>(range: &TableRange, item: &T, from: usize) -> bool
+fn overlaps_from<T: RangeOwner>(range: &TableRange, item: &T, from: usize) -> bool
     ensures { result ≡ list_any (overlap (range_part range.now)) (drop from (T.ranges item.now)) }
 {
     let mut index = from;

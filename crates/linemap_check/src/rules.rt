@@ -14,7 +14,7 @@ use linemap_meaning::is_rooted;
 use linemap_meaning::rule::Rule;
 use linemap_meaning::table::TableUnit;
 
-/// The rules, lowest number first.
+// The rules, lowest number first.
 const RULES: [Rule; 16] = [
     Rule::EmptyRange,
     Rule::Bounds,
@@ -42,7 +42,7 @@ pub fn first_broken(units: &[TableUnit]) -> Option<Rule>
     first_of(&RULES, units)
 }
 
-/// The first of the rules that the units break.
+// The first of the rules that the units break.
 fn first_of(rules: &[Rule], units: &[TableUnit]) -> Option<Rule>
     ensures { result ≡ find (breaks (map unit_part units.now)) rules.now }
 {
@@ -64,7 +64,7 @@ pub fn breaks(units: &[TableUnit], rule: Rule) -> bool
     units.iter().any(|unit| unit_breaks(unit, rule))
 }
 
-/// Whether the unit breaks the rule by itself.
+// Whether the unit breaks the rule by itself.
 fn unit_breaks(unit: &TableUnit, rule: Rule) -> bool
     ensures { result ≡ unit_breaks rule (unit_part unit.now) }
 {

@@ -35,7 +35,7 @@ fn has_bad_rows(sequence: &TableSequence) -> bool
     sequence.rows.is_empty() || goes_back(&sequence.rows) || any_past(sequence.end, &sequence.rows)
 }
 
-/// Whether a row is at a lower address than the row before it.
+// Whether a row is at a lower address than the row before it.
 fn goes_back(rows: &[TableRow]) -> bool
     ensures { result ≡ goes_back (map row_part rows.now) }
 {

@@ -15,6 +15,7 @@ pub fn is_bad_text(text: &str) -> bool
     bytes.is_empty() || bytes.contains(&0)
 }
 
+/// Whether the directory or the name of a file is empty or has a zero byte.
 pub fn any_bad_file(files: &[TableFile]) -> bool
     ensures { result ≡ list_any
         (λ f. is_bad_text f.directory || is_bad_text f.name) (map file_part files.now) }

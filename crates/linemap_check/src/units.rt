@@ -43,7 +43,7 @@ fn any_function_ranges<R: RangesTest>(test: &R, functions: &[TableFunction]) -> 
     false
 }
 
-/// The test of a call's ranges.
+// The test of a call's ranges.
 #[derive(Drop)]
 struct CallRanges<'a, R> {
     test: &'a R,

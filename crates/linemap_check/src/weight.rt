@@ -14,15 +14,15 @@ pub fn weight(units: &[TableUnit]) -> u64
     total(units).saturating_add(8192)
 }
 
-/// What has a weight.
-trait Weighed {
+// What has a weight.
+trait HasWeight {
     ghost weight: { Self → ℕ };
 
     fn weight(&self) -> u64
         ensures { result ≡ saturate (weight self.now) };
 }
 
-fn total<T: Weighed>(items: &[T]) -> u64
+fn total<T: HasWeight>(items: &[T]) -> u64
     ensures { result ≡ saturate (sum_by T.weight items.now) }
 {
     let mut sum = 0u64;
@@ -44,7 +44,7 @@ fn times(weight: u64, count: usize) -> u64
     weight.saturating_mul(count as u64)
 }
 
-impl Weighed for TableUnit {
+impl HasWeight for TableUnit {
     ghost weight = { λ u. unit_weight (unit_part u) };
 
     fn weight(&self) -> u64 {
@@ -55,7 +55,7 @@ impl Weighed for TableUnit {
     }
 }
 
-/// The weight of a unit without its files, functions and sequences.
+// The weight of a unit without its files, functions and sequences.
 fn own_weight(unit: &TableUnit) -> u64
     ensures { result ≡ saturate (own_weight (unit_part unit.now)) }
 {
@@ -83,7 +83,7 @@ fn sequences_weight(sequences: &[TableSequence]) -> u64
     total(sequences)
 }
 
-impl Weighed for TableFile {
+impl HasWeight for TableFile {
     ghost weight = { λ f. file_weight (file_part f) };
 
     fn weight(&self) -> u64 {
@@ -93,7 +93,7 @@ impl Weighed for TableFile {
     }
 }
 
-impl Weighed for TableFunction {
+impl HasWeight for TableFunction {
     ghost weight = { λ f. function_weight (function_part f) };
 
     fn weight(&self) -> u64 {
@@ -104,7 +104,7 @@ impl Weighed for TableFunction {
     }
 }
 
-impl Weighed for TableSequence {
+impl HasWeight for TableSequence {
     ghost weight = { λ s. sequence_weight (sequence_part s) };
 
     fn weight(&self) -> u64 {

@@ -2,7 +2,6 @@
 use Rattle.std.proofs.Common.{◌<◌, ◌^◌, Bool, List, [], map}
 use Rattle.linemap_emit_fits.specs.Encoding.{Encoding}
 use Rattle.linemap_table.specs.Conditions.{IsSound}
-use Rattle.linemap_table.specs.TableParts.{UnitPart}
 use Rattle.linemap_table.specs.TableViews.{unit_part}
 use Rattle.linemap_table.specs.TableWeight.{table_weight}
 use Rattle.linemap_table.specs.Rule.TheVariants.{NoRange}
@@ -25,17 +24,17 @@ light_fits e is_big units served sound light =
 pub light_answers : (e : Encoding) (is_big : Bool) (units : List TableUnit) → IsServed e → IsSound (map unit_part units)
     → table_weight (map unit_part units) < 2 ^ 31
     → AreAnswers is_big (emitted_sections e is_big (map unit_part units)) (map unit_part units)
-light_answers e is_big units served sound light = λ limit s wide h.
+light_answers e is_big units served sound light = λ s wide h.
     let us = map unit_part units in
     let entries = (emitted_table e is_big us).units in
     let t =
-    emission_recorded limit e is_big us s served wide (all_in_utf8 units)
+    emission_recorded e is_big us s served wide (all_in_utf8 units)
     (light_fits e is_big units served sound light) h in
     record {
       found = record {
-        units = agreeing_units limit e is_big s us entries t.units_are_recorded 0 t.info_first;
+        units = agreeing_units e is_big s us entries t.units_are_recorded 0 t.info_first;
         supplement_units = [];
       };
-      is_context = context_again limit e is_big s us entries t (sound_rule us NoRange sound);
-      places = λ a. places_again limit e is_big s us entries t a sound;
+      is_context = context_again e is_big s us entries t (sound_rule us NoRange sound);
+      places = λ a. places_again e is_big s us entries t a sound;
     }

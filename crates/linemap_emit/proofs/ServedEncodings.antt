@@ -9,12 +9,13 @@ use Rattle.linemap_emit_fits.specs.RowPieces.{IsBuildable}
 use Rattle.linemap_emit_fits.specs.BuiltRows.{first_row, follows}
 use Rattle.linemap_table.specs.TableParts.{SequencePart}
 use Rattle.linemap_emit_fits.specs.Entry.{Entry}
-use Rattle.linemap_emit_fits.specs.EmittedEntries.{EmittedValue, text, place, location, count, EmittedAttribute, Fits, AllFit, attributes_of}
-use Rattle.linemap_emit_fits.specs.EmittedUnits.{IsWritten, length_limit}
+use Rattle.linemap_emit_fits.specs.EmittedEntries.{EmittedValue, strp, sec_offset, addr, udata, EmittedAttribute, Fits, AllFit, attributes_of}
+use Rattle.linemap_emit_fits.specs.EmittedUnits.{IsWritten}
 use Rattle.linemap_emit_fits.specs.EmittedRows.{AllCanBuild, emitted_rules, emitted_sequences}
 use Rattle.linemap_emit_fits.specs.SoundSequences.{CanEmitSequences}
 use Rattle.linemap_emit_fits.proofs.EmittedRowsBuilt.{sequences_follow}
 use Rattle.linemap_emit_fits.specs.FittingUnits.{IsServed}
+use Rattle.linemap_emit_fits.specs.NumberBytes.{length_limit}
 
 pub served_address_size : (e : Encoding) → IsServed e → is_address_size e.address_size ≡ true
 served_address_size e served = ap is_address_size served.has_8_bytes
@@ -41,10 +42,10 @@ is_buildable e served = record {
 
 pub all_follow : (e : Encoding) (ss : List SequencePart) → IsServed e → CanEmitSequences ss
     → follows (emitted_rules e) (first_row (emitted_rules e)) (emitted_sequences ss) ≡ true
-all_follow e ss served told =
-    sequences_follow e ss (subst (λ (n : ℕ). AllCanBuild n ss) (sym served.has_8_bytes) told.can_build)
+all_follow e ss served can =
+    sequences_follow e ss (subst (λ (n : ℕ). AllCanBuild n ss) (sym served.has_8_bytes) can.can_build)
 
--- small lengths can be told
+-- small lengths can be written
 pub below_limit : (e : Encoding) (n : ℕ) → IsServed e → n < 2 ^ 31 → n < length_limit e.format
 below_limit e n served small = subst (λ (f : Format). n < length_limit f) (sym served.is_32_bit) (omega (arith, small))
 
@@ -54,10 +55,10 @@ below_word e n served small =
 
 -- values that fit below a limit fit below a larger one
 value_fits : (e : Encoding) (name : ℕ) (v : EmittedValue) → Fits (2 ^ 31) e name v → Fits (2 ^ 64) e name v
-value_fits e name (text offset) h = (h.0, omega (arith, h.1))
-value_fits e name (place offset) h = (h.0, omega (arith, h.1), h.2)
-value_fits e name (location at) h = h
-value_fits e name (count n) h = h
+value_fits e name (strp offset) h = (h.0, omega (arith, h.1))
+value_fits e name (sec_offset offset) h = (h.0, omega (arith, h.1), h.2)
+value_fits e name (addr at) h = h
+value_fits e name (udata n) h = h
 
 values_fit : (e : Encoding) (ss : List EmittedAttribute) → AllFit (2 ^ 31) e ss → AllFit (2 ^ 64) e ss
 values_fit e [] h = tt

@@ -51,9 +51,9 @@ functions_keep (f ∷ fs) st =
 unit_keeps : (line_program : ℕ) (u : UnitPart) (st : EmittedUnit) → Keeps st (with_unit line_program u st)
 unit_keeps line_program u st = functions_keep u.functions (with_unit_entry line_program u st)
 
--- ---- what stands after a unit
+-- ---- the emitter after a unit
 
--- what was emitted, as it stands
+-- what is emitted, as the emitter holds it
 abbrev emitter_of : Encoding → Bool → EmittedTable → TableEmitter
 emitter_of e is_big st =
     record {
@@ -63,9 +63,9 @@ emitter_of e is_big st =
       emitter = before_entries e is_big st;
     }
 
-stands_as : (e : Encoding) (is_big : Bool) (st : EmittedTable) (s : TableEmitter) → HoldsTable e is_big st s
+emitter_as : (e : Encoding) (is_big : Bool) (st : EmittedTable) (s : TableEmitter) → HoldsTable e is_big st s
     → s ≡ emitter_of e is_big st
-stands_as e is_big st s h =
+emitter_as e is_big st s h =
     ap (λ (x : Encoding). record { encoding = x; lines = s.lines; info = s.info; emitter = s.emitter }) h.encoding_is
     ∙ ap (λ (x : WriterContents). record { encoding = e; lines = x; info = s.info; emitter = s.emitter }) h.lines_are
     ∙ ap (λ (x : WriterContents). record {
@@ -88,7 +88,7 @@ units_more e is_big us xs =
     ap (λ ys. spelled_units e is_big us ++ ys) (sym (append-nil (spelled_unit e is_big xs)))
     ∙ sym (flat_map-append (spelled_unit e is_big) us (xs ∷ []))
 
--- without its entries, what is emitted of them stands before the next ones
+-- without a unit's entries, the emitter is ready for the next unit's
 before_next : (e : Encoding) (is_big : Bool) (x : EmittedUnit) → x.encoding ≡ e → x.ranges.is_big ≡ is_big
     → without_entries x
     ≡ record {
@@ -106,9 +106,9 @@ before_next e is_big x same order =
       entries = [];
     }) order
 
-next_stands : (e : Encoding) (is_big : Bool) (u : UnitPart) (st : EmittedTable)
+next_holds : (e : Encoding) (is_big : Bool) (u : UnitPart) (st : EmittedTable)
     → HoldsTable e is_big (with_emitted_unit e is_big u st) (with_unit_added u (emitter_of e is_big st))
-next_stands e is_big u st =
+next_holds e is_big u st =
     let kept = unit_keeps (length st.lines) u (before_entries e is_big st) in
     record {
       encoding_is = refl;
@@ -117,11 +117,11 @@ next_stands e is_big u st =
       emitter_is = before_next e is_big (after_entries e is_big u st) kept.0 kept.1;
     }
 
-pub unit_stands : (e : Encoding) (is_big : Bool) (u : UnitPart) (st : EmittedTable) (s t : TableEmitter)
+pub unit_added : (e : Encoding) (is_big : Bool) (u : UnitPart) (st : EmittedTable) (s t : TableEmitter)
     → HoldsTable e is_big st s → t ≡ with_unit_added u s → HoldsTable e is_big (with_emitted_unit e is_big u st) t
-unit_stands e is_big u st s t h is =
+unit_added e is_big u st s t h is =
     subst (HoldsTable e is_big (with_emitted_unit e is_big u st))
-    (sym (is ∙ ap (with_unit_added u) (stands_as e is_big st s h))) (next_stands e is_big u st)
+    (sym (is ∙ ap (with_unit_added u) (emitter_as e is_big st s h))) (next_holds e is_big u st)
 
 -- ---- what holds before a unit
 
@@ -129,11 +129,11 @@ unit_stands e is_big u st s t h is =
 entries_after : (u : UnitPart) (s : TableEmitter) (t : CanAddUnit u s)
     → after_entries s.encoding t.is_big u t.before ≡ unit_after_entries u s
 entries_after u s t =
-    let lines : s.lines ≡ bytes_in_order t.is_big t.before.lines = t.stands.lines_are in
+    let lines : s.lines ≡ bytes_in_order t.is_big t.before.lines = t.holds_before.lines_are in
     sym (ap (λ (x : WriterContents). with_unit (length x.bytes) u s.emitter) lines
-    ∙ ap (with_unit (length t.before.lines) u) t.stands.emitter_is)
+    ∙ ap (with_unit (length t.before.lines) u) t.holds_before.emitter_is)
 
--- What a unit needs, of what stands there.
+-- What a unit needs of the emitter.
 pub record Ready (u : UnitPart) (s : TableEmitter) : Type 0 where
   pub same : s.emitter.encoding ≡ s.encoding
   pub fit : All (λ x. AllFit (2 ^ 31) s.encoding (attributes_of x)) (unit_after_entries u s).entries
@@ -144,8 +144,8 @@ pub unit_ready : (u : UnitPart) (s : TableEmitter) → CanAddUnit u s → Ready 
 unit_ready u s t =
     let here = entries_after u s t in
     let e = s.encoding in
-    let lines_big : t.is_big ≡ s.lines.is_big = sym (ap (λ (x : WriterContents). x.is_big) t.stands.lines_are) in
-    let info_big : t.is_big ≡ s.info.is_big = sym (ap (λ (x : WriterContents). x.is_big) t.stands.units_are) in
+    let lines_big : t.is_big ≡ s.lines.is_big = sym (ap (λ (x : WriterContents). x.is_big) t.holds_before.lines_are) in
+    let info_big : t.is_big ≡ s.info.is_big = sym (ap (λ (x : WriterContents). x.is_big) t.holds_before.units_are) in
     let small_there : length (spelled_unit_body e t.is_big (unit_after_entries u s).entries) < 2 ^ 31 =
     subst (λ (x : EmittedUnit). length (spelled_unit_body e t.is_big x.entries) < 2 ^ 31) here t.fits.entries_small in
     let fits : ProgramFits e t.is_big u = record {
@@ -156,7 +156,7 @@ unit_ready u s t =
       program_small = t.fits.program_small;
     } in
     record {
-      same = ap (λ (x : EmittedUnit). x.encoding) t.stands.emitter_is;
+      same = ap (λ (x : EmittedUnit). x.encoding) t.holds_before.emitter_is;
       fit = subst (λ (x : EmittedUnit). All (λ y. AllFit (2 ^ 31) e (attributes_of y)) x.entries) here
           t.fits.entries_fit;
       small = subst (λ (b : Bool). length (spelled_unit_body e b (unit_after_entries u s).entries) < 2 ^ 31) info_big
@@ -178,13 +178,13 @@ others_fit e is_big u us st fit = fit.1
 
 pub can_take : (e : Encoding) (is_big : Bool) (u : UnitPart) (st : EmittedTable) (s : TableEmitter) → IsServed e
     → HoldsTable e is_big st s → UnitFits e is_big u st → CanAddUnit u s
-can_take e is_big u st s served stands fits =
-    let same = sym stands.encoding_is in
+can_take e is_big u st s served holds_before fits =
+    let same = sym holds_before.encoding_is in
     record {
       before = st;
       is_big = is_big;
-      served = subst IsServed same served;
-      stands = subst (λ (x : Encoding). HoldsTable x is_big st s) same stands;
+      is_served = subst IsServed same served;
+      holds_before = subst (λ (x : Encoding). HoldsTable x is_big st s) same holds_before;
       fits = subst (λ (x : Encoding). UnitFits x is_big u st) same fits;
     }
 

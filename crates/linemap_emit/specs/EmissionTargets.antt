@@ -7,12 +7,12 @@ use Rattle.linemap_emit_fits.specs.RunTimeEndian.{RunTimeEndian}
 use Rattle.linemap_emit_fits.specs.RunTimeEndian.TheVariants.{Little, Big}
 use Rattle.linemap_emit.specs.declared.target.Target.{Target}
 
--- the more significant byte of a number comes first
+-- whether the more significant byte of a number comes first
 abbrev pub is_big : RunTimeEndian → Bool
 is_big Little = false
 is_big Big = true
 
--- the version, format and address size
+-- its version, format and address size
 abbrev pub encoding_of : Target → Encoding
 encoding_of t = t.encoding
 
@@ -20,8 +20,8 @@ encoding_of t = t.encoding
 abbrev pub is_big_of : Target → Bool
 is_big_of t = is_big t.endian
 
--- what is served: version 4, in 32-bit DWARF, addresses of eight bytes, the less significant byte
--- first
+-- the targets that are served: version 4, 32-bit DWARF, addresses of eight bytes, the less
+-- significant byte of a number first
 abbrev pub is_served : ℕ → Format → ℕ → Bool → Bool
 is_served version Dwarf32 address_size big_endian =
     version == 4 && (address_size == 8 && not big_endian)

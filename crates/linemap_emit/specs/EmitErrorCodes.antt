@@ -1,4 +1,4 @@
--- Why nothing is emitted.
+-- Why no sections are emitted.
 use Rattle.std.specs.Prelude.{ℕ, List, codes}
 use Rattle.linemap_emit.specs.declared.error.EmitError.{EmitError}
 use Rattle.linemap_emit.specs.declared.error.EmitError.TheVariants.{Memory, TooLarge}

@@ -1,4 +1,4 @@
--- The sections that are emitted of a table, by their names.
+-- The sections that are emitted of a table, by their identifiers.
 use Rattle.std.specs.Prelude.{ℕ, List, []}
 use Rattle.linemap_emit_fits.specs.SectionId.{SectionId}
 use Rattle.linemap_emit_fits.specs.SectionId.TheVariants.{DebugAbbrev, DebugInfo, DebugLine, DebugRanges, DebugStr}

@@ -1,4 +1,4 @@
--- What is in memory while a table's units are emitted, and what a unit adds to it.
+-- The state of the emitter of a table's units, and what a unit adds to it.
 use Rattle.std.specs.Prelude.{◌≡◌, ℕ, ◌<◌, ◌^◌, Bool, List, length, Ok}
 use Rattle.linemap_emit_fits.specs.Encoding.{Encoding}
 use Rattle.linemap_emit_fits.specs.OutputBytes.{WriterContents, append}
@@ -20,7 +20,7 @@ bytes_in_order is_big bytes = record { bytes = bytes; is_big = is_big }
 abbrev pub unit_after_entries : UnitPart → TableEmitter → EmittedUnit
 unit_after_entries u s = with_unit (length s.lines.bytes) u s.emitter
 
--- what is there with one more unit: its line number program, its entries as a unit, its texts and
+-- the emitter with one more unit: its line number program, its entries as a unit, its texts and
 -- range lists
 abbrev pub with_unit_added : UnitPart → TableEmitter → TableEmitter
 with_unit_added u s = record {
@@ -30,7 +30,7 @@ with_unit_added u s = record {
   emitter = without_entries (unit_after_entries u s);
 }
 
--- the emitter holds what was emitted
+-- the emitter holds what is emitted of some units
 pub record HoldsTable (e : Encoding) (is_big : Bool) (st : EmittedTable) (s : TableEmitter) : Type 0
   where
     pub encoding_is : s.encoding ≡ e
@@ -38,12 +38,12 @@ pub record HoldsTable (e : Encoding) (is_big : Bool) (st : EmittedTable) (s : Ta
     pub units_are : s.info ≡ bytes_in_order is_big (spelled_units e is_big st.units)
     pub emitter_is : s.emitter ≡ before_entries e is_big st
 
--- A unit can be written after others.
+-- A unit can be added after others.
 pub record CanAddUnit (u : UnitPart) (s : TableEmitter) : Type 0 where
   pub before : EmittedTable
   pub is_big : Bool
-  pub served : IsServed s.encoding
-  pub stands : HoldsTable s.encoding is_big before s
+  pub is_served : IsServed s.encoding
+  pub holds_before : HoldsTable s.encoding is_big before s
   pub fits : UnitFits s.encoding is_big u before
 
 -- A unit's line number program can be written.

@@ -1,4 +1,4 @@
-//! Why nothing is emitted.
+//! Why no sections are emitted of a table.
 
 use std::error::Error;
 use std::fmt;
@@ -6,7 +6,7 @@ use std::fmt;
 /// Why no sections are emitted of a table. It prints as a letter and a number.
 #[derive(Debug, Clone, Copy, PartialEq, Eq)]
 pub enum EmitError {
-    /// M1: no memory was left.
+    /// M1: out of memory.
     Memory,
     /// M2: the table's weight is 2^31 or more.
     TooLarge,

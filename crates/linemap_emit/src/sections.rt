@@ -1,4 +1,4 @@
-//! Sections that were emitted.
+//! The sections that are emitted of a table.
 
 ghost use Rattle.std.specs.Prelude.{◌≡◌};
 
@@ -58,7 +58,7 @@ impl Sections {
         }
     }
 
-    /// The bytes of a section, borrowed: none where nothing is emitted into it.
+    /// The bytes of a section, borrowed: none if nothing is emitted into it.
     pub fn get(&self, id: SectionId) -> &[u8]
         ensures { result.now ≡ bytes_of id self.now }
     {

@@ -29,7 +29,7 @@ use linemap_table::{TableSequence, TableUnit};
 use std::alloc::Global;
 
 /// What is emitted so far: line number programs, units, and the texts and range lists that their
-/// entries refer to.
+/// entries name.
 #[derive(Drop)]
 pub struct TableEmitter {
     encoding: Encoding,
@@ -38,7 +38,7 @@ pub struct TableEmitter {
     emitter: UnitEmitter,
 }
 
-// The parameters of line number programs.
+// The parameters of the line number programs.
 fn rules(encoding: Encoding) -> LineRules
     ensures { result ≡ emitted_rules encoding }
 {
@@ -107,7 +107,7 @@ fn write_info(
         (with_unit line_program (unit_part unit.now) emitter.old).entries }
     requires small { length (spelled_unit_body encoding w.old.is_big
         (with_unit line_program (unit_part unit.now) emitter.old).entries) < 2 ^ 31 }
-    ensures emitted { OnOk result
+    ensures state { OnOk result
         (emitter.new ≡ without_entries (with_unit line_program (unit_part unit.now) emitter.old)) }
     ensures bytes { Appends result w.old w.new
         (spelled_unit encoding w.old.is_big
@@ -120,7 +120,7 @@ fn write_info(
 }
 
 impl TableEmitter {
-    // Nothing is emitted yet.
+    // An emitter that has emitted nothing yet.
     fn new(alloc: Global, target: Target) -> Self
         ensures { HoldsTable (encoding_of target) (is_big_of target) no_units result }
     {
@@ -173,7 +173,7 @@ impl TableEmitter {
         Ok(w.into_vec())
     }
 
-    // All sections, given those of the declarations and the texts.
+    // All sections, with those of the declarations and of the texts.
     fn into_sections(self, declarations: Vec<u8>, texts: Vec<u8>) -> Sections
         ensures { result
             ≡ record {
@@ -194,7 +194,7 @@ impl TableEmitter {
     }
 }
 
-// The units, one after the other.
+// Emits the units, one after the other.
 fn emitter_of_units(
     alloc: Global,
     target: Target,
@@ -207,14 +207,14 @@ fn emitter_of_units(
         (emitted_table (encoding_of target) (is_big_of target) (map unit_part units.now))) }
     ensures refused { IfErr result (λ e. e ≡ Memory) }
 {
-    let mut emitted = TableEmitter::new(alloc, target);
+    let mut emitter = TableEmitter::new(alloc, target);
     for unit in units {
-        emitted.unit(alloc, unit)?;
+        emitter.unit(alloc, unit)?;
     }
-    Ok(emitted)
+    Ok(emitter)
 }
 
-// The sections of units that fit. Refused only where no memory is found.
+// The sections of units that fit. Refused only when out of memory.
 pub(crate) fn emit_units(
     alloc: Global,
     units: &[TableUnit],
@@ -226,8 +226,8 @@ pub(crate) fn emit_units(
         ≡ emitted_sections (encoding_of target) (is_big_of target) (map unit_part units.now)) }
     ensures refused { IfErr result (λ e. e ≡ Memory) }
 {
-    let emitted = emitter_of_units(alloc, target, units)?;
-    let declarations = emitted.declarations(alloc)?;
-    let texts = emitted.texts(alloc)?;
-    Ok(emitted.into_sections(declarations, texts))
+    let emitter = emitter_of_units(alloc, target, units)?;
+    let declarations = emitter.declarations(alloc)?;
+    let texts = emitter.texts(alloc)?;
+    Ok(emitter.into_sections(declarations, texts))
 }

@@ -14,15 +14,15 @@ use crate::target::Target;
 use linemap_table::Table;
 use std::alloc::Global;
 
-/// The weight from which on a table is too large.
+// A table with this weight or more is too large.
 const WEIGHT_LIMIT: u64 = 1 << 31;
 
-/// The sections of a table, as a target has them. A table whose weight is 2^31 or more is refused
-/// before any memory is taken; every other one is emitted where there is enough memory.
+/// The sections of a table, for a target. A table whose weight is 2^31 or more is refused before
+/// any memory is taken; any other is emitted if there is enough memory.
 pub fn emit_sections(alloc: Global, table: &Table, target: Target) -> Result<Sections, EmitError>
     ensures too_large { IsErrOf result EmitError.TooLarge
         ↔ (2 ^ 31 ≤ table_weight (units_of table.now)) }
-    ensures emitted { IfOk result
+    ensures sections { IfOk result
         (λ s. s ≡ emitted_sections (encoding_of target) (is_big_of target) (units_of table.now)) }
     ensures answers { IfOk result (λ s. AreAnswers (is_big_of target) s (units_of table.now)) }
 {

@@ -1,4 +1,4 @@
-//! What sections are emitted for.
+//! The targets that sections are emitted for.
 
 ghost use Rattle.std.specs.Prelude.{◌≡◌, ◌↔◌, IsSome, IfSome, IsTrue};
 ghost use Rattle.linemap_emit_fits.specs.FittingUnits.{IsServed};
@@ -17,9 +17,9 @@ pub struct Target {
 impl Target {
     ghost use Rattle.linemap_emit.specs.EmissionTargets.{encoding_of, is_big, is_big_of, is_served};
 
-    /// The target of a version, a format, a size of addresses in bytes, and an order. Version 4 is
-    /// served, in 32-bit DWARF, with addresses of eight bytes, the less significant byte first;
-    /// there is no other target yet.
+    /// The target of a version, a format, a size of addresses in bytes, and an order of bytes.
+    /// Version 4 is served, in 32-bit DWARF, with addresses of eight bytes, the less significant
+    /// byte first; there is no other target yet.
     pub fn new(version: u16, format: Format, address_size: u8, big_endian: bool) -> Option<Target>
         ensures served { IsSome result ↔ IsTrue (is_served version format address_size big_endian) }
         ensures encoding { IfSome result (λ t. encoding_of t
@@ -39,7 +39,7 @@ impl Target {
         })
     }
 
-    /// Its version, format and size of addresses.
+    /// The version, the format and the size of addresses.
     pub fn encoding(self) -> Encoding
         ensures value { result ≡ encoding_of self }
         ensures served { IsServed result }
@@ -47,7 +47,7 @@ impl Target {
         self.encoding
     }
 
-    /// Its order of bytes.
+    /// The order of bytes.
     pub fn endian(self) -> RunTimeEndian
         ensures { is_big result ≡ is_big_of self }
     {

@@ -39,29 +39,29 @@ module _ (e : Encoding) (is_big : Bool) (served : IsServed e) where
         entries_few = omega arith;
         fit = λ i d h. absurd (omega arith);
       } in
-      unit_is_bounded e is_big served.has_8_bytes (length st.lines) u can.counted (omega arith) (omega arith) start
+      unit_is_bounded e is_big served.has_8_bytes (length st.lines) u can.numbers_fit (omega arith) (omega arith) start
 
   -- ---- a unit
 
   unit_fits : (m : ℕ) (u : UnitPart) (st : EmittedTable) → CanEmitSequences u.sequences → CanEmitUnitSequences u
       → IsTableBounded m st → m + unit_weight u < 2 ^ 31 → UnitFits e is_big u st
   unit_fits m u st rows can bounded fits =
-      let told = instructions_few u rows in
-      let told_few = told.few in
+      let few_bytes = instructions_few u rows in
+      let bytes_few = few_bytes.few in
       let kept = entries_bounded m u st can bounded fits in
       let entries = after_entries e is_big u st in
       let entries_few = kept.entries_few in
       let header = header_few e.version u in
-      let after = body_few e is_big u told.bytes in
+      let after = body_few e is_big u few_bytes.bytes in
       let fields = fields_few e is_big in
       let whole = length-append (spelled_fields e is_big) (spelled_entries e is_big entries.entries) in
       record {
         can_emit = subst (λ s. CanEmitUnit s u) (sym served.has_8_bytes) can.can_emit;
         can_emit_sequences = rows;
-        all_entries = can.all_entries;
+        all_directories = can.all_directories;
         all_files = can.all_files;
-        instructions = told.bytes;
-        instructions_are = told.are;
+        instructions = few_bytes.bytes;
+        instructions_are = few_bytes.are;
         header_small = omega arith;
         program_small = omega arith;
         entries_fit = kept.fit;
@@ -72,13 +72,13 @@ module _ (e : Encoding) (is_big : Bool) (served : IsServed e) where
       → IsTableBounded m st → m + unit_weight u < 2 ^ 31
       → IsTableBounded (m + unit_weight u) (with_emitted_unit e is_big u st)
   unit_bounded m u st rows can bounded fits =
-      let told = instructions_few u rows in
+      let few_bytes = instructions_few u rows in
       let kept = entries_bounded m u st can bounded fits in
       let bytes = bytes_if_any (instructions_of e is_big u) in
       let lines : length (st.lines ++ program_of e is_big u) ≤ m + unit_weight u =
       sum _ (length u.ranges) (length u.directory) (length u.name) (sum_by file_weight u.files)
-      (sum_by function_weight u.functions) _ _ _ m _ _ bounded.lines_few told.few
-      (ap (λ r. length (bytes_if_any r)) told.are) (program_few e is_big u bytes)
+      (sum_by function_weight u.functions) _ _ _ m _ _ bounded.lines_few few_bytes.few
+      (ap (λ r. length (bytes_if_any r)) few_bytes.are) (program_few e is_big u bytes)
       (length-append st.lines (program_of e is_big u)) in
       let texts = kept.texts_few in
       let ranges = kept.ranges_few in

@@ -9,7 +9,7 @@ use Rattle.linemap_emit_units.specs.Spelling.{unsigned_string}
 use Rattle.linemap_emit_units.proofs.NumberRoundTrip.{length-spelled}
 use Rattle.linemap_emit_units.specs.Range.{Range}
 use Rattle.linemap_emit_units.specs.Entry.{Entry}
-use Rattle.linemap_emit_units.specs.EmittedEntries.{EmittedValue, text, place, location, count, spelled_value, EmittedAttribute, attributes_of, abbreviation_code, spelled_entry}
+use Rattle.linemap_emit_units.specs.EmittedEntries.{EmittedValue, strp, sec_offset, addr, udata, spelled_value, EmittedAttribute, attributes_of, abbreviation_code, spelled_entry}
 use Rattle.linemap_emit_units.specs.EmittedUnits.{spelled_fields}
 use Rattle.linemap_emit_units.specs.EmittedRanges.{spelled_pair, spelled_range, spelled_end, spelled_ranges}
 use Rattle.linemap_emit_fits.proofs.NumberSizes.{length-unsigned, word_few, length-cond}
@@ -55,12 +55,12 @@ ranges_few e is_big rs eight =
 
 value_few : (e : Encoding) (is_big : Bool) (v : EmittedValue) → e.address_size ≡ 8
     → length (spelled_value e is_big v) ≤ 10
-value_few e is_big (text offset) eight =
+value_few e is_big (strp offset) eight =
     let l = length-spelled is_big (word_size e.format) offset in let w = word_few e.format in omega arith
-value_few e is_big (place offset) eight =
+value_few e is_big (sec_offset offset) eight =
     let l = length-spelled is_big (word_size e.format) offset in let w = word_few e.format in omega arith
-value_few e is_big (location at) eight = let l = length-spelled is_big e.address_size at in omega arith
-value_few e is_big (count n) eight = length-unsigned n
+value_few e is_big (addr at) eight = let l = length-spelled is_big e.address_size at in omega arith
+value_few e is_big (udata n) eight = length-unsigned n
 
 values_few : (e : Encoding) (is_big : Bool) (ss : List EmittedAttribute) → e.address_size ≡ 8
     → length (flat_map (λ s. spelled_value e is_big s.value) ss) ≤ 10 * length ss
@@ -73,7 +73,7 @@ values_few e is_big (s ∷ ss) eight =
     sum : (a b n x : ℕ) → a ≤ 10 → b ≤ 10 * n → x ≡ a + b → x ≤ 10 * suc n
     sum a b n x g h e = omega arith
 
--- its code, and what it says
+-- its code, and its values
 pub entry_few : (e : Encoding) (is_big : Bool) (x : Entry) → e.address_size ≡ 8
     → length (spelled_entry e is_big x) ≤ 10 + 10 * length (attributes_of x)
 entry_few e is_big x eight =

@@ -16,17 +16,18 @@ use Rattle.linemap_emit_units.specs.Entry.TheVariants.{CompileUnit, Function, Ca
 use Rattle.linemap_emit_units.specs.EmittedEntries.{AllFit, attributes_of, spelled_entry}
 use Rattle.linemap_emit_units.specs.EmittedEntryRows.{spelled_entries}
 use Rattle.linemap_emit_units.specs.EmittedRanges.{spelled_ranges}
-use Rattle.linemap_emit_units.specs.UnitEmission.{EmittedUnit, emitted_range, text_offset, with_name, with_list, list_offset, with_entry, has_calls, with_end_of_children, with_call, with_calls, with_function_entry, with_function, with_functions, with_unit_entry, with_unit}
+use Rattle.linemap_emit_units.specs.UnitEmission.{EmittedUnit, text_offset, with_name, with_list, list_offset, with_entry, has_calls, with_end_of_children, with_call, with_calls, with_function_entry, with_function, with_functions, with_unit_entry, with_unit}
 use Rattle.linemap_emit_fits.specs.EmissionBounds.{IsUnitBounded}
 use Rattle.linemap_emit_fits.proofs.StringSectionSizes.{section_grows, offset_within}
 use Rattle.linemap_emit_fits.proofs.EntryListSizes.{ranges_few, entry_few}
+use Rattle.linemap_emit_units.specs.LookupAgreement.{lookup_range}
 
 -- offsets below 2^31 fit their words
 fits_word : (f : Format) (offset : ℕ) → offset < 2 ^ 31 → offset < 256 ^ word_size f
 fits_word Dwarf32 offset low = omega arith
 fits_word Dwarf64 offset low = omega arith
 
--- where a text stands, within the section as it grows
+-- the offset of a text is within the section as it grows
 text_low : (text : List ℕ) (st : EmittedUnit) (most : ℕ) → length (section_of st.texts) ≤ most
     → text_offset text st ≤ most + (length text + 1)
 text_low text st most few =
@@ -96,10 +97,10 @@ module _ (e : Encoding) (is_big : Bool) (eight : e.address_size ≡ 8) where
       let t = k.texts_few in
       let r = k.ranges_few in
       let b = k.entries_few in
-      let list = spelled_ranges st.encoding st.ranges.is_big (map emitted_range rs) in
+      let list = spelled_ranges st.encoding st.ranges.is_big (map lookup_range rs) in
       let grown : length (st.ranges.bytes ++ list) ≤ m + (17 * length rs + 16) =
-      sum _ _ _ _ (length rs) m r (ranges_few st.encoding st.ranges.is_big (map emitted_range rs) k.has_8_bytes)
-      (length-map rs emitted_range) (length-append st.ranges.bytes list) in
+      sum _ _ _ _ (length rs) m r (ranges_few st.encoding st.ranges.is_big (map lookup_range rs) k.has_8_bytes)
+      (length-map rs lookup_range) (length-append st.ranges.bytes list) in
       record {
         has_8_bytes = k.has_8_bytes;
         texts_few = omega arith;
@@ -143,7 +144,7 @@ module _ (e : Encoding) (is_big : Bool) (eight : e.address_size ≡ 8) where
 
   call_bounded : {m : ℕ} {st : EmittedUnit} (b : Bool) (s : Site) → IsCounted s → m + site_most s < 2 ^ 31
       → IsUnitBounded e is_big m st → IsUnitBounded e is_big (m + site_most s) (with_call b s st)
-  call_bounded {m} {st} b s counted fits k =
+  call_bounded {m} {st} b s numbers fits k =
       let name_low = text_low s.name st m k.texts_few in
       let name_fits : text_offset s.name st < 2 ^ 31 = omega arith in
       let list_few = k.ranges_few in
@@ -152,25 +153,25 @@ module _ (e : Encoding) (is_big : Bool) (eight : e.address_size ≡ 8) where
         (fits_word e.format (text_offset s.name st) name_fits, name_fits),
         (
           (fits_word e.format (list_offset st) list_fits, list_fits, refl),
-          (counted.file, (counted.line, (counted.column, tt))),
+          (numbers.file, (numbers.line, (numbers.column, tt))),
         ),
       ) (list_bounded s.ranges (name_bounded s.name k))) (omega arith)
 
   pub calls_bounded : (cs : Calls) {m : ℕ} {st : EmittedUnit} → AllCounted cs → m + calls_weight cs < 2 ^ 31
       → IsUnitBounded e is_big m st → IsUnitBounded e is_big (m + calls_weight cs) (with_calls cs st)
   unfolding with_calls AllCounted
-  calls_bounded no_calls {m} {st} counted fits k = bound_raised k (omega arith)
-  calls_bounded (more_calls site inner others) {m} {st} counted fits k =
-      let head = call_bounded (has_calls inner) site counted.0 (omega arith) k in
-      let middle = calls_bounded inner counted.1 (omega arith) head in
+  calls_bounded no_calls {m} {st} numbers fits k = bound_raised k (omega arith)
+  calls_bounded (more_calls site inner others) {m} {st} numbers fits k =
+      let head = call_bounded (has_calls inner) site numbers.0 (omega arith) k in
+      let middle = calls_bounded inner numbers.1 (omega arith) head in
       let end = end_bounded (has_calls inner) middle in
-      bound_raised (calls_bounded others counted.2 (omega arith) end) (omega arith)
+      bound_raised (calls_bounded others numbers.2 (omega arith) end) (omega arith)
 
   -- ---- functions
 
   function_bounded : {m : ℕ} {st : EmittedUnit} (f : FunctionPart) → AllCounted f.calls → m + function_weight f < 2 ^ 31
       → IsUnitBounded e is_big m st → IsUnitBounded e is_big (m + function_weight f) (with_function f st)
-  function_bounded {m} {st} f counted fits k =
+  function_bounded {m} {st} f numbers fits k =
       let name_low = text_low f.name st m k.texts_few in
       let name_fits : text_offset f.name st < 2 ^ 31 = omega arith in
       let list_few = k.ranges_few in
@@ -181,16 +182,16 @@ module _ (e : Encoding) (is_big : Bool) (eight : e.address_size ≡ 8) where
         (fits_word e.format (text_offset f.name st) name_fits, name_fits),
         ((fits_word e.format (list_offset st) list_fits, list_fits, refl), tt),
       ) (list_bounded f.ranges (name_bounded f.name k))) (omega arith) in
-      bound_raised (end_bounded (has_calls f.calls) (calls_bounded f.calls counted (omega arith) head)) (omega arith)
+      bound_raised (end_bounded (has_calls f.calls) (calls_bounded f.calls numbers (omega arith) head)) (omega arith)
 
   pub functions_bounded : (fs : List FunctionPart) {m : ℕ} {st : EmittedUnit} → AllFunctionsCounted fs
       → m + sum_by function_weight fs < 2 ^ 31 → IsUnitBounded e is_big m st
       → IsUnitBounded e is_big (m + sum_by function_weight fs) (with_functions fs st)
   unfolding AllFunctionsCounted
-  functions_bounded [] {m} {st} counted fits k = bound_raised k (omega arith)
-  functions_bounded (f ∷ fs) {m} {st} counted fits k =
+  functions_bounded [] {m} {st} numbers fits k = bound_raised k (omega arith)
+  functions_bounded (f ∷ fs) {m} {st} numbers fits k =
       let whole = sum_by-cons function_weight f fs in
-      bound_raised (functions_bounded fs counted.1 (omega arith) (function_bounded f counted.0 (omega arith) k))
+      bound_raised (functions_bounded fs numbers.1 (omega arith) (function_bounded f numbers.0 (omega arith) k))
       (omega arith)
 
   -- ---- a unit
@@ -198,7 +199,7 @@ module _ (e : Encoding) (is_big : Bool) (eight : e.address_size ≡ 8) where
   pub unit_is_bounded : {m : ℕ} {st : EmittedUnit} (line_program : ℕ) (u : UnitPart) → AllFunctionsCounted u.functions
       → line_program < 2 ^ 31 → m + unit_most u < 2 ^ 31 → IsUnitBounded e is_big m st
       → IsUnitBounded e is_big (m + unit_most u) (with_unit line_program u st)
-  unit_is_bounded {m} {st} line_program u counted program_fits fits k =
+  unit_is_bounded {m} {st} line_program u numbers program_fits fits k =
       let name_low = text_low u.name st m k.texts_few in
       let name_fits : text_offset u.name st < 2 ^ 31 = omega arith in
       let after_name = name_bounded u.name k in
@@ -222,5 +223,5 @@ module _ (e : Encoding) (is_big : Bool) (eight : e.address_size ≡ 8) where
           ),
         ),
       ) (list_bounded u.ranges (name_bounded u.directory after_name))) (omega arith) in
-      bound_raised (entry_bounded EndOfChildren tt (functions_bounded u.functions counted (omega arith) root))
+      bound_raised (entry_bounded EndOfChildren tt (functions_bounded u.functions numbers (omega arith) root))
       (omega arith)

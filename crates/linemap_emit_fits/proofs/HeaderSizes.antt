@@ -12,10 +12,10 @@ use Rattle.linemap_emit_units.specs.Spelling.{unsigned_string}
 use Rattle.linemap_emit_units.proofs.NumberRoundTrip.{length-spelled}
 use Rattle.linemap_emit_units.specs.TableParts.{FilePart, UnitPart}
 use Rattle.linemap_emit_units.specs.TableWeight.{file_weight}
-use Rattle.linemap_emit_units.specs.EmittedUnits.{spelled_length}
 use Rattle.linemap_emit_units.specs.EmittedHeaders.{EmittedFile, spelled_text, spelled_file, spelled_tables, spelled_parameters, spelled_opcodes, spelled_header, spelled_program_body, spelled_program}
 use Rattle.linemap_emit_units.specs.EmittedPrograms.{directories_of, files_from, files_of}
 use Rattle.linemap_emit_fits.proofs.NumberSizes.{length-unsigned, word_few, length-cond}
+use Rattle.linemap_emit_units.specs.NumberBytes.{spelled_length}
 
 -- ---- tables
 

@@ -74,7 +74,7 @@ end_few rules previous offset op_index =
 
 -- ---- entries
 
--- bytes that aren't refused, and are at most so many
+-- bytes that aren't refused, and at most a number of them
 pub record IsWithin (n : ℕ) (r : Result (List ℕ) Error) : Type 0 where
   pub bytes : List ℕ
   pub are : r ≡ Ok bytes

@@ -1,18 +1,20 @@
 -- What no condition refuses of a unit can be emitted.
-use Rattle.std.proofs.Common.{◌≡◌, ℕ, ◌+◌, ◌-◌, ◌<◌, ◌≤◌, ◌^◌, Bool, false, ◌||◌, ◌==◌, nat_lt, nat_le, List, [], ◌∷◌, length, map, get_or, arith}
+use Rattle.std.proofs.Common.{All, ◌≡◌, ℕ, ◌+◌, ◌-◌, ◌<◌, ◌≤◌, ◌^◌, Bool, false, ◌||◌, ◌==◌, nat_lt, nat_le, List, [], ◌∷◌, length, map, get_or, arith}
 use Rattle.std.specs.List.{list_any}
 use Rattle.std.proofs.lemmas.Bool.{both_ways, eq-eqb, eqb-false, ltb-false, leb-false, or_parts}
 use Rattle.std.proofs.lemmas.List.Folds.{list_any_at}
+use Rattle.std.proofs.lemmas.List.Elements.{All-nil, All-cons}
 use Rattle.linemap_emit_units.specs.StringSections.{IsText}
 use Rattle.linemap_emit_units.specs.TableParts.{RangePart, FilePart, Site, Calls, no_calls, more_calls, FunctionPart, UnitPart}
 use Rattle.linemap_emit_units.specs.Conditions.{IsSound, any_call, is_empty_range, range_out_of_bounds, is_out_of_bounds, sequence_out_of_bounds, has_empty_range, has_out_of_bounds, is_bad_number, has_bad_line_or_column, has_bad_file_number, is_bad_text, has_bad_text}
 use Rattle.linemap_emit_units.specs.Rule.TheVariants.{EmptyRange, Bounds, LineOrColumn, FileNumber, Text}
 use Rattle.linemap_emit_units.proofs.SoundUnits.{sound_rule}
 use Rattle.linemap_emit_units.specs.EmittedRanges.{AllWritable}
-use Rattle.linemap_emit_units.specs.EmittedHeaders.{IsTableText, AllTableTexts, AllFiles}
+use Rattle.linemap_emit_units.specs.EmittedHeaders.{IsTableText, IsTableText, IsTableFile}
 use Rattle.linemap_emit_units.specs.EmittedPrograms.{directories_of, files_from, files_of}
-use Rattle.linemap_emit_units.specs.UnitEmission.{emitted_range, CanEmitCalls, CanEmitFunctions, CanEmitUnit}
+use Rattle.linemap_emit_units.specs.UnitEmission.{CanEmitCalls, CanEmitFunctions, CanEmitUnit}
 use Rattle.linemap_emit_fits.proofs.EntrySizes.{AllCounted, AllFunctionsCounted}
+use Rattle.linemap_emit_units.specs.LookupAgreement.{lookup_range}
 
 -- ---- texts
 
@@ -29,7 +31,7 @@ entry_is text good =
 -- ---- ranges
 
 writable : (rs : List RangePart) → list_any is_empty_range rs ≡ false → list_any range_out_of_bounds rs ≡ false
-    → AllWritable 8 (map emitted_range rs)
+    → AllWritable 8 (map lookup_range rs)
 writable [] a b = tt
 writable (r ∷ rs) a b =
     let pa = or_parts (is_empty_range r) (list_any is_empty_range rs) a in
@@ -49,7 +51,7 @@ writable (r ∷ rs) a b =
 number_low : (n : ℕ) → is_bad_number n ≡ false → n < 2 ^ 64
 number_low n h = let high = ltb-false (2 ^ 32 - 1) n (or_parts (nat_lt n 1) (nat_lt (2 ^ 32 - 1) n) h).1 in omega arith
 
--- what no condition says of calls
+-- what no condition refuses of calls
 record ArePlain (files : ℕ) (cs : Calls) : Type 0 where
   empty : any_call (λ s. list_any is_empty_range s.ranges) cs ≡ false
   bounds : any_call (λ s. list_any range_out_of_bounds s.ranges) cs ≡ false
@@ -98,7 +100,7 @@ calls_can files (more_calls s inner others) few plain =
 
 -- ---- functions
 
--- what no condition says of functions
+-- what no condition refuses of functions
 record FunctionsPlain (files : ℕ) (fs : List FunctionPart) : Type 0 where
   empty : list_any (λ f. list_any is_empty_range f.ranges || any_call (λ s. list_any is_empty_range s.ranges) f.calls)
       fs ≡ false
@@ -143,15 +145,18 @@ functions_can files (f ∷ fs) few plain =
 
 files_can : (n : ℕ) (fs : List FilePart) → n + length fs ≤ 2 ^ 64
     → list_any (λ (f : FilePart). is_bad_text f.directory || is_bad_text f.name) fs ≡ false
-    → AllTableTexts (map (λ (f : FilePart). f.directory) fs) × AllFiles (files_from n fs)
-files_can n [] few good = (tt, tt)
+    → All IsTableText (map (λ (f : FilePart). f.directory) fs) × All IsTableFile (files_from n fs)
+files_can n [] few good = (All-nil IsTableText, All-nil IsTableFile)
 files_can n (f ∷ fs) few good =
     let parts =
     or_parts (is_bad_text f.directory || is_bad_text f.name)
     (list_any (λ (f : FilePart). is_bad_text f.directory || is_bad_text f.name) fs) good in
     let own = or_parts (is_bad_text f.directory) (is_bad_text f.name) parts.0 in
-    let others = files_can (n + 1) fs (omega arith) parts.1 in
-    ((entry_is f.directory own.0, others.0), ((entry_is f.name own.1, omega arith), others.1))
+    let others = files_can (n + 1) fs (omega arith) parts.1 in (
+      All-cons IsTableText f.directory (map (λ (g : FilePart). g.directory) fs) (entry_is f.directory own.0) others.0,
+      All-cons IsTableFile (record { name = f.name; directory = n }) (files_from (n + 1) fs)
+          (entry_is f.name own.1, omega arith) others.1,
+    )
 
 -- ---- units
 
@@ -166,9 +171,9 @@ pub record IsPlain (u : UnitPart) : Type 0 where
 -- what can be emitted of it
 pub record CanEmitUnitSequences (u : UnitPart) : Type 0 where
   pub can_emit : CanEmitUnit 8 u
-  pub counted : AllFunctionsCounted u.functions
-  pub all_entries : AllTableTexts (directories_of u)
-  pub all_files : AllFiles (files_of u)
+  pub numbers_fit : AllFunctionsCounted u.functions
+  pub all_directories : All IsTableText (directories_of u)
+  pub all_files : All IsTableFile (files_of u)
 
 pub plain_can_emit : (u : UnitPart) → length u.files < 2 ^ 64 → IsPlain u → CanEmitUnitSequences u
 plain_can_emit u few plain =
@@ -202,8 +207,8 @@ plain_can_emit u few plain =
         (text_is u.name names.1, writable u.ranges empty.0 range_bounds.0),
         functions.0,
       );
-      counted = functions.1;
-      all_entries = tables.0;
+      numbers_fit = functions.1;
+      all_directories = tables.0;
       all_files = tables.1;
     }
 

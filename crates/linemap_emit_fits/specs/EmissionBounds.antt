@@ -1,4 +1,4 @@
--- What was emitted is within a bound.
+-- Bounds of what is emitted.
 use Rattle.std.specs.Prelude.{◌≡◌, ℕ, ◌≤◌, ◌^◌, Bool, All, length}
 use Rattle.linemap_emit_units.specs.Encoding.{Encoding}
 use Rattle.linemap_emit_units.specs.StringSections.{section_of}
@@ -7,8 +7,8 @@ use Rattle.linemap_emit_units.specs.EmittedEntryRows.{spelled_entries}
 use Rattle.linemap_emit_units.specs.UnitEmission.{EmittedUnit}
 use Rattle.linemap_emit_units.specs.TableEmission.{EmittedTable}
 
--- The string section, the range lists and the bytes of the unit's entries are no longer than a
--- bound, and the entries' offsets are below 2^31.
+-- The string section, the range lists and the entries of the unit are no longer than a bound, and
+-- the entries' offsets are below 2^31.
 pub record IsUnitBounded (e : Encoding) (is_big : Bool) (most : ℕ) (st : EmittedUnit) : Type 0 where
   pub has_8_bytes : st.encoding.address_size ≡ 8
   pub texts_few : length (section_of st.texts) ≤ most

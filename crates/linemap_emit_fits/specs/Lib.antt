@@ -4,7 +4,8 @@ pub use Rattle.linemap_emit_units.specs.Encoding
 pub use Rattle.linemap_emit_units.specs.Format
 pub use Rattle.linemap_emit_units.specs.SectionId
 pub use Rattle.linemap_emit_units.specs.RunTimeEndian
-pub use Rattle.linemap_emit_units.specs.DwarfSections
+pub use Rattle.linemap_emit_units.specs.DwarfFiles
+pub use Rattle.linemap_emit_units.specs.BytesAt
 pub use Rattle.linemap_emit_units.specs.NumberBytes
 pub use Rattle.linemap_emit_units.specs.OutputBytes
 pub use Rattle.linemap_emit_units.specs.WriteError

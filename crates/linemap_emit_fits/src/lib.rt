@@ -1,4 +1,4 @@
-//! How large what is emitted of a table becomes: no larger than the table's weight.
+//! The size of what is emitted of a table: no more than the table's weight.
 #![tactic(auto)]
 
 pub mod fit_laws;

@@ -7,8 +7,9 @@ use Rattle.linemap_emit_units.specs.TableParts.{RangePart, Site, Calls, no_calls
 use Rattle.linemap_emit_units.specs.Entry.{Entry}
 use Rattle.linemap_emit_units.specs.Entry.TheVariants.{CompileUnit, Function, Call, EndOfChildren}
 use Rattle.linemap_emit_units.specs.EmittedRanges.{spelled_ranges}
-use Rattle.linemap_emit_units.specs.UnitEmission.{EmittedUnit, emitted_range, text_offset, list_offset, with_name, with_list, with_entry, has_calls, with_end_of_children, with_call, with_calls, with_function_entry, with_function, with_functions, with_unit_entry, with_unit}
+use Rattle.linemap_emit_units.specs.UnitEmission.{EmittedUnit, text_offset, list_offset, with_name, with_list, with_entry, has_calls, with_end_of_children, with_call, with_calls, with_function_entry, with_function, with_functions, with_unit_entry, with_unit}
 use Rattle.linemap_emit_units.specs.TableEmission.{EmittedTable, program_of, before_entries, after_entries, with_emitted_unit, with_emitted_units}
+use Rattle.linemap_emit_units.specs.LookupAgreement.{lookup_range}
 
 -- texts keep their places, and begin where they did
 abbrev pub TextsStay : List (List ℕ) → List (List ℕ) → Type 0
@@ -67,7 +68,7 @@ name_grows text a = record {
 list_grows : (rs : List RangePart) (a : EmittedUnit) → Grows a (with_list rs a)
 list_grows rs a = record {
   texts = λ i t there. (there, refl);
-  more_ranges = spelled_ranges a.encoding a.ranges.is_big (map emitted_range rs);
+  more_ranges = spelled_ranges a.encoding a.ranges.is_big (map lookup_range rs);
   ranges = refl;
   more_entries = [];
   entries = sym (append-nil a.entries);
@@ -126,7 +127,7 @@ functions_grow (f ∷ fs) a =
     grows_on a (with_function f a) (with_functions fs (with_function f a)) (function_grows f a)
     (functions_grow fs (with_function f a))
 
--- what stands after the entry of a unit
+-- what is emitted after the entry of a unit
 pub root_grows : (line_program : ℕ) (u : UnitPart) (a : EmittedUnit)
     → Grows (with_unit_entry line_program u a) (with_unit line_program u a)
 root_grows line_program u a =

@@ -14,13 +14,11 @@ use Rattle.linemap_emit_units.specs.LineHeaders.{LineHeader}
 use Rattle.linemap_emit_units.specs.HeaderParsing.{LineUnit, line_header, header_at}
 use Rattle.linemap_emit_units.specs.RowPieces.{IsBuildable}
 use Rattle.linemap_emit_units.specs.BuiltRows.{rows_of}
-use Rattle.linemap_emit_units.specs.DwarfSections.{Sections}
-use Rattle.linemap_emit_units.specs.UnitFacts.{UnitFacts}
+use Rattle.linemap_emit_units.specs.DwarfFiles.{DwarfFile}
+use Rattle.linemap_emit_units.specs.UnitFacts.{UnitFacts, in_file}
 use Rattle.linemap_emit_units.specs.Lines.{ProgramRow, sequences_of_rows}
 use Rattle.linemap_emit_units.specs.UnitLines.{lines_of_program, program_row}
 use Rattle.linemap_emit_units.specs.TableParts.{UnitPart}
-use Rattle.linemap_emit_units.specs.EmittedEntryLaws.{bytes_at}
-use Rattle.linemap_emit_units.specs.EmittedUnits.{length_limit}
 use Rattle.linemap_emit_units.specs.EmittedHeaders.{spelled_program, header_read}
 use Rattle.linemap_emit_units.specs.EmittedHeaderLaws.{fields_begin}
 use Rattle.linemap_emit_units.proofs.EmittedHeadersRead.{header_again}
@@ -32,10 +30,12 @@ use Rattle.linemap_emit_units.proofs.EmittedProgramRows.{shows_again}
 use Rattle.linemap_emit_units.specs.TableEmission.{EmittedTable, bytes_if_any, program_of}
 use Rattle.linemap_emit_units.specs.FittingUnits.{IsServed, UnitFits, IsInUtf8}
 use Rattle.linemap_emit_laws.proofs.EmittedListLemmas.{skipped}
+use Rattle.linemap_emit_units.specs.BytesAt.{bytes_at}
+use Rattle.linemap_emit_units.specs.NumberBytes.{length_limit}
 
 -- ---- numbers below 2^31
 
--- can be told as lengths
+-- can be written as lengths
 pub length_fits : (format : Format) (n : ℕ) → n < 2 ^ 31 → n < length_limit format
 length_fits Dwarf32 n small = omega arith
 length_fits Dwarf64 n small = omega arith
@@ -62,13 +62,13 @@ program_read e is_big offset first u instructions directory name =
     (unit_of e directory name) (directories_of u) (files_of u) instructions
 
 -- a program after others, and before others
-pub program_is : (limit : ℕ) (e : Encoding) (is_big : Bool) (first : ℕ) (u : UnitPart) (st : EmittedTable)
-    (s : Sections) (front rest : List ℕ) (directory name : View) → IsServed e → 2 ^ 31 ≤ limit
+pub program_is : (e : Encoding) (is_big : Bool) (first : ℕ) (u : UnitPart) (st : EmittedTable)
+    (s : DwarfFile) (front rest : List ℕ) (directory name : View) → IsServed e → 2 ^ 31 ≤ s.offset_limit
     → (fit : UnitFits e is_big u st)
-    → s.file.debug_line ≡ bytes_at is_big first ((front ++ program_of e is_big u) ++ rest)
-    → header_at limit (length front) (unit_of e directory name) s.file.debug_line
+    → s.sections.debug_line ≡ bytes_at is_big first ((front ++ program_of e is_big u) ++ rest)
+    → header_at s.offset_limit (length front) (unit_of e directory name) s.sections.debug_line
     ≡ Ok (program_read e is_big (length front) first u fit.instructions directory name)
-program_is limit e is_big first u st s front rest directory name served wide fit section =
+program_is e is_big first u st s front rest directory name served wide fit section =
     let ds = directories_of u in
     let fs = files_of u in
     let program = spelled_program e is_big ds fs fit.instructions in
@@ -78,13 +78,14 @@ program_is limit e is_big first u st s front rest directory name served wide fit
     let regrouped : (front ++ program_of e is_big u) ++ rest ≡ front ++ (program ++ rest) =
     append_assoc front (program_of e is_big u) rest ∙ ap (λ p. front ++ (p ++ rest)) spelled in
     let again =
-    header_again limit (length front) e is_big (first + length front) unit ds fs fit.instructions
+    header_again s.offset_limit (length front) e is_big (first + length front) unit ds fs fit.instructions
     served.not_before_2 (le-leb e.version 4 served.not_after_4) refl
-    (length_fits e.format _ fit.program_small) (below_limit limit _ wide fit.program_small)
-    (word_is_small e.format _ fit.header_small) (below_limit limit _ wide fit.header_small) fit.all_entries
+    (length_fits e.format _ fit.program_small) (below_limit s.offset_limit _ wide fit.program_small)
+    (word_is_small e.format _ fit.header_small) (below_limit s.offset_limit _ wide fit.header_small) fit.all_directories
     fit.all_files in
-    ap (header_at limit (length front) unit) (section ∙ ap (bytes_at is_big first) regrouped)
-    ∙ ap (λ (r : Result (Unit {0} × View) Error). value_of (proceed r (λ _. line_header limit (length front) unit)))
+    ap (header_at s.offset_limit (length front) unit) (section ∙ ap (bytes_at is_big first) regrouped)
+    ∙ ap (λ (r : Result (Unit {0} × View) Error).
+    value_of (proceed r (λ _. line_header s.offset_limit (length front) unit)))
     (skipped is_big first front (program ++ rest))
     ∙ ap (λ (r : Result (LineHeader × View) Error). value_of r) (again.again rest)
 
@@ -111,24 +112,24 @@ buildable e served = record {
 }
 
 -- the lines of what is read of a program
-pub lines_are : (limit : ℕ) (e : Encoding) (is_big : Bool) (offset first : ℕ) (u : UnitPart) (st : EmittedTable)
-    (s : Sections) (facts : UnitFacts) (directory name : View) → IsServed e → 2 ^ 31 ≤ limit → IsInUtf8 u
+pub lines_are : (e : Encoding) (is_big : Bool) (offset first : ℕ) (u : UnitPart) (st : EmittedTable)
+    (s : DwarfFile) (facts : UnitFacts) (directory name : View) → IsServed e → 2 ^ 31 ≤ s.offset_limit → IsInUtf8 u
     → (fit : UnitFits e is_big u st)
     → directory.bytes ≡ u.directory → name.bytes ≡ u.name → facts.comp_dir ≡ Some directory
-    → lines_of_program limit s facts (program_read e is_big offset first u fit.instructions directory name)
+    → lines_of_program (in_file s facts) (program_read e is_big offset first u fit.instructions directory name)
     ≡ Ok (record { sequences = sequences_of_rows (rows_shown e u); files = emitted_file_texts u })
-lines_are limit e is_big offset first u st s facts directory name served wide utf8 fit directory_is name_is within =
+lines_are e is_big offset first u st s facts directory name served wide utf8 fit directory_is name_is within =
     let h = program_read e is_big offset first u fit.instructions directory name in
     let can_build : AllCanBuild e.address_size u.sequences =
     subst (λ n. AllCanBuild n u.sequences) (sym served.has_8_bytes) fit.can_emit_sequences.can_build in
     let shows =
-    shows_again limit h is_big (emitted_sequences u.sequences) (omega arith) (buildable e served)
+    shows_again s.offset_limit h is_big (emitted_sequences u.sequences) (omega arith) (buildable e served)
     (sequences_follow e u.sequences can_build) (sequences_readable e u.sequences can_build) refl
     fit.instructions_are in
-    lines_again limit s facts h u name directory (rows_shown e u)
+    lines_again s facts h u name directory (rows_shown e u)
     (record {
       is_old = le-leb e.version 4 served.not_after_4;
-      unit_named = refl;
+      unit_file_is = refl;
       name_is = name_is;
       is_big = is_big;
       directories_first = _;

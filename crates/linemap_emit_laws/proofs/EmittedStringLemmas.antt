@@ -7,14 +7,14 @@ use Rattle.linemap_emit_units.specs.SectionReads.{string_at}
 use Rattle.linemap_emit_units.specs.StringSections.{same_bytes, IsText as HasNoZero, with_text, text_index, offset_of, section_of}
 use Rattle.linemap_emit_units.proofs.TextTableLemmas.{with_text-again, with_text-new}
 use Rattle.linemap_emit_units.proofs.SectionTexts.{stands, stays, read_again}
-use Rattle.linemap_emit_units.specs.DwarfSections.{Sections}
+use Rattle.linemap_emit_units.specs.DwarfFiles.{DwarfFile}
 use Rattle.linemap_emit_units.specs.TableParts.{Calls, no_calls, more_calls, FunctionPart, UnitPart}
-use Rattle.linemap_emit_units.specs.EmittedEntryLaws.{bytes_at}
 use Rattle.linemap_emit_units.specs.UnitEmission.{EmittedUnit, has_calls, with_end_of_children, with_call, with_calls, with_function_entry, with_function, with_functions, with_unit_entry, with_unit, CanEmitCalls, CanEmitFunctions, CanEmitUnit}
 use Rattle.linemap_emit_laws.specs.RecordedTables.{HasTextAt}
 use Rattle.linemap_emit_units.specs.TableEmission.{EmittedTable, before_entries, with_emitted_unit, with_emitted_units}
 use Rattle.linemap_emit_units.specs.FittingUnits.{AllUnitsFit}
 use Rattle.linemap_emit_laws.proofs.EmissionGrowth.{TextsStay}
+use Rattle.linemap_emit_units.specs.BytesAt.{bytes_at}
 
 -- ---- no text holds a zero byte
 
@@ -64,21 +64,22 @@ all_hold e is_big (u ∷ us) a fit all =
     all_hold e is_big us (with_emitted_unit e is_big u a) fit.1
     (unit_holds e.address_size (length a.lines) u (before_entries e is_big a) fit.0.can_emit all)
 
--- ---- a text that was added stands in the section
+-- ---- a text that is added is in the section
 
 -- texts stay when another is added
 pub text_stays : (texts : List (List ℕ)) (t : List ℕ) → TextsStay texts (with_text texts t)
 text_stays texts t i u there = stays texts t u i there
 
-pub text_is : (s : Sections) (is_big : Bool) (first : ℕ) (all texts : List (List ℕ)) (t : List ℕ)
-    → s.file.debug_str ≡ bytes_at is_big first (section_of all) → All HasNoZero all → TextsStay (with_text texts t) all
+pub text_is : (s : DwarfFile) (is_big : Bool) (first : ℕ) (all texts : List (List ℕ)) (t : List ℕ)
+    → s.sections.debug_str ≡ bytes_at is_big first (section_of all) → All HasNoZero all
+    → TextsStay (with_text texts t) all
     → HasTextAt s (offset_of (with_text texts t) (text_index texts t)) t
 text_is s is_big first all texts t str no_zeros stay =
     let place = text_index texts t in
     let there = stay place t (stands texts t) in
     record {
       found = bytes_at is_big (first + offset_of all place) t;
-      there = ap (λ n. string_at n s.file.debug_str) (sym there.1) ∙ ap (string_at (offset_of all place)) str
+      there = ap (λ n. string_at n s.sections.debug_str) (sym there.1) ∙ ap (string_at (offset_of all place)) str
           ∙ read_again all place t [] (bytes_at is_big first (section_of all)) no_zeros there.0
           (sym (append-nil (section_of all)));
       bytes = refl;

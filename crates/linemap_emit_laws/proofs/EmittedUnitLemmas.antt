@@ -4,19 +4,18 @@ use Rattle.std.proofs.lemmas.Bool.{le-leb}
 use Rattle.std.proofs.lemmas.List.Elements.{All-head, All-nil}
 use Rattle.linemap_emit_units.specs.Encoding.{Encoding}
 use Rattle.linemap_emit_units.specs.StringSections.{IsText as HasNoZero, with_text}
-use Rattle.linemap_emit_units.specs.DwarfSections.{Sections}
+use Rattle.linemap_emit_units.specs.DwarfFiles.{DwarfFile}
 use Rattle.linemap_emit_units.specs.TableParts.{UnitPart}
 use Rattle.linemap_emit_units.specs.Entry.{Entry}
 use Rattle.linemap_emit_units.specs.Entry.TheVariants.{CompileUnit}
 use Rattle.linemap_emit_units.specs.EmittedEntries.{AllFit, attributes_of}
-use Rattle.linemap_emit_units.specs.EmittedEntryLaws.{bytes_at}
 use Rattle.linemap_emit_units.specs.EmittedUnits.{AllSmall}
 use Rattle.linemap_emit_units.specs.EmittedRanges.{spelled_ranges}
 use Rattle.linemap_emit_units.proofs.EmittedRowsShown.{sequences_shown}
 use Rattle.linemap_emit_units.specs.EmittedRows.{emitted_rules}
 use Rattle.linemap_emit_units.specs.EmittedPrograms.{emitted_file_texts}
 use Rattle.linemap_emit_units.proofs.EmittedFileTexts.{numbered_again}
-use Rattle.linemap_emit_units.specs.UnitEmission.{EmittedUnit, emitted_range, text_offset, with_name, with_unit_entry}
+use Rattle.linemap_emit_units.specs.UnitEmission.{EmittedUnit, text_offset, with_name, with_unit_entry}
 use Rattle.linemap_emit_laws.specs.RecordedTables.{HasTextAt, RecordsUnit, RecordsUnits, RecordsTable}
 use Rattle.linemap_emit_units.specs.EmittedSections.{HoldTable}
 use Rattle.linemap_emit_units.specs.TableEmission.{EmittedTable, no_units, before_entries, after_entries, with_emitted_unit, with_emitted_units, emitted_table}
@@ -25,6 +24,8 @@ use Rattle.linemap_emit_laws.proofs.EmissionGrowth.{TextsStay, texts_stay_on, Gr
 use Rattle.linemap_emit_laws.proofs.EmittedStringLemmas.{text_stays, all_hold, text_is}
 use Rattle.linemap_emit_laws.proofs.EmittedListLemmas.{list_is}
 use Rattle.linemap_emit_laws.proofs.EmittedProgramLemmas.{length_fits, below_limit, program_read, program_is, rows_shown, served_size, lines_are}
+use Rattle.linemap_emit_units.specs.BytesAt.{bytes_at}
+use Rattle.linemap_emit_units.specs.LookupAgreement.{lookup_range}
 
 -- what fits below 2^31 fits below a limit that isn't less
 root_fits : (limit : ℕ) (e : Encoding) (name directory line_program range_list : ℕ) → 2 ^ 31 ≤ limit
@@ -42,36 +43,36 @@ root_fits limit e name directory line_program range_list wide fit = (
 )
 
 -- a unit, where what was emitted after it stands after
-unit_recorded : (limit : ℕ) (e : Encoding) (is_big : Bool) (u : UnitPart) (st final : EmittedTable) (s : Sections)
-    → IsServed e → 2 ^ 31 ≤ limit → IsInUtf8 u → UnitFits e is_big u st → HoldTable e is_big final s
+unit_recorded : (e : Encoding) (is_big : Bool) (u : UnitPart) (st final : EmittedTable) (s : DwarfFile)
+    → IsServed e → 2 ^ 31 ≤ s.offset_limit → IsInUtf8 u → UnitFits e is_big u st → HoldTable e is_big final s
     → All HasNoZero final.texts → Extends (with_emitted_unit e is_big u st) final
-    → RecordsUnit limit e s u (after_entries e is_big u st).entries
-unit_recorded limit e is_big u st final s served wide utf8 fit hold no_zeros extends = record {
+    → RecordsUnit e s u (after_entries e is_big u st).entries
+unit_recorded e is_big u st final s served wide utf8 fit hold no_zeros extends = record {
   name = name;
   directory = directory;
   line_program = length st.lines;
   range_list = length st.ranges;
   others = grown.more_entries;
   entries_are = grown.entries;
-  fit = root_fits limit e name directory (length st.lines) (length st.ranges) wide
+  fit = root_fits s.offset_limit e name directory (length st.lines) (length st.ranges) wide
       (All-head (λ x. AllFit (2 ^ 31) e (attributes_of x)) x grown.more_entries
       (subst (All (λ x. AllFit (2 ^ 31) e (attributes_of x))) grown.entries fit.entries_fit));
   is_name = name_there;
   is_directory = directory_there;
   ranges_are =
-      λ b encoding low. list_is limit e is_big hold.ranges_first s b st.ranges
+      λ b encoding low. list_is e is_big hold.ranges_first s b st.ranges
       (grown.more_ranges ++ extends.more_ranges) u.ranges served.not_after_4 (served_size e served) fit.can_emit.1.1
       (hold.ranges_is ∙ ap (bytes_at is_big hold.ranges_first) ranges_final) encoding low;
   header =
       program_read e is_big (length st.lines) hold.line_first u fit.instructions directory_there.found name_there.found;
   header_is =
-      program_is limit e is_big hold.line_first u st s st.lines extends.more_lines directory_there.found
+      program_is e is_big hold.line_first u st s st.lines extends.more_lines directory_there.found
       name_there.found served wide fit (hold.line_is ∙ ap (bytes_at is_big hold.line_first) extends.lines);
   number = λ i. i + 1;
   rows = rows_shown e u;
   files = emitted_file_texts u;
   lines_are =
-      λ facts within. lines_are limit e is_big (length st.lines) hold.line_first u st s facts directory_there.found
+      λ facts within. lines_are e is_big (length st.lines) hold.line_first u st s facts directory_there.found
       name_there.found served wide utf8 fit directory_there.bytes name_there.bytes within;
   rows_agree =
       sequences_shown (emitted_rules e) u.sequences (le-leb e.version 4 served.not_after_4)
@@ -112,26 +113,26 @@ unit_recorded limit e is_big u st final s served wide utf8 fit hold no_zeros ext
         no_zeros root_stays
 
     ranges_final : final.ranges
-        ≡ (st.ranges ++ spelled_ranges e is_big (map emitted_range u.ranges))
+        ≡ (st.ranges ++ spelled_ranges e is_big (map lookup_range u.ranges))
         ++ (grown.more_ranges ++ extends.more_ranges)
     ranges_final = extends.ranges ∙ ap (λ (l : List ℕ). l ++ extends.more_ranges) grown.ranges
         ∙ append_assoc root.ranges.bytes grown.more_ranges extends.more_ranges
 
 -- units one after the other
-units_recorded : (limit : ℕ) (e : Encoding) (is_big : Bool) (us : List UnitPart) (st final : EmittedTable)
-    (s : Sections) → IsServed e → 2 ^ 31 ≤ limit → AllInUtf8 us → AllUnitsFit e is_big us st
+units_recorded : (e : Encoding) (is_big : Bool) (us : List UnitPart) (st final : EmittedTable)
+    (s : DwarfFile) → IsServed e → 2 ^ 31 ≤ s.offset_limit → AllInUtf8 us → AllUnitsFit e is_big us st
     → HoldTable e is_big final s → All HasNoZero final.texts → Extends (with_emitted_units e is_big us st) final
-    → RecordsUnits limit e s us (entries_of_all e is_big us st)
+    → RecordsUnits e s us (entries_of_all e is_big us st)
 unfolding with_emitted_units entries_of_all AllUnitsFit AllInUtf8
-units_recorded limit e is_big [] st final s served wide utf8 fit hold no_zeros extends = tt
-units_recorded limit e is_big (u ∷ us) st final s served wide utf8 fit hold no_zeros extends =
+units_recorded e is_big [] st final s served wide utf8 fit hold no_zeros extends = tt
+units_recorded e is_big (u ∷ us) st final s served wide utf8 fit hold no_zeros extends =
     let next = with_emitted_unit e is_big u st in (
-      unit_recorded limit e is_big u st final s served wide utf8.0 fit.0 hold no_zeros
+      unit_recorded e is_big u st final s served wide utf8.0 fit.0 hold no_zeros
           (extends_on next (with_emitted_units e is_big us next) final (all_extend e is_big us next) extends),
-      units_recorded limit e is_big us next final s served wide utf8.1 fit.1 hold no_zeros extends,
+      units_recorded e is_big us next final s served wide utf8.1 fit.1 hold no_zeros extends,
     )
 
--- their lengths can be told
+-- their lengths can be written
 all_small : (limit : ℕ) (e : Encoding) (is_big : Bool) (us : List UnitPart) (st : EmittedTable) → 2 ^ 31 ≤ limit
     → AllUnitsFit e is_big us st → AllSmall limit e is_big (entries_of_all e is_big us st)
 unfolding entries_of_all AllUnitsFit
@@ -142,11 +143,11 @@ all_small limit e is_big (u ∷ us) st wide fit = (
 )
 
 -- what was emitted of a table
-pub emission_recorded : (limit : ℕ) (e : Encoding) (is_big : Bool) (us : List UnitPart) (s : Sections) → IsServed e
-    → 2 ^ 31 ≤ limit → AllInUtf8 us → AllUnitsFit e is_big us no_units
+pub emission_recorded : (e : Encoding) (is_big : Bool) (us : List UnitPart) (s : DwarfFile) → IsServed e
+    → 2 ^ 31 ≤ s.offset_limit → AllInUtf8 us → AllUnitsFit e is_big us no_units
     → HoldTable e is_big (emitted_table e is_big us) s
-    → RecordsTable limit e is_big s us (emitted_table e is_big us).units
-emission_recorded limit e is_big us s served wide utf8 fit hold =
+    → RecordsTable e is_big s us (emitted_table e is_big us).units
+emission_recorded e is_big us s served wide utf8 fit hold =
     let final = emitted_table e is_big us in
     let whole = units_are e is_big us no_units in
     let no_zeros = all_hold e is_big us no_units fit (All-nil HasNoZero) in
@@ -157,7 +158,9 @@ emission_recorded limit e is_big us s served wide utf8 fit hold =
         not_after_5 = omega arith;
         has_address_size = served_size e served;
       };
-      units_are_small = subst (AllSmall limit e is_big) (sym whole) (all_small limit e is_big us no_units wide fit);
+      units_are_small =
+          subst (AllSmall s.offset_limit e is_big) (sym whole)
+          (all_small s.offset_limit e is_big us no_units wide fit);
       abbrev_first = hold.abbrev_first;
       declarations_are = hold.abbrev_is;
       info_first = hold.info_first;
@@ -165,7 +168,7 @@ emission_recorded limit e is_big us s served wide utf8 fit hold =
       no_aranges = hold.no_aranges;
       is_main = hold.is_main;
       is_alone = hold.is_alone;
-      units_are_recorded = subst (RecordsUnits limit e s us) (sym whole)
-          (units_recorded limit e is_big us no_units final s served wide utf8 fit hold no_zeros
+      units_are_recorded = subst (RecordsUnits e s us) (sym whole)
+          (units_recorded e is_big us no_units final s served wide utf8 fit hold no_zeros
           (extends_by_nothing final));
     }

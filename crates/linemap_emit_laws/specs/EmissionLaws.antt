@@ -1,7 +1,7 @@
--- Sections that hold what is emitted of a table say what it says, and are read as what it means.
-use Rattle.std.specs.Prelude.{ℕ, ◌≤◌, ◌^◌, Bool, List}
+-- Files that hold what is emitted of a table say what it says, and are read as what it means.
+use Rattle.std.specs.Prelude.{◌≤◌, ◌^◌, Bool, List}
 use Rattle.linemap_emit_units.specs.Encoding.{Encoding}
-use Rattle.linemap_emit_units.specs.DwarfSections.{Sections}
+use Rattle.linemap_emit_units.specs.DwarfFiles.{DwarfFile}
 use Rattle.linemap_emit_units.specs.Conditions.{IsSound}
 use Rattle.linemap_emit_units.specs.TableParts.{UnitPart}
 use Rattle.linemap_emit_laws.specs.RecordedTables.{RecordsTable}
@@ -10,18 +10,19 @@ use Rattle.linemap_emit_units.specs.TableEmission.{no_units, emitted_table}
 use Rattle.linemap_emit_units.specs.EmittedSections.{HoldTable}
 use Rattle.linemap_emit_units.specs.FittingUnits.{IsServed, AllUnitsFit, AllInUtf8}
 
--- Sections that hold what was emitted say what the table says.
+-- Files that hold what was emitted say what the table says.
 abbrev pub EmissionRecords : Type 0
 EmissionRecords =
-    (limit : ℕ) (e : Encoding) (is_big : Bool) (us : List UnitPart) (s : Sections)
-    → IsServed e → 2 ^ 31 ≤ limit → AllInUtf8 us → AllUnitsFit e is_big us no_units
+    (e : Encoding) (is_big : Bool) (us : List UnitPart) (s : DwarfFile)
+    → IsServed e → 2 ^ 31 ≤ s.offset_limit → AllInUtf8 us → AllUnitsFit e is_big us no_units
     → HoldTable e is_big (emitted_table e is_big us) s
-    → RecordsTable limit e is_big s us (emitted_table e is_big us).units
+    → RecordsTable e is_big s us (emitted_table e is_big us).units
 
 -- Where the table is sound, there is a context over them, and it answers the table's places.
 abbrev pub EmissionAnswers : Type 0
 EmissionAnswers =
-    (limit : ℕ) (e : Encoding) (is_big : Bool) (us : List UnitPart) (s : Sections)
-    → IsSound us → IsServed e → 2 ^ 31 ≤ limit → AllInUtf8 us → AllUnitsFit e is_big us no_units
+    (e : Encoding) (is_big : Bool) (us : List UnitPart) (s : DwarfFile)
+    → IsSound us → IsServed e → 2 ^ 31 ≤ s.offset_limit → AllInUtf8 us
+    → AllUnitsFit e is_big us no_units
     → HoldTable e is_big (emitted_table e is_big us) s
-    → AnswersTable limit s us
+    → AnswersTable s us

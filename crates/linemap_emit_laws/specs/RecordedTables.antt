@@ -1,4 +1,4 @@
--- Sections that say what a table says.
+-- Files that say what a table says.
 use Rattle.std.specs.Prelude.{◌≡◌, ℕ, Bool, List, [], ◌∷◌, map, Some, Ok}
 use Rattle.linemap_emit_units.specs.View.{View, bytes_left}
 use Rattle.linemap_emit_units.specs.DwarfFileType.TheVariants.{Main}
@@ -7,8 +7,8 @@ use Rattle.linemap_emit_units.specs.SectionReads.{string_at}
 use Rattle.linemap_emit_units.specs.LineHeaders.{LineHeader}
 use Rattle.linemap_emit_units.specs.HeaderParsing.{header_at}
 use Rattle.linemap_emit_units.specs.Attributes.{Bases, ranges_of_list}
-use Rattle.linemap_emit_units.specs.DwarfSections.{Sections}
-use Rattle.linemap_emit_units.specs.UnitFacts.{UnitFacts}
+use Rattle.linemap_emit_units.specs.DwarfFiles.{DwarfFile}
+use Rattle.linemap_emit_units.specs.UnitFacts.{UnitFacts, in_file}
 use Rattle.linemap_emit_units.specs.Lines.{ProgramRow, sequences_of_rows}
 use Rattle.linemap_emit_units.specs.UnitLines.{lines_of_program}
 use Rattle.linemap_emit_units.specs.TableParts.{UnitPart}
@@ -16,18 +16,18 @@ use Rattle.linemap_emit_units.specs.Entry.{Entry}
 use Rattle.linemap_emit_units.specs.Entry.TheVariants.{CompileUnit}
 use Rattle.linemap_emit_units.specs.EmittedEntries.{AllFit, attributes_of, spelled_declarations}
 use Rattle.linemap_emit_units.specs.EmittedUnits.{IsWritten, AllSmall, spelled_units}
-use Rattle.linemap_emit_units.specs.EmittedEntryLaws.{bytes_at}
 use Rattle.linemap_emit_units.specs.LookupAgreement.{lookup_range, RowsAgree, AreNumbered}
+use Rattle.linemap_emit_units.specs.BytesAt.{bytes_at}
 
 -- a text is at an offset of the string section
-pub record HasTextAt (s : Sections) (offset : ℕ) (text : List ℕ) : Type 0 where
+pub record HasTextAt (s : DwarfFile) (offset : ℕ) (text : List ℕ) : Type 0 where
   pub found : View
-  pub there : string_at offset s.file.debug_str ≡ Ok found
+  pub there : string_at offset s.sections.debug_str ≡ Ok found
   pub bytes : found.bytes ≡ text
 
 -- The entries of a unit, and what its root refers to, say what a table's unit says: its name and
 -- directory, its ranges, and a line number program that shows its rows and names its files.
-pub record RecordsUnit (limit : ℕ) (e : Encoding) (s : Sections) (u : UnitPart)
+pub record RecordsUnit (e : Encoding) (s : DwarfFile) (u : UnitPart)
     (entries : List Entry) : Type 0 where
   pub name : ℕ
   pub directory : ℕ
@@ -35,45 +35,48 @@ pub record RecordsUnit (limit : ℕ) (e : Encoding) (s : Sections) (u : UnitPart
   pub range_list : ℕ
   pub others : List Entry
   pub entries_are : entries ≡ (CompileUnit name directory line_program range_list ∷ others)
-  pub fit : AllFit limit e (attributes_of (CompileUnit name directory line_program range_list))
+  pub fit : AllFit s.offset_limit e
+      (attributes_of (CompileUnit name directory line_program range_list))
   pub is_name : HasTextAt s name u.name
   pub is_directory : HasTextAt s directory u.directory
   pub ranges_are : (b : Bases) → b.encoding ≡ e → b.low_pc ≡ 0
-      → ranges_of_list limit s b range_list ≡ Ok (map (λ r. Ok (lookup_range r)) u.ranges)
+      → ranges_of_list s b range_list ≡ Ok (map (λ r. Ok (lookup_range r)) u.ranges)
   pub header : LineHeader
-  pub header_is : header_at limit line_program
+  pub header_is : header_at s.offset_limit line_program
       (record {
         address_bytes = e.address_size;
         directory = Some is_directory.found;
         name = Some is_name.found;
-      }) s.file.debug_line ≡ Ok header
+      }) s.sections.debug_line ≡ Ok header
   pub number : ℕ → ℕ
   pub rows : List ProgramRow
   pub files : List (List ℕ)
   pub lines_are : (facts : UnitFacts) → facts.comp_dir ≡ Some is_directory.found
-      → lines_of_program limit s facts header
+      → lines_of_program (in_file s facts) header
       ≡ Ok (record { sequences = sequences_of_rows rows; files = files })
   pub rows_agree : RowsAgree number u.sequences rows
   pub files_numbered : AreNumbered number u files
 
 -- units one by one
-abbrev pub RecordsUnits : ℕ → Encoding → Sections → List UnitPart → List (List Entry) → Type 0
-RecordsUnits limit e s [] [] = Unit {0}
-RecordsUnits limit e s [] (x ∷ xs) = ⊥
-RecordsUnits limit e s (u ∷ us) [] = ⊥
-RecordsUnits limit e s (u ∷ us) (x ∷ xs) = RecordsUnit limit e s u x × RecordsUnits limit e s us xs
+abbrev pub RecordsUnits : Encoding → DwarfFile → List UnitPart → List (List Entry) → Type 0
+RecordsUnits e s [] [] = Unit {0}
+RecordsUnits e s [] (x ∷ xs) = ⊥
+RecordsUnits e s (u ∷ us) [] = ⊥
+RecordsUnits e s (u ∷ us) (x ∷ xs) = RecordsUnit e s u x × RecordsUnits e s us xs
 
 -- The sections of a main file without supplement that say what a table says: declarations, units
 -- one after the other, no address ranges.
-pub record RecordsTable (limit : ℕ) (e : Encoding) (is_big : Bool) (s : Sections)
+pub record RecordsTable (e : Encoding) (is_big : Bool) (s : DwarfFile)
     (us : List UnitPart) (entries : List (List Entry)) : Type 0 where
   pub encoding_is_written : IsWritten e
-  pub units_are_small : AllSmall limit e is_big entries
+  pub units_are_small : AllSmall s.offset_limit e is_big entries
   pub abbrev_first : ℕ
-  pub declarations_are : s.file.debug_abbrev ≡ bytes_at is_big abbrev_first (spelled_declarations e)
+  pub declarations_are : s.sections.debug_abbrev
+      ≡ bytes_at is_big abbrev_first (spelled_declarations e)
   pub info_first : ℕ
-  pub units_are : s.file.debug_info ≡ bytes_at is_big info_first (spelled_units e is_big entries)
-  pub no_aranges : bytes_left s.file.debug_aranges ≡ 0
-  pub is_main : s.file.file_type ≡ Main
+  pub units_are : s.sections.debug_info
+      ≡ bytes_at is_big info_first (spelled_units e is_big entries)
+  pub no_aranges : bytes_left s.sections.debug_aranges ≡ 0
+  pub is_main : s.sections.file_type ≡ Main
   pub is_alone : s.supplements ≡ []
-  pub units_are_recorded : RecordsUnits limit e s us entries
+  pub units_are_recorded : RecordsUnits e s us entries

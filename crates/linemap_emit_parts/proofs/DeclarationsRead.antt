@@ -9,7 +9,7 @@ use Rattle.gimli_lines_write_bytes.specs.NumberParsers.{fixed, unsigned, unsigne
 use Rattle.gimli_lines_write_bytes.specs.Spelling.{unsigned_within}
 use Rattle.gimli_lines_header.specs.TableParsing.{table_at, table, declaration, coded_declaration, declaration_of, children, attributes, attribute, attribute_of, implicit_const}
 use Rattle.linemap_emit_parts.specs.EmittedEntries.{declarations, spelled_declarations}
-use Rattle.linemap_emit_parts.proofs.FollowedReads.{bytes_at}
+use Rattle.gimli_lines_write_bytes.specs.BytesAt.{bytes_at}
 
 abbrev encoding_of : ℕ → ℕ → Format → Encoding
 encoding_of size version format = record { address_size = size; format = format; version = version }

@@ -1,12 +1,11 @@
 -- The header of a line number program is read again, up to version 4.
-use Rattle.std.proofs.Common.{◌≡◌, ℕ, ◌+◌, ◌<◌, ◌≤◌, ◌^◌, Bool, true, false, List, [], ◌∷◌, ◌++◌, length, Option, option_map, Result, Ok, refl, sym, ap, subst, ◌∙◌, arith, append-nil}
+use Rattle.std.proofs.Common.{All, ◌≡◌, ℕ, ◌+◌, ◌<◌, ◌≤◌, ◌^◌, Bool, true, false, List, [], ◌∷◌, ◌++◌, length, Option, option_map, Result, Ok, refl, sym, ap, ◌∙◌, arith, append-nil}
 use Rattle.std.specs.Prelude.{nat_le, flat_map, negsuc}
 use Rattle.std.specs.Int.{w8}
 use Rattle.std.proofs.lemmas.Bool.{le-leb, leb-true}
 use Rattle.gimli_lines_write_bytes.specs.Error.{Error}
 use Rattle.gimli_lines_write_bytes.specs.View.{View}
 use Rattle.gimli_lines_write_bytes.specs.Parsers.{proceed, give, lift, within, value_of, part, here, ◌>>=◌}
-use Rattle.gimli_lines_write_bytes.proofs.PrefixReads.{part_again}
 use Rattle.gimli_lines_write_bytes.specs.Encoding.{Encoding}
 use Rattle.gimli_lines_write_bytes.specs.Format.{Format}
 use Rattle.gimli_lines_write_bytes.specs.FormatSizes.{word_size}
@@ -19,17 +18,11 @@ use Rattle.gimli_lines_header.specs.LineHeaders.{LineHeader}
 use Rattle.gimli_lines_header.specs.HeaderTables.{directories, files, directory_text, directory_texts, file_text, file_texts}
 use Rattle.gimli_lines_header.specs.HeaderParsing.{LineUnit, line_sizes, operations, operations_of_4, line_parameters, opcodes, header_fields, header_in, line_header, Bounds}
 use Rattle.gimli_lines_header.proofs.TextSizes.{directory_text-shrinks, file_text-shrinks}
-use Rattle.linemap_emit_parts.proofs.FollowedReads.{Again, bytes_at, again_nothing, again_onward, again_then, again_same, again_fixed, one_byte, offset_is_below}
-use Rattle.linemap_emit_parts.proofs.UnitsRead.{length_again}
-use Rattle.linemap_emit_parts.specs.EmittedUnits.{spelled_length, length_limit}
-use Rattle.linemap_emit_parts.specs.EmittedHeaders.{EmittedFile, operand_counts, spelled_text, spelled_file, spelled_parameters, spelled_opcodes, spelled_header, spelled_program_body, spelled_program, IsTableText, AllTableTexts, AllFiles, directories_read, files_read, tables_at, files_at, header_read}
-use Rattle.linemap_emit_parts.proofs.HeaderTextsRead.{directory_again, end_again, file_again, file_end_again, all_again, values, AllGood}
-
--- so many bytes
-part_is : (is_big : Bool) (first : ℕ) (xs : List ℕ)
-    → Again is_big first (part (length xs)) (bytes_at is_big first xs) xs
-part_is is_big first xs =
-    record { again = λ rest. part_again (bytes_at is_big first (xs ++ rest)) xs rest (length xs) refl refl }
+use Rattle.gimli_lines_write_bytes.proofs.FollowedReads.{Again, again_nothing, again_onward, again_then, again_same, again_fixed, one_byte, offset_is_below, part_is, all_again, length_again}
+use Rattle.linemap_emit_parts.specs.EmittedHeaders.{EmittedFile, operand_counts, spelled_text, spelled_file, spelled_parameters, spelled_opcodes, spelled_header, spelled_program_body, spelled_program, IsTableText, IsTableFile, directories_read, files_read, tables_at, files_at, header_read}
+use Rattle.linemap_emit_parts.proofs.HeaderTextsRead.{directory_again, end_again, file_again, file_end_again}
+use Rattle.gimli_lines_write_bytes.specs.BytesAt.{bytes_at}
+use Rattle.gimli_lines_write_bytes.specs.NumberBytes.{spelled_length, length_limit}
 
 -- ---- parameters
 
@@ -66,73 +59,37 @@ opcodes_again is_big first =
 
 -- ---- tables
 
-directories_are : (is_big : Bool) (first : ℕ) (ts : List (List ℕ))
-    → values directory_text directory_text-shrinks is_big spelled_text (λ n t. string (bytes_at is_big n t)) IsTableText
-    first ts ≡ directories_read is_big first ts
-unfolding values
-directories_are is_big first [] = refl
-directories_are is_big first (t ∷ ts) =
-    ap (λ l. string (bytes_at is_big first t) ∷ l) (directories_are is_big (first + length (spelled_text t)) ts)
-
-directories_good : (is_big : Bool) (ts : List (List ℕ)) → AllTableTexts ts
-    → AllGood directory_text directory_text-shrinks is_big spelled_text (λ n t. string (bytes_at is_big n t))
-    IsTableText ts
-unfolding AllGood
-directories_good is_big [] good = tt
-directories_good is_big (t ∷ ts) good = (good.0, directories_good is_big ts good.1)
-
 abbrev file_value : Bool → ℕ → EmittedFile → FileFacts
 file_value is_big n f = file_in (bytes_at is_big n f.name) f.directory 0 0
 
-abbrev CanStand : EmittedFile → Type 0
-CanStand f = IsTableText f.name × (f.directory < 2 ^ 64)
-
-files_are : (is_big : Bool) (first : ℕ) (fs : List EmittedFile)
-    → values file_text file_text-shrinks is_big spelled_file (file_value is_big) CanStand first fs
-    ≡ files_read is_big first fs
-unfolding values
-files_are is_big first [] = refl
-files_are is_big first (f ∷ fs) =
-    ap (λ l. file_value is_big first f ∷ l) (files_are is_big (first + length (spelled_file f)) fs)
-
-files_good : (is_big : Bool) (fs : List EmittedFile) → AllFiles fs
-    → AllGood file_text file_text-shrinks is_big spelled_file (file_value is_big) CanStand fs
-unfolding AllGood
-files_good is_big [] good = tt
-files_good is_big (f ∷ fs) good = (good.0, files_good is_big fs good.1)
-
 directories_again : (limit : ℕ) (e : Encoding) (is_big : Bool) (first : ℕ) (ts : List (List ℕ))
-    → nat_le e.version 4 ≡ true → AllTableTexts ts
+    → nat_le e.version 4 ≡ true → All IsTableText ts
     → Again is_big first (directories limit e) ([], directories_read is_big first ts)
     (flat_map spelled_text ts ++ 0 ∷ [])
 unfolding directories directory_texts
 directories_again limit e is_big first ts old good =
     again_same (λ v. rw old refl)
     (again_then (λ texts. give ([], texts))
-    (subst (λ l. Again is_big first directory_texts l (flat_map spelled_text ts ++ 0 ∷ []))
-    (directories_are is_big first ts)
     (all_again directory_text directory_text-shrinks is_big spelled_text (λ n t. string (bytes_at is_big n t))
-    IsTableText first ts (0 ∷ []) (λ n t is. directory_again is_big n t is) (λ n. end_again is_big n)
-    (directories_good is_big ts good)))
+    IsTableText first ts (0 ∷ []) (λ n t is. directory_again is_big n t is) (λ n. end_again is_big n) good)
     (λ v. refl))
 
 files_again : (limit : ℕ) (e : Encoding) (is_big : Bool) (first : ℕ) (fs : List EmittedFile) → nat_le e.version 4 ≡ true
-    → AllFiles fs
+    → All IsTableFile fs
     → Again is_big first (files limit e) ([], files_read is_big first fs) (flat_map spelled_file fs ++ 0 ∷ [])
 unfolding files file_texts
 files_again limit e is_big first fs old good =
     again_same (λ v. rw old refl)
     (again_then (λ texts. give ([], texts))
-    (subst (λ l. Again is_big first file_texts l (flat_map spelled_file fs ++ 0 ∷ [])) (files_are is_big first fs)
-    (all_again file_text file_text-shrinks is_big spelled_file (file_value is_big) CanStand first fs (0 ∷ [])
-    (λ n f is. file_again is_big n f is.0 is.1) (λ n. file_end_again is_big n) (files_good is_big fs good)))
+    (all_again file_text file_text-shrinks is_big spelled_file (file_value is_big) IsTableFile first fs (0 ∷ [])
+    (λ n f is. file_again is_big n f is.0 is.1) (λ n. file_end_again is_big n) good)
     (λ v. refl))
 
 -- ---- the fields
 
 fields_again : (limit : ℕ) (e : Encoding) (is_big : Bool) (first : ℕ) (directory name : Option View) (b : Bounds)
-    (ts : List (List ℕ)) (fs : List EmittedFile) → b.encoding ≡ e → nat_le e.version 4 ≡ true → AllTableTexts ts
-    → AllFiles fs
+    (ts : List (List ℕ)) (fs : List EmittedFile) → b.encoding ≡ e → nat_le e.version 4 ≡ true → All IsTableText ts
+    → All IsTableFile fs
     → Again is_big first (header_fields limit directory name b) (record {
       offset = b.offset;
       unit_length = b.unit_length;
@@ -168,11 +125,11 @@ fields_again limit e is_big first directory name b ts fs same old good_ts good_f
 sizes_again : (is_big : Bool) (first : ℕ) (e : Encoding) (bytes : ℕ) → 2 ≤ e.version → nat_le e.version 4 ≡ true
     → bytes ≡ e.address_size → Again is_big first (line_sizes e.format bytes) e (number_bytes is_big 2 e.version)
 unfolding line_sizes
-sizes_again is_big first e bytes low old sized =
+sizes_again is_big first e bytes low old is_size =
     let two : e.version < 256 ^ 2 = (let four = leb-true e.version 4 old in omega arith) in
     again_then _ (again_fixed is_big first 2 e.version two)
     (λ v. rw (le-leb 2 e.version low, old)
-    (ap (λ n. Ok (record { address_size = n; format = e.format; version = e.version }, v)) sized))
+    (ap (λ n. Ok (record { address_size = n; format = e.format; version = e.version }, v)) is_size))
 
 word_again : (limit : ℕ) (is_big : Bool) (first : ℕ) (format : Format) (n : ℕ) → n < 256 ^ word_size format → n < limit
     → Again is_big first (word limit format) n (number_bytes is_big (word_size format) n)
@@ -192,12 +149,12 @@ in_again : (limit offset : ℕ) (e : Encoding) (is_big : Bool) (first : ℕ) (un
     (fs : List EmittedFile) (program : List ℕ) → 2 ≤ e.version → nat_le e.version 4 ≡ true
     → unit.address_bytes ≡ e.address_size
     → length (spelled_header e.version ts fs) < 256 ^ word_size e.format
-    → length (spelled_header e.version ts fs) < limit → AllTableTexts ts → AllFiles fs
+    → length (spelled_header e.version ts fs) < limit → All IsTableText ts → All IsTableFile fs
     → value_of (header_in limit offset unit (length (spelled_program_body e is_big ts fs program)) e.format
     (bytes_at is_big first (spelled_program_body e is_big ts fs program)))
     ≡ Ok (header_read e is_big offset (fields_at e is_big first ts fs) unit ts fs program)
 unfolding header_in
-in_again limit offset e is_big first unit ts fs program low old sized fits small good_ts good_fs =
+in_again limit offset e is_big first unit ts fs program low old is_size fits small good_ts good_fs =
     let header = spelled_header e.version ts fs in
     let size = length header in
     let length_of = number_bytes is_big (word_size e.format) size in
@@ -224,7 +181,7 @@ in_again limit offset e is_big first unit ts fs program low old sized fits small
       header_length = n;
       program = p;
     })))))))
-    ((sizes_again is_big first e unit.address_bytes low old sized).again (length_of ++ (header ++ program)))
+    ((sizes_again is_big first e unit.address_bytes low old is_size).again (length_of ++ (header ++ program)))
     ∙ ap (λ (r : Result (ℕ × View) Error). value_of
     (proceed r (λ n. part n >>= λ h.
     (here >>= λ p. within h
@@ -262,14 +219,14 @@ pub header_again : (limit offset : ℕ) (e : Encoding) (is_big : Bool) (first : 
     → length (spelled_program_body e is_big ts fs program) < length_limit e.format
     → length (spelled_program_body e is_big ts fs program) < limit
     → length (spelled_header e.version ts fs) < 256 ^ word_size e.format
-    → length (spelled_header e.version ts fs) < limit → AllTableTexts ts → AllFiles fs
+    → length (spelled_header e.version ts fs) < limit → All IsTableText ts → All IsTableFile fs
     → Again is_big first (line_header limit offset unit)
     (header_read e is_big offset
     (fields_at e is_big
     (first + length (spelled_length e.format is_big (length (spelled_program_body e is_big ts fs program)))) ts fs)
     unit ts fs program) (spelled_program e is_big ts fs program)
 unfolding line_header
-header_again limit offset e is_big first unit ts fs program low old sized told whole fits small good_ts good_fs =
+header_again limit offset e is_big first unit ts fs program low old is_size told whole fits small good_ts good_fs =
     let n = length (spelled_program_body e is_big ts fs program) in
     let at = first + length (spelled_length e.format is_big n) in
     again_onward (λ l. part l.0 >>= λ bytes. within bytes (header_in limit offset unit l.0 l.1))
@@ -277,4 +234,4 @@ header_again limit offset e is_big first unit ts fs program low old sized told w
     (again_then (λ bytes. within bytes (header_in limit offset unit n e.format))
     (part_is is_big at (spelled_program_body e is_big ts fs program))
     (λ v. ap (λ (r : Result LineHeader Error). lift r v)
-    (in_again limit offset e is_big at unit ts fs program low old sized fits small good_ts good_fs)))
+    (in_again limit offset e is_big at unit ts fs program low old is_size fits small good_ts good_fs)))

@@ -14,15 +14,16 @@ use Rattle.gimli_lines_write_bytes.specs.Fixed.{number_bytes}
 use Rattle.gimli_lines_write_bytes.proofs.NumberRoundTrip.{length-spelled}
 use Rattle.gimli_units_lists.specs.Addresses.{least_tombstone, greatest_address, wrap}
 use Rattle.gimli_units_lists.specs.Range.{Range}
-use Rattle.gimli_lines_header.proofs.ArangeSetLemmas.{some_size}
+use Rattle.gimli_units_lists.proofs.ByteCountLemmas.{some_size}
 use Rattle.gimli_units_lists.specs.ListEntries.{RawEntry, address_or_offset_pair, start_end, valid_range, relative_range, range_of, base_in, Setting}
 use Rattle.gimli_units_lists.specs.ListEntryFields.{addresses}
-use Rattle.gimli_units_lists.specs.RangeEntries.{RawRangesLeft, range_entry, range_pair, range_kind}
-use Rattle.gimli_units_lists.specs.ListSections.{RangesLeft, ranges_to_come, from_low_pc}
+use Rattle.gimli_units_lists.specs.RangeEntries.{RemainingRawRanges, range_entry, range_pair, range_kind}
+use Rattle.gimli_units_lists.specs.ListSections.{RemainingRanges, ranges_to_come, from_low_pc}
 use Rattle.gimli_units_lists.proofs.RawRanges.{raw_item, raw_end}
 use Rattle.gimli_units_lists.proofs.RangeSteps.{range_step, range_end}
-use Rattle.linemap_emit_parts.proofs.FollowedReads.{Again, bytes_at, again_fixed, again_onward, again_then, again_same, one_byte}
+use Rattle.gimli_lines_write_bytes.proofs.FollowedReads.{Again, again_fixed, again_onward, again_then, again_same, one_byte}
 use Rattle.linemap_emit_parts.specs.EmittedRanges.{spelled_pair, spelled_range, spelled_end, spelled_ranges, IsWritable, AllWritable}
+use Rattle.gimli_lines_write_bytes.specs.BytesAt.{bytes_at}
 
 -- bytes and bits
 pub bytes_bits : (n : ℕ) → 256 ^ n ≡ 2 ^ (8 * n)
@@ -34,16 +35,16 @@ bytes_bits (suc n) =
 address_again : (is_big : Bool) (first size a : ℕ) → is_address_size size ≡ true → a < 2 ^ (8 * size)
     → Again is_big first (address size) a (number_bytes is_big size a)
 unfolding address
-address_again is_big first size a sized h =
-    again_same (λ v. rw sized refl) (again_fixed is_big first size a (rw (bytes_bits size) h))
+address_again is_big first size a is_size h =
+    again_same (λ v. rw is_size refl) (again_fixed is_big first size a (rw (bytes_bits size) h))
 
 pair_again : (is_big : Bool) (first size begin end : ℕ) → is_address_size size ≡ true → begin < 2 ^ (8 * size)
     → end < 2 ^ (8 * size) → Again is_big first (addresses size) (begin, end) (spelled_pair size is_big begin end)
 unfolding addresses
-pair_again is_big first size begin end sized h k =
-    again_onward (λ x. address size >>= λ y. give (x, y)) (address_again is_big first size begin sized h)
+pair_again is_big first size begin end is_size h k =
+    again_onward (λ x. address size >>= λ y. give (x, y)) (address_again is_big first size begin is_size h)
     (again_then (λ y. give (begin, y))
-    (address_again is_big (first + length (number_bytes is_big size begin)) size end sized k) (λ v. refl))
+    (address_again is_big (first + length (number_bytes is_big size begin)) size end is_size k) (λ v. refl))
 
 -- what a range is read as
 abbrev entry_for : Encoding → Range → RawEntry
@@ -56,7 +57,7 @@ range_again : (limit : ℕ) (e : Encoding) (is_big : Bool) (first : ℕ) (r : Ra
     → IsWritable e.address_size r
     → Again is_big first (range_entry limit e) (Some (entry_for e r)) (spelled_range e is_big r)
 unfolding range_entry range_pair range_kind
-range_again limit e is_big first r sized w = by_version (nat_le e.version 4) refl
+range_again limit e is_big first r is_size w = by_version (nat_le e.version 4) refl
   where
     by_version : (b : Bool) → nat_le e.version 4 ≡ b
         → Again is_big first (range_entry limit e) (Some (entry_for e r)) (spelled_range e is_big r)
@@ -66,29 +67,29 @@ range_again limit e is_big first r sized w = by_version (nat_le e.version 4) ref
         let not_0 = ne_eqb r.begin 0 (omega arith) in
         let not_ones = ne_eqb r.begin (greatest_address e.address_size) (omega arith) in
         rw earlier (again_then _
-        (pair_again is_big first e.address_size r.begin r.end sized (begin_fits e.address_size r w) w.ends_low)
+        (pair_again is_big first e.address_size r.begin r.end is_size (begin_fits e.address_size r w) w.ends_low)
         (λ v. rw (not_0, not_ones) refl))
     by_version false later =
         rw later (again_onward _ (one_byte is_big first 6 (omega arith))
         (again_same (λ v. refl)
         (again_then (λ p. give (Some (start_end p.0 p.1)))
-        (pair_again is_big (first + 1) e.address_size r.begin r.end sized (begin_fits e.address_size r w)
+        (pair_again is_big (first + 1) e.address_size r.begin r.end is_size (begin_fits e.address_size r w)
         w.ends_low) (λ v. refl))))
 
 end_again : (limit : ℕ) (e : Encoding) (is_big : Bool) (first : ℕ) → is_address_size e.address_size ≡ true
     → Again is_big first (range_entry limit e) None (spelled_end e is_big)
 unfolding range_entry range_pair range_kind
-end_again limit e is_big first sized = by_version (nat_le e.version 4) refl
+end_again limit e is_big first is_size = by_version (nat_le e.version 4) refl
   where
     by_version : (b : Bool) → nat_le e.version 4 ≡ b
         → Again is_big first (range_entry limit e) None (spelled_end e is_big)
     by_version true earlier =
         let some = one-le-pow (8 * e.address_size) 2 (omega arith) in
-        rw earlier (again_then _ (pair_again is_big first e.address_size 0 0 sized (omega arith) (omega arith))
+        rw earlier (again_then _ (pair_again is_big first e.address_size 0 0 is_size (omega arith) (omega arith))
         (λ v. refl))
     by_version false later = rw later (again_then _ (one_byte is_big first 0 (omega arith)) (λ v. refl))
 
--- ---- what an entry stands for, at the base 0
+-- ---- the meaning of an entry, at the base 0
 
 -- a range that can be written counts
 pair_counts : (size : ℕ) (r : Range) → IsWritable size r → valid_range size r.begin r.end ≡ Some r
@@ -137,8 +138,8 @@ no_base e addr_base addresses r = by_version (nat_le e.version 4) refl
 -- bytes are left before a range, and before the end
 some_left : (e : Encoding) (is_big : Bool) (begin end : ℕ) (rest : List ℕ) → is_address_size e.address_size ≡ true
     → eqb (length (spelled_pair e.address_size is_big begin end ++ rest)) 0 ≡ false
-some_left e is_big begin end rest sized =
-    let some = some_size e.address_size sized in
+some_left e is_big begin end rest is_size =
+    let some = some_size e.address_size is_size in
     ne_eqb _ 0 (omega (
       arith,
       length-append (spelled_pair e.address_size is_big begin end) rest,
@@ -149,18 +150,18 @@ some_left e is_big begin end rest sized =
 
 range_left : (e : Encoding) (is_big : Bool) (r : Range) (rest : List ℕ) → is_address_size e.address_size ≡ true
     → eqb (length (spelled_range e is_big r ++ rest)) 0 ≡ false
-range_left e is_big r rest sized = by_version (nat_le e.version 4) refl
+range_left e is_big r rest is_size = by_version (nat_le e.version 4) refl
   where
     by_version : (b : Bool) → nat_le e.version 4 ≡ b → eqb (length (spelled_range e is_big r ++ rest)) 0 ≡ false
-    by_version true earlier = rw earlier (some_left e is_big r.begin r.end rest sized)
+    by_version true earlier = rw earlier (some_left e is_big r.begin r.end rest is_size)
     by_version false later = rw later (ne_eqb _ 0 (omega arith))
 
 end_left : (e : Encoding) (is_big : Bool) (rest : List ℕ) → is_address_size e.address_size ≡ true
     → eqb (length (spelled_end e is_big ++ rest)) 0 ≡ false
-end_left e is_big rest sized = by_version (nat_le e.version 4) refl
+end_left e is_big rest is_size = by_version (nat_le e.version 4) refl
   where
     by_version : (b : Bool) → nat_le e.version 4 ≡ b → eqb (length (spelled_end e is_big ++ rest)) 0 ≡ false
-    by_version true earlier = rw earlier (some_left e is_big 0 0 rest sized)
+    by_version true earlier = rw earlier (some_left e is_big 0 0 rest is_size)
     by_version false later = rw later (ne_eqb _ 0 (omega arith))
 
 -- four lists, one after the other
@@ -169,38 +170,38 @@ regroup a b c d =
     append_assoc (a ++ b) c d ∙ append_assoc a b (c ++ d) ∙ ap (λ (x : List ℕ). a ++ x) (sym (append_assoc b c d))
 
 -- what is left of a list before some bytes
-abbrev left_of : Encoding → ℕ → View → View → RangesLeft
+abbrev left_of : Encoding → ℕ → View → View → RemainingRanges
 left_of e addr_base addresses left =
-    record { raw = record { encoding = e; left = left }; against = from_low_pc e 0 addr_base addresses }
+    record { raw = record { encoding = e; rest = left }; against = from_low_pc e 0 addr_base addresses }
 
--- a list at the front of some bytes gives its ranges
+-- a list before other bytes is read as its ranges
 pub ranges_again : (limit : ℕ) (e : Encoding) (is_big : Bool) (first addr_base : ℕ) (addresses : View) (rs : List Range)
     (rest : List ℕ) → is_address_size e.address_size ≡ true → AllWritable e.address_size rs
     → ranges_to_come limit (left_of e addr_base addresses (bytes_at is_big first (spelled_ranges e is_big rs ++ rest)))
     ≡ map (λ r. Ok r) rs
-ranges_again limit e is_big first addr_base addresses [] rest sized w =
+ranges_again limit e is_big first addr_base addresses [] rest is_size w =
     range_end limit (left_of e addr_base addresses (bytes_at is_big first (spelled_end e is_big ++ rest)))
-    (raw_end limit (record { encoding = e; left = bytes_at is_big first (spelled_end e is_big ++ rest) })
-    (bytes_at is_big (first + length (spelled_end e is_big)) rest) (end_left e is_big rest sized)
-    ((end_again limit e is_big first sized).again rest))
-ranges_again limit e is_big first addr_base addresses (r ∷ rs) rest sized w =
+    (raw_end limit (record { encoding = e; rest = bytes_at is_big first (spelled_end e is_big ++ rest) })
+    (bytes_at is_big (first + length (spelled_end e is_big)) rest) (end_left e is_big rest is_size)
+    ((end_again limit e is_big first is_size).again rest))
+ranges_again limit e is_big first addr_base addresses (r ∷ rs) rest is_size w =
     let more = spelled_ranges e is_big rs ++ rest in
     let next = bytes_at is_big (first + length (spelled_range e is_big r)) more in
-    let raw_next : RawRangesLeft = record { encoding = e; left = next } in
-    let raw_here : RawRangesLeft =
-    record { encoding = e; left = bytes_at is_big first (spelled_range e is_big r ++ more) } in
+    let raw_next : RemainingRawRanges = record { encoding = e; rest = next } in
+    let raw_here : RemainingRawRanges =
+    record { encoding = e; rest = bytes_at is_big first (spelled_range e is_big r ++ more) } in
     let regrouped : spelled_ranges e is_big (r ∷ rs) ++ rest ≡ spelled_range e is_big r ++ more =
     regroup (spelled_range e is_big r) (flat_map (spelled_range e is_big) rs) (spelled_end e is_big) rest in
     ap (λ (bytes : List ℕ). ranges_to_come limit (left_of e addr_base addresses (bytes_at is_big first bytes)))
     regrouped
     ∙ range_step limit (record { raw = raw_here; against = from_low_pc e 0 addr_base addresses })
     (left_of e addr_base addresses next) (left_of e addr_base addresses next) (entry_for e r) (Ok (Some r))
-    (raw_item limit raw_here raw_next (entry_for e r) refl (range_left e is_big r more sized)
-    ((range_again limit e is_big first r sized w.0).again more))
+    (raw_item limit raw_here raw_next (entry_for e r) refl (range_left e is_big r more is_size)
+    ((range_again limit e is_big first r is_size w.0).again more))
     refl (range_stands e addr_base addresses r w.0) refl refl
     (ap (λ (o : Option ℕ). unwrap_or o 0) (sym (no_base e addr_base addresses r)))
     ∙ ap (λ (l : List (Result Range Error)). Ok r ∷ l)
-    (ranges_again limit e is_big (first + length (spelled_range e is_big r)) addr_base addresses rs rest sized w.1)
+    (ranges_again limit e is_big (first + length (spelled_range e is_big r)) addr_base addresses rs rest is_size w.1)
 
 -- ---- what can be written fits its bytes
 

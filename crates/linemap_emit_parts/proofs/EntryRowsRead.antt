@@ -16,8 +16,9 @@ use Rattle.linemap_emit_parts.specs.declared.entries.Entry.{Entry}
 use Rattle.linemap_emit_parts.specs.declared.entries.Entry.TheVariants.{CompileUnit, Function, Call, EndOfChildren}
 use Rattle.linemap_emit_parts.specs.EmittedEntries.{EmittedAttribute, AllFit, declared_attribute, raw_attribute_of, spelled_value, spelled_entry, attributes_of, abbreviation_code, declaration_of, declarations}
 use Rattle.linemap_emit_parts.specs.EmittedEntryRows.{walk_at, row_for}
-use Rattle.linemap_emit_parts.proofs.FollowedReads.{bytes_at, again_unsigned}
+use Rattle.gimli_lines_write_bytes.proofs.FollowedReads.{again_unsigned}
 use Rattle.linemap_emit_parts.proofs.EntryAttributesRead.{attributes_again}
+use Rattle.gimli_lines_write_bytes.specs.BytesAt.{bytes_at}
 
 -- the code of a declaration
 head_again : (e : Encoding) (end_offset : ℕ) (depth : ℤ) (is_big : Bool) (first code : ℕ) (d : Option Declaration)
@@ -51,7 +52,7 @@ small_code (Call true name ranges file line column) = omega arith
 small_code (Call false name ranges file line column) = omega arith
 small_code EndOfChildren = omega arith
 
--- what an entry says
+-- the attributes of an entry
 attribute_list_again : (limit : ℕ) (e : Encoding) (end_offset : ℕ) (depth : ℤ) (is_big : Bool) (first : ℕ)
     (ss : List EmittedAttribute) (rest : List ℕ) → is_address_size e.address_size ≡ true → AllFit limit e ss
     → values limit (map (declared_attribute e) ss)
@@ -62,10 +63,10 @@ attribute_list_again : (limit : ℕ) (e : Encoding) (end_offset : ℕ) (depth : 
           (bytes_at is_big (first + length (flat_map (λ s. spelled_value e is_big s.value) ss)) rest),
     )
 unfolding values
-attribute_list_again limit e end_offset depth is_big first ss rest sized fit =
+attribute_list_again limit e end_offset depth is_big first ss rest is_size fit =
     ap (read_in_walk
     (walk_at e end_offset depth (bytes_at is_big first (flat_map (λ s. spelled_value e is_big s.value) ss ++ rest))))
-    ((attributes_again limit e is_big first ss sized fit).again rest)
+    ((attributes_again limit e is_big first ss is_size fit).again rest)
 
 contents_again : (limit : ℕ) (e : Encoding) (end_offset : ℕ) (depth : ℤ) (is_big : Bool) (first : ℕ) (x : Entry)
     (rest : List ℕ) → is_address_size e.address_size ≡ true → AllFit limit e (attributes_of x)
@@ -77,16 +78,16 @@ contents_again : (limit : ℕ) (e : Encoding) (end_offset : ℕ) (depth : ℤ) (
       walk_at e end_offset depth
           (bytes_at is_big (first + length (flat_map (λ s. spelled_value e is_big s.value) (attributes_of x))) rest),
     )
-contents_again limit e end_offset depth is_big first (CompileUnit name directory line_program ranges) rest sized fit =
+contents_again limit e end_offset depth is_big first (CompileUnit name directory line_program ranges) rest is_size fit =
     attribute_list_again limit e end_offset depth is_big first
-    (attributes_of (CompileUnit name directory line_program ranges)) rest sized fit
-contents_again limit e end_offset depth is_big first (Function has_children name ranges) rest sized fit =
+    (attributes_of (CompileUnit name directory line_program ranges)) rest is_size fit
+contents_again limit e end_offset depth is_big first (Function has_children name ranges) rest is_size fit =
     attribute_list_again limit e end_offset depth is_big first (attributes_of (Function has_children name ranges)) rest
-    sized fit
-contents_again limit e end_offset depth is_big first (Call has_children name ranges file line column) rest sized fit =
+    is_size fit
+contents_again limit e end_offset depth is_big first (Call has_children name ranges file line column) rest is_size fit =
     attribute_list_again limit e end_offset depth is_big first
-    (attributes_of (Call has_children name ranges file line column)) rest sized fit
-contents_again limit e end_offset depth is_big first EndOfChildren rest sized fit =
+    (attributes_of (Call has_children name ranges file line column)) rest is_size fit
+contents_again limit e end_offset depth is_big first EndOfChildren rest is_size fit =
     let same : first ≡ first + 0 = omega arith in
     ap (λ (n : ℕ). Ok ([], walk_at e end_offset depth (bytes_at is_big n rest))) same
 
@@ -100,7 +101,7 @@ pub row_again : (limit : ℕ) (e : Encoding) (end_offset : ℕ) (depth : ℤ) (i
           (bytes_at is_big (first + length (spelled_entry e is_big x)) rest),
     )
 unfolding row
-row_again limit e end_offset depth is_big first x rest sized fit =
+row_again limit e end_offset depth is_big first x rest is_size fit =
     let code = unsigned_string (abbreviation_code x) in
     let values_of = flat_map (λ s. spelled_value e is_big s.value) (attributes_of x) in
     let offset = end_offset - length (spelled_entry e is_big x ++ rest) in
@@ -116,7 +117,7 @@ row_again limit e end_offset depth is_big first x rest sized fit =
     ∙ ap (λ (r : Result (List RawAttribute × Walk) Error). proceed r
     (λ found. give (row_of offset depth (declaration_of e x) found)))
     (contents_again limit e end_offset (depth_after depth (declaration_of e x)) is_big (first + length code) x rest
-    sized fit)
+    is_size fit)
     ∙ ap (λ (n : ℕ). Ok (
       row_for e offset depth x,
       walk_at e end_offset (depth_after depth (declaration_of e x)) (bytes_at is_big n rest),

@@ -1,6 +1,6 @@
 pub use Rattle.gimli_lines_header.proofs.ArangeSetLemmas
 pub use Rattle.gimli_lines_header.proofs.TilingLemmas
-pub mod FollowedReads
+pub use Rattle.gimli_lines_write_bytes.proofs.FollowedReads
 pub mod ValuesRead
 pub mod EntryAttributesRead
 pub mod DeclarationsRead

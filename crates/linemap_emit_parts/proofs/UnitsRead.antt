@@ -2,7 +2,7 @@
 use Rattle.std.proofs.Common.{◌≡◌, ℕ, ◌<◌, ◌≤◌, ◌^◌, ◌+◌, ◌-◌, ◌≢◌, Bool, true, false, cond, List, [], ◌∷◌, ◌++◌, length, Option, Some, None, Result, Ok, refl, sym, ap, ◌∙◌, arith}
 use Rattle.std.specs.Prelude.{nat_le}
 use Rattle.std.proofs.lemmas.List.{length-append}
-use Rattle.std.proofs.lemmas.Bool.{le-leb, lt-ltb, leb-false, eq-eqb, ne_eqb}
+use Rattle.std.proofs.lemmas.Bool.{le-leb, leb-false, eq-eqb, ne_eqb}
 use Rattle.gimli_lines_write_bytes.specs.Error.{Error}
 use Rattle.gimli_lines_write_bytes.specs.View.{View, bytes_left}
 use Rattle.gimli_lines_write_bytes.specs.Parsers.{proceed, give, lift, within, value_of, part, here, ◌>>=◌}
@@ -11,7 +11,7 @@ use Rattle.gimli_lines_write_bytes.specs.Format.{Format}
 use Rattle.gimli_lines_write_bytes.specs.Format.TheVariants.{Dwarf32, Dwarf64}
 use Rattle.gimli_lines_write_bytes.specs.FormatSizes.{word_size}
 use Rattle.gimli_lines_write_bytes.proofs.PrefixReads.{part_again}
-use Rattle.gimli_lines_write_bytes.specs.NumberParsers.{is_address_size, address_size, word, sized_offset, initial_length, length_of, offset_below}
+use Rattle.gimli_lines_write_bytes.specs.NumberParsers.{is_address_size, address_size, word}
 use Rattle.gimli_lines_write_bytes.specs.Fixed.{number_bytes}
 use Rattle.gimli_lines_write_bytes.proofs.NumberRoundTrip.{length-spelled}
 use Rattle.gimli_lines_write_bytes.specs.Repetition.{Listing, listing_in, until_end, prepend}
@@ -23,34 +23,17 @@ use Rattle.gimli_lines_header.proofs.UnitHeaderLemmas.{units_are_parts}
 use Rattle.gimli_lines_header.specs.UnitHeaders.{DebugUnit, HeaderFields, unit, unit_in, unit_fields, fields_to_4, fields_of_5, unit_type, kind_of_type, compilation, units_to_come}
 use Rattle.linemap_emit_parts.specs.declared.entries.Entry.{Entry}
 use Rattle.linemap_emit_parts.specs.EmittedEntryRows.{spelled_entries}
-use Rattle.linemap_emit_parts.specs.EmittedUnits.{IsWritten, length_limit, spelled_length, spelled_fields, spelled_unit_body, spelled_unit, spelled_units, unit_for, units_for, IsSmall, AllSmall}
-use Rattle.linemap_emit_parts.proofs.FollowedReads.{Again, bytes_at, again_onward, again_then, again_same, again_fixed, one_byte, offset_is_below}
+use Rattle.linemap_emit_parts.specs.EmittedUnits.{IsWritten, spelled_fields, spelled_unit_body, spelled_unit, spelled_units, unit_for, units_for, IsSmall, AllSmall}
+use Rattle.gimli_lines_write_bytes.proofs.FollowedReads.{Again, again_onward, again_then, again_same, again_fixed, one_byte, word_again, length_again}
+use Rattle.gimli_lines_write_bytes.specs.NumberBytes.{length_limit, spelled_length}
+use Rattle.gimli_lines_write_bytes.specs.BytesAt.{bytes_at}
 
 -- ---- numbers
-
-word_again : (limit : ℕ) (is_big : Bool) (first : ℕ) (format : Format) (n : ℕ) → n < 256 ^ word_size format → n < limit
-    → Again is_big first (word limit format) n (number_bytes is_big (word_size format) n)
-unfolding word sized_offset
-word_again limit is_big first format n fits small =
-    again_then (λ o. lift (offset_below limit o)) (again_fixed is_big first (word_size format) n fits)
-    (λ v. rw (offset_is_below limit n small) refl)
-
-pub length_again : (limit : ℕ) (is_big : Bool) (first : ℕ) (format : Format) (n : ℕ) → n < length_limit format
-    → n < limit → Again is_big first (initial_length limit) (n, format) (spelled_length format is_big n)
-unfolding initial_length sized_offset
-length_again limit is_big first Dwarf32 n fits small =
-    again_then (length_of limit) (again_fixed is_big first 4 n (omega arith)) (λ v. rw (lt-ltb n 0xfffffff0 fits) refl)
-length_again limit is_big first Dwarf64 n fits small =
-    again_onward (length_of limit) (again_fixed is_big first 4 0xffffffff (omega arith))
-    (again_then (λ m. give (m, Dwarf64))
-    (again_then (λ o. lift (offset_below limit o))
-    (again_fixed is_big (first + length (number_bytes is_big 4 0xffffffff)) 8 n (omega arith))
-    (λ v. rw (offset_is_below limit n small) refl)) (λ v. refl))
 
 size_again : (is_big : Bool) (first n : ℕ) → is_address_size n ≡ true → n < 256
     → Again is_big first address_size n (n ∷ [])
 unfolding address_size
-size_again is_big first n sized small = again_then _ (one_byte is_big first n small) (λ v. rw sized refl)
+size_again is_big first n is_size small = again_then _ (one_byte is_big first n small) (λ v. rw is_size refl)
 
 -- ---- the fields
 
@@ -62,7 +45,7 @@ to_4_again : (limit : ℕ) (e : Encoding) (is_big : Bool) (first : ℕ) → 0 < 
     → e.address_size < 256 → Again is_big first (fields_to_4 limit e.format e.version) (fields_for e)
     (number_bytes is_big (word_size e.format) 0 ++ e.address_size ∷ [])
 unfolding fields_to_4
-to_4_again limit e is_big first some sized small =
+to_4_again limit e is_big first some is_size small =
     again_onward
     (λ o. address_size >>= λ size. give
     (record {
@@ -77,7 +60,7 @@ to_4_again limit e is_big first some sized small =
       kind = compilation;
       abbrev_offset = 0;
     }))
-    (size_again is_big (first + length (number_bytes is_big (word_size e.format) 0)) e.address_size sized small)
+    (size_again is_big (first + length (number_bytes is_big (word_size e.format) 0)) e.address_size is_size small)
     (λ v. refl))
   where
     zero_fits : (format : Format) → 0 < 256 ^ word_size format
@@ -97,7 +80,7 @@ of_5_again : (limit : ℕ) (e : Encoding) (is_big : Bool) (first : ℕ) → 0 < 
     → Again is_big first (fields_of_5 limit e.format) (fields_for e)
     (1 ∷ e.address_size ∷ number_bytes is_big (word_size e.format) 0)
 unfolding fields_of_5 kind_of_type
-of_5_again limit e is_big first some sized small version =
+of_5_again limit e is_big first some is_size small version =
     again_onward
     (λ t. address_size >>= λ size.
     (word limit e.format >>= λ o.
@@ -116,7 +99,7 @@ of_5_again limit e is_big first some sized small version =
       kind = kind;
       abbrev_offset = o;
     })))
-    (size_again is_big (first + 1) e.address_size sized small)
+    (size_again is_big (first + 1) e.address_size is_size small)
     (again_then (λ o. kind_of_type limit e.format 1 >>= λ kind.
     give (record {
       encoding = record { address_size = e.address_size; format = e.format; version = 5 };
@@ -249,7 +232,7 @@ next_again limit total offset e is_big first u rest w small whole =
     ∙ ap (λ (r : Result (DebugUnit × View) Error). proceed r (λ x. give (Some x)))
     ((unit_again limit offset e is_big first u w small.0 small.1).again rest)
 
--- units from an offset on, in a section of so many bytes
+-- units from an offset on, in a section with a number of bytes
 pub units_from_again : (limit total offset : ℕ) (e : Encoding) (is_big : Bool) (first : ℕ) (us : List (List Entry))
     → IsWritten e → AllSmall limit e is_big us → total ≡ offset + length (spelled_units e is_big us)
     → (listing_in bytes_left (until_end (part_of (unit limit) total))

@@ -13,8 +13,9 @@ use Rattle.gimli_lines_write_bytes.specs.Fixed.{number_bytes}
 use Rattle.gimli_lines_write_bytes.specs.Spelling.{unsigned_string}
 use Rattle.gimli_lines_header.specs.AttributeReading.{attribute, final_form, form_within, value, number_value, from_number, offset_or_fault, data_of_word}
 use Rattle.gimli_lines_header.specs.AttributeValues.{RawValue, string_reference, section_offset, address, unsigned_data}
-use Rattle.linemap_emit_parts.specs.EmittedEntries.{EmittedValue, text, place, location, count, form_of, place_form, spelled_value, raw_value_of, Fits}
-use Rattle.linemap_emit_parts.proofs.FollowedReads.{Again, bytes_at, again_fixed, again_unsigned, offset_is_below}
+use Rattle.linemap_emit_parts.specs.EmittedEntries.{EmittedValue, strp, sec_offset, addr, udata, form_of, offset_form, spelled_value, raw_value_of, Fits}
+use Rattle.gimli_lines_write_bytes.proofs.FollowedReads.{Again, again_fixed, again_unsigned, offset_is_below}
+use Rattle.gimli_lines_write_bytes.specs.BytesAt.{bytes_at}
 
 -- a form that isn't indirect is the form of its value
 form_is : (form : ℕ) (v : View) → eqb form 0x16 ≡ false → final_form form v ≡ Ok (form, v)
@@ -48,45 +49,36 @@ number_again limit e is_big first name form n number x xs other spells h means =
 offset_is : (limit n : ℕ) (kind : ℕ → RawValue) → n < limit → offset_or_fault kind (offset_below limit n) ≡ Ok (kind n)
 offset_is limit n kind small = ap (offset_or_fault kind) (offset_is_below limit n small)
 
--- what numbers mean under the forms that are written
-text_means : (limit : ℕ) (e : Encoding) (name n : ℕ) → n < limit
-    → number_value limit e name 0x0e n ≡ Ok (string_reference n)
-unfolding number_value
-text_means limit e name n small = by_format e.format refl
-  where
-    by_format : (format : Format) → e.format ≡ format → number_value limit e name 0x0e n ≡ Ok (string_reference n)
-    by_format Dwarf32 same = rw same (offset_is limit n string_reference small)
-    by_format Dwarf64 same = rw same (offset_is limit n string_reference small)
-
-address_means : (limit : ℕ) (e : Encoding) (name n : ℕ) → number_value limit e name 0x01 n ≡ Ok (address n)
-unfolding number_value
-address_means limit e name n = by_format e.format refl
-  where
-    by_format : (format : Format) → e.format ≡ format → number_value limit e name 0x01 n ≡ Ok (address n)
-    by_format Dwarf32 same = rw same refl
-    by_format Dwarf64 same = rw same refl
-
-count_means : (limit : ℕ) (e : Encoding) (name n : ℕ) → number_value limit e name 0x0f n ≡ Ok (unsigned_data n)
-unfolding number_value
-count_means limit e name n = by_format e.format refl
-  where
-    by_format : (format : Format) → e.format ≡ format → number_value limit e name 0x0f n ≡ Ok (unsigned_data n)
-    by_format Dwarf32 same = rw same refl
-    by_format Dwarf64 same = rw same refl
-
-offset_means : (limit : ℕ) (e : Encoding) (name n : ℕ) → n < limit
-    → number_value limit e name 0x17 n ≡ Ok (section_offset n)
-unfolding number_value
-offset_means limit e name n small = by_format e.format refl
-  where
-    by_format : (format : Format) → e.format ≡ format → number_value limit e name 0x17 n ≡ Ok (section_offset n)
-    by_format Dwarf32 same = rw same (offset_is limit n section_offset small)
-    by_format Dwarf64 same = rw same (offset_is limit n section_offset small)
-
--- data of an offset's width, under a name that takes offsets
+-- an encoding in a format
 abbrev in_format : Encoding → Format → Encoding
 in_format e format = record { address_size = e.address_size; format = format; version = e.version }
 
+-- what numbers mean under the forms that are written
+text_means : (limit : ℕ) (e : Encoding) (name n : ℕ) (format : Format) → n < limit
+    → number_value limit (in_format e format) name 0x0e n ≡ Ok (string_reference n)
+unfolding number_value
+text_means limit e name n Dwarf32 small = offset_is limit n string_reference small
+text_means limit e name n Dwarf64 small = offset_is limit n string_reference small
+
+address_means : (limit : ℕ) (e : Encoding) (name n : ℕ) (format : Format)
+    → number_value limit (in_format e format) name 0x01 n ≡ Ok (address n)
+unfolding number_value
+address_means limit e name n Dwarf32 = refl
+address_means limit e name n Dwarf64 = refl
+
+number_means : (limit : ℕ) (e : Encoding) (name n : ℕ) (format : Format)
+    → number_value limit (in_format e format) name 0x0f n ≡ Ok (unsigned_data n)
+unfolding number_value
+number_means limit e name n Dwarf32 = refl
+number_means limit e name n Dwarf64 = refl
+
+offset_means : (limit : ℕ) (e : Encoding) (name n : ℕ) (format : Format) → n < limit
+    → number_value limit (in_format e format) name 0x17 n ≡ Ok (section_offset n)
+unfolding number_value
+offset_means limit e name n Dwarf32 small = offset_is limit n section_offset small
+offset_means limit e name n Dwarf64 small = offset_is limit n section_offset small
+
+-- data of an offset's width, under a name that takes offsets
 data_means : (limit : ℕ) (e : Encoding) (name n : ℕ) (format : Format) → (name == 0x10 || name == 0x55) ≡ true
     → n < limit → number_value limit (in_format e format) name (data_of_word format) n ≡ Ok (section_offset n)
 unfolding number_value
@@ -110,28 +102,28 @@ pub value_again : (limit : ℕ) (e : Encoding) (is_big : Bool) (first name : ℕ
     → Again is_big first (attribute limit e (record { name = name; form = form_of e x; implicit_const = None }))
     (record { name = name; form = form_of e x; value = raw_value_of x }) (spelled_value e is_big x)
 unfolding value address_of_size
-value_again limit e is_big first name (text n) sized fits =
+value_again limit e is_big first name (strp n) is_size fits =
     number_again limit e is_big first name 0x0e n (fixed (word_size e.format)) (string_reference n)
     (number_bytes is_big (word_size e.format) n) refl (λ v. refl)
-    (again_fixed is_big first (word_size e.format) n fits.0) (text_means limit e name n fits.1)
-value_again limit e is_big first name (location n) sized fits =
+    (again_fixed is_big first (word_size e.format) n fits.0) (text_means limit e name n e.format fits.1)
+value_again limit e is_big first name (addr n) is_size fits =
     number_again limit e is_big first name 0x01 n (address_of_size e.address_size) (address n)
     (number_bytes is_big e.address_size n) refl (λ v. refl)
-    (record { again = λ rest. rw sized ((again_fixed is_big first e.address_size n fits).again rest) })
-    (address_means limit e name n)
-value_again limit e is_big first name (count n) sized fits =
+    (record { again = λ rest. rw is_size ((again_fixed is_big first e.address_size n fits).again rest) })
+    (address_means limit e name n e.format)
+value_again limit e is_big first name (udata n) is_size fits =
     number_again limit e is_big first name 0x0f n unsigned (unsigned_data n) (unsigned_string n) refl (λ v. refl)
-    (again_unsigned is_big first n fits) (count_means limit e name n)
-value_again limit e is_big first name (place n) sized fits = by_version (nat_le e.version 3) refl
+    (again_unsigned is_big first n fits) (number_means limit e name n e.format)
+value_again limit e is_big first name (sec_offset n) is_size fits = by_version (nat_le e.version 3) refl
   where
     by_version : (b : Bool) → nat_le e.version 3 ≡ b
-        → Again is_big first (attribute limit e (record { name = name; form = place_form e; implicit_const = None }))
-        (record { name = name; form = place_form e; value = section_offset n })
+        → Again is_big first (attribute limit e (record { name = name; form = offset_form e; implicit_const = None }))
+        (record { name = name; form = offset_form e; value = section_offset n })
         (number_bytes is_big (word_size e.format) n)
     by_version false later = rw later
         (number_again limit e is_big first name 0x17 n (fixed (word_size e.format)) (section_offset n)
         (number_bytes is_big (word_size e.format) n) refl (λ v. refl)
-        (again_fixed is_big first (word_size e.format) n fits.0) (offset_means limit e name n fits.1))
+        (again_fixed is_big first (word_size e.format) n fits.0) (offset_means limit e name n e.format fits.1))
     by_version true earlier = rw earlier
         (number_again limit e is_big first name (data_of_word e.format) n (fixed (word_size e.format))
         (section_offset n)

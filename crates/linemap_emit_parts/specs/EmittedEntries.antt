@@ -15,59 +15,59 @@ use Rattle.gimli_lines_header.specs.AttributeValues.{RawValue, RawAttribute, str
 
 -- ---- values
 
--- A value: the offset of a text in the string section, an offset into another section, an address,
--- a number.
+-- A value, named as its form: the offset of a text in the string section, an offset into another
+-- section, an address, a number.
 pub data EmittedValue : Type 0 where
-  text : (offset : ℕ) → EmittedValue
-  place : (offset : ℕ) → EmittedValue
-  location : (at : ℕ) → EmittedValue
-  count : (n : ℕ) → EmittedValue
+  strp : (offset : ℕ) → EmittedValue
+  sec_offset : (offset : ℕ) → EmittedValue
+  addr : (at : ℕ) → EmittedValue
+  udata : (n : ℕ) → EmittedValue
 
 -- Up to version 3 an offset into another section is spelled as data of an offset's width, then by a
 -- form of its own (DWARF 3, 7.5.4; DWARF 5, 7.5.5).
-abbrev pub place_form : Encoding → ℕ
-place_form e = if nat_le e.version 3 then data_of_word e.format else DW_FORM_sec_offset.0
+abbrev pub offset_form : Encoding → ℕ
+offset_form e = if nat_le e.version 3 then data_of_word e.format else DW_FORM_sec_offset.0
 
 -- the form of a value
 abbrev pub form_of : Encoding → EmittedValue → ℕ
-form_of e (text offset) = DW_FORM_strp.0
-form_of e (place offset) = place_form e
-form_of e (location at) = DW_FORM_addr.0
-form_of e (count n) = DW_FORM_udata.0
+form_of e (strp offset) = DW_FORM_strp.0
+form_of e (sec_offset offset) = offset_form e
+form_of e (addr at) = DW_FORM_addr.0
+form_of e (udata n) = DW_FORM_udata.0
 
 -- its bytes
 abbrev pub spelled_value : Encoding → Bool → EmittedValue → List ℕ
-spelled_value e is_big (text offset) = number_bytes is_big (word_size e.format) offset
-spelled_value e is_big (place offset) = number_bytes is_big (word_size e.format) offset
-spelled_value e is_big (location at) = number_bytes is_big e.address_size at
-spelled_value e is_big (count n) = unsigned_string n
+spelled_value e is_big (strp offset) = number_bytes is_big (word_size e.format) offset
+spelled_value e is_big (sec_offset offset) = number_bytes is_big (word_size e.format) offset
+spelled_value e is_big (addr at) = number_bytes is_big e.address_size at
+spelled_value e is_big (udata n) = unsigned_string n
 
 -- what is read of them
 abbrev pub raw_value_of : EmittedValue → RawValue
-raw_value_of (text offset) = string_reference offset
-raw_value_of (place offset) = section_offset offset
-raw_value_of (location at) = address at
-raw_value_of (count n) = unsigned_data n
+raw_value_of (strp offset) = string_reference offset
+raw_value_of (sec_offset offset) = section_offset offset
+raw_value_of (addr at) = address at
+raw_value_of (udata n) = unsigned_data n
 
 -- the names under which data of an offset's width is an offset: those of the line program and of
 -- the ranges
 abbrev pub has_section_offset : ℕ → Bool
 has_section_offset name = name == DW_AT_stmt_list.0 || name == DW_AT_ranges.0
 
--- what an attribute says: its name, and its value
+-- an attribute: its name and its value
 pub record EmittedAttribute : Type 0 where
   pub name : ℕ
   pub value : EmittedValue
 
--- the value fits its bytes, where offsets are those below a limit
+-- the value fits its bytes, and an offset is below a limit
 abbrev pub Fits : ℕ → Encoding → ℕ → EmittedValue → Type 0
-Fits limit e name (text offset) = (offset < 256 ^ word_size e.format) × (offset < limit)
-Fits limit e name (place offset) =
+Fits limit e name (strp offset) = (offset < 256 ^ word_size e.format) × (offset < limit)
+Fits limit e name (sec_offset offset) =
     (offset < 256 ^ word_size e.format) × (offset < limit) × (has_section_offset name ≡ true)
-Fits limit e name (location at) = at < 256 ^ e.address_size
-Fits limit e name (count n) = n < 2 ^ 64
+Fits limit e name (addr at) = at < 256 ^ e.address_size
+Fits limit e name (udata n) = n < 2 ^ 64
 
--- all of them
+-- the value of each attribute fits its bytes
 abbrev pub AllFit : ℕ → Encoding → List EmittedAttribute → Type 0
 AllFit limit e [] = Unit {0}
 AllFit limit e (s ∷ ss) = Fits limit e s.name s.value × AllFit limit e ss
@@ -76,7 +76,7 @@ AllFit limit e (s ∷ ss) = Fits limit e s.name s.value × AllFit limit e ss
 abbrev pub declared_attribute : Encoding → EmittedAttribute → Attribute
 declared_attribute e s = record { name = s.name; form = form_of e s.value; implicit_const = None }
 
--- how it is read
+-- what it is read as
 abbrev pub raw_attribute_of : Encoding → EmittedAttribute → RawAttribute
 raw_attribute_of e s =
     record { name = s.name; form = form_of e s.value; value = raw_value_of s.value }
@@ -86,19 +86,19 @@ raw_attribute_of e s =
 abbrev pub attribute_with : ℕ → EmittedValue → EmittedAttribute
 attribute_with name value = record { name = name; value = value }
 
--- What an entry says. The ranges of a unit are relative to its low address, which is 0.
+-- The attributes of an entry. The ranges of a unit are relative to its low address, which is 0.
 abbrev pub attributes_of : Entry → List EmittedAttribute
 attributes_of (CompileUnit name directory line_program ranges) =
-    attribute_with DW_AT_name.0 (text name) ∷ attribute_with DW_AT_comp_dir.0 (text directory)
-    ∷ attribute_with DW_AT_stmt_list.0 (place line_program)
-    ∷ attribute_with DW_AT_low_pc.0 (location 0)
-    ∷ attribute_with DW_AT_ranges.0 (place ranges) ∷ []
+    attribute_with DW_AT_name.0 (strp name) ∷ attribute_with DW_AT_comp_dir.0 (strp directory)
+    ∷ attribute_with DW_AT_stmt_list.0 (sec_offset line_program)
+    ∷ attribute_with DW_AT_low_pc.0 (addr 0)
+    ∷ attribute_with DW_AT_ranges.0 (sec_offset ranges) ∷ []
 attributes_of (Function has_children name ranges) =
-    attribute_with DW_AT_name.0 (text name) ∷ attribute_with DW_AT_ranges.0 (place ranges) ∷ []
+    attribute_with DW_AT_name.0 (strp name) ∷ attribute_with DW_AT_ranges.0 (sec_offset ranges) ∷ []
 attributes_of (Call has_children name ranges file line column) =
-    attribute_with DW_AT_name.0 (text name) ∷ attribute_with DW_AT_ranges.0 (place ranges)
-    ∷ attribute_with DW_AT_call_file.0 (count file) ∷ attribute_with DW_AT_call_line.0 (count line)
-    ∷ attribute_with DW_AT_call_column.0 (count column) ∷ []
+    attribute_with DW_AT_name.0 (strp name) ∷ attribute_with DW_AT_ranges.0 (sec_offset ranges)
+    ∷ attribute_with DW_AT_call_file.0 (udata file) ∷ attribute_with DW_AT_call_line.0 (udata line)
+    ∷ attribute_with DW_AT_call_column.0 (udata column) ∷ []
 attributes_of EndOfChildren = []
 
 -- the code of its declaration, 0 at the end of children
@@ -146,7 +146,7 @@ spelled_entry e is_big x =
 
 -- ---- declarations
 
--- the bytes of what a declaration says of an attribute, and of the pair of zeros after the last
+-- the bytes of the attributes of a declaration, and of the pair of zeros after the last
 abbrev pub spelled_attributes : List Attribute → List ℕ
 spelled_attributes [] = 0 ∷ 0 ∷ []
 spelled_attributes (a ∷ others) =

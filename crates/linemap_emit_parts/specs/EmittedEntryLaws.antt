@@ -1,6 +1,5 @@
--- What is written is read again.
+-- Declarations, entries and units that are written are read again.
 use Rattle.std.specs.Prelude.{◌≡◌, ℕ, ℤ, ◌-◌, ◌+◌, Bool, List, [], ◌++◌, length, Ok}
-use Rattle.gimli_lines_write_bytes.specs.View.{View}
 use Rattle.gimli_lines_write_bytes.specs.Encoding.{Encoding}
 use Rattle.gimli_lines_header.specs.TableParsing.{table_at}
 use Rattle.gimli_lines_header.specs.Tiling.{whole_section}
@@ -10,20 +9,16 @@ use Rattle.gimli_units_entries.specs.EntryRows.{row}
 use Rattle.linemap_emit_parts.specs.declared.entries.Entry.{Entry}
 use Rattle.linemap_emit_parts.specs.EmittedEntries.{AllFit, attributes_of, declaration_of, declarations, spelled_declarations, spelled_entry}
 use Rattle.linemap_emit_parts.specs.EmittedEntryRows.{walk_at, row_for}
+use Rattle.gimli_lines_write_bytes.specs.BytesAt.{bytes_at}
 use Rattle.linemap_emit_parts.specs.EmittedUnits.{IsWritten, AllSmall, spelled_units, units_for}
 
--- bytes from a place on
-abbrev pub bytes_at : Bool → ℕ → List ℕ → View
-bytes_at is_big first bytes = record { bytes = bytes; is_big = is_big; first = first }
-
--- the table of declarations
+-- the declarations, as their table
 abbrev pub DeclarationsAgain : Type 0
 DeclarationsAgain =
     (e : Encoding) (is_big : Bool) (first : ℕ)
     → table_at 0 (bytes_at is_big first (spelled_declarations e)) ≡ Ok (declarations e)
 
--- an entry before other bytes: its row, at the offset that the remaining bytes give, and the walk
--- after it
+-- an entry before other bytes: its row, whose offset the bytes to come give, and the walk after it
 abbrev pub RowAgain : Type 0
 RowAgain =
     (limit : ℕ) (e : Encoding) (end_offset : ℕ) (depth : ℤ) (is_big : Bool) (first : ℕ) (x : Entry)

@@ -1,15 +1,15 @@
--- What is written is read again.
-use Rattle.std.specs.Prelude.{◌≡◌, ℕ, ◌+◌, ◌^◌, ◌<◌, ◌≤◌, Bool, List, ◌++◌, length, Ok}
+-- The headers that are written are read again.
+use Rattle.std.specs.Prelude.{All, ◌≡◌, ℕ, ◌+◌, ◌^◌, ◌<◌, ◌≤◌, Bool, List, ◌++◌, length, Ok}
 use Rattle.gimli_lines_write_bytes.specs.Encoding.{Encoding}
 use Rattle.gimli_lines_write_bytes.specs.FormatSizes.{word_size}
 use Rattle.gimli_lines_write_bytes.specs.Fixed.{number_bytes}
 use Rattle.gimli_lines_header.specs.HeaderParsing.{LineUnit, line_header}
-use Rattle.linemap_emit_parts.specs.EmittedEntryLaws.{bytes_at}
-use Rattle.linemap_emit_parts.specs.EmittedUnits.{spelled_length, length_limit}
-use Rattle.linemap_emit_parts.specs.EmittedHeaders.{EmittedFile, AllTableTexts, AllFiles, spelled_header, spelled_program_body, spelled_program, header_read}
+use Rattle.linemap_emit_parts.specs.EmittedHeaders.{EmittedFile, IsTableText, IsTableFile, spelled_header, spelled_program_body, spelled_program, header_read}
+use Rattle.gimli_lines_write_bytes.specs.BytesAt.{bytes_at}
+use Rattle.gimli_lines_write_bytes.specs.NumberBytes.{spelled_length, length_limit}
 
--- A program that can be written: of a version up to 4, with tables whose entries can be there,
--- and lengths that the format can write.
+-- A program that can be written: of a version up to 4, with directories and files that tables can
+-- have, and lengths that the format can write.
 pub record CanWriteProgram (limit : ℕ) (e : Encoding) (is_big : Bool) (directories : List (List ℕ))
     (files : List EmittedFile) (program : List ℕ) : Type 0 where
   pub not_before_2 : 2 ≤ e.version
@@ -19,10 +19,10 @@ pub record CanWriteProgram (limit : ℕ) (e : Encoding) (is_big : Bool) (directo
   pub length_small : length (spelled_program_body e is_big directories files program) < limit
   pub header_fits : length (spelled_header e.version directories files) < 256 ^ word_size e.format
   pub header_small : length (spelled_header e.version directories files) < limit
-  pub all_entries : AllTableTexts directories
-  pub all_files : AllFiles files
+  pub all_directories : All IsTableText directories
+  pub all_files : All IsTableFile files
 
--- where the fields of a header begin whose first length has an identifier
+-- where the fields of a header begin, whose first length has an identifier
 abbrev pub fields_begin : Encoding → Bool → ℕ → List (List ℕ) → List EmittedFile → List ℕ → ℕ
 fields_begin e is_big first directories files program =
     first + length
@@ -32,7 +32,7 @@ fields_begin e is_big first directories files program =
     + length (number_bytes is_big (word_size e.format)
     (length (spelled_header e.version directories files)))
 
--- the header of a unit with addresses of the encoding's size, and what follows is left
+-- the header of a unit with addresses of the encoding's size is read, and what follows is left
 abbrev pub HeaderAgain : Type 0
 HeaderAgain =
     (limit offset : ℕ) (e : Encoding) (is_big : Bool) (first : ℕ) (unit : LineUnit)

@@ -1,5 +1,5 @@
 -- The headers of line number programs as they are written, up to version 4 (DWARF 4, 6.2.4).
-use Rattle.std.specs.Prelude.{◌≡◌, ℕ, ◌+◌, ◌^◌, ◌<◌, ◌≢◌, ◌==◌, nat_le, Bool, false, true, List, [], ◌∷◌, ◌++◌, length, flat_map, negsuc, option_map, if◌then◌else◌}
+use Rattle.std.specs.Prelude.{◌≡◌, ℕ, ◌+◌, ◌^◌, ◌<◌, ◌≢◌, ◌==◌, nat_le, Bool, false, List, [], ◌∷◌, ◌++◌, length, flat_map, option_map, if◌then◌else◌}
 use Rattle.std.specs.List.{list_any}
 use Rattle.gimli_lines_write_bytes.specs.Encoding.{Encoding}
 use Rattle.gimli_lines_write_bytes.specs.FormatSizes.{word_size}
@@ -10,7 +10,8 @@ use Rattle.gimli_lines_header.specs.AttributeValues.{RawValue, string}
 use Rattle.gimli_lines_header.specs.LineFiles.{FileFacts, file_in, file_named}
 use Rattle.gimli_lines_header.specs.LineHeaders.{LineHeader}
 use Rattle.gimli_lines_header.specs.HeaderParsing.{LineUnit}
-use Rattle.linemap_emit_parts.specs.EmittedUnits.{spelled_length}
+use Rattle.gimli_lines_write_bytes.specs.BytesAt.{bytes_at, values_at}
+use Rattle.gimli_lines_write_bytes.specs.NumberBytes.{spelled_length}
 
 -- a file: its name, and the number of its directory
 pub record EmittedFile : Type 0 where
@@ -30,17 +31,18 @@ abbrev pub spelled_file : EmittedFile → List ℕ
 spelled_file f =
     spelled_text f.name ++ (unsigned_string f.directory ++ (unsigned_string 0 ++ unsigned_string 0))
 
--- Directories and files, each table ended by an empty text.
+-- the tables of directories and files, each of which ends with an empty text
 abbrev pub spelled_tables : List (List ℕ) → List EmittedFile → List ℕ
 spelled_tables directories files =
     (flat_map spelled_text directories ++ 0 ∷ []) ++ (flat_map spelled_file files ++ 0 ∷ [])
 
--- The parameters: instructions of one byte and one operation, which version 4 writes, all rows
--- statements, special opcodes that move the line by -5 (251 in eight bits) to 8.
+-- the parameters: instructions of one byte and, from version 4 on, of one operation, all rows
+-- statements, special opcodes that move the line by -5 (251 in eight bits) to 8
 abbrev pub spelled_parameters : ℕ → List ℕ
 spelled_parameters version =
     if nat_le 4 version then 1 ∷ 1 ∷ 1 ∷ 251 ∷ 14 ∷ [] else 1 ∷ 1 ∷ 251 ∷ 14 ∷ []
 
+-- the first special opcode, and the operands of the standard opcodes before it
 abbrev pub spelled_opcodes : List ℕ
 spelled_opcodes = 13 ∷ operand_counts
 
@@ -65,24 +67,24 @@ spelled_program e is_big directories files program =
     (length (spelled_program_body e is_big directories files program))
     ++ spelled_program_body e is_big directories files program
 
--- a text that can be in a table: not empty, without a zero byte
+-- a text that a table can have: not empty, without a zero byte
 abbrev pub IsTableText : List ℕ → Type 0
 IsTableText text = (length text ≢ 0) × (list_any (λ b. b == 0) text ≡ false)
+
+-- a file that a table can have: such a name, and a number of 64 bits
+abbrev pub IsTableFile : EmittedFile → Type 0
+IsTableFile f = IsTableText f.name × (f.directory < 2 ^ 64)
 
 -- ---- what is read of it
 
 -- directories, and files, the first of which begins at an identifier
 abbrev pub directories_read : Bool → ℕ → List (List ℕ) → List RawValue
-directories_read is_big first [] = []
-directories_read is_big first (t ∷ ts) =
-    string (record { bytes = t; is_big = is_big; first = first })
-    ∷ directories_read is_big (first + length (spelled_text t)) ts
+directories_read is_big first ts =
+    values_at spelled_text (λ at text. string (bytes_at is_big at text)) first ts
 
 abbrev pub files_read : Bool → ℕ → List EmittedFile → List FileFacts
-files_read is_big first [] = []
-files_read is_big first (f ∷ fs) =
-    file_in (record { bytes = f.name; is_big = is_big; first = first }) f.directory 0 0
-    ∷ files_read is_big (first + length (spelled_file f)) fs
+files_read is_big first fs =
+    values_at spelled_file (λ at f. file_in (bytes_at is_big at f.name) f.directory 0 0) first fs
 
 -- the identifiers of the tables and of the program, after the parameters and the opcodes
 abbrev pub tables_at : ℕ → ℕ → ℕ
@@ -121,12 +123,3 @@ header_read e is_big offset fields unit directories files program = record {
   unit_directory = option_map string unit.directory;
   unit_file = option_map file_named unit.name;
 }
-
--- all can be in the tables
-abbrev pub AllTableTexts : List (List ℕ) → Type 0
-AllTableTexts [] = Unit {0}
-AllTableTexts (t ∷ ts) = IsTableText t × AllTableTexts ts
-
-abbrev pub AllFiles : List EmittedFile → Type 0
-AllFiles [] = Unit {0}
-AllFiles (f ∷ fs) = (IsTableText f.name × (f.directory < 2 ^ 64)) × AllFiles fs

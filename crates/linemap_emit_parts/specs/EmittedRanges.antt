@@ -11,7 +11,8 @@ use Rattle.gimli_units_lists.specs.Range.{Range}
 abbrev pub spelled_pair : ℕ → Bool → ℕ → ℕ → List ℕ
 spelled_pair size is_big begin end = number_bytes is_big size begin ++ number_bytes is_big size end
 
--- up to version 4 a range is a pair relative to the base, which is 0; then a kind, begin and end
+-- up to version 4 a range is a pair relative to the base, which is 0; from version 5 on it is a
+-- kind, a begin and an end
 abbrev pub spelled_range : Encoding → Bool → Range → List ℕ
 spelled_range e is_big r =
     if nat_le e.version 4 then spelled_pair e.address_size is_big r.begin r.end
@@ -26,7 +27,7 @@ spelled_end e is_big =
 abbrev pub spelled_ranges : Encoding → Bool → List Range → List ℕ
 spelled_ranges e is_big rs = flat_map (spelled_range e is_big) rs ++ spelled_end e is_big
 
--- a range that can be written: not from 0 on, not empty, below the tombstones
+-- a range that can be written: it doesn't begin at 0, isn't empty, and begins below the tombstones
 pub record IsWritable (size : ℕ) (r : Range) : Type 0 where
   pub not_from_0 : 0 < r.begin
   pub not_empty : r.begin < r.end

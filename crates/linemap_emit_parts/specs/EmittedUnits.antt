@@ -1,26 +1,15 @@
 -- Units as they are written: headers with their entries, end to end (DWARF 5, 7.5.1; versions 2 to
 -- 4: DWARF 4, 7.5.1.1).
-use Rattle.std.specs.Prelude.{◌≡◌, ℕ, ◌+◌, ◌^◌, ◌<◌, ◌≤◌, nat_le, Bool, true, List, [], ◌∷◌, ◌++◌, flat_map, length, if◌then◌else◌}
+use Rattle.std.specs.Prelude.{◌≡◌, ℕ, ◌+◌, ◌<◌, ◌≤◌, nat_le, Bool, true, List, [], ◌∷◌, ◌++◌, flat_map, length, if◌then◌else◌}
 use Rattle.gimli_lines_write_bytes.specs.TheConstants.{DW_UT_compile}
 use Rattle.gimli_lines_write_bytes.specs.Encoding.{Encoding}
-use Rattle.gimli_lines_write_bytes.specs.Format.{Format}
-use Rattle.gimli_lines_write_bytes.specs.Format.TheVariants.{Dwarf32, Dwarf64}
 use Rattle.gimli_lines_write_bytes.specs.FormatSizes.{word_size}
 use Rattle.gimli_lines_write_bytes.specs.Fixed.{number_bytes}
+use Rattle.gimli_lines_write_bytes.specs.NumberBytes.{length_limit, spelled_length}
 use Rattle.gimli_lines_write_bytes.specs.NumberParsers.{is_address_size}
 use Rattle.gimli_lines_header.specs.UnitHeaders.{DebugUnit, compilation}
 use Rattle.linemap_emit_parts.specs.declared.entries.Entry.{Entry}
 use Rattle.linemap_emit_parts.specs.EmittedEntryRows.{spelled_entries}
-
--- the lengths that a format can write (DWARF 5, 7.4)
-abbrev pub length_limit : Format → ℕ
-length_limit Dwarf32 = 0xfffffff0
-length_limit Dwarf64 = 2 ^ 64
-
--- an initial length
-abbrev pub spelled_length : Format → Bool → ℕ → List ℕ
-spelled_length Dwarf32 is_big n = number_bytes is_big 4 n
-spelled_length Dwarf64 is_big n = number_bytes is_big 4 0xffffffff ++ number_bytes is_big 8 n
 
 -- an encoding that can be written
 pub record IsWritten (e : Encoding) : Type 0 where

@@ -3,7 +3,7 @@
 ghost use Rattle.std.specs.Prelude.{◌≡◌, ◌++◌, ◌∷◌, [], if◌then◌else◌, true, false};
 ghost use Rattle.gimli_lines_write_bytes.specs.Spelling.{unsigned_string};
 ghost use Rattle.linemap_emit_parts.specs.WriteResults.{Appends};
-ghost use Rattle.linemap_emit_parts.specs.EmittedEntries.{declaration_for, place_form, spelled_declaration, spelled_declarations};
+ghost use Rattle.linemap_emit_parts.specs.EmittedEntries.{declaration_for, offset_form, spelled_declaration, spelled_declarations};
 ghost use Rattle.linemap_emit_parts.specs.declared.entries.Entry.TheVariants.{CompileUnit, Function, Call};
 
 use gimli_lines_write_bytes::{
@@ -13,9 +13,9 @@ use gimli_lines_write_bytes::{
     DwAt, DwForm, DwTag, Encoding, EndianVec, Error, Format, RunTimeEndian, Writer,
 };
 
-// The form of offsets into sections that aren't strings: data up to version 3.
-fn form_of_places(encoding: Encoding) -> DwForm
-    ensures { result.0 ≡ place_form encoding }
+// The form of offsets into other sections than that of strings: data up to version 3.
+fn offset_form(encoding: Encoding) -> DwForm
+    ensures { result.0 ≡ offset_form encoding }
 {
     if encoding.version > 3 {
         return DW_FORM_sec_offset;
@@ -27,7 +27,7 @@ fn form_of_places(encoding: Encoding) -> DwForm
 }
 
 // Writes what comes before the attributes of a declaration.
-fn begin(
+fn write_start(
     w: &mut EndianVec<RunTimeEndian>,
     code: u64,
     tag: DwTag,
@@ -42,7 +42,7 @@ fn begin(
 }
 
 // Writes an attribute of a declaration.
-fn attribute(w: &mut EndianVec<RunTimeEndian>, name: DwAt, form: DwForm) -> Result<(), Error>
+fn write_attribute(w: &mut EndianVec<RunTimeEndian>, name: DwAt, form: DwForm) -> Result<(), Error>
     ensures { Appends result w.old w.new (unsigned_string name.0 ++ unsigned_string form.0) }
 {
     w.write_uleb128(name.0 as u64)?;
@@ -50,55 +50,55 @@ fn attribute(w: &mut EndianVec<RunTimeEndian>, name: DwAt, form: DwForm) -> Resu
 }
 
 // Writes the attributes of a name and of ranges.
-fn name_and_ranges(w: &mut EndianVec<RunTimeEndian>, encoding: Encoding) -> Result<(), Error>
+fn write_name_and_ranges(w: &mut EndianVec<RunTimeEndian>, encoding: Encoding) -> Result<(), Error>
     ensures { Appends result w.old w.new
         (unsigned_string DW_AT_name.0 ++ unsigned_string DW_FORM_strp.0
         ++ unsigned_string DW_AT_ranges.0
-        ++ unsigned_string (place_form encoding)) }
+        ++ unsigned_string (offset_form encoding)) }
 {
-    attribute(w, DW_AT_name, DW_FORM_strp)?;
-    attribute(w, DW_AT_ranges, form_of_places(encoding))
+    write_attribute(w, DW_AT_name, DW_FORM_strp)?;
+    write_attribute(w, DW_AT_ranges, offset_form(encoding))
 }
 
 // Writes the attributes of a unit's name and directory.
-fn unit_texts(w: &mut EndianVec<RunTimeEndian>) -> Result<(), Error>
+fn write_unit_texts(w: &mut EndianVec<RunTimeEndian>) -> Result<(), Error>
     ensures { Appends result w.old w.new
         (unsigned_string DW_AT_name.0 ++ unsigned_string DW_FORM_strp.0
         ++ unsigned_string DW_AT_comp_dir.0
         ++ unsigned_string DW_FORM_strp.0) }
 {
-    attribute(w, DW_AT_name, DW_FORM_strp)?;
-    attribute(w, DW_AT_comp_dir, DW_FORM_strp)
+    write_attribute(w, DW_AT_name, DW_FORM_strp)?;
+    write_attribute(w, DW_AT_comp_dir, DW_FORM_strp)
 }
 
 // Writes the attributes of a unit's line program, low address and ranges.
-fn unit_places(w: &mut EndianVec<RunTimeEndian>, encoding: Encoding) -> Result<(), Error>
+fn write_unit_offsets(w: &mut EndianVec<RunTimeEndian>, encoding: Encoding) -> Result<(), Error>
     ensures { Appends result w.old w.new
-        (unsigned_string DW_AT_stmt_list.0 ++ unsigned_string (place_form encoding)
+        (unsigned_string DW_AT_stmt_list.0 ++ unsigned_string (offset_form encoding)
         ++ unsigned_string DW_AT_low_pc.0
         ++ unsigned_string DW_FORM_addr.0 ++ unsigned_string DW_AT_ranges.0
-        ++ unsigned_string (place_form encoding)) }
+        ++ unsigned_string (offset_form encoding)) }
 {
-    attribute(w, DW_AT_stmt_list, form_of_places(encoding))?;
-    attribute(w, DW_AT_low_pc, DW_FORM_addr)?;
-    attribute(w, DW_AT_ranges, form_of_places(encoding))
+    write_attribute(w, DW_AT_stmt_list, offset_form(encoding))?;
+    write_attribute(w, DW_AT_low_pc, DW_FORM_addr)?;
+    write_attribute(w, DW_AT_ranges, offset_form(encoding))
 }
 
-// Writes the attributes of the place of a call.
-fn call_attributes(w: &mut EndianVec<RunTimeEndian>) -> Result<(), Error>
+// Writes the attributes of the file, line and column of a call.
+fn write_call_attributes(w: &mut EndianVec<RunTimeEndian>) -> Result<(), Error>
     ensures { Appends result w.old w.new
         (unsigned_string DW_AT_call_file.0 ++ unsigned_string DW_FORM_udata.0
         ++ unsigned_string DW_AT_call_line.0
         ++ unsigned_string DW_FORM_udata.0 ++ unsigned_string DW_AT_call_column.0
         ++ unsigned_string DW_FORM_udata.0) }
 {
-    attribute(w, DW_AT_call_file, DW_FORM_udata)?;
-    attribute(w, DW_AT_call_line, DW_FORM_udata)?;
-    attribute(w, DW_AT_call_column, DW_FORM_udata)
+    write_attribute(w, DW_AT_call_file, DW_FORM_udata)?;
+    write_attribute(w, DW_AT_call_line, DW_FORM_udata)?;
+    write_attribute(w, DW_AT_call_column, DW_FORM_udata)
 }
 
 // Writes what comes after the attributes of a declaration.
-fn end(w: &mut EndianVec<RunTimeEndian>) -> Result<(), Error>
+fn write_end(w: &mut EndianVec<RunTimeEndian>) -> Result<(), Error>
     ensures { Appends result w.old w.new (0 ∷ 0 ∷ []) }
 {
     w.write(&[0, 0])
@@ -110,10 +110,10 @@ fn declare_unit(w: &mut EndianVec<RunTimeEndian>, encoding: Encoding) -> Result<
         (spelled_declaration
         (declaration_for encoding DW_TAG_compile_unit.0 true (CompileUnit 0 0 0 0))) }
 {
-    begin(w, 1, DW_TAG_compile_unit, true)?;
-    unit_texts(w)?;
-    unit_places(w, encoding)?;
-    end(w)
+    write_start(w, 1, DW_TAG_compile_unit, true)?;
+    write_unit_texts(w)?;
+    write_unit_offsets(w, encoding)?;
+    write_end(w)
 }
 
 // Declares functions, with or without children.
@@ -126,14 +126,14 @@ fn declare_function(
         (spelled_declaration
         (declaration_for encoding DW_TAG_subprogram.0 has_children (Function has_children 0 0))) }
 {
-    begin(
+    write_start(
         w,
         if has_children { 2 } else { 3 },
         DW_TAG_subprogram,
         has_children,
     )?;
-    name_and_ranges(w, encoding)?;
-    end(w)
+    write_name_and_ranges(w, encoding)?;
+    write_end(w)
 }
 
 // Declares inlined calls, with or without children.
@@ -147,15 +147,15 @@ fn declare_call(
         (declaration_for encoding DW_TAG_inlined_subroutine.0 has_children
         (Call has_children 0 0 0 0 0))) }
 {
-    begin(
+    write_start(
         w,
         if has_children { 4 } else { 5 },
         DW_TAG_inlined_subroutine,
         has_children,
     )?;
-    name_and_ranges(w, encoding)?;
-    call_attributes(w)?;
-    end(w)
+    write_name_and_ranges(w, encoding)?;
+    write_call_attributes(w)?;
+    write_end(w)
 }
 
 // Declares functions with children and without.
@@ -181,7 +181,7 @@ fn declare_calls(w: &mut EndianVec<RunTimeEndian>, encoding: Encoding) -> Result
     declare_call(w, encoding, false)
 }
 
-/// Writes the declarations, in one table. Refused only where no memory is found.
+/// Writes the declarations, in one table. Refused only when out of memory.
 #[tactic(auto, using(crate::proofs::AppendedWrites::whole_table))]
 pub fn write_declarations(w: &mut EndianVec<RunTimeEndian>, encoding: Encoding) -> Result<(), Error>
     ensures { Appends result w.old w.new (spelled_declarations encoding) }

@@ -13,21 +13,21 @@ use gimli_lines_write_bytes::{Encoding, EndianVec, Error, Format, RunTimeEndian,
 /// An entry of a unit as it is written (DWARF 5, 7.5.3). Texts are offsets in the string section.
 #[derive(Clone, Copy, Debug, PartialEq, Eq)]
 pub enum Entry {
-    /// A compilation unit: its name and directory, where its line program and its ranges are. Its
-    /// low address is 0.
+    /// A compilation unit: its name and directory, and the offsets of its line program and of its
+    /// ranges. Its low address is 0.
     CompileUnit {
         name: u64,
         directory: u64,
         line_program: u64,
         ranges: u64,
     },
-    /// A function: its name, and where its ranges are.
+    /// A function: its name, and the offset of its ranges.
     Function {
         has_children: bool,
         name: u64,
         ranges: u64,
     },
-    /// A call that was inlined: what was called, where its ranges are, and where it was called.
+    /// An inlined call: the name of the function, the offset of its ranges, and where it is called.
     Call {
         has_children: bool,
         name: u64,
@@ -64,14 +64,14 @@ fn write_word(w: &mut EndianVec<RunTimeEndian>, format: Format, offset: u64) -> 
 
 // Writes an address.
 fn write_address(w: &mut EndianVec<RunTimeEndian>, size: u8, address: u64) -> Result<(), Error>
-    requires sized { is_address_size size ≡ true }
+    requires size { is_address_size size ≡ true }
     requires fits { address < 256 ^ size }
     ensures { Appends result w.old w.new (number_bytes w.old.is_big size address) }
 {
     w.write_udata(address, size)
 }
 
-// Writes the place of a call.
+// Writes the file, line and column of a call.
 fn write_place(
     w: &mut EndianVec<RunTimeEndian>,
     file: u64,
@@ -86,13 +86,13 @@ fn write_place(
     w.write_uleb128(column)
 }
 
-/// Writes an entry. Refused only where no memory is found.
+/// Writes an entry. Refused only when out of memory.
 pub fn write_entry(
     w: &mut EndianVec<RunTimeEndian>,
     encoding: Encoding,
     entry: Entry,
 ) -> Result<(), Error>
-    requires sized { is_address_size encoding.address_size ≡ true }
+    requires size { is_address_size encoding.address_size ≡ true }
     requires fits { AllFit (2 ^ 64) encoding (attributes_of entry) }
     ensures { Appends result w.old w.new (spelled_entry encoding w.old.is_big entry) }
 {

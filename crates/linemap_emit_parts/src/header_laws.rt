@@ -1,5 +1,4 @@
-//! What is read of what is written: each function here has an empty body, and its contract is a
-//! law.
+//! Laws: what is written is read again. Each function does nothing, and its contract is proved.
 
 ghost use Rattle.linemap_emit_parts.specs.EmittedHeaderLaws.{HeaderAgain};
 

@@ -1,4 +1,5 @@
-//! Units with their entries, range lists and headers of line programs as they are written; they are read again.
+//! Units with their entries, range lists and headers of line programs as they are written, and laws
+//! that they are read again.
 #![tactic(auto)]
 
 pub mod declarations;

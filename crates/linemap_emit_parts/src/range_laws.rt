@@ -1,9 +1,8 @@
-//! What is read of what is written: each function here has an empty body, and its contract is a
-//! law.
+//! Laws: what is written is read again. Each function does nothing, and its contract is proved.
 
 ghost use Rattle.linemap_emit_parts.specs.EmittedRangeLaws.{RangesAgain};
 
-/// A list gives its ranges, whatever follows it.
+/// A list is read as its ranges, whatever follows it.
 pub fn ranges_again()
     ensures { RangesAgain }
 {}

@@ -6,14 +6,17 @@ ghost use Rattle.gimli_lines_write_bytes.specs.FormatSizes.{word_size};
 ghost use Rattle.linemap_emit_parts.specs.WriteResults.{Appends};
 ghost use Rattle.linemap_emit_parts.specs.EmittedEntries.{AllFit, attributes_of};
 ghost use Rattle.linemap_emit_parts.specs.EmittedEntryRows.{spelled_entries};
-ghost use Rattle.linemap_emit_parts.specs.EmittedUnits.{IsWritten, length_limit, spelled_length, spelled_fields, spelled_unit_body, spelled_unit};
+ghost use Rattle.linemap_emit_parts.specs.EmittedUnits.{IsWritten, spelled_fields, spelled_unit_body, spelled_unit};
+ghost use Rattle.gimli_lines_write_bytes.specs.NumberBytes.{length_limit, spelled_length};
 
 use crate::entries::{Entry, write_entry};
-use gimli_lines_write_bytes::{Encoding, EndianVec, Error, Format, RunTimeEndian, Writer};
+use gimli_lines_write_bytes::{
+    DW_UT_compile, Encoding, EndianVec, Error, Format, RunTimeEndian, Writer,
+};
 use std::alloc::Global;
 
-/// Writes a length, after the escape of 64-bit DWARF (DWARF 5, 7.4). Refused only where no memory
-/// is found.
+/// Writes a length, after the escape of 64-bit DWARF (DWARF 5, 7.4). Refused only when out of
+/// memory.
 pub fn write_length(
     w: &mut EndianVec<RunTimeEndian>,
     format: Format,
@@ -25,7 +28,7 @@ pub fn write_length(
     match format {
         Format::Dwarf32 => w.write_udata(length, 4),
         Format::Dwarf64 => {
-            w.write_u32(0xffff_ffff)?;
+            w.write(&[0xff, 0xff, 0xff, 0xff])?;
             w.write_u64(length)
         }
     }
@@ -48,7 +51,7 @@ fn write_fields(w: &mut EndianVec<RunTimeEndian>, encoding: Encoding) -> Result<
         write_offset_0(w, encoding.format)?;
         w.write_u8(encoding.address_size)
     } else {
-        w.write_u8(1)?;
+        w.write_u8(DW_UT_compile.0)?;
         w.write_u8(encoding.address_size)?;
         write_offset_0(w, encoding.format)
     }
@@ -70,7 +73,7 @@ fn write_entries(
     Ok(())
 }
 
-/// Writes a unit with its entries. Refused only where no memory is found.
+/// Writes a unit with its entries. Refused only when out of memory.
 pub fn write_unit(
     alloc: Global,
     w: &mut EndianVec<RunTimeEndian>,

@@ -1,4 +1,4 @@
--- Sequences that no condition refuses can be told.
+-- Sequences that no condition refuses can be emitted.
 use Rattle.std.proofs.Common.{◌≡◌, ℕ, ◌<◌, ◌≤◌, ◌^◌, ◌-◌, Bool, false, ◌||◌, ◌==◌, nat_lt, nat_le, List, [], ◌∷◌, length, refl, arith}
 use Rattle.std.specs.List.{list_any}
 use Rattle.std.proofs.lemmas.Bool.{ltb-false, leb-false, le-ltb, or_parts, or_from, lt-leb}
@@ -12,7 +12,7 @@ use Rattle.linemap_emit_programs.specs.SoundSequences.{CanEmitSequences, AllCoun
 
 -- ---- rows
 
--- what no condition says of a row
+-- what no condition refuses of a row
 record IsPlain (files : ℕ) (end : ℕ) (r : RowPart) : Type 0 where
   bounds : is_out_of_bounds r.address ≡ false
   below : r.address < end
@@ -87,7 +87,7 @@ all_show files end begin low (r ∷ rs) all few from ascend =
     let p = or_parts (nat_lt r.address low) (goes_back_from r.address rs) ascend in
     let after = ltb-false r.address low p.0 in
     let file = all.0.file in (
-      record { after = omega arith; counted = omega arith },
+      record { not_below = omega arith; file_fits = omega arith },
       all_show files end begin r.address rs all.1 few (omega arith) p.1,
     )
 

@@ -8,13 +8,12 @@ use Rattle.gimli_lines_write_rows.specs.declared.entry.LineEntry.{LineEntry}
 use Rattle.gimli_lines_write_rows.specs.declared.entry.LineEntry.TheVariants.{SetAddress, Row, EndSequence}
 use Rattle.gimli_lines_write_rows.specs.Address.TheVariants.{Constant}
 use Rattle.gimli_lines_write_rows.specs.LineRules.{LineRules}
-use Rattle.gimli_lines_write_rows.specs.Registers.{Registers}
 use Rattle.gimli_lines_write_rows.specs.BuiltRows.{rows_of, first_row, follows, IsReadable}
-use Rattle.linemap_places_laws.specs.Lines.{ProgramRow}
 use Rattle.linemap_places_laws.specs.LookupAgreement.{RowsAgree}
 use Rattle.linemap_places_laws.specs.TableParts.{RowPart, SequencePart}
+use Rattle.linemap_places_laws.specs.UnitLines.{program_row}
 
--- a row, whose offset counts from the start of its sequence
+-- a row, whose offset is from the start of its sequence
 abbrev pub emitted_row : ℕ → RowPart → LineRow
 emitted_row begin r = record {
   address_offset = r.address - begin;
@@ -48,12 +47,12 @@ emitted_sequence s = from_first s.rows s.end
 abbrev pub emitted_sequences : List SequencePart → List LineEntry
 emitted_sequences ss = flat_map emitted_sequence ss
 
--- ---- what it shows
+-- ---- the rows that are shown
 
--- a row that isn't below the start of its sequence, whose file can be counted from 1
+-- a row that isn't below the start of its sequence, whose file has a number from 1 on
 pub record CanShow (begin : ℕ) (r : RowPart) : Type 0 where
-  pub after : begin ≤ r.address
-  pub counted : r.file + 1 < 2 ^ 64
+  pub not_below : begin ≤ r.address
+  pub file_fits : r.file + 1 < 2 ^ 64
 
 unfoldable pub AllShow : ℕ → List RowPart → Type 0
 AllShow begin [] = Unit {0}
@@ -71,23 +70,12 @@ unfoldable pub AllSequences : List SequencePart → Type 0
 AllSequences [] = Unit {0}
 AllSequences (s ∷ ss) = CanShowAll s × AllSequences ss
 
--- registers as lookups see them
-abbrev pub shown_row : Registers → ProgramRow
-shown_row r =
-    record {
-      address = r.address;
-      file = r.file;
-      line = r.line;
-      column = r.column;
-      ends = r.end_sequence;
-    }
-
 -- Up to version 4 a program that is built of a table's sequences shows their rows, files counted
 -- from 1.
 abbrev pub SequencesShown : Type 0
 SequencesShown =
     (rules : LineRules) (ss : List SequencePart) → rules.encoding.version ≤ 4 → AllSequences ss
-    → RowsAgree (λ i. i + 1) ss (map shown_row (rows_of rules (emitted_sequences ss)))
+    → RowsAgree (λ i. i + 1) ss (map program_row (rows_of rules (emitted_sequences ss)))
 
 -- ---- what can be built
 
@@ -100,21 +88,20 @@ emitted_rules e = record {
   opcode_base = 13;
 }
 
--- rows that don't go back from an address, each at an address of the size, with a line of 63 bits,
--- and a file and column of 64
+-- rows that don't go back from an address, each at an address of the size, with a line of 63 bits
+-- and a file and a column of 64
 unfoldable pub CanBuild : ℕ → ℕ → List RowPart → Type 0
 CanBuild size low [] = Unit {0}
 CanBuild size low (r ∷ rs) =
     (low ≤ r.address) × (r.address < 2 ^ (8 * size)) × (r.address < 2 ^ 64) × (r.line < 2 ^ 63)
     × (r.file < 2 ^ 64) × (r.column < 2 ^ 64) × CanBuild size r.address rs
 
--- rows none of which is above an address
+-- no row is above an address
 unfoldable pub AllBelow : ℕ → List RowPart → Type 0
 AllBelow end [] = Unit {0}
 AllBelow end (r ∷ rs) = (r.address ≤ end) × AllBelow end rs
 
--- a sequence of such rows, which begins below the tombstones and ends at or
--- after its last row
+-- a sequence of such rows, which begins below the tombstones and ends at or after its last row
 pub record CanBuildAll (size : ℕ) (s : SequencePart) : Type 0 where
   pub first : RowPart
   pub others : List RowPart
@@ -129,8 +116,8 @@ unfoldable pub AllCanBuild : ℕ → List SequencePart → Type 0
 AllCanBuild size [] = Unit {0}
 AllCanBuild size (s ∷ ss) = CanBuildAll size s × AllCanBuild size ss
 
--- What is written of such sequences can be built, after the first row of a program, and what is
--- built can be read.
+-- The entries of such sequences can be built, after the first row of a program, and what is built
+-- can be read.
 abbrev pub SequencesFollow : Type 0
 SequencesFollow =
     (e : Encoding) (ss : List SequencePart) → AllCanBuild e.address_size ss
@@ -141,18 +128,18 @@ SequencesReadable =
     (e : Encoding) (ss : List SequencePart) → AllCanBuild e.address_size ss
     → IsReadable (emitted_rules e) 0 (first_row (emitted_rules e)) (emitted_sequences ss)
 
--- rows none of which is below an address
+-- no row is below an address
 unfoldable pub AllFrom : ℕ → List RowPart → Type 0
 AllFrom low [] = Unit {0}
 AllFrom low (r ∷ rs) = (low ≤ r.address) × AllFrom low rs
 
 -- no row of a sequence is below its first, nor its end
-abbrev pub ordered_from : List RowPart → ℕ → Type 0
-ordered_from [] end = Unit {0}
-ordered_from (r ∷ rs) end = AllFrom r.address (r ∷ rs) × (r.address ≤ end)
+abbrev pub IsOrderedUpTo : List RowPart → ℕ → Type 0
+IsOrderedUpTo [] end = Unit {0}
+IsOrderedUpTo (r ∷ rs) end = AllFrom r.address (r ∷ rs) × (r.address ≤ end)
 
 abbrev pub IsOrdered : SequencePart → Type 0
-IsOrdered s = ordered_from s.rows s.end
+IsOrdered s = IsOrderedUpTo s.rows s.end
 
 unfoldable pub AllOrdered : List SequencePart → Type 0
 AllOrdered [] = Unit {0}

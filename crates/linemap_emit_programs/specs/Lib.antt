@@ -5,7 +5,7 @@ pub use Rattle.linemap_places_laws.specs.UnitRanges
 pub use Rattle.linemap_emit_parts.specs.Declarations
 pub use Rattle.linemap_emit_parts.specs.TableParsing
 pub use Rattle.linemap_places_laws.specs.Attributes
-pub use Rattle.linemap_places_laws.specs.DwarfSections
+pub use Rattle.linemap_places_laws.specs.DwarfFiles
 pub use Rattle.linemap_places_laws.specs.UnitFacts
 pub use Rattle.linemap_emit_parts.specs.HeaderParsing
 pub use Rattle.linemap_emit_parts.specs.LineHeaders

@@ -4,13 +4,13 @@ use Rattle.linemap_places_laws.specs.TableParts.{SequencePart, UnitPart}
 use Rattle.linemap_places_laws.specs.Conditions.{IsSound}
 use Rattle.linemap_emit_programs.specs.EmittedRows.{AllSequences, AllCanBuild, AllOrdered}
 
--- They can be written as entries, built of them, and shown.
+-- sequences that can be written as entries, built of these, and shown
 pub record CanEmitSequences (ss : List SequencePart) : Type 0 where
   pub ordered : AllOrdered ss
   pub can_build : AllCanBuild 8 ss
   pub can_show : AllSequences ss
 
--- each of the units has no more files than memory can hold
+-- each unit has fewer files than 2^64
 unfoldable pub AllCountable : List UnitPart → Type 0
 AllCountable [] = Unit {0}
 AllCountable (u ∷ us) = (length u.files < 2 ^ 64) × AllCountable us

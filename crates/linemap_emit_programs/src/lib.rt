@@ -1,4 +1,4 @@
-//! A table's rows as a line program is built of them; a reader sees these rows again.
+//! The line number programs of a table's units, and laws that a reader sees their rows again.
 #![tactic(auto)]
 
 pub mod program_laws;

@@ -9,7 +9,7 @@ pub fn lines_again()
     ensures { LinesAgain }
 {}
 
-/// The files of a unit are found under their numbers.
+/// Each file of a unit has its number.
 pub fn files_numbered()
     ensures { FilesNumbered }
 {}

@@ -3,10 +3,10 @@
 ghost use Rattle.std.specs.Prelude.{◌≡◌, ◌<◌, ◌≤◌, ◌^◌, ◌++◌, ◌∷◌, [], map, flat_map, length};
 ghost use Rattle.gimli_lines_write_rows.specs.FormatSizes.{word_size};
 ghost use Rattle.linemap_places_laws.specs.TableViews.{file_part};
-ghost use Rattle.linemap_emit_parts.specs.EmittedUnits.{length_limit};
 ghost use Rattle.linemap_emit_parts.specs.WriteResults.{Appends};
 ghost use Rattle.linemap_emit_parts.specs.EmittedHeaders.{operand_counts, spelled_text, spelled_file, spelled_parameters, spelled_opcodes, spelled_header, spelled_program_body, spelled_program};
 ghost use Rattle.linemap_emit_programs.specs.EmittedPrograms.{files_from};
+ghost use Rattle.gimli_lines_write_rows.specs.NumberBytes.{length_limit};
 
 use gimli_lines_write_rows::{Encoding, EndianVec, Error, RunTimeEndian, Writer};
 use linemap_emit_parts::write_length;
@@ -32,7 +32,7 @@ fn write_directories(w: &mut EndianVec<RunTimeEndian>, files: &[TableFile]) -> R
     w.write_u8(0)
 }
 
-// Writes a file in the directory of a number. Its time and size aren't recorded.
+// Writes a file, in a directory that has a number. Its time and size aren't recorded.
 fn write_file(
     w: &mut EndianVec<RunTimeEndian>,
     file: &TableFile,
@@ -60,7 +60,8 @@ fn write_files(w: &mut EndianVec<RunTimeEndian>, files: &[TableFile]) -> Result<
     w.write_u8(0)
 }
 
-// Writes the parameters of special opcodes.
+// Writes the parameters before the opcodes; the special opcodes move the line by -5 (251 in eight
+// bits) to 8.
 fn write_parameters(w: &mut EndianVec<RunTimeEndian>, version: u16) -> Result<(), Error>
     ensures { Appends result w.old w.new (spelled_parameters version) }
 {
@@ -71,7 +72,7 @@ fn write_parameters(w: &mut EndianVec<RunTimeEndian>, version: u16) -> Result<()
     }
 }
 
-// Writes the first special opcode, and how many operands the standard opcodes have.
+// Writes the first special opcode, and the number of operands of each standard opcode.
 fn write_opcodes(w: &mut EndianVec<RunTimeEndian>) -> Result<(), Error>
     ensures { Appends result w.old w.new spelled_opcodes }
 {
@@ -94,8 +95,8 @@ fn write_fields(
     write_files(w, files)
 }
 
-/// Writes a header with the tables of a unit's files, and a program after it. Refused only where
-/// no memory is found.
+/// Writes a header with the tables of a unit's files, and a program after it. Refused only when out
+/// of memory.
 pub fn write_program(
     alloc: Global,
     w: &mut EndianVec<RunTimeEndian>,

@@ -9,7 +9,7 @@ use gimli_lines_write_rows::{Address, Error, FileId, LineEntry, LineRow};
 use linemap_places_laws::{TableRow, TableSequence};
 use std::alloc::Global;
 
-// A row, whose offset counts from the start of its sequence.
+// A row, whose offset is from the start of its sequence.
 fn row_of(begin: u64, row: &TableRow) -> LineRow
     requires { begin ≤ (row_part row.now).address }
     ensures { result ≡ emitted_row begin (row_part row.now) }
@@ -29,7 +29,7 @@ fn row_of(begin: u64, row: &TableRow) -> LineRow
     }
 }
 
-// Adds the rows of a sequence to other entries.
+// Appends the rows of a sequence.
 #[tactic(auto, unfolding(crate::specs::EmittedRows::AllFrom))]
 fn push_rows(entries: &mut Vec<LineEntry>, begin: u64, rows: &[TableRow]) -> Result<(), Error>
     requires { AllFrom begin (map row_part rows.now) }
@@ -43,7 +43,7 @@ fn push_rows(entries: &mut Vec<LineEntry>, begin: u64, rows: &[TableRow]) -> Res
     Ok(())
 }
 
-// Adds a sequence to other entries.
+// Appends a sequence.
 #[tactic(auto, unfolding(crate::specs::EmittedRows::AllFrom))]
 fn push_sequence(entries: &mut Vec<LineEntry>, sequence: &TableSequence) -> Result<(), Error>
     requires { IsOrdered (sequence_part sequence.now) }
@@ -62,8 +62,7 @@ fn push_sequence(entries: &mut Vec<LineEntry>, sequence: &TableSequence) -> Resu
     Ok(())
 }
 
-/// The entries of a program that shows the rows of sequences. Refused only where no memory is
-/// found.
+/// The entries of a program that shows the rows of sequences. Refused only when out of memory.
 #[tactic(auto, unfolding(crate::specs::EmittedRows::AllOrdered))]
 pub fn entries_of(alloc: Global, sequences: &[TableSequence]) -> Result<Vec<LineEntry>, Error>
     requires { AllOrdered (map sequence_part sequences.now) }

@@ -9,7 +9,7 @@ pub fn sequences_shown()
     ensures { SequencesShown }
 {}
 
-/// What is written of sequences whose rows don't go back can be built.
+/// The entries of sequences whose rows don't go back can be built.
 pub fn sequences_follow()
     ensures { SequencesFollow }
 {}

@@ -74,7 +74,7 @@ function_emitted size f rest st st1 st2 st3 final children some head inner end c
     ∙ calls_keep f.calls (with_function_entry f st) in
     (kept, can.2, ap (with_functions rest) after ∙ whole)
 
--- an element in front of those after it
+-- an element before those after it
 pub from_here : {X : Type 0} (xs : List X) (i : ℕ) (x : X) → i < length xs → x ≡ get_or xs i x
     → drop i xs ≡ (x ∷ drop (i + 1) xs)
 from_here xs i x inside is =

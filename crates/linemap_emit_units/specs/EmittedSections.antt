@@ -1,15 +1,15 @@
--- What is emitted of a table as sections, up to version 4, and files that have them.
+-- The sections that are emitted of a table, up to version 4, and files that have them.
 use Rattle.std.specs.Prelude.{◌≡◌, ℕ, Bool, List, []}
 use Rattle.gimli_lines_write_tables.specs.View.{bytes_left}
 use Rattle.gimli_lines_write_tables.specs.DwarfFileType.TheVariants.{Main}
 use Rattle.gimli_lines_write_tables.specs.Encoding.{Encoding}
 use Rattle.gimli_lines_write_tables.specs.StringSections.{section_of}
-use Rattle.linemap_emit_programs.specs.DwarfSections.{Sections}
+use Rattle.linemap_emit_programs.specs.DwarfFiles.{DwarfFile}
 use Rattle.linemap_emit_programs.specs.TableParts.{UnitPart}
 use Rattle.linemap_emit_programs.specs.EmittedEntries.{spelled_declarations}
-use Rattle.linemap_emit_programs.specs.EmittedEntryLaws.{bytes_at}
 use Rattle.linemap_emit_programs.specs.EmittedUnits.{spelled_units}
 use Rattle.linemap_emit_units.specs.TableEmission.{EmittedTable, emitted_table}
+use Rattle.gimli_lines_write_tables.specs.BytesAt.{bytes_at}
 
 -- the bytes of each section that is emitted
 pub record SectionBytes : Type 0 where
@@ -19,7 +19,7 @@ pub record SectionBytes : Type 0 where
   pub debug_ranges : List ℕ
   pub debug_str : List ℕ
 
--- what was emitted, as sections
+-- what is emitted, as sections
 abbrev pub sections_of : Encoding → Bool → EmittedTable → SectionBytes
 sections_of e is_big st = record {
   debug_abbrev = spelled_declarations e;
@@ -33,23 +33,23 @@ sections_of e is_big st = record {
 abbrev pub emitted_sections : Encoding → Bool → List UnitPart → SectionBytes
 emitted_sections e is_big us = sections_of e is_big (emitted_table e is_big us)
 
--- The sections of a main file without supplement that have these bytes, each from some identifier
--- on, and no address ranges.
-pub record HoldBytes (is_big : Bool) (bytes : SectionBytes) (s : Sections) : Type 0 where
+-- The sections of a main file without supplement have these bytes, each from some identifier on,
+-- and no address ranges.
+pub record HoldBytes (is_big : Bool) (bytes : SectionBytes) (s : DwarfFile) : Type 0 where
   pub abbrev_first : ℕ
   pub info_first : ℕ
   pub line_first : ℕ
   pub ranges_first : ℕ
   pub str_first : ℕ
-  pub abbrev_is : s.file.debug_abbrev ≡ bytes_at is_big abbrev_first bytes.debug_abbrev
-  pub info_is : s.file.debug_info ≡ bytes_at is_big info_first bytes.debug_info
-  pub line_is : s.file.debug_line ≡ bytes_at is_big line_first bytes.debug_line
-  pub ranges_is : s.file.ranges.debug_ranges ≡ bytes_at is_big ranges_first bytes.debug_ranges
-  pub str_is : s.file.debug_str ≡ bytes_at is_big str_first bytes.debug_str
-  pub no_aranges : bytes_left s.file.debug_aranges ≡ 0
-  pub is_main : s.file.file_type ≡ Main
+  pub abbrev_is : s.sections.debug_abbrev ≡ bytes_at is_big abbrev_first bytes.debug_abbrev
+  pub info_is : s.sections.debug_info ≡ bytes_at is_big info_first bytes.debug_info
+  pub line_is : s.sections.debug_line ≡ bytes_at is_big line_first bytes.debug_line
+  pub ranges_is : s.sections.ranges.debug_ranges ≡ bytes_at is_big ranges_first bytes.debug_ranges
+  pub str_is : s.sections.debug_str ≡ bytes_at is_big str_first bytes.debug_str
+  pub no_aranges : bytes_left s.sections.debug_aranges ≡ 0
+  pub is_main : s.sections.file_type ≡ Main
   pub is_alone : s.supplements ≡ []
 
--- They have the bytes of what was emitted.
-abbrev pub HoldTable : Encoding → Bool → EmittedTable → Sections → Type 0
+-- They have the bytes of what is emitted.
+abbrev pub HoldTable : Encoding → Bool → EmittedTable → DwarfFile → Type 0
 HoldTable e is_big st s = HoldBytes is_big (sections_of e is_big st) s

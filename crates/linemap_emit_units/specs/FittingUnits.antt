@@ -1,4 +1,4 @@
--- Units that can be emitted: what is written of each fits its place.
+-- Units that can be emitted: what is written of each fits.
 use Rattle.std.specs.Prelude.{◌≡◌, ℕ, ◌≤◌, ◌<◌, ◌^◌, Bool, List, [], ◌∷◌, All, length, Ok}
 use Rattle.std.specs.Str.{IsUtf8}
 use Rattle.gimli_lines_write_tables.specs.Encoding.{Encoding}
@@ -9,7 +9,7 @@ use Rattle.linemap_emit_programs.specs.TableWeight.{table_weight}
 use Rattle.linemap_emit_programs.specs.EmittedEntries.{AllFit, attributes_of}
 use Rattle.linemap_emit_programs.specs.EmittedUnits.{spelled_unit_body}
 use Rattle.linemap_emit_units.specs.UnitEmission.{CanEmitUnit}
-use Rattle.linemap_emit_programs.specs.EmittedHeaders.{AllTableTexts, AllFiles, spelled_header, spelled_program_body}
+use Rattle.linemap_emit_programs.specs.EmittedHeaders.{IsTableText, IsTableFile, spelled_header, spelled_program_body}
 use Rattle.linemap_emit_programs.specs.SoundSequences.{CanEmitSequences, AllCountable}
 use Rattle.linemap_emit_programs.specs.EmittedPrograms.{FilesAreUtf8, directories_of, files_of}
 use Rattle.linemap_emit_units.specs.TableEmission.{EmittedTable, no_units, instructions_of, after_entries, with_emitted_unit}
@@ -26,8 +26,8 @@ pub record IsServed (e : Encoding) : Type 0 where
 pub record UnitFits (e : Encoding) (is_big : Bool) (u : UnitPart) (st : EmittedTable) : Type 0 where
   pub can_emit : CanEmitUnit e.address_size u
   pub can_emit_sequences : CanEmitSequences u.sequences
-  pub all_entries : AllTableTexts (directories_of u)
-  pub all_files : AllFiles (files_of u)
+  pub all_directories : All IsTableText (directories_of u)
+  pub all_files : All IsTableFile (files_of u)
   pub instructions : List ℕ
   pub instructions_are : instructions_of e is_big u ≡ Ok instructions
   pub header_small : length (spelled_header e.version (directories_of u) (files_of u)) < 2 ^ 31
@@ -38,7 +38,7 @@ pub record UnitFits (e : Encoding) (is_big : Bool) (u : UnitPart) (st : EmittedT
   pub entries_small : length (spelled_unit_body e is_big (after_entries e is_big u st).entries)
       < 2 ^ 31
 
--- units one after the other
+-- each unit after those before it
 unfoldable pub AllUnitsFit : Encoding → Bool → List UnitPart → EmittedTable → Type 0
 AllUnitsFit e is_big [] st = Unit {0}
 AllUnitsFit e is_big (u ∷ us) st =

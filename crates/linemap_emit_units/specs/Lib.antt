@@ -21,11 +21,12 @@ pub use Rattle.gimli_lines_write_tables.specs.RunTimeEndian
 pub use Rattle.gimli_lines_write_tables.specs.SectionReads
 pub use Rattle.gimli_lines_write_tables.specs.Range
 pub use Rattle.linemap_emit_programs.specs.Attributes
-pub use Rattle.linemap_emit_programs.specs.DwarfSections
+pub use Rattle.linemap_emit_programs.specs.DwarfFiles
 pub use Rattle.linemap_emit_programs.specs.UnitFacts
 pub use Rattle.linemap_emit_programs.specs.HeaderParsing
 pub use Rattle.linemap_emit_programs.specs.LineHeaders
 pub use Rattle.gimli_lines_write_tables.specs.LineRules
+pub use Rattle.gimli_lines_write_tables.specs.BytesAt
 pub use Rattle.gimli_lines_write_tables.specs.NumberBytes
 pub use Rattle.gimli_lines_write_tables.specs.OutputBytes
 pub use Rattle.gimli_lines_write_tables.specs.WriteError

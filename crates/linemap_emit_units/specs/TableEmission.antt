@@ -43,7 +43,7 @@ program_of e is_big u =
     spelled_program e is_big (directories_of u) (files_of u)
     (bytes_if_any (instructions_of e is_big u))
 
--- before the entries of a unit
+-- what is emitted before the entries of a unit
 abbrev pub before_entries : Encoding → Bool → EmittedTable → EmittedUnit
 before_entries e is_big st =
     record {
@@ -53,11 +53,11 @@ before_entries e is_big st =
       entries = [];
     }
 
--- after them, where the unit's line number program is after the others
+-- and after them; the unit's line number program comes after the others
 abbrev pub after_entries : Encoding → Bool → UnitPart → EmittedTable → EmittedUnit
 after_entries e is_big u st = with_unit (length st.lines) u (before_entries e is_big st)
 
--- with a unit more
+-- and with the whole unit
 abbrev pub with_emitted_unit : Encoding → Bool → UnitPart → EmittedTable → EmittedTable
 with_emitted_unit e is_big u st =
     let after = after_entries e is_big u st in

@@ -4,24 +4,20 @@ use Rattle.std.specs.Prelude.{ℕ, Bool, true, false, List, [], ◌∷◌, ◌++
 use Rattle.gimli_lines_write_tables.specs.Encoding.{Encoding}
 use Rattle.gimli_lines_write_tables.specs.StringSections.{IsText, with_text, text_index, offset_of}
 use Rattle.gimli_lines_write_tables.specs.OutputBytes.{WriterContents, append}
-use Rattle.gimli_lines_write_tables.specs.Range.{Range}
 use Rattle.linemap_emit_programs.specs.TableParts.{RangePart, Site, Calls, no_calls, more_calls, FunctionPart, UnitPart}
 use Rattle.linemap_emit_programs.specs.Entry.{Entry}
 use Rattle.linemap_emit_programs.specs.Entry.TheVariants.{CompileUnit, Function, Call, EndOfChildren}
 use Rattle.linemap_emit_programs.specs.EmittedRanges.{AllWritable, spelled_ranges}
+use Rattle.linemap_emit_programs.specs.LookupAgreement.{lookup_range}
 
--- In which encoding, the texts of the string section, the range lists, and entries.
+-- the encoding, the texts of the string section, the range lists, and the entries of the unit
 pub record EmittedUnit : Type 0 where
   pub encoding : Encoding
   pub texts : List (List ℕ)
   pub ranges : WriterContents
   pub entries : List Entry
 
--- a range as it is written
-abbrev pub emitted_range : RangePart → Range
-emitted_range r = record { begin = r.begin; end = r.end }
-
--- where a text will be
+-- the offset of a text, which is added if it isn't there
 abbrev pub text_offset : List ℕ → EmittedUnit → ℕ
 text_offset text st = offset_of (with_text st.texts text) (text_index st.texts text)
 
@@ -32,7 +28,7 @@ with_name text st = record st { texts = with_text st.texts text }
 abbrev pub with_list : List RangePart → EmittedUnit → EmittedUnit
 with_list rs st =
     record st {
-      ranges = append (spelled_ranges st.encoding st.ranges.is_big (map emitted_range rs))
+      ranges = append (spelled_ranges st.encoding st.ranges.is_big (map lookup_range rs))
           st.ranges;
     }
 
@@ -42,17 +38,17 @@ list_offset st = length st.ranges.bytes
 abbrev pub with_entry : Entry → EmittedUnit → EmittedUnit
 with_entry x st = record st { entries = st.entries ++ x ∷ [] }
 
--- some calls
+-- there are calls
 abbrev pub has_calls : Calls → Bool
 has_calls no_calls = false
 has_calls (more_calls site inner others) = true
 
--- the end of children where there were some
+-- the end of children, if there are some
 abbrev pub with_end_of_children : Bool → EmittedUnit → EmittedUnit
 with_end_of_children true st = with_entry EndOfChildren st
 with_end_of_children false st = st
 
--- the entry of a call: its name, its ranges, and where it was called, files counted from 1
+-- the entry of a call: its name, its ranges, and where it is called, in files that count from 1
 abbrev pub with_call : Bool → Site → EmittedUnit → EmittedUnit
 with_call children s st =
     with_entry (Call children (text_offset s.name st) (list_offset st) (s.file + 1) s.line s.column)
@@ -81,12 +77,12 @@ abbrev pub with_functions : List FunctionPart → EmittedUnit → EmittedUnit
 with_functions [] st = st
 with_functions (f ∷ fs) st = with_functions fs (with_function f st)
 
--- the entry of a unit whose line program stands at an offset
+-- the entry of a unit whose line program is at an offset
 abbrev pub with_unit_entry : ℕ → UnitPart → EmittedUnit → EmittedUnit
 with_unit_entry line_program u st =
-    let named = with_name u.name st in
-    with_entry (CompileUnit (text_offset u.name st) (text_offset u.directory named) line_program
-    (list_offset st)) (with_list u.ranges (with_name u.directory named))
+    let next = with_name u.name st in
+    with_entry (CompileUnit (text_offset u.name st) (text_offset u.directory next) line_program
+    (list_offset st)) (with_list u.ranges (with_name u.directory next))
 
 -- a unit: its entry, those of its functions, and the end of its children
 abbrev pub with_unit : ℕ → UnitPart → EmittedUnit → EmittedUnit
@@ -101,9 +97,9 @@ without_entries st = record st { entries = [] }
 
 -- texts without a zero byte, and ranges that can be written in an address size
 abbrev pub CanEmit : ℕ → List ℕ → List RangePart → Type 0
-CanEmit size name rs = IsText name × AllWritable size (map emitted_range rs)
+CanEmit size name rs = IsText name × AllWritable size (map lookup_range rs)
 
--- the same of calls, each with those in it, whose files can be counted from 1
+-- the same of calls, each with those in it, whose files have numbers from 1 on
 unfoldable pub CanEmitCalls : ℕ → Calls → Type 0
 CanEmitCalls size no_calls = Unit {0}
 CanEmitCalls size (more_calls site inner others) =

@@ -1,4 +1,4 @@
-//! The units of a table as they are emitted, and when a table fits.
+//! The units of a table as they are emitted, and the tables that fit.
 #![tactic(auto)]
 
 pub mod unit_emitter;

@@ -1,13 +1,14 @@
-//! Entries as they are emitted.
+//! The entries of units, with their texts and range lists.
 
 ghost use Rattle.std.specs.Prelude.{◌≡◌, ◌<◌, ◌+◌, ◌^◌, [], All, ◌≢◌, map, string_bytes, OnOk, IfOk, IfErr, true};
+ghost use Rattle.linemap_emit_programs.specs.LookupAgreement.{lookup_range};
 ghost use Rattle.gimli_lines_write_tables.specs.StringSections.{IsText, section_of};
 ghost use Rattle.gimli_lines_write_tables.specs.WriteError.TheVariants.{Memory};
 ghost use Rattle.linemap_emit_programs.specs.TableViews.{range_part, call_part, calls_part, function_part, unit_part};
 ghost use Rattle.gimli_lines_write_tables.specs.NumberParsers.{is_address_size};
 ghost use Rattle.linemap_emit_programs.specs.WriteResults.{Appends};
 ghost use Rattle.linemap_emit_programs.specs.EmittedRanges.{AllWritable};
-ghost use Rattle.linemap_emit_units.specs.UnitEmission.{emitted_range, text_offset, with_name, with_list, list_offset, with_entry, has_calls, with_end_of_children, with_function_entry, with_call, CanEmit, CanEmitCalls, CanEmitFunctions, CanEmitUnit, with_calls, with_function, with_functions, with_unit_entry, with_unit, without_entries};
+ghost use Rattle.linemap_emit_units.specs.UnitEmission.{text_offset, with_name, with_list, list_offset, with_entry, has_calls, with_end_of_children, with_function_entry, with_call, CanEmit, CanEmitCalls, CanEmitFunctions, CanEmitUnit, with_calls, with_function, with_functions, with_unit_entry, with_unit, without_entries};
 
 use gimli_lines_write_tables::{
     Encoding, EndianVec, Error, Range, RunTimeEndian, StringTable, Writer,
@@ -16,7 +17,8 @@ use linemap_emit_programs::{Entry, TableCall, TableFunction, TableRange, TableUn
 use std::alloc::Global;
 use std::marker::Model;
 
-/// What is emitted so far: texts and range lists of all units, and the entries of the current unit.
+/// What is emitted so far: the texts and range lists of all units, and the entries of the current
+/// unit.
 #[derive(Drop)]
 pub struct UnitEmitter {
     encoding: Encoding,
@@ -39,7 +41,7 @@ impl Model for UnitEmitter {
 }
 
 impl UnitEmitter {
-    /// Nothing is emitted yet. It takes no memory.
+    /// An emitter that has emitted nothing yet. It takes no memory.
     pub fn new(alloc: Global, encoding: Encoding, ranges: EndianVec<RunTimeEndian>) -> Self
         ensures { result
             ≡ record { encoding = encoding; texts = []; ranges = ranges; entries = [] } }
@@ -52,25 +54,25 @@ impl UnitEmitter {
         }
     }
 
-    // The offset of a text, which is added where it isn't there.
+    // The offset of a text, which is added if it isn't there.
     #[tactic(auto, using(crate::proofs::EmittedTextLemmas::place_below))]
     fn text(&mut self, alloc: Global, text: &str) -> Result<u64, Error>
         requires { IsText text.now }
         ensures ok { OnOk result (self.new ≡ with_name text.now self.old) }
-        ensures place { IfOk result (λ offset. offset ≡ text_offset text.now self.old) }
+        ensures offset { IfOk result (λ offset. offset ≡ text_offset text.now self.old) }
         ensures refused { IfErr result (λ e. e ≡ Memory) }
     {
         let id = self.strings.add(alloc, text.as_bytes())?;
         Ok(self.strings.offset(id).0 as u64)
     }
 
-    // The offset of a list of ranges, which is added.
+    // Adds a list of ranges, and returns its offset.
     fn list(&mut self, alloc: Global, ranges: &[TableRange]) -> Result<u64, Error>
-        requires sized { is_address_size self.old.encoding.address_size ≡ true }
-        requires writable { AllWritable self.old.encoding.address_size
-            (map emitted_range (map range_part ranges.now)) }
+        requires size { is_address_size self.old.encoding.address_size ≡ true }
+        requires can_write { AllWritable self.old.encoding.address_size
+            (map lookup_range (map range_part ranges.now)) }
         ensures ok { OnOk result (self.new ≡ with_list (map range_part ranges.now) self.old) }
-        ensures place { IfOk result (λ offset. offset ≡ list_offset self.old) }
+        ensures offset { IfOk result (λ offset. offset ≡ list_offset self.old) }
         ensures refused { IfErr result (λ e. e ≡ Memory) }
     {
         let offset = self.ranges.len() as u64;
@@ -88,12 +90,12 @@ impl UnitEmitter {
         Ok(())
     }
 
-    // The end of children, where there were some.
-    fn close(&mut self, children: bool) -> Result<(), Error>
-        ensures ok { OnOk result (self.new ≡ with_end_of_children children self.old) }
+    // Ends the children, if there are some.
+    fn close(&mut self, has_children: bool) -> Result<(), Error>
+        ensures ok { OnOk result (self.new ≡ with_end_of_children has_children self.old) }
         ensures refused { IfErr result (λ e. e ≡ Memory) }
     {
-        if children {
+        if has_children {
             self.entry(Entry::EndOfChildren)?;
         }
         Ok(())
@@ -101,10 +103,10 @@ impl UnitEmitter {
 
     // The entry of a call, without those in it.
     fn call(&mut self, alloc: Global, call: &TableCall, has_children: bool) -> Result<(), Error>
-        requires sized { is_address_size self.old.encoding.address_size ≡ true }
-        requires can { CanEmit self.old.encoding.address_size (call_part call.now).site.name
+        requires size { is_address_size self.old.encoding.address_size ≡ true }
+        requires can_emit { CanEmit self.old.encoding.address_size (call_part call.now).site.name
             (call_part call.now).site.ranges }
-        requires counted { (call_part call.now).site.file + 1 < 2 ^ 64 }
+        requires file { (call_part call.now).site.file + 1 < 2 ^ 64 }
         ensures ok { OnOk result
             (self.new ≡ with_call has_children (call_part call.now).site self.old) }
         ensures refused { IfErr result (λ e. e ≡ Memory) }
@@ -124,8 +126,8 @@ impl UnitEmitter {
     // The entries of calls, each with those in it.
     #[tactic(auto, using(crate::proofs::EmittedCallLemmas::some_in), unfolding(crate::specs::UnitEmission::with_calls, crate::specs::UnitEmission::CanEmitCalls))]
     fn calls(&mut self, alloc: Global, calls: &[TableCall]) -> Result<(), Error>
-        requires sized { is_address_size self.old.encoding.address_size ≡ true }
-        requires can { CanEmitCalls self.old.encoding.address_size (calls_part calls.now) }
+        requires size { is_address_size self.old.encoding.address_size ≡ true }
+        requires can_emit { CanEmitCalls self.old.encoding.address_size (calls_part calls.now) }
         ensures ok { OnOk result (self.new ≡ with_calls (calls_part calls.now) self.old) }
         ensures refused { IfErr result (λ e. e ≡ Memory) }
     {
@@ -141,8 +143,8 @@ impl UnitEmitter {
     // The entry of a function, without its calls.
     #[tactic(auto, using(crate::proofs::EmittedCallLemmas::some_calls))]
     fn function(&mut self, alloc: Global, function: &TableFunction) -> Result<(), Error>
-        requires sized { is_address_size self.old.encoding.address_size ≡ true }
-        requires can { CanEmit self.old.encoding.address_size (function_part function.now).name
+        requires size { is_address_size self.old.encoding.address_size ≡ true }
+        requires can_emit { CanEmit self.old.encoding.address_size (function_part function.now).name
             (function_part function.now).ranges }
         ensures ok { OnOk result
             (self.new ≡ with_function_entry (function_part function.now) self.old) }
@@ -160,8 +162,8 @@ impl UnitEmitter {
     // The entries of functions, each with its calls.
     #[tactic(auto, using(crate::proofs::EmittedCallLemmas::some_calls))]
     fn functions(&mut self, alloc: Global, functions: &[TableFunction]) -> Result<(), Error>
-        requires sized { is_address_size self.old.encoding.address_size ≡ true }
-        requires can { CanEmitFunctions self.old.encoding.address_size
+        requires size { is_address_size self.old.encoding.address_size ≡ true }
+        requires can_emit { CanEmitFunctions self.old.encoding.address_size
             (map function_part functions.now) }
         ensures ok { OnOk result
             (self.new ≡ with_functions (map function_part functions.now) self.old) }
@@ -178,9 +180,9 @@ impl UnitEmitter {
 
     // The entry of a unit whose line program is at an offset.
     fn root(&mut self, alloc: Global, unit: &TableUnit, line_program: u64) -> Result<(), Error>
-        requires sized { is_address_size self.old.encoding.address_size ≡ true }
+        requires size { is_address_size self.old.encoding.address_size ≡ true }
         requires directory { IsText (unit_part unit.now).directory }
-        requires can { CanEmit self.old.encoding.address_size (unit_part unit.now).name
+        requires can_emit { CanEmit self.old.encoding.address_size (unit_part unit.now).name
             (unit_part unit.now).ranges }
         ensures ok { OnOk result
             (self.new ≡ with_unit_entry line_program (unit_part unit.now) self.old) }
@@ -197,11 +199,11 @@ impl UnitEmitter {
         })
     }
 
-    /// Adds the entries of a unit, with its texts and range lists. Its line
-    /// program is at an offset.
+    /// Adds the entries of a unit, with its texts and range lists. Its line program is at an
+    /// offset.
     pub fn unit(&mut self, alloc: Global, unit: &TableUnit, line_program: u64) -> Result<(), Error>
-        requires sized { is_address_size self.old.encoding.address_size ≡ true }
-        requires can { CanEmitUnit self.old.encoding.address_size (unit_part unit.now) }
+        requires size { is_address_size self.old.encoding.address_size ≡ true }
+        requires can_emit { CanEmitUnit self.old.encoding.address_size (unit_part unit.now) }
         ensures ok { OnOk result (self.new ≡ with_unit line_program (unit_part unit.now) self.old) }
         ensures refused { IfErr result (λ e. e ≡ Memory) }
     {
@@ -217,23 +219,23 @@ impl UnitEmitter {
         self.entries.as_slice()
     }
 
-    /// Clears the entries of the current unit. Their memory is used for the next ones. It
-    /// takes no memory.
+    /// Clears the entries of the current unit, and keeps their memory for the next ones. It takes
+    /// no memory.
     pub fn clear_entries(&mut self)
         ensures { self.new ≡ without_entries self.old }
     {
         self.entries.clear();
     }
 
-    /// Writes the texts of all units, as the string section holds them. Refused only where no
-    /// memory is found.
+    /// Writes the texts of all units, as the string section has them. Refused only when out of
+    /// memory.
     pub fn write_strings(&self, w: &mut EndianVec<RunTimeEndian>) -> Result<(), Error>
         ensures { Appends result w.old w.new (section_of self.now.texts) }
     {
         self.strings.write(w)
     }
 
-    /// The range lists of all units. All else is dropped.
+    /// The range lists of all units; all else is dropped.
     pub fn into_ranges(self) -> EndianVec<RunTimeEndian>
         ensures { result ≡ self.ranges }
     {
@@ -243,7 +245,7 @@ impl UnitEmitter {
 
 // Ranges as they are written.
 fn ranges_of(alloc: Global, ranges: &[TableRange]) -> Result<Vec<Range>, Error>
-    ensures ok { IfOk result (λ list. list.items ≡ map emitted_range (map range_part ranges.now)) }
+    ensures ok { IfOk result (λ list. list.items ≡ map lookup_range (map range_part ranges.now)) }
     ensures refused { IfErr result (λ e. e ≡ Memory) }
 {
     let mut list = Vec::new(alloc);

@@ -1,4 +1,4 @@
--- The calls of an address among those that were told are, one by one, the table's.
+-- The calls of an address among those that were agrees are, one by one, the table's.
 use Rattle.std.proofs.Common.{◌≡◌, ℕ, ◌+◌, ◌≤◌, Bool, true, false, cond, ◌==◌, ◌&&◌, ◌||◌, List, [], ◌∷◌, ◌++◌, map, find, Option, Some, None, Contains, MatchOption, refl, sym, ap, subst, ◌∙◌, arith}
 use Rattle.std.specs.List.{list_any}
 use Rattle.std.proofs.lemmas.Bool.{or_parts, eq-eqb, ne_eqb}
@@ -18,7 +18,7 @@ use Rattle.linemap_frames_laws.proofs.RangeCounts.{apart_by_count}
 use Rattle.linemap_frames_laws.proofs.RangeOwners.{ranges_among, first_owner, find_likewise}
 use Rattle.linemap_frames_laws.proofs.CallDepths.{ranges_at, one_at, has_empty, filled_at, holds_at, is_at, at_depth, holder_at}
 
--- ---- what was told of ranges
+-- ---- what was agrees of ranges
 
 pub held_ranges_agree : (a : ℕ) (rs : List RangePart) → list_any (holds a) (map lookup_range rs) ≡ table.any_holds a rs
 held_ranges_agree a [] = refl
@@ -41,36 +41,36 @@ module _ (number : ℕ → ℕ) (a : ℕ) where
 
   ranges_agree : (t : ℕ) (ps : List CallAtDepth) (cs : List Call) → OneByOne (CallAgrees number) ps cs
       → ranges_among ranges_of_call (is_of t) cs ≡ map lookup_range (ranges_at t ps)
-  ranges_agree t [] [] told = refl
-  ranges_agree t [] (c ∷ cs) told = absurd told
-  ranges_agree t (p ∷ ps) [] told = absurd told
-  ranges_agree t (p ∷ ps) (c ∷ cs) told =
-      ap (λ (d : ℕ). cond (d == t) c.ranges [] ++ ranges_among ranges_of_call (is_of t) cs) told.0.depth_is
-      ∙ ap (λ rs. cond (p.depth == t) rs [] ++ ranges_among ranges_of_call (is_of t) cs) told.0.ranges_agree
+  ranges_agree t [] [] agrees = refl
+  ranges_agree t [] (c ∷ cs) agrees = absurd agrees
+  ranges_agree t (p ∷ ps) [] agrees = absurd agrees
+  ranges_agree t (p ∷ ps) (c ∷ cs) agrees =
+      ap (λ (d : ℕ). cond (d == t) c.ranges [] ++ ranges_among ranges_of_call (is_of t) cs) agrees.0.depth_is
+      ∙ ap (λ rs. cond (p.depth == t) rs [] ++ ranges_among ranges_of_call (is_of t) cs) agrees.0.ranges_agree
       ∙ ap (λ l. l ++ ranges_among ranges_of_call (is_of t) cs) (agrees_if (p.depth == t) p.site.ranges)
-      ∙ ap (λ l. map lookup_range (cond (p.depth == t) p.site.ranges []) ++ l) (ranges_agree t ps cs told.1)
+      ∙ ap (λ l. map lookup_range (cond (p.depth == t) p.site.ranges []) ++ l) (ranges_agree t ps cs agrees.1)
       ∙ sym (map-append lookup_range (cond (p.depth == t) p.site.ranges []) (ranges_at t ps))
 
   holds_alike : (t : ℕ) (p : CallAtDepth) (c : Call) → CallAgrees number p c
       → holds_at a t p ≡ (is_of t c && list_any (holds a) (ranges_of_call c))
-  holds_alike t p c told =
-      sym (ap (λ (d : ℕ). (d == t) && list_any (holds a) c.ranges) told.depth_is
-      ∙ ap (λ rs. (p.depth == t) && list_any (holds a) rs) told.ranges_agree
+  holds_alike t p c agrees =
+      sym (ap (λ (d : ℕ). (d == t) && list_any (holds a) c.ranges) agrees.depth_is
+      ∙ ap (λ rs. (p.depth == t) && list_any (holds a) rs) agrees.ranges_agree
       ∙ ap (λ b. (p.depth == t) && b) (held_ranges_agree a p.site.ranges))
 
   -- ---- the call of a depth
 
   holding_agrees : (t : ℕ) (cs : Calls) (flat : List Call) → Known cs → CallsAgree number 0 cs flat
       → Likewise (CallAgrees number) (find (is_at t) (nested_calls 0 (table.chain a cs))) (call_at_depth flat a t)
-  holding_agrees t cs flat known told =
+  holding_agrees t cs flat known agrees =
       let apart : are_apart (ranges_among ranges_of_call (is_of t) flat) ≡ true =
-      ap are_apart (ranges_agree t (calls_at_depth 0 cs) flat told)
+      ap are_apart (ranges_agree t (calls_at_depth 0 cs) flat agrees)
       ∙ apart_by_count (ranges_at t (calls_at_depth 0 cs)) (filled_at t 0 cs known.filled)
       (λ b. one_at b t 0 known.parent cs known.inside known.apart) in
       let R = CallAgrees number in
       let found =
       find_likewise R (holds_at a t) (λ c. is_of t c && list_any (holds a) (ranges_of_call c)) (holds_alike t)
-      (calls_at_depth 0 cs) flat told in
+      (calls_at_depth 0 cs) flat agrees in
       let P : Option CallAtDepth → Type 0 =
       λ o. Likewise R o (find (λ c. is_of t c && list_any (holds a) (ranges_of_call c)) flat) in
       let Q : Option Call → Type 0 = λ o. Likewise R (find (is_at t) (nested_calls 0 (table.chain a cs))) o in
@@ -117,8 +117,8 @@ module _ (number : ℕ → ℕ) (a : ℕ) where
 
   pub chain_is_agreeing : (cs : Calls) (flat : List Call) → Known cs → CallsAgree number 0 cs flat
       → ChainAgrees number 0 (table.chain a cs) (chain_at flat a)
-  chain_is_agreeing cs flat known told =
-      chain_agrees flat 0 (table.chain a cs) (λ t _. holding_agrees t cs flat known told)
+  chain_is_agreeing cs flat known agrees =
+      chain_agrees flat 0 (table.chain a cs) (λ t _. holding_agrees t cs flat known agrees)
 
 -- ---- a sound table
 
@@ -145,5 +145,5 @@ known_calls us u f sound there here =
 pub chains_meet : (number : ℕ → ℕ) (us : List UnitPart) (u : UnitPart) (f : FunctionPart) (flat : List Call) (a : ℕ)
     → IsSound us → Contains us u → Contains u.functions f → CallsAgree number 0 f.calls flat
     → ChainAgrees number 0 (table.chain a f.calls) (chain_at flat a)
-chains_meet number us u f flat a sound there here told =
-    chain_is_agreeing number a f.calls flat (known_calls us u f sound there here) told
+chains_meet number us u f flat a sound there here agrees =
+    chain_is_agreeing number a f.calls flat (known_calls us u f sound there here) agrees

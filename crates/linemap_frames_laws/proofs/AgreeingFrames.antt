@@ -1,4 +1,4 @@
--- The frames of an address over what was told are, one by one, the table's.
+-- The frames of an address over what was agrees are, one by one, the table's.
 use Rattle.std.proofs.Common.{◌≡◌, ℕ, ◌+◌, ◌-◌, ◌^◌, ◌<◌, Bool, true, false, cond, ◌||◌, nat_lt, nat_le, List, [], ◌∷◌, ◌++◌, length, slice_get, find, Option, Some, None, option_map, option_and_then, Result, Ok, Contains, refl, sym, ap, subst, ◌∙◌, arith}
 use Rattle.std.specs.List.{list_any}
 use Rattle.std.proofs.lemmas.Bool.{or_parts, or_from, leb-false, ltb-false, ne_eqb}
@@ -66,16 +66,16 @@ is_past u s = nat_le (length u.files) s.file
 module _ (number : ℕ → ℕ) (files : List (List ℕ)) (u : UnitPart) (numbered : AreNumbered number u files) where
   call_place : (p : CallAtDepth) (c : Call) → CallAgrees number p c → bad_numbers p.site ≡ false
       → is_past u p.site ≡ false → call_site files c ≡ lookup_location (table.call_location u p.site)
-  call_place p c told numbers past =
+  call_place p c agrees numbers past =
       let n = or_parts (is_bad_number p.site.line) (is_bad_number p.site.column) numbers in
       let there : p.site.file < length u.files = leb-false (length u.files) p.site.file past in
       let place : Option (List ℕ) → Option ℕ → Option ℕ → Location =
       λ f l c. record { file = f; line = l; column = c } in
       let text : Option (List ℕ) = option_map (file_text u) (slice_get u.files p.site.file) in
       let file : option_and_then (slice_get files) c.file ≡ text =
-      ap (λ (o : Option ℕ). option_and_then (slice_get files) o) told.file_is ∙ numbered p.site.file there in
-      let line : nonzero c.line ≡ Some p.site.line = ap nonzero told.line_is ∙ not_0 p.site.line n.0 in
-      let column : nonzero c.column ≡ Some p.site.column = ap nonzero told.column_is ∙ not_0 p.site.column n.1 in
+      ap (λ (o : Option ℕ). option_and_then (slice_get files) o) agrees.file_is ∙ numbered p.site.file there in
+      let line : nonzero c.line ≡ Some p.site.line = ap nonzero agrees.line_is ∙ not_0 p.site.line n.0 in
+      let column : nonzero c.column ≡ Some p.site.column = ap nonzero agrees.column_is ∙ not_0 p.site.column n.1 in
       ap (λ f. place f (nonzero c.line) (nonzero c.column)) file
       ∙ ap (λ l. place text l (nonzero c.column)) line
       ∙ ap (λ k. place text (Some p.site.line) k) column
@@ -90,14 +90,14 @@ module _ (number : ℕ → ℕ) (files : List (List ℕ)) (u : UnitPart) (number
       → list_any (is_past u) ss ≡ false → ChainAgrees number d ss cs
       → OneByOne FrameAgrees (table.frames_in u here bytes ss)
       (frames_in language files (option_map lookup_location here) offset name cs)
-  frames_agree language here bytes offset name d [] [] same numbers past told =
+  frames_agree language here bytes offset name d [] [] same numbers past agrees =
       (record { name_is = named_bytes language name ∙ same; location_is = refl }, tt)
-  frames_agree language here bytes offset name d [] (c ∷ cs) same numbers past told = absurd told
-  frames_agree language here bytes offset name d (s ∷ ss) [] same numbers past told = absurd told
-  frames_agree language here bytes offset name d (s ∷ ss) (c ∷ cs) same numbers past told =
+  frames_agree language here bytes offset name d [] (c ∷ cs) same numbers past agrees = absurd agrees
+  frames_agree language here bytes offset name d (s ∷ ss) [] same numbers past agrees = absurd agrees
+  frames_agree language here bytes offset name d (s ∷ ss) (c ∷ cs) same numbers past agrees =
       let n = or_parts (bad_numbers s) (list_any bad_numbers ss) numbers in
       let q = or_parts (is_past u s) (list_any (is_past u) ss) past in
-      let place = call_place (record { depth = d; site = s }) c told.0 n.0 q.0 in
+      let place = call_place (record { depth = d; site = s }) c agrees.0 n.0 q.0 in
       let last : FrameAgrees (table.frame bytes (Some (table.call_location u s)))
       (frame language offset name (Some (call_site files c))) =
       record { name_is = named_bytes language name ∙ same; location_is = ap (λ (l : Location). Some l) place } in
@@ -105,30 +105,42 @@ module _ (number : ℕ → ℕ) (files : List (List ℕ)) (u : UnitPart) (number
       (table.frame bytes (Some (table.call_location u s)) ∷ [])
       (frames_in language files (option_map lookup_location here) c.offset c.name cs)
       (frame language offset name (Some (call_site files c)) ∷ [])
-      (frames_agree language here s.name c.offset c.name (d + 1) ss cs told.0.name_is n.1 q.1 told.1) (last, tt)
+      (frames_agree language here s.name c.offset c.name (d + 1) ss cs agrees.0.name_is n.1 q.1 agrees.1) (last, tt)
 
 -- ---- one function
+
+-- the lines and columns of a sound unit count, those of rows and those of calls
+lines_good : (us : List UnitPart) (u : UnitPart) → IsSound us → Contains us u
+    → (list_any (λ s. list_any (λ r. is_bad_number r.line || is_bad_number r.column) s.rows) u.sequences ≡ false)
+    × (list_any (λ f. any_call bad_numbers f.calls) u.functions ≡ false)
+lines_good us u sound there =
+    or_parts (list_any (λ s. list_any (λ r. is_bad_number r.line || is_bad_number r.column) s.rows) u.sequences)
+    (list_any (λ f. any_call bad_numbers f.calls) u.functions)
+    (none_passes has_bad_line_or_column us u (sound_rule us LineOrColumn sound) there)
+
+-- and so do their files
+files_good : (us : List UnitPart) (u : UnitPart) → IsSound us → Contains us u
+    → (list_any (λ s. list_any (λ r. nat_le (length u.files) r.file) s.rows) u.sequences ≡ false)
+    × (list_any (λ f. any_call (is_past u) f.calls) u.functions ≡ false)
+files_good us u sound there =
+    or_parts (list_any (λ s. list_any (λ r. nat_le (length u.files) r.file) s.rows) u.sequences)
+    (list_any (λ f. any_call (is_past u) f.calls) u.functions)
+    (none_passes has_bad_file_number us u (sound_rule us FileNumber sound) there)
 
 function_frames : (number : ℕ → ℕ) (files : List (List ℕ)) (us : List UnitPart) (u : UnitPart) (f : FunctionPart)
     (language : Option ℕ) (offset : ℕ) (found : FunctionCalls) (here : Option table.Location) (a : ℕ)
     → IsSound us → Contains us u → Contains u.functions f → AreNumbered number u files → EntryAgrees number f found
     → OneByOne FrameAgrees (table.frames_in u here f.name (table.chain a f.calls))
     (frames_in language files (option_map lookup_location here) offset found.name (chain_at found.calls a))
-function_frames number files us u f language offset found here a sound there inside numbered told =
-    let line_parts =
-    or_parts (list_any (λ s. list_any (λ r. is_bad_number r.line || is_bad_number r.column) s.rows) u.sequences)
-    (list_any (λ f. any_call bad_numbers f.calls) u.functions)
-    (none_passes has_bad_line_or_column us u (sound_rule us LineOrColumn sound) there) in
-    let file_parts =
-    or_parts (list_any (λ s. list_any (λ r. nat_le (length u.files) r.file) s.rows) u.sequences)
-    (list_any (λ f. any_call (is_past u) f.calls) u.functions)
-    (none_passes has_bad_file_number us u (sound_rule us FileNumber sound) there) in
+function_frames number files us u f language offset found here a sound there inside numbered agrees =
+    let line_parts = lines_good us u sound there in
+    let file_parts = files_good us u sound there in
     let numbers = none_passes (λ (f : FunctionPart). any_call bad_numbers f.calls) u.functions f line_parts.1 inside in
     let past = none_passes (λ (f : FunctionPart). any_call (is_past u) f.calls) u.functions f file_parts.1 inside in
     frames_agree number files u numbered language here f.name offset found.name 0 (table.chain a f.calls)
-    (chain_at found.calls a) told.name_is
+    (chain_at found.calls a) agrees.name_is
     (none_of_chain bad_numbers a f.calls numbers) (none_of_chain (is_past u) a f.calls past)
-    (chains_meet number us u f found.calls a sound there inside told.calls_are)
+    (chains_meet number us u f found.calls a sound there inside agrees.calls_are)
 
 -- ---- one unit
 
@@ -177,28 +189,22 @@ lines_same : (l m : Lines) → lines_answer l ≡ lines_answer m → l ≡ m
 lines_same l m e = cc
 
 pub frames_meet : (us : List UnitPart) (u : UnitPart) (ranges : List Range) (l : Lines)
-    (told : UnitAgrees u ranges (Ok l)) (language : Option ℕ) (found : Option FunctionAt) (a : ℕ)
-    → IsSound us → Contains us u → Likewise (λ f x. EntryAgrees told.number f x.calls) (table.function_at u a) found
+    (agrees : UnitAgrees u ranges (Ok l)) (language : Option ℕ) (found : Option FunctionAt) (a : ℕ)
+    → IsSound us → Contains us u → Likewise (λ f x. EntryAgrees agrees.number f x.calls) (table.function_at u a) found
     → OneByOne FrameAgrees (table.frames_of_function u a (table.function_at u a)) (frames_of language l a found)
-frames_meet us u ranges l told language found a sound there here =
-    let m : Lines = record { sequences = sequences_of_rows told.rows; files = told.files } in
-    let same : l ≡ m = lines_same l m told.lines_are in
+frames_meet us u ranges l agrees language found a sound there here =
+    let m : Lines = record { sequences = sequences_of_rows agrees.rows; files = agrees.files } in
+    let same : l ≡ m = lines_same l m agrees.lines_are in
     let rows = none_passes has_sequence_with_bad_rows us u (sound_rule us Rows sound) there in
     let apart = none_passes has_sequences_overlap us u (sound_rule us SequencesOverlap sound) there in
-    let line_parts =
-    or_parts (list_any (λ s. list_any (λ r. is_bad_number r.line || is_bad_number r.column) s.rows) u.sequences)
-    (list_any (λ f. any_call bad_numbers f.calls) u.functions)
-    (none_passes has_bad_line_or_column us u (sound_rule us LineOrColumn sound) there) in
-    let file_parts =
-    or_parts (list_any (λ s. list_any (λ r. nat_le (length u.files) r.file) s.rows) u.sequences)
-    (list_any (λ f. any_call (is_past u) f.calls) u.functions)
-    (none_passes has_bad_file_number us u (sound_rule us FileNumber sound) there) in
+    let line_parts = lines_good us u sound there in
+    let file_parts = files_good us u sound there in
     let place : place_in m a ≡ option_map lookup_location (table.place_in u a) =
-    location_agrees told.number u told.files told.rows a told.rows_agree told.files_numbered
+    location_agrees agrees.number u agrees.files agrees.rows a agrees.rows_agree agrees.files_numbered
     (all_good u.sequences rows) (all_rows_good u u.sequences line_parts.0 file_parts.0) apart in
     let P : Lines → Type 0 =
     λ k. OneByOne FrameAgrees (table.frames_of_function u a (table.function_at u a))
     (frames_of language k a found) in
     subst P (sym same)
-    (frames_by us u sound there told.number language a m place told.files_numbered (table.function_at u a)
+    (frames_by us u sound there agrees.number language a m place agrees.files_numbered (table.function_at u a)
     (λ f e. found_names (λ (g : FunctionPart). table.any_holds a g.ranges) u.functions f e) found here)

@@ -1,4 +1,4 @@
--- The function of an address among those that were told is the table's.
+-- The function of an address among those that were agrees is the table's.
 use Rattle.std.proofs.Common.{◌≡◌, ℕ, Bool, true, false, ◌||◌, List, [], ◌∷◌, ◌++◌, map, flat_map, filter, find, Option, Some, None, option_map, Result, Ok, Contains, refl, sym, ap, subst, ◌∙◌}
 use Rattle.std.specs.List.{list_any}
 use Rattle.std.proofs.lemmas.Bool.{or_parts, or_from}
@@ -49,28 +49,28 @@ filled_functions (f ∷ fs) h =
 module _ (number : ℕ → ℕ) (at : ℕ → Result FunctionCalls Error) (a : ℕ) where
   ranges_agree : (fs : List FunctionPart) (gs : List Function) → FunctionsAgree number at fs gs
       → ranges_among ranges_of_function any_function gs ≡ map lookup_range (all_ranges fs)
-  ranges_agree [] [] told = refl
-  ranges_agree [] (g ∷ gs) told = absurd told
-  ranges_agree (f ∷ fs) [] told = absurd told
-  ranges_agree (f ∷ fs) (g ∷ gs) told =
-      ap (λ rs. rs ++ ranges_among ranges_of_function any_function gs) told.0.ranges_agree
-      ∙ ap (λ l. map lookup_range f.ranges ++ l) (ranges_agree fs gs told.1)
+  ranges_agree [] [] agrees = refl
+  ranges_agree [] (g ∷ gs) agrees = absurd agrees
+  ranges_agree (f ∷ fs) [] agrees = absurd agrees
+  ranges_agree (f ∷ fs) (g ∷ gs) agrees =
+      ap (λ rs. rs ++ ranges_among ranges_of_function any_function gs) agrees.0.ranges_agree
+      ∙ ap (λ l. map lookup_range f.ranges ++ l) (ranges_agree fs gs agrees.1)
       ∙ sym (map-append lookup_range f.ranges (all_ranges fs))
 
   holds_alike : (f : FunctionPart) (g : Function) → FunctionAgrees number at f g
       → table.any_holds a f.ranges ≡ list_any (holds a) (ranges_of_function g)
-  holds_alike f g told = sym (ap (list_any (holds a)) told.ranges_agree ∙ held_ranges_agree a f.ranges)
+  holds_alike f g agrees = sym (ap (list_any (holds a)) agrees.ranges_agree ∙ held_ranges_agree a f.ranges)
 
   function_agrees : (fs : List FunctionPart) (gs : List Function) → list_any is_empty_range (all_ranges fs) ≡ false
       → any_overlap (all_ranges fs) ≡ false → FunctionsAgree number at fs gs
       → Likewise (FunctionAgrees number at) (find (λ f. table.any_holds a f.ranges) fs) (function_at gs a)
-  function_agrees fs gs filled apart told =
+  function_agrees fs gs filled apart agrees =
       let are : are_apart (ranges_among ranges_of_function any_function gs) ≡ true =
-      ap are_apart (ranges_agree fs gs told)
+      ap are_apart (ranges_agree fs gs agrees)
       ∙ apart_by_count (all_ranges fs) filled (λ b. at_most_one b (all_ranges fs) apart) in
       let found =
       find_likewise (FunctionAgrees number at) (λ (f : FunctionPart). table.any_holds a f.ranges)
-      (λ (g : Function). list_any (holds a) (ranges_of_function g)) holds_alike fs gs told in
+      (λ (g : Function). list_any (holds a) (ranges_of_function g)) holds_alike fs gs agrees in
       let first : function_at gs a ≡ find (λ (g : Function). list_any (holds a) (ranges_of_function g)) gs =
       sym (ap (λ (ps : List (Pair Function)). option_map (λ (p : Pair Function). p.unit)
       (holder (λ (p : Pair Function). p.range) a ps)) (all_left (pairs_from ranges_of_function 0 gs)))
@@ -82,13 +82,13 @@ module _ (number : ℕ → ℕ) (at : ℕ → Result FunctionCalls Error) (a : �
 pub functions_meet : (number : ℕ → ℕ) (at : ℕ → Result FunctionCalls Error) (us : List UnitPart) (u : UnitPart)
     (gs : List Function) (a : ℕ) → IsSound us → Contains us u → FunctionsAgree number at u.functions gs
     → Likewise (FunctionAgrees number at) (table.function_at u a) (function_at gs a)
-functions_meet number at us u gs a sound there told =
+functions_meet number at us u gs a sound there agrees =
     let empty =
     or_parts (list_any is_empty_range u.ranges)
     (list_any (λ f. list_any is_empty_range f.ranges || any_call has_empty f.calls) u.functions)
     (none_passes has_empty_range us u (sound_rule us EmptyRange sound) there) in
     function_agrees number at a u.functions gs (filled_functions u.functions empty.1)
-    (none_passes has_functions_overlap us u (sound_rule us FunctionsOverlap sound) there) told
+    (none_passes has_functions_overlap us u (sound_rule us FunctionsOverlap sound) there) agrees
 
 -- ---- what is found
 
@@ -102,11 +102,12 @@ found_by number at (Some f) None h = absurd h
 found_by number at (Some f) (Some g) h =
     let made : Result FunctionCalls Error → Result (Option FunctionAt) Error =
     λ r. some_of (and_then r (λ calls. Ok (record { offset = g.offset; calls = calls }))) in
-    (Some (record { offset = g.offset; calls = h.found }), ap made h.at_entry, h.is_found)
+    (Some (record { offset = g.offset; calls = h.entry }), ap made h.at_entry, h.entry_agrees)
 
 pub entries_meet : (number : ℕ → ℕ) (at : ℕ → Result FunctionCalls Error) (us : List UnitPart) (u : UnitPart)
     (gs : List Function) (a : ℕ) → IsSound us → Contains us u → FunctionsAgree number at u.functions gs
     → (found : Option FunctionAt) × (function_of_offset_if_any at (function_at gs a) ≡ Ok found)
     × Likewise (λ f x. EntryAgrees number f x.calls) (table.function_at u a) found
-entries_meet number at us u gs a sound there told =
-    found_by number at (table.function_at u a) (function_at gs a) (functions_meet number at us u gs a sound there told)
+entries_meet number at us u gs a sound there agrees =
+    found_by number at (table.function_at u a) (function_at gs a)
+    (functions_meet number at us u gs a sound there agrees)

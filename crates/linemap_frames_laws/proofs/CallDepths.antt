@@ -7,7 +7,8 @@ use Rattle.std.proofs.lemmas.List.{append_assoc}
 use Rattle.std.proofs.lemmas.List.Folds.{list_any-append, find-append}
 use Rattle.linemap_places_laws.specs.TableParts.{RangePart, Site, Calls, no_calls, more_calls}
 use Rattle.linemap_places_laws.specs.Conditions.{any_overlap, any_outside, is_outside, is_empty_range, any_call, sibling_ranges, any_call_outside, any_inner_overlap, any_calls_overlap}
-use Rattle.linemap_places_laws.specs.Meaning.{holds, any_holds, chain}
+use Rattle.linemap_places_laws.specs.Meaning.{any_holds, chain}
+use Rattle.linemap_places_laws.proofs.TableCallChains.{chain_ends}
 use Rattle.linemap_places_laws.proofs.TableRangeHolders.{not_in_rest, rest_apart}
 use Rattle.linemap_frames_laws.specs.CallAgreement.{CallAtDepth, calls_at_depth, nested_calls}
 use Rattle.linemap_frames_laws.proofs.RangeCounts.{many, many-append, at_most_one, no_more, others_hold_none}
@@ -33,7 +34,7 @@ ranges_of_all t d site inner others =
     ap (λ l. cond (d == t) site.ranges [] ++ l)
     (ranges_at-append t (calls_at_depth (d + 1) inner) (calls_at_depth d others))
 
--- calls that stand deeper have none
+-- deeper calls have none
 none_above : (t d : ℕ) (cs : Calls) → t < d → ranges_at t (calls_at_depth d cs) ≡ []
 none_above t d no_calls h = refl
 none_above t d (more_calls site inner others) h =
@@ -46,7 +47,7 @@ none_above t d (more_calls site inner others) h =
 
 -- ---- each address is held once
 
--- calls inside others are so with those that stand beside them
+-- calls inside others don't overlap those beside them
 siblings_inside : (parent : List RangePart) (cs : Calls) → any_call_outside parent cs ≡ false
     → any_outside parent (sibling_ranges cs) ≡ false
 siblings_inside parent no_calls h = refl
@@ -143,14 +144,6 @@ filled_at t d (more_calls site inner others) h =
     (filled_at t d others p.1))
 
 -- ---- the call of a depth that holds an address
-
-chain_ends : (a : ℕ) (cs : Calls) → any_holds a (sibling_ranges cs) ≡ false → chain a cs ≡ []
-chain_ends a no_calls h = refl
-chain_ends a (more_calls site inner others) h =
-    let p =
-    or_parts (any_holds a site.ranges) (any_holds a (sibling_ranges others))
-    (sym (list_any-append (holds a) site.ranges (sibling_ranges others)) ∙ h) in
-    ap (λ b. cond b (site ∷ chain a inner) (chain a others)) p.0 ∙ chain_ends a others p.1
 
 abbrev pub holds_at : ℕ → ℕ → CallAtDepth → Bool
 holds_at a t p = (p.depth == t) && any_holds a p.site.ranges

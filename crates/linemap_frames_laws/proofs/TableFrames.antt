@@ -15,7 +15,7 @@ use Rattle.linemap_places_laws.proofs.SoundUnits.{sound_rule}
 use Rattle.linemap_places_laws.specs.LookupAgreement.{lookup_range}
 use Rattle.linemap_frames_laws.specs.CallAgreement.{OneByOne, Likewise}
 use Rattle.linemap_places_laws.specs.Frames.{Frame}
-use Rattle.linemap_places_laws.specs.FrameLookups.{first_frames, frames_at}
+use Rattle.linemap_places_laws.specs.FrameLookups.{first_nonempty, frames_at}
 use Rattle.linemap_frames_laws.specs.LookupFrameLaws.{FrameAgrees, UnitAnswerAgrees}
 use Rattle.linemap_frames_laws.proofs.RangeCounts.{many, at_most_one}
 use Rattle.linemap_frames_laws.proofs.RangeOwners.{ranges_among, ranges_of_pairs, owner_found, find_likewise}
@@ -88,20 +88,20 @@ module _ {U : Type 0} (ranges : U → List Range) (a : ℕ) where
     where
       ranges_agree : (us : List UnitPart) (xs : List U) → OneByOne R us xs
           → ranges_among ranges any_unit xs ≡ map lookup_range (flat_map (λ u. u.ranges) us)
-      ranges_agree [] [] told = refl
-      ranges_agree [] (x ∷ xs) told = absurd told
-      ranges_agree (u ∷ us) [] told = absurd told
-      ranges_agree (u ∷ us) (x ∷ xs) told =
-          ap (λ rs. rs ++ ranges_among ranges any_unit xs) (same u x told.0)
-          ∙ ap (λ l. map lookup_range u.ranges ++ l) (ranges_agree us xs told.1)
+      ranges_agree [] [] agrees = refl
+      ranges_agree [] (x ∷ xs) agrees = absurd agrees
+      ranges_agree (u ∷ us) [] agrees = absurd agrees
+      ranges_agree (u ∷ us) (x ∷ xs) agrees =
+          ap (λ rs. rs ++ ranges_among ranges any_unit xs) (same u x agrees.0)
+          ∙ ap (λ l. map lookup_range u.ranges ++ l) (ranges_agree us xs agrees.1)
           ∙ sym (map-append lookup_range u.ranges (flat_map (λ u. u.ranges) us))
 
       few : (us : List UnitPart) (xs : List U) → OneByOne R us xs → any_overlap (flat_map (λ u. u.ranges) us) ≡ false
           → length (filter covers (pairs_from ranges 0 xs)) ≤ 1
-      few us xs told apart =
+      few us xs agrees apart =
           let all : List RangePart = flat_map (λ u. u.ranges) us in
           let pairs : ranges_of (pairs_from ranges 0 xs) ≡ map lookup_range all =
-          sym (ap ranges_of (all_pairs_left xs)) ∙ ranges_of_pairs ranges any_unit 0 xs ∙ ranges_agree us xs told in
+          sym (ap ranges_of (all_pairs_left xs)) ∙ ranges_of_pairs ranges any_unit 0 xs ∙ ranges_agree us xs agrees in
           let count : length (filter covers (pairs_from ranges 0 xs)) ≡ many a all =
           count_of_pairs (pairs_from ranges 0 xs) ∙ ap (λ rs. length (filter (holds a) rs)) pairs ∙ counts_agree all in
           let one : many a all ≤ 1 = at_most_one a all apart in
@@ -115,13 +115,13 @@ module _ {U : Type 0} (ranges : U → List Range) (a : ℕ) where
       only_by (Some u) (Some p) h = h
 
       alike : (u : UnitPart) (x : U) → R u x → table.any_holds a u.ranges ≡ list_any (holds a) (ranges x)
-      alike u x told = sym (ap (list_any (holds a)) (same u x told) ∙ held_ranges_agree a u.ranges)
+      alike u x agrees = sym (ap (list_any (holds a)) (same u x agrees) ∙ held_ranges_agree a u.ranges)
 
       pub unit_is_only : (us : List UnitPart) (xs : List U) → any_overlap (flat_map (λ u. u.ranges) us) ≡ false
           → OneByOne R us xs → IsOnly R (table.unit_at us a) (covering_pairs ranges xs a)
-      unit_is_only us xs apart told =
+      unit_is_only us xs apart agrees =
           let ps : List (Pair U) = pairs_from ranges 0 xs in
-          let one : length (filter covers ps) ≤ 1 = few us xs told apart in
+          let one : length (filter covers ps) ≤ 1 = few us xs agrees apart in
           let left : covering_pairs ranges xs a ≡ option_list (find covers ps) =
           order_of_one ends_after covers ps one ∙ left_is_found covers ps one in
           let owner : option_map (λ (p : Pair U). p.unit) (find covers ps)
@@ -130,31 +130,31 @@ module _ {U : Type 0} (ranges : U → List Range) (a : ℕ) where
           ∙ owner_found ranges any_unit a 0 xs in
           let found =
           find_likewise R (λ (u : UnitPart). table.any_holds a u.ranges) (λ (x : U). list_any (holds a) (ranges x))
-          alike us xs told in
+          alike us xs agrees in
           let P : Option U → Type 0 = λ o. Likewise R (table.unit_at us a) o in
           let Q : List (Pair U) → Type 0 = λ l. IsOnly R (table.unit_at us a) l in
           subst Q (sym left) (only_by (table.unit_at us a) (find covers ps) (subst P (sym owner) found))
 
 -- ---- its frames
 
-first_one : (fs : List Frame) → first_frames (Ok fs ∷ []) ≡ Ok fs
+first_one : (fs : List Frame) → first_nonempty (Ok fs ∷ []) ≡ Ok fs
 first_one [] = refl
 first_one (f ∷ fs) = refl
 
 module _ {U : Type 0} (ranges : U → List Range) (frames : U → ℕ → Result (List Frame) Error) (a : ℕ) where
   frames_by : (o : Option UnitPart) (ps : List (Pair U)) → IsOnly (UnitAnswerAgrees ranges frames a) o ps
-      → (fs : List Frame) × (first_frames (map (λ p. frames p.unit a) ps) ≡ Ok fs)
+      → (fs : List Frame) × (first_nonempty (map (λ p. frames p.unit a) ps) ≡ Ok fs)
       × OneByOne FrameAgrees (table.frames_of_unit a o) fs
   frames_by None [] h = ([], refl, tt)
   frames_by None (p ∷ ps) h = absurd h
   frames_by (Some u) [] h = absurd h
-  frames_by (Some u) (p ∷ []) h = (h.1.0, ap (λ r. first_frames (r ∷ [])) h.1.1 ∙ first_one h.1.0, h.1.2)
+  frames_by (Some u) (p ∷ []) h = (h.1.0, ap (λ r. first_nonempty (r ∷ [])) h.1.1 ∙ first_one h.1.0, h.1.2)
   frames_by (Some u) (p ∷ q ∷ ps) h = absurd h
 
 pub tables_meet : {U : Type 0} (ranges : U → List Range) (frames : U → ℕ → Result (List Frame) Error)
     (us : List UnitPart) (xs : List U) (a : ℕ) → IsSound us → OneByOne (UnitAnswerAgrees ranges frames a) us xs
     → (fs : List Frame) × (frames_at ranges frames xs a ≡ Ok fs) × OneByOne FrameAgrees (table.frames_at us a) fs
-tables_meet ranges frames us xs a sound told =
+tables_meet ranges frames us xs a sound agrees =
     frames_by ranges frames a (table.unit_at us a) (covering_pairs ranges xs a)
     (unit_is_only ranges a (UnitAnswerAgrees ranges frames a) (λ u x h. h.0) us xs (sound_rule us UnitsOverlap sound)
-    told)
+    agrees)

@@ -9,14 +9,14 @@ use Rattle.linemap_places_laws.specs.LookupAgreement.{lookup_range}
 
 -- ---- lists and options side by side
 
--- one by one, and as many
+-- two lists of the same length, whose items are related one by one
 abbrev pub OneByOne : {A B : Type 0} → (A → B → Type 0) → List A → List B → Type 0
 OneByOne R [] [] = Unit {0}
 OneByOne R [] (y ∷ ys) = ⊥
 OneByOne R (x ∷ xs) [] = ⊥
 OneByOne R (x ∷ xs) (y ∷ ys) = R x y × OneByOne R xs ys
 
--- both are there, or neither
+-- both are there, and related, or neither is
 abbrev pub Likewise : {A B : Type 0} → (A → B → Type 0) → Option A → Option B → Type 0
 Likewise R None None = Unit {0}
 Likewise R None (Some y) = ⊥
@@ -66,19 +66,19 @@ ChainAgrees number depth sites chain = OneByOne (CallAgrees number) (nested_call
 
 -- ---- functions
 
--- what is found at a function's entry: its name, and its calls
-pub record EntryAgrees (number : ℕ → ℕ) (f : FunctionPart) (found : FunctionCalls) : Type 0 where
-  pub name_is : HasName f.name found.name
-  pub calls_are : CallsAgree number 0 f.calls found.calls
+-- a function's entry says what the table says of it: its name, and its calls
+pub record EntryAgrees (number : ℕ → ℕ) (f : FunctionPart) (entry : FunctionCalls) : Type 0 where
+  pub name_is : HasName f.name entry.name
+  pub calls_are : CallsAgree number 0 f.calls entry.calls
 
--- a function says what the table says of it: it has its ranges, and at its entry, wherever that
--- stands, the rest is found
+-- a function says what the table says of it: it has its ranges, and its entry, wherever it is, has
+-- the rest
 pub record FunctionAgrees (number : ℕ → ℕ) (at : ℕ → Result FunctionCalls Error) (f : FunctionPart)
     (g : Function) : Type 0 where
   pub ranges_agree : g.ranges ≡ map lookup_range f.ranges
-  pub found : FunctionCalls
-  pub at_entry : at g.offset ≡ Ok found
-  pub is_found : EntryAgrees number f found
+  pub entry : FunctionCalls
+  pub at_entry : at g.offset ≡ Ok entry
+  pub entry_agrees : EntryAgrees number f entry
 
 -- the functions of a unit, in order of appearance
 abbrev pub FunctionsAgree : (ℕ → ℕ) → (ℕ → Result FunctionCalls Error) → List FunctionPart

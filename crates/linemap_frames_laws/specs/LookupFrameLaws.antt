@@ -30,37 +30,37 @@ FunctionsMeet =
     → IsSound us → Contains us u → FunctionsAgree number at u.functions gs
     → Likewise (FunctionAgrees number at) (table.function_at u a) (function_at gs a)
 
--- at every address, for each unit: what is found is what was recorded of the table's function, if
+-- at every address, for each unit: the entry that lookups read is that of the table's function, if
 -- there is one
 abbrev pub EntriesMeet : Type 0
 EntriesMeet =
     (number : ℕ → ℕ) (at : ℕ → Result FunctionCalls Error) (us : List UnitPart) (u : UnitPart)
     (gs : List Function) (a : ℕ)
     → IsSound us → Contains us u → FunctionsAgree number at u.functions gs
-    → (found : Option FunctionAt) × (function_of_offset_if_any at (function_at gs a) ≡ Ok found)
-    × Likewise (λ f x. EntryAgrees number f x.calls) (table.function_at u a) found
+    → (entry : Option FunctionAt) × (function_of_offset_if_any at (function_at gs a) ≡ Ok entry)
+    × Likewise (λ f x. EntryAgrees number f x.calls) (table.function_at u a) entry
 
 -- a frame says what the table says of it, wherever its entry is
 pub record FrameAgrees (f : table.Frame) (g : Frame) : Type 0 where
   pub name_is : option_map (λ n. n.name.bytes) g.function ≡ f.function
   pub location_is : g.location ≡ option_map lookup_location f.location
 
--- at every address, for each unit whose lines were recorded, and whose function of the address is
--- found, if there is one
+-- at every address, for each unit that agrees with the table's, and whose function of the address
+-- does, if there is one
 abbrev pub FramesMeet : Type 0
 FramesMeet =
     (us : List UnitPart) (u : UnitPart) (ranges : List Range) (l : Lines)
     (agrees : UnitAgrees u ranges (Ok l)) (language : Option ℕ)
-    (found : Option FunctionAt) (a : ℕ)
+    (entry : Option FunctionAt) (a : ℕ)
     → IsSound us → Contains us u
-    → Likewise (λ f x. EntryAgrees agrees.number f x.calls) (table.function_at u a) found
+    → Likewise (λ f x. EntryAgrees agrees.number f x.calls) (table.function_at u a) entry
     → OneByOne FrameAgrees (table.frames_of_function u a (table.function_at u a))
-    (frames_of language l a found)
+    (frames_of language l a entry)
 
--- what is shown of a unit at an address, or refused: its frames there
+-- the answer of a unit at an address is its frames there
 abbrev pub UnitFramesAgree : UnitPart → ℕ → Result (List Frame) Error → Type 0
-UnitFramesAgree u a shown =
-    (fs : List Frame) × (shown ≡ Ok fs)
+UnitFramesAgree u a answer =
+    (fs : List Frame) × (answer ≡ Ok fs)
     × OneByOne FrameAgrees (table.frames_of_function u a (table.function_at u a)) fs
 
 -- what lookups know of a unit: its ranges, and its frames at an address

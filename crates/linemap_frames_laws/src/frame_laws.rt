@@ -13,8 +13,8 @@ pub fn functions_meet()
     ensures { FunctionsMeet }
 {}
 
-/// What is found at the function's entry is then what was recorded of it, and nothing where no
-/// function holds the address.
+/// The entry of that function then says what the table says of it; there is none where no function
+/// holds the address.
 pub fn entries_meet()
     ensures { EntriesMeet }
 {}

@@ -1,4 +1,4 @@
--- Names and places of frames.
+-- The names and locations of frames.
 use Rattle.std.proofs.Common.{◌≡◌, ℕ, List, [], ◌∷◌, ◌++◌, map, reverse, Option, Some, None, refl, sym, ap, ◌∙◌}
 use Rattle.std.proofs.lemmas.List.{map-append, reverse-append}
 use Rattle.linemap_meaning.specs.TableParts.{Site, FunctionPart, UnitPart}
@@ -24,11 +24,12 @@ pub frames_at_calls : (u : UnitPart) (here : Option Location) (name : List ℕ) 
     → map place_of (frames_in u here name calls) ≡ (here ∷ map (λ s. Some (call_location u s)) (reverse calls))
 frames_at_calls u here name [] = refl
 frames_at_calls u here name (s ∷ calls) =
-    let written : Site → Option Location = λ t. Some (call_location u t) in
+    let call_place : Site → Option Location = λ t. Some (call_location u t) in
     map-append place_of (frames_in u here s.name calls) (frame name (Some (call_location u s)) ∷ [])
-    ∙ ap (λ ps. ps ++ written s ∷ []) (frames_at_calls u here s.name calls)
+    ∙ ap (λ ps. ps ++ call_place s ∷ []) (frames_at_calls u here s.name calls)
     ∙ ap (λ ps. here ∷ ps)
-    (sym (ap (λ ss. map written ss) (reverse-append (s ∷ []) calls) ∙ map-append written (reverse calls) (s ∷ [])))
+    (sym (ap (λ ss. map call_place ss) (reverse-append (s ∷ []) calls) ∙ map-append call_place (reverse calls)
+    (s ∷ [])))
 
 head_of : {A : Type 0} (x y : A) (xs ys : List A) → (x ∷ xs) ≡ (y ∷ ys) → x ≡ y
 head_of x y xs ys e = cc

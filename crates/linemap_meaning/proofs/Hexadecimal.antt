@@ -17,7 +17,7 @@ digits_of_test (c ∷ cs) h =
     let parts = and_parts (is_digit c 16) (list_all (λ d. is_digit d 16) cs) h in
     (ltb-true (digit_value c) 16 parts.0, digits_of_test cs parts.1)
 
--- the test that a number stands there
+-- digits write a number of 64 bits
 abbrev has_64_bits : List ℕ → Bool
 has_64_bits ds = is_hexadecimal ds && nat_lt (digits_value 16 ds) (2 ^ 64)
 

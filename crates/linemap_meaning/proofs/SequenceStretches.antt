@@ -5,19 +5,19 @@ use Rattle.std.proofs.lemmas.Bool.{leb-true, leb-false, ltb-true, ltb-false, lt-
 use Rattle.linemap_meaning.specs.TableParts.{RowPart, UnitPart}
 use Rattle.linemap_meaning.specs.Conditions.{goes_back_from, extent}
 use Rattle.linemap_meaning.specs.Meaning.{Location, Stretch, any_holds, row_location, next_address, row_stretches, last_row}
-use Rattle.linemap_meaning.specs.StretchLaws.{stretch_holds, places_held}
+use Rattle.linemap_meaning.specs.StretchLaws.{stretch_holds, stretch_locations}
 
--- ---- one stretch in front of others
+-- ---- one stretch before others
 
 not_in_front : (a : ℕ) (s : Stretch) (later : List Stretch) (b : Bool) → stretch_holds a s ≡ false
-    → places_held a (cond b (s ∷ later) later) ≡ places_held a later
+    → stretch_locations a (cond b (s ∷ later) later) ≡ stretch_locations a later
 not_in_front a s later true h =
     ap (λ c. map (λ (t : Stretch). t.location)
     (cond c (s ∷ filter (stretch_holds a) later) (filter (stretch_holds a) later))) h
 not_in_front a s later false h = refl
 
 in_front : (a : ℕ) (s : Stretch) (later : List Stretch) (b : Bool) → b ≡ true → stretch_holds a s ≡ true
-    → places_held a (cond b (s ∷ later) later) ≡ (s.location ∷ places_held a later)
+    → stretch_locations a (cond b (s ∷ later) later) ≡ (s.location ∷ stretch_locations a later)
 in_front a s later true e h =
     ap (λ c. map (λ (t : Stretch). t.location)
     (cond c (s ∷ filter (stretch_holds a) later) (filter (stretch_holds a) later))) h
@@ -39,7 +39,7 @@ next_within end (r ∷ rs) h =
 
 -- rows that begin above an address
 none_below_rows : (u : UnitPart) (a low end : ℕ) (rs : List RowPart) → a < low → goes_back_from low rs ≡ false
-    → places_held a (row_stretches u end rs) ≡ []
+    → stretch_locations a (row_stretches u end rs) ≡ []
 none_below_rows u a low end [] lt h = refl
 none_below_rows u a low end (r ∷ rs) lt h =
     let p = or_parts (nat_lt r.address low) (goes_back_from r.address rs) h in
@@ -60,7 +60,7 @@ none_above a low (r ∷ rs) lt h =
 
 -- rows that end at or below an address
 none_past_end : (u : UnitPart) (a end : ℕ) (rs : List RowPart) → end ≤ a → list_any (is_past end) rs ≡ false
-    → places_held a (row_stretches u end rs) ≡ []
+    → stretch_locations a (row_stretches u end rs) ≡ []
 none_past_end u a end [] le h = refl
 none_past_end u a end (r ∷ rs) le h =
     let p = or_parts (is_past end r) (list_any (is_past end) rs) h in
@@ -79,7 +79,7 @@ module _ (u : UnitPart) (a end : ℕ) where
 
   -- a row below the address, whose own stretch ends at or below it
   stretch_before : (r : RowPart) (rs : List RowPart) → next_address rs end ≤ a → r.address ≤ a
-      → places_held a (row_stretches u end (r ∷ rs)) ≡ places_held a (row_stretches u end rs)
+      → stretch_locations a (row_stretches u end (r ∷ rs)) ≡ stretch_locations a (row_stretches u end rs)
   stretch_before r rs le low =
       let next = next_address rs end in
       not_in_front a (record { address = r.address; length = next - r.address; location = row_location u r })
@@ -93,7 +93,7 @@ module _ (u : UnitPart) (a end : ℕ) where
   -- from a row at or below the address on
   from_row : (r : RowPart) (rs : List RowPart) → r.address ≤ a → a < end → goes_back_from r.address rs ≡ false
       → list_any (is_past end) (r ∷ rs) ≡ false
-      → places_held a (row_stretches u end (r ∷ rs)) ≡ answer (last_or (Some r) (filter (is_at_most a) rs))
+      → stretch_locations a (row_stretches u end (r ∷ rs)) ≡ answer (last_or (Some r) (filter (is_at_most a) rs))
   from_row r [] low lt h k =
       in_front a (record { address = r.address; length = end - r.address; location = row_location u r }) []
       (nat_lt r.address end)
@@ -104,9 +104,9 @@ module _ (u : UnitPart) (a end : ℕ) where
       let q = or_parts (is_past end r) (list_any (is_past end) (s ∷ rs)) k in
       let F = filter (is_at_most a) rs in
       let by_cases : (b : Bool) → nat_le s.address a ≡ b
-      → places_held a (row_stretches u end (r ∷ s ∷ rs)) ≡ answer (last_or (Some r) (cond b (s ∷ F) F)) = λ b.
+      → stretch_locations a (row_stretches u end (r ∷ s ∷ rs)) ≡ answer (last_or (Some r) (cond b (s ∷ F) F)) = λ b.
       elim b as (λ b. nat_le s.address a ≡ b
-      → places_held a (row_stretches u end (r ∷ s ∷ rs)) ≡ answer (last_or (Some r) (cond b (s ∷ F) F))) [
+      → stretch_locations a (row_stretches u end (r ∷ s ∷ rs)) ≡ answer (last_or (Some r) (cond b (s ∷ F) F))) [
         | true ↦ λ e. stretch_before r (s ∷ rs) (leb-true s.address a e) low
             ∙ from_row s rs (leb-true s.address a e) lt p.1 q.1
         | false ↦ λ e.
@@ -125,13 +125,14 @@ module _ (u : UnitPart) (a end : ℕ) where
 
   -- the stretches of a sequence
   pub in_sequence : (rows : List RowPart) → goes_back_from 0 rows ≡ false → list_any (is_past end) rows ≡ false
-      → places_held a (row_stretches u end rows) ≡ cond (any_holds a (extent rows end)) (answer (last_row rows a)) []
+      → stretch_locations a (row_stretches u end rows)
+      ≡ cond (any_holds a (extent rows end)) (answer (last_row rows a)) []
   in_sequence [] h k = refl
   in_sequence (r ∷ rs) h k =
       let p = or_parts (nat_lt r.address 0) (goes_back_from r.address rs) h in
       let q = or_parts (is_past end r) (list_any (is_past end) rs) k in
       let F = filter (is_at_most a) rs in
-      let got = places_held a (row_stretches u end (r ∷ rs)) in
+      let got = stretch_locations a (row_stretches u end (r ∷ rs)) in
       let below : nat_lt r.address end ≡ true = lt-ltb r.address end (leb-false end r.address q.0) in
       let by_cases : (x y : Bool) → nat_le r.address a ≡ x → nat_lt a end ≡ y
       → got ≡ cond ((x && y) || false) (answer (last_or None (cond x (r ∷ F) F))) [] = λ x y.

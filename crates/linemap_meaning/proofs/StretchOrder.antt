@@ -25,7 +25,7 @@ in_order-ascends (s ∷ ss) = put_ascends 0 s (in_order ss) (omega arith) (in_or
 pub stretches_ascend : (us : List UnitPart) (low high : ℕ) → ascend_from 0 (stretches_between us low high) ≡ true
 stretches_ascend us low high = in_order-ascends (filter (is_between low high) (flat_map unit_stretches us))
 
--- how many of a kind there are with one more in front
+-- the number of stretches of a kind, with one more at the start
 one_more : (kind : Stretch → Bool) (s : Stretch) (ss : List Stretch)
     → length (filter kind (s ∷ ss)) ≡ length (filter kind (s ∷ [])) + length (filter kind ss)
 one_more kind s ss =

@@ -65,7 +65,7 @@ inner_apart c (more_calls site inner others) h (inr m) =
     (or_parts (any_overlap (sibling_ranges inner) || any_inner_overlap inner) (any_inner_overlap others) h).1 m
 
 -- where no call of a list holds the address, the chain ends
-chain_ends : (a : ℕ) (cs : Calls) → any_holds a (sibling_ranges cs) ≡ false → chain a cs ≡ []
+pub chain_ends : (a : ℕ) (cs : Calls) → any_holds a (sibling_ranges cs) ≡ false → chain a cs ≡ []
 chain_ends a no_calls h = refl
 chain_ends a (more_calls site inner others) h =
     let p =

@@ -9,7 +9,7 @@ use Rattle.std.proofs.lemmas.List.Folds.{list_any-append}
 use Rattle.linemap_meaning.specs.TableParts.{RangePart, SequencePart, UnitPart}
 use Rattle.linemap_meaning.specs.Conditions.{is_within, is_outside, any_outside, goes_back, has_bad_rows, has_sequence_with_bad_rows, has_sequences_overlap, has_sequence_outside, span, spans, IsSound}
 use Rattle.linemap_meaning.specs.Meaning.{Location, Stretch, holds, any_holds, sequence_at, last_row, row_location, row_stretches, unit_stretches, place_in, unit_at, location_at}
-use Rattle.linemap_meaning.specs.StretchLaws.{stretch_holds, places_held}
+use Rattle.linemap_meaning.specs.StretchLaws.{stretch_holds, stretch_locations}
 use Rattle.linemap_meaning.specs.declared.rule.Rule.TheVariants.{UnitsOverlap, SequenceOutside, SequencesOverlap, Rows}
 use Rattle.linemap_meaning.proofs.SoundUnits.{sound_rule}
 use Rattle.linemap_meaning.proofs.TableRangeHolders.{one_holder}
@@ -17,22 +17,23 @@ use Rattle.linemap_meaning.proofs.SequenceStretches.{is_past, in_sequence}
 
 -- ---- pieces
 
-places_held-append : (a : ℕ) (ss ts : List Stretch) → places_held a (ss ++ ts) ≡ places_held a ss ++ places_held a ts
-places_held-append a ss ts =
+stretch_locations-append : (a : ℕ) (ss ts : List Stretch) → stretch_locations a (ss ++ ts)
+    ≡ stretch_locations a ss ++ stretch_locations a ts
+stretch_locations-append a ss ts =
     ap (λ xs. map (λ (s : Stretch). s.location) xs) (filter-append (stretch_holds a) ss ts)
     ∙ map-append (λ (s : Stretch). s.location) (filter (stretch_holds a) ss) (filter (stretch_holds a) ts)
 
--- pieces that answer alike at each element that isn't bad
-places_held-flat_map : {X : Type 0} (a : ℕ) (f : X → List Stretch) (g : X → List Location) (bad : X → Bool)
+-- pieces that answer the same at each element that isn't bad
+stretch_locations-flat_map : {X : Type 0} (a : ℕ) (f : X → List Stretch) (g : X → List Location) (bad : X → Bool)
     (xs : List X)
-    → ((x : X) → bad x ≡ false → places_held a (f x) ≡ g x) → list_any bad xs ≡ false
-    → places_held a (flat_map f xs) ≡ flat_map g xs
-places_held-flat_map a f g bad [] same good = refl
-places_held-flat_map a f g bad (x ∷ xs) same good =
+    → ((x : X) → bad x ≡ false → stretch_locations a (f x) ≡ g x) → list_any bad xs ≡ false
+    → stretch_locations a (flat_map f xs) ≡ flat_map g xs
+stretch_locations-flat_map a f g bad [] same good = refl
+stretch_locations-flat_map a f g bad (x ∷ xs) same good =
     let parts = or_parts (bad x) (list_any bad xs) good in
-    places_held-append a (f x) (flat_map f xs)
-    ∙ ap (λ ls. ls ++ places_held a (flat_map f xs)) (same x parts.0)
-    ∙ ap (λ ls. g x ++ ls) (places_held-flat_map a f g bad xs same parts.1)
+    stretch_locations-append a (f x) (flat_map f xs)
+    ∙ ap (λ ls. ls ++ stretch_locations a (flat_map f xs)) (same x parts.0)
+    ∙ ap (λ ls. g x ++ ls) (stretch_locations-flat_map a f g bad xs same parts.1)
 
 -- ---- where one element at most passes, the search finds all that pass
 
@@ -74,7 +75,7 @@ abbrev row_answer : UnitPart → ℕ → SequencePart → List Location
 row_answer u a s = option_to_list (option_map (row_location u) (last_row s.rows a))
 
 of_sequence : (u : UnitPart) (a : ℕ) (s : SequencePart) → has_bad_rows s ≡ false
-    → places_held a (row_stretches u s.end s.rows) ≡ cond (is_holder a s) (row_answer u a s) []
+    → stretch_locations a (row_stretches u s.end s.rows) ≡ cond (is_holder a s) (row_answer u a s) []
 of_sequence u a s good =
     let p = or_parts ((length s.rows == 0) || goes_back s.rows) (list_any (is_past s.end) s.rows) good in
     let q = or_parts (length s.rows == 0) (goes_back s.rows) p.0 in
@@ -87,9 +88,9 @@ answer_of_found u a None = refl
 answer_of_found u a (Some s) = refl
 
 in_unit : (u : UnitPart) (a : ℕ) → has_sequence_with_bad_rows u ≡ false → has_sequences_overlap u ≡ false
-    → places_held a (unit_stretches u) ≡ option_to_list (place_in u a)
+    → stretch_locations a (unit_stretches u) ≡ option_to_list (place_in u a)
 in_unit u a good apart =
-    places_held-flat_map a (λ (s : SequencePart). row_stretches u s.end s.rows)
+    stretch_locations-flat_map a (λ (s : SequencePart). row_stretches u s.end s.rows)
     (λ s. cond (is_holder a s) (row_answer u a s) []) has_bad_rows u.sequences (of_sequence u a) good
     ∙ only_found (is_holder a) (row_answer u a) u.sequences (one_holder span a u.sequences apart)
     ∙ answer_of_found u a (sequence_at u a)
@@ -165,7 +166,7 @@ abbrev unit_answer : ℕ → UnitPart → List Location
 unit_answer a u = option_to_list (place_in u a)
 
 of_unit : (a : ℕ) (u : UnitPart) → any_of_three u ≡ false
-    → places_held a (unit_stretches u) ≡ cond (any_holds a u.ranges) (unit_answer a u) []
+    → stretch_locations a (unit_stretches u) ≡ cond (any_holds a u.ranges) (unit_answer a u) []
 of_unit a u good =
     let p = or_parts (has_sequence_with_bad_rows u) (has_sequences_overlap u || has_sequence_outside u) good in
     let q = or_parts (has_sequences_overlap u) (has_sequence_outside u) p.1 in
@@ -181,9 +182,9 @@ answer_of_unit a None = refl
 answer_of_unit a (Some u) = refl
 
 pub stretches_answer : (us : List UnitPart) (a : ℕ) → IsSound us
-    → places_held a (flat_map unit_stretches us) ≡ option_to_list (location_at us a)
+    → stretch_locations a (flat_map unit_stretches us) ≡ option_to_list (location_at us a)
 stretches_answer us a sound =
-    places_held-flat_map a unit_stretches (λ u. cond (any_holds a u.ranges) (unit_answer a u) []) any_of_three us
+    stretch_locations-flat_map a unit_stretches (λ u. cond (any_holds a u.ranges) (unit_answer a u) []) any_of_three us
     (of_unit a)
     (none_of_three us (sound_rule us Rows sound) (sound_rule us SequencesOverlap sound)
     (sound_rule us SequenceOutside sound))

@@ -4,12 +4,12 @@ use Rattle.linemap_meaning.specs.TableParts.{CallPart}
 use Rattle.linemap_meaning.specs.TableViews.{range_part, call_step, call_part, calls_part}
 use Rattle.linemap_meaning.specs.declared.table.TableCall.{TableCall}
 use Rattle.linemap_meaning.specs.declared.table.TableCall.TheOpen.{TableCall-F}
-use Rattle.linemap_meaning.specs.declared.table.TableCall.TheViews.{out-TableCall, roll-TableCall}
-use Rattle.linemap_meaning.specs.declared.table.TableCall.TheFolds.{fold-roll-TableCall, fold_out-TableCall}
+use Rattle.linemap_meaning.specs.declared.table.TableCall.TheViews.{out-TableCall}
+use Rattle.linemap_meaning.specs.declared.table.TableCall.TheFolds.{fold_out-TableCall}
 
--- one level of a call
-abbrev pub opened_call : TableCall-F TableCall → CallPart
-opened_call c = record {
+-- a call, one level of its struct
+abbrev pub call_of_level : TableCall-F TableCall → CallPart
+call_of_level c = record {
   site =
       record {
         name = string_bytes c.name;
@@ -21,13 +21,10 @@ opened_call c = record {
   inner = calls_part c.calls.items;
 }
 
-pub call_part-roll : (x : TableCall-F TableCall) → call_part (roll-TableCall x) ≡ opened_call x
-call_part-roll = fold-roll-TableCall CallPart call_step
-
-pub call_part-out : (c : TableCall) → call_part c ≡ opened_call (out-TableCall c)
+pub call_part-out : (c : TableCall) → call_part c ≡ call_of_level (out-TableCall c)
 call_part-out = fold_out-TableCall CallPart call_step
 
-pub site-out : (c : TableCall) → (call_part c).site ≡ (opened_call (out-TableCall c)).site
+pub site-out : (c : TableCall) → (call_part c).site ≡ (call_of_level (out-TableCall c)).site
 site-out c = ap (λ p. p.site) (call_part-out c)
 
 pub inner-out : (c : TableCall) → (call_part c).inner ≡ calls_part (out-TableCall c).calls.items

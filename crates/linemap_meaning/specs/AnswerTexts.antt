@@ -1,5 +1,5 @@
 -- The text that answers a word, as `ask` prints it.
-use Rattle.std.specs.Prelude.{ℕ, ◌^◌, Bool, ◌&&◌, ◌==◌, nat_lt, List, [], ◌∷◌, ◌++◌, length, drop, slice_index, flat_map, decimal, codes, Option, Some, None, unwrap_or, option_and_then, if◌then◌else◌}
+use Rattle.std.specs.Prelude.{ℕ, ◌^◌, Bool, ◌&&◌, ◌==◌, nat_lt, List, ◌++◌, length, drop, slice_index, flat_map, decimal, codes, Option, Some, None, unwrap_or, option_and_then, if◌then◌else◌}
 use Rattle.std.specs.List.{list_all}
 use Rattle.std.specs.Char.{is_digit}
 use Rattle.std.specs.Str.Parse.{without_leading_plus, digits_value}
@@ -18,14 +18,15 @@ hexadecimal_number digits =
     if is_hexadecimal digits && nat_lt (digits_value 16 digits) (2 ^ 64)
     then Some (digits_value 16 digits) else None
 
--- the characters '0' and 'x'
+-- '0'
 abbrev digit_zero : ℕ
-digit_zero = 48
+digit_zero = 0x30
 
+-- 'x'
 abbrev letter_x : ℕ
-letter_x = 120
+letter_x = 0x78
 
--- the word without a leading "0x", which a word of two bytes keeps
+-- the word without a leading "0x", unless nothing follows it
 abbrev pub without_0x : List ℕ → List ℕ
 without_0x word =
     if nat_lt 2 (length word)
@@ -38,9 +39,11 @@ word_address word = hexadecimal_number (without_leading_plus (without_0x word))
 
 -- ---- lines
 
+-- a file that isn't known
 abbrev pub unknown_text : List ℕ
 unknown_text = codes "??"
 
+-- a line, or one that isn't known
 abbrev pub number_text : Option ℕ → List ℕ
 number_text None = codes "?"
 number_text (Some n) = decimal n
@@ -54,7 +57,7 @@ abbrev pub location_text : Option Location → List ℕ
 location_text None = place_text None (Some 0)
 location_text (Some l) = place_text l.file (Some l.line)
 
--- the answer to a word; as for no location where the word can't be read
+-- the answer to a word; one that can't be read is answered as if there were no location
 abbrev pub word_text : List UnitPart → List ℕ → List ℕ
 word_text us word = location_text (option_and_then (location_at us) (word_address word))
 

@@ -10,8 +10,8 @@ IsAmong c no_calls = ⊥
 IsAmong c (more_calls site inner others) =
     (c ≡ record { site = site; inner = inner }) ⊎ IsAmong c others
 
--- a way down through calls that hold the address, each inlined into the one before, to where none
--- holds it any more
+-- a way down through calls that hold the address, each inlined into the one before, until none
+-- holds it
 abbrev pub IsWayDown : ℕ → Calls → List Site → Type 0
 IsWayDown a cs [] = any_holds a (sibling_ranges cs) ≡ false
 IsWayDown a cs (s ∷ ss) =

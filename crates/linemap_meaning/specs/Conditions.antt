@@ -25,7 +25,7 @@ is_within r whole = nat_le whole.begin r.begin && nat_le r.end whole.end
 abbrev pub is_outside : List RangePart → RangePart → Bool
 is_outside parent r = not (list_any (is_within r) parent)
 
--- some range does
+-- some range lies in no single one of them
 abbrev pub any_outside : List RangePart → List RangePart → Bool
 any_outside parent rs = list_any (is_outside parent) rs
 
@@ -42,8 +42,7 @@ abbrev pub sibling_ranges : Calls → List RangePart
 sibling_ranges no_calls = []
 sibling_ranges (more_calls site inner others) = site.ranges ++ sibling_ranges others
 
--- some call has a range outside its parent's: the given ranges at the top, its caller's
--- below
+-- some call has a range outside its parent's ranges: `parent` at the top, its caller's below
 abbrev pub any_call_outside : List RangePart → Calls → Bool
 any_call_outside parent no_calls = false
 any_call_outside parent (more_calls site inner others) =
@@ -60,6 +59,10 @@ any_inner_overlap (more_calls site inner others) =
 abbrev pub any_calls_overlap : Calls → Bool
 any_calls_overlap cs = any_overlap (sibling_ranges cs) || any_inner_overlap cs
 
+-- how deep calls may be nested
+abbrev pub greatest_depth : ℕ
+greatest_depth = 50
+
 -- how deep calls are nested
 abbrev pub depth : Calls → ℕ
 depth no_calls = 0
@@ -74,6 +77,7 @@ extent [] end = []
 extent (r ∷ rs) end =
     if nat_lt r.address end then record { begin = r.address; end = end } ∷ [] else []
 
+-- those of a sequence, and of a unit's sequences
 abbrev pub span : SequencePart → List RangePart
 span s = extent s.rows s.end
 
@@ -102,8 +106,15 @@ is_empty_range r = nat_le r.end r.begin
 abbrev pub has_empty_range : UnitPart → Bool
 has_empty_range u = any_ranges (list_any is_empty_range) u
 
+-- the addresses that a table may name; the two above them mark code that was removed
+abbrev pub least_address : ℕ
+least_address = 1
+
+abbrev pub greatest_address : ℕ
+greatest_address = 2 ^ 64 - 3
+
 abbrev pub is_out_of_bounds : ℕ → Bool
-is_out_of_bounds address = nat_lt address 1 || nat_lt (2 ^ 64 - 3) address
+is_out_of_bounds address = nat_lt address least_address || nat_lt greatest_address address
 
 abbrev pub range_out_of_bounds : RangePart → Bool
 range_out_of_bounds r = is_out_of_bounds r.begin || is_out_of_bounds r.end
@@ -145,8 +156,12 @@ has_bad_rows s =
 abbrev pub has_sequence_with_bad_rows : UnitPart → Bool
 has_sequence_with_bad_rows u = list_any has_bad_rows u.sequences
 
+-- a line or a column is a number of 32 bits, and 0 is none
+abbrev pub greatest_number : ℕ
+greatest_number = 2 ^ 32 - 1
+
 abbrev pub is_bad_number : ℕ → Bool
-is_bad_number n = nat_lt n 1 || nat_lt (2 ^ 32 - 1) n
+is_bad_number n = nat_lt n 1 || nat_lt greatest_number n
 
 -- some row or call has a line or column that is not within 1 to 2^32 - 1
 abbrev pub has_bad_line_or_column : UnitPart → Bool
@@ -166,8 +181,8 @@ has_bad_file_number u =
 abbrev pub is_bad_text : List ℕ → Bool
 is_bad_text text = (length text == 0) || list_any (λ b. b == 0) text
 
--- of the directories and names of the unit and its files, and the names of its functions and calls,
--- some is bad
+-- some text of the unit is bad: its directory, its name, those of its files, or the name of a
+-- function or a call
 abbrev pub has_bad_text : UnitPart → Bool
 has_bad_text u =
     is_bad_text u.directory || is_bad_text u.name
@@ -178,7 +193,7 @@ abbrev pub is_not_rooted : UnitPart → Bool
 is_not_rooted u = not (is_rooted u.directory)
 
 abbrev pub has_deep_calls : UnitPart → Bool
-has_deep_calls u = list_any (λ f. nat_lt 50 (depth f.calls)) u.functions
+has_deep_calls u = list_any (λ f. nat_lt greatest_depth (depth f.calls)) u.functions
 
 -- ---- the rules
 

@@ -1,11 +1,10 @@
--- Encodings that a table can be written in, and which tables fit them.
+-- The encodings that a table can be written in, and the tables that fit them.
 use Rattle.std.specs.Prelude.{◌≡◌, ℕ, ◌-◌, ◌*◌, ◌^◌, Bool, true, not, ◌&&◌, ◌||◌, ◌==◌, nat_le, List}
 use Rattle.std.specs.List.{list_any}
 use Rattle.linemap_meaning.specs.TableParts.{UnitPart}
 use Rattle.linemap_meaning.specs.Conditions.{any_ranges, IsSound}
 
--- version 2 in the 32-bit format, 3 to 5 in either; addresses of 4 or 8 bytes; the byte order is
--- free
+-- version 2 in the 32-bit format, 3 to 5 in either; addresses of 4 or 8 bytes; either byte order
 abbrev pub is_target : ℕ → Bool → ℕ → Bool
 is_target version is_64_bit address_size =
     (((version == 2) && not is_64_bit) || (nat_le 3 version && nat_le version 5))

@@ -1,18 +1,18 @@
--- What a table answers for an address, and for two ends. It knows no bytes, no encoding and no
--- order of search.
+-- What a table answers for an address, and between two ends, whatever bytes, encoding and order of
+-- search are used.
 use Rattle.std.specs.Prelude.{ℕ, ◌+◌, ◌-◌, Bool, ◌&&◌, nat_lt, nat_le, List, [], ◌∷◌, ◌++◌, filter, find, flat_map, slice_get, Option, Some, None, option_map, option_and_then, if◌then◌else◌}
 use Rattle.std.specs.List.{list_any, last_or}
 use Rattle.linemap_meaning.specs.TableParts.{RangePart, RowPart, SequencePart, Site, Calls, no_calls, more_calls, FunctionPart, UnitPart}
 use Rattle.linemap_meaning.specs.FileText.{file_text}
 use Rattle.linemap_meaning.specs.Conditions.{span}
 
--- a place in the source: the file's text, where the unit has that file, with line and column
+-- a place in the source: the file's text, if the unit has that file, with line and column
 pub record Location : Type 0 where
   pub file : Option (List ℕ)
   pub line : ℕ
   pub column : ℕ
 
--- a function or call that is running: its name, where one is known, and its location
+-- a function or call that is running: its name and its location, each if known
 pub record Frame : Type 0 where
   pub function : Option (List ℕ)
   pub location : Option Location
@@ -36,18 +36,18 @@ any_holds a rs = list_any (holds a) rs
 abbrev pub unit_at : List UnitPart → ℕ → Option UnitPart
 unit_at us a = find (λ u. any_holds a u.ranges) us
 
--- the function of a unit that does
+-- the function of a unit with such a range
 abbrev pub function_at : UnitPart → ℕ → Option FunctionPart
 function_at u a = find (λ f. any_holds a f.ranges) u.functions
 
--- the calls that do, outermost first: the first call that holds the address, and then those inlined
--- into it
+-- the calls that hold the address, outermost first: the first of the list that does, and then those
+-- inlined into it
 abbrev pub chain : ℕ → Calls → List Site
 chain a no_calls = []
 chain a (more_calls site inner others) =
     if any_holds a site.ranges then site ∷ chain a inner else chain a others
 
--- the sequence of a unit that does, from its first row to its end
+-- the sequence of a unit that holds it, from its first row to its end
 abbrev pub sequence_at : UnitPart → ℕ → Option SequencePart
 sequence_at u a = find (λ s. any_holds a (span s)) u.sequences
 
@@ -90,7 +90,7 @@ abbrev pub frame : List ℕ → Option Location → Frame
 frame name location = record { function = Some name; location = location }
 
 -- the frames of a function or call, innermost first: those of the calls in it, and then its own, at
--- the site of the outermost of them, or at the address's own place where it has none
+-- the site of the outermost of them, or at the address's own place where there are none
 abbrev pub frames_in : UnitPart → Option Location → List ℕ → List Site → List Frame
 frames_in u here name [] = frame name here ∷ []
 frames_in u here name (s ∷ inside) =
@@ -137,8 +137,8 @@ unit_stretches u = flat_map (λ s. row_stretches u s.end s.rows) u.sequences
 abbrev pub is_between : ℕ → ℕ → Stretch → Bool
 is_between low high s = nat_lt s.address high && nat_lt low (s.address + s.length)
 
--- a stretch put before the first that doesn't begin below it, so that stretches of one address keep
--- their order
+-- a stretch inserted before the first that doesn't begin below it, so that stretches of one address
+-- keep their order
 abbrev pub put_in_order : Stretch → List Stretch → List Stretch
 put_in_order s [] = s ∷ []
 put_in_order s (t ∷ ts) = if nat_le s.address t.address then s ∷ t ∷ ts else t ∷ put_in_order s ts

@@ -2,12 +2,12 @@
 -- bytes.
 use Rattle.std.specs.Prelude.{ℕ, List}
 
--- the addresses from begin up to, and without, end
+-- the addresses from `begin` up to `end`, which is not among them
 pub record RangePart : Type 0 where
   pub begin : ℕ
   pub end : ℕ
 
--- a source file, named by its place in its unit, from 0
+-- a source file; rows and calls name it by its index among its unit's files
 pub record FilePart : Type 0 where
   pub directory : List ℕ
   pub name : List ℕ

@@ -1,4 +1,4 @@
--- What follows from the definitions, for every table.
+-- What follows for the ranges of a table, for every table.
 use Rattle.std.specs.Prelude.{◌≡◌, ◌≤◌, ℕ, Bool, true, false, not, ◌&&◌, nat_le, List, [], ◌∷◌, length, filter, Contains}
 use Rattle.std.specs.List.{list_any}
 use Rattle.linemap_meaning.specs.TableParts.{RangePart, UnitPart}
@@ -29,7 +29,7 @@ FollowingApart =
     (rs : List RangePart) → list_any is_empty_range rs ≡ false → follow_from 0 rs ≡ true
     → any_overlap rs ≡ false
 
--- ---- what holds an address is one
+-- ---- one holder of an address
 
 -- at most one of the units, of a unit's functions and of its sequences holds an address
 abbrev pub OneUnit : Type 0

@@ -1,4 +1,4 @@
--- The part of the pure table that each struct is.
+-- What contracts see of each struct of a table.
 use Rattle.std.specs.Prelude.{List, [], ◌∷◌, map, string_bytes}
 use Rattle.linemap_meaning.specs.TableParts.{RangePart, FilePart, RowPart, SequencePart, Site, Calls, no_calls, more_calls, CallPart, FunctionPart, UnitPart}
 use Rattle.linemap_meaning.specs.declared.table.TableRange.{TableRange}
@@ -28,7 +28,7 @@ abbrev pub calls_of : List CallPart → Calls
 calls_of [] = no_calls
 calls_of (c ∷ cs) = more_calls c.site c.inner (calls_of cs)
 
--- the place of one call, from one level of the struct
+-- the site of a call, one level of its struct
 abbrev pub site_step : TableCall-F CallPart → Site
 site_step c =
     record {
@@ -39,7 +39,7 @@ site_step c =
       column = c.column;
     }
 
--- one level of a call, with each call inside already seen as its part
+-- a call, one level of its struct, where the calls in it are parts already
 abbrev pub call_step : TableCall-F CallPart → CallPart
 call_step c = record { site = site_step c; inner = calls_of c.calls.items }
 

@@ -1,4 +1,4 @@
--- The weight of a table: how large its image may grow. A number with no upper bound.
+-- The weight of a table, which bounds the size of its image. It has no upper bound.
 use Rattle.std.specs.Prelude.{ℕ, ◌+◌, ◌*◌, List, length, sum_by}
 use Rattle.linemap_meaning.specs.TableParts.{FilePart, SequencePart, Site, Calls, no_calls, more_calls, FunctionPart, UnitPart}
 

@@ -3,7 +3,7 @@
 ghost use Rattle.std.specs.Prelude.{◌≡◌};
 ghost use Rattle.linemap_meaning.specs.AnswerTexts.{word_address, without_0x};
 
-/// The word without a leading `0x`, unless nothing follows it.
+// The word without a leading `0x`, unless nothing follows it.
 fn after_0x(word: &str) -> &str
     ensures { result.now ≡ without_0x word.now }
 {

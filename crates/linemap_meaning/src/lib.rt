@@ -1,6 +1,5 @@
-//! What a table of line information is and means: its plain structs, the pure table that contracts
-//! see, the conditions that a table meets, its weight, and the frames, rows and file texts that it
-//! stands for.
+//! What a table of line information is and means: its structs and what contracts see of them, the
+//! conditions that it meets, its weight, and the locations, frames and stretches that it answers.
 #![tactic(auto)]
 
 pub mod address;

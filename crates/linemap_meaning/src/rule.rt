@@ -1,5 +1,4 @@
-//! The conditions that a table's units meet, by name and in the order in which a refusal names
-//! them.
+//! The conditions that a table's units meet, in the order in which a refusal names them.
 
 /// A condition that units can break. The lowest of those that are broken is reported.
 #[derive(Debug, Clone, Copy, PartialEq, Eq)]

@@ -1,7 +1,6 @@
-//! The plain structs of a table's units. Whether they meet a table's conditions is not their
-//! concern.
+//! The structs of a table's units, which may or may not meet a table's conditions.
 
-/// The addresses from `begin` up to, and without, `end`.
+/// The addresses from `begin` up to `end`, which is not among them.
 #[derive(Debug, PartialEq, Drop)]
 pub struct TableRange {
     pub begin: u64,
@@ -20,7 +19,7 @@ pub struct TableUnit {
     pub sequences: Vec<TableSequence>,
 }
 
-/// A source file of a unit. Rows and calls name it by its place in `TableUnit::files`, from 0.
+/// A source file of a unit. Rows and calls name it by its index in `TableUnit::files`.
 #[derive(Debug, PartialEq, Drop)]
 pub struct TableFile {
     pub directory: String,

@@ -17,22 +17,22 @@ pub fn following_apart()
     ensures { FollowingApart }
 {}
 
-/// Of sound units at most one holds an address, so the first that does is the one that does.
+/// At most one of sound units holds an address, so that the first to hold it is the only one.
 pub fn one_unit()
     ensures { OneUnit }
 {}
 
-/// The same of a unit's functions.
+/// At most one of the functions of a sound unit holds an address.
 pub fn one_function()
     ensures { OneFunction }
 {}
 
-/// The same of a unit's sequences.
+/// At most one of the sequences of a sound unit holds an address.
 pub fn one_sequence()
     ensures { OneSequence }
 {}
 
-/// The chain of calls is a way down through calls that hold the address, as far as it goes.
+/// The chain of calls is a way down through calls that hold the address, until none does.
 pub fn chain_goes_down()
     ensures { ChainGoesDown }
 {}
@@ -84,7 +84,7 @@ pub fn stretches_ascend()
     ensures { StretchesAscend }
 {}
 
-/// Putting stretches in order keeps each of them, as often as it was there.
+/// Putting stretches in order keeps each of them, as often as it occurs.
 pub fn order_keeps_all()
     ensures { OrderKeepsAll }
 {}

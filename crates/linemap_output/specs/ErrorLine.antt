@@ -1,5 +1,5 @@
--- The lines of the error stream, and what a program ends with after one.
-use Rattle.std.specs.Prelude.{◌≡◌, ℕ, List, [], ◌∷◌, ◌++◌, Option, true, false, codes}
+-- The lines of the error stream, and how a program ends after one.
+use Rattle.std.specs.Prelude.{◌≡◌, ℕ, List, [], ◌++◌, Option, true, false, codes}
 use Rattle.std.specs.Io.KnownBytes.{Appends, Keeps}
 use Rattle.linemap_output.specs.WriterBytes.{AppendsPrefix}
 use Rattle.linemap_output.specs.declared.ended.Ended.{Ended}
@@ -8,9 +8,9 @@ use Rattle.linemap_output.specs.declared.writing.WriteFault.TheVariants.{BrokenP
 
 -- the program's name, the message in its two pieces, and a line end
 abbrev pub error_line : List ℕ → List ℕ → List ℕ
-error_line message detail = codes "linemap: " ++ (message ++ (detail ++ 10 ∷ []))
+error_line message detail = codes "linemap: " ++ (message ++ (detail ++ codes "\n"))
 
--- the end is status 1; the line was written, unless the write flag is set: then a prefix of it was
+-- status 1; the line is written, or a prefix of it where the write flag is set
 pub record Fails (line : List ℕ) (old new : Option (List ℕ)) (e : Ended) : Type 0 where
   pub whole : e.write ≡ false → Appends old new line
   pub prefix : AppendsPrefix old new line
@@ -31,8 +31,8 @@ EndsAtFault Failed old new e =
 EndsAtFault BrokenPipe old new e =
     Keeps old new × (e ≡ record { status = 0; memory = false; read = false; write = true })
 
--- what was to be read failed, or is no text: an error line and the read flag
-pub record EndsUnread (status : ℕ) (line : List ℕ)
+-- a read failed, or gave no text: an error line and the read flag
+pub record EndsAtRead (status : ℕ) (line : List ℕ)
     (old new : Option (List ℕ)) (e : Ended) : Type 0 where
   pub whole : e.write ≡ false → Appends old new line
   pub prefix : AppendsPrefix old new line

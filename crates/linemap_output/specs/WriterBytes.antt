@@ -1,4 +1,4 @@
--- What a writer holds after a text was written to it, whole or in part, and which fault ends the
+-- What a writer holds after a text is written to it, whole or in part, and the fault that ends the
 -- tries.
 use Rattle.std.specs.Prelude.{◌≡◌, ℕ, List, Option, take}
 use Rattle.std.specs.Io.KnownBytes.{Appends}

@@ -6,16 +6,16 @@ ghost use Rattle.std.specs.Prelude.{◌≡◌, true, false};
 pub struct Ended {
     /// The exit status.
     pub status: u8,
-    /// Set only where a growth of memory was refused.
+    /// Set only if memory was refused.
     pub memory: bool,
-    /// Set only where a read failed, or gave no text.
+    /// Set only if a read failed, or gave no text.
     pub read: bool,
-    /// Set only where a write or a flush failed, or a write took nothing.
+    /// Set only if a write or a flush failed, or a write took nothing.
     pub write: bool,
 }
 
 impl Ended {
-    /// Ended with this status, and nothing went wrong outside.
+    /// This status, and nothing went wrong outside.
     pub fn with_status(status: u8) -> Ended
         ensures { result ≡ record { status = status; memory = false; read = false; write = false } }
     {

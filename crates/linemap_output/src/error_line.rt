@@ -2,7 +2,7 @@
 ghost use Rattle.std.specs.Prelude.{◌≡◌, [], OnOk, codes, true, false};
 ghost use Rattle.std.specs.Io.KnownBytes.{Appends};
 ghost use Rattle.linemap_output.specs.WriterBytes.{AppendsPrefix};
-ghost use Rattle.linemap_output.specs.ErrorLine.{EndsAtFault, EndsOutOfMemory, EndsUnread, Fails, error_line};
+ghost use Rattle.linemap_output.specs.ErrorLine.{EndsAtFault, EndsOutOfMemory, EndsAtRead, Fails, error_line};
 
 use crate::ended::Ended;
 use crate::writing::{WriteFault, flush, write_text};
@@ -60,7 +60,7 @@ pub fn output_failed<W: Write>(err: &mut W, fault: WriteFault) -> Ended
 
 /// Ends with status 1 and the line for a file that can't be read.
 pub fn cannot_read<W: Write>(err: &mut W, path: &str) -> Ended
-    ensures { EndsUnread 1 (error_line (codes "cannot read ") path.now) (W.contents err.old)
+    ensures { EndsAtRead 1 (error_line (codes "cannot read ") path.now) (W.contents err.old)
         (W.contents err.new) result }
 {
     Ended {
@@ -69,9 +69,9 @@ pub fn cannot_read<W: Write>(err: &mut W, path: &str) -> Ended
     }
 }
 
-/// Ends with status 2 and the line for a command line that is no text.
+/// Ends with status 2 and the line for a command line that is not text.
 pub fn words_not_text<W: Write>(err: &mut W) -> Ended
-    ensures { EndsUnread 2 (error_line (codes "the command line is not UTF-8") [])
+    ensures { EndsAtRead 2 (error_line (codes "the command line is not UTF-8") [])
         (W.contents err.old) (W.contents err.new) result }
 {
     Ended {

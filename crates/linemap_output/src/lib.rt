@@ -1,5 +1,5 @@
-//! Text into any writer: how often a write or a flush is tried, what a failure leaves, and
-//! how a program reports its end.
+//! Writing text to any writer: how often a write or a flush is tried, what the writer holds after a
+//! failure, and how a program reports its end.
 #![tactic(auto)]
 
 mod ended;

@@ -6,13 +6,13 @@ ghost use Rattle.linemap_output.specs.WriterBytes.{AppendsPrefix, IsFaultOf};
 
 use std::io::{Error, ErrorKind, Write};
 
-/// This many interruptions in a row are a fault.
+/// The number of interruptions in a row that is a fault.
 pub const MAX_INTERRUPTIONS: u32 = 1000;
 
-/// Why a text could not be written whole, or a writer not be flushed.
+/// Why a text could not be written whole, or a writer could not be flushed.
 #[derive(Clone, Copy, Debug, PartialEq, Eq, Hash)]
 pub enum WriteFault {
-    /// The reader has closed its end.
+    /// The reader closed its end.
     BrokenPipe,
     /// Any other failure, a write that took nothing, or too many interruptions in a row.
     Failed,
@@ -59,7 +59,7 @@ pub fn flush<W: Write>(out: &mut W) -> Result<(), WriteFault>
     }
 }
 
-// How many interruptions there were in a row after this error, or the fault that ends the tries.
+// The number of interruptions in a row, with this error, or the fault that ends the tries.
 fn tries_again(error: &Error, interruptions: u32) -> Result<u32, WriteFault>
     requires { interruptions < MAX_INTERRUPTIONS }
     ensures again { IfOk result (λ count. (error_kind error.now ≡ ErrorKind.Interrupted)

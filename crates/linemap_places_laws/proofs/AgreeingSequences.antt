@@ -1,4 +1,4 @@
--- The sequences that are kept of the rows that a table's sequences are told as.
+-- The sequences that lookups have of rows that agree with a table's sequences.
 use Rattle.std.proofs.Common.{◌≡◌, ℕ, ◌<◌, Bool, true, false, cond, ◌==◌, ◌||◌, nat_lt, nat_le, List, [], ◌∷◌, ◌++◌, length, map, Option, Some, None, refl, sym, ap, subst, ◌∙◌, arith}
 use Rattle.std.specs.List.{filter_map, cons_option, list_any}
 use Rattle.std.proofs.lemmas.Bool.{eqb-true, lt-ltb, leb-false, or_parts}
@@ -28,9 +28,9 @@ sequence_kept number s = sequence_of (last_at_each_address (map (row_kept number
 pub kept_of : (number : ℕ → ℕ) (ss : List SequencePart) (rows : List ProgramRow) → RowsAgree number ss rows
     → sequences_of_rows rows ≡ filter_map (sequence_kept number) ss
 kept_of number [] rows no_sequences = refl
-kept_of number (s ∷ ss) rows (a_sequence _ _ e more is told) =
+kept_of number (s ∷ ss) rows (a_sequence _ _ e more is agrees) =
     ap (filter_map (λ t. sequence_of (last_at_each_address t.rows) t.end)) (cut_sequence number s.rows s.end e more is)
-    ∙ ap (cons_option (sequence_kept number s)) (kept_of number ss more told)
+    ∙ ap (cons_option (sequence_kept number s)) (kept_of number ss more agrees)
 
 -- ---- sequences that no condition refuses
 
@@ -61,12 +61,12 @@ good_of (r ∷ rs) end h =
 pub is_good : (s : SequencePart) → has_bad_rows s ≡ false → IsGood s
 is_good s h = good_of s.rows s.end h
 
--- where the first row stands
+-- the address of the first row
 abbrev pub start_of : List RowPart → ℕ
 start_of [] = 0
 start_of (r ∷ rs) = r.address
 
--- the sequence that is kept
+-- the sequence of lookups
 abbrev pub agreeing_sequence : (ℕ → ℕ) → SequencePart → Sequence
 agreeing_sequence number s =
     record { start = start_of s.rows; end = s.end; rows = last_at_each_address (map (row_kept number) s.rows) }
@@ -108,7 +108,7 @@ is_sequence address end rows b below =
     ∙ ap (λ c. cond c (whole (b.first ∷ b.others) b.first.address) None) (lt-ltb b.first.address end at)
     ∙ ap (whole (b.first ∷ b.others)) b.at ∙ ap (λ l. whole l address) (sym b.are)
 
--- a good sequence is kept
+-- lookups have each good sequence
 pub good_is_kept : (number : ℕ → ℕ) (s : SequencePart) → IsGood s
     → sequence_kept number s ≡ Some (agreeing_sequence number s)
 good_is_kept number s good =

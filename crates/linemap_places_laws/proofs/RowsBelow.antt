@@ -1,4 +1,4 @@
--- The row of an address among those that are kept is the table's.
+-- The row of an address among those of lookups is the table's.
 use Rattle.std.proofs.Common.{◌≡◌, ℕ, ◌≤◌, Bool, true, false, cond, ◌==◌, nat_lt, nat_le, List, [], ◌∷◌, map, filter, Option, Some, None, option_map, refl, sym, ap, ◌∙◌, arith}
 use Rattle.std.specs.List.{last_or}
 use Rattle.std.proofs.lemmas.Bool.{eqb-true, leb-true, le-leb, ltb-false, and_parts, and_from, or_parts}
@@ -101,7 +101,7 @@ last_is_kept a o (r ∷ q ∷ qs) = by_case (q.address == r.address) refl (λ p.
         (filter (is_below a) (cond b (last_at_each_address (q ∷ qs)) (r ∷ last_at_each_address (q ∷ qs))))) e
         ∙ by_below (nat_le r.address a) rest
 
--- the last of the rows as they are kept is the last row, kept
+-- the last of the rows of lookups is that of the last row
 last_of_kept : (number : ℕ → ℕ) (a : ℕ) (o : Option RowPart) (rs : List RowPart)
     → last_or (option_map (row_kept number) o) (filter (is_below a) (map (row_kept number) rs))
     ≡ option_map (row_kept number) (last_or o (filter (λ r. nat_le r.address a) rs))

@@ -46,16 +46,16 @@ sound_is_known us sound = record {
 unit_place : (u : UnitPart) (ranges : List Range) (lines : Result Lines Error) (a : ℕ) → UnitAgrees u ranges lines
     → has_sequences_overlap u ≡ false → has_sequence_with_bad_rows u ≡ false → has_bad_line_or_column u ≡ false
     → has_bad_file_number u ≡ false → place_or_refusal a lines ≡ Ok (option_map lookup_location (table.place_in u a))
-unit_place u ranges lines a told apart rows numbers files =
+unit_place u ranges lines a agrees apart rows numbers files =
     let number_parts =
     or_parts (list_any (λ s. list_any (λ r. is_bad_number r.line || is_bad_number r.column) s.rows) u.sequences)
     (list_any (λ f. any_call (λ c. is_bad_number c.line || is_bad_number c.column) f.calls) u.functions) numbers in
     let file_parts =
     or_parts (list_any (λ s. list_any (λ r. nat_le (length u.files) r.file) s.rows) u.sequences)
     (list_any (λ f. any_call (λ c. nat_le (length u.files) c.file) f.calls) u.functions) files in
-    ap (place_or_refusal a) told.lines_are
+    ap (place_or_refusal a) agrees.lines_are
     ∙ ap (λ (o : Option Location). Ok o)
-    (location_agrees told.number u told.files told.rows a told.rows_agree told.files_numbered
+    (location_agrees agrees.number u agrees.files agrees.rows a agrees.rows_agree agrees.files_numbered
     (all_good u.sequences rows) (all_rows_good u u.sequences number_parts.0 file_parts.0) apart)
 
 -- ---- the pairs of one unit
@@ -133,18 +133,18 @@ module _ {U : Type 0} (ranges : U → List Range) (lines : U → Result Lines Er
   -- where no unit holds the address no pair covers it
   none_covers : (n : ℕ) (us : List UnitPart) (xs : List U) → TableAgrees ranges lines us xs
       → any_holds a (flat_map (λ u. u.ranges) us) ≡ false → filter covers (pairs_from ranges n xs) ≡ []
-  none_covers n [] [] told h = refl
-  none_covers n [] (x ∷ xs) told h = absurd told
-  none_covers n (u ∷ us) [] told h = absurd told
-  none_covers n (u ∷ us) (x ∷ xs) told h =
+  none_covers n [] [] agrees h = refl
+  none_covers n [] (x ∷ xs) agrees h = absurd agrees
+  none_covers n (u ∷ us) [] agrees h = absurd agrees
+  none_covers n (u ∷ us) (x ∷ xs) agrees h =
       let parts =
       or_parts (any_holds a u.ranges) (any_holds a (flat_map (λ u. u.ranges) us))
       (sym (list_any-append (table.holds a) u.ranges (flat_map (λ u. u.ranges) us)) ∙ h) in
       filter-append covers (pairs_of ranges n x) (pairs_from ranges (n + 1) xs)
       ∙ ap (λ l. l ++ filter covers (pairs_from ranges (n + 1) xs))
-      (ap (λ rs. filter covers (map (λ r. record { range = r; number = n; unit = x }) rs)) told.0.ranges_agree
+      (ap (λ rs. filter covers (map (λ r. record { range = r; number = n; unit = x }) rs)) agrees.0.ranges_agree
       ∙ none_cover n x u.ranges parts.0)
-      ∙ none_covers (n + 1) us xs told.1 parts.1
+      ∙ none_covers (n + 1) us xs agrees.1 parts.1
 
   count_here : (n : ℕ) (x : U) (rs : List RangePart)
       → length (filter covers (map (λ r. record { range = r; number = n; unit = x }) (map lookup_range rs)))
@@ -165,14 +165,14 @@ module _ {U : Type 0} (ranges : U → List Range) (lines : U → Result Lines Er
   -- as many pairs as ranges cover it
   as_many : (n : ℕ) (us : List UnitPart) (xs : List U) → TableAgrees ranges lines us xs
       → length (filter covers (pairs_from ranges n xs)) ≡ length (filter (table.holds a) (flat_map (λ u. u.ranges) us))
-  as_many n [] [] told = refl
-  as_many n [] (x ∷ xs) told = absurd told
-  as_many n (u ∷ us) [] told = absurd told
-  as_many n (u ∷ us) (x ∷ xs) told =
+  as_many n [] [] agrees = refl
+  as_many n [] (x ∷ xs) agrees = absurd agrees
+  as_many n (u ∷ us) [] agrees = absurd agrees
+  as_many n (u ∷ us) (x ∷ xs) agrees =
       let here =
       ap (λ rs. length (filter covers (map (λ r. record { range = r; number = n; unit = x }) rs)))
-      told.0.ranges_agree ∙ count_here n x u.ranges in
-      let there = as_many (n + 1) us xs told.1 in
+      agrees.0.ranges_agree ∙ count_here n x u.ranges in
+      let there = as_many (n + 1) us xs agrees.1 in
       let left =
       ap length (filter-append covers (pairs_of ranges n x) (pairs_from ranges (n + 1) xs))
       ∙ length-append (filter covers (pairs_of ranges n x)) (filter covers (pairs_from ranges (n + 1) xs)) in
@@ -185,10 +185,10 @@ module _ {U : Type 0} (ranges : U → List Range) (lines : U → Result Lines Er
   first_location : (n : ℕ) (us : List UnitPart) (xs : List U) → TableAgrees ranges lines us xs → Known us
       → first_answer (map answer (filter covers (pairs_from ranges n xs)))
       ≡ Ok (option_map lookup_location (table.location_at us a))
-  first_location n [] [] told k = refl
-  first_location n [] (x ∷ xs) told k = absurd told
-  first_location n (u ∷ us) [] told k = absurd told
-  first_location n (u ∷ us) (x ∷ xs) told k =
+  first_location n [] [] agrees k = refl
+  first_location n [] (x ∷ xs) agrees k = absurd agrees
+  first_location n (u ∷ us) [] agrees k = absurd agrees
+  first_location n (u ∷ us) (x ∷ xs) agrees k =
       let rest_known : Known us = record {
         apart = rest_apart u.ranges (flat_map (λ u. u.ranges) us) k.apart;
         sequences_apart = (or_parts (has_sequences_overlap u) (list_any has_sequences_overlap us) k.sequences_apart).1;
@@ -197,18 +197,18 @@ module _ {U : Type 0} (ranges : U → List Range) (lines : U → Result Lines Er
         files = (or_parts (has_bad_file_number u) (list_any has_bad_file_number us) k.files).1;
       } in
       let place =
-      unit_place u (ranges x) (lines x) a told.0
+      unit_place u (ranges x) (lines x) a agrees.0
       (or_parts (has_sequences_overlap u) (list_any has_sequences_overlap us) k.sequences_apart).0
       (or_parts (has_sequence_with_bad_rows u) (list_any has_sequence_with_bad_rows us) k.rows).0
       (or_parts (has_bad_line_or_column u) (list_any has_bad_line_or_column us) k.numbers).0
       (or_parts (has_bad_file_number u) (list_any has_bad_file_number us) k.files).0 in
       let here =
       ap (λ rs. first_answer
-      (map answer (filter covers (map (λ r. record { range = r; number = n; unit = x }) rs)))) told.0.ranges_agree
+      (map answer (filter covers (map (λ r. record { range = r; number = n; unit = x }) rs)))) agrees.0.ranges_agree
       ∙ answers_same n x u.ranges (option_map lookup_location (table.place_in u a)) place in
       ap (λ l. first_answer (map answer l)) (filter-append covers (pairs_of ranges n x) (pairs_from ranges (n + 1) xs))
-      ∙ by_case (any_holds a u.ranges) refl here (none_covers (n + 1) us xs told.1)
-      (first_location (n + 1) us xs told.1 rest_known)
+      ∙ by_case (any_holds a u.ranges) refl here (none_covers (n + 1) us xs agrees.1)
+      (first_location (n + 1) us xs agrees.1 rest_known)
     where
       first : List (Pair U)
       first = filter covers (pairs_of ranges n x)
@@ -258,14 +258,14 @@ module _ {U : Type 0} (ranges : U → List Range) (lines : U → Result Lines Er
 
   locations : (us : List UnitPart) (xs : List U) → IsSound us → TableAgrees ranges lines us xs
       → location_at ranges lines xs a ≡ Ok (option_map lookup_location (table.location_at us a))
-  locations us xs sound told =
+  locations us xs sound agrees =
       let k = sound_is_known us sound in
       let few : length (filter covers (pairs_from ranges 0 xs)) ≤ 1 =
-      omega (arith, one_of (flat_map (λ u. u.ranges) us) k.apart, as_many 0 us xs told) in
+      omega (arith, one_of (flat_map (λ u. u.ranges) us) k.apart, as_many 0 us xs agrees) in
       ap (λ l. first_answer (map answer l)) (order_of_one ends_after covers (pairs_from ranges 0 xs) few)
-      ∙ first_location 0 us xs told k
+      ∙ first_location 0 us xs agrees k
 
 pub locations_meet : {U : Type 0} (ranges : U → List Range) (lines : U → Result Lines Error) (us : List UnitPart)
     (xs : List U) (a : ℕ) → IsSound us → TableAgrees ranges lines us xs
     → location_at ranges lines xs a ≡ Ok (option_map lookup_location (table.location_at us a))
-locations_meet ranges lines us xs a sound told = locations ranges lines a us xs sound told
+locations_meet ranges lines us xs a sound agrees = locations ranges lines a us xs sound agrees

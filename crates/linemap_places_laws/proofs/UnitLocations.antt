@@ -11,7 +11,7 @@ use Rattle.addr2line_spec.proofs.SeparateRanges.{holds_once}
 use Rattle.linemap_meaning.specs.TableParts.{RangePart, RowPart, SequencePart, UnitPart}
 use Rattle.linemap_meaning.specs.FileText.{file_text}
 use Rattle.linemap_meaning.specs.Conditions.{goes_back_from, overlap, any_overlap, extent, span, spans, is_bad_number}
-use Rattle.linemap_meaning.specs.Meaning.{any_holds, last_row, sequence_at}
+use Rattle.linemap_meaning.specs.Meaning.{any_holds, last_row}
 use Rattle.linemap_meaning.specs.Meaning as table
 use Rattle.linemap_places_laws.specs.LookupAgreement.{AreNumbered, RowsAgree, lookup_location}
 use Rattle.linemap_places_laws.proofs.AgreeingSequences.{row_kept, start_of, agreeing_sequence, IsGood, AllGood, kept_of, good_are_kept}
@@ -19,8 +19,8 @@ use Rattle.linemap_places_laws.proofs.RowsBelow.{row_agrees}
 
 -- ---- rows
 
--- a row whose file is there, with a line and a column
-abbrev is_bad_row : UnitPart → RowPart → Bool
+-- a row without a file, a line or a column that counts
+abbrev pub is_bad_row : UnitPart → RowPart → Bool
 is_bad_row u r = nat_le (length u.files) r.file || (is_bad_number r.line || is_bad_number r.column)
 
 small_number : (n : ℕ) → is_bad_number n ≡ false → (n % 2 ^ 32 ≡ n) × (n ≢ 0)
@@ -30,7 +30,7 @@ small_number n h =
     let high = ltb-false (2 ^ 32 - 1) n parts.1 in
     (mod-eq_of_lt (omega arith), omega arith)
 
-row_place : (number : ℕ → ℕ) (u : UnitPart) (files : List (List ℕ)) (r : RowPart) → AreNumbered number u files
+pub row_place : (number : ℕ → ℕ) (u : UnitPart) (files : List (List ℕ)) (r : RowPart) → AreNumbered number u files
     → is_bad_row u r ≡ false → row_location files (row_kept number r) ≡ lookup_location (table.row_location u r)
 row_place number u files r named good =
     let parts = or_parts (nat_le (length u.files) r.file) (is_bad_number r.line || is_bad_number r.column) good in
@@ -202,13 +202,25 @@ pub location_agrees : (number : ℕ → ℕ) (u : UnitPart) (files : List (List 
     → any_overlap (spans u) ≡ false
     → place_in (record { sequences = sequences_of_rows rows; files = files }) a
     ≡ option_map lookup_location (table.place_in u a)
-location_agrees number u files rows a told named good rows_good apart =
+location_agrees number u files rows a agrees named good rows_good apart =
     ap (λ ss. option_map (row_location files) (option_and_then (λ s. row_of s.rows a) (holder range_of a ss)))
-    (kept_of number u.sequences rows told ∙ good_are_kept number u.sequences good)
+    (kept_of number u.sequences rows agrees ∙ good_are_kept number u.sequences good)
     ∙ ap (λ o. option_map (row_location files) (option_and_then (λ s. row_of s.rows a) o))
     (holds_once range_of a (map (agreeing_sequence number) u.sequences)
     (spans_apart number u.sequences good (ap any_overlap (sym (spans_are u.sequences good)) ∙ apart)))
     ∙ place_of_first number u files a u.sequences named good rows_good
+
+-- rows with files, lines and columns that count
+pub no_bad_row : (u : UnitPart) (rs : List RowPart)
+    → list_any (λ r. is_bad_number r.line || is_bad_number r.column) rs ≡ false
+    → list_any (λ r. nat_le (length u.files) r.file) rs ≡ false → list_any (is_bad_row u) rs ≡ false
+no_bad_row u [] h k = refl
+no_bad_row u (r ∷ rs) h k =
+    let p =
+    or_parts (is_bad_number r.line || is_bad_number r.column)
+    (list_any (λ r. is_bad_number r.line || is_bad_number r.column) rs) h in
+    let q = or_parts (nat_le (length u.files) r.file) (list_any (λ r. nat_le (length u.files) r.file) rs) k in
+    or_from _ _ (or_from _ _ q.0 p.0) (no_bad_row u rs p.1 q.1)
 
 pub all_rows_good : (u : UnitPart) (ss : List SequencePart)
     → list_any (λ s. list_any (λ r. is_bad_number r.line || is_bad_number r.column) s.rows) ss ≡ false
@@ -222,14 +234,4 @@ all_rows_good u (s ∷ ss) numbers files =
     let q =
     or_parts (list_any (λ r. nat_le (length u.files) r.file) s.rows)
     (list_any (λ s. list_any (λ r. nat_le (length u.files) r.file) s.rows) ss) files in
-    (both_none s.rows p.0 q.0, all_rows_good u ss p.1 q.1)
-  where
-    both_none : (rs : List RowPart) → list_any (λ r. is_bad_number r.line || is_bad_number r.column) rs ≡ false
-        → list_any (λ r. nat_le (length u.files) r.file) rs ≡ false → list_any (is_bad_row u) rs ≡ false
-    both_none [] h k = refl
-    both_none (r ∷ rs) h k =
-        let p =
-        or_parts (is_bad_number r.line || is_bad_number r.column)
-        (list_any (λ r. is_bad_number r.line || is_bad_number r.column) rs) h in
-        let q = or_parts (nat_le (length u.files) r.file) (list_any (λ r. nat_le (length u.files) r.file) rs) k in
-        or_from _ _ (or_from _ _ q.0 p.0) (both_none rs p.1 q.1)
+    (no_bad_row u s.rows p.0 q.0, all_rows_good u ss p.1 q.1)

@@ -19,7 +19,7 @@ pub use Rattle.addr2line_spec.specs.View
 pub use Rattle.addr2line_spec.specs.Error
 pub use Rattle.addr2line_spec.specs.Range
 pub use Rattle.addr2line_spec.specs.Attributes
-pub use Rattle.addr2line_spec.specs.DwarfSections
+pub use Rattle.addr2line_spec.specs.DwarfFiles
 pub use Rattle.addr2line_spec.specs.UnitFacts
 pub use Rattle.linemap_meaning.specs.Conditions
 pub use Rattle.linemap_meaning.specs.FileText

@@ -35,7 +35,7 @@ pub data RowsAgree (number : ℕ → ℕ) : List SequencePart → List ProgramRo
       → IsEnd s.end end → RowsAgree number ss rows
       → RowsAgree number (s ∷ ss) (map (lookup_row number) s.rows ++ end ∷ rows)
 
--- each file of the unit is found under its number
+-- each file of the unit has its text under its number
 abbrev pub AreNumbered : (ℕ → ℕ) → UnitPart → List (List ℕ) → Type 0
 AreNumbered number u files =
     (i : ℕ) → i < length u.files → slice_get files (number i)

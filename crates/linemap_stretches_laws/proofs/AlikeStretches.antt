@@ -1,4 +1,4 @@
--- Stretches in the order of their addresses: what stands at each address decides them.
+-- Stretches in the order of their addresses: those at each address decide the list.
 use Rattle.std.proofs.Common.{◌≡◌, ℕ, ◌<◌, ◌≤◌, Bool, true, false, cond, ◌==◌, List, [], ◌∷◌, ◌++◌, filter, refl, sym, ap, ◌∙◌, inl, inr, arith}
 use Rattle.std.proofs.lemmas.Bool.{cases_lt, eq-eqb, ne_eqb}
 use Rattle.linemap_places_laws.specs.Lines.{Stretch}

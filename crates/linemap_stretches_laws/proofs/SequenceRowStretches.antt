@@ -1,50 +1,17 @@
--- The stretches of the rows that are kept of a sequence are the table's.
-use Rattle.std.proofs.Common.{◌≡◌, ℕ, ◌-◌, ◌<◌, ◌≤◌, ◌%◌, ◌^◌, ◌≢◌, Bool, true, false, cond, ◌==◌, ◌||◌, nat_lt, nat_le, List, [], ◌∷◌, length, map, Option, Some, None, option_map, slice_get, refl, sym, ap, ◌∙◌, arith}
+-- The stretches of the rows that lookups keep of a sequence are the table's.
+use Rattle.std.proofs.Common.{◌≡◌, ℕ, ◌-◌, ◌<◌, ◌≤◌, Bool, true, false, cond, ◌==◌, ◌||◌, nat_lt, nat_le, List, [], ◌∷◌, length, map, refl, sym, ap, ◌∙◌, arith}
 use Rattle.std.specs.List.{list_any}
-use Rattle.std.proofs.Math.Nat.{mod-eq_of_lt}
-use Rattle.std.proofs.lemmas.Bool.{leb-false, ltb-false, lt-ltb, le-ltb, eqb-true, eqb-false, ne_eqb, or_parts}
-use Rattle.linemap_places_laws.specs.Lines.{LineRow, Location, Sequence, next_address, last_at_each_address, row_location, stretches_of, with_line}
+use Rattle.std.proofs.lemmas.Bool.{leb-false, ltb-false, lt-ltb, le-ltb, eqb-true, eqb-false, or_parts}
+use Rattle.linemap_places_laws.specs.Lines.{LineRow, Location, Sequence, next_address, last_at_each_address, row_location, stretches_of}
 use Rattle.linemap_places_laws.specs.TableParts.{RowPart, SequencePart, UnitPart}
-use Rattle.linemap_places_laws.specs.FileText.{file_text}
-use Rattle.linemap_places_laws.specs.Conditions.{goes_back, goes_back_from, has_bad_rows, is_bad_number}
+use Rattle.linemap_places_laws.specs.Conditions.{goes_back, goes_back_from, has_bad_rows}
 use Rattle.linemap_places_laws.specs.Meaning.{row_stretches}
 use Rattle.linemap_places_laws.specs.Meaning as table
-use Rattle.linemap_places_laws.specs.LookupAgreement.{AreNumbered, lookup_location}
+use Rattle.linemap_places_laws.specs.LookupAgreement.{AreNumbered}
+use Rattle.linemap_places_laws.proofs.UnitLocations.{is_bad_row, row_place}
 use Rattle.linemap_places_laws.proofs.AgreeingSequences.{row_kept, start_of, agreeing_sequence}
 use Rattle.linemap_stretches_laws.specs.LookupStretches.{lookup_stretch}
 use Rattle.linemap_stretches_laws.proofs.StretchesBetweenEnds.{Rises}
-
--- ---- places
-
--- a row without a file, a line or a column that counts
-abbrev pub is_bad_row : UnitPart → RowPart → Bool
-is_bad_row u r = nat_le (length u.files) r.file || (is_bad_number r.line || is_bad_number r.column)
-
-small_number : (n : ℕ) → is_bad_number n ≡ false → (n % 2 ^ 32 ≡ n) × (n ≢ 0)
-small_number n h =
-    let parts = or_parts (nat_lt n 1) (nat_lt (2 ^ 32 - 1) n) h in
-    let low = ltb-false n 1 parts.0 in
-    let high = ltb-false (2 ^ 32 - 1) n parts.1 in
-    (mod-eq_of_lt (omega arith), omega arith)
-
-row_place : (number : ℕ → ℕ) (u : UnitPart) (files : List (List ℕ)) (r : RowPart) → AreNumbered number u files
-    → is_bad_row u r ≡ false → row_location files (row_kept number r) ≡ lookup_location (table.row_location u r)
-row_place number u files r named good =
-    let parts = or_parts (nat_le (length u.files) r.file) (is_bad_number r.line || is_bad_number r.column) good in
-    let there : r.file < length u.files = leb-false (length u.files) r.file parts.0 in
-    let numbers = or_parts (is_bad_number r.line) (is_bad_number r.column) parts.1 in
-    let line = small_number r.line numbers.0 in
-    let column = small_number r.column numbers.1 in
-    let place : Option (List ℕ) → ℕ → ℕ → Location =
-    λ f l c. record { file = f; line = with_line l l; column = with_line l c } in
-    ap (λ f. place f (r.line % 2 ^ 32) (r.column % 2 ^ 32)) (named r.file there)
-    ∙ ap (λ l. place (option_map (file_text u) (slice_get u.files r.file)) l (r.column % 2 ^ 32)) line.0
-    ∙ ap (λ c. place (option_map (file_text u) (slice_get u.files r.file)) r.line c) column.0
-    ∙ ap (λ b. record {
-      file = option_map (file_text u) (slice_get u.files r.file);
-      line = cond b None (Some r.line);
-      column = cond b None (Some r.column);
-    }) (ne_eqb r.line 0 line.1)
 
 -- ---- rows
 

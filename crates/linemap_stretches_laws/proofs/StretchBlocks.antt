@@ -5,7 +5,7 @@ use Rattle.std.proofs.lemmas.List.Elements.{filter-append}
 use Rattle.linemap_places_laws.specs.Range.{Range}
 use Rattle.linemap_places_laws.specs.Lines.{Stretch}
 use Rattle.linemap_places_laws.specs.Orders.{put_in_order, in_order}
-use Rattle.linemap_stretches_laws.proofs.AlikeStretches.{Each, each_append, Climbs, climbs_append, stretches_at}
+use Rattle.linemap_stretches_laws.proofs.AlikeStretches.{Each, Climbs, climbs_append, stretches_at}
 
 -- ---- ranges
 
@@ -51,11 +51,6 @@ module _ {X : Type 0} (is_behind : X → X → Bool) (P : X → Type 0) where
   pub in_order_each : (xs : List X) → Each P xs → Each P (in_order is_behind xs)
   in_order_each [] all = tt
   in_order_each (x ∷ xs) all = put_each x (in_order is_behind xs) all.0 (in_order_each xs all.1)
-
-pub flat_each : {X : Type 0} (P : Stretch → Type 0) (block : X → List Stretch) (xs : List X)
-    → Each (λ x. Each P (block x)) xs → Each P (flat_map block xs)
-flat_each P block [] all = tt
-flat_each P block (x ∷ xs) all = each_append P (block x) (flat_map block xs) all.0 (flat_each P block xs all.1)
 
 module _ {X : Type 0} (range : X → Range) (is_behind : X → X → Bool) (block : X → List Stretch) where
   -- each range begins where the one before it ends, or above

@@ -244,17 +244,17 @@ module _ {U : Type 0} (ranges : U → List Range) (lines : U → Result Lines Er
   all_alike : (a n : ℕ) (us : List UnitPart) (xs : List U) → TableAgrees ranges lines us xs → Each IsFine us
       → stretches_at a (flat_map pair_part (pairs_from ranges n xs))
       ≡ stretches_at a (filter (is_between low high) (map lookup_stretch (flat_map unit_stretches us)))
-  all_alike a n [] [] told fine = refl
-  all_alike a n [] (x ∷ xs) told fine = absurd told
-  all_alike a n (u ∷ us) [] told fine = absurd told
-  all_alike a n (u ∷ us) (x ∷ xs) told fine =
+  all_alike a n [] [] agrees fine = refl
+  all_alike a n [] (x ∷ xs) agrees fine = absurd agrees
+  all_alike a n (u ∷ us) [] agrees fine = absurd agrees
+  all_alike a n (u ∷ us) (x ∷ xs) agrees fine =
       ap (stretches_at a) (flat_map-append pair_part (pairs_of ranges n x) (pairs_from ranges (n + 1) xs))
       ∙ filter-append (λ t. t.address == a) (flat_map pair_part (pairs_of ranges n x))
       (flat_map pair_part (pairs_from ranges (n + 1) xs))
       ∙ ap (λ l. l ++ stretches_at a (flat_map pair_part (pairs_from ranges (n + 1) xs)))
-      (unit_alike a n u x (unit_known u (ranges x) (lines x) told.0 fine.0))
+      (unit_alike a n u x (unit_known u (ranges x) (lines x) agrees.0 fine.0))
       ∙ ap (λ l. stretches_at a (filter (is_between low high) (map lookup_stretch (unit_stretches u))) ++ l)
-      (all_alike a (n + 1) us xs told.1 fine.1)
+      (all_alike a (n + 1) us xs agrees.1 fine.1)
       ∙ sym (ap (λ l. stretches_at a (filter (is_between low high) l))
       (map-append lookup_stretch (unit_stretches u) (flat_map unit_stretches us))
       ∙ ap (stretches_at a)
@@ -265,49 +265,49 @@ module _ {U : Type 0} (ranges : U → List Range) (lines : U → Result Lines Er
 
   all_blocks : (n : ℕ) (us : List UnitPart) (xs : List U) → TableAgrees ranges lines us xs → Each IsFine us
       → Each (IsBlock range_of_pair pair_part) (pairs_from ranges n xs)
-  all_blocks n [] [] told fine = tt
-  all_blocks n [] (x ∷ xs) told fine = absurd told
-  all_blocks n (u ∷ us) [] told fine = absurd told
-  all_blocks n (u ∷ us) (x ∷ xs) told fine =
-      let k = unit_known u (ranges x) (lines x) told.0 fine.0 in
+  all_blocks n [] [] agrees fine = tt
+  all_blocks n [] (x ∷ xs) agrees fine = absurd agrees
+  all_blocks n (u ∷ us) [] agrees fine = absurd agrees
+  all_blocks n (u ∷ us) (x ∷ xs) agrees fine =
+      let k = unit_known u (ranges x) (lines x) agrees.0 fine.0 in
       each_append (IsBlock range_of_pair pair_part) (pairs_of ranges n x) (pairs_from ranges (n + 1) xs)
       (part_blocks n u x k (ranges x) k.ranges_full
-      (placed_in_each (ranges x) (whole u x k) k.ranges_apart k.all_housed)) (all_blocks (n + 1) us xs told.1 fine.1)
+      (placed_in_each (ranges x) (whole u x k) k.ranges_apart k.all_housed)) (all_blocks (n + 1) us xs agrees.1 fine.1)
 
   all_read : (n : ℕ) (us : List UnitPart) (xs : List U) → TableAgrees ranges lines us xs
       → Each HasLines (pairs_from ranges n xs)
-  all_read n [] [] told = tt
-  all_read n [] (x ∷ xs) told = absurd told
-  all_read n (u ∷ us) [] told = absurd told
-  all_read n (u ∷ us) (x ∷ xs) told =
-      let t = told.0 in
+  all_read n [] [] agrees = tt
+  all_read n [] (x ∷ xs) agrees = absurd agrees
+  all_read n (u ∷ us) [] agrees = absurd agrees
+  all_read n (u ∷ us) (x ∷ xs) agrees =
+      let t = agrees.0 in
       each_append HasLines (pairs_of ranges n x) (pairs_from ranges (n + 1) xs)
       (unit_read n x (ranges x) (record { sequences = sequences_of_rows t.rows; files = t.files }, t.lines_are))
-      (all_read (n + 1) us xs told.1)
+      (all_read (n + 1) us xs agrees.1)
 
   ranges_are : (n : ℕ) (us : List UnitPart) (xs : List U) → TableAgrees ranges lines us xs
       → map range_of_pair (pairs_from ranges n xs) ≡ map lookup_range (flat_map (λ u. u.ranges) us)
-  ranges_are n [] [] told = refl
-  ranges_are n [] (x ∷ xs) told = absurd told
-  ranges_are n (u ∷ us) [] told = absurd told
-  ranges_are n (u ∷ us) (x ∷ xs) told =
-      let t = told.0 in
+  ranges_are n [] [] agrees = refl
+  ranges_are n [] (x ∷ xs) agrees = absurd agrees
+  ranges_are n (u ∷ us) [] agrees = absurd agrees
+  ranges_are n (u ∷ us) (x ∷ xs) agrees =
+      let t = agrees.0 in
       map-append range_of_pair (pairs_of ranges n x) (pairs_from ranges (n + 1) xs)
       ∙ ap (λ l. l ++ map range_of_pair (pairs_from ranges (n + 1) xs)) (unit_ranges n x (ranges x) ∙ t.ranges_agree)
-      ∙ ap (λ l. map lookup_range u.ranges ++ l) (ranges_are (n + 1) us xs told.1)
+      ∙ ap (λ l. map lookup_range u.ranges ++ l) (ranges_are (n + 1) us xs agrees.1)
       ∙ sym (map-append lookup_range u.ranges (flat_map (λ u. u.ranges) us))
 
   -- ---- the answer
 
   parts_are : (us : List UnitPart) (xs : List U) → IsSound us → TableAgrees ranges lines us xs
       → flat_map pair_part (all_pairs ranges xs) ≡ map lookup_stretch (table.stretches_between us low high)
-  parts_are us xs sound told =
+  parts_are us xs sound agrees =
       let fine = all_fine us sound in
       let ps = pairs_from ranges 0 xs in
-      let blocks = all_blocks 0 us xs told fine in
+      let blocks = all_blocks 0 us xs agrees fine in
       let apart : AllApart range_of_pair ps =
       apart_by_map range_of_pair ps
-      (subst (λ l. AllApart (λ r. r) l) (sym (ranges_are 0 us xs told))
+      (subst (λ l. AllApart (λ r. r) l) (sym (ranges_are 0 us xs agrees))
       (all_apart (flat_map (λ u. u.ranges) us) (sound_rule us UnitsOverlap sound))) in
       let between = filter (table.is_between low high) (flat_map unit_stretches us) in
       alike_are_same 0 0 (flat_map pair_part (all_pairs ranges xs))
@@ -316,23 +316,23 @@ module _ {U : Type 0} (ranges : U → List Range) (lines : U → Result Lines Er
       (lookups_climb 0 (table.stretches_between us low high) (stretches_ascend us low high))
       (λ a.
       blocks_alike range_of_pair ends_after pair_part a ps apart blocks
-      ∙ all_alike a 0 us xs told fine
+      ∙ all_alike a 0 us xs agrees fine
       ∙ ap (stretches_at a) (lookups_filter low high (flat_map unit_stretches us))
       ∙ sym (order_alike a between))
 
   answer_is : (us : List UnitPart) (xs : List U) → IsSound us → TableAgrees ranges lines us xs
       → stretches_between ranges lines xs low high
       ≡ prepend (map lookup_stretch (table.stretches_between us low high)) (no_items (Ok tt))
-  answer_is us xs sound told =
+  answer_is us xs sound agrees =
       let read = filter_each HasLines (λ p. overlaps low high p.range) (all_pairs ranges xs)
-      (in_order_each ends_after HasLines (pairs_from ranges 0 xs) (all_read 0 us xs told)) in
+      (in_order_each ends_after HasLines (pairs_from ranges 0 xs) (all_read 0 us xs agrees)) in
       pairs_read (overlapping_pairs ranges xs low high) read
       ∙ ap (λ (l : List Stretch). record { items = l; ending = Ok tt })
-      (flat_filter clipped_to (λ p. overlaps low high p.range) (all_pairs ranges xs) ∙ parts_are us xs sound told
+      (flat_filter clipped_to (λ p. overlaps low high p.range) (all_pairs ranges xs) ∙ parts_are us xs sound agrees
       ∙ sym (append-nil (map lookup_stretch (table.stretches_between us low high))))
 
 pub stretches_meet : {U : Type 0} (ranges : U → List Range) (lines : U → Result Lines Error) (us : List UnitPart)
     (xs : List U) (low high : ℕ) → IsSound us → TableAgrees ranges lines us xs
     → stretches_between ranges lines xs low high
     ≡ prepend (map lookup_stretch (table.stretches_between us low high)) (no_items (Ok tt))
-stretches_meet ranges lines us xs low high sound told = answer_is ranges lines low high us xs sound told
+stretches_meet ranges lines us xs low high sound agrees = answer_is ranges lines low high us xs sound agrees

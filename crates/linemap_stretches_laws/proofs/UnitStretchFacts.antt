@@ -15,7 +15,8 @@ use Rattle.linemap_stretches_laws.specs.LookupStretches.{lookup_stretch}
 use Rattle.linemap_stretches_laws.proofs.AlikeStretches.{Each, each_implies, each_append}
 use Rattle.linemap_stretches_laws.proofs.StretchBlocks.{Full, AllApart}
 use Rattle.linemap_stretches_laws.proofs.StretchesBetweenEnds.{IsWithin, all_within}
-use Rattle.linemap_stretches_laws.proofs.SequenceRowStretches.{is_bad_row, IsKept, good_is_kept_here, sequence_stretches}
+use Rattle.linemap_places_laws.proofs.UnitLocations.{is_bad_row, no_bad_row}
+use Rattle.linemap_stretches_laws.proofs.SequenceRowStretches.{IsKept, good_is_kept_here, sequence_stretches}
 use Rattle.linemap_stretches_laws.proofs.StretchHomes.{all_apart, all_full, apart_by_map, IsHoused, home_of}
 
 -- what is known of a unit of a sound table
@@ -121,17 +122,7 @@ rows_good u (s ∷ ss) numbers files =
     let q =
     or_parts (list_any (λ r. nat_le (length u.files) r.file) s.rows)
     (list_any (λ s. list_any (λ r. nat_le (length u.files) r.file) s.rows) ss) files in
-    or_from _ _ (both_none s.rows p.0 q.0) (rows_good u ss p.1 q.1)
-  where
-    both_none : (rs : List RowPart) → list_any (λ r. is_bad_number r.line || is_bad_number r.column) rs ≡ false
-        → list_any (λ r. nat_le (length u.files) r.file) rs ≡ false → list_any (is_bad_row u) rs ≡ false
-    both_none [] h k = refl
-    both_none (r ∷ rs) h k =
-        let p =
-        or_parts (is_bad_number r.line || is_bad_number r.column)
-        (list_any (λ r. is_bad_number r.line || is_bad_number r.column) rs) h in
-        let q = or_parts (nat_le (length u.files) r.file) (list_any (λ r. nat_le (length u.files) r.file) rs) k in
-        or_from _ _ (or_from _ _ q.0 p.0) (both_none rs p.1 q.1)
+    or_from _ _ (no_bad_row u s.rows p.0 q.0) (rows_good u ss p.1 q.1)
 
 -- ---- the unit
 
@@ -149,7 +140,7 @@ pub record IsKnown (u : UnitPart) (ranges : List Range) (lines : Result Lines Er
 
 pub unit_known : (u : UnitPart) (ranges : List Range) (lines : Result Lines Error) → UnitAgrees u ranges lines
     → IsFine u → IsKnown u ranges lines
-unit_known u ranges lines told fine =
+unit_known u ranges lines agrees fine =
     let number_parts =
     or_parts (list_any (λ s. list_any (λ r. is_bad_number r.line || is_bad_number r.column) s.rows) u.sequences)
     (list_any (λ f. any_call (λ c. is_bad_number c.line || is_bad_number c.column) f.calls) u.functions)
@@ -157,21 +148,21 @@ unit_known u ranges lines told fine =
     let file_parts =
     or_parts (list_any (λ s. list_any (λ r. nat_le (length u.files) r.file) s.rows) u.sequences)
     (list_any (λ f. any_call (λ c. nat_le (length u.files) c.file) f.calls) u.functions) fine.files in
-    let same = sym told.ranges_agree in
+    let same = sym agrees.ranges_agree in
     record {
-      files = told.files;
-      sequences = map (agreeing_sequence told.number) u.sequences;
-      lines_are = told.lines_are ∙ ap (λ ss. Ok (record { sequences = ss; files = told.files }))
-          (kept_of told.number u.sequences told.rows told.rows_agree
-          ∙ good_are_kept told.number u.sequences (all_good u.sequences fine.rows));
-      all_kept = all_kept told.number u.sequences fine.rows;
-      apart = sequences_apart told.number u.sequences fine.rows fine.sequences_apart;
+      files = agrees.files;
+      sequences = map (agreeing_sequence agrees.number) u.sequences;
+      lines_are = agrees.lines_are ∙ ap (λ ss. Ok (record { sequences = ss; files = agrees.files }))
+          (kept_of agrees.number u.sequences agrees.rows agrees.rows_agree
+          ∙ good_are_kept agrees.number u.sequences (all_good u.sequences fine.rows));
+      all_kept = all_kept agrees.number u.sequences fine.rows;
+      apart = sequences_apart agrees.number u.sequences fine.rows fine.sequences_apart;
       ranges_apart = subst (λ l. AllApart (λ r. r) l) same (all_apart u.ranges fine.apart);
       ranges_full = subst (λ l. Each Full l) same (all_full u.ranges fine.full);
-      whole_is = whole_is told.number u told.files u.sequences told.files_numbered fine.rows
+      whole_is = whole_is agrees.number u agrees.files u.sequences agrees.files_numbered fine.rows
           (rows_good u u.sequences number_parts.0 file_parts.0);
       all_housed =
-          subst (λ l. Each (IsHoused l) (whole told.number told.files u.sequences)) same
-          (all_housed told.number told.files u.ranges u.sequences fine.rows
+          subst (λ l. Each (IsHoused l) (whole agrees.number agrees.files u.sequences)) same
+          (all_housed agrees.number agrees.files u.ranges u.sequences fine.rows
           (ap (list_any (is_outside u.ranges)) (sym (spans_are u.sequences fine.rows)) ∙ fine.inside));
     }

@@ -1,4 +1,4 @@
--- A worked value: the stretches of a table whose units, ranges and sequences stand in no order.
+-- A worked value: the stretches of a table whose units, ranges and sequences are in no order.
 use Rattle.std.proofs.Common.{◌≡◌, ℕ, List, [], ◌∷◌, ◌++◌, map, flat_map, Some, Ok, Result, refl, codes, true}
 use Rattle.linemap_places_laws.specs.Error.{Error}
 use Rattle.linemap_places_laws.specs.Lines.{ProgramRow, Lines, Stretch, sequences_of_rows}

@@ -9,12 +9,12 @@ use Rattle.linemap_check.specs.TableViews.{call_part, calls_part}
 use Rattle.linemap_check.specs.TableCall.{TableCall}
 use Rattle.linemap_table.specs.JsonShapes.{each, call_in, each_call}
 
--- all items hold what was read so far, and then what the items from i on hold
+-- all items hold the parts so far, and then what the items from i on hold
 abbrev pub Continues : {A B : Type 0} → (A → B) → (Data → Option B) → List Value → List A → ℕ → Type 0
 Continues part shape values parts i =
     each shape (items_view values) ≡ option_map (λ xs. map part parts ++ xs) (each shape (items_view (drop i values)))
 
--- calls in front of others
+-- calls before others
 abbrev pub parts_before : List TableCall → Calls → Calls
 parts_before [] others = others
 parts_before (c ∷ cs) others = more_calls (call_part c).site (call_part c).inner (parts_before cs others)
@@ -23,13 +23,6 @@ parts_before (c ∷ cs) others = more_calls (call_part c).site (call_part c).inn
 abbrev pub ContinuesCalls : List Value → List TableCall → ℕ → Type 0
 ContinuesCalls values calls i =
     each_call (items_view values) ≡ option_map (parts_before calls) (each_call (items_view (drop i values)))
-
-nothing_before : (o : Option Calls) → o ≡ option_map (parts_before []) o
-nothing_before None = refl
-nothing_before (Some cs) = refl
-
-pub ContinuesCalls-begins : (values : List Value) → ContinuesCalls values [] 0
-ContinuesCalls-begins values = nothing_before (each_call (items_view values))
 
 before-append : (cs : List TableCall) (c : TableCall) (others : Calls)
     → parts_before (cs ++ c ∷ []) others ≡ parts_before cs (more_calls (call_part c).site (call_part c).inner others)
@@ -54,11 +47,6 @@ pub ContinuesCalls-goes_on : (values : List Value) (cs : List TableCall) (i : �
     → ContinuesCalls values cs i → ContinuesCalls values (cs ++ c ∷ []) (i + 1)
 ContinuesCalls-goes_on values cs i value c below is found so_far =
     so_far ∙ rw (drop-cons values i value, ← is, add-one) (one_more cs c _ _ found)
-
-pub ContinuesCalls-stops : (values : List Value) (cs : List TableCall) (i : ℕ) (value : Value)
-    → i < length values → value ≡ get_or values i value → call_in (view value) ≡ None → ContinuesCalls values cs i
-    → each_call (items_view values) ≡ None
-ContinuesCalls-stops values cs i value below is none so_far = so_far ∙ rw (drop-cons values i value, ← is, none)
 
 pub ContinuesCalls-ends : (values : List Value) (cs : List TableCall) (i : ℕ)
     → length values ≤ i → ContinuesCalls values cs i → each_call (items_view values) ≡ Some (calls_part cs)

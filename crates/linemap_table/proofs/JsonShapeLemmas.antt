@@ -21,7 +21,7 @@ pub range_in-other : (d : Data) (vs : List Value) → Some (items_view vs) ≡ a
     → range_in d ≡ None
 range_in-other d vs is other = rw (← is) (ends_in-other vs other)
 
--- what is found goes through a function of it
+-- a search and then a function, in either order
 match_then : (o : Ordering) (f : Data → Option Calls) (d : Data) (rest : Option Data) (later : Option Calls)
     → later ≡ option_and_then f rest
     → match_ordering o later (f d) later ≡ option_and_then f (match_ordering o rest (Some d) rest)
@@ -96,7 +96,7 @@ items_depth-items_at key (number n) ds is = absurd (let no : None ≡ Some ds = 
 items_depth-items_at key (string s) ds is = absurd (let no : None ≡ Some ds = is in cc)
 items_depth-items_at key (array es) ds is = absurd (let no : None ≡ Some ds = is in cc)
 
--- whether an object has so many keys
+-- whether an object has a number of keys
 pub nat_eq-has_keys : (d : Data) (ms : Members) (n count : ℕ) → as_object d ≡ Some ms → members_len ms ≡ n
     → nat_eq n count ≡ has_keys count d
 nat_eq-has_keys d ms n count e f = rw (e, f)

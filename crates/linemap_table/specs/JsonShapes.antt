@@ -10,9 +10,9 @@ use Rattle.serde_json.specs.Find.{get, as_number, as_u64, as_str, as_array, as_o
 use Rattle.linemap_check.specs.TableParts.{RangePart, FilePart, RowPart, SequencePart, Calls, no_calls, more_calls, CallPart, FunctionPart, UnitPart}
 
 infixl 20 ◌>>=◌
--- what the second makes of the first, where there is one
+-- what the second makes of the first, if there is one
 abbrev pub ◌>>=◌ : {A B : Type 0} → Option A → (A → Option B) → Option B
-found >>= next = option_and_then next found
+o >>= next = option_and_then next o
 
 -- an object with this number of keys
 abbrev pub has_keys : ℕ → Data → Bool
@@ -20,8 +20,8 @@ has_keys count d = option_map_or (λ members. members_len members == count) (as_
 
 abbrev pub text_at : List ℕ → Data → Option (List ℕ)
 text_at key d = do
-  found ← get key d
-  as_str found
+  value ← get key d
+  as_str value
 
 -- the number of a value that serde_json reads as a `u64`
 abbrev pub number_in : Data → Option ℕ
@@ -31,15 +31,15 @@ number_in d = do
 
 abbrev pub number_at : List ℕ → Data → Option ℕ
 number_at key d = do
-  found ← get key d
-  number_in found
+  value ← get key d
+  number_in value
 
 abbrev pub items_at : List ℕ → Data → Option Items
 items_at key d = do
-  found ← get key d
-  as_array found
+  value ← get key d
+  as_array value
 
--- all items, where each holds a part
+-- the parts that items hold, if each holds one
 abbrev pub each : {A : Type 0} → (Data → Option A) → Items → Option (List A)
 each shape no_items = Some []
 each shape (item d ds) = do
@@ -85,7 +85,7 @@ sequence_in d = if has_keys 2 d then (do
   end ← number_at (codes "end") d
   Some (record { rows = rows; end = end })) else None
 
--- a call, given the calls at its key "calls"
+-- a call, whose calls at the key "calls" are read
 abbrev pub call_with : Data → Calls → Option CallPart
 call_with d inner = if has_keys 6 d then (do
   name ← text_at (codes "name") d

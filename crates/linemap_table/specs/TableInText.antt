@@ -1,4 +1,4 @@
--- Which table a text holds, or why it is refused.
+-- The table that a text holds, or why it is refused.
 use Rattle.std.specs.Prelude.{ℕ, List, Option, Some, None, Result, Ok, Err, if◌then◌else◌}
 use Rattle.std.specs.Str.{is_utf8}
 use Rattle.serde_json.specs.Data.{Data}

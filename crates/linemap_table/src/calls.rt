@@ -45,7 +45,7 @@ fn call_of(alloc: Global, value: &Value) -> Result<TableCall, Fault>
     call_with(alloc, value, calls)
 }
 
-/// A call, given the calls inlined into it.
+// A call, whose inlined calls are read.
 fn call_with(alloc: Global, value: &Value, calls: Vec<TableCall>) -> Result<TableCall, Fault>
     ensures { AgreesWithShape call_part
         (call_with (view value.now) (calls_part calls.items)) result }

@@ -1,4 +1,4 @@
-//! The parts of a table, each taken out of the JSON value that holds it.
+//! The parts of a table, each read from the JSON value that holds it.
 
 ghost use Rattle.std.specs.Prelude.{◌≡◌, ◌==◌, List, Option, map, option_and_then, string_bytes};
 ghost use Rattle.linemap_table.specs.ShapeFaults.{AgreesWithShape};
@@ -16,7 +16,7 @@ use linemap_check::{TableFile, TableFunction, TableRange, TableRow, TableSequenc
 use serde_json::Value;
 use std::alloc::{AllocError, Global};
 
-/// A part of a table that a JSON value holds.
+/// A part of a table, which a JSON value holds.
 pub trait Element: Sized + Drop {
     ghost Part: { Type 0 };
 

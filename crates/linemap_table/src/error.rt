@@ -9,7 +9,7 @@ use std::fmt;
 /// the lowest number is reported.
 #[derive(Debug, Clone, Copy, PartialEq, Eq)]
 pub enum TableError {
-    /// B1: no memory was left.
+    /// B1: out of memory.
     Memory,
     /// B2: the bytes aren't UTF-8, or not JSON that `serde_json` reads.
     Json,

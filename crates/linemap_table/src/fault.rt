@@ -1,10 +1,13 @@
-//! Why a part of a table could not be taken out of a JSON value.
+//! Why a part of a table could not be read from a JSON value.
 
 use std::alloc::AllocError;
 
+/// Why a part of a table could not be read.
 #[derive(Clone, Copy, PartialEq, Eq, Debug)]
 pub enum Fault {
+    /// Out of memory.
     Memory,
+    /// The value doesn't have the shape of the part.
     Shape,
 }
 

@@ -19,6 +19,7 @@ pub fn has_keys(value: &Value, count: usize) -> bool
     }
 }
 
+/// A copy of the text at a key.
 pub fn text_at(alloc: Global, value: &Value, key: &str) -> Result<String, Fault>
     ensures { AgreesWithShape string_bytes (text_at key.now (view value.now)) result }
 {
@@ -35,13 +36,14 @@ pub fn number_in(value: &Value) -> Result<u64, Fault>
     value.as_u64().ok_or(Fault::Shape)
 }
 
+/// The number at a key.
 pub fn number_at(value: &Value, key: &str) -> Result<u64, Fault>
     ensures { AgreesWithShape (λ n. n) (number_at key.now (view value.now)) result }
 {
-    let Some(found) = value.get(key) else {
+    let Some(member) = value.get(key) else {
         return Err(Fault::Shape);
     };
-    number_in(found)
+    number_in(member)
 }
 
 /// The items of the array at a key.
@@ -49,10 +51,7 @@ pub fn items_at<'a>(value: &'a Value, key: &str) -> Option<&'a [Value]>
     ensures { option_map (λ items. items_view items.now) result
         ≡ items_at key.now (view value.now) }
 {
-    let Some(found) = value.get(key) else {
-        return None;
-    };
-    match found.as_array() {
+    match value.get(key).and_then(Value::as_array) {
         Some(items) => Some(items.as_slice()),
         None => None,
     }

@@ -47,9 +47,9 @@ impl Table {
         Table::check(units)
     }
 
-    /// Checks units, which a refusal drops. It takes no memory, and one pass or two for each rule
-    /// where the ranges of units, of a unit's functions and sequences, and of calls side by side
-    /// ascend or descend, overlap or not; else it may try each pair of them.
+    /// Checks units; a refusal drops them. It takes no memory. It makes a pass or two for each rule
+    /// if the ranges of units, of a unit's functions and sequences, and of calls side by side
+    /// ascend or descend, whether they overlap or not; else it may try each pair of them.
     pub fn check(units: Vec<TableUnit>) -> Result<Table, TableError>
         ensures { Answers result (checked_units (map unit_part units.items)) }
     {
@@ -59,7 +59,7 @@ impl Table {
         }
     }
 
-    /// The units, in the order in which they were read or given.
+    /// The units, in the order of the text or of the list that the table was made from.
     pub fn units(&self) -> &[TableUnit]
         ensures value { map unit_part result.now ≡ units_of self.now }
         ensures sound { IsSound (units_of self.now) }
@@ -67,7 +67,7 @@ impl Table {
         &self.units
     }
 
-    /// How large the table's image may grow, as far as a `u64` goes.
+    /// A bound on the size of the table's image, `u64::MAX` where it is larger.
     pub fn weight(&self) -> u64
         ensures { result ≡ min (table_weight (units_of self.now)) (2 ^ 64 - 1) }
     {
@@ -75,7 +75,7 @@ impl Table {
     }
 }
 
-/// The JSON value of a text.
+// The JSON value of a text.
 fn parse(alloc: Global, text: &[u8]) -> Result<Value, TableError>
     ensures value { IfOk result (λ v. json_in text.now ≡ Some (view v)) }
     ensures refused { IfErr result (λ e. e ≢ Memory → (e ≡ Json) × (json_in text.now ≡ None)) }

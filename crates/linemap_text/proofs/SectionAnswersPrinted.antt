@@ -3,7 +3,7 @@ use Rattle.std.proofs.Common.{◌≡◌, ◌∙◌, ◌<◌, ◌^◌, ℕ, Bool,
 use Rattle.std.specs.Prelude.{IsOk, OnOk, if◌then◌else◌, codes}
 use Rattle.std.specs.Io.KnownBytes.{Appends}
 use Rattle.std.proofs.lemmas.Bool.{lt-ltb}
-use Rattle.addr2line_context.specs.DwarfSections.{Sections}
+use Rattle.addr2line_context.specs.DwarfFiles.{DwarfFile}
 use Rattle.addr2line_context.specs.Contexts.{Context, context}
 use Rattle.linemap_emit.specs.AnswerTexts.{ask_text}
 use Rattle.linemap_emit.specs.TableParts.{UnitPart}
@@ -19,24 +19,24 @@ use Rattle.linemap_text.specs.Ask.{ask_outcome, outcome_of, refusal}
 -- ---- the context
 
 -- the file of emitted sections, in the order of a target
-file_is : (b c : Bool) (bytes : SectionBytes) (s : Sections) → s ≡ file_of b bytes → b ≡ c → c ≡ false
-    → s ≡ file_of false bytes
-file_is b c bytes s is same little = is ∙ ap (λ x. file_of x bytes) (same ∙ little)
+file_is : (b c : Bool) (bytes : SectionBytes) (s : DwarfFile) → s ≡ file_of (2 ^ 64) b bytes → b ≡ c → c ≡ false
+    → s ≡ file_of (2 ^ 64) false bytes
+file_is b c bytes s is same little = is ∙ ap (λ x. file_of (2 ^ 64) x bytes) (same ∙ little)
 
 -- there is a context over them
-pub context_from : (b c : Bool) (bytes : SectionBytes) (us : List UnitPart) (s : Sections) → s ≡ file_of b bytes → b ≡ c
-    → c ≡ false → AreAnswers false bytes us → IsOk (context (2 ^ 64) s)
+pub context_from : (b c : Bool) (bytes : SectionBytes) (us : List UnitPart) (s : DwarfFile)
+    → s ≡ file_of (2 ^ 64) b bytes → b ≡ c → c ≡ false → AreAnswers false bytes us → IsOk (context s)
 context_from b c bytes us s is same little are =
-    subst (λ y. IsOk (context (2 ^ 64) y)) (sym (file_is b c bytes s is same little))
+    subst (λ y. IsOk (context y)) (sym (file_is b c bytes s is same little))
     (is_read (2 ^ 64) false bytes us (lit≤ tt) are)
 
 -- which answers words as the table does
-pub answers_from : (b c : Bool) (bytes : SectionBytes) (us : List UnitPart) (s : Sections) (x : Context)
-    → s ≡ file_of b bytes → b ≡ c → c ≡ false → AreAnswers false bytes us → context (2 ^ 64) s ≡ Ok x
+pub answers_from : (b c : Bool) (bytes : SectionBytes) (us : List UnitPart) (s : DwarfFile) (x : Context)
+    → s ≡ file_of (2 ^ 64) b bytes → b ≡ c → c ≡ false → AreAnswers false bytes us → context s ≡ Ok x
     → AnswersWords x us
 answers_from b c bytes us s x is same little are found =
     words_answered_by (2 ^ 64) false bytes us x (lit≤ tt) are
-    (subst (λ y. context (2 ^ 64) y ≡ Ok x) (file_is b c bytes s is same little) found)
+    (subst (λ y. context y ≡ Ok x) (file_is b c bytes s is same little) found)
 
 -- ---- what is printed
 

@@ -10,7 +10,7 @@ use Rattle.linemap_emit.specs.LookupAgreement.{lookup_location}
 use Rattle.linemap_emit.specs.RecordedTableLaws.{AnswersTable}
 use Rattle.linemap_emit.specs.EmittedSections.{SectionBytes, HoldBytes}
 use Rattle.linemap_emit.specs.SectionAnswers.{AreAnswers}
-use Rattle.linemap_text.specs.WordTexts.{NeverRefuses, text_of_place, text_of_answer, text_of_address, word_text, words_text}
+use Rattle.linemap_text.specs.WordTexts.{NeverRefuses, text_of_place, text_of_answer, text_of_address, words_text}
 use Rattle.linemap_text.specs.WordLaws.{AnswersWords, WordsAnswered, file_of}
 
 -- the same place of any context
@@ -42,8 +42,8 @@ module _ (us : List UnitPart) (c : Context)
   never_refused a e is = no_refusal (location c a) _ e (places a) is
 
 -- the sections of emitted bytes hold them
-answers_hold : (is_big : Bool) (bytes : SectionBytes) → HoldBytes is_big bytes (file_of is_big bytes)
-answers_hold is_big bytes = record {
+answers_hold : (limit : ℕ) (is_big : Bool) (bytes : SectionBytes) → HoldBytes is_big bytes (file_of limit is_big bytes)
+answers_hold limit is_big bytes = record {
   abbrev_first = 0;
   info_first = 0;
   line_first = 0;
@@ -61,8 +61,8 @@ answers_hold is_big bytes = record {
 
 pub words_answered : WordsAnswered
 words_answered limit is_big bytes us le are =
-    let t : AnswersTable limit (file_of is_big bytes) us =
-    are limit (file_of is_big bytes) le (answers_hold is_big bytes) in (
+    let t : AnswersTable (file_of limit is_big bytes) us =
+    are (file_of limit is_big bytes) le (answers_hold limit is_big bytes) in (
       t.found,
       t.is_context,
       record { never_refuses = never_refused us t.found t.places; texts = words_text_is us t.found t.places },
@@ -70,14 +70,14 @@ words_answered limit is_big bytes us le are =
 
 -- the same of the context that was read
 pub words_answered_by : (limit : ℕ) (is_big : Bool) (bytes : SectionBytes) (us : List UnitPart) (c : Context)
-    → 2 ^ 31 ≤ limit → AreAnswers is_big bytes us → context limit (file_of is_big bytes) ≡ Ok c → AnswersWords c us
+    → 2 ^ 31 ≤ limit → AreAnswers is_big bytes us → context (file_of limit is_big bytes) ≡ Ok c → AnswersWords c us
 words_answered_by limit is_big bytes us c le are is =
     let w = words_answered limit is_big bytes us le are in
-    subst (λ x. AnswersWords x us) (one_value (context limit (file_of is_big bytes)) w.0 c w.1 is) w.2
+    subst (λ x. AnswersWords x us) (one_value (context (file_of limit is_big bytes)) w.0 c w.1 is) w.2
 
 -- there is a context
 pub is_read : (limit : ℕ) (is_big : Bool) (bytes : SectionBytes) (us : List UnitPart) → 2 ^ 31 ≤ limit
-    → AreAnswers is_big bytes us → IsOk (context limit (file_of is_big bytes))
+    → AreAnswers is_big bytes us → IsOk (context (file_of limit is_big bytes))
 is_read limit is_big bytes us le are =
     let w = words_answered limit is_big bytes us le are in
     subst IsOk (sym w.1) refl

@@ -1,4 +1,4 @@
--- What `ask` prints, and what it leaves where it stops before its end.
+-- What `ask` prints, and how it reports that it stops before its end.
 use Rattle.std.specs.Prelude.{◌≡◌, ◌⊎◌, ◌≤◌, ◌^◌, ℕ, List, [], true, false, ⊤, Option, Result, Ok, Err, codes, nat_lt, if◌then◌else◌}
 use Rattle.linemap_emit.specs.TableParts.{UnitPart}
 use Rattle.linemap_emit.specs.AnswerTexts.{ask_text}
@@ -33,13 +33,13 @@ outcome_of (Ok units) words = if nat_lt (table_weight units) (2 ^ 31)
     then record { out = ask_text units words; err = []; status = 0 }
     else refusal (codes "emit refused: ") (codes "M2")
 
--- what `ask` prints for a table's text and the words
+-- what `ask` prints for the text of a table and for words
 abbrev pub ask_outcome : List ℕ → List (List ℕ) → AskOutcome
 ask_outcome text words = outcome_of (table_in text) words
 
 -- ---- what stops it
 
--- nothing outside of the program went wrong
+-- nothing outside the program went wrong
 abbrev pub IsClean : Ended → Type 0
 IsClean e = (e.memory ≡ false) × (e.read ≡ false) × (e.write ≡ false)
 
@@ -67,7 +67,7 @@ StopsWriting (Table e) = ⊥
 StopsWriting TooLarge = ⊥
 StopsWriting (Output fault) = ⊤
 
--- a refusal is the one that is to be printed, and the writer is not touched before it
+-- a refusal is the one that `ask` prints, and nothing is written before it
 abbrev pub StopsAt : AskOutcome → Stop → Type 0
 StopsAt p Memory = ⊤
 StopsAt p (Table e) = p ≡ refusal (codes "table refused: ") (table_error_code e)
@@ -86,13 +86,13 @@ Reports TooLarge old new e =
     Fails (error_line (codes "emit refused: ") (codes "M2")) old new e × (e.memory ≡ false)
 Reports (Output fault) old new e = EndsAtFault fault old new e
 
--- the error stream failed while the refusal was written, or else the output failed
+-- the error stream failed while the refusal was written, or the output failed
 abbrev pub EndsAtWrite : AskOutcome → Option (List ℕ) → Option (List ℕ) → Ended → Type 0
 EndsAtWrite p old new e =
     ((p.status ≡ 1) × Fails p.err old new e)
     ⊎ ((p.status ≡ 0) × ((fault : WriteFault) × EndsAtFault fault old new e))
 
--- the status and the error line of each flag; nothing was read
+-- the status and the error line that each flag means; nothing is read
 pub record FlagsMean (p : AskOutcome) (old new : Option (List ℕ)) (e : Ended) : Type 0 where
   pub memory : e.memory ≡ true → EndsOutOfMemory old new e
   pub write : e.memory ≡ false → e.write ≡ true → EndsAtWrite p old new e

@@ -1,15 +1,15 @@
--- What is printed for a command line that is no request, and what the program ends with.
+-- What is printed for a command line that is no request, and how the program ends.
 use Rattle.std.specs.Prelude.{◌≡◌, ◌⊎◌, ℕ, Bool, true, false, List, Option}
 use Rattle.std.specs.Io.KnownBytes.{Appends, Keeps}
 use Rattle.linemap_output.specs.WriterBytes.{AppendsPrefix}
 use Rattle.linemap_output.specs.ErrorLine.{EndsAtFault, EndsOutOfMemory}
 use Rattle.linemap_output.specs.declared.ended.Ended.{Ended}
 use Rattle.linemap_output.specs.declared.writing.WriteFault.{WriteFault}
-use Rattle.linemap_words.specs.WordsStatus.{TellsHelp}
+use Rattle.linemap_words.specs.WordsStatus.{IsHelp}
 use Rattle.linemap_words.specs.declared.request.WordsError.{WordsError}
 use Rattle.linemap_words.specs.declared.request.WordsError.TheVariants.{Memory, Fault}
 
--- help goes to the output, with status 0; a fault of the output is reported as for answers
+-- help goes to the output, with status 0; a fault of the output is reported as it is for answers
 pub record PrintsHelp (text : List ℕ)
     (out_old out_new err_old err_new : Option (List ℕ)) (e : Ended) : Type 0 where
   pub whole : e.write ≡ false
@@ -27,7 +27,7 @@ pub record PrintsMistake (text : List ℕ) (old new : Option (List ℕ)) (e : En
   pub memory : e.memory ≡ false
   pub read : e.read ≡ false
 
--- some text is printed, where it belongs
+-- some text is printed, as help or as a mistake
 abbrev pub PrintsText : Bool
     → Option (List ℕ) → Option (List ℕ) → Option (List ℕ) → Option (List ℕ) → Ended → Type 0
 PrintsText true out_old out_new err_old err_new e =
@@ -42,5 +42,5 @@ Explains Memory out_old out_new err_old err_new e =
     EndsOutOfMemory err_old err_new e × Keeps out_old out_new
 Explains (Fault fault) out_old out_new err_old err_new e =
     (EndsOutOfMemory err_old err_new e × Keeps out_old out_new)
-    ⊎ ((is_help : Bool) × TellsHelp (Fault fault) is_help
+    ⊎ ((is_help : Bool) × IsHelp (Fault fault) is_help
     × PrintsText is_help out_old out_new err_old err_new e)

@@ -1,5 +1,5 @@
 -- The text of a place that a context answers, and the answers to words.
-use Rattle.std.specs.Prelude.{◌≢◌, ℕ, List, [], ◌∷◌, ◌++◌, flat_map, Option, Some, None, Result, Ok, Err}
+use Rattle.std.specs.Prelude.{◌≢◌, ℕ, List, [], ◌++◌, codes, flat_map, Option, Some, None, Result, Ok, Err}
 use Rattle.addr2line_context.specs.Error.{Error}
 use Rattle.addr2line_context.specs.Lines.{Location}
 use Rattle.addr2line_context.specs.Contexts.{Context, location}
@@ -24,10 +24,10 @@ abbrev pub text_of_address : Context → Option ℕ → List ℕ
 text_of_address c None = text_of_place None
 text_of_address c (Some a) = text_of_answer (location c a)
 
--- the answer to a word; as for no place where the word can't be read
+-- the answer to a word; one that can't be read is answered as if there were no place
 abbrev pub word_text : Context → List ℕ → List ℕ
 word_text c word = text_of_address c (word_address word)
 
 -- the answers to words, each with a line end
 abbrev pub words_text : Context → List (List ℕ) → List ℕ
-words_text c words = flat_map (λ w. word_text c w ++ 10 ∷ []) words
+words_text c words = flat_map (λ w. word_text c w ++ codes "\n") words

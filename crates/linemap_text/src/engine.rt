@@ -1,5 +1,5 @@
 //! The program `ask`, over any two writers.
-ghost use Rattle.std.specs.Prelude.{◌≡◌, ◌∷◌, ◌++◌, ◌<◌, ◌^◌, [], IfErr, IfOk, List, OnOk, false, map, string_bytes};
+ghost use Rattle.std.specs.Prelude.{◌≡◌, codes, ◌++◌, ◌<◌, ◌^◌, [], IfErr, IfOk, List, OnOk, false, map, string_bytes};
 ghost use Rattle.std.specs.Io.KnownBytes.{Appends};
 ghost use Rattle.linemap_emit.specs.AnswerTexts.{ask_text};
 ghost use Rattle.linemap_emit.specs.TableParts.{UnitPart};
@@ -19,10 +19,10 @@ use linemap_output::{Ended, flush, write_text};
 use std::alloc::{AllocError, Global};
 use std::io::Write;
 
-/// Answers each word by a line, flushed before the next one is worked out. The answers are read
-/// from the table's debug information, emitted as version 4 in 32-bit DWARF. Text that is no table,
-/// and a table that is too large, are refused by an error line and status 1. A fault of the error
-/// stream only sets `write` in the answer.
+/// Answers each word by a line, and flushes it before it reads the next word. The answers are read
+/// from the table's debug information, emitted as version 4 in 32-bit DWARF. Text that isn't a
+/// table, and a table that is too large, are refused by an error line and status 1. A fault of the
+/// error stream only sets `write` in the result.
 pub fn ask<O: Write, E: Write>(
     alloc: Global,
     text: &[u8],
@@ -59,7 +59,7 @@ fn answer<W: Write>(alloc: Global, text: &[u8], words: &[String], out: &mut W) -
     write_places(alloc, &sections, words, out)
 }
 
-// What sections are emitted for: version 4, the least significant byte first.
+// The target of the sections: version 4, the least significant byte first.
 fn target() -> Target
     ensures { is_big_of result ≡ false }
 {
@@ -125,9 +125,9 @@ fn write_answer<R: Reader, W: Write>(
 ) -> Result<(), Stop>
     requires { NeverRefuses context.now.context }
     ensures whole { OnOk result (Appends (W.contents out.old) (W.contents out.new)
-        (word_text context.now.context word.now ++ 10 ∷ [])) }
+        (word_text context.now.context word.now ++ codes "\n")) }
     ensures prefix { AppendsPrefix (W.contents out.old) (W.contents out.new)
-        (word_text context.now.context word.now ++ 10 ∷ []) }
+        (word_text context.now.context word.now ++ codes "\n") }
     ensures stop { IfErr result StopsWriting }
 {
     let line = answer_line(alloc, context, word)?;
@@ -144,7 +144,7 @@ fn answer_line<R: Reader>(
 ) -> Result<String, AllocError>
     requires { NeverRefuses context.now.context }
     ensures { IfOk result (λ line.
-        string_bytes line ≡ word_text context.now.context word.now ++ 10 ∷ []) }
+        string_bytes line ≡ word_text context.now.context word.now ++ codes "\n") }
 {
     let mut line = word_line(alloc, context, word)?;
     line.push('\n')?;

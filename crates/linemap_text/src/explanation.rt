@@ -10,7 +10,7 @@ use std::alloc::Global;
 use std::io::Write;
 
 /// Prints the help that a command line asks for to `out`, with status 0, or what is wrong with it
-/// to `err`, with status 2. A fault of `out` is reported to `err`, as `ask` does.
+/// to `err`, with status 2. A fault of `out` is reported to `err`, as by `ask`.
 pub fn explain<O: Write, E: Write>(
     alloc: Global,
     error: &WordsError,

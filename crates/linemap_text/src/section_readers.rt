@@ -1,11 +1,11 @@
 //! Emitted sections as those of a file.
 
-ghost use Rattle.std.specs.Prelude.{◌≡◌};
+ghost use Rattle.std.specs.Prelude.{◌≡◌, ◌^◌};
 ghost use Rattle.addr2line_context.specs.RunTimeEndian.{RunTimeEndian as Order};
-ghost use Rattle.linemap_emit.specs.EmittedEntryLaws.{bytes_at};
 ghost use Rattle.linemap_emit.specs.SectionBytesById.{bytes_of};
 ghost use Rattle.linemap_emit.specs.EmissionTargets.{is_big};
 ghost use Rattle.linemap_text.specs.WordLaws.{file_of};
+ghost use Rattle.linemap_emit.specs.BytesAt.{bytes_at};
 
 use addr2line_context::{
     AbbreviationsCache, DebugAbbrev, Dwarf, DwarfFileType, EndianSlice, LocationLists, RangeLists,
@@ -25,13 +25,13 @@ fn section(
     EndianSlice::new(sections.get(id), endian)
 }
 
-/// The sections as those of a main file, whose bytes are borrowed. It takes no memory.
+/// The sections, as those of a main file that borrows their bytes. It takes no memory.
 pub fn dwarf_of(
     alloc: Global,
     sections: &Sections,
     endian: RunTimeEndian,
 ) -> Dwarf<EndianSlice<'_, RunTimeEndian>>
-    ensures { result ≡ file_of (is_big endian) sections.now }
+    ensures { result ≡ file_of (2 ^ 64) (is_big endian) sections.now }
 {
     Dwarf {
         debug_abbrev: DebugAbbrev::from(section(sections, endian, SectionId::DebugAbbrev)),

@@ -1,4 +1,4 @@
-//! Why an answer stopped, and how the program reports it.
+//! Why the answers stop, and how the program reports it.
 ghost use Rattle.std.specs.Prelude.{◌≡◌};
 
 use linemap_emit::{EmitError, TableError};
@@ -6,16 +6,16 @@ use linemap_output::{Ended, WriteFault, fail, out_of_memory, output_failed};
 use std::alloc::AllocError;
 use std::io::Write;
 
-/// Why an answer stopped before its end.
+/// Why the answers stop before their end.
 #[derive(Clone, Copy, Debug, PartialEq, Eq)]
 pub enum Stop {
-    /// No memory was left.
+    /// Out of memory.
     Memory,
-    /// The text is no table.
+    /// The text is not a table.
     Table(TableError),
-    /// The table is too heavy to be answered.
+    /// The weight of the table is too large.
     TooLarge,
-    /// The answers could not be written.
+    /// The answers can't be written.
     Output(WriteFault),
 }
 
@@ -68,7 +68,7 @@ impl From<EmitError> for Stop {
 impl Stop {
     ghost use Rattle.linemap_text.specs.Ask.{Reports};
 
-    /// Writes the error line, where there is one. A fault of the error stream only sets a flag.
+    /// Writes the error line, if there is one. A fault of the error stream only sets a flag.
     pub fn report<W: Write>(self, err: &mut W) -> Ended
         ensures { Reports self (W.contents err.old) (W.contents err.new) result }
     {

@@ -6,10 +6,10 @@ ghost use Rattle.addr2line_context.specs.Contexts.{context};
 use addr2line_context::{Context, Dwarf, Error, Reader};
 use std::alloc::{AllocError, Global};
 
-/// The context over sections that have one: only running out of memory is refused.
+/// The context over sections that have one. Refused only when out of memory.
 pub fn context_of<R: Reader>(alloc: Global, dwarf: Dwarf<R>) -> Result<Context<R>, AllocError>
-    requires { IsOk (context R.Offset.limit dwarf) }
-    ensures { IfOk result (λ c. context R.Offset.limit dwarf ≡ Ok c.context) }
+    requires { IsOk (context dwarf) }
+    ensures { IfOk result (λ c. context dwarf ≡ Ok c.context) }
 {
     match Context::from_dwarf(alloc, dwarf) {
         Ok(context) => Ok(context),

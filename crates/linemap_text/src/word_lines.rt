@@ -11,8 +11,8 @@ use addr2line_context::{Context, Location, Reader};
 use linemap_emit::read_address;
 use std::alloc::{AllocError, Global};
 
-/// A place as file and line, without a line end; `??` is a file that isn't known, `?`
-/// such a line.
+/// A place as file and line, without a line end; `??` is a file that isn't known, and `?` a line
+/// that isn't.
 #[tactic(auto, using(std::proofs::lemmas::Fmt::decimal_digit))]
 pub fn place_line(alloc: Global, place: Option<Location<'_>>) -> Result<String, AllocError>
     ensures { IfOk result
@@ -29,7 +29,7 @@ pub fn place_line(alloc: Global, place: Option<Location<'_>>) -> Result<String, 
     }
 }
 
-// The place of an address, where none is refused.
+// The place of an address, in a context that refuses none.
 fn place_at<R: Reader>(context: &Context<R>, address: u64) -> Option<Location<'_>>
     requires { NeverRefuses context.now.context }
     ensures { text_of_place (option_map location_value result)
@@ -41,7 +41,7 @@ fn place_at<R: Reader>(context: &Context<R>, address: u64) -> Option<Location<'_
     }
 }
 
-/// The line that answers a word, without a line end; a word that is no address is answered as an
+/// The line that answers a word, without a line end; a word that isn't an address is answered as an
 /// address without a place.
 pub fn word_line<R: Reader>(
     alloc: Global,

@@ -1,4 +1,4 @@
--- The program's command line, as `clap` sees it.
+-- The program's command line, as the contracts of `clap` have it.
 use Rattle.std.specs.Prelude.{◌≡◌, Some, true, false, codes}
 use Rattle.clap.specs.Words.{App, Rule, app_of, new_app, new_rule, with_rule, with_subcommand}
 use Rattle.clap.specs.declared.builder.command.Command.{Command}

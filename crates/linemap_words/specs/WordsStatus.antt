@@ -5,11 +5,11 @@ use Rattle.clap.specs.declared.error.ErrorKind.TheVariants.{DisplayHelp, Display
 use Rattle.linemap_words.specs.declared.request.WordsError.{WordsError}
 use Rattle.linemap_words.specs.declared.request.WordsError.TheVariants.{Memory, Fault}
 
--- whether the text was asked for and is no mistake
-abbrev pub TellsHelp : WordsError → Bool → Type 0
-TellsHelp (Fault error) is_help =
+-- the flag says whether the text is help, and not a mistake
+abbrev pub IsHelp : WordsError → Bool → Type 0
+IsHelp (Fault error) is_help =
     IsTrue (not is_help) ↔ ((kind_of error ≢ DisplayHelp) × (kind_of error ≢ DisplayVersion))
-TellsHelp Memory is_help = is_help ≡ false
+IsHelp Memory is_help = is_help ≡ false
 
 -- 0 after help, 1 when out of memory, and 2 for a mistake
 abbrev pub HasStatus : WordsError → ℕ → Type 0

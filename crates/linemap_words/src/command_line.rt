@@ -1,4 +1,4 @@
-//! The program's command and its subcommands, as `clap` sees them.
+//! The program's command and its subcommands, for `clap`.
 ghost use Rattle.std.specs.Prelude.{◌≡◌, IfOk, false};
 ghost use Rattle.clap.specs.Words.{app_of, rule_of};
 ghost use Rattle.linemap_words.specs.CommandLine.{IsLocalApp, addresses_rule, ask_app, linemap_app, table_rule};

@@ -22,10 +22,10 @@ pub enum Request {
     },
 }
 
-/// Why the words are no request. Its text is what is to be printed.
+/// Why the words are no request. It displays as the text to print.
 #[derive(Debug, Drop, Error)]
 pub enum WordsError {
-    /// No memory was left.
+    /// Out of memory.
     #[error("linemap: out of memory\n")]
     Memory,
     /// A mistake in the words, or a request for help, in `clap`'s words.
@@ -44,7 +44,7 @@ impl From<AllocError> for WordsError {
 }
 
 impl WordsError {
-    ghost use Rattle.linemap_words.specs.WordsStatus.{HasStatus, TellsHelp};
+    ghost use Rattle.linemap_words.specs.WordsStatus.{HasStatus, IsHelp};
 
     /// What the program exits with: 0 after help, 1 when out of memory, and else 2.
     pub fn status(&self) -> u8
@@ -58,7 +58,7 @@ impl WordsError {
 
     /// Whether the text is help, which goes to the standard output.
     pub fn is_help(&self) -> bool
-        ensures { TellsHelp self.now result }
+        ensures { IsHelp self.now result }
     {
         match self {
             WordsError::Fault(error) => !error.use_stderr(),
@@ -90,14 +90,14 @@ pub fn read_words(alloc: Global, words: &[String]) -> Result<Request, WordsError
     }
 }
 
-// The request of the subcommand that the parse met, or none where the matches lack a part of it.
+// The request of the subcommand that was parsed, or none where the matches lack a part of it.
 fn request_in(alloc: Global, matches: &ArgMatches<'_>) -> Result<Option<Request>, AllocError>
     ensures { IfOk result (λ request. HoldsRequest request (subcommand_rows_of matches.now)) }
 {
     match matches.subcommand() {
-        Some((name, found)) => {
+        Some((name, matches)) => {
             if name == "ask" {
-                ask_request(alloc, found)
+                ask_request(alloc, matches)
             } else {
                 Ok(None)
             }
@@ -118,15 +118,15 @@ fn error_of(error: clap::Error) -> WordsError
 }
 
 // The request of the matches of `ask`.
-fn ask_request(alloc: Global, found: &ArgMatches<'_>) -> Result<Option<Request>, AllocError>
+fn ask_request(alloc: Global, matches: &ArgMatches<'_>) -> Result<Option<Request>, AllocError>
     ensures { IfOk result (λ request.
-        HoldsRequest request (Some (codes "ask", rows_of (found_of found.now)))) }
+        HoldsRequest request (Some (codes "ask", rows_of (found_of matches.now)))) }
 {
-    let table = match found.get_str(TABLE) {
+    let table = match matches.get_str(TABLE) {
         Some(table) => String::from_str(alloc, table)?,
         None => return Ok(None),
     };
-    let words = match found.get_strs(ADDRESSES) {
+    let words = match matches.get_strs(ADDRESSES) {
         Some(addresses) => copies_of(alloc, addresses)?,
         None => return Ok(None),
     };

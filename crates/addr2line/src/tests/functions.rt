@@ -5,7 +5,7 @@ use crate::{
 };
 use addr2line_context::{
     Dwarf, EndianSlice, Error, LinesBuilder, LittleEndian, ReaderOffsetId, SectionId, Unit,
-    UnitOffset,
+    UnitOffset, UnitRef,
 };
 use addr2line_functions::{
     Call, Chain, FunctionCalls, Functions, calls_of_function, functions_of_unit,
@@ -55,7 +55,7 @@ fn first_unit(alloc: Global, dwarf: &Dwarf<Slice>) -> Result<Unit<Slice>, Error>
 fn functions_in(alloc: Global, info: &'static [u8]) -> Result<Functions<usize>, Error> {
     let dwarf = load(alloc, FUNCTION_TABLE, info)?;
     let unit = first_unit(alloc, &dwarf)?;
-    functions_of_unit(alloc, &dwarf, &unit)
+    functions_of_unit(alloc, &UnitRef::new(&dwarf, &unit))
 }
 
 // Of functions that hold an address, the one whose range begins last.
@@ -110,7 +110,7 @@ fn names_of<'a>(
 ) -> UnitNames<'a, Slice, Unit<Slice>> {
     UnitNames {
         known: KnownUnits::new(units, units),
-        holder: HoldingUnit::new(DebugFile::Primary, dwarf, unit),
+        holder: HoldingUnit::new(DebugFile::Primary, UnitRef::new(dwarf, unit)),
     }
 }
 
@@ -120,7 +120,7 @@ fn calls_in(alloc: Global, info: &'static [u8]) -> Result<FunctionCalls<Slice>, 
     let unit = first_unit(alloc, &dwarf)?;
     let units = Vec::new(alloc);
     let names = names_of(units.as_slice(), &dwarf, &unit);
-    calls_of_function(alloc, &dwarf, &unit, &names, UnitOffset(12))
+    calls_of_function(alloc, &UnitRef::new(&dwarf, &unit), &names, UnitOffset(12))
 }
 
 // Of a call its offset and its depth, and the place that calls.
@@ -173,8 +173,8 @@ fn calls_of_one_function(rt: HostRuntime) -> Result<(), Fail> {
 
 // ---- frames
 
-// A function at 12 from 0x40 to 0x60, in it a call at 18 from 0x44 to 0x4c, and in that a call at 27
-// from 0x48 to 0x58.
+// A function at 12 from 0x40 to 0x60, in it a call at 18 from 0x44 to 0x4c, and in that a call at
+// 27 from 0x48 to 0x58.
 const FRAME_UNIT: &[u8] = b"\x24\0\0\0\x04\0\0\0\0\0\x04\x01\
     \x02\x40\0\0\0\x20\
     \x03\x44\0\0\0\x08\x01\x05\x03\
@@ -224,7 +224,8 @@ fn frames_at(alloc: Global, probe: u64) -> Result<Vec<Part>, Error> {
     let units = Vec::new(alloc);
     let names = names_of(units.as_slice(), &dwarf, &unit);
     let lines = one_line(alloc);
-    let frames = frames_of_unit(alloc, &dwarf, &unit, &names, None, &lines, probe)?;
+    let unit = UnitRef::new(&dwarf, &unit);
+    let frames = frames_of_unit(alloc, &unit, &names, None, &lines, probe)?;
     parts_of(alloc, frames)
 }
 

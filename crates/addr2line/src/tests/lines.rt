@@ -2,7 +2,7 @@
 
 use crate::{Lines, Location, lines_of_unit};
 use addr2line_context::{
-    Dwarf, EndianSlice, Error, LinesBuilder, LittleEndian, ReaderOffsetId, SectionId,
+    Dwarf, EndianSlice, Error, LinesBuilder, LittleEndian, ReaderOffsetId, SectionId, UnitRef,
 };
 use std::alloc::Global;
 use std::test::Fail;
@@ -130,7 +130,7 @@ fn lines_of(alloc: Global, info: &[u8], line: &[u8]) -> Result<Lines, Error> {
     let mut units = dwarf.units()?;
     let header = units.next()?.ok_or(Error::MissingUnitDie)?;
     let unit = dwarf.unit(alloc, header)?;
-    lines_of_unit(alloc, &dwarf, &unit)
+    lines_of_unit(alloc, &UnitRef::new(&dwarf, &unit))
 }
 
 fn is_place(lines: &Lines, probe: u64, file: &str, line: u32) -> bool {

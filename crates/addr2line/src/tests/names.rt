@@ -1,7 +1,9 @@
 //! Names in small files by hand, in the layouts of DWARF 4, 7.5.
 
 use crate::{DebugFile, HoldingUnit, KnownUnits};
-use addr2line_context::{Dwarf, EndianSlice, Error, LittleEndian, SectionId, Unit, UnitOffset};
+use addr2line_context::{
+    Dwarf, EndianSlice, Error, LittleEndian, SectionId, Unit, UnitOffset, UnitRef,
+};
 use addr2line_functions::UnitEntries;
 use std::alloc::Global;
 use std::test::Fail;
@@ -124,7 +126,7 @@ fn name_in<'a>(
     holder: &HoldingUnit<'a, Slice>,
     offset: usize,
 ) -> Result<Option<Slice>, Error> {
-    let unit = holder.unit;
+    let unit = holder.unit.unit;
     let entry = unit
         .header
         .entry(alloc, &unit.abbreviations, UnitOffset(offset))?;
@@ -142,7 +144,12 @@ fn name_of(
     let supplement_units = units_of_sup(alloc, dwarf)?;
     let unit = units.get(entry.0).ok_or(Error::NoSuchUnit)?;
     let known = KnownUnits::new(units.as_slice(), supplement_units.as_slice());
-    name_in(alloc, &known, &HoldingUnit::new(file, dwarf, unit), entry.1)
+    name_in(
+        alloc,
+        &known,
+        &HoldingUnit::new(file, UnitRef::new(dwarf, unit)),
+        entry.1,
+    )
 }
 
 fn is_text(name: &Option<Slice>, text: Option<&str>) -> bool {

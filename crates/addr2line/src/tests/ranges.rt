@@ -3,7 +3,7 @@
 use crate::Lines;
 use addr2line_context::{
     DW_LANG_Rust, DwLang, Dwarf, EndianSlice, Error, LinesBuilder, LittleEndian, Range,
-    ReaderOffsetId, SectionId, Unit, check_aranges, language_of, ranges_of_attributes,
+    ReaderOffsetId, SectionId, Unit, UnitRef, check_aranges, language_of, ranges_of_attributes,
 };
 use addr2line_functions::{DebuggingInformationEntry, entries_raw};
 use std::alloc::Global;
@@ -97,7 +97,7 @@ fn ranges_of(
     let dwarf = load(alloc, sections)?;
     let unit = first_unit(alloc, &dwarf)?;
     let root = root_of(alloc, &unit)?;
-    ranges_of_attributes(alloc, &dwarf, &unit, lines, root.attrs())
+    ranges_of_attributes(alloc, &UnitRef::new(&dwarf, &unit), lines, root.attrs())
 }
 
 // Its language.

@@ -82,7 +82,7 @@ impl Leb128 {
         &self.bytes[..self.len]
     }
 
-    /// How many bytes the string has, from 1 to 10.
+    /// The number of bytes of the string, from 1 to 10.
     pub fn len(&self) -> usize
         ensures { result ≡ length self.now }
     {

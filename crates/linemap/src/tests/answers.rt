@@ -6,7 +6,7 @@ use std::alloc::{AllocError, Global};
 use std::test::Fail;
 
 /// Copies of the words.
-pub fn owned(alloc: Global, words: &[&str]) -> Result<Vec<String>, AllocError> {
+pub fn copies_of(alloc: Global, words: &[&str]) -> Result<Vec<String>, AllocError> {
     let mut copies = Vec::new(alloc);
     for word in words {
         copies.push(String::from_str(alloc, word)?)?;
@@ -24,7 +24,7 @@ pub struct Outcome {
 
 /// Asks over writers that take all.
 pub fn run(alloc: Global, table: &[u8], words: &[&str]) -> Result<Outcome, AllocError> {
-    let words = owned(alloc, words)?;
+    let words = copies_of(alloc, words)?;
     let mut out = FakeWriter::new(alloc);
     let mut err = FakeWriter::new(alloc);
     let ended = ask(alloc, table, &words, &mut out, &mut err);
@@ -38,7 +38,7 @@ fn lines_for_words(rt: HostRuntime) -> Result<(), Fail> {
         run.out.text.as_slice(),
         b"/w/src/a.c:5\n??:0\n??:0\n".as_slice()
     );
-    assert_eq!(rt; run.out.flushed.as_slice(), [13, 18, 23].as_slice());
+    assert_eq!(rt; run.out.flushes_at.as_slice(), [13, 18, 23].as_slice());
     assert_eq!(rt; run.err.text.len(), 0);
     assert_eq!(rt; run.ended, Ended::with_status(0));
     Ok(())

@@ -3,12 +3,12 @@ use std::alloc::Global;
 use std::io;
 use std::io::{ErrorKind, Write};
 
-/// A writer that records what it takes and where it was flushed, and fails on demand.
+/// A writer that records what it takes and when it is flushed, and fails on demand.
 #[derive(Drop)]
 pub struct FakeWriter {
     pub text: Vec<u8>,
-    /// How many bytes it had at each flush.
-    pub flushed: Vec<usize>,
+    /// The number of bytes that it had at each flush.
+    pub flushes_at: Vec<usize>,
     /// The number of bytes that it takes before it fails.
     pub room: usize,
     /// The most bytes that it takes in one write.
@@ -17,7 +17,8 @@ pub struct FakeWriter {
     pub flushes: usize,
     /// The number of interruptions before each call that succeeds.
     pub interruptions: u32,
-    pub interrupted: u32,
+    /// The number of interruptions since the last call that succeeded.
+    pub interruptions_so_far: u32,
     /// How it fails; without a kind a write takes nothing.
     pub kind: Option<ErrorKind>,
 }
@@ -27,12 +28,12 @@ impl FakeWriter {
     pub fn new(alloc: Global) -> FakeWriter {
         FakeWriter {
             text: Vec::new(alloc),
-            flushed: Vec::new(alloc),
+            flushes_at: Vec::new(alloc),
             room: usize::MAX,
             step: usize::MAX,
             flushes: usize::MAX,
             interruptions: 0,
-            interrupted: 0,
+            interruptions_so_far: 0,
             kind: None,
         }
     }
@@ -62,11 +63,11 @@ impl FakeWriter {
     }
 
     fn interrupts(&mut self) -> bool {
-        if self.interrupted < self.interruptions {
-            self.interrupted = self.interrupted.saturating_add(1);
+        if self.interruptions_so_far < self.interruptions {
+            self.interruptions_so_far = self.interruptions_so_far.saturating_add(1);
             return true;
         }
-        self.interrupted = 0;
+        self.interruptions_so_far = 0;
         false
     }
 }
@@ -96,7 +97,7 @@ impl Write for FakeWriter {
             return Err(self.kind.unwrap_or(ErrorKind::Other).into());
         }
         self.flushes -= 1;
-        self.flushed.push(self.text.len())?;
+        self.flushes_at.push(self.text.len())?;
         Ok(())
     }
 }

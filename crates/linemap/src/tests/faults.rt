@@ -1,5 +1,5 @@
 //! Writers that fail.
-use super::answers::owned;
+use super::answers::copies_of;
 use super::fake::FakeWriter;
 use super::tables::TABLE_A;
 use crate::{Ended, ask};
@@ -10,7 +10,7 @@ const FLUSH_LINE: &[u8] = b"linemap: error flushing stdout\n";
 
 const REFUSAL: &[u8] = b"linemap: table refused: B2\n";
 
-/// Ended with this status, and a write that failed.
+// Ended with this status, and a write that failed.
 fn write_fault(status: u8) -> Ended {
     Ended::with_status(status).with_write_fault()
 }
@@ -18,7 +18,7 @@ fn write_fault(status: u8) -> Ended {
 #[test]
 fn output_that_fails(rt: HostRuntime) -> Result<(), Fail> {
     let alloc = rt.alloc();
-    let words = owned(alloc, &["1000", "zz"])?;
+    let words = copies_of(alloc, &["1000", "zz"])?;
     // How it fails and after how many bytes, what it then holds, the error line and the end.
     let table: [(Option<ErrorKind>, usize, &[u8], &[u8], Ended); 6] = [
         (Some(ErrorKind::Other), 0, b"", FLUSH_LINE, write_fault(1)),
@@ -66,7 +66,7 @@ fn output_that_fails(rt: HostRuntime) -> Result<(), Fail> {
 #[test]
 fn flushes_that_fail(rt: HostRuntime) -> Result<(), Fail> {
     let alloc = rt.alloc();
-    let words = owned(alloc, &["1000", "zz"])?;
+    let words = copies_of(alloc, &["1000", "zz"])?;
     let table: [(usize, ErrorKind, &[u8], Ended); 3] = [
         (0, ErrorKind::Other, b"/w/src/a.c:5\n", write_fault(1)),
         (1, ErrorKind::Other, b"/w/src/a.c:5\n??:0\n", write_fault(1)),
@@ -85,7 +85,7 @@ fn flushes_that_fail(rt: HostRuntime) -> Result<(), Fail> {
 #[test]
 fn interruptions(rt: HostRuntime) -> Result<(), Fail> {
     let alloc = rt.alloc();
-    let words = owned(alloc, &["1000", "zz"])?;
+    let words = copies_of(alloc, &["1000", "zz"])?;
     let table: [(u32, &[u8], Ended); 2] = [
         (999, b"/w/src/a.c:5\n??:0\n", Ended::with_status(0)),
         (1000, b"", write_fault(1)),
@@ -103,7 +103,7 @@ fn interruptions(rt: HostRuntime) -> Result<(), Fail> {
 #[test]
 fn error_stream_that_fails(rt: HostRuntime) -> Result<(), Fail> {
     let alloc = rt.alloc();
-    let words = owned(alloc, &["1000"])?;
+    let words = copies_of(alloc, &["1000"])?;
     for (room, text) in [
         (0, b"".as_slice()),
         (9, b"linemap: ".as_slice()),

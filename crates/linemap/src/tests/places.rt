@@ -56,14 +56,14 @@ fn line_in(
     }
 }
 
-/// The line for an address, where a byte of `.debug_line` is another one.
+// The line for an address, where a byte of `.debug_line` is another one.
 fn line_with(alloc: Global, place: usize, byte: u8, address: u64) -> Result<String, &'static str> {
     let sections = sections_of(alloc)?;
     let Ok(mut bytes) = sections.get(SectionId::DebugLine).to_vec(alloc) else {
         return Err("no memory");
     };
     match bytes.get_mut(place) {
-        Some(found) => *found = byte,
+        Some(old) => *old = byte,
         None => return Err("no such byte"),
     }
     let sections = WithLine {
@@ -77,16 +77,16 @@ fn line_with(alloc: Global, place: usize, byte: u8, address: u64) -> Result<Stri
 }
 
 // Byte 54 is the special opcode of the first row, 22: four lines more, and no address. Byte 0 is
-// the length of the unit: six bytes less, and the rows have no end, so they are not kept.
+// the length of the unit: six bytes less, and the rows have no end, so that there are none.
 #[test]
 fn places_are_read_from_the_bytes(rt: HostRuntime) -> Result<(), Fail> {
-    for (place, byte, wanted) in [
+    for (place, byte, line_text) in [
         (54, 22, "/w/src/a.c:5"),
         (54, 23, "/w/src/a.c:6"),
         (0, 60, "??:0"),
     ] {
         let line = line_with(rt.alloc(), place, byte, 0x100f)?;
-        assert_eq!(rt; line.as_str(), wanted, "with {byte}");
+        assert_eq!(rt; line.as_str(), line_text, "with {byte}");
     }
     Ok(())
 }

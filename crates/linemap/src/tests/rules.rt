@@ -7,7 +7,7 @@ use crate::{
 use std::alloc::{AllocError, Global};
 use std::test::Fail;
 
-/// The number of the refusal, or `read`.
+// The number of the refusal, or `read`.
 fn answer(alloc: Global, text: &[u8]) -> &'static str {
     match Table::read(alloc, text) {
         Ok(_) => "read",
@@ -15,12 +15,17 @@ fn answer(alloc: Global, text: &[u8]) -> &'static str {
     }
 }
 
-/// The answer for the text with its first `old` replaced.
-fn edited(alloc: Global, text: &str, old: &str, new: &str) -> Result<&'static str, AllocError> {
+// The answer for the text, with `new` in place of its first `old`.
+fn answer_with(
+    alloc: Global,
+    text: &str,
+    old: &str,
+    new: &str,
+) -> Result<&'static str, AllocError> {
     match text.split_once(old) {
         None => Ok("no such part"),
-        Some((front, back)) => {
-            let text = format!(in alloc; "{front}{new}{back}")?;
+        Some((before, after)) => {
+            let text = format!(in alloc; "{before}{new}{after}")?;
             Ok(answer(alloc, text.as_bytes()))
         }
     }
@@ -97,8 +102,8 @@ fn refusals_by_their_numbers(rt: HostRuntime) -> Result<(), Fail> {
         ),
     ];
     for (code, old, new) in edits {
-        let found = edited(rt.alloc(), &text, old, new)?;
-        assert_eq!(rt; found, code, "{new}");
+        let number = answer_with(rt.alloc(), &text, old, new)?;
+        assert_eq!(rt; number, code, "{new}");
     }
     assert_eq!(rt; answer(rt.alloc(), b""), "B2");
     assert_eq!(rt; answer(rt.alloc(), b"[]"), "B3");
@@ -109,9 +114,9 @@ fn refusals_by_their_numbers(rt: HostRuntime) -> Result<(), Fail> {
     Ok(())
 }
 
-/// A range of 8 addresses, the next 16 after it.
-fn range_at(place: u32) -> TableRange {
-    let begin = 0x1000 + u64::from(place) * 16;
+// A range of 8 addresses; the next one begins 16 above it.
+fn range_at(index: u32) -> TableRange {
+    let begin = 0x1000 + u64::from(index) * 16;
     TableRange {
         begin,
         end: begin + 8,
@@ -147,8 +152,8 @@ fn sequence_at(alloc: Global, place: u32) -> Result<TableSequence, AllocError> {
     })
 }
 
-/// A unit that has this many ranges, which ascend, and functions with a call each and sequences,
-/// which ascend or descend.
+// A unit that has this many ranges, which ascend, and functions with a call each and sequences,
+// which ascend or descend.
 fn large_unit(alloc: Global, count: u32, descends: bool) -> Result<TableUnit, AllocError> {
     let mut ranges = Vec::new(alloc);
     let mut functions = Vec::new(alloc);

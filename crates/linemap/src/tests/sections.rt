@@ -24,7 +24,7 @@ fn row(address: u64, line: u64, column: u64) -> TableRow {
     }
 }
 
-/// A unit in the directory `/w`, with one range, one file and one sequence.
+// A unit in the directory `/w`, with one range, one file and one sequence.
 fn unit(
     alloc: Global,
     name: &str,
@@ -47,7 +47,7 @@ fn unit(
     })
 }
 
-/// The function `main` from 0x1000 to 0x1010, with a call of `f`, which is called at `a.c:7:3`.
+// The function `main` from 0x1000 to 0x1010, with a call of `f`, which is called at `a.c:7:3`.
 fn function(alloc: Global) -> Result<TableFunction, AllocError> {
     let call = TableCall {
         name: text(alloc, "f")?,
@@ -64,7 +64,7 @@ fn function(alloc: Global) -> Result<TableFunction, AllocError> {
     })
 }
 
-/// The units of `/w/a.c` and `/w/b.c`.
+// The units of `/w/a.c` and `/w/b.c`.
 fn units(alloc: Global) -> Result<Vec<TableUnit>, AllocError> {
     let functions = vec![in alloc; function(alloc)?]?;
     let rows = vec![in alloc; row(0x1000, 5, 1), row(0x1004, 6, 2)]?;
@@ -74,8 +74,8 @@ fn units(alloc: Global) -> Result<Vec<TableUnit>, AllocError> {
     Ok(vec![in alloc; first, second]?)
 }
 
-/// What is emitted of units, or the text of a refusal.
-fn emitted(alloc: Global, units: Vec<TableUnit>) -> Result<Sections, &'static str> {
+// What is emitted of units, or the text of a refusal.
+fn sections_of(alloc: Global, units: Vec<TableUnit>) -> Result<Sections, &'static str> {
     let Some(target) = Target::new(4, Format::Dwarf32, 8, false) else {
         return Err("no such target");
     };
@@ -85,7 +85,7 @@ fn emitted(alloc: Global, units: Vec<TableUnit>) -> Result<Sections, &'static st
     }
 }
 
-/// Whether a section has these bytes.
+// Whether a section has these bytes.
 fn holds(sections: &Sections, id: SectionId, bytes: &[u8]) -> bool {
     sections.get(id) == bytes
 }
@@ -95,14 +95,14 @@ fn holds(sections: &Sections, id: SectionId, bytes: &[u8]) -> bool {
 #[test]
 fn sections_of_tables(rt: HostRuntime) -> Result<(), Fail> {
     let alloc = rt.alloc();
-    let sections = emitted(alloc, units(alloc)?)?;
+    let sections = sections_of(alloc, units(alloc)?)?;
     assert!(rt; holds(&sections, SectionId::DebugAbbrev, ABBREV));
     assert!(rt; holds(&sections, SectionId::DebugInfo, INFO));
     assert!(rt; holds(&sections, SectionId::DebugLine, LINE));
     assert!(rt; holds(&sections, SectionId::DebugRanges, RANGES));
     assert!(rt; holds(&sections, SectionId::DebugStr, b"a.c\0/w\0main\0f\0b.c\0"));
     assert!(rt; holds(&sections, SectionId::DebugAranges, b""));
-    let empty = emitted(alloc, Vec::new(alloc))?;
+    let empty = sections_of(alloc, Vec::new(alloc))?;
     assert!(rt; holds(&empty, SectionId::DebugAbbrev, ABBREV));
     assert!(rt; holds(&empty, SectionId::DebugInfo, b""));
     assert!(rt; Target::new(5, Format::Dwarf32, 8, false).is_none());
@@ -112,7 +112,7 @@ fn sections_of_tables(rt: HostRuntime) -> Result<(), Fail> {
     Ok(())
 }
 
-/// Units; functions with children and without; inlined subroutines with children and without.
+// Units; functions with children and without; inlined subroutines with children and without.
 const ABBREV: &[u8] = &[
     1, 0x11, 1, 0x03, 0x0e, 0x1b, 0x0e, 0x10, 0x17, 0x11, 0x01, 0x55, 0x17, 0, 0, //
     2, 0x2e, 1, 0x03, 0x0e, 0x55, 0x17, 0, 0, //
@@ -122,8 +122,8 @@ const ABBREV: &[u8] = &[
     0,
 ];
 
-/// The unit of `a.c`, with `main` and the call in it; that of `b.c`, whose line number program
-/// stands at 62.
+// The unit of `a.c`, with `main` and the call in it; that of `b.c`, whose line number program
+// is at 62.
 const INFO: &[u8] = &[
     55, 0, 0, 0, 4, 0, 0, 0, 0, 0, 8, //
     1, 0, 0, 0, 0, 4, 0, 0, 0, 0, 0, 0, 0, 0, 0, 0, 0, 0, 0, 0, 0, 0, 0, 0, 0, //
@@ -135,7 +135,7 @@ const INFO: &[u8] = &[
     0,
 ];
 
-/// A program for each unit.
+// A program for each unit.
 const LINE: &[u8] = &[
     58, 0, 0, 0, 4, 0, 30, 0, 0, 0, //
     1, 1, 1, 0xfb, 14, 13, 0, 1, 1, 1, 1, 0, 0, 0, 1, 0, 0, 1, //
@@ -149,7 +149,7 @@ const LINE: &[u8] = &[
     5, 1, 0x1a, 2, 4, 0, 1, 1, //
 ];
 
-/// The ranges of `a.c`, `main`, `f` and `b.c`, each list with its end.
+// The ranges of `a.c`, `main`, `f` and `b.c`, each list with its end.
 const RANGES: &[u8] = &[
     0, 0x10, 0, 0, 0, 0, 0, 0, 0x10, 0x10, 0, 0, 0, 0, 0, 0, //
     0, 0, 0, 0, 0, 0, 0, 0, 0, 0, 0, 0, 0, 0, 0, 0, //

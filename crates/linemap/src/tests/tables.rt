@@ -9,7 +9,7 @@ pub const TABLE_A: &str = r#"{"units":[{"directory":"/w","name":"a.c","ranges":[
 {"address":4112,"file":0,"line":20,"column":2},
 {"address":4128,"file":0,"line":7,"column":1}],"end":4144}]}]}"#;
 
-/// An inlined call, for the function of table A.
+// An inlined call, for the function of table A.
 const CALL: &str = r#"{"name":"f","ranges":[[4112,4128]],"file":0,"line":6,"column":3,"calls":[]}"#;
 
 const NO_CALLS: &str = r#""calls":[]"#;

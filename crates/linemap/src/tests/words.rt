@@ -1,5 +1,5 @@
 //! Command lines.
-use super::answers::owned;
+use super::answers::copies_of;
 use super::fake::FakeWriter;
 use crate::{Ended, Request, WordsError, explain, read_words};
 use std::alloc::{AllocError, Global};
@@ -9,7 +9,7 @@ use std::test::Fail;
 #[test]
 fn a_request(rt: HostRuntime) -> Result<(), Fail> {
     let alloc = rt.alloc();
-    let words = owned(alloc, &["linemap", "ask", "a.json", "0x100f", "+5"])?;
+    let words = copies_of(alloc, &["linemap", "ask", "a.json", "0x100f", "+5"])?;
     let Request::Ask { table, words } = read_words(alloc, &words)?;
     assert_eq!(rt; table.as_str(), "a.json");
     assert_eq!(rt; words.len(), 2);
@@ -32,7 +32,7 @@ fn refused_command_lines(rt: HostRuntime) -> Result<(), Fail> {
     ];
     for (words, status, is_help) in table {
         let count = words.len();
-        match read_words(alloc, &owned(alloc, words)?) {
+        match read_words(alloc, &copies_of(alloc, words)?) {
             Ok(_) => assert!(rt; false, "{count} words"),
             Err(error) => {
                 assert_eq!(rt; error.status(), status, "{count} words");
@@ -44,15 +44,15 @@ fn refused_command_lines(rt: HostRuntime) -> Result<(), Fail> {
     Ok(())
 }
 
-/// Explains a command line, with room for some bytes of output.
-fn explained(
+// Explains a command line, with room for some bytes of output.
+fn explain_words(
     alloc: Global,
     words: &[&str],
     room: usize,
 ) -> Result<(FakeWriter, FakeWriter, Ended), AllocError> {
     let mut out = FakeWriter::with_room(alloc, room, Some(ErrorKind::StorageFull));
     let mut err = FakeWriter::new(alloc);
-    let ended = match read_words(alloc, &owned(alloc, words)?) {
+    let ended = match read_words(alloc, &copies_of(alloc, words)?) {
         Ok(_) => Ended::with_status(0),
         Err(error) => explain(alloc, &error, &mut out, &mut err),
     };
@@ -61,12 +61,12 @@ fn explained(
 
 #[test]
 fn explains_command_lines(rt: HostRuntime) -> Result<(), Fail> {
-    let (out, err, ended) = explained(rt.alloc(), &["linemap", "--help"], usize::MAX)?;
+    let (out, err, ended) = explain_words(rt.alloc(), &["linemap", "--help"], usize::MAX)?;
     assert!(rt; out.text.len() > 0);
-    assert_eq!(rt; out.flushed.len(), 1);
+    assert_eq!(rt; out.flushes_at.len(), 1);
     assert_eq!(rt; err.text.len(), 0);
     assert_eq!(rt; ended, Ended::with_status(0));
-    let (out, err, ended) = explained(rt.alloc(), &["linemap", "ask"], usize::MAX)?;
+    let (out, err, ended) = explain_words(rt.alloc(), &["linemap", "ask"], usize::MAX)?;
     assert_eq!(rt; out.text.len(), 0);
     assert!(rt; err.text.len() > 0);
     assert_eq!(rt; ended, Ended::with_status(2));
@@ -75,7 +75,7 @@ fn explains_command_lines(rt: HostRuntime) -> Result<(), Fail> {
 
 #[test]
 fn help_that_can_not_be_written(rt: HostRuntime) -> Result<(), Fail> {
-    let (out, err, ended) = explained(rt.alloc(), &["linemap", "--help"], 5)?;
+    let (out, err, ended) = explain_words(rt.alloc(), &["linemap", "--help"], 5)?;
     assert_eq!(rt; out.text.len(), 5);
     assert_eq!(rt;
         err.text.as_slice(),

@@ -11,8 +11,8 @@ abbrev pub invariant-loop-headers : goal.invariant-loop-headers
 invariant-loop-headers g l =
     let limit = g.R.Offset.ReaderOffset.limit in
     append_to l.units.items
-    (read_all (λ h. readable_facts (unit_facts limit l.dwarf h)) ok_of (units_to_come limit l.headers))
-    ≡ readable_units limit l.dwarf
+    (read_all (λ h. readable_facts (unit_facts l.dwarf h)) ok_of (units_to_come limit l.headers))
+    ≡ readable_units l.dwarf
 
 abbrev pub decreases-loop-headers : goal.decreases-loop-headers
 decreases-loop-headers g l = length (units_to_come g.R.Offset.ReaderOffset.limit l.headers).items

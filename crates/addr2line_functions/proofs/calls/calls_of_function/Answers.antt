@@ -13,22 +13,23 @@ itself f = f
 pub returns-in_err-read_entry : goal.returns-in_err-read_entry
 returns-in_err-read_entry g c =
     returns_refused _ _ _ _ c.from_residual-in_err-read_entry.ensures.1
-    (λ m. entry_refused g.R.Offset.ReaderOffset.limit c.args.dwarf.now c.args.unit.now
+    (λ m. entry_refused g.R.Offset.ReaderOffset.limit c.args.unit.now c.in_ok-entries.ensures.limit
     (g.N.Names.naming c.args.names.now) (g.R.Offset.ReaderOffset.count c.args.offset.0) c.in_ok-entries.entries
-    c.in_err-read_entry.field-0.0 c.in_ok-entries.ensures (c.in_err-read_entry.ensures.value.0 m))
+    c.in_err-read_entry.field-0.0 c.in_ok-entries.ensures.value (c.in_err-read_entry.ensures.value.0 m))
 
 pub returns-then-not-branch : goal.returns-then-not-branch
 returns-then-not-branch g c = λ m.
-    entry_null g.R.Offset.ReaderOffset.limit c.args.dwarf.now c.args.unit.now (g.N.Names.naming c.args.names.now)
+    entry_null g.R.Offset.ReaderOffset.limit c.args.unit.now c.in_ok-entries.ensures.limit
+    (g.N.Names.naming c.args.names.now)
     (g.R.Offset.ReaderOffset.count c.args.offset.0) c.into_u64.result c.in_ok-entries.entries
-    c.read_entry.new.self c.in_ok-read_entry.field-0 _ c.in_ok-entries.ensures c.in_ok-read_entry.ensures.value
+    c.read_entry.new.self c.in_ok-read_entry.field-0 _ c.in_ok-entries.ensures.value c.in_ok-read_entry.ensures.value
     c.if-not-branch.true c.into_u64.ensures.value
 
 pub returns : goal.returns
 returns g c =
     let P : Result FunctionCalls Error → Type 0 = λ r. ReturnsAsOrNoMemory itself c.function_calls.result r in
     subst P (sym
-    (entry_is_there g.R.Offset.ReaderOffset.limit c.args.dwarf.now c.args.unit.now
+    (entry_is_there g.R.Offset.ReaderOffset.limit c.args.unit.now c.in_ok-entries.ensures.limit
     (g.N.Names.naming c.args.names.now) (g.R.Offset.ReaderOffset.count c.args.offset.0) c.in_ok-entries.entries
-    c.read_entry.new.self c.in_ok-read_entry.field-0 _ c.in_ok-entries.ensures c.in_ok-read_entry.ensures.value
+    c.read_entry.new.self c.in_ok-read_entry.field-0 _ c.in_ok-entries.ensures.value c.in_ok-read_entry.ensures.value
     c.if-not-branch.false)) c.function_calls.ensures

@@ -9,8 +9,8 @@ use Rattle.addr2line_functions.proofs.functions.functions_of_unit.Given as goal
 abbrev pub invariant-loop-alloc : goal.invariant-loop-alloc
 invariant-loop-alloc g l =
     let limit = g.R.Offset.ReaderOffset.limit in
-    functions_then l.functions.items (functions_from limit l.dwarf l.unit l.entries)
-    ≡ functions_of_unit limit l.dwarf l.unit
+    functions_then l.functions.items (functions_from limit l.unit l.entries)
+    ≡ functions_of_unit l.unit
 
 abbrev pub decreases-loop-alloc : goal.decreases-loop-alloc
-decreases-loop-alloc g l = bytes_left l.entries.left
+decreases-loop-alloc g l = bytes_left l.entries.rest

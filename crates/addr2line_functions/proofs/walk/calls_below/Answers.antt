@@ -13,7 +13,7 @@ loop-alloc-init g c = record {
   found = (
     [],
     matches_first c.args.entries.depth c.new-nesting.result c.new-nesting.ensures,
-    calls-start g.R.Offset.ReaderOffset.limit c.args.dwarf.now c.args.unit.now
+    calls-start g.R.Offset.ReaderOffset.limit c.args.unit.now
         (g.N.Names.naming c.args.names.now) c.new-calls.result.items c.args.entries c.new-calls.ensures.items,
   );
 }
@@ -25,7 +25,7 @@ returns-in_err-next-clause-value g c =
     let w = c.loop-alloc.entries in
     rw (p.1, p.2)
     (λ m. sym i.2
-    ∙ calls-refused g.R.Offset.ReaderOffset.limit c.args.dwarf.now c.args.unit.now
+    ∙ calls-refused g.R.Offset.ReaderOffset.limit c.args.unit.now
     (g.N.Names.naming c.args.names.now) c.loop-alloc.calls.items i.0 w c.loop-alloc.nesting
     c.in_err-next.field-0.0
     (some_depth c.next_depth.result w.depth (search rules) c.next_depth.ensures c.loop-alloc-test.true) i.1
@@ -34,18 +34,16 @@ returns-in_err-next-clause-value g c =
 pub loop-alloc-smaller : goal.loop-alloc-smaller
 loop-alloc-smaller g c =
     let limit = g.R.Offset.ReaderOffset.limit in
-    let s = c.args.dwarf.now in
     let u = c.args.unit.now in
     let naming = g.N.Names.naming c.args.names.now in
-    call-takes limit s u naming c.loop-alloc.entries c.next_call.new.entries c.loop-alloc.nesting
+    call-takes limit u naming c.loop-alloc.entries c.next_call.new.entries c.loop-alloc.nesting
     c.next_call.new.nesting c.in_ok-next.next
-    (entry_parts limit s u naming c.loop-alloc.entries c.next_call.new.entries c.loop-alloc.nesting
+    (entry_parts limit u naming c.loop-alloc.entries c.next_call.new.entries c.loop-alloc.nesting
     c.next_call.new.nesting c.in_ok-next.next c.in_ok-next.ensures)
 
 pub loop-alloc-preserved : goal.loop-alloc-preserved
 loop-alloc-preserved g c =
     let limit = g.R.Offset.ReaderOffset.limit in
-    let s = c.args.dwarf.now in
     let u = c.args.unit.now in
     let naming = g.N.Names.naming c.args.names.now in
     let found = c.loop-alloc.calls.items in
@@ -56,18 +54,18 @@ loop-alloc-preserved g c =
     let p = c.next_call.new.nesting in
     let i = c.loop-alloc.invariant.found in
     let all = c.push_if_any.new.calls.items in
-    let e = entry_parts limit s u naming w t o p next c.in_ok-next.ensures in
+    let e = entry_parts limit u naming w t o p next c.in_ok-next.ensures in
     let more =
-    calls-more limit s u naming found i.0 w t o p next
+    calls-more limit u naming found i.0 w t o p next
     (some_depth c.next_depth.result w.depth (search rules) c.next_depth.ensures c.loop-alloc-test.true) i.1 e in
     let same = items_of_ok (found ++ option_to_list next) all c.in_ok-push_if_any.ensures in
     let P : List Call → Type 0 = AreFew p in
     record {
-      few = subst P same (few_more limit s u naming w t o p next found c.loop-alloc.invariant.few e);
+      few = subst P same (few_more limit u naming w t o p next found c.loop-alloc.invariant.few e);
       found = (
         e.row ∷ i.0,
         more.0,
-        ap (λ l. calls_then l (calls_from limit s u naming (record { walk = t; before = e.row ∷ i.0 }))) (sym same)
+        ap (λ l. calls_then l (calls_from limit u naming (record { walk = t; before = e.row ∷ i.0 }))) (sym same)
             ∙ more.1 ∙ i.2,
       );
     }
@@ -85,6 +83,6 @@ returns-clause-value g c =
     let i = c.loop-alloc.invariant.found in
     let w = c.loop-alloc.entries in
     sym i.2
-    ∙ calls-end g.R.Offset.ReaderOffset.limit c.args.dwarf.now c.args.unit.now
+    ∙ calls-end g.R.Offset.ReaderOffset.limit c.args.unit.now
     (g.N.Names.naming c.args.names.now) c.loop-alloc.calls.items i.0 w
     (no_depth c.next_depth.result w.depth (search rules) c.next_depth.ensures c.loop-alloc-test.false)

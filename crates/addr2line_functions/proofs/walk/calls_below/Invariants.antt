@@ -17,9 +17,9 @@ invariant-loop-alloc g l =
       few : AreFew l.nesting l.calls.items;
       found : (before : List Row) × Matches before l.entries.depth l.nesting
           × (calls_then l.calls.items
-          (calls_from limit l.dwarf l.unit naming (record { walk = l.entries; before = before }))
-          ≡ calls_among limit l.dwarf l.unit naming (entries_of limit l.fn.entries));
+          (calls_from limit l.unit naming (record { walk = l.entries; before = before }))
+          ≡ calls_among l.unit naming (entries_of limit l.fn.entries));
     }
 
 abbrev pub decreases-loop-alloc : goal.decreases-loop-alloc
-decreases-loop-alloc g l = bytes_left l.entries.left
+decreases-loop-alloc g l = bytes_left l.entries.rest

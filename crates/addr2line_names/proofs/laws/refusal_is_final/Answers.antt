@@ -2,4 +2,4 @@ use Rattle.addr2line_names.proofs.FunctionNameLemmas.{refusal_is_final}
 use Rattle.addr2line_names.proofs.laws.refusal_is_final.Goals as goal
 
 pub returns : goal.returns
-returns c = λ limit known h before after e is. refusal_is_final limit known h before after e is
+returns c = λ known h before after e is. refusal_is_final known h before after e is

@@ -11,17 +11,17 @@ returns-in_err-fact_of g c =
     let p = err_from_is_err_and c.from_residual.result c.from_residual.ensures.1 in
     rw (p.1, p.2) (λ m.
     from_index-refused (raw_attribute_of g.R.Reader.view g.R.Offset.ReaderOffset.count)
-    (fact_of g.R.Offset.ReaderOffset.limit c.args.dwarf.now c.args.unit.now.bases)
+    (fact_of c.args.unit.now)
     c.loop-attribute.found c.in_err-fact_of.field-0.0 c.args.attributes.now c.loop-attribute.attribute-index
     c.attribute-item.result
-    (facts_of g.R.Offset.ReaderOffset.limit c.args.dwarf.now c.args.unit.now.bases
+    (facts_of c.args.unit.now
     (raw_attributes g.R.Reader.view g.R.Offset.ReaderOffset.count c.args.attributes.now))
     c.loop-attribute-test.true c.attribute-item.is (c.in_err-fact_of.ensures m) c.loop-attribute.invariant)
 
 pub loop-attribute-preserved : goal.loop-attribute-preserved
 loop-attribute-preserved g c =
     from_index-more (raw_attribute_of g.R.Reader.view g.R.Offset.ReaderOffset.count)
-    (fact_of g.R.Offset.ReaderOffset.limit c.args.dwarf.now c.args.unit.now.bases)
+    (fact_of c.args.unit.now)
     c.loop-attribute.found c.take.new.self
     (range_fact g.R.Offset.ReaderOffset.count c.in_ok-fact_of.field-0) c.args.attributes.now
     c.loop-attribute.attribute-index c.attribute-item.result _

@@ -11,5 +11,5 @@ abbrev pub invariant-loop-attribute : goal.invariant-loop-attribute
 invariant-loop-attribute g l =
     let view = raw_attribute_of g.R.Reader.view g.R.Offset.ReaderOffset.count in
     let limit = g.R.Offset.ReaderOffset.limit in
-    from_index view (fact_of limit l.dwarf l.unit.bases) l.found l.attributes l.attribute-index
-    ≡ facts_of limit l.dwarf l.unit.bases (raw_attributes g.R.Reader.view g.R.Offset.ReaderOffset.count l.attributes)
+    from_index view (fact_of l.unit) l.found l.attributes l.attribute-index
+    ≡ facts_of l.unit (raw_attributes g.R.Reader.view g.R.Offset.ReaderOffset.count l.attributes)

@@ -8,6 +8,6 @@ use Rattle.addr2line_units.proofs.files.push_texts.Given as goal
 -- the texts so far, and after them those of the files that are left, are all
 abbrev pub invariant-loop-file : goal.invariant-loop-file
 invariant-loop-file g l =
-    let text = text_of_file g.R.Offset.ReaderOffset.limit l.unit.dwarf.now l.unit.unit.now l.header in
+    let text = text_of_file l.unit l.header in
     append_texts (map string_bytes l.texts.items) (each text (drop l.file-index l.files))
     ≡ append_texts (map string_bytes l.fn.texts.items) (each text l.files)

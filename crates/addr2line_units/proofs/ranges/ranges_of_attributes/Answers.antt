@@ -10,7 +10,7 @@ pub returns : goal.returns
 returns g c =
     let P : Result (List Range) Error → Type 0 =
     λ r. ReturnsAsOrNoMemory (λ (v : Vec Range Global). v.items) c.or_lines.result r in
-    subst P (sym (ranges-found g.R.Offset.ReaderOffset.limit c.args.dwarf.now c.args.unit.now c.args.lines.now
+    subst P (sym (ranges-found c.args.unit.now c.args.lines.now
     (raw_attributes g.R.Reader.view g.R.Offset.ReaderOffset.count c.args.attributes.now) c.in_ok-facts.facts
     c.in_ok-declared.declared.items
     c.in_ok-facts.ensures c.in_ok-declared.ensures)) c.or_lines.ensures

@@ -10,6 +10,6 @@ pub returns : goal.returns
 returns g c =
     let P : Result (List Range) Error → Type 0 =
     λ r. ReturnsAsOrNoMemory (λ (v : Vec Range Global). v.items) c.entry_ranges.result r in
-    subst P (sym (entry_ranges-found g.R.Offset.ReaderOffset.limit c.args.dwarf.now c.args.unit.now
+    subst P (sym (entry_ranges-found c.args.unit.now
     (raw_attributes g.R.Reader.view g.R.Offset.ReaderOffset.count c.args.attributes.now) c.in_ok-facts.facts
     c.in_ok-facts.ensures)) c.entry_ranges.ensures

@@ -7,4 +7,4 @@ abbrev pub invariant-loop-builder : goal.invariant-loop-builder
 invariant-loop-builder g l = RowsSoFar g.R.Offset.ReaderOffset.limit l.fn.rows l.rows l.fn.builder l.builder
 
 abbrev pub decreases-loop-builder : goal.decreases-loop-builder
-decreases-loop-builder g l = bytes_left l.rows.left
+decreases-loop-builder g l = bytes_left l.rows.rest

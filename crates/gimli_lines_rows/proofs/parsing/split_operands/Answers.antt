@@ -1,4 +1,4 @@
-use Rattle.std.proofs.Common.{rules, arith, sym, subst, ap, ◌≡◌, ◌∙◌}
+use Rattle.std.proofs.Common.{rules, arith, sym, subst, ap, ◌∙◌}
 use Rattle.gimli_lines_machine.specs.View.{View}
 use Rattle.gimli_lines_machine.proofs.RefusedCalls.{returns_refused}
 use Rattle.gimli_lines_machine.proofs.StepParts.{read}

@@ -39,10 +39,10 @@ up_to-requires g c =
     let went = path_to_row limit c.loop-before.rows c.advance.new.self _ c.if-branch.true
     c.in_ok-advance.ensures.path in
     let held = path_holds (path_path c.loop-before.invariant.0.path went.0) in
-    let behind : c.instructions-then-end_sequence.result.now ≡ c.advance.new.self.left =
+    let behind : c.instructions-then-end_sequence.result.now ≡ c.advance.new.self.rest =
     c.instructions-then-end_sequence.ensures in
     subst (λ (v : View). Holds v c.instructions-then-end_sequence.result.now) (sym c.loop-before.invariant.1)
-    (subst (λ (w : View). Holds c.args.rows.now.left w) (sym behind) held)
+    (subst (λ (w : View). Holds c.args.rows.now.rest w) (sym behind) held)
 
 pub returns-then-end_sequence : goal.returns-then-end_sequence
 returns-then-end_sequence g c =
@@ -54,8 +54,8 @@ returns-then-end_sequence g c =
     let first : c.unwrap_or.result ≡ unwrap_or c.loop-before.start 0 = search rules in
     piece_found limit c.loop-before.start c.args.rows.now c.loop-before.rows c.advance.new.self _
     c.loop-before.invariant.0 went.0 went.1 is first address
-    (up_to_is c.loop-before.before c.instructions-then-end_sequence.result.now c.args.rows.now.left
-    c.advance.new.self.left c.in_ok-up_to.field-0 c.loop-before.invariant.1 c.instructions-then-end_sequence.ensures
+    (up_to_is c.loop-before.before c.instructions-then-end_sequence.result.now c.args.rows.now.rest
+    c.advance.new.self.rest c.in_ok-up_to.field-0 c.loop-before.invariant.1 c.instructions-then-end_sequence.ensures
     c.in_ok-up_to.ensures)
 
 pub returns-in_err-advance : goal.returns-in_err-advance

@@ -7,10 +7,10 @@ use Rattle.gimli_lines_write_unit.specs.HeaderBytes.{files_bytes}
 use Rattle.gimli_lines_write_unit.proofs.KnownTexts.{All-view, lengths_of_views}
 use Rattle.gimli_lines_write_unit.proofs.header.write_listed_files.Goals as goal
 
-pub write_files-requires-clause-counted : goal.write_files-requires-clause-counted
-write_files-requires-clause-counted g c =
+pub write_files-requires-clause-same_length : goal.write_files-requires-clause-same_length
+write_files-requires-clause-same_length g c =
     lengths_of_views c.files-files.result.now c.infos-infos.result.now c.args.tables.now.files c.args.tables.now.infos
-    c.files-files.ensures c.infos-infos.ensures c.directories-directories.ensures.consistent.counted
+    c.files-files.ensures c.infos-infos.ensures c.directories-directories.ensures.consistent.same_length
 
 pub write_files-requires-clause-paths : goal.write_files-requires-clause-paths
 write_files-requires-clause-paths g c =

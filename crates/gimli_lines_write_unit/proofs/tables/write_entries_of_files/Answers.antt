@@ -28,7 +28,7 @@ returns g c =
     (subst (λ k. Continues c.write_files_of_5.result old new
     (join_bytes (formats c.as_slice.result.now old.is_big) (join_bytes (count k old.is_big) (files old.is_big))))
     (sym (counted_files c.args.strings.now c.args.line_strings.now c.args.details.has_source (text_of c.args.empty.now)
-    c.args.files.now c.args.infos.now c.requires.counted))
+    c.args.files.now c.args.infos.now c.requires.same_length))
     (then_continues c.write_files_of_5.result old (g.W.Writer.contents c.write_formats.new.w) new
     (formats c.as_slice.result.now) (λ b. join_bytes (count (length c.args.files.now) b) (files b))
     c.in_ok-write_formats.ensures

@@ -33,5 +33,5 @@ loop-place-preserved g c =
     c.loop-place.invariant
     (files_next c.args.strings.now c.args.line_strings.now c.args.details.has_source (text_of c.args.empty.now)
     c.args.files.now c.args.infos.now c.loop-place.place c.index-files-place.result c.index-infos-place.result
-    c.loop-place-test.true c.requires.counted c.index-files-place.is c.index-infos-place.is)
+    c.loop-place-test.true c.requires.same_length c.index-files-place.is c.index-infos-place.is)
     (g.W.Writer.contents c.write_file_of_5.new.w) c.in_ok-write_file_of_5.ensures

@@ -28,6 +28,7 @@ loop-place-preserved g c =
     (map file_of (drop c.loop-place.place c.args.files.now)) (map info_of (drop c.loop-place.place c.args.infos.now)))
     c.loop-place.invariant
     (files_next c.args.strings.now c.args.line_strings.now false (in_header []) c.args.files.now c.args.infos.now
-    c.loop-place.place c.index-files-place.result c.index-infos-place.result c.loop-place-test.true c.requires.counted
+    c.loop-place.place c.index-files-place.result c.index-infos-place.result c.loop-place-test.true
+    c.requires.same_length
     c.index-files-place.is c.index-infos-place.is)
     (g.W.Writer.contents c.write_file_to_4.new.w) c.in_ok-write_file_to_4.ensures

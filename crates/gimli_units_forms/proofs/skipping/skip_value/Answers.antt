@@ -12,7 +12,8 @@ returns-in_err-skip_run-in-None g c = λ ways.
 pub returns-in-Some : goal.returns-in-Some
 returns-in-Some g c = λ ways.
     skip_ways-width _ _ c.from.result _ ways _ c.checked_add.result _
-    (omega (arith, c.as_bytes-bytes.ensures.placed.length_fits)) c.in-Some.ensures (search rules) c.checked_add.ensures
+    (omega (arith, c.as_bytes-bytes.ensures.indexable.length_fits)) c.in-Some.ensures (search rules)
+    c.checked_add.ensures
     c.ok_or.ensures.value
 
 pub returns-in_ok-skip_run-in-None : goal.returns-in_ok-skip_run-in-None

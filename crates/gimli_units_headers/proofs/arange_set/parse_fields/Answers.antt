@@ -1,5 +1,5 @@
 -- An address size that was read is one.
-use Rattle.gimli_units_headers.proofs.ByteCountLemmas.{address_size_took}
+use Rattle.gimli_core_readers.proofs.ByteCountLemmas.{address_size_took}
 use Rattle.gimli_units_headers.proofs.arange_set.parse_fields.Goals as goal
 
 pub padding-requires : goal.padding-requires

@@ -10,7 +10,8 @@ pub invariant_of-result : goal.invariant_of-result
 unfolding unit unit_in
 invariant_of-result g c =
     unit_is_well_formed g.R.Offset.ReaderOffset.limit (g.R.Offset.ReaderOffset.count c.args.offset.0)
-    (g.R.Reader.view c.args.input.now) _ (g.R.Reader.view c.split.new.self) c.as_bytes-bytes.ensures.placed.offsets_fit
+    (g.R.Reader.view c.args.input.now) _ (g.R.Reader.view c.split.new.self)
+    c.as_bytes-bytes.ensures.indexable.offsets_fit
     (search rules)
 
 pub returns-in_err-unit_length-clause-free : goal.returns-in_err-unit_length-clause-free

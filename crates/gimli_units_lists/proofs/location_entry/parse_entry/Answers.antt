@@ -1,5 +1,5 @@
 -- Reading an entry never runs out of memory where its bytes need none.
-use Rattle.gimli_units_lists.proofs.FieldMemoryLemmas.{free_answer}
+use Rattle.gimli_core_readers.proofs.MemoryLemmas.{free_answer}
 use Rattle.gimli_units_lists.proofs.ListEntryMemoryLemmas.{free-location_kind, free-location_pair}
 use Rattle.gimli_units_lists.proofs.location_entry.parse_entry.Goals as goal
 

@@ -5,5 +5,5 @@ use Rattle.linemap_check.proofs.outside.any_outside.Given as goal
 
 abbrev pub invariant-loop-item : goal.invariant-loop-item
 invariant-loop-item g l =
-    any_outside (map range_part l.parent) (flat_map g.T.Spanned.ranges l.items)
-    ≡ any_outside (map range_part l.parent) (flat_map g.T.Spanned.ranges (drop l.item-index l.items))
+    any_outside (map range_part l.parent) (flat_map g.T.RangeOwner.ranges l.items)
+    ≡ any_outside (map range_part l.parent) (flat_map g.T.RangeOwner.ranges (drop l.item-index l.items))

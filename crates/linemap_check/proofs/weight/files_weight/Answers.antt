@@ -1,6 +1,6 @@
 use Rattle.linemap_meaning.specs.TableViews.{file_part}
 use Rattle.linemap_meaning.specs.TableWeight.{file_weight}
-use Rattle.linemap_check.proofs.SaturationLemmas.{sum_by_map}
+use Rattle.linemap_check.proofs.PartLists.{sum_by_map}
 use Rattle.linemap_check.proofs.weight.files_weight.Goals as goal
 
 pub returns : goal.returns

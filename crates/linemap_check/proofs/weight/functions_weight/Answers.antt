@@ -1,6 +1,6 @@
 use Rattle.linemap_meaning.specs.TableViews.{function_part}
 use Rattle.linemap_meaning.specs.TableWeight.{function_weight}
-use Rattle.linemap_check.proofs.SaturationLemmas.{sum_by_map}
+use Rattle.linemap_check.proofs.PartLists.{sum_by_map}
 use Rattle.linemap_check.proofs.weight.functions_weight.Goals as goal
 
 pub returns : goal.returns

@@ -5,5 +5,5 @@ use Rattle.linemap_check.proofs.weight.total.Given as goal
 abbrev pub invariant-loop-item : goal.invariant-loop-item
 invariant-loop-item g l =
     (l.sum < 2 ^ 64)
-    × (saturate (sum_by g.T.Weighed.weight l.items)
-    ≡ saturate (l.sum + sum_by g.T.Weighed.weight (drop l.item-index l.items)))
+    × (saturate (sum_by g.T.HasWeight.weight l.items)
+    ≡ saturate (l.sum + sum_by g.T.HasWeight.weight (drop l.item-index l.items)))

@@ -1,4 +1,4 @@
--- What was emitted of the units so far stands there; those that are left fit after it, and then all are emitted.
+-- The emitter holds what is emitted of the units so far; the units to come fit after it, and then all are emitted.
 use Rattle.std.proofs.Common.{◌≡◌, drop, map}
 use Rattle.linemap_table.specs.TableViews.{unit_part}
 use Rattle.linemap_emit_fits.specs.TableEmission.{EmittedTable, with_emitted_units, emitted_table}
@@ -13,6 +13,6 @@ invariant-loop-unit l =
     let is_big = is_big_of l.fn.target in
     let left = map unit_part (drop l.unit-index l.units) in
     (st : EmittedTable)
-    × HoldsTable e is_big st l.emitted
+    × HoldsTable e is_big st l.emitter
     × AllUnitsFit e is_big left st
     × (with_emitted_units e is_big left st ≡ emitted_table e is_big (map unit_part l.units))

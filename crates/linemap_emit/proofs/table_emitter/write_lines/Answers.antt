@@ -2,7 +2,6 @@ use Rattle.std.proofs.Common.{ℕ, ◌<◌, ◌^◌, List, length, map, ap, subs
 use Rattle.linemap_emit_fits.specs.FormatSizes.{word_size}
 use Rattle.linemap_table.specs.TableViews.{file_part, sequence_part, unit_part}
 use Rattle.linemap_table.specs.TableFile.{TableFile}
-use Rattle.linemap_emit_fits.specs.EmittedUnits.{length_limit}
 use Rattle.linemap_emit_fits.specs.WriteResults.{Appends}
 use Rattle.linemap_emit_fits.specs.EmittedHeaders.{spelled_header, spelled_program_body, spelled_program}
 use Rattle.linemap_emit_fits.specs.EmittedPrograms.{files_from, files_of, directories_of}
@@ -10,6 +9,7 @@ use Rattle.linemap_emit_fits.specs.TableEmission.{bytes_if_any}
 use Rattle.linemap_emit.proofs.InstructionBytes.{same_instructions}
 use Rattle.linemap_emit.proofs.ServedEncodings.{below_limit, below_word}
 use Rattle.linemap_emit.proofs.table_emitter.write_lines.Goals as goal
+use Rattle.linemap_emit_fits.specs.NumberBytes.{length_limit}
 
 pub write_program-requires-clause-header : goal.write_program-requires-clause-header
 write_program-requires-clause-header c =

@@ -1,4 +1,4 @@
-use Rattle.linemap_output.proofs.WritingLemmas.{appends_kept, prefix_after, prefix_longer, prefix_whole}
+use Rattle.linemap_output.proofs.WritingLemmas.{appends_then_keeps, prefix_after, prefix_longer, prefix_whole}
 use Rattle.linemap_output.proofs.error_line.write_error_line.Goals as goal
 
 pub returns-in_err-write_text-clause-prefix : goal.returns-in_err-write_text-clause-prefix
@@ -26,4 +26,4 @@ returns-clause-prefix g c =
     prefix_after _ _ _ _ _ c.in_ok-write_text.ensures.whole
     (prefix_after _ _ _ c.args.message.now _ c.in_ok-write_text-2.ensures.whole
     (prefix_after _ _ _ c.args.detail.now _ c.in_ok-write_text-3.ensures.whole
-    (prefix_whole _ _ _ (appends_kept _ _ _ _ c.in_ok-write_text-4.ensures.whole c.flush.ensures))))
+    (prefix_whole _ _ _ (appends_then_keeps _ _ _ _ c.in_ok-write_text-4.ensures.whole c.flush.ensures))))

@@ -1,6 +1,6 @@
 use Rattle.std.proofs.Common.{rules, arith, [], ◌++◌, append_assoc}
 use Rattle.std.proofs.lemmas.List.{append-nil, take_rest, take-append-drop}
-use Rattle.linemap_output.proofs.WritingLemmas.{appends_kept, appends_more, prefix_before}
+use Rattle.linemap_output.proofs.WritingLemmas.{appends_then_keeps, appends_more, prefix_before}
 use Rattle.linemap_output.proofs.writing.write_bytes.Goals as goal
 
 pub returns-in-Ok-eq0-clause-prefix : goal.returns-in-Ok-eq0-clause-prefix
@@ -18,7 +18,8 @@ write-preserved-in-Ok g c =
 pub returns-in_err-interruptions-in-Err-clause-prefix : goal.returns-in_err-interruptions-in-Err-clause-prefix
 returns-in_err-interruptions-in-Err-clause-prefix g c =
     let w = c.write.invariant.written in
-    prefix_before _ _ w.0 c.write.rest.now c.args.bytes.now (appends_kept _ _ _ w.0 w.1 c.in-Err.ensures.bytes) w.2
+    prefix_before _ _ w.0 c.write.rest.now c.args.bytes.now (appends_then_keeps _ _ _ w.0 w.1 c.in-Err.ensures.bytes)
+    w.2
 
 pub returns-clause-prefix : goal.returns-clause-prefix
 returns-clause-prefix g c =

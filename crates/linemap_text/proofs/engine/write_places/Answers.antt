@@ -1,4 +1,4 @@
-use Rattle.std.proofs.Common.{map, string_bytes, subst, sym}
+use Rattle.std.proofs.Common.{map, string_bytes, subst}
 use Rattle.std.specs.Prelude.{OnOk}
 use Rattle.std.specs.Io.KnownBytes.{Appends}
 use Rattle.linemap_output.specs.WriterBytes.{AppendsPrefix}

@@ -8,10 +8,11 @@ use Rattle.linemap_words.specs.declared.request.WordsError.TheVariants.{Memory, 
 use Rattle.linemap_words.proofs.request.read_words.Goals as goal
 
 -- a fault of the parse is a refusal
-fault_refuses : (kinds : Kinds) (found : Option (Text × List Row)) (e : Error) → HasKind kinds e → (error : WordsError)
-    → IsFault error (kind_of e) → IsRefusal error kinds found
-fault_refuses kinds found e has Memory is = tt
-fault_refuses kinds found e has (Fault error) is = elim has [
+fault_refuses : (kinds : Kinds) (matches : Option (Text × List Row)) (e : Error) → HasKind kinds e →
+    (error : WordsError)
+    → IsFault error (kind_of e) → IsRefusal error kinds matches
+fault_refuses kinds matches e has Memory is = tt
+fault_refuses kinds matches e has (Fault error) is = elim has [
   | inl memory ↦ absurd (is.1 memory)
   | inr among ↦ inl (subst (λ k. IsAmong k kinds) (sym is.0) among)
 ]

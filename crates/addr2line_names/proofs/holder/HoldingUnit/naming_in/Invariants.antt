@@ -12,4 +12,4 @@ invariant-loop-specification g l =
     naming_from_place limit l.self attribute_view
     (naming_view g.R.Reader.view g.R.Offset.ReaderOffset.count l.found) l.specifications l.specification-index
     l.entries
-    ≡ naming_in limit l.self (attributes_from limit (map attribute_view l.specifications) l.fn.entries)
+    ≡ naming_in l.self (attributes_from limit (map attribute_view l.specifications) l.fn.entries)

@@ -8,8 +8,8 @@ use Rattle.addr2line_names.proofs.names.KnownUnits.name_of.Goals as goal
 pub returns-in_err-found : goal.returns-in_err-found
 returns-in_err-found g c =
     returns_refused _ c.from_residual.result _ _ c.from_residual.ensures.1
-    (λ ne. name_from_place-refused g.R.Offset.ReaderOffset.limit c.args.holder.now
-    (name_by_reference g.R.Offset.ReaderOffset.limit c.args.self.now most_references c.args.holder.now)
+    (λ ne. name_from_place-refused c.args.holder.now
+    (name_by_reference c.args.self.now most_references c.args.holder.now)
     (raw_attribute_of g.R.Reader.view g.R.Offset.ReaderOffset.count)
     (option_map g.R.Reader.view c.loop-attribute.found) _ c.args.attributes.now c.loop-attribute.attribute-index
     c.attribute-item.result _ c.loop-attribute-test.true c.attribute-item.is
@@ -17,8 +17,8 @@ returns-in_err-found g c =
 
 pub loop-attribute-preserved : goal.loop-attribute-preserved
 loop-attribute-preserved g c =
-    name_from_place-more g.R.Offset.ReaderOffset.limit c.args.holder.now
-    (name_by_reference g.R.Offset.ReaderOffset.limit c.args.self.now most_references c.args.holder.now)
+    name_from_place-more c.args.holder.now
+    (name_by_reference c.args.self.now most_references c.args.holder.now)
     (raw_attribute_of g.R.Reader.view g.R.Offset.ReaderOffset.count)
     (option_map g.R.Reader.view c.loop-attribute.found) _ c.args.attributes.now c.loop-attribute.attribute-index
     c.attribute-item.result _ c.loop-attribute-test.true c.attribute-item.is c.in_ok-found.ensures

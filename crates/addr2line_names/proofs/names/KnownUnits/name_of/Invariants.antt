@@ -10,8 +10,7 @@ abbrev pub invariant-loop-attribute : goal.invariant-loop-attribute
 invariant-loop-attribute g l =
     let view = g.R.Reader.view in
     let count = g.R.Offset.ReaderOffset.count in
-    let limit = g.R.Offset.ReaderOffset.limit in
-    name_from_place limit l.holder (name_by_reference limit l.self most_references l.holder)
+    name_from_place l.holder (name_by_reference l.self most_references l.holder)
     (raw_attribute_of view count)
     (option_map view l.found) l.attributes l.attribute-index
-    ≡ name_of limit l.self l.holder (raw_attributes view count l.attributes)
+    ≡ name_of l.self l.holder (raw_attributes view count l.attributes)

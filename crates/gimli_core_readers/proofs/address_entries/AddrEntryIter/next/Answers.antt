@@ -10,11 +10,11 @@ returns-then-is_empty-clause-order g c =
 pub returns-in-Ok-clause-order : goal.returns-in-Ok-clause-order
 returns-in-Ok-clause-order g c =
     address_comes_next (Ok (Some c.in-Ok.address)) c.args.self.now
-    (record { address_size = c.self.inside.address_size; left = g.R.Reader.view c.read_address.new.self })
+    (record { address_size = c.self.inside.address_size; rest = g.R.Reader.view c.read_address.new.self })
     (search rules) (search rules)
 
 pub returns-in-Err-clause-order : goal.returns-in-Err-clause-order
 returns-in-Err-clause-order g c =
     address_comes_next (Err c.in-Err.fault) c.args.self.now
-    (record { address_size = c.self.inside.address_size; left = g.R.Reader.view c.empty.new.self })
+    (record { address_size = c.self.inside.address_size; rest = g.R.Reader.view c.empty.new.self })
     (search rules) (search rules)

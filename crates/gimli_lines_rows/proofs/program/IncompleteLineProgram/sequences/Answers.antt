@@ -1,7 +1,7 @@
-use Rattle.std.proofs.Common.{rules, ◌≡◌, ◌∙◌, sym, ap, subst, refl, List, []}
+use Rattle.std.proofs.Common.{rules, ◌∙◌, sym, subst, refl, List}
 use Rattle.gimli_lines_header.specs.LineHeaders.{LineHeader}
-use Rattle.gimli_lines_rows.specs.ProgramRows.{RowsLeft, stays}
-use Rattle.gimli_lines_rows.specs.RowSequences.{SequenceLeft, program_rows}
+use Rattle.gimli_lines_rows.specs.ProgramRows.{RemainingRows, stays}
+use Rattle.gimli_lines_rows.specs.RowSequences.{RowSequence, program_rows}
 use Rattle.gimli_lines_rows.proofs.SequenceLoops.{Found, sequences_none, sequences_more, pieces_found_all, sequences_fault, piece_smaller, next_some, next_ended, rows_are, memory_refused}
 use Rattle.gimli_lines_rows.proofs.program.IncompleteLineProgram.sequences.Goals as goal
 
@@ -9,9 +9,9 @@ pub loop-sequences-init : goal.loop-sequences-init
 loop-sequences-init g c =
     let limit = g.R.Offset.ReaderOffset.limit in
     let begun = program_rows c.args.self in
-    subst (λ (t : RowsLeft). Found limit begun t c.new-sequences.result.items)
+    subst (λ (t : RemainingRows). Found limit begun t c.new-sequences.result.items)
     (rows_are begun c.in_ok-rows.rows c.in_ok-rows.ensures)
-    (subst (λ (qs : List SequenceLeft). Found limit begun begun qs) (sym c.new-sequences.ensures.items)
+    (subst (λ (qs : List RowSequence). Found limit begun begun qs) (sym c.new-sequences.ensures.items)
     (sequences_none limit begun (stays begun) refl))
 
 pub loop-sequences-preserved : goal.loop-sequences-preserved
@@ -39,7 +39,7 @@ pub returns-in_err-push : goal.returns-in_err-push
 returns-in_err-push g c =
     memory_refused g.R.Offset.ReaderOffset.limit (λ p. (p.0, p.1.items)) _ c.args.self (search rules)
 
-abbrev as_it_is : LineHeader × List SequenceLeft → LineHeader × List SequenceLeft
+abbrev as_it_is : LineHeader × List RowSequence → LineHeader × List RowSequence
 as_it_is p = p
 
 pub returns : goal.returns

@@ -8,4 +8,4 @@ abbrev pub invariant-loop-sequences : goal.invariant-loop-sequences
 invariant-loop-sequences g l = Found g.R.Offset.ReaderOffset.limit (program_rows l.fn.self) l.rows l.sequences.items
 
 abbrev pub decreases-loop-sequences : goal.decreases-loop-sequences
-decreases-loop-sequences g l = bytes_left l.rows.left
+decreases-loop-sequences g l = bytes_left l.rows.rest

@@ -1,4 +1,4 @@
-use Rattle.std.proofs.Common.{rules, false, true}
+use Rattle.std.proofs.Common.{false, true}
 use Rattle.gimli_lines_rows.specs.ProgramRows.{stays}
 use Rattle.gimli_lines_rows.proofs.LineRowSteps.{step_smaller}
 use Rattle.gimli_lines_rows.proofs.RowPaths.{path_comes, path_shows, path_passes, next_refused, next_none, path_ends, next_step_as, answered_none}

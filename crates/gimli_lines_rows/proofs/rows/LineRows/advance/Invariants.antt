@@ -8,4 +8,4 @@ abbrev pub invariant-loop-is_shown : goal.invariant-loop-is_shown
 invariant-loop-is_shown g l = Path g.R.Offset.ReaderOffset.limit l.fn.self [] l.self
 
 abbrev pub decreases-loop-is_shown : goal.decreases-loop-is_shown
-decreases-loop-is_shown g l = bytes_left l.self.left
+decreases-loop-is_shown g l = bytes_left l.self.rest

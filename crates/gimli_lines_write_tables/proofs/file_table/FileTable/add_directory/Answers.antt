@@ -1,5 +1,6 @@
 use Rattle.std.proofs.Common.{◌≡◌, ◌≢◌, ◌≤◌, [], map, refl, sym, subst, ap, ◌∙◌}
-use Rattle.gimli_lines_write_tables.specs.FileTables.{ProgramFiles, text_of, file_of, info_of, is_same, IsFilled, IsConsistent, with_item}
+use Rattle.gimli_lines_write_tables.specs.FileTables.{ProgramFiles, text_of, file_of, info_of, is_same, HasBytes, IsConsistent}
+use Rattle.gimli_lines_write_tables.specs.StringSections.{with_item}
 use Rattle.gimli_lines_write_tables.proofs.Keys.{equal_is_same, inserted, place_seen}
 use Rattle.gimli_lines_write_tables.proofs.Additions.{consistent_with_directory}
 use Rattle.gimli_lines_write_tables.proofs.file_table.FileTable.add_directory.Goals as goal
@@ -21,8 +22,8 @@ invariant_of-self-2 c =
     (consistent_with_directory c.self.inside.version (map text_of c.self.inside.directories.keys)
     (map file_of c.self.inside.files.keys) (map info_of c.self.inside.infos.items) (text_of c.args.directory)
     c.self.invariant c.requires.zero_free
-    (subst (λ (k : ProgramFiles). k.version ≤ 4 → k.directories ≢ [] → IsFilled (text_of c.args.directory))
-    (sym c.self.view_is) c.requires.filled))
+    (subst (λ (k : ProgramFiles). k.version ≤ 4 → k.directories ≢ [] → HasBytes (text_of c.args.directory))
+    (sym c.self.view_is) c.requires.not_empty))
 
 pub returns-clause-ok : goal.returns-clause-ok
 unfolding directories_then

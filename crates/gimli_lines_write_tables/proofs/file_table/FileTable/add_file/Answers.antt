@@ -3,7 +3,8 @@ use Rattle.std.specs.List.{list_any}
 use Rattle.std.specs.Option.{MatchOption}
 use Rattle.gimli_lines_write_tables.specs.declared.file.FileInfo.{FileInfo}
 use Rattle.std.proofs.lemmas.Result.{IfOk-weaker}
-use Rattle.gimli_lines_write_tables.specs.FileTables.{ProgramFiles, File, Info, text_of, file_of, info_of, is_same_file, with_file, with_info, no_info, item_index}
+use Rattle.gimli_lines_write_tables.specs.FileTables.{ProgramFiles, File, Info, text_of, file_of, info_of, is_same_file, with_file, with_info, no_info}
+use Rattle.gimli_lines_write_tables.specs.StringSections.{item_index}
 use Rattle.gimli_lines_write_tables.proofs.Keys.{equal_is_same_file, any_seen, place_seen, with_new, with_old, position_index, index_of_none}
 use Rattle.gimli_lines_write_tables.proofs.file_table.FileTable.add_file.Goals as goal
 

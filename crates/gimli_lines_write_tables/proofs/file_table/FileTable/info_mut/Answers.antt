@@ -10,7 +10,7 @@ returns c = (
   record {
     value = rw (← c.self.view_is) (slice_get-map info_of c.self.inside.infos.items c.args.id.0
         ∙ ap (option_map info_of) (slice_get-get_or c.self.inside.infos.items c.args.id.0 c.index_mut.result.now
-        (subst (λ n. c.args.id.0 < n) (sym c.self.invariant.counted ∙ length-map c.self.inside.infos.items info_of)
+        (subst (λ n. c.args.id.0 < n) (sym c.self.invariant.same_length ∙ length-map c.self.inside.infos.items info_of)
         (subst (λ (k : ProgramFiles). c.args.id.0 < length k.files) (sym c.self.view_is) c.requires))
         ∙ ap Some (sym c.index_mut.ensures.value)));
     after = tt;

@@ -1,7 +1,7 @@
 use Rattle.std.proofs.Common.{◌≡◌, ◌≤◌, false, [], ◌∷◌, ◌++◌, map, refl, sym, subst, ap, ◌∙◌}
 use Rattle.std.specs.List.{list_any}
 use Rattle.std.proofs.lemmas.List.{map-append}
-use Rattle.gimli_lines_write_tables.specs.FileTables.{ProgramFiles, text_of, file_of, info_of, is_same_file, IsFilled}
+use Rattle.gimli_lines_write_tables.specs.FileTables.{ProgramFiles, text_of, file_of, info_of, is_same_file, HasBytes}
 use Rattle.gimli_lines_write_tables.proofs.Keys.{equal_is_same_file, inserted, with_new}
 use Rattle.gimli_lines_write_tables.proofs.Additions.{consistent_with_file}
 use Rattle.gimli_lines_write_tables.proofs.file_table.FileTable.push_file.Goals as goal
@@ -33,8 +33,8 @@ invariant_of-self-in-Ok c =
     (consistent_with_file c.self.inside.version (map text_of c.self.inside.directories.keys)
     (map file_of c.self.inside.files.keys) (map info_of c.self.inside.infos.items) (file_of c.args.key)
     (info_of c.args.info) c.self.invariant c.requires.zero_free
-    (subst (λ (k : ProgramFiles). k.version ≤ 4 → IsFilled (text_of c.args.key.path)) (sym c.self.view_is)
-    c.requires.filled))
+    (subst (λ (k : ProgramFiles). k.version ≤ 4 → HasBytes (text_of c.args.key.path)) (sym c.self.view_is)
+    c.requires.not_empty))
 
 pub returns-in-Ok-clause-ok : goal.returns-in-Ok-clause-ok
 unfolding files_then infos_then

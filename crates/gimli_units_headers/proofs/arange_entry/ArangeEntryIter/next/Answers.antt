@@ -20,7 +20,7 @@ returns-in-Some-2-clause-order g c =
 
 pub loop-raw-smaller : goal.loop-raw-smaller
 loop-raw-smaller g c =
-    pair_smaller c.loop-raw.self.address_size c.loop-raw.self.left c.in-Some.raw c.next_raw.new.self.left
+    pair_smaller c.loop-raw.self.address_size c.loop-raw.self.rest c.in-Some.raw c.next_raw.new.self.rest
     c.in_ok-raw.ensures.address (search rules)
 
 pub loop-raw-preserved : goal.loop-raw-preserved

@@ -12,4 +12,4 @@ invariant-loop-raw g l = record {
 }
 
 abbrev pub decreases-loop-raw : goal.decreases-loop-raw
-decreases-loop-raw g l = bytes_left l.self.left
+decreases-loop-raw g l = bytes_left l.self.rest

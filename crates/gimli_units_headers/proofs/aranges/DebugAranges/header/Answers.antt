@@ -1,6 +1,6 @@
 -- A part looked up by its offset is the one that the section has there.
 use Rattle.std.proofs.Common.{rules}
-use Rattle.gimli_units_headers.proofs.TilingLemmas.{lookup_is_part}
+use Rattle.gimli_core_readers.proofs.TilingLemmas.{lookup_is_part}
 use Rattle.gimli_units_headers.proofs.ArangeSetLemmas.{sets_are_parts}
 use Rattle.gimli_units_headers.proofs.aranges.DebugAranges.header.Goals as goal
 

@@ -1,6 +1,6 @@
 -- The sets of a section lie end to end, and there are no more of them than bytes.
 use Rattle.std.proofs.Common.{rules, Ok}
-use Rattle.gimli_units_headers.proofs.TilingLemmas.{tile_in, few_in}
+use Rattle.gimli_core_readers.proofs.TilingLemmas.{tile_in, few_in}
 use Rattle.gimli_units_headers.proofs.ArangeSetLemmas.{sets_are_parts}
 use Rattle.gimli_units_headers.proofs.aranges.DebugAranges.headers.Goals as goal
 
@@ -9,7 +9,7 @@ returns-clause-tile g c =
     tile_in (sets_are_parts g.R.Offset.ReaderOffset.limit) c.args.self.now
     (Ok
     (record
-    { section_length = g.R.Offset.ReaderOffset.count c.len.result; left = g.R.Reader.view c.in_ok-copy.field-0 }))
+    { section_length = g.R.Offset.ReaderOffset.count c.len.result; rest = g.R.Reader.view c.in_ok-copy.field-0 }))
     (search rules)
 
 pub returns-clause-few : goal.returns-clause-few
@@ -17,5 +17,5 @@ returns-clause-few g c =
     few_in (sets_are_parts g.R.Offset.ReaderOffset.limit) c.args.self.now
     (Ok
     (record
-    { section_length = g.R.Offset.ReaderOffset.count c.len.result; left = g.R.Reader.view c.in_ok-copy.field-0 }))
+    { section_length = g.R.Offset.ReaderOffset.count c.len.result; rest = g.R.Reader.view c.in_ok-copy.field-0 }))
     (search rules)

@@ -1,6 +1,6 @@
 -- Behind a unit there are no more bytes than before it; and each answer is what was to come.
 use Rattle.std.proofs.Common.{rules, Ok, Err, Some, None, refl}
-use Rattle.gimli_units_headers.proofs.TilingLemmas.{part_leaves_within, part_comes_next}
+use Rattle.gimli_core_readers.proofs.TilingLemmas.{part_leaves_within, part_comes_next}
 use Rattle.gimli_units_headers.proofs.UnitHeaderLemmas.{units_are_parts}
 use Rattle.gimli_units_headers.proofs.info.DebugInfoUnitHeadersIter.next.Goals as goal
 
@@ -19,7 +19,7 @@ returns-in-Ok-clause-order g c =
     part_comes_next (units_are_parts g.R.Offset.ReaderOffset.limit) (Ok (Some c.in-Ok.header)) c.args.self.now
     (record {
       section_length = g.R.Offset.ReaderOffset.count c.self.inside.section_len;
-      left = g.R.Reader.view
+      rest = g.R.Reader.view
           c.parse_unit_header.new.input;
     })
     (search rules) (search rules)
@@ -29,7 +29,7 @@ returns-clause-order g c =
     part_comes_next (units_are_parts g.R.Offset.ReaderOffset.limit) (Err c.in-Err.fault) c.args.self.now
     (record {
       section_length = g.R.Offset.ReaderOffset.count c.self.inside.section_len;
-      left = g.R.Reader.view
+      rest = g.R.Reader.view
           c.empty.new.self;
     })
     (search rules) (search rules)

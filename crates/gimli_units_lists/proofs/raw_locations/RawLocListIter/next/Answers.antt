@@ -14,7 +14,7 @@ returns-in-Ok-Some-clause-next g c =
     (record {
       encoding = c.self.inside.encoding;
       by_kind = c.self.inside.by_kind;
-      left = g.R.Reader.view
+      rest = g.R.Reader.view
           c.parse_entry.new.input;
     })
     (raw_location g.R.Reader.view g.R.Offset.ReaderOffset.count c.in-Ok-Some.entry)
@@ -26,7 +26,7 @@ returns-in-Ok-None-clause-next g c = (
       (search rules),
   raw_none g.R.Offset.ReaderOffset.limit
       (record
-      { encoding = c.self.inside.encoding; by_kind = c.self.inside.by_kind; left = g.R.Reader.view c.empty.new.self })
+      { encoding = c.self.inside.encoding; by_kind = c.self.inside.by_kind; rest = g.R.Reader.view c.empty.new.self })
       (search rules),
 )
 
@@ -36,7 +36,7 @@ returns-clause-next g c = (
       (record {
         encoding = c.self.inside.encoding;
         by_kind = c.self.inside.by_kind;
-        left = g.R.Reader.view
+        rest = g.R.Reader.view
             c.empty-in-Err.new.self;
       })
       c.in-Err.fault (record { encoding = search rules; by_kind = search rules }) (search rules) (search (rules, ne))

@@ -1,5 +1,5 @@
 -- The address of an index takes no memory.
-use Rattle.gimli_units_lists.proofs.FieldMemoryLemmas.{free_answer, free-address_at}
+use Rattle.gimli_core_readers.proofs.MemoryLemmas.{free_answer, free-address_at}
 use Rattle.gimli_units_lists.proofs.resolver.Resolver.address.Goals as goal
 
 pub returns-clause-free : goal.returns-clause-free
