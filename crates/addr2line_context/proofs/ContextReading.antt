@@ -18,7 +18,7 @@ append_to-none : {C : Type 0} (r : Result (List C) Error) → append_to [] r ≡
 append_to-none (Ok ys) = refl
 append_to-none (Err e) = refl
 
--- all that was read, unless a fault stands after it
+-- all that was read, unless a fault comes after it
 abbrev pub unless_after : {C : Type 0} → Option Error → Result (List C) Error → Result (List C) Error
 unless_after fault r = and_then r (λ ys. unless fault (Ok ys))
 

@@ -39,7 +39,7 @@ swap true false x y zs h = refl
 swap false second x y zs h = refl
 
 module _ {X : Type 0} (n : X → ℕ) where
-  -- an element stands after those of lower numbers
+  -- an element is after those of lower numbers
   abbrev pub by_number : X → X → Bool
   by_number x y = nat_lt (n y) (n x)
 

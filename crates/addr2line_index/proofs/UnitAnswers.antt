@@ -50,7 +50,7 @@ module _ {U : Type 0} (ranges : U → List Range) (P : Pair U → Type 0) where
   Each-pairs_of n u (r ∷ rs) h = (h r, Each-pairs_of n u rs h)
 
 module _ {U : Type 0} (ranges : U → List Range) where
-  -- the unit of a pair stands at its number
+  -- the unit of a pair is at its number
   abbrev pub IsAt : List U → Pair U → Type 0
   IsAt all p = slice_get all p.number ≡ Some p.unit
 

@@ -1,4 +1,4 @@
--- How deep the entries below a function stand, and in which others.
+-- How deep the entries below a function are, and in which others.
 use Rattle.std.proofs.Common.{◌≡◌, ℕ, zero, suc, ◌+◌, ℤ, pos, ◌+ℤ◌, ◌≤ℤ◌, ◌<ℤ◌, int_lt, Bool, true, false, cond, List, [], ◌∷◌, length, Option, Some, None, Result, Ok, Err, All, refl, sym, ap, subst, ◌∙◌, arith}
 use Rattle.std.specs.List.{list_all}
 use Rattle.std.proofs.lemmas.Int.{ints}
@@ -31,7 +31,7 @@ not_lt_is a b h = grind (arith, ints)
 
 -- ---- one row
 
--- a row stands at its walk's depth, and the next one a level deeper at most, where the row has children
+-- a row is at its walk's depth, and the next one a level deeper at most, where the row has children
 pub record Leads (w : Walk) (r : Row) (t : Walk) : Type 0 where
   pub at : r.depth ≡ w.depth
   pub level : t.depth ≤ℤ (w.depth +ℤ pos 1)
@@ -77,7 +77,7 @@ pub enclosing_rows-more : (d : ℤ) (r : Row) (before : List Row) → r.depth <�
 enclosing_rows-more d r before h =
     ap (λ b. cond b (r ∷ enclosing_rows r.depth before) (enclosing_rows d before)) (lt_from r.depth d h)
 
--- an entry of a depth would stand in as many as it says
+-- an entry of a depth would be in as many as it says
 pub record IsDepth (d : ℤ) (outer : List Row) : Type 0 where
   pub as_deep : d ≡ pos (length outer + 1)
   pub all_open : list_all (λ r. r.has_children) outer ≡ true

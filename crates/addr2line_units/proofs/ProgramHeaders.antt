@@ -23,7 +23,7 @@ ended_items (Err e) l = refl
 
 -- ---- one instruction
 
--- an instruction and its files stand before the others
+-- an instruction and its files come before the others
 files_of_first : (takes_files : Bool) (i : InstructionOf FileFacts) (rest : List (InstructionOf FileFacts))
     (h : LineHeader)
     → with_files takes_files (defined_files (i ∷ rest)) h

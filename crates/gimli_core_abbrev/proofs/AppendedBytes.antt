@@ -25,7 +25,7 @@ use Rattle.gimli_core_abbrev.specs.TableLaws.{with_more_bytes}
 abbrev pub NotCut : {A : Type 0} → Result A Error → Type 0
 NotCut r = (id : ReaderOffsetId) → r ≢ Err (UnexpectedEof id)
 
--- the same value, with the bytes behind what is left
+-- the same value, with the bytes after what is left
 abbrev pub with_more : {A : Type 0} → List ℕ → Result (A × View) Error → Result (A × View) Error
 with_more more (Ok r) = Ok (r.0, with_more_bytes more r.1)
 with_more more (Err e) = Err e
@@ -177,7 +177,7 @@ pub ruleset stays = (
   Stays-signed,
 )
 
--- ---- what stands end to end
+-- ---- what lies end to end
 
 abbrev pub ending_with : List ℕ → Result View Error → Result View Error
 ending_with more (Ok w) = Ok (with_more_bytes more w)

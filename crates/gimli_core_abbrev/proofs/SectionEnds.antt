@@ -1,4 +1,4 @@
--- What bytes behind a section change of a table that stands in it.
+-- What bytes after a section change of a table that is in it.
 use Rattle.std.proofs.Common.{◌≡◌, ◌≢◌, ◌⊎◌, ℕ, zero, suc, ◌+◌, ◌<◌, ◌≤◌, Bool, true, false, cond, ◌||◌, eqb, ltb, is_some, subst, List, [], ◌∷◌, ◌++◌, length, Option, Some, None, Result, Ok, Err, refl, sym, ap, ◌∙◌, inl, inr, arith, append_assoc, append-nil}
 use Rattle.std.specs.Prelude.{◌^◌, IsOk, IsErr, is_ok}
 use Rattle.std.specs.Result.{is_err}
@@ -239,7 +239,7 @@ is_read : (l : Listing View Declaration) (w : View) → repeated_code l.items �
 is_read l w e f =
     ap (λ (o : Option ℕ). answered o l.items l.ending) e ∙ ap (λ (r : Result View Error). answered None l.items r) f
 
--- the first code that stands twice is the same, whatever follows
+-- the first code that occurs twice is the same, whatever follows
 repeated-append : (before ds rest : List Declaration) (code : ℕ) → repeated_after before ds ≡ Some code
     → repeated_after before (ds ++ rest) ≡ Some code
 repeated-append before [] rest code e = absurd cc
@@ -314,7 +314,7 @@ table_at-beyond : (offset : ℕ) (section : View) → length section.bytes < off
     → table_at offset section ≡ Err (unexpected_end section)
 table_at-beyond offset section beyond = rw (lt-ltb (length section.bytes) offset beyond) refl
 
--- the same with bytes behind
+-- the same with bytes after it
 table_at-more : (offset : ℕ) (section : View) (more : List ℕ) → offset ≤ length section.bytes
     → table_at offset (with_more_bytes more section) ≡ answer (all (with_more_bytes more (after offset section)))
 table_at-more offset section more fits =

@@ -1,4 +1,4 @@
--- A LEB128 string is no longer than the bytes that it stands in.
+-- A LEB128 string is no longer than the bytes that it is in.
 use Rattle.std.proofs.Common.{◌≡◌, ℕ, ℤ, ◌≤◌, Bool, true, false, cond, List, length, Option, Some, None, option_map, Result, Ok, Err, refl, ap, arith}
 use Rattle.gimli_core_base.specs.declared.leb128.Fault.{Fault}
 use Rattle.gimli_core_base.specs.declared.leb128.Fault.TheVariants.{Bad}

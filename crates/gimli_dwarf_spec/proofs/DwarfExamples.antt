@@ -19,7 +19,7 @@ attribute name value = record { name = name; form = 0; value = value }
 
 -- ---- bases
 
--- a main file's tables are named, or begin where their sections do; those of a split file stand after one header
+-- a main file's tables are named, or begin where their sections do; those of a split file come after one header
 no_bases : bases_of Main (encoding 5) []
     ≡ record {
       encoding = encoding 5;

@@ -10,7 +10,7 @@ use Rattle.gimli_lines_write_bytes.specs.NumberParsers.{fixed, unsigned, signed}
 use Rattle.gimli_lines_write_bytes.specs.Spelling.{unsigned_within, unsigned_string, signed_string}
 use Rattle.gimli_lines_write_bytes.proofs.NumberRoundTrip.{unsigned_reads_back, signed_reads_back, fixed_reads_back, length-spelled}
 
--- after so many bytes, where others stand
+-- after n bytes, where others are
 abbrev pub view_after : View → ℕ → List ℕ → View
 view_after v n rest = record { bytes = rest; is_big = v.is_big; first = v.first + n }
 

@@ -135,7 +135,7 @@ fields_stand limit e is_big d f stands =
 abbrev formats_for : Bool → Format → Details → WrittenFile → List FileEntryFormat
 formats_for is_big format d f = map format_of (file_fields is_big format d f)
 
--- the fields have the formats that stand before the entries
+-- the fields have the formats that come before the entries
 formats_are : (is_big : Bool) (format : Format) (d : Details) (f : WrittenFile) → formats_for is_big format d f
     ≡ file_formats d (form_of f.path) (form_of f.source)
 formats_are is_big format d f = by d.has_timestamp d.has_size d.has_md5 d.has_source

@@ -63,7 +63,7 @@ format_again is_big first f stands =
     (small_again is_big (first + length (unsigned_string f.content_type.0)) f.form.0 stands.2)
     (λ v. ap (λ n. Ok (field_format n f.form.0, v)) stands.0))
 
--- the same wherever they stand
+-- the same wherever they are
 same_format : ℕ → FileEntryFormat → FileEntryFormat
 same_format first f = f
 

@@ -47,7 +47,7 @@ empty_known s l (Some (in_header bytes)) = tt
 empty_known s l (Some (of_strings place)) = place_within s []
 empty_known s l (Some (of_line_strings place)) = place_within l []
 
--- what was known is known after the empty text, which stands where there is none
+-- what was known is known after the empty text, which is there where there is none
 pub known_with_longer : (s l : List (List ℕ)) (k : ProgramFiles) (d : FileDetails) → AllKnown s l k d (in_header [])
     → AllKnown (strings_after (empty_form_of k d) s) (line_strings_after (empty_form_of k d) l) k d
     (empty_text s l (empty_form_of k d))

@@ -69,7 +69,7 @@ pub next_view : {A B : Type 0} (see : A → B) (xs : List A) (i : ℕ) (d : A) �
     ≡ see (get_or xs i d) ∷ map see (drop (i + 1) xs)
 next_view see xs i d h = ap (map see) (next_drop xs i d h)
 
--- the same, of an item that stands there
+-- the same, of an item that is there
 pub item_view : {A B : Type 0} (see : A → B) (xs : List A) (i : ℕ) (x : A) → i < length xs → x ≡ get_or xs i x
     → map see (drop i xs) ≡ see x ∷ map see (drop (i + 1) xs)
 item_view see xs i x h is = next_view see xs i x h ∙ ap (λ y. see y ∷ map see (drop (i + 1) xs)) (sym is)

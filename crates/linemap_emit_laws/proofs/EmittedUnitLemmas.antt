@@ -42,7 +42,7 @@ root_fits limit e name directory line_program range_list wide fit = (
   ),
 )
 
--- a unit, where what was emitted after it stands after
+-- a unit, where what was emitted after it comes after
 unit_recorded : (e : Encoding) (is_big : Bool) (u : UnitPart) (st final : EmittedTable) (s : DwarfFile)
     → IsServed e → 2 ^ 31 ≤ s.offset_limit → IsInUtf8 u → UnitFits e is_big u st → HoldTable e is_big final s
     → All HasNoZero final.texts → Extends (with_emitted_unit e is_big u st) final

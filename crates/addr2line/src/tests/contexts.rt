@@ -363,7 +363,7 @@ fn fault(alloc: Global, file: File) -> Option<Error> {
     context_of(alloc, file).err()
 }
 
-// Lines that are refused are so where they are asked, behind what comes before them, and again.
+// Lines that are refused are so where they are asked, after what comes before them, and again.
 #[test]
 fn refusals(rt: HostRuntime) -> Result<(), Fail> {
     let alloc = rt.alloc();

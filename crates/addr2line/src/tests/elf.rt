@@ -366,7 +366,7 @@ fn the_symbol_of_the_greatest_address_holds(rt: HostRuntime) -> Result<(), Fail>
             assert_eq!(rt; place, begin);
         }
     }
-    // They stand in a section of one of two types.
+    // They are in a section of one of two types.
     assert!(rt; has_symbol(rt.alloc(), 11)?);
     assert!(rt; !has_symbol(rt.alloc(), 1)?);
     Ok(())

@@ -67,7 +67,7 @@ fn functions_of_one_unit(rt: HostRuntime) -> Result<(), Fail> {
         assert_eq!(rt; functions.find_address(probe), number, "at {probe}");
     }
     assert!(rt; functions.function_at(0x57).is_some());
-    // A fault behind a function refuses all.
+    // A fault after a function refuses all.
     let fault = functions_in(rt.alloc(), UNKNOWN_CODE).err();
     assert_eq!(rt; fault, Some(Error::InvalidAbbreviationCode(9)));
     Ok(())
@@ -229,7 +229,7 @@ fn frames_at(alloc: Global, probe: u64) -> Result<Vec<Part>, Error> {
     parts_of(alloc, frames)
 }
 
-// The innermost call is first; each frame further out stands where it calls.
+// The innermost call is first; each frame further out is where it calls.
 #[test]
 fn frames_of_addresses(rt: HostRuntime) -> Result<(), Fail> {
     let nested: [Part; 4] = [

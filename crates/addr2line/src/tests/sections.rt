@@ -60,7 +60,7 @@ const FILE: [(SectionId, &[u8]); 9] = [
     ),
 ];
 
-// What stands in one of these sections, nothing where it isn't among them.
+// The bytes of one of these sections, none where it isn't among them.
 fn bytes_of<'a>(sections: &[(SectionId, &'a [u8])], id: SectionId) -> &'a [u8] {
     for (section, bytes) in sections {
         if *section == id {
