@@ -5,6 +5,10 @@ pub use Rattle.addr2line_context.specs.PlaceLookups
 pub use Rattle.addr2line_context.specs.Orders
 pub use Rattle.addr2line_context.specs.Pairs
 pub use Rattle.addr2line_context.specs.Contexts
+pub use Rattle.addr2line_context.specs.FirstAnswers
+pub use Rattle.addr2line_context.specs.Histories
+pub use Rattle.addr2line_context.specs.Lookups
+pub use Rattle.addr2line_context.specs.OptionalValues
 pub use Rattle.addr2line_context.specs.FileTexts
 pub use Rattle.addr2line_context.specs.UnitLines
 pub use Rattle.addr2line_context.specs.UnitRanges
@@ -12,7 +16,7 @@ pub use Rattle.addr2line_context.specs.BorrowedLocations
 pub use Rattle.addr2line_context.specs.Stretches
 pub use Rattle.addr2line_context.specs.UnitPlaces
 pub use Rattle.addr2line_context.specs.StretchesLeft
-pub use Rattle.addr2line_context.specs.FileContexts
+pub use Rattle.addr2line_context.specs.MainFiles
 pub use Rattle.addr2line_context.specs.RangeItems
 pub use Rattle.addr2line_context.specs.EntryRanges
 pub use Rattle.addr2line_context.specs.Functions

@@ -13,7 +13,7 @@ use Rattle.addr2line_units.specs.DwarfFiles.{DwarfFile, supplement}
 use Rattle.addr2line_units.specs.UnitFacts.{UnitFacts, UnitInFile, root}
 use Rattle.addr2line_units.specs.Lines.{Lines}
 use Rattle.addr2line_units.specs.PlaceLookups.{location_at}
-use Rattle.addr2line_units.specs.Contexts.{ContextUnit, Context, ranges_of, lines_of, unit_of_root, context_unit, units_of_file, units_of_supplement, context}
+use Rattle.addr2line_units.specs.Contexts.{ContextUnit, Context, ranges_of, lines_of, unit_of_root, partial_unit, unit_of_entry, context_unit, units_of_file, units_of_supplement, context, FileContext, file_context, all_lines, all_lines_or_refusal}
 use Rattle.addr2line_units.specs.UnitLines.{lines_of_unit}
 use Rattle.addr2line_units.specs.UnitRanges.{ranges_of_attributes, language_in, is_partial}
 use Rattle.addr2line_units.specs.UnitRange.{UnitRange}
@@ -22,7 +22,6 @@ use Rattle.addr2line_units.specs.NumberedRanges.{covering_ranges}
 use Rattle.addr2line_units.specs.UnitPlaces.{answer_of, answer_at}
 use Rattle.addr2line_units.proofs.UnitAnswers.{location_by_numbers}
 use Rattle.addr2line_units.proofs.UnitViews.{places_of_views}
-use Rattle.addr2line_context.specs.FileContexts.{FileContext, file_context, all_lines, all_lines_or_refusal}
 use Rattle.addr2line_context.specs.ContextUnits.{unit_places, ordered_ranges}
 
 -- ---- a unit
@@ -35,9 +34,6 @@ abbrev with_ranges : UnitFacts → Result Lines Error → List RawAttribute → 
 with_ranges u lines attributes ranges =
     Ok (record { facts = u; ranges = ranges; language = language_in attributes; lines = lines })
 
-abbrev with_root : UnitInFile → Result Lines Error → Row → Result ContextUnit Error
-with_root u lines r = unit_of_root u lines r.attributes
-
 module _ (u : UnitInFile) (lines : Result Lines Error) where
   -- refused ranges refuse a unit
   pub ranges_refused : (attributes : List RawAttribute) (e : Error)
@@ -46,22 +42,22 @@ module _ (u : UnitInFile) (lines : Result Lines Error) where
 
   -- so does a refused root
   pub root_refused : (e : Error) → root u.file.offset_limit u.facts.header u.facts.table ≡ Err e
-      → and_then (root u.file.offset_limit u.facts.header u.facts.table) (with_root u lines) ≡ Err e
-  root_refused e h = ap (λ r. and_then r (with_root u lines)) h
+      → and_then (root u.file.offset_limit u.facts.header u.facts.table) (λ r. unit_of_entry u lines r) ≡ Err e
+  root_refused e h = ap (λ r. and_then r (λ x. unit_of_entry u lines x)) h
 
-  abbrev unit_unless_partial : Bool → Result Lines Error → Result ContextUnit Error
-  unit_unless_partial b lines =
-      if b then Ok (record { facts = u.facts; ranges = []; language = None; lines = lines })
-      else and_then (root u.file.offset_limit u.facts.header u.facts.table) (with_root u lines)
-
-  -- a unit that isn't partial
-  pub not_partial : (b : Bool) → b ≡ is_partial u.facts.header.kind → b ≡ false
-      → ok_lines (lines_of_unit u) ≡ ok_lines lines
-      → and_then (root u.file.offset_limit u.facts.header u.facts.table) (with_root u lines) ≡ context_unit u
-  not_partial b is not same =
+  -- a unit with its lines
+  pub unit_with_lines : ok_lines (lines_of_unit u) ≡ ok_lines lines
+      → and_then (root u.file.offset_limit u.facts.header u.facts.table) (λ r. unit_of_entry u lines r)
+      ≡ context_unit u
+  unit_with_lines same =
       let of_unit : lines ≡ lines_of_unit u = cc in
-      ap (λ c. unit_unless_partial c lines) (sym not ∙ is)
-      ∙ ap (unit_unless_partial (is_partial u.facts.header.kind)) of_unit
+      ap (λ l. and_then (root u.file.offset_limit u.facts.header u.facts.table) (λ r. unit_of_entry u l r)) of_unit
+
+  -- one that isn't partial
+  pub not_partial : (r : Row) (b : Bool) → b ≡ is_partial u.facts.header.kind r.tag → b ≡ false
+      → unit_of_root u lines r.attributes ≡ unit_of_entry u lines r
+  not_partial r b is not =
+      ap (λ c. if c then Ok (partial_unit u.facts lines) else unit_of_root u lines r.attributes) (sym not ∙ is)
 
 -- ---- answers
 

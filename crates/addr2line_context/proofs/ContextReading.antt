@@ -8,7 +8,7 @@ use Rattle.addr2line_units.specs.Repetition.{Listing, prepend, fault_of}
 use Rattle.addr2line_units.specs.View.{View}
 use Rattle.addr2line_units.specs.Iterators.{ComesNext}
 use Rattle.addr2line_units.specs.Results.{and_then, some_of, unless, each}
-use Rattle.addr2line_context.specs.ContextUnits.{if_any}
+use Rattle.addr2line_units.specs.OptionalValues.{if_any}
 
 -- what comes after a list
 abbrev pub append_to : {C : Type 0} → List C → Result (List C) Error → Result (List C) Error
@@ -70,10 +70,10 @@ comes_next : {A : Type 0} (o : Option A) (x : A) (old new : Listing View A) → 
 comes_next None x old new is h = cc
 comes_next (Some y) x old new is h = let same : y ≡ x = cc in h ∙ ap (λ z. prepend (z ∷ []) new) same
 
-module _ {A B C : Type 0} (kept : A → Option B) (read : B → Result C Error) where
+module _ {A B C : Type 0} (choose : A → Option B) (read : B → Result C Error) where
   -- what is read of those that are kept, or the first refusal, or the fault that ends the listing
   abbrev pub read_all : Listing View A → Result (List C) Error
-  read_all l = unless_after (fault_of l) (each read (filter_map kept l.items))
+  read_all l = unless_after (fault_of l) (each read (filter_map choose l.items))
 
   -- before the first
   pub read_start : (old new : Listing View A) (xs : List C) → xs ≡ [] → old ≡ new
@@ -84,24 +84,24 @@ module _ {A B C : Type 0} (kept : A → Option B) (read : B → Result C Error) 
   -- one more
   pub read_more : (old new : Listing View A) (o : Option A) (x : A) (u : Option C) (xs ys : List C) → o ≡ Some x
       → ComesNext (Ok o) old new
-      → if_any read (kept x) ≡ Ok u → ys ≡ xs ++ option_to_list u → (whole : Result (List C) Error)
+      → if_any read (choose x) ≡ Ok u → ys ≡ xs ++ option_to_list u → (whole : Result (List C) Error)
       → append_to xs (read_all old) ≡ whole
       → append_to ys (read_all new) ≡ whole
   read_more old new o x u xs ys is h one pushed whole so_far =
       ap (λ zs. append_to zs (read_all new)) pushed
-      ∙ sym (push_if_any read xs u (kept x) (filter_map kept new.items) (fault_of new) one)
+      ∙ sym (push_if_any read xs u (choose x) (filter_map choose new.items) (fault_of new) one)
       ∙ sym (ap (λ l. append_to xs (read_all l)) (comes_next o x old new is h))
       ∙ so_far
 
   -- a refusal of one refuses all
   pub read_refused : (old new : Listing View A) (o : Option A) (x : A) (e : Error) (xs : List C) → o ≡ Some x
       → ComesNext (Ok o) old new
-      → if_any read (kept x) ≡ Err e → (whole : Result (List C) Error) → append_to xs (read_all old) ≡ whole
+      → if_any read (choose x) ≡ Err e → (whole : Result (List C) Error) → append_to xs (read_all old) ≡ whole
       → whole ≡ Err e
   read_refused old new o x e xs is h one whole so_far =
       sym so_far
       ∙ ap (λ l. append_to xs (read_all l)) (comes_next o x old new is h)
-      ∙ refuse_if_any read xs e (kept x) (filter_map kept new.items) (fault_of new) one
+      ∙ refuse_if_any read xs e (choose x) (filter_map choose new.items) (fault_of new) one
 
 -- ---- where nothing is refused
 
@@ -116,6 +116,6 @@ pub if_any_ok : {B : Type 0} (o : Option B) → if_any ok_of o ≡ Ok o
 if_any_ok None = refl
 if_any_ok (Some x) = refl
 
-pub read_ok : {A B : Type 0} (kept : A → Option B) (l : Listing View A)
-    → read_all kept ok_of l ≡ unless (fault_of l) (Ok (filter_map kept l.items))
-read_ok kept l = ap (unless_after (fault_of l)) (each_ok (filter_map kept l.items))
+pub read_ok : {A B : Type 0} (choose : A → Option B) (l : Listing View A)
+    → read_all choose ok_of l ≡ unless (fault_of l) (Ok (filter_map choose l.items))
+read_ok choose l = ap (unless_after (fault_of l)) (each_ok (filter_map choose l.items))

@@ -1,9 +1,9 @@
 -- The units of a context, and what lookups use of them.
-use Rattle.std.specs.Prelude.{List, map, Option, Some, None, Result, Ok}
+use Rattle.std.specs.Prelude.{List, map, Result, Ok}
 use Rattle.std.specs.List.{filter_map}
 use Rattle.addr2line_units.specs.Error.{Error}
 use Rattle.addr2line_units.specs.Repetition.{fault_of}
-use Rattle.addr2line_units.specs.Results.{some_of, unless}
+use Rattle.addr2line_units.specs.Results.{unless}
 use Rattle.addr2line_units.specs.DwarfFiles.{DwarfFile}
 use Rattle.addr2line_units.specs.UnitFacts.{UnitFacts, unit_facts}
 use Rattle.addr2line_units.specs.Contexts.{ContextUnit, readable_facts, headers_of}
@@ -11,11 +11,6 @@ use Rattle.addr2line_units.specs.UnitRange.{UnitRange}
 use Rattle.addr2line_units.specs.UnitPlaces.{UnitPlaces, ranges_in_order}
 
 -- ---- reading
-
--- what is read of something, if there is something, or the refusal
-abbrev pub if_any : {X Y : Type 0} → (X → Result Y Error) → Option X → Result (Option Y) Error
-if_any read None = Ok None
-if_any read (Some x) = some_of (read x)
 
 -- the units of a file that can be read, of types too, or the fault of a header
 abbrev pub readable_units : DwarfFile → Result (List UnitFacts) Error

@@ -5,6 +5,10 @@ pub use Rattle.addr2line_units.specs.UnitPlaces
 pub use Rattle.addr2line_units.specs.FilePaths
 pub use Rattle.addr2line_units.specs.Choice
 pub use Rattle.addr2line_units.specs.Contexts
+pub use Rattle.addr2line_units.specs.FirstAnswers
+pub use Rattle.addr2line_units.specs.Histories
+pub use Rattle.addr2line_units.specs.Lookups
+pub use Rattle.addr2line_units.specs.OptionalValues
 pub use Rattle.addr2line_units.specs.EntryRanges
 pub use Rattle.addr2line_units.specs.FileTexts
 pub use Rattle.addr2line_units.specs.FrameLookups
@@ -23,6 +27,6 @@ pub use Rattle.addr2line_units.specs.Error
 pub use Rattle.addr2line_units.specs.RunTimeEndian
 pub use Rattle.addr2line_units.specs.SectionLoading
 pub use Rattle.addr2line_units.specs.DwarfFiles
-pub mod FileContexts
+pub mod MainFiles
 pub mod ContextUnits
 pub mod RangeItems

@@ -2,9 +2,8 @@
 
 ghost use Rattle.std.specs.Prelude.{◌≡◌, Ok, option_map};
 ghost use Rattle.addr2line_units.specs.Calls.{ReturnsAs, Returns, ReturnsOrNoMemory};
-ghost use Rattle.addr2line_units.specs.Contexts.{location, stretches};
+ghost use Rattle.addr2line_units.specs.Contexts.{location, stretches, file_context, all_lines_or_refusal};
 ghost use Rattle.addr2line_units.specs.BorrowedLocations.{location_value};
-ghost use Rattle.addr2line_context.specs.FileContexts.{file_context, all_lines_or_refusal};
 
 use crate::answers::first_answer;
 use crate::location_range::LocationRangeIter;
@@ -32,7 +31,7 @@ pub struct Context<R: Reader> {
 
 impl<R: Reader> Model for Context<R> {
     ghost use Rattle.std.specs.Prelude.{◌≡◌};
-    ghost use Rattle.addr2line_context.specs.FileContexts.{FileContext};
+    ghost use Rattle.addr2line_units.specs.Contexts.{FileContext};
     ghost use Rattle.addr2line_context.specs.ContextUnits.{ordered_ranges};
 
     ghost Value = { FileContext };

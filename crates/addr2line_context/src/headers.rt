@@ -4,7 +4,7 @@ ghost use Rattle.std.specs.Prelude.{◌≡◌, Ok};
 ghost use Rattle.addr2line_units.specs.Calls.{ReturnsOrNoMemory};
 ghost use Rattle.addr2line_units.specs.UnitFacts.{in_file, unit_facts};
 ghost use Rattle.addr2line_units.specs.Contexts.{is_of_types, readable_facts, facts_of_code_unit, context_unit};
-ghost use Rattle.addr2line_context.specs.ContextUnits.{if_any};
+ghost use Rattle.addr2line_units.specs.OptionalValues.{if_any};
 
 use crate::unit::ContextUnit;
 use addr2line_units::{Dwarf, Error, Reader, Unit, UnitHeader, UnitType};

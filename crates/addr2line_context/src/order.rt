@@ -14,7 +14,7 @@ pub(crate) fn ordered_ranges<R: Reader>(
     units: &[ContextUnit<R>],
 ) -> Result<UnitRanges, Error>
     ensures ok { IfOk result (λ ranges. ranges ≡ ordered_ranges units.now) }
-    ensures refused { IfErr result (λ e. e ≡ Memory) }
+    ensures refusal { IfErr result (λ e. e ≡ Memory) }
 {
     let mut builder = UnitRangesBuilder::new(alloc);
     for (number, unit) in units.iter().enumerate() {

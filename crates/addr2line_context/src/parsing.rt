@@ -1,7 +1,7 @@
 //! The lines of all units.
 
 ghost use Rattle.std.specs.Prelude.{◌≡◌};
-ghost use Rattle.addr2line_context.specs.FileContexts.{all_lines_or_refusal};
+ghost use Rattle.addr2line_units.specs.Contexts.{all_lines_or_refusal};
 
 use crate::unit::ContextUnit;
 use addr2line_units::{Error, HasLines, Reader};

@@ -1,7 +1,8 @@
 //! A context of sections that are handed in one by one.
 
 ghost use Rattle.addr2line_units.specs.Calls.{ReturnsOrNoMemory};
-ghost use Rattle.addr2line_context.specs.FileContexts.{file_context, main_file};
+ghost use Rattle.addr2line_units.specs.Contexts.{file_context};
+ghost use Rattle.addr2line_context.specs.MainFiles.{main_file};
 
 use crate::context::Context;
 use addr2line_units::{

@@ -15,7 +15,7 @@ use std::alloc::Global;
 // Appends a unit, if there is one.
 fn push_unit<R: Reader>(units: &mut Vec<Unit<R>>, unit: Option<Unit<R>>) -> Result<(), Error>
     ensures ok { OnOk result (units.new.items ≡ units.old.items ++ option_to_list unit) }
-    ensures refused { IfErr result (λ e. e ≡ Memory) }
+    ensures refusal { IfErr result (λ e. e ≡ Memory) }
 {
     if let Some(unit) = unit {
         units.push(unit)?;

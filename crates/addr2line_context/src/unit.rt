@@ -2,18 +2,17 @@
 
 ghost use Rattle.std.specs.Prelude.{◌≡◌, Ok, option_map};
 ghost use Rattle.addr2line_units.specs.Calls.{ReturnsAs, ReturnsOrNoMemory};
-ghost use Rattle.addr2line_units.specs.EntryViews.{raw_attributes};
+ghost use Rattle.addr2line_units.specs.EntryViews.{entry_of, raw_attributes};
 ghost use Rattle.addr2line_units.specs.Results.{and_then};
 ghost use Rattle.addr2line_units.specs.UnitFacts.{in_file, root};
 ghost use Rattle.addr2line_units.specs.PlaceLookups.{place_or_refusal};
-ghost use Rattle.addr2line_units.specs.Contexts.{unit_of_root, context_unit};
+ghost use Rattle.addr2line_units.specs.Contexts.{unit_of_root, unit_of_entry, context_unit};
 ghost use Rattle.addr2line_units.specs.UnitLines.{lines_of_unit};
-ghost use Rattle.addr2line_units.specs.UnitRanges.{is_partial};
 ghost use Rattle.addr2line_units.specs.BorrowedLocations.{location_value};
 
 use addr2line_units::{
-    Attribute, DwLang, Dwarf, Error, HasLines, Lines, Location, Range, Reader, Unit, UnitHeader,
-    UnitRef, UnitType, language_of, lines_of_unit, ranges_of_attributes,
+    Attribute, DebuggingInformationEntry, DwLang, Dwarf, Error, HasLines, Lines, Location, Range,
+    Reader, Unit, UnitRef, is_partial, language_of, lines_of_unit, ranges_of_attributes,
 };
 use std::alloc::Global;
 use std::marker::Model;
@@ -43,20 +42,11 @@ impl<R: Reader> Model for ContextUnit<R> {
 }
 
 impl<R: Reader> ContextUnit<R> {
-    // The unit with its lines, and the ranges and the language that its root says. Of a partial
-    // unit the root isn't looked at.
+    // The unit with its lines, and the ranges and the language that its root says.
     pub(crate) fn read(alloc: Global, dwarf: &Dwarf<R>, unit: Unit<R>) -> Result<Self, Error>
         ensures { ReturnsOrNoMemory result (context_unit (in_file dwarf.now unit)) }
     {
         let lines = lines_or_refusal(alloc, &UnitRef::new(dwarf, &unit))?;
-        if is_partial(&unit.header) {
-            return Ok(ContextUnit {
-                unit,
-                ranges: Vec::new(alloc),
-                language: None,
-                lines,
-            });
-        }
         ContextUnit::with_root(alloc, dwarf, unit, lines)
     }
 
@@ -69,9 +59,32 @@ impl<R: Reader> ContextUnit<R> {
     ) -> Result<Self, Error>
         ensures { ReturnsOrNoMemory result
             (and_then (root dwarf.now.offset_limit unit.header unit.table)
-            (λ r. unit_of_root (in_file dwarf.now unit) lines r.attributes)) }
+            (λ r. unit_of_entry (in_file dwarf.now unit) lines r)) }
     {
         let root = UnitRef::new(dwarf, &unit).root(alloc)?;
+        ContextUnit::of_entry(alloc, dwarf, unit, lines, &root)
+    }
+
+    // The unit with what this root says; nothing of a unit that others import.
+    fn of_entry(
+        alloc: Global,
+        dwarf: &Dwarf<R>,
+        unit: Unit<R>,
+        lines: Result<Lines, Error>,
+        root: &DebuggingInformationEntry<R>,
+    ) -> Result<Self, Error>
+        ensures { ReturnsOrNoMemory result
+            (unit_of_entry (in_file dwarf.now unit) lines
+            (entry_of R.view R.Offset.count root.now)) }
+    {
+        if is_partial(&unit.header, root) {
+            return Ok(ContextUnit {
+                unit,
+                ranges: Vec::new(alloc),
+                language: None,
+                lines,
+            });
+        }
         ContextUnit::of_root(alloc, dwarf, unit, lines, root.attrs())
     }
 
@@ -156,11 +169,4 @@ fn lines_or_refusal<R: Reader>(
         Err(Error::Memory) => Err(Error::Memory),
         Err(fault) => Ok(Err(fault)),
     }
-}
-
-// Whether a unit is only referred to (DWARF 5, 3.1.1).
-fn is_partial<R: Reader>(header: &UnitHeader<R>) -> bool
-    ensures { result ≡ is_partial header.now.kind }
-{
-    matches!(header.type_(), UnitType::Partial)
 }

@@ -17,7 +17,7 @@ fn push_unit<R: Reader>(
     unit: Option<ContextUnit<R>>,
 ) -> Result<(), Error>
     ensures ok { OnOk result (units.new.items ≡ units.old.items ++ option_to_list unit) }
-    ensures refused { IfErr result (λ e. e ≡ Memory) }
+    ensures refusal { IfErr result (λ e. e ≡ Memory) }
 {
     if let Some(unit) = unit {
         units.push(unit)?;

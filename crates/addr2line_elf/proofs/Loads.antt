@@ -16,18 +16,18 @@ value_of x = Ok x
 -- a read that may be out of memory
 pub of_read : {A B : Type 0} (see : A → B) (read : Result A Error) (made : Result A LoadError) (all : Result B Error)
     → ReturnsAsOrNoMemory see read all → InFile read made → LoadsAsOrNoMemory see made (or_truncated all)
-of_read {A} {B} see (Ok x) (Ok y) all given same =
-    let is : x ≡ y = cc in ap or_truncated given ∙ ap (λ (z : A). value_of (see z)) is
-of_read see (Ok x) (Err e) all given same = absurd cc
-of_read see (Err e) (Ok y) all given same =
+of_read {A} {B} see (Ok x) (Ok y) all reading same =
+    let is : x ≡ y = cc in ap or_truncated reading ∙ ap (λ (z : A). value_of (see z)) is
+of_read see (Ok x) (Err e) all reading same = absurd cc
+of_read see (Err e) (Ok y) all reading same =
     absurd (no (λ is. let w : value_of y ≡ error_of Memory = same.0 is in cc)
     (λ ne. let w : value_of y ≡ error_of Truncated = same.1 ne in cc))
   where
     no : {P : Type 0} → (P → ⊥) → ((P → ⊥) → ⊥) → ⊥
     no f g = g f
-of_read {A} {B} see (Err e) (Err d) all given same = λ ne.
+of_read {A} {B} see (Err e) (Err d) all reading same = λ ne.
     let not : e ≢ debug.Memory = λ is. ne (refused_is A d Memory (same.0 is)) in
-    ap or_truncated (given not) ∙ ap (error_of {A = B}) (sym (refused_is A d Truncated (same.1 not)))
+    ap or_truncated (reading not) ∙ ap (error_of {A = B}) (sym (refused_is A d Truncated (same.1 not)))
   where
     refused_is : (C : Type 0) (d f : LoadError) → error_of {A = C} d ≡ error_of f → d ≡ f
     refused_is C d f e = cc
@@ -36,5 +36,5 @@ of_read {A} {B} see (Err e) (Err d) all given same = λ ne.
 pub of_returned :
     {A B : Type 0} (see : A → B) (read : Result A Error) (made : Result A LoadError) (all : Result B Error)
     → ReturnsAs see read all → InFile read made → LoadsAsOrNoMemory see made (or_truncated all)
-of_returned see (Ok x) made all given same = of_read see (Ok x) made all given same
-of_returned see (Err e) made all given same = of_read see (Err e) made all (λ _. given) same
+of_returned see (Ok x) made all reading same = of_read see (Ok x) made all reading same
+of_returned see (Err e) made all reading same = of_read see (Err e) made all (λ _. reading) same

@@ -1,7 +1,5 @@
--- The two classes of ELF files, and the two orders of their bytes (System V ABI, "ELF Header").
-use Rattle.std.specs.Prelude.{ℕ, Bool, true, false}
-use Rattle.gimli_core_readers.specs.RunTimeEndian.{RunTimeEndian}
-use Rattle.gimli_core_readers.specs.RunTimeEndian.TheVariants.{Little, Big}
+-- The two classes of ELF files (System V ABI, "ELF Header").
+use Rattle.std.specs.Prelude.{ℕ}
 use Rattle.addr2line_elf.specs.declared.class.Class.{Class}
 use Rattle.addr2line_elf.specs.declared.class.Class.TheVariants.{Elf32, Elf64}
 
@@ -19,8 +17,3 @@ section_header_size Elf64 = 64
 abbrev pub symbol_size : Class → ℕ
 symbol_size Elf32 = 16
 symbol_size Elf64 = 24
-
--- whether the more significant byte of a number comes first
-abbrev pub is_big : RunTimeEndian → Bool
-is_big Little = false
-is_big Big = true

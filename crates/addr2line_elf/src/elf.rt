@@ -3,7 +3,7 @@
 ghost use Rattle.std.specs.Prelude.{◌≡◌, ◌<◌, ◌==◌, ◌+◌, IfSome, Ok, length, drop, option_map};
 ghost use Rattle.std.specs.List.{slice_get, position, list_any};
 ghost use Rattle.gimli_core_readers.specs.View.{prefix};
-ghost use Rattle.addr2line_elf.specs.ElfClasses.{is_big};
+ghost use Rattle.gimli_core_readers.specs.ByteOrders.{is_big_endian};
 ghost use Rattle.addr2line_elf.specs.ImageLoading.{LoadsOrNoMemory};
 ghost use Rattle.addr2line_elf.specs.ElfTexts.{is_text};
 ghost use Rattle.addr2line_elf.specs.ElfImages.{image_of, image_in, name_of, index_named, changes, waits_for_relocation, plain_contents, debug_contents, section_named, addresses, section_range};
@@ -79,7 +79,7 @@ impl Elf {
 
     /// The order of the file's bytes.
     pub fn endian(&self) -> RunTimeEndian
-        ensures { is_big result ≡ self.now.file.is_big }
+        ensures { is_big_endian result ≡ self.now.file.is_big }
     {
         self.file.endian()
     }

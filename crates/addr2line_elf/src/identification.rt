@@ -1,6 +1,6 @@
 //! The first bytes of an ELF file, its identification.
 
-ghost use Rattle.addr2line_elf.specs.ElfClasses.{is_big};
+ghost use Rattle.gimli_core_readers.specs.ByteOrders.{is_big_endian};
 ghost use Rattle.gimli_core_readers.specs.Calls.{ReturnsAs, Returns};
 ghost use Rattle.addr2line_elf.specs.ElfImages.{class_of, is_big_of, identification};
 
@@ -14,7 +14,7 @@ const MAGIC: [u8; 4] = [0x7f, b'E', b'L', b'F'];
 
 /// The class of an ELF file and the order of its bytes (System V ABI, "ELF Identification").
 pub(crate) fn identify(file: &[u8]) -> Result<(Class, RunTimeEndian), LoadError>
-    ensures { ReturnsAs (λ id. record { class = id.0; is_big = is_big id.1 }) result
+    ensures { ReturnsAs (λ id. record { class = id.0; is_big = is_big_endian id.1 }) result
         (identification file.now) }
 {
     if !file.starts_with(&MAGIC) {
@@ -38,7 +38,7 @@ fn class_of(byte: Option<u8>) -> Result<Class, LoadError>
 
 // The order that a byte means.
 fn endian_of(byte: Option<u8>) -> Result<RunTimeEndian, LoadError>
-    ensures { ReturnsAs is_big result (is_big_of byte) }
+    ensures { ReturnsAs is_big_endian result (is_big_of byte) }
 {
     match byte {
         Some(ELFDATA2LSB) => Ok(RunTimeEndian::Little),

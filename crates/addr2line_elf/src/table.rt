@@ -5,7 +5,8 @@ ghost use Rattle.gimli_core_readers.specs.View.{bytes_left};
 ghost use Rattle.gimli_core_readers.specs.Parsers.{value_of};
 ghost use Rattle.gimli_core_readers.specs.Repetition.{times};
 ghost use Rattle.gimli_core_readers.specs.Calls.{Returns, ReturnsAsOrNoMemory};
-ghost use Rattle.addr2line_elf.specs.ElfClasses.{is_big, section_header_size};
+ghost use Rattle.gimli_core_readers.specs.ByteOrders.{is_big_endian};
+ghost use Rattle.addr2line_elf.specs.ElfClasses.{section_header_size};
 ghost use Rattle.addr2line_elf.specs.ElfHeaders.{file_header, section_header, header_at, headers_at};
 ghost use Rattle.addr2line_elf.specs.ImageLoading.{read_in, LoadsAsOrNoMemory, LoadsOrNoMemory};
 ghost use Rattle.addr2line_elf.specs.ElfImages.{contents, linked_contents, section_count, names_index, table, sections_of};
@@ -221,7 +222,7 @@ pub(crate) fn contents(
 
 // No bytes, at an offset of the file.
 fn no_bytes(endian: RunTimeEndian, first: u64) -> EndianBytes<RunTimeEndian>
-    ensures { result ≡ record { bytes = []; is_big = is_big endian; first = first } }
+    ensures { result ≡ record { bytes = []; is_big = is_big_endian endian; first = first } }
 {
     EndianBytes::with_first_id(Bytes::new(), endian, ReaderOffsetId(first))
 }

@@ -16,7 +16,7 @@ use Rattle.addr2line_functions.proofs.CallEntrySteps.{HasEntry}
 
 -- by a nesting and the calls so far
 pub record AreFew (o : Nesting) (cs : List Call) : Type 0 where
-  pub stands : length o.calls ≤ length cs
+  pub open_few : length o.calls ≤ length cs
   pub deep : depth_count cs ≤ length cs
 
 shallower_by : (d x : ℤ) (xs : List ℤ) (b : Bool) → length (shallower d xs) ≤ length xs
@@ -146,19 +146,19 @@ module _ (limit : ℕ) (u : UnitInFile) (naming : Naming) where
       let P : Option Call → Type 0 = λ x. AreFew p (cs ++ option_to_list x) in
       let Q : List Call → Type 0 = AreFew p in
       let same = ap (λ (x : Nesting). length x.calls) to in
-      let stands = few.stands in
+      let open_few = few.open_few in
       let none = no_call tag e xs nested h.0 in
-      subst P (sym h.1) (subst Q (sym (append-nil cs)) (record { stands = omega arith; deep = few.deep }))
+      subst P (sym h.1) (subst Q (sym (append-nil cs)) (record { open_few = omega arith; deep = few.deep }))
   few_of cs o p xs nested tag e c few less to (inr h) =
       let P : Option Call → Type 0 = λ x. AreFew p (cs ++ option_to_list x) in
       let same = ap (λ (x : Nesting). length x.calls) to in
-      let stands = few.stands in
+      let open_few = few.open_few in
       let deep = few.deep in
       let most = one_more tag e xs nested in
       let depth = h.2 in
       let all = depths-append cs h.0 in
       let count = length-append cs (h.0 ∷ []) in
-      subst P (sym h.1) (record { stands = omega arith; deep = omega arith })
+      subst P (sym h.1) (record { open_few = omega arith; deep = omega arith })
 
   pub few_more : (w t : Walk) (o p : Nesting) (c : Option Call) (cs : List Call) → AreFew o cs
       → HasEntry limit u naming w t o p c → AreFew p (cs ++ option_to_list c)
@@ -169,6 +169,6 @@ module _ (limit : ℕ) (u : UnitInFile) (naming : Naming) where
 
 pub few_first : (o : Nesting) (cs : List Call) → o ≡ no_nesting → cs ≡ [] → AreFew o cs
 few_first o cs h k =
-    let stands = ap (λ (x : Nesting). length x.calls) h in
+    let open_few = ap (λ (x : Nesting). length x.calls) h in
     let P : List Call → Type 0 = λ l. AreFew o l in
-    subst P (sym k) (record { stands = omega arith; deep = omega arith })
+    subst P (sym k) (record { open_few = omega arith; deep = omega arith })

@@ -326,13 +326,13 @@ module _ (limit : ℕ) (u : UnitInFile) (naming : Naming) where
       value_is (call_depth now r.tag) depth (inside_of r.tag r.depth now) next h in
       let leads_to : inside_of r.tag r.depth now ≡ next =
       state_is (call_depth now r.tag) depth (inside_of r.tag r.depth now) next h in
-      ap (λ o. behind_with (inside_of r.tag r.depth now) o) counts ∙ ap (λ n. behind_with n depth) leads_to
+      ap (λ o. then_with (inside_of r.tag r.depth now) o) counts ∙ ap (λ n. then_with n depth) leads_to
     where
       there : Nesting → Option Call → Result (Option Call × CallWalk) Error
       there n c = Ok (c, record { walk = t; nesting = n })
 
-      behind_with : Nesting → Option ℕ → Result (Option Call × CallWalk) Error
-      behind_with n o = and_then (call_if u naming r o) (there n)
+      then_with : Nesting → Option ℕ → Result (Option Call × CallWalk) Error
+      then_with n o = and_then (call_if u naming r o) (there n)
 
 -- a result, with a value beside it
 pub returns_with :

@@ -42,12 +42,12 @@ pub latest_range-more : (a n : ℕ) (before : List NumberedRange) (rs : List Ran
     ≡ latest_with_next range_of a (latest_at_or_below range_of a (before ++ of_number n (take i rs)))
     (record { range = r; number = n })
 latest_range-more a n before rs i r below here =
-    let seen : Range → NumberedRange = λ x. record { range = x; number = n } in
-    ap (λ l. latest_at_or_below range_of a (before ++ map seen l))
+    let numbered : Range → NumberedRange = λ x. record { range = x; number = n } in
+    ap (λ l. latest_at_or_below range_of a (before ++ map numbered l))
     (take_more rs i r below ∙ ap (λ x. take i rs ++ x ∷ []) (sym here))
-    ∙ ap (λ l. latest_at_or_below range_of a (before ++ l)) (map-append seen (take i rs) (r ∷ []))
-    ∙ ap (latest_at_or_below range_of a) (sym (append_assoc before (map seen (take i rs)) (seen r ∷ [])))
-    ∙ latest_at_or_below-append range_of a (before ++ map seen (take i rs)) (seen r)
+    ∙ ap (λ l. latest_at_or_below range_of a (before ++ l)) (map-append numbered (take i rs) (r ∷ []))
+    ∙ ap (latest_at_or_below range_of a) (sym (append_assoc before (map numbered (take i rs)) (numbered r ∷ [])))
+    ∙ latest_at_or_below-append range_of a (before ++ map numbered (take i rs)) (numbered r)
 
 -- ---- by numbers
 

@@ -10,3 +10,8 @@ pub mod NumberedRangeLemmas
 pub mod UnitViews
 pub mod StretchLemmas
 pub mod StretchesLeftLemmas
+pub mod SortedOrder
+pub mod SortedLast
+pub mod RangeLevelLemmas
+pub mod RankedRowLemmas
+pub mod HolderViews

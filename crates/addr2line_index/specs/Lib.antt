@@ -1,6 +1,10 @@
 pub use Rattle.addr2line_spec.specs.FilePaths
 pub use Rattle.addr2line_spec.specs.Choice
 pub use Rattle.addr2line_spec.specs.Contexts
+pub use Rattle.addr2line_spec.specs.FirstAnswers
+pub use Rattle.addr2line_spec.specs.Histories
+pub use Rattle.addr2line_spec.specs.Lookups
+pub use Rattle.addr2line_spec.specs.OptionalValues
 pub use Rattle.addr2line_spec.specs.EntryRanges
 pub use Rattle.addr2line_spec.specs.FileTexts
 pub use Rattle.addr2line_spec.specs.FrameLookups
@@ -21,5 +25,8 @@ pub mod BorrowedLocations
 pub mod NumberedRanges
 pub mod Stretches
 pub mod UnitPlaces
+pub mod RangeLevels
+pub mod RankedRows
+pub mod LineIndexes
 pub mod NextStretches
 pub mod StretchesLeft

@@ -43,7 +43,7 @@ fn is_last_at(rows: &[LineRow], address: u64) -> bool
 fn put_row(rows: &mut Vec<LineRow>, row: LineRow) -> Result<(), Error>
     ensures ok { OnOk result (rows.new.items ≡ put_row row rows.old.items) }
     ensures err { OnErr result (rows.new.items ≡ rows.old.items) }
-    ensures refused { IfErr result (λ e. e ≡ Memory) }
+    ensures refusal { IfErr result (λ e. e ≡ Memory) }
 {
     if is_last_at(rows.as_slice(), row.address) {
         let last = rows.len() - 1;
@@ -79,7 +79,7 @@ impl LinesBuilder {
             → self.new ≡ partial_lines
             (rows ++ row_with address file line column end_sequence ∷ [])) }
         ensures err { OnErr result (self.new ≡ self.old) }
-        ensures refused { IfErr result (λ e. e ≡ Memory) }
+        ensures refusal { IfErr result (λ e. e ≡ Memory) }
     {
         if end_sequence {
             self.end(address)
@@ -97,7 +97,7 @@ impl LinesBuilder {
     fn put(&mut self, row: LineRow) -> Result<(), Error>
         ensures ok { OnOk result (self.new ≡ with_row row self.old) }
         ensures err { OnErr result (self.new ≡ self.old) }
-        ensures refused { IfErr result (λ e. e ≡ Memory) }
+        ensures refusal { IfErr result (λ e. e ≡ Memory) }
     {
         put_row(&mut self.rows, row)
     }
@@ -106,7 +106,7 @@ impl LinesBuilder {
     fn end(&mut self, end: u64) -> Result<(), Error>
         ensures ok { OnOk result (self.new ≡ with_end end self.old) }
         ensures err { OnErr result (self.new ≡ self.old) }
-        ensures refused { IfErr result (λ e. e ≡ Memory) }
+        ensures refusal { IfErr result (λ e. e ≡ Memory) }
     {
         let start = match self.rows.as_slice() {
             [first, ..] if first.address < end => first.address,

@@ -67,12 +67,18 @@ impl Lines {
     pub(crate) fn row_location(&self, row: &LineRow) -> Location<'_>
         ensures { location_value result ≡ row_location self.now.files row.now }
     {
-        let known = row.line != 0;
-        Location {
-            file: self.file(row.file),
-            line: if known { Some(row.line) } else { None },
-            column: if known { Some(row.column) } else { None },
-        }
+        row_location(self.files.as_slice(), row)
+    }
+
+    // The texts of its files.
+    pub(crate) fn into_files(self) -> Vec<String>
+        ensures { map string_bytes result.items ≡ self.files }
+    {
+        let Lines {
+            sequences: _,
+            files,
+        } = self;
+        files
     }
 
     /// The place of an address: that of its row in the sequence that holds it.
@@ -89,6 +95,18 @@ fn file_text(files: &[String], index: usize) -> Option<&str>
     ensures { option_map (λ t. t.now) result ≡ slice_get (map string_bytes files.now) index }
 {
     files.get(index).map(|text| text.as_str())
+}
+
+// The place that a row stands for, by the texts of files.
+pub(crate) fn row_location<'a>(files: &'a [String], row: &LineRow) -> Location<'a>
+    ensures { location_value result ≡ row_location (map string_bytes files.now) row.now }
+{
+    let known = row.line != 0;
+    Location {
+        file: file_text(files, row.file as usize),
+        line: if known { Some(row.line) } else { None },
+        column: if known { Some(row.column) } else { None },
+    }
 }
 
 // Of two sequences the later one, the second where neither is.

@@ -66,16 +66,16 @@ pub(crate) fn next_stretches<'a, U: HasLines>(
         (stretches_from_index (map U.places units.now) low high ranges.now) from result }
 {
     let mut place = from;
-    while let Some((range, behind)) = ranges.next_overlapping(place, low, high) {
+    while let Some((range, next_place)) = ranges.next_overlapping(place, low, high) {
         let mut others = stretches_in(alloc, units, range, low, high)?.into_iter();
         if let Some(stretch) = others.next() {
             return Ok(Some(RangeStretches {
                 stretch,
                 others,
-                place: behind,
+                place: next_place,
             }));
         }
-        place = behind;
+        place = next_place;
     }
     Ok(None)
 }

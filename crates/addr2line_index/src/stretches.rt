@@ -32,7 +32,7 @@ fn push_row<'a>(
 ) -> Result<(), Error>
     ensures ok { OnOk result (map stretch_of found.new.items
         ≡ map stretch_of found.old.items ++ stretch_to lines.now.files next row.now ∷ []) }
-    ensures refused { IfErr result (λ e. e ≡ Memory) }
+    ensures refusal { IfErr result (λ e. e ≡ Memory) }
 {
     found.push(LineStretch {
         address: row.address,
@@ -54,7 +54,7 @@ fn push_rows<'a>(
         ≡ map stretch_of found.old.items
         ++ take_while (λ t. nat_lt t.address high)
         (stretches_of lines.now.files end rows.now)) }
-    ensures refused { IfErr result (λ e. e ≡ Memory) }
+    ensures refusal { IfErr result (λ e. e ≡ Memory) }
 {
     let mut left = rows;
     while let Some((row, rest)) = left.split_first() {
@@ -78,7 +78,7 @@ fn push_sequence<'a>(
     ensures ok { OnOk result (map stretch_of found.new.items ≡ map stretch_of found.old.items
         ++ (if reaches low high sequence.now
         then sequence_between lines.now.files low high sequence.now else [])) }
-    ensures refused { IfErr result (λ e. e ≡ Memory) }
+    ensures refusal { IfErr result (λ e. e ≡ Memory) }
 {
     if sequence.start < high && low < sequence.end {
         let rows = sequence.rows.as_slice();
@@ -122,7 +122,7 @@ fn in_order<'a>(
 ) -> Result<Vec<&'a LineSequence>, Error>
     ensures ok { IfOk result
         (λ sorted. map (λ s. s.now) sorted.items ≡ in_order starts_after sequences.now) }
-    ensures refused { IfErr result (λ e. e ≡ Memory) }
+    ensures refusal { IfErr result (λ e. e ≡ Memory) }
 {
     let mut sorted = Vec::new(alloc);
     let mut left = sequences;
@@ -145,7 +145,7 @@ fn stretches<'a>(
     ensures ok { IfOk result (λ found. map stretch_of found.items
         ≡ flat_map (sequence_between lines.now.files low high)
         (filter (reaches low high) (map (λ s. s.now) sequences.now))) }
-    ensures refused { IfErr result (λ e. e ≡ Memory) }
+    ensures refusal { IfErr result (λ e. e ≡ Memory) }
 {
     let mut found = Vec::new(alloc);
     let mut left = sequences;
@@ -168,7 +168,7 @@ impl Lines {
     ) -> Result<Vec<LineStretch<'_>>, Error>
         ensures ok { IfOk result
             (λ found. map stretch_of found.items ≡ lines_between self.now low high) }
-        ensures refused { IfErr result (λ e. e ≡ Memory) }
+        ensures refusal { IfErr result (λ e. e ≡ Memory) }
     {
         let sorted = in_order(alloc, self.sequences())?;
         stretches(alloc, self, sorted.as_slice(), low, high)

@@ -30,7 +30,7 @@ fn push_ranges(all: &mut Vec<UnitRange>, unit: usize, ranges: &[Range]) -> Resul
     ensures ok { OnOk result
         (all.new.items ≡ all.old.items ++ map (λ r. record { range = r; unit = unit }) ranges.now) }
     ensures err { OnErr result (all.new.items ≡ all.old.items) }
-    ensures refused { IfErr result (λ e. e ≡ Memory) }
+    ensures refusal { IfErr result (λ e. e ≡ Memory) }
 {
     let before = all.len();
     for range in ranges {
@@ -64,7 +64,7 @@ impl UnitRangesBuilder {
             → length units ≡ unit
             → self.new ≡ ranges_of_units (units ++ ranges.now ∷ [])) }
         ensures err { OnErr result (self.new ≡ self.old) }
-        ensures refused { IfErr result (λ e. e ≡ Memory) }
+        ensures refusal { IfErr result (λ e. e ≡ Memory) }
     {
         push_ranges(&mut self.ranges, unit, ranges)
     }
@@ -75,7 +75,7 @@ impl UnitRangesBuilder {
         ensures ok { IfOk result
             (λ ranges. (units : List (List RangePart)) → self ≡ ranges_of_units units
             → ranges ≡ unit_ranges units) }
-        ensures refused { IfErr result (λ e. e ≡ Memory) }
+        ensures refusal { IfErr result (λ e. e ≡ Memory) }
     {
         let UnitRangesBuilder { mut ranges } = self;
         ranges.sort_by_key(|range| range.range.end)?;

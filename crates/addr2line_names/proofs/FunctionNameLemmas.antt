@@ -104,12 +104,12 @@ refusal_before (Err x) links e h =
 
 pub refusal_is_final : RefusalIsFinal
 refusal_is_final known h before after e is =
-    let given : RawAttribute → Answer = name_of_attribute h (name_by_reference known most_references h) in
+    let answer_of : RawAttribute → Answer = name_of_attribute h (name_by_reference known most_references h) in
     ap (λ (r : Answer).
     and_then r
     (λ first. Ok (last_or first (filter_map (value_of_kind (text_of h) is_linkage_name) (before ++ after)))))
-    (refusal_of_first given before after e
-    (refusal_before (first_name (map given before))
+    (refusal_of_first answer_of before after e
+    (refusal_before (first_name (map answer_of before))
     (filter_map (value_of_kind (text_of h) is_linkage_name) before) e is))
 
 -- ---- chains

@@ -8,11 +8,11 @@ use Rattle.gimli_dwarf_spec.specs.DwarfFiles.{DwarfFile}
 use Rattle.addr2line_spec.specs.Contexts.{context}
 use Rattle.addr2line_spec.specs.UnitRanges.{begins_at, ends_at, has_size, no_fact, range_of_root}
 
-abbrev view : List ℕ → View
+abbrev pub view : List ℕ → View
 view bytes = record { bytes = bytes; is_big = false; first = 0 }
 
 -- a file all of whose sections are empty
-abbrev no_sections : DwarfFile
+abbrev pub no_sections : DwarfFile
 no_sections = record {
   offset_limit = 2 ^ 64;
   sections = record {

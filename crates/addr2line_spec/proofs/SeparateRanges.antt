@@ -33,7 +33,7 @@ holder_is_later a r s apart some ends begins =
     let lt = ltb-true s.begin s.end some in
     elim (either (nat_le r.end s.begin) (nat_le s.end r.begin) apart) [
       | inl before ↦ let le = leb-true r.end s.begin before in absurd (omega arith)
-      | inr behind ↦ let le = leb-true s.end r.begin behind in later_above r s (omega arith)
+      | inr lower ↦ let le = leb-true s.end r.begin lower in later_above r s (omega arith)
     ]
 
 -- a range that ends at or below an address and is later than another leaves it ended too
@@ -44,7 +44,7 @@ earlier_ends a r s apart some begins later =
     let below = later_begins r s later in
     elim (either (nat_le r.end s.begin) (nat_le s.end r.begin) apart) [
       | inl before ↦ let le = leb-true r.end s.begin before in absurd (omega arith)
-      | inr behind ↦ let le = leb-true s.end r.begin behind in omega arith
+      | inr lower ↦ let le = leb-true s.end r.begin lower in omega arith
     ]
 
 -- ---- lists
@@ -124,9 +124,9 @@ module _ {X : Type 0} (range : X → Range) (a : ℕ) where
   first_of : (x : X) (o : Option X) → nat_le (range x).begin a ≡ true → has_address (range x) ≡ true
       → ((y : X) → o ≡ Some y → IsBehind (range x) y)
       → only_if ends (Some (later_of range x o)) ≡ cond (ends x) (Some x) (only_if ends o)
-  first_of x None begin some behind = refl
-  first_of x (Some y) begin some behind =
-      let known = behind y refl in
+  first_of x None begin some lower = refl
+  first_of x (Some y) begin some lower =
+      let known = lower y refl in
       elim (cases_lt a (range x).end) [
         | inl held ↦
             let e : ends x ≡ true = lt-ltb a (range x).end held in
@@ -157,13 +157,13 @@ module _ {X : Type 0} (range : X → Range) (a : ℕ) where
       and_parts (has_address (range x) && list_all (is_apart (range x)) (map range xs))
       (are_apart (map range xs)) h in
       let first = and_parts (has_address (range x)) (list_all (is_apart (range x)) (map range xs)) later.0 in
-      let behind : (y : X) → latest_at_or_below range a xs ≡ Some y → IsBehind (range x) y = λ y e.
+      let lower : (y : X) → latest_at_or_below range a xs ≡ Some y → IsBehind (range x) y = λ y e.
       let apart = latest_of_rest (λ z. is_apart (range x) (range z)) xs y (all_apart (range x) xs first.1) e in
       (apart.0, (latest_of_rest (λ z. has_address (range z)) xs y (all_some xs later.1) e).0, apart.1) in
       elim (nat_le (range x).begin a) as (λ b. nat_le (range x).begin a ≡ b
       → only_if ends (latest range (cond b (x ∷ filter begins xs) (filter begins xs)))
       ≡ cond (b && ends x) (Some x) (find (λ y. holds a (range y)) xs)) [
-        | true ↦ λ e. first_of x (latest_at_or_below range a xs) e first.0 behind
+        | true ↦ λ e. first_of x (latest_at_or_below range a xs) e first.0 lower
             ∙ ap (λ o. cond (ends x) (Some x) o) (holds_once xs later.1)
         | false ↦ λ _. holds_once xs later.1
       ] refl

@@ -6,10 +6,11 @@ use Rattle.gimli_lines_machine.specs.Repetition.{Listing, fault_of}
 use Rattle.gimli_lines_machine.specs.View.{View}
 use Rattle.gimli_lines_machine.specs.Range.{Range}
 use Rattle.gimli_dwarf_spec.specs.AttributeValues.{RawAttribute}
+use Rattle.gimli_dwarf_spec.specs.EntryRows.{Row}
 use Rattle.gimli_dwarf_spec.specs.ArangeSets.{sets_to_come}
 use Rattle.gimli_dwarf_spec.specs.Tiling.{whole_section}
 use Rattle.gimli_dwarf_spec.specs.UnitHeaders.{DebugUnit, UnitKind, type_unit, split_type, units_to_come}
-use Rattle.gimli_lines_machine.specs.Results.{unless, each, ◌>>=◌}
+use Rattle.gimli_lines_machine.specs.Results.{and_then, unless, each, ◌>>=◌}
 use Rattle.gimli_dwarf_spec.specs.DwarfFiles.{DwarfFile, supplement}
 use Rattle.gimli_dwarf_spec.specs.UnitFacts.{UnitFacts, UnitInFile, in_file, unit_facts, root}
 use Rattle.addr2line_spec.specs.Lines.{Lines, Location, Stretch}
@@ -48,15 +49,21 @@ unit_of_root u lines attributes = do
   ranges ← ranges_of_attributes u lines attributes
   Ok (record { facts = u.facts; ranges = ranges; language = language_in attributes; lines = lines })
 
--- a unit of a context, or the refusal of its ranges; of a partial unit the root isn't looked at
+-- a unit that others import
+abbrev pub partial_unit : UnitFacts → Result Lines Error → ContextUnit
+partial_unit facts lines = record { facts = facts; ranges = []; language = None; lines = lines }
+
+-- a unit with this root; the attributes of a partial unit's root say nothing of it
+abbrev pub unit_of_entry : UnitInFile → Result Lines Error → Row → Result ContextUnit Error
+unit_of_entry u lines r =
+    if is_partial u.facts.header.kind r.tag then Ok (partial_unit u.facts lines)
+    else unit_of_root u lines r.attributes
+
+-- a unit of a context, or the refusal of its ranges
 abbrev pub context_unit : UnitInFile → Result ContextUnit Error
-context_unit u =
-    let lines = lines_of_unit u in
-    if is_partial u.facts.header.kind
-    then Ok (record { facts = u.facts; ranges = []; language = None; lines = lines })
-    else (do
-      r ← root u.file.offset_limit u.facts.header u.facts.table
-      unit_of_root u lines r.attributes)
+context_unit u = do
+  r ← root u.file.offset_limit u.facts.header u.facts.table
+  unit_of_entry u (lines_of_unit u) r
 
 -- ---- files
 
@@ -97,6 +104,17 @@ context file =
       supplement_units ← units_of_supplement (supplement file)
       Ok (record { units = units; supplement_units = supplement_units }))
 
+-- a file, and the context over its sections
+pub record FileContext : Type 0 where
+  pub file : DwarfFile
+  pub context : Context
+
+-- the context over a file's sections, with the file, or why there is none
+abbrev pub file_context : DwarfFile → Result FileContext Error
+file_context file = do
+  c ← context file
+  Ok (record { file = file; context = c })
+
 -- ---- lookups
 
 abbrev pub ranges_of : ContextUnit → List Range
@@ -112,3 +130,11 @@ location c a = location_at ranges_of lines_of c.units a
 -- the stretches between two ends
 abbrev pub stretches : Context → ℕ → ℕ → Listing (Unit {0}) Stretch
 stretches c low high = stretches_between ranges_of lines_of c.units low high
+
+-- the lines of all units, or the first refusal, by the units' numbers
+abbrev pub all_lines : List ContextUnit → Result (List Lines) Error
+all_lines units = each lines_of units
+
+-- whether all of them can be read
+abbrev pub all_lines_or_refusal : List ContextUnit → Result (Unit {0}) Error
+all_lines_or_refusal units = and_then (all_lines units) (λ lines. Ok tt)

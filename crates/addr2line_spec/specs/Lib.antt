@@ -24,3 +24,8 @@ pub mod InlinedCalls
 pub mod InlinedCallLaws
 pub mod Frames
 pub mod FrameLookups
+pub mod OptionalValues
+pub mod FirstAnswers
+pub mod Lookups
+pub mod Histories
+pub mod SuspensionLaws

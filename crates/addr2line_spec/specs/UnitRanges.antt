@@ -1,8 +1,8 @@
 -- The ranges that a unit covers (DWARF 5, 2.17, 3.1.1 and 6.1.2).
-use Rattle.std.specs.Prelude.{ℕ, ◌+◌, ◌^◌, ◌%◌, ◌==◌, Bool, true, false, nat_lt, List, [], ◌∷◌, map, filter, flat_map, Option, Some, None, Result, Ok, Err, if◌then◌else◌}
+use Rattle.std.specs.Prelude.{ℕ, ◌+◌, ◌^◌, ◌%◌, ◌==◌, ◌||◌, Bool, true, false, nat_lt, List, [], ◌∷◌, map, filter, flat_map, Option, Some, None, Result, Ok, Err, if◌then◌else◌}
 use Rattle.std.specs.List.{filter_map, last_or}
 use Rattle.gimli_lines_machine.specs.Error.{Error}
-use Rattle.gimli_lines_machine.specs.TheConstants.{DW_AT_high_pc, DW_AT_ranges, DW_AT_language}
+use Rattle.gimli_lines_machine.specs.TheConstants.{DW_AT_high_pc, DW_AT_ranges, DW_AT_language, DW_TAG_partial_unit}
 use Rattle.gimli_lines_machine.specs.Range.{Range}
 use Rattle.gimli_dwarf_spec.specs.AttributeMeanings.{value_under}
 use Rattle.gimli_dwarf_spec.specs.AttributeValues.{RawValue, RawAttribute, address, address_index, unsigned_data, language}
@@ -145,10 +145,18 @@ ranges_of_attributes u lines attributes = do
   rs ← declared_ranges u facts (last_of list_in facts)
   Ok (or_else rs (ranges_of_lines lines))
 
--- a unit that is only referred to has no ranges of its own (DWARF 5, 3.1.1)
-abbrev pub is_partial : UnitKind → Bool
-is_partial partial = true
-is_partial _ = false
+-- ---- partial units
+
+abbrev pub is_partial_kind : UnitKind → Bool
+is_partial_kind partial = true
+is_partial_kind _ = false
+
+-- A partial unit is one that others import, and has no ranges of its own (DWARF 5, 3.1.1). Its
+-- header's type says so, and so does its root's tag, which alone does before version 5.
+abbrev pub is_partial : UnitKind → ℕ → Bool
+is_partial kind tag = is_partial_kind kind || tag == DW_TAG_partial_unit.0
+
+-- ---- the language
 
 -- the language of a root
 abbrev pub language_of : RawValue → Option ℕ

@@ -134,9 +134,9 @@ last_of_whole limit h =
 
 -- the rows of a whole program were added
 pub program_adds_rows : {A : Type 0} (limit : ℕ) (x : A) (h made : LineHeader) (old new : RemainingRows)
-    (before behind : PartialLines) → made ≡ h → ok_rows (program_rows made) ≡ ok_rows old
-    → AddsRows {A = A} limit (Ok x) old new before behind → RunsProgram limit (Ok new) h before behind
-program_adds_rows limit x h made old new before behind same e added =
+    (before next : PartialLines) → made ≡ h → ok_rows (program_rows made) ≡ ok_rows old
+    → AddsRows {A = A} limit (Ok x) old new before next → RunsProgram limit (Ok new) h before next
+program_adds_rows limit x h made old new before next same e added =
     let is : program_rows h ≡ old = ok_rows_are limit h made old same e in
     let parts = rows_of_program limit h added.0 (ap (rows_to_come limit) is ∙ added.1) in (
       parts.0,
@@ -147,11 +147,11 @@ program_adds_rows limit x h made old new before behind same e added =
 -- its fault ended them
 pub program_fault : (A : Type 0) (limit : ℕ) (r : Result RemainingRows Error) (h made : LineHeader)
     (old new : RemainingRows)
-    (before behind last : PartialLines) (d : Error) → IsErrAnd r (λ e. e ≡ d) → made ≡ h
-    → ok_rows (program_rows made) ≡ ok_rows old → AddsRows {A = A} limit (Err d) old new before behind
+    (before next last : PartialLines) (d : Error) → IsErrAnd r (λ e. e ≡ d) → made ≡ h
+    → ok_rows (program_rows made) ≡ ok_rows old → AddsRows {A = A} limit (Err d) old new before next
     → RunsProgram limit r h before last
-program_fault A limit (Ok x) h made old new before behind last d err same e added = absurd err
-program_fault A limit (Err x) h made old new before behind last d err same e added = λ ne.
+program_fault A limit (Ok x) h made old new before next last d err same e added = absurd err
+program_fault A limit (Err x) h made old new before next last d err same e added = λ ne.
     let is : program_rows h ≡ old = ok_rows_are limit h made old same e in
     let f = added (λ none. ne (err ∙ none)) in
     fault_of_rows limit h f.0 d (ap (rows_to_come limit) is ∙ f.1) ∙ ap (λ (y : Error). Some y) (sym err)

@@ -10,6 +10,10 @@ pub use Rattle.addr2line_index.specs.declared.unit_range.UnitRange
 pub use Rattle.addr2line_index.specs.FilePaths
 pub use Rattle.addr2line_index.specs.Choice
 pub use Rattle.addr2line_index.specs.Contexts
+pub use Rattle.addr2line_index.specs.FirstAnswers
+pub use Rattle.addr2line_index.specs.Histories
+pub use Rattle.addr2line_index.specs.Lookups
+pub use Rattle.addr2line_index.specs.OptionalValues
 pub use Rattle.addr2line_index.specs.EntryRanges
 pub use Rattle.addr2line_index.specs.FileTexts
 pub use Rattle.addr2line_index.specs.FrameLookups

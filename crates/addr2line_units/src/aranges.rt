@@ -31,7 +31,7 @@ fn range_of(entry: ArangeEntry) -> Option<Range>
 // Appends a range, if there is one.
 pub(crate) fn push_if_any(ranges: &mut Vec<Range>, range: Option<Range>) -> Result<(), Error>
     ensures ok { OnOk result (ranges.new.items ≡ ranges.old.items ++ option_to_list range) }
-    ensures refused { IfErr result (λ e. e ≡ Memory) }
+    ensures refusal { IfErr result (λ e. e ≡ Memory) }
 {
     if let Some(range) = range {
         ranges.push(range)?;
@@ -45,7 +45,7 @@ fn push_entries<R: Reader>(
     mut entries: ArangeEntryIter<R>,
 ) -> Result<(), Error>
     ensures ok { OnOk result (ranges.new.items ≡ ranges.old.items ++ ranges_to_come entries) }
-    ensures refused { IfErr result (λ e. e ≡ Memory) }
+    ensures refusal { IfErr result (λ e. e ≡ Memory) }
 {
     loop {
         match entries.next() {
@@ -64,7 +64,7 @@ fn push_set<R: Reader>(
 ) -> Result<(), Error>
     ensures ok { OnOk result
         (ranges.new.items ≡ ranges.old.items ++ ranges_of_sets offset (set.now ∷ [])) }
-    ensures refused { IfErr result (λ e. e ≡ Memory) }
+    ensures refusal { IfErr result (λ e. e ≡ Memory) }
 {
     if set.debug_info_offset().0.into_u64() == offset {
         push_entries(ranges, set.entries()?)?;
@@ -113,7 +113,7 @@ pub fn check_aranges<R: Reader>(dwarf: &Dwarf<R>) -> Result<(), Error>
         (fault_of (sets_to_come dwarf.now.offset_limit
         (whole_section dwarf.now.sections.debug_aranges)) ≡ None) }
     // Refused by the first fault, or when out of memory.
-    ensures refused { IfErr result (λ e. e ≢ Memory
+    ensures refusal { IfErr result (λ e. e ≢ Memory
         → fault_of (sets_to_come dwarf.now.offset_limit
         (whole_section dwarf.now.sections.debug_aranges)) ≡ Some e) }
 {
@@ -123,7 +123,7 @@ pub fn check_aranges<R: Reader>(dwarf: &Dwarf<R>) -> Result<(), Error>
 // Reads the headers that are to come.
 fn check_sets<R: Reader>(mut sets: ArangeHeaderIter<R>) -> Result<(), Error>
     ensures ok { OnOk result (fault_of (sets_to_come R.Offset.limit sets) ≡ None) }
-    ensures refused { IfErr result
+    ensures refusal { IfErr result
         (λ e. e ≢ Memory → fault_of (sets_to_come R.Offset.limit sets) ≡ Some e) }
 {
     while sets.next()?.is_some() {}

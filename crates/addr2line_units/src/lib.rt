@@ -7,6 +7,7 @@ mod facts;
 mod files;
 mod language;
 mod lists;
+mod partial;
 mod ranges;
 mod rows;
 pub mod unit;
@@ -17,7 +18,8 @@ pub use addr2line_index::{
 };
 pub use aranges::check_aranges;
 pub use gimli_dwarf::{
-    DebugRanges, DebugRngLists, Dwarf, LocationLists, RangeLists, Unit, UnitRef,
+    DebugRanges, DebugRngLists, DebuggingInformationEntry, Dwarf, LocationLists, RangeLists, Unit,
+    UnitRef,
 };
 pub use gimli_lines_rows::{
     AbbreviationsCache, AbbreviationsCacheStrategy, Attribute, AttributeValue, DW_LANG_Rust,
@@ -28,5 +30,6 @@ pub use gimli_lines_rows::{
     ReaderOffsetId, RunTimeEndian, SectionId, UnitHeader, UnitOffset, UnitType,
 };
 pub use language::language_of;
+pub use partial::is_partial;
 pub use ranges::{ranges_of_attributes, ranges_of_entry};
 pub use unit::lines_of_unit;

@@ -33,7 +33,7 @@ fn column_of(row: &LineRow) -> u64
 // Pushes a row to the builder.
 fn push_row(builder: &mut LinesBuilder, row: &LineRow) -> Result<(), Error>
     ensures ok { OnOk result (Adds builder.old builder.new (program_row row.now ∷ [])) }
-    ensures refused { IfErr result (λ e. e ≡ Memory) }
+    ensures refusal { IfErr result (λ e. e ≡ Memory) }
 {
     builder.push(
         row.address(),

@@ -10,7 +10,7 @@ use std::alloc::Global;
 pub fn source_lines(alloc: Global, table: &[u8], addresses: &[String]) -> Result<Vec<u8>, Ended>
     ensures answers { let wanted = ask_outcome table.now (map string_bytes addresses.now) in
         IfOk result (λ text. text.items ≡ wanted.out) }
-    ensures refused { let wanted = ask_outcome table.now (map string_bytes addresses.now) in
+    ensures refusal { let wanted = ask_outcome table.now (map string_bytes addresses.now) in
         IfErr result (λ ended. IsClean ended → ended.status ≡ wanted.status) }
 {
     let mut out = Vec::new(alloc);

@@ -115,7 +115,8 @@ fn answer<R: Reader>(
     mut sections: Sections<R>,
     out: &mut String,
 ) -> Result<(), Error> {
-    if numbers::answer(alloc, case, &mut sections.first, out)?
+    if text::answer(case, out)?
+        || numbers::answer(alloc, case, &mut sections.first, out)?
         || sections::answer(alloc, case, &sections, out)?
         || units::answer(alloc, case, &sections, out)?
         || attributes::answer(alloc, case, &mut sections, out)?

@@ -4,10 +4,15 @@
 use super::*;
 use bytes::Bytes;
 use std::alloc::Global;
+use std::borrow::CowStr;
 use std::rc::Rc;
 use std::test::Fail;
 
 // ---- readers
+
+const VALID: &[u8] = b"na\xc3\xafve";
+
+const BROKEN: &[u8] = b"a\xffb";
 
 #[test]
 fn parts_of_shared_bytes(rt: HostRuntime) -> Result<(), Fail> {
@@ -28,6 +33,37 @@ fn parts_of_slices(rt: HostRuntime) -> Result<(), Fail> {
     assert_eq!(rt; back.offset_from(&whole), 4);
     assert_eq!(rt; back.find(b'r'), Some(1));
     assert!(rt; whole.range(2..3) == EndianSlice::new(b"m", RunTimeEndian::Big));
+    Ok(())
+}
+
+// A text with a letter of two bytes is lent, and a byte that is no UTF-8 is replaced.
+#[test]
+fn texts_of_slices(rt: HostRuntime) -> Result<(), Fail> {
+    let valid = EndianSlice::new(VALID, LittleEndian);
+    let broken = EndianSlice::new(BROKEN, LittleEndian);
+    assert!(rt;
+        matches!(
+            valid.to_string_lossy(rt.alloc())?,
+            CowStr::Borrowed("na\u{ef}ve")
+        )
+    );
+    assert_eq!(rt; broken.to_string_lossy(rt.alloc())?.as_str(), "a\u{fffd}b");
+    assert!(rt; matches!(broken.to_string(), Err(Error::BadUtf8)));
+    Ok(())
+}
+
+#[test]
+fn texts_of_shared_bytes(rt: HostRuntime) -> Result<(), Fail> {
+    let valid = EndianBytes::new(Bytes::from_static(VALID), LittleEndian);
+    let broken = EndianBytes::new(Bytes::from_static(BROKEN), LittleEndian);
+    assert!(rt;
+        matches!(
+            valid.to_string_lossy(rt.alloc())?,
+            CowStr::Borrowed("na\u{ef}ve")
+        )
+    );
+    assert_eq!(rt; broken.to_string_lossy(rt.alloc())?.as_str(), "a\u{fffd}b");
+    assert!(rt; matches!(broken.to_string(), Err(Error::BadUtf8)));
     Ok(())
 }
 

@@ -41,11 +41,11 @@ pub Stays-Err : {A : Type 0} {more : List ℕ} {e : Error} → Stays {A = A} mor
 Stays-Err = record { same = λ _. refl }
 
 -- the refusal, whatever was to be read
-abbrev refused : {A : Type 0} → Error → Result A Error
-refused e = Err e
+abbrev refusal : {A : Type 0} → Error → Result A Error
+refusal e = Err e
 
 pub NotCut-Err : {A B : Type 0} (e : Error) → NotCut {A = A} (Err e) → NotCut {A = B} (Err e)
-NotCut-Err {A} e uncut = λ id is. uncut id (let same : e ≡ UnexpectedEof id = cc in ap (refused {A = A}) same)
+NotCut-Err {A} e uncut = λ id is. uncut id (let same : e ≡ UnexpectedEof id = cc in ap (refusal {A = A}) same)
 
 proceed-stays : {A B : Type 0} {more : List ℕ} (r s : Result (A × View) Error) (f : A → Step View B)
     → Stays more r s → ((x : A) (v : View) → Stays more (f x v) (f x (with_more_bytes more v)))
@@ -137,31 +137,31 @@ signed_fits bytes x k e = judgement (bounded_string 10 bytes) refl e
         cases true g = rw (← length_is (signed_number s) x (length s) k g) (judged_stands 10 bytes s is).fits
         cases false g = absurd cc
 
-behind-stays : {A : Type 0} {more : List ℕ} (bad : Error) (v : View) (r s : Result (A × ℕ) Fault)
+rest-stays : {A : Type 0} {more : List ℕ} (bad : Error) (v : View) (r s : Result (A × ℕ) Fault)
     → ((x : A) (k : ℕ) → r ≡ Ok (x, k) → k ≤ length v.bytes) → (r ≢ Err Cut → s ≡ r)
     → Stays more (number_and_rest bad v r) (number_and_rest bad (with_more_bytes more v) s)
-behind-stays {A} {more} bad v (Ok found) s fits kept =
-    rw (kept (λ e. cc), after-more found.1 v more (fits found.0 found.1 refl)) Stays-Ok
-behind-stays bad v (Err Cut) s fits kept =
+rest-stays {A} {more} bad v (Ok found) s fits not_cut =
+    rw (not_cut (λ e. cc), after-more found.1 v more (fits found.0 found.1 refl)) Stays-Ok
+rest-stays bad v (Err Cut) s fits not_cut =
     record { same = λ uncut. absurd (uncut (record { 0 = v.first + length v.bytes }) refl) }
-behind-stays bad v (Err Bad) s fits kept = rw (kept (λ e. cc)) Stays-Err
+rest-stays bad v (Err Bad) s fits not_cut = rw (not_cut (λ e. cc)) Stays-Err
 
 pub Stays-unsigned : {more : List ℕ} (v : View) → Stays more (unsigned v) (unsigned (with_more_bytes more v))
 unfolding unsigned
 Stays-unsigned {more} v =
-    behind-stays BadUnsignedLeb128 v (unsigned_at 10 (2 ^ 64) v.bytes) (unsigned_at 10 (2 ^ 64) (v.bytes ++ more))
+    rest-stays BadUnsignedLeb128 v (unsigned_at 10 (2 ^ 64) v.bytes) (unsigned_at 10 (2 ^ 64) (v.bytes ++ more))
     (unsigned_fits (2 ^ 64) 10 v.bytes) (unsigned_ignores_rest 10 (2 ^ 64) v.bytes more)
 
 pub Stays-unsigned_16 : {more : List ℕ} (v : View) → Stays more (unsigned_16 v) (unsigned_16 (with_more_bytes more v))
 unfolding unsigned_16
 Stays-unsigned_16 {more} v =
-    behind-stays BadUnsignedLeb128 v (unsigned_at 3 (2 ^ 16) v.bytes) (unsigned_at 3 (2 ^ 16) (v.bytes ++ more))
+    rest-stays BadUnsignedLeb128 v (unsigned_at 3 (2 ^ 16) v.bytes) (unsigned_at 3 (2 ^ 16) (v.bytes ++ more))
     (unsigned_fits (2 ^ 16) 3 v.bytes) (unsigned_ignores_rest 3 (2 ^ 16) v.bytes more)
 
 pub Stays-signed : {more : List ℕ} (v : View) → Stays more (signed v) (signed (with_more_bytes more v))
 unfolding signed
 Stays-signed {more} v =
-    behind-stays BadSignedLeb128 v (signed_at v.bytes) (signed_at (v.bytes ++ more)) (signed_fits v.bytes)
+    rest-stays BadSignedLeb128 v (signed_at v.bytes) (signed_at (v.bytes ++ more)) (signed_fits v.bytes)
     (signed_ignores_rest v.bytes more)
 
 -- the facts above, for `search`
@@ -202,12 +202,12 @@ listing-stays {A} {p} more h k (suc n) v few uncut =
         → ((t : View) → bytes_left t < bytes_left v → NotCut (listing_in bytes_left p t).ending
         → listing_in bytes_left p (with_more_bytes more t) ≡ listing_with more (listing_in bytes_left p t))
         → next_item s (listing_in bytes_left p) ≡ listing_with more (next_item r (listing_in bytes_left p))
-    stepped (Err d) s is st kept again =
-        let same : s ≡ Err d = st.same (NotCut-Err d kept) in
+    stepped (Err d) s is st not_cut again =
+        let same : s ≡ Err d = st.same (NotCut-Err d not_cut) in
         ap (λ (t : Result (Option A × View) Error). next_item t (listing_in bytes_left p)) same
-    stepped (Ok r) s is st kept again =
+    stepped (Ok r) s is st not_cut again =
         let same : s ≡ read r.0 (with_more_bytes more r.1) = st.same (λ id e. cc) in
-        ap (λ (t : Result (Option A × View) Error). next_item t (listing_in bytes_left p)) same ∙ itemed r.0 refl kept
+        ap (λ (t : Result (Option A × View) Error). next_item t (listing_in bytes_left p)) same ∙ itemed r.0 refl not_cut
       where
         itemed : (o : Option A) → r.0 ≡ o → NotCut (item_or_end o r.1 (listing_in bytes_left p)).ending
             → item_or_end o (with_more_bytes more r.1) (listing_in bytes_left p)

@@ -13,14 +13,14 @@ use Rattle.gimli_core_abbrev.specs.Declarations.{Declaration}
 use Rattle.gimli_core_abbrev.specs.TableCache.{table_view}
 use Rattle.gimli_core_abbrev.proofs.RepeatedOffsets.{among, among-push, or_false, same_among, place_test}
 
-abbrev refused : Error → Result (List Declaration) Error
-refused e = Err e
+abbrev refusal : Error → Result (List Declaration) Error
+refusal e = Err e
 
 -- a table that is known to be no refusal for memory is the wanted one
 wanted_is : (read wanted : Result (List Declaration) Error) → ReturnsOrNoMemory read wanted → read ≢ Err Memory
     → read ≡ wanted
 wanted_is (Ok table) wanted h known = sym h
-wanted_is (Err e) wanted h known = sym (h (λ is. known (ap refused is)))
+wanted_is (Err e) wanted h known = sym (h (λ is. known (ap refusal is)))
 
 pub if_shared : (read wanted : Result (List Declaration) Error)
     (shared : Result (Result (Rc Abbreviations Global) Error) Error)

@@ -11,4 +11,5 @@ pub mod TableRoom
 pub mod AppendedBytes
 pub mod SectionEnds
 pub mod TableEndExamples
+pub mod CacheMaps
 mod CachedTables

@@ -1,4 +1,4 @@
--- Offsets that were seen, once and twice, and what is kept at them.
+-- Offsets of a list, and those that occur twice or more.
 use Rattle.std.proofs.Common.{◌≡◌, ℕ, ◌+◌, ◌<◌, ◌≤◌, Bool, true, false, cond, not, ◌||◌, eqb, leb, List, [], ◌∷◌, ◌++◌, length, map, take, get_or, count_by, refl, sym, ap, ◌∙◌, inl, inr, arith}
 use Rattle.std.specs.List.{list_any}
 use Rattle.std.specs.Ordering.{nat_cmp}
@@ -51,7 +51,7 @@ times-cons : (offset p : ℕ) (places : List ℕ) → times_among offset (p ∷ 
     + times_among offset places
 times-cons offset p places = sum_by-append (λ (q : ℕ). cond (eqb q offset) 1 0) (p ∷ []) places ∙ omega arith
 
-among_times : (offset : ℕ) (places : List ℕ) → among offset places ≡ leb 1 (times_among offset places)
+pub among_times : (offset : ℕ) (places : List ℕ) → among offset places ≡ leb 1 (times_among offset places)
 among_times offset [] = sym (lt-leb 1 0 (omega arith))
 among_times offset (p ∷ places) =
     first (eqb p offset) (among_times offset places) ∙ ap (leb 1) (sym (times-cons offset p places))
@@ -74,11 +74,11 @@ flipped a b = elim (cases_eq a b) [
 pub place_test : (a b : ℕ) → is_at (nat_cmp a) b ≡ eqb a b
 place_test a b = key_test a b ∙ flipped b a
 
--- ---- seen
+-- ---- once
 
-pub seen_more : (offset c : ℕ) (places : List ℕ) (old new : Bool) → new ≡ cond (is_at (nat_cmp c) offset) true old
+pub distinct_more : (offset c : ℕ) (places : List ℕ) (old new : Bool) → new ≡ cond (is_at (nat_cmp c) offset) true old
     → old ≡ among offset places → new ≡ among offset (places ++ c ∷ [])
-seen_more offset c places old new is was =
+distinct_more offset c places old new is was =
     is ∙ rw (place_test c offset) (joined (eqb c offset) old was) ∙ sym (among-push offset places c)
   where
     joined : (b x : Bool) → x ≡ among offset places → cond b true x ≡ (among offset places || b)
@@ -92,10 +92,10 @@ seen_more offset c places old new is was =
 -- ---- twice
 
 -- a place that wasn't there
-pub twice_new : (offset c : ℕ) (places found : List ℕ) → among c places ≡ false
+pub repeated_new : (offset c : ℕ) (places found : List ℕ) → among c places ≡ false
     → among offset found ≡ leb 2 (times_among offset places)
     → among offset found ≡ leb 2 (times_among offset (places ++ c ∷ []))
-twice_new offset c places found new was =
+repeated_new offset c places found new was =
     was ∙ sym (ap (leb 2) (times-push offset places c) ∙ stays (eqb c offset) refl)
   where
     stays : (b : Bool) → eqb c offset ≡ b → leb 2 (times_among offset places + cond b 1 0)
@@ -108,10 +108,10 @@ twice_new offset c places found new was =
     stays false e = ap (leb 2) (omega arith)
 
 -- a place that was there
-pub twice_again : (offset c : ℕ) (places found : List ℕ) → among c places ≡ true
+pub repeated_again : (offset c : ℕ) (places found : List ℕ) → among c places ≡ true
     → among offset found ≡ leb 2 (times_among offset places)
     → among offset (found ++ c ∷ []) ≡ leb 2 (times_among offset (places ++ c ∷ []))
-twice_again offset c places found there was =
+repeated_again offset c places found there was =
     among-push offset found c ∙ sym (ap (leb 2) (times-push offset places c) ∙ counted (eqb c offset) refl)
   where
     counted : (b : Bool) → eqb c offset ≡ b → leb 2 (times_among offset places + cond b 1 0) ≡ (among offset found || b)

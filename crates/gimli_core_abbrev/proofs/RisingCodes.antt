@@ -39,16 +39,16 @@ Rise-put n d (e ∷ ds) rises above absent =
           rw (le-ltb d.code e.code le) (rises.0, Rise-put e.code d ds rises.1 more other.1)
     ]
 
-Rise-put_all : (before kept ds : List Declaration)
-    → ((code : ℕ) → is_some (declaration_at code kept) ≡ has_code code before) → Rise 0 kept → Counted ds
-    → repeated_after before ds ≡ None → Rise 0 (put_all kept ds)
-Rise-put_all before kept [] same rises counted once = rises
-Rise-put_all before kept (d ∷ ds) same rises counted once =
+Rise-put_all : (before so_far ds : List Declaration)
+    → ((code : ℕ) → is_some (declaration_at code so_far) ≡ has_code code before) → Rise 0 so_far → Counted ds
+    → repeated_after before ds ≡ None → Rise 0 (put_all so_far ds)
+Rise-put_all before so_far [] same rises counted once = rises
+Rise-put_all before so_far (d ∷ ds) same rises counted once =
     let here = split (has_code d.code before) d.code (repeated_after (d ∷ before) ds) once in
-    let absent : declaration_at d.code kept ≡ None = none_there (declaration_at d.code kept) (same d.code ∙ here.0) in
-    Rise-put_all (d ∷ before) (put d kept) ds
-    (λ code. has_code-put code d kept ∙ ap (λ (b : Bool). eqb d.code code || b) (same code))
-    (Rise-put 0 d kept rises counted.0 absent) counted.1 here.1
+    let absent : declaration_at d.code so_far ≡ None = none_there (declaration_at d.code so_far) (same d.code ∙ here.0) in
+    Rise-put_all (d ∷ before) (put d so_far) ds
+    (λ code. has_code-put code d so_far ∙ ap (λ (b : Bool). eqb d.code code || b) (same code))
+    (Rise-put 0 d so_far rises counted.0 absent) counted.1 here.1
   where
     split : (b : Bool) (code : ℕ) (o : Option ℕ) → cond b (Some code) o ≡ None → (b ≡ false) × (o ≡ None)
     split true code o h = absurd cc

@@ -122,21 +122,21 @@ abbrev pub coded : View → Listing View Declaration
 coded v = listing_in bytes_left coded_declaration v
 
 -- what follows the number that is read
-abbrev behind_code : ℕ → View → Found
-behind_code code = branch (eqb code 0) (give None) (declaration_of code >>= λ declaration. give (Some declaration))
+abbrev after_code : ℕ → View → Found
+after_code code = branch (eqb code 0) (give None) (declaration_of code >>= λ declaration. give (Some declaration))
 
 -- no byte is left
 coded-empty : (v : View) → v.bytes ≡ [] → coded_declaration v
     ≡ fault (UnexpectedEof (record { 0 = v.first + length v.bytes }))
 unfolding coded_declaration unsigned
 coded-empty v none =
-    ap (λ (bs : List ℕ). proceed (number_and_rest BadUnsignedLeb128 v (unsigned_at 10 (2 ^ 64) bs)) behind_code) none
+    ap (λ (bs : List ℕ). proceed (number_and_rest BadUnsignedLeb128 v (unsigned_at 10 (2 ^ 64) bs)) after_code) none
 
 -- the next byte is a code 0
 coded-zero : (v : View) (tail : List ℕ) → v.bytes ≡ 0 ∷ tail → coded_declaration v ≡ found None (after 1 v)
 unfolding coded_declaration unsigned
 coded-zero v tail is =
-    ap (λ (bs : List ℕ). proceed (number_and_rest BadUnsignedLeb128 v (unsigned_at 10 (2 ^ 64) bs)) behind_code) is
+    ap (λ (bs : List ℕ). proceed (number_and_rest BadUnsignedLeb128 v (unsigned_at 10 (2 ^ 64) bs)) after_code) is
 
 zero_or_end : (bytes : List ℕ) (v : View) (tail : List ℕ) → bytes ≡ 0 ∷ tail → v.bytes ≡ 0 ∷ tail
     → unless_ended bytes coded_declaration v ≡ found None (after 1 v)
@@ -261,14 +261,14 @@ repeated_stays l m rest code is e =
 
 stays_answered : (more : List ℕ) (l m c : Listing View Declaration) → Becomes more l m c → NotCut (answer l)
     → ¬ (IsOk (answer l) × IsErr (answer c)) → answer m ≡ answer l
-stays_answered more l m c (stayed uncut same is) kept zero_there =
+stays_answered more l m c (stayed uncut same is) not_cut zero_there =
     ap answer is ∙ answered-more more (repeated_code l.items) l.items l.ending
-stays_answered more l m c (was_cut id rest cut same is) kept zero_there = cases (repeated_code l.items) refl
+stays_answered more l m c (was_cut id rest cut same is) not_cut zero_there = cases (repeated_code l.items) refl
   where
     cases : (o : Option ℕ) → repeated_code l.items ≡ o → answer m ≡ answer l
     cases (Some code) e = repeated_stays l m rest code is e
-    cases None e = absurd (kept id (is_refused l (UnexpectedEof id) e cut))
-stays_answered more l m c (was_ended id w rest end same is zero_ends) kept zero_there =
+    cases None e = absurd (not_cut id (is_refused l (UnexpectedEof id) e cut))
+stays_answered more l m c (was_ended id w rest end same is zero_ends) not_cut zero_there =
     cases (repeated_code l.items) refl
   where
     cases : (o : Option ℕ) → repeated_code l.items ≡ o → answer m ≡ answer l
@@ -383,29 +383,29 @@ abbrev first_of : Option Declaration → Option Declaration → Option Declarati
 first_of (Some d) o = Some d
 first_of None o = o
 
-found_put_all : (code : ℕ) (before kept ds : List Declaration)
-    → ((c : ℕ) → is_some (declaration_at c kept) ≡ has_code c before) → repeated_after before ds ≡ None
-    → declaration_at code (put_all kept ds) ≡ first_of (declaration_at code kept) (declaration_at code ds)
-found_put_all code before kept [] same once = end (declaration_at code kept)
+found_put_all : (code : ℕ) (before so_far ds : List Declaration)
+    → ((c : ℕ) → is_some (declaration_at c so_far) ≡ has_code c before) → repeated_after before ds ≡ None
+    → declaration_at code (put_all so_far ds) ≡ first_of (declaration_at code so_far) (declaration_at code ds)
+found_put_all code before so_far [] same once = end (declaration_at code so_far)
   where
     end : (o : Option Declaration) → o ≡ first_of o None
     end (Some d) = refl
     end None = refl
-found_put_all code before kept (d ∷ ds) same once =
+found_put_all code before so_far (d ∷ ds) same once =
     let here = split (has_code d.code before) d.code (repeated_after (d ∷ before) ds) once in
-    let absent : declaration_at d.code kept ≡ None = none_there (declaration_at d.code kept) (same d.code ∙ here.0) in
-    found_put_all code (d ∷ before) (put d kept) ds
-    (λ c. has_code-put c d kept ∙ ap (λ (b : Bool). eqb d.code c || b) (same c)) here.1
-    ∙ ap (λ (o : Option Declaration). first_of o (declaration_at code ds)) (found_put code d kept absent)
-    ∙ moved (eqb d.code code) (λ p. subst (λ (c : ℕ). declaration_at c kept ≡ None) (eqb-true d.code code p) absent)
+    let absent : declaration_at d.code so_far ≡ None = none_there (declaration_at d.code so_far) (same d.code ∙ here.0) in
+    found_put_all code (d ∷ before) (put d so_far) ds
+    (λ c. has_code-put c d so_far ∙ ap (λ (b : Bool). eqb d.code c || b) (same c)) here.1
+    ∙ ap (λ (o : Option Declaration). first_of o (declaration_at code ds)) (found_put code d so_far absent)
+    ∙ moved (eqb d.code code) (λ p. subst (λ (c : ℕ). declaration_at c so_far ≡ None) (eqb-true d.code code p) absent)
   where
     split : (b : Bool) (c : ℕ) (o : Option ℕ) → cond b (Some c) o ≡ None → (b ≡ false) × (o ≡ None)
     split true c o h = absurd cc
     split false c o h = (refl, h)
 
-    moved : (b : Bool) → (b ≡ true → declaration_at code kept ≡ None)
-        → first_of (cond b (Some d) (declaration_at code kept)) (declaration_at code ds)
-        ≡ first_of (declaration_at code kept) (cond b (Some d) (declaration_at code ds))
+    moved : (b : Bool) → (b ≡ true → declaration_at code so_far ≡ None)
+        → first_of (cond b (Some d) (declaration_at code so_far)) (declaration_at code ds)
+        ≡ first_of (declaration_at code so_far) (cond b (Some d) (declaration_at code ds))
     moved true none = sym (ap (λ (o : Option Declaration). first_of o (Some d)) (none refl))
     moved false none = refl
 

@@ -66,10 +66,10 @@ pub has_code-by_code : (code : ℕ) (ds : List Declaration)
     → is_some (declaration_at code (by_code ds)) ≡ has_code code ds
 has_code-by_code code ds = has_code-put_all code [] ds
 
-pub put_all-push : (kept ds : List Declaration) (d : Declaration)
-    → put_all kept (ds ++ d ∷ []) ≡ put d (put_all kept ds)
-put_all-push kept [] d = refl
-put_all-push kept (x ∷ ds) d = put_all-push (put x kept) ds d
+pub put_all-push : (so_far ds : List Declaration) (d : Declaration)
+    → put_all so_far (ds ++ d ∷ []) ≡ put d (put_all so_far ds)
+put_all-push so_far [] d = refl
+put_all-push so_far (x ∷ ds) d = put_all-push (put x so_far) ds d
 
 -- ---- the answer of a look-up
 
@@ -83,9 +83,9 @@ none_there (Some x) e = absurd cc
 
 -- ---- the first code that stands twice
 
-none_behind : (b : Bool) (code : ℕ) (o : Option ℕ) → cond b (Some code) o ≡ None → (b ≡ false) × (o ≡ None)
-none_behind true code o e = absurd cc
-none_behind false code o e = (refl, e)
+none_later : (b : Bool) (code : ℕ) (o : Option ℕ) → cond b (Some code) o ≡ None → (b ≡ false) × (o ≡ None)
+none_later true code o e = absurd cc
+none_later false code o e = (refl, e)
 
 -- a declaration whose code one before it has is the first such one
 repeated_first : (before ds rest : List Declaration) (d : Declaration) → repeated_after before ds ≡ None
@@ -96,7 +96,7 @@ repeated_first before [] rest d once twice = rw (settled (has_code d.code before
     settled true h = refl
     settled false h = h
 repeated_first before (x ∷ ds) rest d once twice =
-    let here = none_behind (has_code x.code before) x.code (repeated_after (x ∷ before) ds) once in
+    let here = none_later (has_code x.code before) x.code (repeated_after (x ∷ before) ds) once in
     rw here.0 (repeated_first (x ∷ before) ds rest d here.1
     (moved (eqb x.code d.code) (has_code d.code before) (has_code d.code ds) twice))
   where
@@ -113,7 +113,7 @@ repeated_further before [] d once new = rw (settled (has_code d.code before) new
     settled true h = h
     settled false h = refl
 repeated_further before (x ∷ ds) d once new =
-    let here = none_behind (has_code x.code before) x.code (repeated_after (x ∷ before) ds) once in
+    let here = none_later (has_code x.code before) x.code (repeated_after (x ∷ before) ds) once in
     rw here.0 (repeated_further (x ∷ before) ds d here.1
     (moved (eqb x.code d.code) (has_code d.code before) (has_code d.code ds) new))
   where

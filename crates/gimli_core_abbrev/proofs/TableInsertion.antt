@@ -33,19 +33,19 @@ found_in_order i (x ∷ front) back code d counts low high = elim (cases_lt i co
 ]
 
 -- none of those in order has another code
-pub found_behind : (i : ℕ) (front back : List Declaration) (code : ℕ) → CountUp i front → (code < i → ⊥)
+pub found_later : (i : ℕ) (front back : List Declaration) (code : ℕ) → CountUp i front → (code < i → ⊥)
     → (code < i + length front → ⊥) → declaration_at code (front ++ back) ≡ declaration_at code back
-found_behind i [] back code counts low high = refl
-found_behind i (x ∷ front) back code counts low high =
+found_later i [] back code counts low high = refl
+found_later i (x ∷ front) back code counts low high =
     let other : eqb x.code code ≡ false = ne_eqb x.code code (λ e. omega (arith, e, counts.0, high)) in
-    rw other (found_behind (suc i) front back code counts.1 (λ h. omega (arith, h, high)) (λ h. omega (arith, h, high)))
+    rw other (found_later (suc i) front back code counts.1 (λ h. omega (arith, h, high)) (λ h. omega (arith, h, high)))
 
-pub found_behind_0 : (i : ℕ) (front back : List Declaration) (code : ℕ) → CountUp i front → code < i
+pub found_later_0 : (i : ℕ) (front back : List Declaration) (code : ℕ) → CountUp i front → code < i
     → declaration_at code (front ++ back) ≡ declaration_at code back
-found_behind_0 i [] back code counts low = refl
-found_behind_0 i (x ∷ front) back code counts low =
+found_later_0 i [] back code counts low = refl
+found_later_0 i (x ∷ front) back code counts low =
     let other : eqb x.code code ≡ false = ne_eqb x.code code (λ e. omega (arith, e, counts.0)) in
-    rw other (found_behind_0 (suc i) front back code counts.1 (omega arith))
+    rw other (found_later_0 (suc i) front back code counts.1 (omega arith))
 
 -- a look-up by the key is one by the code
 pub key_test : (code key : ℕ) → is_eq (nat_cmp code key) ≡ eqb key code
@@ -74,12 +74,12 @@ found_by_key n code (e ∷ es) rises =
 -- ---- put at its place
 
 -- behind those whose codes are lower
-pub put_behind : (i : ℕ) (d : Declaration) (front back : List Declaration) → CountUp i front → i + length front ≤ d.code
+pub put_later : (i : ℕ) (d : Declaration) (front back : List Declaration) → CountUp i front → i + length front ≤ d.code
     → put d (front ++ back) ≡ front ++ put d back
-put_behind i d [] back counts above = refl
-put_behind i d (x ∷ front) back counts above =
+put_later i d [] back counts above = refl
+put_later i d (x ∷ front) back counts above =
     let later : ltb d.code x.code ≡ false = le-ltb d.code x.code (omega (arith, counts.0)) in
-    rw later (ap (λ (ds : List Declaration). x ∷ ds) (put_behind (suc i) d front back counts.1 (omega arith)))
+    rw later (ap (λ (ds : List Declaration). x ∷ ds) (put_later (suc i) d front back counts.1 (omega arith)))
 
 -- before those whose codes are higher
 put_before : (d : Declaration) (es : List (ℕ × Declaration)) → RiseAbove d.code es → put d (values es) ≡ d ∷ values es
@@ -114,13 +114,13 @@ pub next_in_order : (ds : List Declaration) (es : List (ℕ × Declaration)) (d 
 next_in_order ds es d is_kept next absent =
     let among : declaration_at (suc (length ds)) (values es)
     ≡ None = subst (λ (c : ℕ). declaration_at c (values es) ≡ None) (next ∙ omega arith)
-    (sym (found_behind 1 ds (values es) d.code is_kept.counts_up (λ h. omega (arith, h, next))
+    (sym (found_later 1 ds (values es) d.code is_kept.counts_up (λ h. omega (arith, h, next))
     (λ h. omega (arith, h, next))) ∙ absent) in
     let further = rises_further (length ds) es is_kept.rises among in
     let len : length (ds ++ d ∷ []) ≡ suc (length ds) = length-append ds (d ∷ []) ∙ omega arith in
     let code : d.code ≡ suc (length ds) = next ∙ omega arith in
     let placed : put d (all_declarations ds es) ≡ ds ++ d
-    ∷ values es = put_behind 1 d ds (values es) is_kept.counts_up (omega (arith, next))
+    ∷ values es = put_later 1 d ds (values es) is_kept.counts_up (omega (arith, next))
     ∙ ap (λ (rest : List Declaration). ds ++ rest)
     (put_before d es (subst (λ (n : ℕ). RiseAbove n es) (sym code) further)) in (
       record {
@@ -163,13 +163,13 @@ other_code ds es d is_kept counts not_next absent = elim (cases_lt d.code (1 + l
   | inl among ↦ absurd (let found = found_in_order 1 ds (values es) d.code d is_kept.counts_up (omega arith) among
       in let both = sym found ∙ absent in cc)
   | inr above ↦
-      let behind : declaration_at d.code (values es)
-      ≡ None = sym (found_behind 1 ds (values es) d.code is_kept.counts_up (λ h. omega (arith, h, counts))
+      let absent_later : declaration_at d.code (values es)
+      ≡ None = sym (found_later 1 ds (values es) d.code is_kept.counts_up (λ h. omega (arith, h, counts))
       (λ h. omega (arith, h, above))) ∙ absent in
-      let placed = entry_at_place (length ds) es d is_kept.rises (omega (arith, above, not_next)) behind in (
+      let placed = entry_at_place (length ds) es d is_kept.rises (omega (arith, above, not_next)) absent_later in (
         record { counts_up = is_kept.counts_up; rises = placed.0 },
         ap (λ (rest : List Declaration). ds ++ rest) placed.1
-            ∙ sym (put_behind 1 d ds (values es) is_kept.counts_up (omega arith)),
+            ∙ sym (put_later 1 d ds (values es) is_kept.counts_up (omega arith)),
       )
 ]
 
@@ -235,8 +235,8 @@ get_high items es code o is_kept outside found =
     ap (option_map declaration_view) found ∙ found_by_key (length (map declaration_view items)) code es is_kept.rises
     ∙ sym (elim (cases_lt code 1) [
       | inl zero_code ↦
-          found_behind_0 1 (map declaration_view items) (values (map entry_view es)) code is_kept.counts_up
+          found_later_0 1 (map declaration_view items) (values (map entry_view es)) code is_kept.counts_up
           zero_code
-      | inr some ↦ found_behind 1 (map declaration_view items) (values (map entry_view es)) code is_kept.counts_up
+      | inr some ↦ found_later 1 (map declaration_view items) (values (map entry_view es)) code is_kept.counts_up
           (λ h. omega (arith, h, some)) (λ h. outside some (omega (arith, h, len)))
     ])

@@ -17,8 +17,8 @@ use Rattle.gimli_core_abbrev.specs.TableLaws.{bytes_needed}
 abbrev well : View → Result View Error
 well w = Ok w
 
-abbrev given : Option Declaration → View → Result (Option Declaration × View) Error
-given o s = Ok (o, s)
+abbrev answer : Option Declaration → View → Result (Option Declaration × View) Error
+answer o s = Ok (o, s)
 
 abbrev passed : View → Result (Unit {0} × View) Error
 passed s = Ok (tt, s)
@@ -36,9 +36,9 @@ attribute_of-leaves : (name form : ℕ) (v : View) (n : ℕ) → bytes_left v �
 unfolding attribute_of implicit_const
 attribute_of-leaves name form v n h = search (arith, sizes, number_sizes) depth 40
 
-behind_form-leaves : (name form : ℕ) (v : View) (n : ℕ) → bytes_left v ≤ n
+after_form-leaves : (name form : ℕ) (v : View) (n : ℕ) → bytes_left v ≤ n
     → AtMost bytes_left n (branch (eqb name 0 && eqb form 0) (give None) (attribute_of name form) v)
-behind_form-leaves name form v n h = search (arith, sizes, attribute_of-leaves) depth 20
+after_form-leaves name form v n h = search (arith, sizes, attribute_of-leaves) depth 20
 
 attribute-two : (v : View) (o : Option Attribute) (t : View) → attribute v ≡ Ok (o, t) → bytes_left t + 2 ≤ bytes_left v
 unfolding attribute
@@ -50,7 +50,7 @@ attribute-two v o t e =
     let second = begins (unsigned_16 first.1)
     (λ form. branch (eqb first.0 0 && eqb form 0) (give None) (attribute_of first.0 form)) o t first.3 in
     let two = (Below-unsigned_16 {n = bytes_left first.1} first.1 (omega arith)).left second.0 second.1 second.2 in
-    let rest = (behind_form-leaves first.0 second.0 second.1 (bytes_left second.1) (omega arith)).left o t second.3 in
+    let rest = (after_form-leaves first.0 second.0 second.1 (bytes_left second.1) (omega arith)).left o t second.3 in
     omega (arith, one, two, rest)
 
 -- ---- the attributes
@@ -139,14 +139,14 @@ coded-room v d w e =
     let rest = cases code.0 code.1 (eqb code.0 0) code.3 in
     omega (arith, one, rest)
   where
-    none_some : (s t : View) (x : Declaration) → given None s ≡ given (Some x) t → ⊥
+    none_some : (s t : View) (x : Declaration) → answer None s ≡ answer (Some x) t → ⊥
     none_some s t x h = let is = value_is {A = Option Declaration} None (Some x) s t h in cc
 
     some_is : (x y : Declaration) → just x ≡ just y → x ≡ y
     some_is x y h = cc
 
-    cases : (c : ℕ) (s : View) (b : Bool) → cond b (given None s) (proceed (declaration_of c s) (λ x. give (Some x)))
-        ≡ given (Some d) w → bytes_needed d + bytes_left w ≤ bytes_left s + 1
+    cases : (c : ℕ) (s : View) (b : Bool) → cond b (answer None s) (proceed (declaration_of c s) (λ x. give (Some x)))
+        ≡ answer (Some d) w → bytes_needed d + bytes_left w ≤ bytes_left s + 1
     cases c s true h = absurd (none_some s w d h)
     cases c s false h =
         let made = begins (declaration_of c s) (λ x. give (Some x)) (Some d) w h in
@@ -160,7 +160,7 @@ declaration-room : (v : View) (d : Declaration) (w : View) → declaration v ≡
 unfolding declaration
 declaration-room v d w e = cases v.bytes e
   where
-    none_some : (s t : View) (x : Declaration) → given None s ≡ given (Some x) t → ⊥
+    none_some : (s t : View) (x : Declaration) → answer None s ≡ answer (Some x) t → ⊥
     none_some s t x h = let is = value_is {A = Option Declaration} None (Some x) s t h in cc
 
     cases : (bytes : List ℕ) → unless_ended bytes coded_declaration v ≡ Ok (Some d, w)
@@ -184,7 +184,7 @@ listed-room (suc k) v = stepped (declaration v) refl (λ t. listed-room k t)
         → sum_by bytes_needed (next_item r (items_within k declaration)).items ≤ bytes_left v
     stepped (Err e) is rest = omega arith
     stepped (Ok r) is rest = itemed r.0
-        (λ d e. declaration-room v d r.1 (is ∙ ap (λ (o : Option Declaration). given o r.1) e))
+        (λ d e. declaration-room v d r.1 (is ∙ ap (λ (o : Option Declaration). answer o r.1) e))
       where
         itemed : (o : Option Declaration)
             → ((d : Declaration) → o ≡ Some d → bytes_needed d + bytes_left r.1 ≤ bytes_left v)
@@ -202,10 +202,10 @@ sum-put d (e ∷ ds) = placed (ltb d.code e.code) (sum-put d ds)
     placed true h = sum-cons d (e ∷ ds)
     placed false h = omega (arith, h, sum-cons e (put d ds), sum-cons e ds)
 
-sum-put_all : (kept ds : List Declaration) → sum_by bytes_needed (put_all kept ds) ≡ sum_by bytes_needed kept
+sum-put_all : (so_far ds : List Declaration) → sum_by bytes_needed (put_all so_far ds) ≡ sum_by bytes_needed so_far
     + sum_by bytes_needed ds
-sum-put_all kept [] = omega arith
-sum-put_all kept (d ∷ ds) = omega (arith, sum-put_all (put d kept) ds, sum-put d kept, sum-cons d ds)
+sum-put_all so_far [] = omega arith
+sum-put_all so_far (d ∷ ds) = omega (arith, sum-put_all (put d so_far) ds, sum-put d so_far, sum-cons d ds)
 
 table_of-room : (n : ℕ) (l : Listing View Declaration) (ds : List Declaration) (u : View)
     → sum_by bytes_needed l.items ≤ n → table_of l ≡ Ok (ds, u) → sum_by bytes_needed ds ≤ n

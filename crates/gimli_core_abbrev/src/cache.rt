@@ -5,11 +5,12 @@ ghost use Rattle.std.specs.List.{list_any};
 ghost use Rattle.std.specs.Iterator.{IsFinite, YieldsThen};
 ghost use Rattle.std.specs.Ordering.{nat_cmp};
 ghost use Rattle.std.specs.BTreeMap.{get, is_at};
+ghost use Rattle.std.specs.FinMap as finite_map;
 ghost use Rattle.gimli_core_readers.specs.Calls.{ReturnsAsOrNoMemory};
 ghost use Rattle.gimli_core_readers.specs.Error.{Error};
 ghost use Rattle.gimli_core_readers.specs.Error.TheVariants.{Memory};
 ghost use Rattle.gimli_core_readers.specs.DebugAbbrevOffset.{DebugAbbrevOffset};
-ghost use Rattle.gimli_core_abbrev.specs.TableCache.{is_chosen, entry_at, table_view, EndsOffsets, HoldsTables};
+ghost use Rattle.gimli_core_abbrev.specs.TableCache.{table_view, AreTablesOf, chosen_offsets, chosen_tables, EndsOffsets};
 ghost use Rattle.gimli_core_abbrev.specs.TableParsing.{table_at};
 
 use crate::section::DebugAbbrev;
@@ -17,6 +18,7 @@ use crate::table::Abbreviations;
 use gimli_core_readers::{DebugAbbrevOffset, Error, Reader, ReaderOffset};
 use std::alloc::Global;
 use std::collections::{BTreeMap, BTreeSet};
+use std::marker::Model;
 use std::rc::Rc;
 
 /// Which tables a cache reads at once.
@@ -31,17 +33,30 @@ pub enum AbbreviationsCacheStrategy {
 // A table, or why it can't be read.
 type CachedTable = Result<Rc<Abbreviations>, Error>;
 
-/// The tables at some offsets of a section, or why they can't be read. Out of memory is never
-/// cached.
+/// The tables at some offsets of a section, or why they can't be read, which contracts see as a
+/// finite map. Out of memory is never cached.
 #[derive(Debug, Drop)]
 pub struct AbbreviationsCache {
     tables: BTreeMap<u64, CachedTable>,
 }
 
+impl Model for AbbreviationsCache {
+    ghost use Rattle.std.specs.Prelude.{map};
+    ghost use Rattle.std.specs.FinMap.{from_entries};
+    ghost use Rattle.gimli_core_abbrev.specs.TableCache.{TablesByOffset, tables_coding, cached_view};
+
+    ghost Value = { TablesByOffset };
+
+    ghost coded = { tables_coding };
+
+    ghost view = { λ c. from_entries (map cached_view c.tables.entries) };
+}
+
 impl AbbreviationsCache {
     /// An empty cache.
     pub fn new(alloc: Global) -> Self
-        ensures { (offset : ℕ) → entry_at offset result ≡ None }
+        ensures empty { result ≡ finite_map.empty }
+        ensures none { (offset : ℕ) → finite_map.get result offset ≡ None }
     {
         AbbreviationsCache {
             tables: BTreeMap::new(alloc),
@@ -65,7 +80,9 @@ impl AbbreviationsCache {
         ensures ok { OnOk result ((items : List (DebugAbbrevOffset R.Offset))
             × (last : Option (Result (DebugAbbrevOffset R.Offset) Error)) × (rest : I)
             × YieldsThen I.next_gives offsets (map (λ o. Ok o) items) last rest × EndsOffsets last
-            × HoldsTables strategy (map (λ o. R.Offset.count o.0) items) section.now self.new) }
+            × (self.new ≡ chosen_tables strategy (map (λ o. R.Offset.count o.0) items)
+            section.now)) }
+        ensures own { OnOk result (AreTablesOf section.now self.new) }
         ensures err { IfErr result (λ e. (e ≡ Memory) × (self.new ≡ self.old)) }
     {
         let offsets = offsets_of(alloc, offsets)?;
@@ -81,11 +98,9 @@ impl AbbreviationsCache {
         offset: DebugAbbrevOffset<O>,
         abbreviations: Rc<Abbreviations>,
     ) -> Result<(), Error>
-        ensures ok { OnOk result ((other : ℕ) → entry_at other self.new
-            ≡ (if other == O.count offset.0 then Some (Ok abbreviations.value)
-            else entry_at other self.old)) }
-        ensures err { IfErr result (λ e. (e ≡ Memory)
-            × ((other : ℕ) → entry_at other self.new ≡ entry_at other self.old)) }
+        ensures ok { OnOk result (self.new
+            ≡ finite_map.insert self.old (O.count offset.0) (Ok abbreviations.value)) }
+        ensures err { IfErr result (λ e. (e ≡ Memory) × (self.new ≡ self.old)) }
     {
         put_table(&mut self.tables, offset.0.into_u64(), Ok(abbreviations))
     }
@@ -98,13 +113,21 @@ impl AbbreviationsCache {
         offset: DebugAbbrevOffset<R::Offset>,
     ) -> Result<Rc<Abbreviations>, Error>
         ensures { ReturnsAsOrNoMemory (λ t. t.value) result
-            (unwrap_or (entry_at (R.Offset.count offset.0) self.now)
+            (unwrap_or (finite_map.get self.now (R.Offset.count offset.0))
             (table_at (R.Offset.count offset.0) section.now)) }
     {
-        match self.tables.get(&offset.0.into_u64()) {
+        match self.cached(offset.0.into_u64()) {
             Some(table) => copy_of(table),
             None => Ok(Rc::new(alloc, section.abbreviations(alloc, offset)?)?),
         }
+    }
+
+    // What is cached at an offset.
+    fn cached(&self, offset: u64) -> Option<&CachedTable>
+        ensures { option_map (λ table. table_view table.now) result
+            ≡ finite_map.get self.now offset }
+    {
+        self.tables.get(&offset)
     }
 }
 
@@ -165,7 +188,8 @@ fn chosen_of<O: ReaderOffset>(
 ) -> Result<Vec<DebugAbbrevOffset<O>>, Error>
     ensures ok { IfOk result (λ list. (offset : ℕ) → list_any (λ o. o == offset)
         (map (λ o. O.count o.0) list.items)
-        ≡ is_chosen strategy offset (map (λ o. O.count o.0) offsets.items)) }
+        ≡ list_any (λ o. o == offset)
+        (chosen_offsets strategy (map (λ o. O.count o.0) offsets.items))) }
     ensures err { IfErr result (λ e. e ≡ Memory) }
 {
     match strategy {
@@ -184,15 +208,15 @@ fn repeated_of<O: ReaderOffset>(
         ≡ nat_le 2 (count_by (λ o. o == offset) (map (λ o. O.count o.0) offsets.now))) }
     ensures err { IfErr result (λ e. e ≡ Memory) }
 {
-    let mut seen = BTreeSet::new(alloc);
-    let mut found = Vec::new(alloc);
+    let mut distinct = BTreeSet::new(alloc);
+    let mut repeated = Vec::new(alloc);
     for offset in offsets {
-        if seen.insert(offset.0.into_u64())? {
+        if distinct.insert(offset.0.into_u64())? {
             continue;
         }
-        found.push(*offset)?;
+        repeated.push(*offset)?;
     }
-    Ok(found)
+    Ok(repeated)
 }
 
 // The tables at these offsets.
@@ -227,8 +251,7 @@ fn put_table(
 ) -> Result<(), Error>
     ensures ok { OnOk result ((offset : ℕ) → get nat_cmp tables.new offset
         ≡ (if is_at (nat_cmp place) offset then Some table else get nat_cmp tables.old offset)) }
-    ensures err { IfErr result (λ e. (e ≡ Memory)
-        × ((offset : ℕ) → get nat_cmp tables.new offset ≡ get nat_cmp tables.old offset)) }
+    ensures err { IfErr result (λ e. (e ≡ Memory) × (tables.new.entries ≡ tables.old.entries)) }
 {
     tables.insert(place, table)?;
     Ok(())

@@ -5,30 +5,25 @@ use Rattle.std.specs.Int.{w64, from_be_bytes, from_le_bytes}
 use borrow.Rule.Slice.PartMut.{put_mid}
 use Rattle.gimli_core_base.specs.Fixed.{little, big}
 
--- eight bytes
+-- what holds of any eight bytes
+of_eight : (P : List ℕ → Type 0)
+    → ((a b c d e f g i : ℕ) → P (a ∷ b ∷ c ∷ d ∷ e ∷ f ∷ g ∷ i ∷ [])) → (bs : List ℕ) → length bs ≡ 8 → P bs
+of_eight P all [] h = absurd (omega arith)
+of_eight P all (a ∷ []) h = absurd (omega arith)
+of_eight P all (a ∷ b ∷ []) h = absurd (omega arith)
+of_eight P all (a ∷ b ∷ c ∷ []) h = absurd (omega arith)
+of_eight P all (a ∷ b ∷ c ∷ d ∷ []) h = absurd (omega arith)
+of_eight P all (a ∷ b ∷ c ∷ d ∷ e ∷ []) h = absurd (omega arith)
+of_eight P all (a ∷ b ∷ c ∷ d ∷ e ∷ f ∷ []) h = absurd (omega arith)
+of_eight P all (a ∷ b ∷ c ∷ d ∷ e ∷ f ∷ g ∷ []) h = absurd (omega arith)
+of_eight P all (a ∷ b ∷ c ∷ d ∷ e ∷ f ∷ g ∷ i ∷ []) h = all a b c d e f g i
+of_eight P all (a ∷ b ∷ c ∷ d ∷ e ∷ f ∷ g ∷ i ∷ j ∷ bs) h = absurd (omega arith)
+
 big-eight : (bs : List ℕ) → length bs ≡ 8 → from_be_bytes w64 bs ≡ big bs
-big-eight [] h = absurd (omega arith)
-big-eight (a ∷ []) h = absurd (omega arith)
-big-eight (a ∷ b ∷ []) h = absurd (omega arith)
-big-eight (a ∷ b ∷ c ∷ []) h = absurd (omega arith)
-big-eight (a ∷ b ∷ c ∷ d ∷ []) h = absurd (omega arith)
-big-eight (a ∷ b ∷ c ∷ d ∷ e ∷ []) h = absurd (omega arith)
-big-eight (a ∷ b ∷ c ∷ d ∷ e ∷ f ∷ []) h = absurd (omega arith)
-big-eight (a ∷ b ∷ c ∷ d ∷ e ∷ f ∷ g ∷ []) h = absurd (omega arith)
-big-eight (a ∷ b ∷ c ∷ d ∷ e ∷ f ∷ g ∷ i ∷ []) h = omega arith
-big-eight (a ∷ b ∷ c ∷ d ∷ e ∷ f ∷ g ∷ i ∷ j ∷ bs) h = absurd (omega arith)
+big-eight bs h = of_eight (λ xs. from_be_bytes w64 xs ≡ big xs) (λ a b c d e f g i. omega arith) bs h
 
 little-eight : (bs : List ℕ) → length bs ≡ 8 → from_le_bytes w64 bs ≡ little bs
-little-eight [] h = absurd (omega arith)
-little-eight (a ∷ []) h = absurd (omega arith)
-little-eight (a ∷ b ∷ []) h = absurd (omega arith)
-little-eight (a ∷ b ∷ c ∷ []) h = absurd (omega arith)
-little-eight (a ∷ b ∷ c ∷ d ∷ []) h = absurd (omega arith)
-little-eight (a ∷ b ∷ c ∷ d ∷ e ∷ []) h = absurd (omega arith)
-little-eight (a ∷ b ∷ c ∷ d ∷ e ∷ f ∷ []) h = absurd (omega arith)
-little-eight (a ∷ b ∷ c ∷ d ∷ e ∷ f ∷ g ∷ []) h = absurd (omega arith)
-little-eight (a ∷ b ∷ c ∷ d ∷ e ∷ f ∷ g ∷ i ∷ []) h = omega arith
-little-eight (a ∷ b ∷ c ∷ d ∷ e ∷ f ∷ g ∷ i ∷ j ∷ bs) h = absurd (omega arith)
+little-eight bs h = of_eight (λ xs. from_le_bytes w64 xs ≡ little xs) (λ a b c d e f g i. omega arith) bs h
 
 -- zeros where they are worth most change nothing
 big-zeros : (m : ℕ) (bs : List ℕ) → big (replicate m 0 ++ bs) ≡ big bs

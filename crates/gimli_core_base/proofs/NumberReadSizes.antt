@@ -77,54 +77,54 @@ judged_stands limit bytes string e =
 abbrev Takes : {A : Type 0} → View → Result (A × ℕ) Fault → Type 0
 Takes {A} v r = (x : A) (k : ℕ) → r ≡ Ok (x, k) → (0 < k) × (k ≤ bytes_left v)
 
-Below-behind : {A : Type 0} {n : ℕ} (bad : Error) (v : View) (r : Result (A × ℕ) Fault) → Takes v r → bytes_left v ≤ n
+Below-rest : {A : Type 0} {n : ℕ} (bad : Error) (v : View) (r : Result (A × ℕ) Fault) → Takes v r → bytes_left v ≤ n
     → Below bytes_left n (number_and_rest bad v r)
-Below-behind {A} {n} bad v (Ok found) t h =
+Below-rest {A} {n} bad v (Ok found) t h =
     let some = t found.0 found.1 refl in Below-Ok (omega (arith, length-drop found.1 v.bytes, some))
-Below-behind {A} {n} bad v (Err fault) t h = Below-Err
+Below-rest {A} {n} bad v (Err fault) t h = Below-Err
 
 unsigned_takes : (bound : ℕ) (v : View) (r : Result (List ℕ) Fault) → ((s : List ℕ) → r ≡ Ok s → Stands s v.bytes)
     → Takes v (unsigned_of bound r)
-unsigned_takes bound v (Err fault) stands x k e = absurd cc
-unsigned_takes bound v (Ok s) stands x k e = cases (nat_lt (unsigned_number s) bound) refl
+unsigned_takes bound v (Err fault) string_fits x k e = absurd cc
+unsigned_takes bound v (Ok s) string_fits x k e = cases (nat_lt (unsigned_number s) bound) refl
   where
     cases : (b : Bool) → nat_lt (unsigned_number s) bound ≡ b → (0 < k) × (k ≤ bytes_left v)
     cases true h =
         let e' = rw h at e in
         let is : length s ≡ k = pair_is (unsigned_number s) x (length s) k e' in
-        let found = stands s refl in
+        let found = string_fits s refl in
         rw (← is) (found.some, found.fits)
     cases false h = absurd (let e' = rw h at e in cc)
 
 signed_takes : (v : View) (r : Result (List ℕ) Fault) → ((s : List ℕ) → r ≡ Ok s → Stands s v.bytes)
     → Takes v (signed_of r)
-signed_takes v (Err fault) stands x k e = absurd cc
-signed_takes v (Ok s) stands x k e = cases (fits_i64 (signed_number s)) refl
+signed_takes v (Err fault) string_fits x k e = absurd cc
+signed_takes v (Ok s) string_fits x k e = cases (fits_i64 (signed_number s)) refl
   where
     cases : (b : Bool) → fits_i64 (signed_number s) ≡ b → (0 < k) × (k ≤ bytes_left v)
     cases true h =
         let e' = rw h at e in
         let is : length s ≡ k = pair_is (signed_number s) x (length s) k e' in
-        let found = stands s refl in
+        let found = string_fits s refl in
         rw (← is) (found.some, found.fits)
     cases false h = absurd (let e' = rw h at e in cc)
 
 pub Below-unsigned : {n : ℕ} (v : View) → bytes_left v ≤ n → Below bytes_left n (unsigned v)
 unfolding unsigned
 Below-unsigned v h =
-    Below-behind BadUnsignedLeb128 v (unsigned_at 10 (2 ^ 64) v.bytes)
+    Below-rest BadUnsignedLeb128 v (unsigned_at 10 (2 ^ 64) v.bytes)
     (unsigned_takes (2 ^ 64) v (bounded_string 10 v.bytes) (judged_stands 10 v.bytes)) h
 
 pub Below-unsigned_16 : {n : ℕ} (v : View) → bytes_left v ≤ n → Below bytes_left n (unsigned_16 v)
 unfolding unsigned_16
 Below-unsigned_16 v h =
-    Below-behind BadUnsignedLeb128 v (unsigned_at 3 (2 ^ 16) v.bytes)
+    Below-rest BadUnsignedLeb128 v (unsigned_at 3 (2 ^ 16) v.bytes)
     (unsigned_takes (2 ^ 16) v (bounded_string 3 v.bytes) (judged_stands 3 v.bytes)) h
 
 pub Below-signed : {n : ℕ} (v : View) → bytes_left v ≤ n → Below bytes_left n (signed v)
 unfolding signed
 Below-signed v h =
-    Below-behind BadSignedLeb128 v (signed_at v.bytes)
+    Below-rest BadSignedLeb128 v (signed_at v.bytes)
     (signed_takes v (bounded_string 10 v.bytes) (judged_stands 10 v.bytes)) h
 
 pub Below-skipped : {n : ℕ} (v : View) → bytes_left v ≤ n → Below bytes_left n (skip_leb v)

@@ -5,7 +5,7 @@ use Rattle.std.proofs.lemmas.List.{take_at, drop_at, length-append}
 use Rattle.std.proofs.lemmas.Bool.{le-ltb, lt-ltb}
 use Rattle.gimli_core_base.specs.declared.error.Error.{Error}
 use Rattle.gimli_core_base.specs.View.{View, after, prefix, unexpected_end}
-use Rattle.gimli_core_base.specs.Parsers.{part, byte, byte_of, null_terminated, find_byte, text_to, index_or_end}
+use Rattle.gimli_core_base.specs.Parsers.{part, null_terminated, find_byte, text_to, index_or_end}
 
 -- the bytes of a view with others in their place, and what follows the first k of them
 abbrev pub spelled_by : View → List ℕ → View

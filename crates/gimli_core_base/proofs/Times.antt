@@ -5,35 +5,35 @@ use Rattle.gimli_core_base.specs.Parsers.{Step, proceed, give}
 use Rattle.gimli_core_base.specs.Repetition.{times}
 
 -- further items in front of those that are read
-abbrev pub behind : {S A : Type 0} → List A → Result (List A × S) Error → Result (List A × S) Error
-behind xs (Ok r) = Ok (xs ++ r.0, r.1)
-behind xs (Err e) = Err e
+abbrev pub prepend : {S A : Type 0} → List A → Result (List A × S) Error → Result (List A × S) Error
+prepend xs (Ok r) = Ok (xs ++ r.0, r.1)
+prepend xs (Err e) = Err e
 
-behind-onward : {S A : Type 0} (xs : List A) (x : A) (r : Result (List A × S) Error)
-    → behind xs (proceed r (λ ys. give (x ∷ ys))) ≡ behind (xs ++ x ∷ []) r
-behind-onward {S} {A} xs x (Ok r) = ap (λ (zs : List A). read zs r.1) (sym (append_assoc xs (x ∷ []) r.0))
+prepend-onward : {S A : Type 0} (xs : List A) (x : A) (r : Result (List A × S) Error)
+    → prepend xs (proceed r (λ ys. give (x ∷ ys))) ≡ prepend (xs ++ x ∷ []) r
+prepend-onward {S} {A} xs x (Ok r) = ap (λ (zs : List A). read zs r.1) (sym (append_assoc xs (x ∷ []) r.0))
   where
     read : List A → S → Result (List A × S) Error
     read zs s = Ok (zs, s)
-behind-onward xs x (Err e) = refl
+prepend-onward xs x (Err e) = refl
 
 -- an item that is read goes behind those in front
 pub times_item : {S A : Type 0} (p : Step S A) (n : ℕ) (xs : List A) (x : A) (s t : S) → p s ≡ Ok (x, t)
-    → behind xs (times (suc n) p s) ≡ behind (xs ++ x ∷ []) (times n p t)
+    → prepend xs (times (suc n) p s) ≡ prepend (xs ++ x ∷ []) (times n p t)
 unfolding times
 times_item {S} {A} p n xs x s t e =
-    ap (λ (r : Result (A × S) Error). behind xs (proceed r (λ y u. proceed (times n p u) (λ ys. give (y ∷ ys))))) e
-    ∙ behind-onward xs x (times n p t)
+    ap (λ (r : Result (A × S) Error). prepend xs (proceed r (λ y u. proceed (times n p u) (λ ys. give (y ∷ ys))))) e
+    ∙ prepend-onward xs x (times n p t)
 
 -- an item that can't be read ends them
 pub times_fault : {S A : Type 0} (p : Step S A) (n : ℕ) (xs : List A) (s : S) (d : Error) → p s ≡ Err d
-    → behind xs (times (suc n) p s) ≡ Err d
+    → prepend xs (times (suc n) p s) ≡ Err d
 unfolding times
 times_fault {S} {A} p n xs s d e =
-    ap (λ (r : Result (A × S) Error). behind xs (proceed r (λ y u. proceed (times n p u) (λ ys. give (y ∷ ys))))) e
+    ap (λ (r : Result (A × S) Error). prepend xs (proceed r (λ y u. proceed (times n p u) (λ ys. give (y ∷ ys))))) e
 
 -- after the last item nothing is left to read
-pub times_end : {S A : Type 0} (p : Step S A) (xs : List A) (s : S) → behind xs (times 0 p s) ≡ Ok (xs, s)
+pub times_end : {S A : Type 0} (p : Step S A) (xs : List A) (s : S) → prepend xs (times 0 p s) ≡ Ok (xs, s)
 unfolding times
 times_end {S} {A} p xs s = ap (λ (zs : List A). read zs s) (append-nil xs)
   where

@@ -5,6 +5,7 @@ pub mod Parsers
 pub mod Calls
 pub mod Repetition
 pub mod FormatSizes
+pub mod ByteOrders
 pub mod LineDefaults
 pub mod SectionNames
 pub mod Fixed

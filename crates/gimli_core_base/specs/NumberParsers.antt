@@ -7,6 +7,7 @@ use Rattle.gimli_core_base.specs.View.{View, after, unexpected_end}
 use Rattle.gimli_core_base.specs.Parsers.{Parser, ◌>>=◌, give, fail, branch, lift}
 use Rattle.gimli_core_base.specs.declared.common.Format.{Format}
 use Rattle.gimli_core_base.specs.declared.common.Format.TheVariants.{Dwarf32, Dwarf64}
+use Rattle.gimli_core_base.specs.declared.constants.TheConstants.{DWARF64_ESCAPE, FIRST_RESERVED_LENGTH}
 use Rattle.gimli_core_base.specs.FormatSizes.{word_size}
 use Rattle.gimli_core_base.specs.declared.leb128.Fault.{Fault}
 use Rattle.gimli_core_base.specs.declared.leb128.Fault.TheVariants.{Cut, Bad}
@@ -81,13 +82,12 @@ sized_offset limit n = do
 unfoldable pub word : ℕ → Format → Parser ℕ
 word limit format = sized_offset limit (word_size format)
 
--- An initial length and its format: a word below 0xfffffff0 for 32-bit DWARF,
--- 0xffffffff and eight more bytes for 64-bit DWARF; the words between are reserved (DWARF 5, 7.4
--- and 7.2.2).
+-- An initial length and its format: a word below the reserved ones for 32-bit DWARF, the escape and
+-- eight more bytes for 64-bit DWARF; the words between are reserved (DWARF 5, 7.4 and 7.2.2).
 abbrev pub length_of : ℕ → ℕ → Parser (ℕ × Format)
 length_of limit w =
-    branch (nat_lt w 0xfffffff0) (give (w, Dwarf32))
-    (branch (w == 0xffffffff) (sized_offset limit 8 >>= λ n. give (n, Dwarf64))
+    branch (nat_lt w FIRST_RESERVED_LENGTH) (give (w, Dwarf32))
+    (branch (w == DWARF64_ESCAPE) (sized_offset limit 8 >>= λ n. give (n, Dwarf64))
     (fail (UnknownReservedLength w)))
 
 unfoldable pub initial_length : ℕ → Parser (ℕ × Format)

@@ -5,6 +5,12 @@
 #[derive(Clone, Copy, Debug, PartialEq, Eq, PartialOrd, Ord, Hash)]
 pub struct ReaderOffsetId(pub u64);
 
+/// The initial length that begins a length of 64-bit DWARF (DWARF 5, 7.4).
+pub const DWARF64_ESCAPE: u32 = 0xffff_ffff;
+
+/// The first of the initial lengths that are reserved (DWARF 5, 7.2.2).
+pub const FIRST_RESERVED_LENGTH: u32 = 0xffff_fff0;
+
 /// The form of an attribute's value (DWARF 5, 7.5.6).
 #[derive(Clone, Copy, Debug, PartialEq, Eq, PartialOrd, Ord, Hash)]
 pub struct DwForm(pub u16);

@@ -31,7 +31,8 @@ pub use constants::{
     DW_LNS_negate_stmt, DW_LNS_set_basic_block, DW_LNS_set_column, DW_LNS_set_epilogue_begin,
     DW_LNS_set_file, DW_LNS_set_isa, DW_LNS_set_prologue_end, DW_TAG_compile_unit,
     DW_TAG_inlined_subroutine, DW_TAG_partial_unit, DW_TAG_skeleton_unit, DW_TAG_subprogram,
-    DW_TAG_type_unit, DwAt, DwLang, DwLnct, DwLne, DwLns, DwTag,
+    DW_TAG_type_unit, DWARF64_ESCAPE, DwAt, DwLang, DwLnct, DwLne, DwLns, DwTag,
+    FIRST_RESERVED_LENGTH,
 };
 pub use offset::ReaderOffset;
 pub use order::{BigEndian, Endianity, LittleEndian, RunTimeEndian};

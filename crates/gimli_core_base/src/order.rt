@@ -176,9 +176,9 @@ impl Default for RunTimeEndian {
 }
 
 impl Endianity for RunTimeEndian {
-    ghost use Rattle.gimli_core_base.specs.declared.order.RunTimeEndian.TheVariants.{Little, Big};
+    ghost use Rattle.gimli_core_base.specs.ByteOrders.{is_big_endian};
 
-    ghost is_big = { elim [ Little ↦ false | Big ↦ true ] };
+    ghost is_big = { is_big_endian };
 
     fn is_big_endian(self) -> bool {
         self == RunTimeEndian::Big

@@ -1,5 +1,5 @@
 -- What is known of a set of addresses that was read, and how its addresses follow one another.
-use Rattle.std.proofs.Common.{◌≡◌, ℕ, ◌-◌, eqb, Option, Some, Result, Ok, Err, refl, sym, ap, subst, arith}
+use Rattle.std.proofs.Common.{◌≡◌, ℕ, eqb, Option, Result, refl, sym, ap, subst, arith}
 use Rattle.gimli_core_base.specs.declared.error.Error.{Error}
 use Rattle.gimli_core_base.specs.declared.error.Error.TheVariants.{UnknownVersion, UnsupportedSegmentSize}
 use Rattle.gimli_core_base.specs.declared.common.Format.{Format}

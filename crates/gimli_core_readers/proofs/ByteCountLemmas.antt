@@ -3,6 +3,7 @@ use Rattle.std.proofs.Common.{◌≡◌, ℕ, ◌+◌, ◌-◌, ◌≤◌, Bool,
 use Rattle.std.proofs.lemmas.Bool.{ltb-false, eqb-true}
 use Rattle.std.proofs.lemmas.List.{drop-drop}
 use Rattle.std.specs.Prelude.{IsTrue}
+use Rattle.gimli_core_base.specs.declared.constants.TheConstants.{DWARF64_ESCAPE, FIRST_RESERVED_LENGTH}
 use Rattle.gimli_core_base.specs.declared.error.Error.{Error}
 use Rattle.gimli_core_base.specs.declared.error.Error.TheVariants.{UnknownReservedLength, UnsupportedAddressSize}
 use Rattle.gimli_core_base.specs.View.{View, after, bytes_left, prefix, unexpected_end}
@@ -115,8 +116,8 @@ pub initial_length_took : (limit : ℕ) (v : View)
 unfolding initial_length
 initial_length_took limit v =
     yields-proceed (fixed_took 4 v) (λ x s h.
-    yields-cond (ltb x 0xfffffff0) (λ _. yields-Ok (x, Dwarf32) s h) (λ _.
-    yields-cond (eqb x 0xffffffff)
+    yields-cond (ltb x FIRST_RESERVED_LENGTH) (λ _. yields-Ok (x, Dwarf32) s h) (λ _.
+    yields-cond (eqb x DWARF64_ESCAPE)
     (λ _. yields-proceed (sized_offset_took limit 8 s) (λ n t k. yields-Ok (n, Dwarf64) t (took_both h k)))
     (λ _. yields-Err (UnknownReservedLength x))))
 

@@ -1,6 +1,7 @@
 -- What is defined by bytes alone never runs out of memory.
 use Rattle.std.proofs.Common.{◌≡◌, ℕ, ◌+◌, ◌*◌, Bool, true, false, cond, ltb, eqb, ◌^◌, length, Result, Ok, Err, ap, sym, ◌∙◌}
 use Rattle.std.specs.Result.{IsErrAnd}
+use Rattle.gimli_core_base.specs.declared.constants.TheConstants.{DWARF64_ESCAPE, FIRST_RESERVED_LENGTH}
 use Rattle.gimli_core_base.specs.declared.error.Error.{Error}
 use Rattle.gimli_core_base.specs.declared.error.Error.TheVariants.{Memory, BadUnsignedLeb128}
 use Rattle.gimli_core_base.specs.declared.common.Format.{Format}
@@ -72,11 +73,9 @@ free-Ok x = λ h. absurd cc
 free-ends : {A : Type 0} (v : View) → IsFree {A = A} (Err (unexpected_end v))
 free-ends v = λ h. absurd cc
 
--- an answer that is the definition's is as free
-pub free_answer : {A B : Type 0} (see : A → B) (r : Result A Error) (d : Result B Error) → ReturnsAs see r d → IsFree d
-    → IsFree r
-free_answer see (Ok x) d h free = λ is. absurd cc
-free_answer {A} {B} see (Err e) d h free = λ is. let same : e ≡ Memory = is_refusal e is in free (h ∙ ap refusal same)
+-- a refusal that is the definition's is as free
+pub free_refusal : {A B : Type 0} (e : Error) (d : Result B Error) → d ≡ Err e → IsFree d → IsFree {A = A} (Err e)
+free_refusal {A} {B} e d h free = λ is. let same : e ≡ Memory = is_refusal e is in free (h ∙ ap refusal same)
   where
     refusal : Error → Result B Error
     refusal y = Err y
@@ -87,18 +86,11 @@ free_answer {A} {B} see (Err e) d h free = λ is. let same : e ≡ Memory = is_r
     is_refusal : (y : Error) → answered y ≡ Err Memory → y ≡ Memory
     is_refusal y k = cc
 
--- the same of a refusal that is handed on
-pub free_refusal : {A B : Type 0} (e : Error) (d : Result B Error) → d ≡ Err e → IsFree d → IsFree {A = A} (Err e)
-free_refusal {A} {B} e d h free = λ is. let same : e ≡ Memory = is_refusal e is in free (h ∙ ap refusal same)
-  where
-    refusal : Error → Result B Error
-    refusal y = Err y
-
-    handed_on : Error → Result A Error
-    handed_on y = Err y
-
-    is_refusal : (y : Error) → handed_on y ≡ Err Memory → y ≡ Memory
-    is_refusal y k = cc
+-- the same of any answer
+pub free_answer : {A B : Type 0} (see : A → B) (r : Result A Error) (d : Result B Error) → ReturnsAs see r d → IsFree d
+    → IsFree r
+free_answer see (Ok x) d h free = λ is. absurd cc
+free_answer see (Err e) d h free = free_refusal e d h free
 
 -- ---- numbers
 
@@ -106,14 +98,14 @@ pub free-fixed : (n : ℕ) (v : View) → IsFree (fixed n v)
 unfolding fixed
 free-fixed n v = free-cond (ltb (length v.bytes) n) (free-ends v) (free-Ok _)
 
-free-behind : (v : View) (r : Result (ℕ × ℕ) Fault) → IsFree (number_and_rest BadUnsignedLeb128 v r)
-free-behind v (Ok p) = λ h. absurd cc
-free-behind v (Err Cut) = λ h. absurd cc
-free-behind v (Err Bad) = λ h. absurd cc
+free-rest : (v : View) (r : Result (ℕ × ℕ) Fault) → IsFree (number_and_rest BadUnsignedLeb128 v r)
+free-rest v (Ok p) = λ h. absurd cc
+free-rest v (Err Cut) = λ h. absurd cc
+free-rest v (Err Bad) = λ h. absurd cc
 
 pub free-unsigned : (v : View) → IsFree (unsigned v)
 unfolding unsigned
-free-unsigned v = free-behind v (unsigned_at 10 (2 ^ 64) v.bytes)
+free-unsigned v = free-rest v (unsigned_at 10 (2 ^ 64) v.bytes)
 
 pub free-address : (size : ℕ) (v : View) → IsFree (address size v)
 unfolding address
@@ -140,8 +132,8 @@ free-word limit format v = free-sized_offset limit (word_size format) v
 pub free-initial_length : (limit : ℕ) (v : View) → IsFree (initial_length limit v)
 unfolding initial_length
 free-initial_length limit v = free-onward (free-fixed 4 v) (λ word s.
-    free-cond (ltb word 0xfffffff0) (free-Ok _)
-    (free-cond (eqb word 0xffffffff) (free-onward (free-sized_offset limit 8 s) (λ n t. free-Ok _))
+    free-cond (ltb word FIRST_RESERVED_LENGTH) (free-Ok _)
+    (free-cond (eqb word DWARF64_ESCAPE) (free-onward (free-sized_offset limit 8 s) (λ n t. free-Ok _))
     (λ h. absurd cc)))
 
 pub free-address_size : (v : View) → IsFree (address_size v)

@@ -43,13 +43,13 @@ tile_after_read : {A : Type 0} {parse : ℕ → Parser A} {offset_of size_of : A
 tile_after_read parts section offset rest (Err e) lt more h = (lt, ap value_of h)
 tile_after_read {parse = parse} {offset_of = offset_of} {size_of = size_of} parts section offset rest (Ok r) lt more h =
     let is = parts.each offset (after offset section) r.0 r.1 h in
-    let behind : r.1 ≡ after (offset + size_of r.0) section = is.took.rest ∙ after_after offset (size_of r.0) section in
+    let rest_is : r.1 ≡ after (offset + size_of r.0) section = is.took.rest ∙ after_after offset (size_of r.0) section in
     let enough = is.took.enough in
     let some = is.some in
     let fits : offset + size_of r.0 ≤ bytes_left section = omega (arith, length-drop offset section.bytes) in (
       is.placed,
-      h ∙ ap (λ (w : View). read r.0 w) behind,
-      subst (λ (w : View). TileListing parse offset_of size_of section (offset + size_of r.0) (rest w)) (sym behind)
+      h ∙ ap (λ (w : View). read r.0 w) rest_is,
+      subst (λ (w : View). TileListing parse offset_of size_of section (offset + size_of r.0) (rest w)) (sym rest_is)
           (more (size_of r.0) some fits),
     )
 

@@ -1,6 +1,7 @@
 pub use Rattle.gimli_core_base.specs.Calls
 pub use Rattle.gimli_core_base.specs.ErrorText
 pub use Rattle.gimli_core_base.specs.Fixed
+pub use Rattle.gimli_core_base.specs.ByteOrders
 pub use Rattle.gimli_core_base.specs.FormatSizes
 pub use Rattle.gimli_core_base.specs.Leb128
 pub use Rattle.gimli_core_base.specs.LineDefaults
@@ -20,6 +21,7 @@ pub use Rattle.gimli_core_base.specs.declared.constants.DwLang
 pub use Rattle.gimli_core_base.specs.declared.constants.ReaderOffsetId
 pub use Rattle.gimli_core_base.specs.declared.constants.TheConstants
 pub use Rattle.gimli_core_base.specs.declared.error.Error
+pub use Rattle.gimli_core_base.specs.contracts.error.Error as ErrorContract
 pub use Rattle.gimli_core_base.specs.declared.leb128.Fault
 pub use Rattle.gimli_core_base.specs.declared.order.RunTimeEndian
 pub mod Readers

@@ -1,6 +1,8 @@
 -- What a reader's calls mean, beside what is read.
-use Rattle.std.specs.Prelude.{ℕ, ◌+◌, ◌<◌, ◌≤◌, ◌^◌, nat_eq, Bool, ◌&&◌, List, ◌++◌, length, Result, Ok, Err, if◌then◌else◌}
+use Rattle.std.specs.Prelude.{◌≡◌, ℕ, ◌+◌, ◌<◌, ◌≤◌, ◌^◌, nat_eq, Bool, ◌&&◌, List, ◌++◌, length, Result, Ok, Err, if◌then◌else◌}
 use Rattle.std.specs.Str.{is_utf8}
+use Rattle.std.specs.declared.borrow.CowStr.{CowStr}
+use Rattle.std.specs.declared.borrow.CowStr.TheVariants.{Borrowed, Owned}
 use Rattle.std.specs.Cmp.{IsEquivalence, on_equiv, and_equiv, bool_eq_equiv, booleans_Decides}
 use Rattle.std.specs.Cmp.Lexicographic.{pointwise, nat_list_eq_equiv, bytes_decides}
 use Rattle.std.specs.Hash as fed
@@ -23,6 +25,12 @@ Holds base v = (base.first ≤ v.first) × (v.first + length v.bytes ≤ base.fi
 -- the bytes as a text, where they are UTF-8
 abbrev pub utf8_of : List ℕ → Result (List ℕ) Error
 utf8_of bytes = if is_utf8 bytes then Ok bytes else Err BadUtf8
+
+-- the bytes themselves as a text, lent
+abbrev pub LendsText : {A : Type 0} → List ℕ → Result (CowStr A) Error → Type 0
+LendsText bytes (Ok (Borrowed text)) = text.now ≡ bytes
+LendsText bytes (Ok (Owned text)) = ⊥
+LendsText bytes (Err e) = ⊥
 
 -- ---- readers compared
 

@@ -2,18 +2,19 @@
 
 ghost use Rattle.std.specs.Prelude.{◌≡◌, ◌≢◌, ◌+◌, ◌<◌, ◌≤◌, ℕ, ◌==◌, Bool, length, option_map, IsTrue, IsOk, IfOk, OnErr, MatchResult};
 ghost use Rattle.std.specs.Int.{w8, w16, w32, w64};
+ghost use Rattle.std.specs.Str.{IsUtf8};
 ghost use Rattle.std.specs.Str.Lossy.{utf8_lossy};
 ghost use Rattle.std.specs.Cow.{cow_slice_items, cow_str_bytes};
 ghost use Rattle.gimli_core_base.specs.View.{View, after, prefix, unexpected_end, index_of};
 ghost use Rattle.gimli_core_base.specs.Parsers.{map_value, value_of, part, skip, truncate, find_byte, null_terminated};
 ghost use Rattle.gimli_core_base.specs.Calls.{ReadsAs, Reads, ReadsAsOrNoMemory, ReturnsAsOrNoMemory, ReturnsAs};
 ghost use Rattle.gimli_core_base.specs.NumberParsers.{fixed, fixed_signed, skip_leb, unsigned, unsigned_32, unsigned_16, signed, address_size, address, is_address_size, sized_offset, word, initial_length, string_fault};
-ghost use Rattle.gimli_core_readers.specs.Readers.{IsIndexable, Holds, utf8_of};
+ghost use Rattle.gimli_core_readers.specs.Readers.{IsIndexable, Holds, LendsText, utf8_of};
 ghost use Rattle.gimli_core_base.specs.declared.error.Error.TheVariants.{Memory, BadUnsignedLeb128};
 ghost use Rattle.gimli_core_base.specs.declared.leb128.Fault.TheVariants.{Cut};
 
 use crate::text::{lossy_text_of, position_of, text_of};
-use gimli_core_base::constants::ReaderOffsetId;
+use gimli_core_base::constants::{DWARF64_ESCAPE, FIRST_RESERVED_LENGTH, ReaderOffsetId};
 use gimli_core_base::error::Error;
 use gimli_core_base::leb128::Fault;
 use gimli_core_base::{Endianity, Format, ReaderOffset, leb128};
@@ -142,7 +143,7 @@ pub trait Reader: Drop {
     final fn read_slice(&mut self, buf: &mut [u8]) -> Result<(), Error>
         ensures read { ReadsAs (λ _. buf.new) result (view self.old) (view self.new)
             (map_value (λ v. v.bytes) (part (length buf.old)) (view self.old)) }
-        ensures refused { OnErr result (buf.new ≡ buf.old) }
+        ensures refusal { OnErr result (buf.new ≡ buf.old) }
     {
         let count = buf.len();
         need(self, count as u64)?;
@@ -405,11 +406,11 @@ pub trait Reader: Drop {
         need(self, 4)?;
         let word = self.endian().read_u32(self.as_bytes());
         match word {
-            0..0xffff_fff0 => {
+            0..FIRST_RESERVED_LENGTH => {
                 self.advance(4);
                 Ok((Self::Offset::from_u32(word), Format::Dwarf32))
             }
-            0xffff_ffff => {
+            DWARF64_ESCAPE => {
                 let length = long_length(self)?;
                 self.advance(12);
                 Ok((length, Format::Dwarf64))
@@ -433,9 +434,11 @@ pub trait Reader: Drop {
     }
 
     /// The bytes left as a text, in which each sequence that isn't UTF-8 is U+FFFD. Takes memory
-    /// for such a text alone.
+    /// for such a text alone: UTF-8 is lent.
     final fn to_string_lossy(&self, alloc: Global) -> Result<CowStr<'_>, Error>
-        ensures { ReturnsAsOrNoMemory cow_str_bytes result (Ok (utf8_lossy (view self.now).bytes)) }
+        ensures value { ReturnsAsOrNoMemory cow_str_bytes result
+            (Ok (utf8_lossy (view self.now).bytes)) }
+        ensures lent { IsUtf8 (view self.now).bytes → LendsText (view self.now).bytes result }
     {
         lossy_text_of(alloc, self.as_bytes())
     }

@@ -1,13 +1,14 @@
 //! A reader of borrowed bytes.
 
 ghost use Rattle.std.specs.Prelude.{◌≡◌, ◌+◌, ◌<◌, ◌≤◌, ◌^◌, ◌==◌, Bool, true, length, take, drop, slice_range, option_map, IsOk, IsTrue, OnOk};
+ghost use Rattle.std.specs.Str.{IsUtf8};
 ghost use Rattle.std.specs.Str.Lossy.{utf8_lossy};
 ghost use Rattle.std.specs.Cow.{cow_str_bytes};
 ghost use Rattle.std.specs.List.{position};
 ghost use Rattle.std.specs.Cmp.{partial_equiv_from_equiv};
 ghost use Rattle.gimli_core_base.specs.View.{View, after, prefix};
 ghost use Rattle.gimli_core_base.specs.Calls.{ReturnsAs, ReturnsAsOrNoMemory};
-ghost use Rattle.gimli_core_readers.specs.Readers.{IsIndexable, Holds, utf8_of, is_same, same_laws, hash_bytes, equal_hash_alike};
+ghost use Rattle.gimli_core_readers.specs.Readers.{IsIndexable, Holds, LendsText, utf8_of, is_same, same_laws, hash_bytes, equal_hash_alike};
 
 use crate::reader::Reader;
 use crate::text::{lossy_text_of, position_of, text_of};
@@ -135,9 +136,11 @@ impl<'a, E: Endianity> EndianSlice<'a, E> {
     }
 
     /// The bytes left as a text, in which each sequence that isn't UTF-8 is U+FFFD. Takes memory
-    /// for such a text alone.
+    /// for such a text alone: UTF-8 is lent.
     pub fn to_string_lossy(&self, alloc: Global) -> Result<CowStr<'a>, Error>
-        ensures { ReturnsAsOrNoMemory cow_str_bytes result (Ok (utf8_lossy self.now.bytes)) }
+        ensures value { ReturnsAsOrNoMemory cow_str_bytes result
+            (Ok (utf8_lossy self.now.bytes)) }
+        ensures lent { IsUtf8 self.now.bytes → LendsText self.now.bytes result }
     {
         lossy_text_of(alloc, self.slice)
     }

@@ -2,10 +2,11 @@
 
 ghost use Rattle.std.specs.Prelude.{◌≡◌, ◌==◌};
 ghost use Rattle.std.specs.List.{position};
+ghost use Rattle.std.specs.Str.{IsUtf8};
 ghost use Rattle.std.specs.Str.Lossy.{utf8_lossy};
 ghost use Rattle.std.specs.Cow.{cow_str_bytes};
 ghost use Rattle.gimli_core_base.specs.Calls.{ReturnsAs, ReturnsAsOrNoMemory};
-ghost use Rattle.gimli_core_readers.specs.Readers.{utf8_of};
+ghost use Rattle.gimli_core_readers.specs.Readers.{LendsText, utf8_of};
 
 use gimli_core_base::error::Error;
 use std::alloc::Global;
@@ -26,7 +27,8 @@ pub fn text_of(bytes: &[u8]) -> Result<&str, Error>
 // The bytes as a text, lent where they are UTF-8.
 #[tactic(auto, using(crate::proofs::Utf8Texts::lossy_same))]
 pub fn lossy_text_of(alloc: Global, bytes: &[u8]) -> Result<CowStr<'_>, Error>
-    ensures { ReturnsAsOrNoMemory cow_str_bytes result (Ok (utf8_lossy bytes.now)) }
+    ensures value { ReturnsAsOrNoMemory cow_str_bytes result (Ok (utf8_lossy bytes.now)) }
+    ensures lent { IsUtf8 bytes.now → LendsText bytes.now result }
 {
     match str::from_utf8(bytes) {
         Ok(text) => Ok(CowStr::Borrowed(text)),

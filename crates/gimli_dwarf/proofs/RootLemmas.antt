@@ -69,12 +69,12 @@ module _ (limit : ℕ) (u : DebugUnit) (table : List Declaration) (w : Walk) (b 
   pub root-refused : (e : Error) → present_row limit w ≡ Err e → root limit u table ≡ Err e
   root-refused e h = root_read limit u table w b opened empty some ∙ refusal_of_row (row limit w) e h
 
-  pub root-absent : (p : Bool) (r : Row) (behind : Walk) → present_row limit w ≡ Ok ((p, r), behind) → p ≡ false
+  pub root-absent : (p : Bool) (r : Row) (next : Walk) → present_row limit w ≡ Ok ((p, r), next) → p ≡ false
       → root limit u table ≡ Err MissingUnitDie
-  root-absent p r behind h k =
-      root_read limit u table w b opened empty some ∙ null_row_is_missing (row limit w) p r behind h k
+  root-absent p r next h k =
+      root_read limit u table w b opened empty some ∙ null_row_is_missing (row limit w) p r next h k
 
-  pub root-found : (p : Bool) (r : Row) (behind : Walk) → present_row limit w ≡ Ok ((p, r), behind) → p ≡ true
+  pub root-found : (p : Bool) (r : Row) (next : Walk) → present_row limit w ≡ Ok ((p, r), next) → p ≡ true
       → root limit u table ≡ Ok r
-  root-found p r behind h k =
-      root_read limit u table w b opened empty some ∙ present_row_is_root (row limit w) p r behind h k
+  root-found p r next h k =
+      root_read limit u table w b opened empty some ∙ present_row_is_root (row limit w) p r next h k

@@ -19,6 +19,5 @@ pub use Rattle.gimli_dwarf_spec.specs.UnitHeaders
 pub use Rattle.gimli_dwarf_spec.specs.UnitOffsets
 pub use Rattle.gimli_dwarf_spec.specs.ListSections
 pub mod RootBases
-pub mod OwnCaches
 pub mod Roots
 pub mod SectionLoading

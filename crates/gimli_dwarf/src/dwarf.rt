@@ -24,7 +24,7 @@ use std::marker::Model;
 use std::rc::Rc;
 
 /// All sections of a file, and those of its supplement, if it has one (DWARF 5, 7.3.6). The cache
-/// keeps abbreviation tables of this file's own `.debug_abbrev`, or nothing.
+/// holds abbreviation tables of this file's own `.debug_abbrev`, or nothing.
 #[derive(Drop)]
 pub struct Dwarf<R: Reader> {
     pub debug_abbrev: DebugAbbrev<R>,
@@ -49,7 +49,7 @@ pub struct Dwarf<R: Reader> {
 impl<R: Reader> Model for Dwarf<R> {
     ghost use Rattle.std.specs.Prelude.{option_map, length};
     ghost use Rattle.gimli_dwarf_spec.specs.DwarfFiles.{DwarfFile, dwarf_file};
-    ghost use Rattle.gimli_dwarf.specs.OwnCaches.{KeepsOwn};
+    ghost use Rattle.gimli_dwarf_spec.specs.TableCache.{AreTablesOf};
 
     ghost Value = { DwarfFile };
 
@@ -71,7 +71,7 @@ impl<R: Reader> Model for Dwarf<R> {
       file_type = d.file_type;
     }) (option_map (λ s. s.value) d.sup) };
 
-    ghost invariant = { λ d. KeepsOwn d.abbreviations_cache d.debug_abbrev };
+    ghost invariant = { λ d. AreTablesOf d.debug_abbrev d.abbreviations_cache };
 
     ghost size = { λ s. length s.supplements };
 

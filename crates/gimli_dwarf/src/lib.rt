@@ -13,9 +13,10 @@ pub mod unit_ref;
 pub use dwarf::Dwarf;
 pub use gimli_dwarf_spec::{
     Attribute, AttributeSpecification, AttributeValue, DW_AT_MIPS_linkage_name,
-    DW_AT_abstract_origin, DW_AT_linkage_name, DW_AT_name, DW_AT_specification, DebugInfoOffset,
-    DebugRanges, DebugRngLists, DwAt, EntriesRaw, Error, LocationLists, OffsetInSection,
-    RangeLists, Reader, ReaderOffset, RngListIter, UnitOffset,
+    DW_AT_abstract_origin, DW_AT_linkage_name, DW_AT_name, DW_AT_specification,
+    DW_TAG_partial_unit, DebugInfoOffset, DebugRanges, DebugRngLists, DebuggingInformationEntry,
+    DwAt, EntriesRaw, Error, LocationLists, OffsetInSection, RangeLists, Reader, ReaderOffset,
+    RngListIter, UnitOffset,
 };
 pub use holders::{DebugMacinfo, DebugMacro, DebugNames, DebugTypes};
 pub use unit::Unit;

@@ -21,7 +21,7 @@ impl<R: Reader> Dwarf<R> {
         F: FnMut(SectionId) -> Result<R, E>,
         requires { F.IsAlwaysCallable section }
         ensures loaded { IfOk result (λ dwarf. Loads F.step R.view R.Offset.limit section dwarf) }
-        ensures refused { IfErr result (λ e. RefusesToLoad F.step R.view section e) }
+        ensures refusal { IfErr result (λ e. RefusesToLoad F.step R.view section e) }
     {
         let (debug_abbrev, debug_addr, debug_aranges, debug_info) = load_four(
             &mut section,
@@ -84,7 +84,7 @@ impl<R: Reader> Dwarf<R> {
             × Loads F.step R.view R.Offset.limit section supplement
             × (self.new ≡ with_supplement supplement self.old)) }
         ensures unchanged { OnErr result (self.new ≡ self.old) }
-        ensures refused { IfErr result (λ e. RefusesToLoad F.step R.view section e
+        ensures refusal { IfErr result (λ e. RefusesToLoad F.step R.view section e
             ⊎ ((supplement : DwarfFile)
             × Loads F.step R.view R.Offset.limit section supplement
             × E.from_gives alloc_error e)) }
@@ -130,7 +130,7 @@ fn load_four<R: Drop, E, F: FnMut(SectionId) -> Result<R, E>>(
     ensures callable { F.IsAlwaysCallable section.new }
     ensures answers { IfOk result (λ r. Answers F.step section.old ((first, r.0) ∷ (second, r.1)
         ∷ (third, r.2) ∷ (fourth, r.3) ∷ []) section.new) }
-    ensures refused { IfErr result (λ e. RefusesOneOf F.step
+    ensures refusal { IfErr result (λ e. RefusesOneOf F.step
         (first ∷ second ∷ third ∷ fourth ∷ []) section.old e) }
 {
     Ok((

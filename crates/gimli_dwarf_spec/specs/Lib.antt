@@ -21,6 +21,9 @@ pub use Rattle.gimli_units_entries.specs.EntryViews
 pub use Rattle.gimli_units_entries.specs.EntryWalks
 pub use Rattle.gimli_units_entries.specs.UnitEntries
 pub use Rattle.gimli_lines_header.specs.AttributeMeanings
+pub use Rattle.gimli_lines_header.specs.FormSpellings
+pub use Rattle.gimli_lines_header.specs.AttributeReading
+pub use Rattle.gimli_units_entries.specs.AttributeSkipping
 pub use Rattle.gimli_lines_header.specs.AttributeValues
 pub use Rattle.gimli_lines_header.specs.ArangeSets
 pub use Rattle.gimli_lines_header.specs.Tiling

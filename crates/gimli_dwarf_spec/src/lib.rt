@@ -14,8 +14,8 @@ pub use gimli_units_entries::{
     DW_AT_MIPS_linkage_name, DW_AT_abstract_origin, DW_AT_addr_base, DW_AT_comp_dir,
     DW_AT_dwo_name, DW_AT_linkage_name, DW_AT_loclists_base, DW_AT_low_pc, DW_AT_name,
     DW_AT_rnglists_base, DW_AT_specification, DW_AT_stmt_list, DW_AT_str_offsets_base,
-    DebugAbbrevOffset, DebugAddrBase, DebugAddrIndex, DebugLineOffset, DebugLocListsBase,
-    DebugRngListsBase, DebugRngListsIndex, DebugStrOffset, DebugStrOffsetsBase,
+    DW_TAG_partial_unit, DebugAbbrevOffset, DebugAddrBase, DebugAddrIndex, DebugLineOffset,
+    DebugLocListsBase, DebugRngListsBase, DebugRngListsIndex, DebugStrOffset, DebugStrOffsetsBase,
     DebuggingInformationEntry, DwAt, DwarfFileType, DwoId, EntriesRaw, Error, RangeListsOffset,
     RawRangeListsOffset, ReaderOffset, SectionId,
 };

@@ -42,6 +42,7 @@ is_full e form = takes_byte (spelling e form) && not (eqb form 0x16)
 all_full : (size version : ℕ) (format : Format)
     → list_all (λ form. is_full (record { address_size = size; format = format; version = version }) form) entry_forms
     ≡ true
+unfolding spelling
 all_full size version Dwarf32 = refl
 all_full size version Dwarf64 = refl
 

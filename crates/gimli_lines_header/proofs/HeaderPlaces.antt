@@ -253,7 +253,7 @@ header_is_in limit offset unit unit_length format v =
 
 -- what is so of a header at the start of v, where w is left
 record IsWhole (v : View) (h : LineHeader) (w : View) : Type 0 where
-  stands : LengthsDelimit v h w
+  delimits : LengthsDelimit v h w
   room : bytes_needed h ≤ h.header_length
 
 header_is_whole : (limit offset : ℕ) (unit : LineUnit) (v : View)
@@ -269,7 +269,7 @@ header_is_whole limit offset unit v =
     let size : initial_length_size l.1 + l.0 ≡ initial_length_size x.encoding.format + x.unit_length =
     sized l.0 l.1 x found.0.long found.0.in_format in
     record {
-      stands = record {
+      delimits = record {
         program =
             found.0.program_at ∙ placed l.0 l.1 x bytes (j.0 ∙ ap (prefix l.0) h.rest) found.0.long found.0.in_format;
         after_program = found.1 ∙ both.rest ∙ ap (λ (n : ℕ). after n v) size;
@@ -296,7 +296,7 @@ header_is_whole limit offset unit v =
 
 pub lengths_delimit_headers : LengthsDelimitHeaders
 lengths_delimit_headers limit offset unit v rest h read =
-    ((header_is_whole limit offset unit v).hold h rest read).stands
+    ((header_is_whole limit offset unit v).hold h rest read).delimits
 
 pub tables_fit : TablesFit
 tables_fit limit offset unit v rest h read = ((header_is_whole limit offset unit v).hold h rest read).room

@@ -6,7 +6,7 @@ use Rattle.gimli_units_headers.specs.View.{View}
 use Rattle.gimli_units_headers.specs.Parsers.{Step, proceed, give}
 use Rattle.gimli_units_headers.specs.Repetition.{times}
 use Rattle.gimli_units_headers.proofs.StepParts.{proceed-proceed}
-use Rattle.gimli_units_headers.proofs.Times.{behind, times_item, times_fault, times_end}
+use Rattle.gimli_units_headers.proofs.Times.{prepend, times_item, times_fault, times_end}
 use Rattle.gimli_units_headers.specs.Encoding.{Encoding}
 use Rattle.gimli_units_forms.specs.AttributeValues.{RawValue}
 use Rattle.gimli_lines_header.specs.declared.formats.FileEntryFormat.{FileEntryFormat}
@@ -16,53 +16,53 @@ use Rattle.gimli_lines_header.specs.TableEntries.{EntryFacts, entry_value, entry
 
 -- none is read yet
 pub count_start : {S A : Type 0} (p : Step S A) (count : ℕ) (xs : List A) (s : S) → xs ≡ []
-    → behind xs (times (count - 0) p s) ≡ times count p s
+    → prepend xs (times (count - 0) p s) ≡ times count p s
 count_start {S} {A} p count xs s none =
     let all : count - 0 ≡ count = omega arith in
-    ap (λ (ys : List A). behind ys (times (count - 0) p s)) none ∙ ap (λ (n : ℕ). behind [] (times n p s)) all
+    ap (λ (ys : List A). prepend ys (times (count - 0) p s)) none ∙ ap (λ (n : ℕ). prepend [] (times n p s)) all
     ∙ nothing_before (times count p s)
   where
-    nothing_before : (r : Result (List A × S) Error) → behind [] r ≡ r
+    nothing_before : (r : Result (List A × S) Error) → prepend [] r ≡ r
     nothing_before (Ok r) = refl
     nothing_before (Err d) = refl
 
 -- a further item is read
 pub count_item : {S A : Type 0} (p : Step S A) (count i : ℕ) (xs : List A) (x : A) (s t : S)
-    (all : Result (List A × S) Error) → i < count → p s ≡ Ok (x, t) → behind xs (times (count - i) p s) ≡ all
-    → behind (xs ++ x ∷ []) (times (count - (i + 1)) p t) ≡ all
+    (all : Result (List A × S) Error) → i < count → p s ≡ Ok (x, t) → prepend xs (times (count - i) p s) ≡ all
+    → prepend (xs ++ x ∷ []) (times (count - (i + 1)) p t) ≡ all
 count_item {S} {A} p count i xs x s t all more read same =
     let left : count - i ≡ suc (count - (i + 1)) = omega arith in
-    sym (times_item p (count - (i + 1)) xs x s t read) ∙ ap (λ (n : ℕ). behind xs (times n p s)) (sym left) ∙ same
+    sym (times_item p (count - (i + 1)) xs x s t read) ∙ ap (λ (n : ℕ). prepend xs (times n p s)) (sym left) ∙ same
 
 -- the same, where a contract sees items by a function
 pub count_view : {S A X : Type 0} (p : Step S A) (see : X → A) (count i : ℕ) (xs ys : List X) (x : X) (s t : S)
     (all : Result (List A × S) Error) → i < count → p s ≡ Ok (see x, t) → ys ≡ xs ++ x ∷ []
-    → behind (map see xs) (times (count - i) p s) ≡ all → behind (map see ys) (times (count - (i + 1)) p t) ≡ all
+    → prepend (map see xs) (times (count - i) p s) ≡ all → prepend (map see ys) (times (count - (i + 1)) p t) ≡ all
 count_view {S} {A} p see count i xs ys x s t all more read pushed same =
-    ap (λ (zs : List A). behind zs (times (count - (i + 1)) p t)) (ap (map see) pushed ∙ map-append see xs (x ∷ []))
+    ap (λ (zs : List A). prepend zs (times (count - (i + 1)) p t)) (ap (map see) pushed ∙ map-append see xs (x ∷ []))
     ∙ count_item p count i (map see xs) (see x) s t all more read same
 
 -- the same, where the item was pushed after the others
 pub count_push : {S A : Type 0} (p : Step S A) (count i : ℕ) (xs ys : List A) (x : A) (s t : S)
     (all : Result (List A × S) Error) → i < count → p s ≡ Ok (x, t) → ys ≡ xs ++ x ∷ []
-    → behind xs (times (count - i) p s) ≡ all → behind ys (times (count - (i + 1)) p t) ≡ all
+    → prepend xs (times (count - i) p s) ≡ all → prepend ys (times (count - (i + 1)) p t) ≡ all
 count_push {S} {A} p count i xs ys x s t all more read pushed same =
-    ap (λ (zs : List A). behind zs (times (count - (i + 1)) p t)) pushed
+    ap (λ (zs : List A). prepend zs (times (count - (i + 1)) p t)) pushed
     ∙ count_item p count i xs x s t all more read same
 
 -- an item can't be read
 pub count_fault : {S A : Type 0} (p : Step S A) (count i : ℕ) (xs : List A) (s : S) (d : Error)
-    (all : Result (List A × S) Error) → i < count → p s ≡ Err d → behind xs (times (count - i) p s) ≡ all → all ≡ Err d
+    (all : Result (List A × S) Error) → i < count → p s ≡ Err d → prepend xs (times (count - i) p s) ≡ all → all ≡ Err d
 count_fault p count i xs s d all more fault same =
     let left : count - i ≡ suc (count - (i + 1)) = omega arith in
-    sym same ∙ ap (λ (n : ℕ). behind xs (times n p s)) left ∙ times_fault p (count - (i + 1)) xs s d fault
+    sym same ∙ ap (λ (n : ℕ). prepend xs (times n p s)) left ∙ times_fault p (count - (i + 1)) xs s d fault
 
 -- all are read
 pub count_end : {S A : Type 0} (p : Step S A) (count i : ℕ) (xs : List A) (s : S) (all : Result (List A × S) Error)
-    → count ≤ i → behind xs (times (count - i) p s) ≡ all → all ≡ Ok (xs, s)
+    → count ≤ i → prepend xs (times (count - i) p s) ≡ all → all ≡ Ok (xs, s)
 count_end p count i xs s all over same =
     let none : count - i ≡ 0 = omega arith in
-    sym same ∙ ap (λ (n : ℕ). behind xs (times n p s)) none ∙ times_end p xs s
+    sym same ∙ ap (λ (n : ℕ). prepend xs (times n p s)) none ∙ times_end p xs s
 
 -- ---- the fields of an entry
 

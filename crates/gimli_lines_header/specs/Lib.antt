@@ -5,6 +5,7 @@ pub use Rattle.gimli_units_forms.specs.TableParsing
 pub use Rattle.gimli_units_forms.specs.AbbreviationsCache
 pub use Rattle.gimli_units_forms.specs.AttributeMeanings
 pub use Rattle.gimli_units_forms.specs.AttributeReading
+pub use Rattle.gimli_units_forms.specs.FormSpellings
 pub use Rattle.gimli_units_forms.specs.AttributeValues
 pub use Rattle.gimli_units_headers.specs.ArangeSets
 pub use Rattle.gimli_units_headers.specs.Tiling

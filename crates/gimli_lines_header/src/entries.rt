@@ -7,7 +7,7 @@ ghost use Rattle.gimli_lines_header.specs.TableEntries.{is_entry_form, entry_val
 
 use crate::file::FileEntry;
 use crate::formats::FileEntryFormat;
-use gimli_units_forms::{AttributeSpecification, AttributeValue, read_attribute};
+use gimli_units_forms::{AttributeSpecification, AttributeValue, parse_attribute};
 use gimli_units_headers::{
     DW_FORM_block, DW_FORM_block1, DW_FORM_block2, DW_FORM_block4, DW_FORM_data1, DW_FORM_data2,
     DW_FORM_data4, DW_FORM_data8, DW_FORM_data16, DW_FORM_flag, DW_FORM_line_strp, DW_FORM_sdata,
@@ -64,7 +64,7 @@ fn parse_value<R: Reader>(
         return Err(Error::UnknownForm(form));
     }
     let specification = AttributeSpecification::new(DwAt(0), form, None);
-    read_attribute(input, encoding, specification)?.raw_value()
+    parse_attribute(input, encoding, specification)?.raw_value()
 }
 
 // The sixteen bytes of a digest.

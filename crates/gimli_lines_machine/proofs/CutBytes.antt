@@ -148,14 +148,14 @@ cut-span_of {A} {p = p} h = record {
       let b = begins (p v) (λ _ u. give (prefix (u.first - v.first) v) u) x w e in
       let k = h.each v b.1 b.0 b.2 in
       let same : prefix (b.1.first - v.first) v ≡ x = value_is (prefix (b.1.first - v.first) v) x b.1 w b.3 in
-      let behind : b.1 ≡ w = state_is (prefix (b.1.first - v.first) v) x b.1 w b.3 in
+      let rest_is : b.1 ≡ w = state_is (prefix (b.1.first - v.first) v) x b.1 w b.3 in
       let so_many : (v.first + k.count) - v.first ≡ k.count = omega arith in
       let there : b.1.first ≡ v.first + k.count = ap (λ (u : View). u.first) k.rest in
       record {
         count = k.count;
         some = k.some;
         fits = k.fits;
-        rest = sym behind ∙ k.rest;
+        rest = sym rest_is ∙ k.rest;
         again = λ n le.
             ap (λ (r : Result (A × View) Error). proceed r (λ _ u. give (prefix (u.first - v.first) (prefix n v)) u))
             (k.again n le)

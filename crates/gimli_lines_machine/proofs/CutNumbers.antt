@@ -108,9 +108,9 @@ bounded_string_cut : (limit n : ℕ) (bytes string : List ℕ) → bounded_strin
     → bounded_string limit (take n bytes) ≡ Ok string
 bounded_string_cut limit n bytes string e le =
     let there : leb_string (take limit bytes) ≡ Some string = found_is (leb_string (take limit bytes)) _ string e in
-    let kept : leb_string (take limit (take n bytes)) ≡ Some string = ap leb_string (take_both limit n bytes)
+    let same_string : leb_string (take limit (take n bytes)) ≡ Some string = ap leb_string (take_both limit n bytes)
     ∙ string_cut (take limit bytes) string n there le in
-    ap (λ (o : Option (List ℕ)). ok_or o (cond (ltb (length (take n bytes)) limit) Cut Bad)) kept
+    ap (λ (o : Option (List ℕ)). ok_or o (cond (ltb (length (take n bytes)) limit) Cut Bad)) same_string
 
 -- a number and the length of its string, by what the string is
 abbrev CountsString : {A : Type 0} → (Result (List ℕ) Fault → Result (A × ℕ) Fault) → Type 0
@@ -126,9 +126,9 @@ cut-after {A} bad f number_result v w x e = cases (f (bounded_string 10 v.bytes)
         → ReadsCutAt 1 (λ u. number_and_rest bad u (f (bounded_string 10 u.bytes))) v w x
     there k is at =
         let string = number_result (bounded_string 10 v.bytes) x k is in
-        let stands = judged_stands 10 v.bytes string.0 string.1 in
-        let some : 0 < length string.0 = stands.some in
-        let fits : length string.0 ≤ bytes_left v = stands.fits in
+        let string_fits = judged_stands 10 v.bytes string.0 string.1 in
+        let some : 0 < length string.0 = string_fits.some in
+        let fits : length string.0 ≤ bytes_left v = string_fits.fits in
         let long : length string.0 ≡ k = string.2 in
         record {
           count = k;

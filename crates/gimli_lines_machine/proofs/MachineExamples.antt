@@ -74,8 +74,8 @@ special_55_row = refl
 abbrev back_to_0 : List Instruction
 back_to_0 = set_address 1 ∷ copy ∷ set_address 0 ∷ special 55 ∷ []
 
-row_behind_is_hidden : shown_rows (run_of rules back_to_0).items ≡ at_line 1 1 ∷ []
-row_behind_is_hidden = refl
+row_going_back_is_hidden : shown_rows (run_of rules back_to_0).items ≡ at_line 1 1 ∷ []
+row_going_back_is_hidden = refl
 
 address_stays : (run_of rules back_to_0).ending ≡ Ok (record (at_line 1 4) { is_hidden = true })
 address_stays = refl

@@ -7,10 +7,10 @@ use Rattle.gimli_lines_machine.specs.View.{View, after, prefix, bytes_left, unex
 use Rattle.gimli_lines_machine.specs.Parsers.{proceed, give, truncate}
 use Rattle.gimli_lines_machine.specs.Repetition.{times}
 use Rattle.gimli_lines_machine.proofs.StepParts.{state_is}
-use Rattle.gimli_lines_machine.proofs.Times.{behind, times_item, times_fault, times_end}
+use Rattle.gimli_lines_machine.proofs.Times.{prepend, times_item, times_fault, times_end}
 use Rattle.gimli_lines_machine.specs.Fault.{Fault}
 use Rattle.gimli_lines_machine.specs.Leb128.{bounded_string, unsigned_of, unsigned_number}
-use Rattle.gimli_lines_machine.specs.NumberParsers.{unsigned, number_and_rest as behind_number}
+use Rattle.gimli_lines_machine.specs.NumberParsers.{unsigned, number_and_rest as number_then_rest}
 use Rattle.gimli_lines_machine.proofs.NumberReadSizes.{judged_stands, Stands}
 use Rattle.gimli_lines_machine.specs.Readers.{Holds}
 use Rattle.gimli_lines_machine.specs.Decoding.{span_of}
@@ -20,10 +20,10 @@ use Rattle.gimli_lines_machine.specs.Decoding.{span_of}
 holds_after : (s v : View) (k : ℕ) → k ≤ bytes_left v → Holds s v → Holds s (after k v)
 holds_after s v k le h = (omega (arith, h.0), omega (arith, h.1, length-drop k v.bytes))
 
-behind_holds : (s v w : View) (x : ℕ) (r : Result (ℕ × ℕ) Fault) → ((y k : ℕ) → r ≡ Ok (y, k) → k ≤ bytes_left v)
-    → Holds s v → behind_number BadUnsignedLeb128 v r ≡ Ok (x, w) → Holds s w
-behind_holds s v w x (Err fault) fits h e = absurd cc
-behind_holds s v w x (Ok found) fits h e =
+rest_holds : (s v w : View) (x : ℕ) (r : Result (ℕ × ℕ) Fault) → ((y k : ℕ) → r ≡ Ok (y, k) → k ≤ bytes_left v)
+    → Holds s v → number_then_rest BadUnsignedLeb128 v r ≡ Ok (x, w) → Holds s w
+rest_holds s v w x (Err fault) fits h e = absurd cc
+rest_holds s v w x (Ok found) fits h e =
     let is : after found.1 v ≡ w = state_is found.0 x (after found.1 v) w e in
     subst (λ (u : View). Holds s u) is (holds_after s v found.1 (fits found.0 found.1 refl) h)
 
@@ -35,14 +35,14 @@ second_is x y m k e = let is : (x, m) ≡ (y, k) = cc in ap (λ (p : ℕ × ℕ)
 
 unsigned_fits : (v : View) (r : Result (List ℕ) Fault) → ((s : List ℕ) → r ≡ Ok s → Stands s v.bytes) → (y k : ℕ)
     → unsigned_of (2 ^ 64) r ≡ Ok (y, k) → k ≤ bytes_left v
-unsigned_fits v (Err fault) stands y k e = absurd cc
-unsigned_fits v (Ok s) stands y k e = cases (nat_lt (unsigned_number s) (2 ^ 64)) refl
+unsigned_fits v (Err fault) string_fits y k e = absurd cc
+unsigned_fits v (Ok s) string_fits y k e = cases (nat_lt (unsigned_number s) (2 ^ 64)) refl
   where
     cases : (b : Bool) → nat_lt (unsigned_number s) (2 ^ 64) ≡ b → k ≤ bytes_left v
     cases true h =
         let e' = rw h at e in
         let is : length s ≡ k = second_is' e' in
-        let found = stands s refl in
+        let found = string_fits s refl in
         rw (← is) found.fits
       where
         second_is' : count_result (unsigned_number s) (length s) ≡ count_result y k → length s ≡ k
@@ -52,24 +52,24 @@ unsigned_fits v (Ok s) stands y k e = cases (nat_lt (unsigned_number s) (2 ^ 64)
 pub unsigned_holds : (s v w : View) (x : ℕ) → Holds s v → unsigned v ≡ Ok (x, w) → Holds s w
 unfolding unsigned
 unsigned_holds s v w x h e =
-    behind_holds s v w x _ (unsigned_fits v (bounded_string 10 v.bytes) (judged_stands 10 v.bytes)) h e
+    rest_holds s v w x _ (unsigned_fits v (bounded_string 10 v.bytes) (judged_stands 10 v.bytes)) h e
 
 -- ---- the loop
 
 -- of so many operands some are left, and the rest was read
 pub record Spans (count left : ℕ) (start now : View) : Type 0 where
   pub numbers : List ℕ
-  pub same : behind numbers (times left unsigned now) ≡ times count unsigned start
+  pub same : prepend numbers (times left unsigned now) ≡ times count unsigned start
   pub holds : Holds start now
 
-behind-none : (r : Result (List ℕ × View) Error) → behind [] r ≡ r
-behind-none (Ok r) = refl
-behind-none (Err e) = refl
+prepend-none : (r : Result (List ℕ × View) Error) → prepend [] r ≡ r
+prepend-none (Ok r) = refl
+prepend-none (Err e) = refl
 
 pub spans_start : (count : ℕ) (v : View) → Spans count (count - 0) v v
 spans_start count v =
     let all : count - 0 ≡ count = omega arith in
-    record { numbers = []; same = behind-none _ ∙ ap (λ n. times n unsigned v) all; holds = (omega arith, omega arith) }
+    record { numbers = []; same = prepend-none _ ∙ ap (λ n. times n unsigned v) all; holds = (omega arith, omega arith) }
 
 one_less : (count i : ℕ) → i < count → count - i ≡ suc (count - (i + 1))
 one_less count i lt = omega arith
@@ -79,7 +79,7 @@ pub spans_more : (count i x : ℕ) (start v w : View) → i < count → unsigned
 spans_more count i x start v w lt e h = record {
   numbers = h.numbers ++ x ∷ [];
   same = sym (times_item unsigned (count - (i + 1)) h.numbers x v w e)
-      ∙ ap (λ n. behind h.numbers (times n unsigned v)) (sym (one_less count i lt)) ∙ h.same;
+      ∙ ap (λ n. prepend h.numbers (times n unsigned v)) (sym (one_less count i lt)) ∙ h.same;
   holds = unsigned_holds start v w x h.holds e;
 }
 
@@ -87,7 +87,7 @@ pub spans_fault : (count i : ℕ) (start v : View) (d : Error) → i < count →
     → Spans count (count - i) start v → span_of (times count unsigned) start ≡ Err d
 spans_fault count i start v d lt e h =
     let all : times count unsigned start ≡ Err d =
-    sym h.same ∙ ap (λ n. behind h.numbers (times n unsigned v)) (one_less count i lt)
+    sym h.same ∙ ap (λ n. prepend h.numbers (times n unsigned v)) (one_less count i lt)
     ∙ times_fault unsigned (count - (i + 1)) h.numbers v d e in
     ap (λ (r : Result (List ℕ × View) Error). proceed r (λ _ w. give (prefix (w.first - start.first) start) w)) all
 
@@ -96,7 +96,7 @@ pub spans_end : (count i : ℕ) (start v : View) → count ≤ i → Spans count
 spans_end count i start v le h =
     let none : count - i ≡ 0 = omega arith in
     let all : times count unsigned start ≡ Ok (h.numbers, v) =
-    sym h.same ∙ ap (λ n. behind h.numbers (times n unsigned v)) none ∙ times_end unsigned h.numbers v in
+    sym h.same ∙ ap (λ n. prepend h.numbers (times n unsigned v)) none ∙ times_end unsigned h.numbers v in
     ap (λ (r : Result (List ℕ × View) Error). proceed r (λ _ w. give (prefix (w.first - start.first) start) w)) all
 
 -- nothing is read, and a view is left

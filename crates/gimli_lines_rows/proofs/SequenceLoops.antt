@@ -31,19 +31,19 @@ pub no_end_none : NoEnd []
 no_end_none before more = ap (λ (xs : Rows). pieces_after xs more) (sym (append-nil before))
 
 -- the rows so far, and one more
-behind_all : (rows : Rows) (r : Registers) → NoEnd rows → (before more : Rows)
+after_all : (rows : Rows) (r : Registers) → NoEnd rows → (before more : Rows)
     → pieces_after before ((rows ++ r ∷ []) ++ more) ≡ pieces_after (before ++ rows) (r ∷ more)
-behind_all rows r none before more = ap (pieces_after before) (append_assoc rows (r ∷ []) more) ∙ none before (r ∷ more)
+after_all rows r none before more = ap (pieces_after before) (append_assoc rows (r ∷ []) more) ∙ none before (r ∷ more)
 
 pub no_end_more : (rows : Rows) (r : Registers) → NoEnd rows → r.end_sequence ≡ false → NoEnd (rows ++ r ∷ [])
 no_end_more rows r none is before more =
-    behind_all rows r none before more
+    after_all rows r none before more
     ∙ ap (λ (b : Bool). pieces_with b r (before ++ rows) more) is
     ∙ ap (λ (xs : Rows). pieces_after xs more) (append_assoc before rows (r ∷ []))
 
 pub ends_once : (rows : Rows) (r : Registers) → NoEnd rows → r.end_sequence ≡ true → EndsOnce (rows ++ r ∷ [])
 ends_once rows r none is before more =
-    behind_all rows r none before more
+    after_all rows r none before more
     ∙ ap (λ (b : Bool). pieces_with b r (before ++ rows) more) is
     ∙ ap (λ (xs : Rows). xs ∷ pieces_after [] more) (append_assoc before rows (r ∷ []))
 
@@ -310,10 +310,10 @@ view_ok v = Ok v
 
 pub up_to_is : (before rest old new field : View) → before ≡ old → rest ≡ new
     → view_ok (prefix (rest.first - before.first) before) ≡ Ok field → field ≡ prefix (new.first - old.first) old
-up_to_is before rest old new field same behind e =
+up_to_is before rest old new field same rest_is e =
     let is : prefix (rest.first - before.first) before ≡ field = cc in
     sym is ∙ ap (λ (v : View). prefix (rest.first - v.first) v) same
-    ∙ ap (λ (v : View). prefix (v.first - old.first) old) behind
+    ∙ ap (λ (v : View). prefix (v.first - old.first) old) rest_is
 
 pub next_some : (limit : ℕ) (o : Option RowSequence) (q : RowSequence) (old new : RemainingRows) → o ≡ Some q
     → NextSequence limit (Ok o) old new → NextPiece limit q old new

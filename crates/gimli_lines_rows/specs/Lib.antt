@@ -24,6 +24,7 @@ pub use Rattle.gimli_lines_header.specs.Tiling
 pub use Rattle.gimli_lines_header.specs.UnitHeaders
 pub mod ProgramInstructions
 pub mod InstructionViews
+pub mod NumericInstructions
 pub mod ProgramRows
 pub mod Columns
 pub mod RowSequences

@@ -157,6 +157,10 @@ ToNextRow limit (Ok b) old new =
     (next_step limit new ≡ Ok (None, new))
 ToNextRow limit (Err e) old new = Unit {0}
 
+-- a row that is lent, by its header and its registers
+abbrev pub lent_row : LineHeader → Registers → Row
+lent_row h r = record { header = h; registers = r }
+
 -- what lends the next row: its header and its registers, none at the end; out of memory says
 -- nothing
 abbrev pub LendsRow : {A : Type 0} → (A → LineHeader × Registers) → Result (Option A) Error

@@ -8,6 +8,7 @@ ghost use Rattle.gimli_lines_machine.specs.Machine.{registers_after, IsSound};
 ghost use Rattle.gimli_lines_rows.specs.ProgramRows.{Executes, HeaderAfter};
 
 use crate::LineInstruction;
+use crate::numeric::{NumericInstruction, execute_numeric};
 use crate::program::LineProgram;
 use gimli_lines_header::LineProgramHeader;
 use gimli_lines_machine::{Error, LineRules, Reader, Registers};
@@ -37,39 +38,33 @@ pub(crate) fn execute<R: Reader, P: LineProgram<R>>(
     ensures header { HeaderAfter result P.takes_files (line_instruction R.view instruction)
         (P.header_of program.old) (P.header_of program.new) }
 {
-    let rules = rules_of(program.header());
-    match instruction {
-        LineInstruction::Special(opcode) => {
-            registers.advance_both(rules, opcode)?;
-            return Ok(true);
-        }
-        LineInstruction::Copy => return Ok(true),
-        LineInstruction::AdvancePc(operations) => {
-            registers.advance_operations(rules, operations)?;
-        }
-        LineInstruction::AdvanceLine(lines) => registers.advance_line(lines),
-        LineInstruction::SetFile(file) => registers.file = file,
-        LineInstruction::SetColumn(column) => registers.column = column,
-        LineInstruction::NegateStatement => registers.is_stmt = !registers.is_stmt,
-        LineInstruction::SetBasicBlock => registers.basic_block = true,
-        LineInstruction::ConstAddPc => registers.advance_as(rules, 255)?,
-        LineInstruction::FixedAddPc(bytes) => registers.advance_bytes(rules, bytes)?,
-        LineInstruction::SetPrologueEnd => registers.prologue_end = true,
-        LineInstruction::SetEpilogueBegin => registers.epilogue_begin = true,
-        LineInstruction::SetIsa(isa) => registers.isa = isa,
-        LineInstruction::EndSequence => {
-            registers.end_sequence = true;
-            return Ok(true);
-        }
-        LineInstruction::SetAddress(address) => registers.set_address(rules, address),
-        LineInstruction::DefineFile(file) => program.add_file(file)?,
+    let numeric = match instruction {
+        LineInstruction::Special(opcode) => NumericInstruction::Special(opcode),
+        LineInstruction::Copy => NumericInstruction::Copy,
+        LineInstruction::AdvancePc(operations) => NumericInstruction::AdvancePc(operations),
+        LineInstruction::AdvanceLine(lines) => NumericInstruction::AdvanceLine(lines),
+        LineInstruction::SetFile(file) => NumericInstruction::SetFile(file),
+        LineInstruction::SetColumn(column) => NumericInstruction::SetColumn(column),
+        LineInstruction::NegateStatement => NumericInstruction::NegateStatement,
+        LineInstruction::SetBasicBlock => NumericInstruction::SetBasicBlock,
+        LineInstruction::ConstAddPc => NumericInstruction::ConstAddPc,
+        LineInstruction::FixedAddPc(bytes) => NumericInstruction::FixedAddPc(bytes),
+        LineInstruction::SetPrologueEnd => NumericInstruction::SetPrologueEnd,
+        LineInstruction::SetEpilogueBegin => NumericInstruction::SetEpilogueBegin,
+        LineInstruction::SetIsa(isa) => NumericInstruction::SetIsa(isa),
+        LineInstruction::EndSequence => NumericInstruction::EndSequence,
+        LineInstruction::SetAddress(address) => NumericInstruction::SetAddress(address),
         LineInstruction::SetDiscriminator(discriminator) => {
-            registers.discriminator = discriminator;
+            NumericInstruction::SetDiscriminator(discriminator)
+        }
+        LineInstruction::DefineFile(file) => {
+            program.add_file(file)?;
+            return Ok(false);
         }
         LineInstruction::UnknownStandard0(_)
         | LineInstruction::UnknownStandard1(_, _)
         | LineInstruction::UnknownStandardN(_, _)
-        | LineInstruction::UnknownExtended(_, _) => {}
-    }
-    Ok(false)
+        | LineInstruction::UnknownExtended(_, _) => return Ok(false),
+    };
+    execute_numeric(registers, rules_of(program.header()), numeric)
 }

@@ -1,16 +1,18 @@
 //! The instructions of a program, one after the other.
 
-ghost use Rattle.std.specs.Prelude.{◌≡◌, ◌-◌, ◌≢◌, IsTrue, Ok, Err, option_map};
+ghost use Rattle.std.specs.Prelude.{◌≡◌, ◌-◌, ◌≤◌, ◌≢◌, IsTrue, IfSome, Ok, Err, option_map};
 ghost use Rattle.gimli_lines_machine.specs.Calls.{ReturnsAsOrNoMemory, ReturnsOrNoMemory};
-ghost use Rattle.gimli_lines_machine.specs.View.{View, prefix};
+ghost use Rattle.gimli_lines_machine.specs.View.{View, after, prefix, bytes_left};
 ghost use Rattle.gimli_lines_machine.specs.Error.TheVariants.{Memory};
 ghost use Rattle.gimli_lines_machine.specs.Readers.{Holds};
 ghost use Rattle.gimli_lines_machine.specs.Iterators.{ReadsAsOrEndsOrNoMemory};
 ghost use Rattle.gimli_lines_rows.specs.ProgramInstructions.{next_instruction, with_rest};
 ghost use Rattle.gimli_lines_rows.specs.InstructionViews.{line_instruction};
+ghost use Rattle.gimli_lines_rows.specs.NumericInstructions.{numeric_instruction};
 
 use crate::instruction::LineInstruction;
-use crate::parsing::parse_instruction;
+use crate::numeric::{NumericInstruction, line_instruction_of};
+use crate::parsing::{borrow, measure_numeric, parse_instruction};
 use gimli_lines_header::LineProgramHeader;
 use gimli_lines_machine::{Error, Reader};
 use std::marker::Model;
@@ -52,9 +54,30 @@ impl<R: Reader> LineInstructions<R> {
         self.input.empty();
     }
 
-    /// The next instruction and those after it, none at the end of the program. Takes memory only
-    /// where a part of the reader does.
-    pub fn read_next(
+    // The next instruction and its length, where it can be read and its operands are numbers. Takes
+    // no memory.
+    pub(crate) fn peek(&self, header: &LineProgramHeader<R>) -> Option<(NumericInstruction, usize)>
+        ensures value { IfSome result (λ p. next_instruction R.Offset.limit header.now self.now
+            ≡ Ok (Some (numeric_instruction p.0), after p.1 self.now)) }
+        ensures length { IfSome result (λ p. p.1 ≤ bytes_left self.now) }
+    {
+        if self.input.is_empty() {
+            return None;
+        }
+        measure_numeric(borrow(&self.input), header)
+    }
+
+    // Skips an instruction of this length.
+    pub(crate) fn skip(&mut self, len: usize)
+        requires { len ≤ bytes_left self.old }
+        ensures { self.new ≡ after len self.old }
+    {
+        self.input.advance(len);
+    }
+
+    // The next instruction, whatever its operands are, and those after it; none at the end of the
+    // program. Takes memory only where a part of the reader does.
+    pub(crate) fn read_next(
         &self,
         header: &LineProgramHeader<R>,
     ) -> Result<Option<(LineInstruction<R>, LineInstructions<R>)>, Error>
@@ -88,8 +111,8 @@ impl<R: Reader> LineInstructions<R> {
     }
 
     /// The next instruction, none at the end of the program. After one that can't be read there are
-    /// no more. Takes memory only where a part of the reader does, and changes nothing when out of
-    /// memory.
+    /// no more. Takes memory only for a part of the reader, which few instructions have, and changes
+    /// nothing when out of memory.
     pub fn next_instruction(
         &mut self,
         header: &LineProgramHeader<R>,
@@ -97,18 +120,19 @@ impl<R: Reader> LineInstructions<R> {
         ensures { ReadsAsOrEndsOrNoMemory (option_map (line_instruction R.view)) result self.old
             self.new (next_instruction R.Offset.limit header.now self.old) }
     {
-        if self.input.is_empty() {
-            return Ok(None);
+        if let Some((instruction, len)) = self.peek(header) {
+            self.skip(len);
+            return Ok(Some(line_instruction_of(instruction)));
         }
-        let mut input = self.input.copy()?;
-        match parse_instruction(&mut input, header) {
-            Ok(instruction) => {
-                self.input = input;
+        match self.read_next(header) {
+            Ok(None) => Ok(None),
+            Ok(Some((instruction, rest))) => {
+                *self = rest;
                 Ok(Some(instruction))
             }
             Err(Error::Memory) => Err(Error::Memory),
             Err(fault) => {
-                self.input.empty();
+                self.empty();
                 Err(fault)
             }
         }

@@ -5,6 +5,7 @@
 mod execution;
 pub mod instruction;
 pub mod instructions;
+mod numeric;
 mod parsing;
 pub mod program;
 pub mod row;

@@ -1,16 +1,18 @@
 //! The rows of a program, one after the other.
 
-ghost use Rattle.std.specs.Prelude.{◌≡◌, Ok};
+ghost use Rattle.std.specs.Prelude.{◌≡◌, not, if◌then◌else◌, Ok};
 ghost use Rattle.gimli_lines_machine.specs.Calls.{ReturnsOrNoMemory, ReadsOrNoMemory};
 ghost use Rattle.gimli_lines_rows.specs.ProgramRows.{NextRow, ToNextRow, OneStep, LendsRow, rows_to_come, next_step};
 ghost use Rattle.gimli_lines_rows.specs.RowSequences.{rows_under};
+ghost use Rattle.gimli_lines_machine.specs.Machine.{after_row};
 
 use crate::LineInstructions;
 use crate::execution::{execute, rules_of};
+use crate::numeric::execute_numeric;
 use crate::program::LineProgram;
 use crate::row::LineRow;
 use gimli_lines_header::LineProgramHeader;
-use gimli_lines_machine::{Error, Reader, Registers};
+use gimli_lines_machine::{Error, LineRules, Reader, Registers};
 use std::marker::Model;
 
 /// The rows of a program, from one of them on.
@@ -39,6 +41,12 @@ impl<R: Reader, P: LineProgram<R> + Drop> Model for LineRows<R, P> {
 }
 
 impl<R: Reader, P: LineProgram<R> + Drop> LineRows<R, P> {
+    ghost use Rattle.std.specs.Borrow.{sem};
+    ghost use Rattle.std.specs.Io.BufRead.{Rests};
+    ghost use Rattle.gimli_lines_machine.specs.Iterators.{ReturnsNextOrNoMemory};
+    ghost use Rattle.gimli_lines_rows.specs.ProgramRows.{lent_row};
+    ghost use Rattle.gimli_lines_rows.specs.contracts.rows.LineRows.{the_row};
+
     // The rows of a program from its first instruction on.
     pub(crate) fn new(program: P) -> Result<Self, Error>
         ensures { ReturnsOrNoMemory result
@@ -106,12 +114,24 @@ impl<R: Reader, P: LineProgram<R> + Drop> LineRows<R, P> {
     }
 
     /// The next row, with the header that has the files defined so far; none at the end. After a
-    /// fault there are none.
+    /// fault there are none. Out of memory, which only a part of the reader or a file that an
+    /// instruction defines can cause, leaves all rows to come.
     pub fn next_row(&mut self) -> Result<Option<(&LineProgramHeader<R>, &LineRow)>, Error>
-        ensures { LendsRow (λ p. (p.0.now, p.1.now)) result (rows_to_come R.Offset.limit self.old) }
+        ensures row { LendsRow (λ p. (p.0.now, p.1.now)) result
+            (rows_to_come R.Offset.limit self.old) }
+        ensures* rest { sem 𝓛 (Rests (the_row R.row P.row R.Endian.row R.Offset.row R.Reader
+            R.Endian.Endianity.own (record { debug_output = R.Endian.debug_output })
+            (record { is_default = R.Endian.is_default }) (record { eq = R.Endian.eq })
+            R.Offset.ReaderOffset.own (record { debug_output = R.Offset.debug_output })
+            (record { eq = R.Offset.eq }) (record { cmp = R.Offset.cmp })
+            (record { partial_cmp = R.Offset.partial_cmp })
+            (record { hash_input = R.Offset.hash_input }) P.LineProgram) self.entry (λ left.
+            ReturnsNextOrNoMemory (λ p. lent_row p.0.now p.1.now) result
+            (rows_to_come R.Offset.limit self.old) (rows_to_come R.Offset.limit left))) }
     {
         if self.advance()? {
-            Ok(Some((self.program.header(), &self.row)))
+            let rows = &*self;
+            Ok(Some((rows.program.header(), &rows.row)))
         } else {
             Ok(None)
         }
@@ -136,6 +156,23 @@ impl<R: Reader, P: LineProgram<R> + Drop> LineRows<R, P> {
     fn try_step(&mut self) -> Result<Option<bool>, Error>
         ensures { ReadsOrNoMemory result self.old self.new (next_step R.Offset.limit self.old) }
     {
+        let header = self.program.header();
+        let rules = rules_of(header);
+        let Some((instruction, len)) = self.instructions.peek(header) else {
+            return self.step_over_bytes();
+        };
+        let gives_row = execute_numeric(&mut self.registers, rules, instruction)?;
+        self.instructions.skip(len);
+        if !gives_row {
+            return Ok(Some(false));
+        }
+        Ok(Some(end_row(rules, &mut self.registers, &mut self.row)))
+    }
+
+    // The same, whatever the operands of the instruction are.
+    fn step_over_bytes(&mut self) -> Result<Option<bool>, Error>
+        ensures { ReadsOrNoMemory result self.old self.new (next_step R.Offset.limit self.old) }
+    {
         let Some((instruction, rest)) = self.instructions.read_next(self.program.header())? else {
             return Ok(None);
         };
@@ -145,11 +182,20 @@ impl<R: Reader, P: LineProgram<R> + Drop> LineRows<R, P> {
         if !gives_row {
             return Ok(Some(false));
         }
-        let is_shown = !self.registers.is_hidden;
-        if is_shown {
-            self.row = LineRow::of(self.registers);
-        }
-        self.registers.clear(rules);
-        Ok(Some(is_shown))
+        Ok(Some(end_row(rules, &mut self.registers, &mut self.row)))
     }
+}
+
+// Ends a row, and says whether it's shown: then it is the last row.
+fn end_row(rules: LineRules, registers: &mut Registers, row: &mut LineRow) -> bool
+    ensures shown { result ≡ not registers.old.is_hidden }
+    ensures row { row.new ≡ (if not registers.old.is_hidden then registers.old else row.old) }
+    ensures registers { registers.new ≡ after_row rules registers.old }
+{
+    let is_shown = !registers.is_hidden;
+    if is_shown {
+        *row = LineRow::of(*registers);
+    }
+    registers.clear(rules);
+    is_shown
 }

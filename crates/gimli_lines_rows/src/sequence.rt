@@ -45,9 +45,8 @@ pub(crate) fn next_sequence<R: Reader, P: LineProgram<R> + Drop>(
     let before = rows.instructions().copy()?;
     let mut start = None;
     while rows.advance()? {
-        let row = *rows.row();
-        let address = row.address();
-        if row.end_sequence() {
+        let address = rows.row().address();
+        if rows.row().end_sequence() {
             return Ok(Some(LineSequence {
                 start: start.unwrap_or(0),
                 end: address,

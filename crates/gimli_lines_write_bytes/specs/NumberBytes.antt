@@ -3,6 +3,7 @@ use Rattle.std.specs.Prelude.{ℕ, ℤ, pos, negsuc, ◌+◌, ◌-◌, ◌*◌, 
 use Rattle.gimli_core_base.specs.declared.common.Format.{Format}
 use Rattle.gimli_core_base.specs.declared.common.Format.TheVariants.{Dwarf32, Dwarf64}
 use Rattle.gimli_core_base.specs.Fixed.{number_bytes}
+use Rattle.gimli_core_base.specs.declared.constants.TheConstants.{FIRST_RESERVED_LENGTH}
 use Rattle.gimli_core_base.specs.FormatSizes.{word_size}
 use Rattle.gimli_core_base.specs.NumberParsers.{is_address_size}
 use Rattle.gimli_lines_write_bytes.specs.declared.error.Error.{Error}
@@ -49,15 +50,15 @@ abbrev pub escape : Format → List ℕ
 escape Dwarf32 = []
 escape Dwarf64 = 255 ∷ 255 ∷ 255 ∷ 255 ∷ []
 
--- the bytes of a length: those from 0xfffffff0 on are reserved in 32-bit DWARF
+-- the bytes of a length: those from the first reserved one on need 64-bit DWARF
 abbrev pub length_bytes : Bool → Format → ℕ → Result (List ℕ) Error
 length_bytes is_big Dwarf32 n =
-    if nat_lt n 0xfffffff0 then Ok (number_bytes is_big 4 n) else Err InitialLengthOverflow
+    if nat_lt n FIRST_RESERVED_LENGTH then Ok (number_bytes is_big 4 n) else Err InitialLengthOverflow
 length_bytes is_big Dwarf64 n = bytes_in_width is_big 8 n
 
 -- the lengths that a format can write
 abbrev pub length_limit : Format → ℕ
-length_limit Dwarf32 = 0xfffffff0
+length_limit Dwarf32 = FIRST_RESERVED_LENGTH
 length_limit Dwarf64 = 2 ^ 64
 
 -- the bytes of such a length, after the escape of 64-bit DWARF

@@ -13,7 +13,7 @@ use crate::address::Address;
 use crate::error::Error;
 use crate::word::Word;
 use gimli_core_base::leb128::Leb128;
-use gimli_core_base::{Endianity, Format, SectionId};
+use gimli_core_base::{Endianity, FIRST_RESERVED_LENGTH, Format, SectionId};
 
 /// Where the length of a unit or table is, so that it can be written once it is known.
 #[derive(Clone, Copy, Debug, PartialEq, Eq)]
@@ -260,7 +260,7 @@ pub trait Writer {
             (replace_result offset.0 (length_bytes (contents self.old).is_big format length)
             (contents self.old)) }
     {
-        if format == Format::Dwarf32 && length >= 0xffff_fff0 {
+        if format == Format::Dwarf32 && length >= u64::from(FIRST_RESERVED_LENGTH) {
             return Err(Error::InitialLengthOverflow);
         }
         self.write_udata_at(offset.0, length, format.word_size())

@@ -66,8 +66,8 @@ source_is is_big e d form f bytes h = by d.has_source h
     by : (b : Bool) → (if b then text_bytes is_big e form f.source else Ok []) ≡ Ok bytes
         → (b ≡ true → (form_of f.source ≡ form) × Fits e.format f.source)
         × (bytes ≡ (if b then spelled_text is_big e.format f.source else []))
-    by true k = let t = text_is is_big e form f.source bytes k in ((λ told. (t.0, t.1)), t.2)
-    by false k = ((λ told. absurd (cc)), sym (same_ok [] bytes k))
+    by true k = let t = text_is is_big e form f.source bytes k in ((λ source_bytes. (t.0, t.1)), t.2)
+    by false k = ((λ source_bytes. absurd (cc)), sym (same_ok [] bytes k))
 
 pub file_5_is : (is_big : Bool) (e : Encoding) (d : Details) (path_form source_form : ℕ) (f : WrittenFile)
     (bytes : List ℕ) → file_bytes_of_5 is_big e d path_form source_form f ≡ Ok bytes
@@ -80,13 +80,13 @@ file_5_is is_big e d path_form source_form f bytes h =
     let rest = both_parts (Ok (details_bytes d f)) source parts.1 parts.3 in
     let last = source_is is_big e d source_form f rest.1 rest.3 in
     let text = spelled_text is_big e.format f.path in
-    let told : List ℕ = if d.has_source then spelled_text is_big e.format f.source else [] in (
+    let source_bytes : List ℕ = if d.has_source then spelled_text is_big e.format f.source else [] in (
       ((path.0, path.1), last.0),
       sym parts.4 ∙ ap (λ l. l ++ parts.1) path.2
           ∙ ap (λ l. text ++ l) (sym rest.4 ∙ ap (λ l. l ++ rest.1) (sym (same_ok (details_bytes d f) rest.0 rest.2))
           ∙ ap (λ l. details_bytes d f ++ l) last.1)
-          ∙ sym (append_assoc text (details_bytes d f) told)
-          ∙ ap (λ l. l ++ told) (sym (front_is is_big e.format d f))
+          ∙ sym (append_assoc text (details_bytes d f) source_bytes)
+          ∙ ap (λ l. l ++ source_bytes) (sym (front_is is_big e.format d f))
           ∙ ap (λ l. spelled_fields (leading_fields is_big e.format d f) ++ l)
           (sym (spelled_when d.has_source (text_field is_big e.format source_content f.source)))
           ∙ sym (flat_map-append (λ (x : WrittenField). x.bytes) (leading_fields is_big e.format d f)

@@ -39,7 +39,7 @@ plain_form : (files : List WrittenFile) → All (λ (f : WrittenFile). f.source 
 plain_form [] all = refl
 plain_form (f ∷ files) all = ap form_of (All-head (λ (f : WrittenFile). f.source ≡ in_place []) f files all)
 
-module _ (rules : LineRules) (t : Tables) (told : TablesReadBack rules.encoding.version t) where
+module _ (rules : LineRules) (t : Tables) (read_back : TablesReadBack rules.encoding.version t) where
   -- the text of a file
   source_stands : (limit : ℕ) (f : WrittenFile) → HasNoZero f.source → IsBelow limit f.source
       → FileIs rules.encoding t.details (path_form t) (source_form t) f
@@ -57,13 +57,13 @@ module _ (rules : LineRules) (t : Tables) (told : TablesReadBack rules.encoding.
       → FileIs rules.encoding t.details (path_form t) (source_form t) f
       → (records_sources rules.encoding.version t ≡ false → f.source ≡ in_place [])
       → IsReadableFile limit rules.encoding.format f
-  file_stands limit f is below stands plain = record {
-    path = text_stands limit rules.encoding.format f.path is.path below.path stands.0.1;
+  file_stands limit f is below well_formed plain = record {
+    path = text_stands limit rules.encoding.format f.path is.path below.path well_formed.0.1;
     directory = is.directory;
     timestamp = is.timestamp;
     size = is.size;
     md5 = is.md5;
-    source = source_stands limit f is.source below.source stands plain;
+    source = source_stands limit f is.source below.source well_formed plain;
   }
 
   -- texts up to version 4
@@ -73,8 +73,8 @@ module _ (rules : LineRules) (t : Tables) (told : TablesReadBack rules.encoding.
   stands_to_4 ds fs old =
       let earlier : nat_le rules.encoding.version 4 ≡ true = le-leb rules.encoding.version 4 old in
       record {
-        directories = λ k d h. entry_stands _ (rw earlier at (ds k d h).0) (told.directories_not_empty old k d h);
-        paths = λ k d h. entry_stands _ (rw earlier at (fs k d h).0.0) (told.paths_not_empty old k d h);
+        directories = λ k d h. entry_stands _ (rw earlier at (ds k d h).0) (read_back.directories_not_empty old k d h);
+        paths = λ k d h. entry_stands _ (rw earlier at (fs k d h).0.0) (read_back.paths_not_empty old k d h);
       }
 
   -- texts in version 5
@@ -95,7 +95,7 @@ module _ (rules : LineRules) (t : Tables) (told : TablesReadBack rules.encoding.
       by : (b : Bool) → t.details.has_source ≡ b → FitsVersion5 t
       by true is = record { directories = directories; paths = paths; sources = λ k d h. ((fs k d h).1 later is).0 }
       by false is =
-          let plain = told.no_sources (rw (later, is) refl) in
+          let plain = read_back.no_sources (rw (later, is) refl) in
           record {
             directories = directories;
             paths = paths;
@@ -105,14 +105,14 @@ module _ (rules : LineRules) (t : Tables) (told : TablesReadBack rules.encoding.
 
 -- ---- the unit
 
-behind_length : (a b : List ℕ) (n : ℕ) → length (a ++ b) < n → length b < n
-behind_length a b n h = omega (arith, length-append a b)
+rest_length : (a b : List ℕ) (n : ℕ) → length (a ++ b) < n → length b < n
+rest_length a b n h = omega (arith, length-append a b)
 
 one_is : (n : ℕ) → 0 < n → n ≤ 1 → n ≡ 1
 one_is n above below = omega arith
 
 pub unit_reads_back : UnitReadsBack
-unit_reads_back address_of rules t entries is_big bytes constants can_build byte few told f readable h =
+unit_reads_back address_of rules t entries is_big bytes constants can_build byte few read_back f readable h =
     let header = header_is is_big rules t in
     let parts = unit_is address_of is_big rules t entries (λ hd made. (header hd made).2) bytes h in
     let version = parts.0 in
@@ -129,14 +129,14 @@ unit_reads_back address_of rules t entries is_big bytes constants can_build byte
             operations_are_byte = few;
             one_operation = λ old. one_is rules.line_encoding.maximum_operations_per_instruction
                 can_build.has_operations (version.2 old);
-            directories = λ k d w. text_stands limit rules.encoding.format _ (told.directories k d w)
+            directories = λ k d w. text_stands limit rules.encoding.format _ (read_back.directories k d w)
                 (directories_below k d w) (tables.0 k d w).1;
-            files = λ k d w. file_stands rules t told limit _ (told.files k d w) (files_below k d w) (tables.1 k d w)
-                (λ untold. told.no_sources untold k d w);
-            to_4 = stands_to_4 rules t told tables.0 tables.1;
-            in_5 = stands_in_5 rules t told tables.0 tables.1;
+            files = λ k d w. file_stands rules t read_back limit _ (read_back.files k d w) (files_below k d w) (tables.1 k d w)
+                (λ untold. read_back.no_sources untold k d w);
+            to_4 = stands_to_4 rules t read_back tables.0 tables.1;
+            in_5 = stands_in_5 rules t read_back tables.0 tables.1;
             length_fits = unit.length_fits;
-            small = behind_length (spelled_length rules.encoding.format is_big
+            small = rest_length (spelled_length rules.encoding.format is_big
                 (length (spelled_body rules is_big t unit.program))) (spelled_body rules is_big t unit.program) limit
                 (subst (λ l. length l < limit) unit.bytes_are small);
           } in

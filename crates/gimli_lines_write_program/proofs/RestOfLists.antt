@@ -13,6 +13,6 @@ next_drop xs i d h = rw add-one (drop-cons xs i d h)
 
 pub rest_next : {A B : Type 0} (P : B → Type 0) (see : A → B) (xs : List A) (i : ℕ) (x : A) → i < length xs
     → x ≡ get_or xs i x → P (see x) → Rest P see xs i → Rest P see xs (i + 1)
-rest_next P see xs i x h is holds rest = λ behind.
+rest_next P see xs i x h is holds rest = λ later.
     rest (subst (λ ys. All P (map see ys)) (sym (next_drop xs i x h))
-    (All-cons P (see (get_or xs i x)) (map see (drop (i + 1) xs)) (subst (λ y. P (see y)) is holds) behind))
+    (All-cons P (see (get_or xs i x)) (map see (drop (i + 1) xs)) (subst (λ y. P (see y)) is holds) later))

@@ -25,7 +25,7 @@ pub unit_reads_back_at : (address_of : Address → Result ℕ Error) → ((n : �
     old ≡ Ok new
     → TablesReadBack rules.encoding.version t → IsReadable rules 0 (first_row rules) entries
     → (unit : List ℕ) × (new.bytes ≡ old.bytes ++ unit) × UnitDecodesTo rules old.is_big t unit (rows_of rules entries)
-unit_reads_back_at address_of constants rules t entries old new can f h told readable =
+unit_reads_back_at address_of constants rules t entries old new can f h read_back readable =
     by (unit_bytes address_of old.is_big rules t entries) refl h
   where
     by : (r : Result (List ℕ) Error) → unit_bytes address_of old.is_big rules t entries ≡ r → append_result r old
@@ -37,5 +37,5 @@ unit_reads_back_at address_of constants rules t entries old new can f h told rea
           bytes,
           ap (λ (w : WriterContents). w.bytes) (sym there),
           unit_reads_back address_of rules t entries old.is_big
-              bytes constants can.buildable can.least can.most told f readable is,
+              bytes constants can.buildable can.least can.most read_back f readable is,
         )

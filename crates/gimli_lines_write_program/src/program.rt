@@ -87,7 +87,7 @@ impl LineProgram {
         requires source_file { HasNoZero (text_of source_file) }
         ensures ok { IfOk result (λ p. p ≡ new_program encoding line_encoding (text_of working_dir)
             (text_of source_file)) }
-        ensures refused { IfErr result (λ e. e ≡ Memory) }
+        ensures refusal { IfErr result (λ e. e ≡ Memory) }
     {
         let mut tables = FileTable::new(alloc, encoding.version);
         let directory = tables.add_directory(working_dir)?;
@@ -188,7 +188,7 @@ impl LineProgram {
         ensures place { IfOk result (λ id. id.0 ≡ item_index is_same self.old.tables.directories
             (text_of directory)) }
         ensures err { OnErr result (self.new ≡ self.old) }
-        ensures refused { IfErr result (λ e. e ≡ Memory) }
+        ensures refusal { IfErr result (λ e. e ≡ Memory) }
     {
         self.tables.add_directory(directory)
     }
@@ -219,7 +219,7 @@ impl LineProgram {
         ensures place { IfOk result (λ id. id.0 ≡ item_index is_same_file self.old.tables.files
             (record { path = text_of file; directory = directory.0 })) }
         ensures err { OnErr result (self.new ≡ self.old) }
-        ensures refused { IfErr result (λ e. e ≡ Memory) }
+        ensures refusal { IfErr result (λ e. e ≡ Memory) }
     {
         self.tables.add_file(file, directory, info)
     }
@@ -267,7 +267,7 @@ impl LineProgram {
         ensures ok { OnOk result (self.new ≡ record self.old
             { rows = with_sequence address self.old.rows }) }
         ensures err { OnErr result (self.new ≡ self.old) }
-        ensures refused { IfErr result (λ e. e ≡ Memory) }
+        ensures refusal { IfErr result (λ e. e ≡ Memory) }
     {
         self.rows.begin_sequence(address)
     }
@@ -278,7 +278,7 @@ impl LineProgram {
         ensures ok { OnOk result (self.new ≡ record self.old
             { rows = with_address address self.old.rows }) }
         ensures err { OnErr result (self.new ≡ self.old) }
-        ensures refused { IfErr result (λ e. e ≡ Memory) }
+        ensures refusal { IfErr result (λ e. e ≡ Memory) }
     {
         self.rows.set_address(address)
     }
@@ -340,7 +340,7 @@ impl LineProgram {
               { row = row_after_row self.old.rows.row };
         }) }
         ensures err { OnErr result (self.new ≡ self.old) }
-        ensures refused { IfErr result (λ e. e ≡ Memory) }
+        ensures refusal { IfErr result (λ e. e ≡ Memory) }
     {
         self.rows.generate_row()
     }
@@ -356,7 +356,7 @@ impl LineProgram {
               self.old.rows) { row = first_row self.old.rows.rules; in_sequence = false };
         }) }
         ensures err { OnErr result (self.new ≡ self.old) }
-        ensures refused { IfErr result (λ e. e ≡ Memory) }
+        ensures refusal { IfErr result (λ e. e ≡ Memory) }
     {
         self.rows.end_sequence(address_offset)
     }
@@ -395,7 +395,7 @@ impl LineProgram {
             (W.contents w.old) (W.contents w.new)) }
         ensures tables { OnOk result ((strings.new ≡ strings_with strings.old self.now)
             × (line_strings.new ≡ line_strings_with line_strings.old self.now)) }
-        ensures refused { OnErr result
+        ensures refusal { OnErr result
             (GainsEmpty strings.old strings.new × GainsEmpty line_strings.old line_strings.new) }
     {
         let offset = w.len();

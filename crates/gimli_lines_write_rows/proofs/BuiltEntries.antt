@@ -10,19 +10,19 @@ use Rattle.gimli_lines_write_rows.specs.RowsBuilding.{IsBuilderState}
 use Rattle.gimli_lines_write_rows.proofs.Moves.{and-first, and-second}
 use Rattle.gimli_lines_write_rows.proofs.JoinedWrites.{follows-cons}
 
-behind-cons : (rules : LineRules) (previous : LineRow) (entry : LineEntry) (rest : List LineEntry)
+row_after-cons : (rules : LineRules) (previous : LineRow) (entry : LineEntry) (rest : List LineEntry)
     → row_after_entries rules previous (entry ∷ rest) ≡ row_after_entries rules (next_row rules previous entry) rest
-behind-cons rules previous (SetAddress address) rest = refl
-behind-cons rules previous (Row row) rest = refl
-behind-cons rules previous (EndSequence offset op_index) rest = refl
+row_after-cons rules previous (SetAddress address) rest = refl
+row_after-cons rules previous (Row row) rest = refl
+row_after-cons rules previous (EndSequence offset op_index) rest = refl
 
-pub behind-push : (rules : LineRules) (previous : LineRow) (entries : List LineEntry) (entry : LineEntry)
+pub row_after-push : (rules : LineRules) (previous : LineRow) (entries : List LineEntry) (entry : LineEntry)
     → row_after_entries rules previous (entries ++ entry ∷ [])
     ≡ next_row rules (row_after_entries rules previous entries) entry
-behind-push rules previous [] entry = behind-cons rules previous entry []
-behind-push rules previous (e ∷ entries) entry =
-    behind-cons rules previous e (entries ++ entry ∷ []) ∙ behind-push rules (next_row rules previous e) entries entry
-    ∙ ap (λ p. next_row rules p entry) (sym (behind-cons rules previous e entries))
+row_after-push rules previous [] entry = row_after-cons rules previous entry []
+row_after-push rules previous (e ∷ entries) entry =
+    row_after-cons rules previous e (entries ++ entry ∷ []) ∙ row_after-push rules (next_row rules previous e) entries entry
+    ∙ ap (λ p. next_row rules p entry) (sym (row_after-cons rules previous e entries))
 
 both_true : (a b : Bool) → a ≡ true → b ≡ true → (a && b) ≡ true
 both_true true b g h = h
@@ -40,7 +40,7 @@ follows-push rules previous (e ∷ entries) entry f can =
     (and-first (can_come rules previous e) (follows rules (next_row rules previous e) entries) split)
     (follows-push rules (next_row rules previous e) entries entry
     (and-second (can_come rules previous e) (follows rules (next_row rules previous e) entries) split)
-    (ap (λ p. can_come rules p entry) (sym (behind-cons rules previous e entries)) ∙ can))
+    (ap (λ p. can_come rules p entry) (sym (row_after-cons rules previous e entries)) ∙ can))
 
 pub built-push : (rules : LineRules) (entries : List LineEntry) (previous : LineRow) (entry : LineEntry)
     → IsBuilderState rules entries previous → can_come rules previous entry ≡ true
@@ -49,5 +49,5 @@ built-push rules entries previous entry built can = record {
   buildable = built.buildable;
   in_order = follows-push rules (first_row rules) entries entry built.in_order
       (ap (λ p. can_come rules p entry) built.last_row ∙ can);
-  last_row = behind-push rules (first_row rules) entries entry ∙ ap (λ p. next_row rules p entry) built.last_row;
+  last_row = row_after-push rules (first_row rules) entries entry ∙ ap (λ p. next_row rules p entry) built.last_row;
 }

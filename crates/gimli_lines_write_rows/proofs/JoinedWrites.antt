@@ -72,11 +72,11 @@ follows-cons rules previous (SetAddress address) rest = refl
 follows-cons rules previous (Row row) rest = refl
 follows-cons rules previous (EndSequence offset op_index) rest = refl
 
-low_behind : (rules : LineRules) (previous : LineRow) (entry : LineEntry) → can_come rules previous entry ≡ true
+low_after : (rules : LineRules) (previous : LineRow) (entry : LineEntry) → can_come rules previous entry ≡ true
     → previous.line < 2 ^ 63 → (next_row rules previous entry).line < 2 ^ 63
-low_behind rules previous (SetAddress address) can low = low
-low_behind rules previous (Row row) can low = row_high rules previous row can
-low_behind rules previous (EndSequence offset op_index) can low = lit< tt
+low_after rules previous (SetAddress address) can low = low
+low_after rules previous (Row row) can low = row_high rules previous row can
+low_after rules previous (EndSequence offset op_index) can low = lit< tt
 
 -- before the first entry
 pub none_done : (address_of : Address → Result ℕ Error) (rules : LineRules) (start : WriterContents) (first : LineRow)
@@ -138,7 +138,7 @@ module _ (address_of : Address → Result ℕ Error) (rules : LineRules) (start 
                 (sym e);
             left = ap (λ p. follows rules p rest) e
                 ∙ and-second (can_come rules previous entry) (follows rules (next_row rules previous entry) rest) split;
-            low = subst (λ (p : LineRow). p.line < 2 ^ 63) (sym e) (low_behind rules previous entry comes left.low);
+            low = subst (λ (p : LineRow). p.line < 2 ^ 63) (sym e) (low_after rules previous entry comes left.low);
           }
 
 -- the next entry, before those after it

@@ -117,7 +117,7 @@ impl RowsBuilder {
         requires { can_come self.old.rules self.old.previous entry ≡ true }
         ensures ok { OnOk result (self.new ≡ with_entry entry self.old) }
         ensures err { OnErr result (self.new ≡ self.old) }
-        ensures refused { IfErr result (λ e. e ≡ Memory) }
+        ensures refusal { IfErr result (λ e. e ≡ Memory) }
     {
         self.entries.push(entry)?;
         self.previous = self.previous.after_entry(self.rules, &entry);
@@ -129,7 +129,7 @@ impl RowsBuilder {
         requires { self.old.in_sequence ≡ true }
         ensures ok { OnOk result (self.new ≡ with_address address self.old) }
         ensures err { OnErr result (self.new ≡ self.old) }
-        ensures refused { IfErr result (λ e. e ≡ Memory) }
+        ensures refusal { IfErr result (λ e. e ≡ Memory) }
     {
         self.push(LineEntry::SetAddress(address))?;
         self.row.address_offset = 0;
@@ -142,7 +142,7 @@ impl RowsBuilder {
         requires { self.old.in_sequence ≡ false }
         ensures ok { OnOk result (self.new ≡ with_sequence address self.old) }
         ensures err { OnErr result (self.new ≡ self.old) }
-        ensures refused { IfErr result (λ e. e ≡ Memory) }
+        ensures refusal { IfErr result (λ e. e ≡ Memory) }
     {
         if let Some(address) = address {
             self.push(LineEntry::SetAddress(address))?;
@@ -187,7 +187,7 @@ impl RowsBuilder {
         ensures ok { OnOk result (self.new ≡ record (with_entry (Row self.old.row) self.old)
             { row = row_after_row self.old.row }) }
         ensures err { OnErr result (self.new ≡ self.old) }
-        ensures refused { IfErr result (λ e. e ≡ Memory) }
+        ensures refusal { IfErr result (λ e. e ≡ Memory) }
     {
         let row = self.row;
         self.push(LineEntry::Row(row))?;
@@ -205,7 +205,7 @@ impl RowsBuilder {
             (EndSequence address_offset self.old.row.op_index) self.old)
             { row = first_row self.old.rules; in_sequence = false }) }
         ensures err { OnErr result (self.new ≡ self.old) }
-        ensures refused { IfErr result (λ e. e ≡ Memory) }
+        ensures refusal { IfErr result (λ e. e ≡ Memory) }
     {
         let op_index = self.row.op_index;
         self.push(LineEntry::EndSequence {

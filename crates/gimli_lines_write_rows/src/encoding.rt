@@ -18,7 +18,7 @@ const OPCODE_BASE: u8 = 13;
 #[tactic(auto, unfolding(crate::specs::RowPieces::flags))]
 fn encode_flags(out: &mut Vec<u8>, row: &LineRow) -> Result<(), Error>
     ensures ok { OnOk result (out.new.items ≡ out.old.items ++ instructions_bytes (flags row.now)) }
-    ensures refused { IfErr result (λ e. e ≡ Memory) }
+    ensures refusal { IfErr result (λ e. e ≡ Memory) }
 {
     let discriminator = row.discriminator;
     LineInstruction::SetDiscriminator(discriminator).encode_if(discriminator != 0, out)?;
@@ -37,7 +37,7 @@ fn encode_changes(
 ) -> Result<(), Error>
     ensures ok { OnOk result (out.new.items ≡ out.old.items
         ++ instructions_bytes (changes version previous.now row.now)) }
-    ensures refused { IfErr result (λ e. e ≡ Memory) }
+    ensures refusal { IfErr result (λ e. e ≡ Memory) }
 {
     let file = row.file.raw(version);
     let previous_file = previous.file.raw(version);
@@ -96,7 +96,7 @@ fn encode_advance(
     ensures left { IfOk result (λ left. left ≡ opcode_operations rules.line_encoding step
         operations) }
     ensures fits { IfOk result (λ left. left ≤ room rules.line_encoding step) }
-    ensures refused { IfErr result (λ e. e ≡ Memory) }
+    ensures refusal { IfErr result (λ e. e ≡ Memory) }
 {
     let room = room_of(rules, step);
     let most = 242 / u64::from(rules.line_encoding.line_range);
@@ -134,7 +134,7 @@ fn encode_moves(
     requires { IsBuildable rules }
     ensures ok { OnOk result (out.new.items ≡ out.old.items
         ++ instructions_bytes (moves rules.line_encoding lines operations)) }
-    ensures refused { IfErr result (λ e. e ≡ Memory) }
+    ensures refusal { IfErr result (λ e. e ≡ Memory) }
 {
     let special = special_moves(rules.line_encoding, lines);
     LineInstruction::AdvanceLine(lines).encode_if(!special, out)?;
@@ -171,7 +171,7 @@ pub fn encode_row(
     requires high { row.now.line < 2 ^ 63 }
     ensures ok { OnOk result (out.new.items ≡ out.old.items
         ++ instructions_bytes (row_piece rules previous.now row.now)) }
-    ensures refused { IfErr result (λ e. e ≡ Memory) }
+    ensures refusal { IfErr result (λ e. e ≡ Memory) }
 {
     encode_flags(out, row)?;
     encode_changes(out, rules.encoding.version, previous, row)?;
@@ -193,7 +193,7 @@ pub fn encode_end(
     requires follows { can_place rules previous.now offset op_index ≡ true }
     ensures ok { OnOk result (out.new.items ≡ out.old.items
         ++ instructions_bytes (end_piece rules previous.now offset op_index)) }
-    ensures refused { IfErr result (λ e. e ≡ Memory) }
+    ensures refusal { IfErr result (λ e. e ≡ Memory) }
 {
     let operations = operations_from(rules, previous, offset, op_index);
     LineInstruction::AdvancePc(operations).encode_if(operations != 0, out)?;

@@ -34,7 +34,7 @@ pub enum LineInstruction {
 // Puts bytes after others.
 fn put(out: &mut Vec<u8>, bytes: &[u8]) -> Result<(), Error>
     ensures ok { OnOk result (out.new.items ≡ out.old.items ++ bytes.now) }
-    ensures refused { IfErr result (λ e. e ≡ Memory) }
+    ensures refusal { IfErr result (λ e. e ≡ Memory) }
 {
     out.extend_from_slice(bytes)?;
     Ok(())
@@ -43,7 +43,7 @@ fn put(out: &mut Vec<u8>, bytes: &[u8]) -> Result<(), Error>
 // Puts an opcode and its operand after other bytes.
 fn put_unsigned(out: &mut Vec<u8>, opcode: u8, operand: u64) -> Result<(), Error>
     ensures ok { OnOk result (out.new.items ≡ out.old.items ++ opcode ∷ unsigned_string operand) }
-    ensures refused { IfErr result (λ e. e ≡ Memory) }
+    ensures refusal { IfErr result (λ e. e ≡ Memory) }
 {
     out.push(opcode)?;
     put(out, Leb128::unsigned(operand).bytes())
@@ -53,7 +53,7 @@ impl LineInstruction {
     /// Puts the instruction's bytes after others.
     pub fn encode(self, out: &mut Vec<u8>) -> Result<(), Error>
         ensures ok { OnOk result (out.new.items ≡ out.old.items ++ instruction_bytes self) }
-        ensures refused { IfErr result (λ e. e ≡ Memory) }
+        ensures refusal { IfErr result (λ e. e ≡ Memory) }
     {
         match self {
             LineInstruction::Special(opcode) => put(out, &[opcode]),
@@ -79,7 +79,7 @@ impl LineInstruction {
     pub fn encode_if(self, condition: bool, out: &mut Vec<u8>) -> Result<(), Error>
         ensures ok { OnOk result (out.new.items ≡ out.old.items
             ++ instructions_bytes (when condition self)) }
-        ensures refused { IfErr result (λ e. e ≡ Memory) }
+        ensures refusal { IfErr result (λ e. e ≡ Memory) }
     {
         if condition {
             self.encode(out)?;
@@ -93,7 +93,7 @@ fn put_discriminator(out: &mut Vec<u8>, discriminator: u64) -> Result<(), Error>
     ensures ok { OnOk result (out.new.items ≡ out.old.items ++ 0
         ∷ (1 + length (unsigned_string discriminator)) ∷ DW_LNE_set_discriminator.0
         ∷ unsigned_string discriminator) }
-    ensures refused { IfErr result (λ e. e ≡ Memory) }
+    ensures refusal { IfErr result (λ e. e ≡ Memory) }
 {
     let operand = Leb128::unsigned(discriminator);
     put(

@@ -108,7 +108,7 @@ module _ (is_big : Bool) (format : Format) (first : ℕ) (f : WrittenFile) where
 
 fields_stand : (limit : ℕ) (e : Encoding) (is_big : Bool) (d : Details) (f : WrittenFile)
     → IsReadableFile limit e.format f → All (FieldAgain limit e is_big) (file_fields is_big e.format d f)
-fields_stand limit e is_big d f stands =
+fields_stand limit e is_big d f well_formed =
     let path = text_field is_big e.format path_content f.path in
     let directory = number_field directory_content f.directory in
     let timestamp = number_field timestamp_content f.timestamp in
@@ -119,14 +119,14 @@ fields_stand limit e is_big d f stands =
     let sizes = when d.has_size size ++ when d.has_md5 digest in
     let with_details = when d.has_timestamp timestamp ++ sizes in
     All-append Good (path ∷ directory ∷ with_details) (when d.has_source source)
-    (All-cons Good path (directory ∷ with_details) (λ n. text_again limit e is_big n f.path stands.path)
-    (All-cons Good directory with_details (λ n. unsigned_value limit e is_big n f.directory stands.directory)
+    (All-cons Good path (directory ∷ with_details) (λ n. text_again limit e is_big n f.path well_formed.path)
+    (All-cons Good directory with_details (λ n. unsigned_value limit e is_big n f.directory well_formed.directory)
     (All-append Good (when d.has_timestamp timestamp) sizes
-    (held d.has_timestamp timestamp (λ n. unsigned_value limit e is_big n f.timestamp stands.timestamp))
+    (held d.has_timestamp timestamp (λ n. unsigned_value limit e is_big n f.timestamp well_formed.timestamp))
     (All-append Good (when d.has_size size) (when d.has_md5 digest)
-    (held d.has_size size (λ n. unsigned_value limit e is_big n f.size stands.size))
-    (held d.has_md5 digest (λ n. digest_value limit e is_big n f.md5 stands.md5.0))))))
-    (held d.has_source source (λ n. text_again limit e is_big n f.source stands.source))
+    (held d.has_size size (λ n. unsigned_value limit e is_big n f.size well_formed.size))
+    (held d.has_md5 digest (λ n. digest_value limit e is_big n f.md5 well_formed.md5.0))))))
+    (held d.has_source source (λ n. text_again limit e is_big n f.source well_formed.source))
   where
     held : (b : Bool) (x : WrittenField) → FieldAgain limit e is_big x → All (FieldAgain limit e is_big) (when b x)
     held true x is = All-cons (FieldAgain limit e is_big) x [] is (All-nil (FieldAgain limit e is_big))
@@ -177,7 +177,7 @@ pub file_again : (limit : ℕ) (e : Encoding) (is_big : Bool) (d : Details) (pat
     → Again is_big first (file_entry limit e (file_formats d path_form source_form))
     (file_facts is_big e.format d first f) (spelled_file is_big e.format d f)
 unfolding file_entry
-file_again limit e is_big d path_form source_form first f stands path source =
+file_again limit e is_big d path_form source_form first f well_formed path source =
     subst (λ formats. Again is_big first (file_entry limit e formats) (file_facts is_big e.format d first f)
     (spelled_file is_big e.format d f))
     (formats_are is_big e.format d f ∙ ap (λ n. file_formats d n (form_of f.source)) path
@@ -185,8 +185,8 @@ file_again limit e is_big d path_form source_form first f stands path source =
     (again_then _ (entry_again limit e is_big first (formats_for is_big e.format d f)
     (all_facts is_big e.format first f d) (values_at bytes_of field_read first (file_fields is_big e.format d f))
     (spelled_file is_big e.format d f)
-    (fields_again limit e is_big first (file_fields is_big e.format d f) (fields_stand limit e is_big d f stands))
-    (all_said is_big e.format first f d (digest_again is_big f.md5 stands.md5))) (λ v. refl))
+    (fields_again limit e is_big first (file_fields is_big e.format d f) (fields_stand limit e is_big d f well_formed))
+    (all_said is_big e.format first f d (digest_again is_big f.md5 well_formed.md5))) (λ v. refl))
 
 -- ---- a directory
 
@@ -198,7 +198,7 @@ pub directory_again : (limit : ℕ) (e : Encoding) (is_big : Bool) (form first :
     → Again is_big first (directory_entry limit e (directory_formats form)) (value_of_text is_big first t)
     (spelled_text is_big e.format t)
 unfolding directory_entry
-directory_again limit e is_big form first t stands is =
+directory_again limit e is_big form first t well_formed is =
     subst (λ n. Again is_big first (directory_entry limit e (directory_formats n)) (value_of_text is_big first t)
     (spelled_text is_big e.format t)) is
     (subst (λ xs. Again is_big first (directory_entry limit e (directory_formats (form_of t)))
@@ -208,5 +208,5 @@ directory_again limit e is_big form first t stands is =
     (values_at bytes_of field_read first (path_field is_big e.format t ∷ []))
     (spelled_fields (path_field is_big e.format t ∷ []))
     (fields_again limit e is_big first (path_field is_big e.format t ∷ [])
-    (All-cons (FieldAgain limit e is_big) (path_field is_big e.format t) [] (λ n. text_again limit e is_big n t stands)
+    (All-cons (FieldAgain limit e is_big) (path_field is_big e.format t) [] (λ n. text_again limit e is_big n t well_formed)
     (All-nil (FieldAgain limit e is_big)))) refl) (λ v. refl)))

@@ -18,6 +18,7 @@ use Rattle.gimli_lines_write_rows.specs.Fixed.{number, number_bytes}
 use Rattle.gimli_lines_write_rows.specs.NumberParsers.{fixed}
 use Rattle.gimli_lines_write_rows.specs.Spelling.{unsigned_string}
 use Rattle.gimli_lines_header.specs.AttributeValues.{RawValue, RawAttribute, string, string_reference, line_string_reference, unsigned_data, data_16}
+use Rattle.gimli_lines_header.specs.FormSpellings.{spelling}
 use Rattle.gimli_lines_header.specs.AttributeReading.{attribute, final_form, form_within, value, number_value, from_number}
 use Rattle.gimli_lines_header.specs.TableEntries.{Field, entry_value, entry_fields}
 use Rattle.gimli_lines_write_spec.specs.HeaderTexts.{WrittenText, in_place, in_strings, in_line_strings, form_of, spelled_text, value_of_text, IsReadableText}
@@ -57,7 +58,7 @@ sixteen is_big first md5 long = record {
 module _ (limit : ℕ) (e : Encoding) (is_big : Bool) (first : ℕ) where
   text_value : (text : List ℕ) → list_any (λ b. b == 0) text ≡ false
       → Again is_big first (entry_value limit e 0x08) (string (bytes_at is_big first text)) (text ++ 0 ∷ [])
-  unfolding entry_value attribute final_form form_within value
+  unfolding entry_value attribute final_form form_within value spelling
   text_value text none =
       again_same (λ v. raw_value_step 0x08 (value limit e 0 None 0x08 v))
       (again_then (λ t. give (string t)) (null_again is_big first text none) (λ v. refl))
@@ -65,7 +66,7 @@ module _ (limit : ℕ) (e : Encoding) (is_big : Bool) (first : ℕ) where
   offset_value : (offset : ℕ) → offset < limit → offset < 256 ^ word_size e.format
       → Again is_big first (entry_value limit e 0x0e) (string_reference offset)
       (number_bytes is_big (word_size e.format) offset)
-  unfolding entry_value attribute final_form form_within value number_value
+  unfolding entry_value attribute final_form form_within value number_value spelling
   offset_value offset low fits =
       again_same (λ v. raw_value_step 0x0e (value limit e 0 None 0x0e v))
       (number_reads_back limit e 0x0e (again_fixed is_big first (word_size e.format) offset fits)
@@ -78,7 +79,7 @@ module _ (limit : ℕ) (e : Encoding) (is_big : Bool) (first : ℕ) where
   line_offset_value : (offset : ℕ) → offset < limit → offset < 256 ^ word_size e.format
       → Again is_big first (entry_value limit e 0x1f) (line_string_reference offset)
       (number_bytes is_big (word_size e.format) offset)
-  unfolding entry_value attribute final_form form_within value number_value
+  unfolding entry_value attribute final_form form_within value number_value spelling
   line_offset_value offset low fits =
       again_same (λ v. raw_value_step 0x1f (value limit e 0 None 0x1f v))
       (number_reads_back limit e 0x1f (again_fixed is_big first (word_size e.format) offset fits)
@@ -91,7 +92,7 @@ module _ (limit : ℕ) (e : Encoding) (is_big : Bool) (first : ℕ) where
 
   pub unsigned_value : (n : ℕ) → n < 2 ^ 64
       → Again is_big first (entry_value limit e 0x0f) (unsigned_data n) (unsigned_string n)
-  unfolding entry_value attribute final_form form_within value number_value
+  unfolding entry_value attribute final_form form_within value number_value spelling
   unsigned_value n fits =
       again_same (λ v. raw_value_step 0x0f (value limit e 0 None 0x0f v))
       (number_reads_back limit e 0x0f (again_unsigned is_big first n fits) (meant e.format refl))
@@ -102,7 +103,7 @@ module _ (limit : ℕ) (e : Encoding) (is_big : Bool) (first : ℕ) where
 
   pub digest_value : (md5 : List ℕ) → length md5 ≡ 16
       → Again is_big first (entry_value limit e 0x1e) (data_16 (number is_big md5)) md5
-  unfolding entry_value attribute final_form form_within value
+  unfolding entry_value attribute final_form form_within value spelling
   digest_value md5 long =
       again_same (λ v. raw_value_step 0x1e (value limit e 0 None 0x1e v))
       (again_then (λ n. give (data_16 n)) (sixteen is_big first md5 long) (λ v. refl))
@@ -111,9 +112,9 @@ module _ (limit : ℕ) (e : Encoding) (is_big : Bool) (first : ℕ) where
   pub text_again : (t : WrittenText) → IsReadableText limit e.format t
       → Again is_big first (entry_value limit e (form_of t)) (value_of_text is_big first t)
       (spelled_text is_big e.format t)
-  text_again (in_place text) stands = text_value text stands
-  text_again (in_strings offset) stands = offset_value offset stands.0 stands.1
-  text_again (in_line_strings offset) stands = line_offset_value offset stands.0 stands.1
+  text_again (in_place text) well_formed = text_value text well_formed
+  text_again (in_strings offset) well_formed = offset_value offset well_formed.0 well_formed.1
+  text_again (in_line_strings offset) well_formed = line_offset_value offset well_formed.0 well_formed.1
 
 -- ---- fields
 

@@ -56,12 +56,12 @@ FormatStands f = (min f.content_type.0 0xffff ≡ f.content_type.0) × (f.conten
 format_again : (is_big : Bool) (first : ℕ) (f : FileEntryFormat) → FormatStands f
     → Again is_big first entries.entry_format f (spelled_format f)
 unfolding entries.entry_format
-format_again is_big first f stands =
+format_again is_big first f well_formed =
     again_onward (λ content. unsigned_16 >>= λ form. give (field_format (min content 0xffff) form))
-    (again_unsigned is_big first f.content_type.0 stands.1)
+    (again_unsigned is_big first f.content_type.0 well_formed.1)
     (again_then (λ form. give (field_format (min f.content_type.0 0xffff) form))
-    (small_again is_big (first + length (unsigned_string f.content_type.0)) f.form.0 stands.2)
-    (λ v. ap (λ n. Ok (field_format n f.form.0, v)) stands.0))
+    (small_again is_big (first + length (unsigned_string f.content_type.0)) f.form.0 well_formed.2)
+    (λ v. ap (λ n. Ok (field_format n f.form.0, v)) well_formed.0))
 
 -- the same wherever they are
 same_format : ℕ → FileEntryFormat → FileEntryFormat
@@ -134,10 +134,10 @@ formats_stand d path_form source_form low small =
     let digest = field_format md5_content 0x1e in
     let source = field_format source_content source_form in
     let sizes = when d.has_size size ++ when d.has_md5 digest in
-    let told = when d.has_timestamp timestamp ++ sizes in
-    All-append FormatStands (path ∷ directory ∷ told) (when d.has_source source)
-    (All-cons FormatStands path (directory ∷ told) (refl, omega arith, low)
-    (All-cons FormatStands directory told (refl, omega arith, omega arith)
+    let details = when d.has_timestamp timestamp ++ sizes in
+    All-append FormatStands (path ∷ directory ∷ details) (when d.has_source source)
+    (All-cons FormatStands path (directory ∷ details) (refl, omega arith, low)
+    (All-cons FormatStands directory details (refl, omega arith, omega arith)
     (All-append FormatStands (when d.has_timestamp timestamp) sizes
     (held d.has_timestamp timestamp (refl, omega arith, omega arith))
     (All-append FormatStands (when d.has_size size) (when d.has_md5 digest)

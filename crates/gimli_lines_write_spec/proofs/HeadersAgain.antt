@@ -61,8 +61,8 @@ rest_of instruction most = do
   })
 
 -- those after the length of an instruction
-abbrev behind_length : Parser ℕ → ℕ → Parser LineEncoding
-behind_length most instruction =
+abbrev rest_length : Parser ℕ → ℕ → Parser LineEncoding
+rest_length most instruction =
     demand (not (instruction == 0)) MinimumInstructionLengthZero >> (most >>= rest_of instruction)
 
 rest_again : (is_big : Bool) (first : ℕ) (rules : LineRules) (operations : ℕ) → IsBuildable rules
@@ -90,19 +90,19 @@ not_zero : (n : ℕ) → 0 < n → n ≢ 0
 not_zero n h none = omega arith
 
 -- the parameters, whose operations are read by a parser
-behind_again : (is_big : Bool) (first : ℕ) (rules : LineRules) (operations : ℕ) (most : Parser ℕ) (xs : List ℕ)
+after_again : (is_big : Bool) (first : ℕ) (rules : LineRules) (operations : ℕ) (most : Parser ℕ) (xs : List ℕ)
     → IsBuildable rules → rules.line_encoding.minimum_instruction_length < 256
     → Again is_big (first + 1) most operations xs
-    → Again is_big first (fixed 1 >>= behind_length most)
+    → Again is_big first (fixed 1 >>= rest_length most)
     (record rules.line_encoding { maximum_operations_per_instruction = operations })
     (rules.line_encoding.minimum_instruction_length
     ∷ (xs ++ ((if rules.line_encoding.default_is_stmt then 1 else 0) ∷ complement 1 rules.line_encoding.line_base
     ∷ rules.line_encoding.line_range ∷ [])))
-behind_again is_big first rules operations most xs can_build byte h =
+after_again is_big first rules operations most xs can_build byte h =
     let e = rules.line_encoding in
-    again_onward (behind_length most) (one_byte is_big first e.minimum_instruction_length byte)
+    again_onward (rest_length most) (one_byte is_big first e.minimum_instruction_length byte)
     (again_same {p = most >>= rest_of e.minimum_instruction_length}
-    {q = behind_length most e.minimum_instruction_length}
+    {q = rest_length most e.minimum_instruction_length}
     (λ v. rw (ne_eqb e.minimum_instruction_length 0 (not_zero e.minimum_instruction_length can_build.has_bytes)) refl)
     (again_onward (rest_of e.minimum_instruction_length) h
     (rest_again is_big (first + 1 + length xs) rules operations can_build)))
@@ -125,7 +125,7 @@ parameters_again is_big first rules can_build byte few one = by_version (nat_le 
         → Again is_big first (line_parameters rules.encoding.version) rules.line_encoding (spelled_parameters rules)
     by_version true later =
         let most = rules.line_encoding.maximum_operations_per_instruction in
-        rw later (behind_again is_big first rules most operations_of_4 (most ∷ []) can_build byte
+        rw later (after_again is_big first rules most operations_of_4 (most ∷ []) can_build byte
         (operations_again is_big (first + 1) most can_build.has_operations few))
     by_version false earlier =
         let single : rules.line_encoding.maximum_operations_per_instruction ≡ 1 =
@@ -133,7 +133,7 @@ parameters_again is_big first rules can_build byte few one = by_version (nat_le 
         subst (λ (x : LineEncoding). Again is_big first (line_parameters rules.encoding.version) x
         (spelled_parameters rules))
         (ap (λ (n : ℕ). record rules.line_encoding { maximum_operations_per_instruction = n }) (sym single))
-        (rw earlier (behind_again is_big first rules 1 (give 1) [] can_build byte (again_nothing is_big (first + 1) 1)))
+        (rw earlier (after_again is_big first rules 1 (give 1) [] can_build byte (again_nothing is_big (first + 1) 1)))
 
 pub opcodes_again : (is_big : Bool) (first : ℕ)
     → Again is_big first opcodes (13, bytes_at is_big (first + 1) operand_counts) spelled_opcodes

@@ -93,9 +93,9 @@ sizes_again is_big first e bytes low high sized same = by_version (nat_le e.vers
 
 module _ (limit : ℕ) (rules : LineRules) (is_big : Bool) (t : Tables) (program : List ℕ)
     (can : CanWrite limit rules is_big t program) where
-  behind_fits : (length (spelled_body rules is_big t program) < 2 ^ 64)
+  body_fits : (length (spelled_body rules is_big t program) < 2 ^ 64)
       × (length (spelled_body rules is_big t program) < 256 ^ word_size rules.encoding.format)
-  behind_fits = limit_fits rules.encoding.format (length (spelled_body rules is_big t program)) can.length_fits
+  body_fits = limit_fits rules.encoding.format (length (spelled_body rules is_big t program)) can.length_fits
 
   -- the header's length is below whatever the whole is below
   header_below : (n : ℕ) → length (spelled_body rules is_big t program) < n → length (spelled_header rules is_big t) < n
@@ -107,7 +107,7 @@ module _ (limit : ℕ) (rules : LineRules) (is_big : Bool) (t : Tables) (program
 
   tables_below : length (spelled_directories rules.encoding is_big t ++ spelled_files rules.encoding is_big t) < 2 ^ 64
   tables_below = below_back spelled_opcodes _ (2 ^ 64)
-      (below_back (spelled_parameters rules) _ (2 ^ 64) (header_below (2 ^ 64) behind_fits.0))
+      (below_back (spelled_parameters rules) _ (2 ^ 64) (header_below (2 ^ 64) body_fits.0))
 
   directories_again : (first : ℕ) → Again is_big first (directories limit rules.encoding)
       (formats_in rules.encoding (formats_of_directories t), directory_values rules.encoding is_big first t)
@@ -209,8 +209,8 @@ module _ (limit : ℕ) (rules : LineRules) (is_big : Bool) (t : Tables) (program
       (files_again (files_at rules is_big first t))) (λ v. refl))))
 
   -- where the fields begin, after the sizes and the second length
-  abbrev behind_sizes : ℕ → ℕ
-  behind_sizes first = first + length (spelled_sizes rules.encoding is_big)
+  abbrev after_sizes : ℕ → ℕ
+  after_sizes first = first + length (spelled_sizes rules.encoding is_big)
       + length (number_bytes is_big (word_size rules.encoding.format) (length (spelled_header rules is_big t)))
 
   abbrev bounds_for : ℕ → ℕ → Encoding → ℕ → View → Bounds
@@ -227,7 +227,7 @@ module _ (limit : ℕ) (rules : LineRules) (is_big : Bool) (t : Tables) (program
   in_again : (offset first : ℕ) (unit : LineUnit) → unit.address_bytes ≡ rules.encoding.address_size
       → value_of (header_in limit offset unit (length (spelled_body rules is_big t program)) rules.encoding.format
       (bytes_at is_big first (spelled_body rules is_big t program)))
-      ≡ Ok (header_value rules is_big offset (behind_sizes first) unit t program)
+      ≡ Ok (header_value rules is_big offset (after_sizes first) unit t program)
   unfolding header_in
   in_again offset first unit sized =
       let e = rules.encoding in
@@ -235,8 +235,8 @@ module _ (limit : ℕ) (rules : LineRules) (is_big : Bool) (t : Tables) (program
       let size = length header in
       let whole = length (spelled_body rules is_big t program) in
       let length_of = number_bytes is_big (word_size e.format) size in
-      let at = behind_sizes first in
-      let behind = bytes_at is_big (at + size) program in
+      let at = after_sizes first in
+      let program_at = bytes_at is_big (at + size) program in
       let ended : header ++ [] ≡ header = append-nil header in
       ap (λ (r : Result (Encoding × View) Error).
       value_of (proceed r (λ c. word limit e.format >>= λ n.
@@ -248,7 +248,7 @@ module _ (limit : ℕ) (rules : LineRules) (is_big : Bool) (t : Tables) (program
       value_of (proceed r (λ n. part n >>= λ h.
       (here >>= λ p. within h (header_fields limit unit.directory unit.name (bounds_for offset whole e n p))))))
       ((word_again limit is_big (first + length (spelled_sizes e is_big)) e.format size
-      (header_below (256 ^ word_size e.format) behind_fits.1) (header_below limit can.small)).again
+      (header_below (256 ^ word_size e.format) body_fits.1) (header_below limit can.small)).again
       (header ++ program))
       ∙ ap (λ (r : Result (View × View) Error).
       value_of (proceed r (λ h. here >>= λ p.
@@ -256,10 +256,10 @@ module _ (limit : ℕ) (rules : LineRules) (is_big : Bool) (t : Tables) (program
       ((part_is is_big at header).again program)
       ∙ ap
       (λ bytes. value_of (lift (value_of
-      (header_fields limit unit.directory unit.name (bounds_for offset whole e size behind)
-      (bytes_at is_big at bytes))) behind)) (sym ended)
-      ∙ ap (λ (r : Result (LineHeader × View) Error). value_of (lift (value_of r) behind))
-      ((fields_again at unit (bounds_for offset whole e size behind) refl).again [])
+      (header_fields limit unit.directory unit.name (bounds_for offset whole e size program_at)
+      (bytes_at is_big at bytes))) program_at)) (sym ended)
+      ∙ ap (λ (r : Result (LineHeader × View) Error). value_of (lift (value_of r) program_at))
+      ((fields_again at unit (bounds_for offset whole e size program_at) refl).again [])
 
   -- a header and its program, whatever follows them
   pub unit_again : (offset first : ℕ) (unit : LineUnit) → unit.address_bytes ≡ rules.encoding.address_size

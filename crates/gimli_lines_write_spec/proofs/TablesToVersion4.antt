@@ -21,10 +21,10 @@ directory_again : (limit : ℕ) (format : Format) (is_big : Bool) (first : ℕ) 
     → IsReadableText limit format t → IsEntry t
     → Again is_big first directory_text (Some (value_of_text is_big first t)) (spelled_text is_big format t)
 unfolding directory_text
-directory_again limit format is_big first (in_place text) stands is =
-    again_then _ (null_again is_big first text stands) (λ v. rw (ne_eqb (length text) 0 is) refl)
-directory_again limit format is_big first (in_strings offset) stands is = absurd is
-directory_again limit format is_big first (in_line_strings offset) stands is = absurd is
+directory_again limit format is_big first (in_place text) well_formed is =
+    again_then _ (null_again is_big first text well_formed) (λ v. rw (ne_eqb (length text) 0 is) refl)
+directory_again limit format is_big first (in_strings offset) well_formed is = absurd is
+directory_again limit format is_big first (in_line_strings offset) well_formed is = absurd is
 
 -- the empty text that ends them
 end_again : (is_big : Bool) (first : ℕ) → Again is_big first directory_text None (0 ∷ [])
@@ -32,12 +32,12 @@ unfolding directory_text
 end_again is_big first = again_then _ (null_again is_big first [] refl) (λ v. refl)
 
 -- what follows a path
-behind_again : (is_big : Bool) (first : ℕ) (path : View) (directory timestamp size : ℕ) → directory < 2 ^ 64
+after_again : (is_big : Bool) (first : ℕ) (path : View) (directory timestamp size : ℕ) → directory < 2 ^ 64
     → timestamp < 2 ^ 64 → size < 2 ^ 64
     → Again is_big first (file_after_path path) (file_in path directory timestamp size)
     (unsigned_string directory ++ (unsigned_string timestamp ++ unsigned_string size))
 unfolding file_after_path
-behind_again is_big first path directory timestamp size d t s =
+after_again is_big first path directory timestamp size d t s =
     again_onward _ (again_unsigned is_big first directory d)
     (again_onward _ (again_unsigned is_big (first + length (unsigned_string directory)) timestamp t)
     (again_then _ (again_unsigned is_big
@@ -58,18 +58,18 @@ file_again : (limit : ℕ) (format : Format) (is_big : Bool) (first : ℕ) (path
     (spelled_text is_big format path ++ (unsigned_string f.directory
     ++ (unsigned_string f.timestamp ++ unsigned_string f.size)))
 unfolding file_text
-file_again limit format is_big first (in_place text) f stands none is =
+file_again limit format is_big first (in_place text) f well_formed none is =
     let name = bytes_at is_big first text in
-    let behind : Parser (Option FileFacts) = file_after_path name >>= λ file. give (Some file) in
+    let file_parser : Parser (Option FileFacts) = file_after_path name >>= λ file. give (Some file) in
     again_onward (λ path. branch (bytes_left path == 0) (give None) (file_after_path path >>= λ file. give (Some file)))
     (null_again is_big first text none)
-    (again_same {q = branch (bytes_left name == 0) (give None) behind}
-    (λ v. ap (λ b. cond {A = Result (Option FileFacts × View) Error} b (Ok (None, v)) (behind v))
+    (again_same {q = branch (bytes_left name == 0) (give None) file_parser}
+    (λ v. ap (λ b. cond {A = Result (Option FileFacts × View) Error} b (Ok (None, v)) (file_parser v))
     (ne_eqb (length text) 0 is))
-    (again_then _ (behind_again is_big (first + length (text ++ 0 ∷ [])) name f.directory f.timestamp f.size
-    stands.directory stands.timestamp stands.size) (λ v. refl)))
-file_again limit format is_big first (in_strings offset) f stands none is = absurd is
-file_again limit format is_big first (in_line_strings offset) f stands none is = absurd is
+    (again_then _ (after_again is_big (first + length (text ++ 0 ∷ [])) name f.directory f.timestamp f.size
+    well_formed.directory well_formed.timestamp well_formed.size) (λ v. refl)))
+file_again limit format is_big first (in_strings offset) f well_formed none is = absurd is
+file_again limit format is_big first (in_line_strings offset) f well_formed none is = absurd is
 
 file_end_again : (is_big : Bool) (first : ℕ) → Again is_big first file_text None (0 ∷ [])
 unfolding file_text

@@ -16,10 +16,10 @@ module _ {A : Type 0} (P : A → Type 0) (same : A → A → Bool) where
       by false = All-push P things x all is
 
   -- after the first
-  pub All-with-behind : (things : List A) (x : A) → All P (drop 1 things) → (things ≢ [] → P x)
+  pub All-with-later : (things : List A) (x : A) → All P (drop 1 things) → (things ≢ [] → P x)
       → All P (drop 1 (with_item same things x))
-  All-with-behind [] x all is = All-nil P
-  All-with-behind (y ∷ things) x all is = by (list_any (same x) (y ∷ things))
+  All-with-later [] x all is = All-nil P
+  All-with-later (y ∷ things) x all is = by (list_any (same x) (y ∷ things))
     where
       by : (b : Bool) → All P (drop 1 (cond b (y ∷ things) (y ∷ things ++ x ∷ [])))
       by true = all
@@ -29,13 +29,13 @@ pub consistent_with_directory : (version : ℕ) (directories : List Text) (files
     (t : Text) → IsConsistent version directories files infos → HasNoZero t
     → (version ≤ 4 → directories ≢ [] → HasBytes t)
     → IsConsistent version (with_item is_same directories t) files infos
-consistent_with_directory version directories files infos t kept free filled = record {
-  same_length = kept.same_length;
-  directories_zero_free = All-with HasNoZero is_same directories t kept.directories_zero_free free;
-  paths_zero_free = kept.paths_zero_free;
+consistent_with_directory version directories files infos t consistent free filled = record {
+  same_length = consistent.same_length;
+  directories_zero_free = All-with HasNoZero is_same directories t consistent.directories_zero_free free;
+  paths_zero_free = consistent.paths_zero_free;
   directories_not_empty = λ old.
-      All-with-behind HasBytes is_same directories t (kept.directories_not_empty old) (filled old);
-  paths_not_empty = kept.paths_not_empty;
+      All-with-later HasBytes is_same directories t (consistent.directories_not_empty old) (filled old);
+  paths_not_empty = consistent.paths_not_empty;
 }
 
 abbrev PathFree : File → Type 0
@@ -47,10 +47,10 @@ PathFilled f = HasBytes f.path
 pub consistent_with_file : (version : ℕ) (directories : List Text) (files : List File) (infos : List Info) (f : File)
     (info : Info) → IsConsistent version directories files infos → HasNoZero f.path → (version ≤ 4 → HasBytes f.path)
     → IsConsistent version directories (files ++ f ∷ []) (infos ++ info ∷ [])
-consistent_with_file version directories files infos f info kept free filled = record {
-  same_length = length-append infos (info ∷ []) ∙ ap (λ n. n + 1) kept.same_length ∙ sym (length-append files (f ∷ []));
-  directories_zero_free = kept.directories_zero_free;
-  paths_zero_free = All-push PathFree files f kept.paths_zero_free free;
-  directories_not_empty = kept.directories_not_empty;
-  paths_not_empty = λ old. All-push PathFilled files f (kept.paths_not_empty old) (filled old);
+consistent_with_file version directories files infos f info consistent free filled = record {
+  same_length = length-append infos (info ∷ []) ∙ ap (λ n. n + 1) consistent.same_length ∙ sym (length-append files (f ∷ []));
+  directories_zero_free = consistent.directories_zero_free;
+  paths_zero_free = All-push PathFree files f consistent.paths_zero_free free;
+  directories_not_empty = consistent.directories_not_empty;
+  paths_not_empty = λ old. All-push PathFilled files f (consistent.paths_not_empty old) (filled old);
 }

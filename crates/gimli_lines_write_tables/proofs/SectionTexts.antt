@@ -47,8 +47,8 @@ lt_le : {n m : ℕ} → n < m → n ≤ m
 lt_le g = omega arith
 
 module _ (texts : List (List ℕ)) (t : List ℕ) where
-  pub stands : slice_get (with_text texts t) (text_index texts t) ≡ Some t
-  stands = by (list_any (same_bytes t) texts) refl
+  pub text_at_index : slice_get (with_text texts t) (text_index texts t) ≡ Some t
+  text_at_index = by (list_any (same_bytes t) texts) refl
     where
       by : (b : Bool) → list_any (same_bytes t) texts ≡ b → slice_get (with_text texts t) (text_index texts t) ≡ Some t
       by true e = ap (λ l. slice_get l (text_index texts t)) (with_text-again texts t e) ∙ added_text-index texts t e

@@ -96,19 +96,19 @@ text_table-none =
 pub text_table-push : (texts : List (List ℕ)) (offsets section t : List ℕ) → IsTextTable texts offsets section
     → IsText t
     → IsTextTable (texts ++ t ∷ []) (offsets ++ length section ∷ []) (section ++ (t ++ 0 ∷ []))
-text_table-push texts offsets section t kept is_text = record {
+text_table-push texts offsets section t sound is_text = record {
   same_length =
-      omega (arith, length-append offsets (length section ∷ []), length-append texts (t ∷ []), kept.same_length);
+      omega (arith, length-append offsets (length section ∷ []), length-append texts (t ∷ []), sound.same_length);
   begins = begins;
-  bytes = ap (λ s. s ++ (t ++ 0 ∷ [])) kept.bytes ∙ sym (section_of-push texts t);
-  no_zeros = All-push IsText texts t kept.no_zeros is_text;
+  bytes = ap (λ s. s ++ (t ++ 0 ∷ [])) sound.bytes ∙ sym (section_of-push texts t);
+  no_zeros = All-push IsText texts t sound.no_zeros is_text;
 }
   where
     begins : (i : ℕ) → i < length (texts ++ t ∷ []) → slice_index (offsets ++ length section ∷ []) i
         ≡ offset_of (texts ++ t ∷ []) i
     begins i h = elim (eq-or-lt_of_le (at_most i h)) [
-      | inr below ↦ get_or-append offsets (length section ∷ []) 0 i (omega (arith, kept.same_length))
-          ∙ kept.begins i below
+      | inr below ↦ get_or-append offsets (length section ∷ []) 0 i (omega (arith, sound.same_length))
+          ∙ sound.begins i below
           ∙ sym (offset_of-before texts t i (omega arith))
       | inl at ↦ at_end i at
     ]
@@ -118,8 +118,8 @@ text_table-push texts offsets section t kept is_text = record {
 
         at_end : (j : ℕ) → j ≡ length texts → slice_index (offsets ++ length section ∷ []) j
             ≡ offset_of (texts ++ t ∷ []) j
-        at_end j e = ap (λ k. slice_index (offsets ++ length section ∷ []) k) (e ∙ sym kept.same_length)
-            ∙ get_or-append_seam offsets (length section) [] 0 ∙ ap length kept.bytes ∙ sym (offset_of-end texts)
+        at_end j e = ap (λ k. slice_index (offsets ++ length section ∷ []) k) (e ∙ sym sound.same_length)
+            ∙ get_or-append_seam offsets (length section) [] 0 ∙ ap length sound.bytes ∙ sym (offset_of-end texts)
             ∙ ap (offset_of texts) (sym e) ∙ sym (offset_of-before texts t j (omega arith))
 
 -- ---- texts as the keys of a set

@@ -86,7 +86,7 @@ impl FileTable {
         ensures place { IfOk result (λ id. id.0 ≡ item_index is_same self.old.directories
             (text_of directory)) }
         ensures err { OnErr result (self.new ≡ self.old) }
-        ensures refused { IfErr result (λ e. e ≡ Memory) }
+        ensures refusal { IfErr result (λ e. e ≡ Memory) }
     {
         let (place, _added) = self.directories.insert_full(directory)?;
         Ok(DirectoryId(place))
@@ -112,7 +112,7 @@ impl FileTable {
         }) }
         ensures place { IfOk result (λ id. id.0 ≡ length self.old.files) }
         ensures err { OnErr result (self.new ≡ self.old) }
-        ensures refused { IfErr result (λ e. e ≡ Memory) }
+        ensures refusal { IfErr result (λ e. e ≡ Memory) }
     {
         let place = self.infos.len();
         self.infos.push(info)?;
@@ -152,7 +152,7 @@ impl FileTable {
         ensures place { IfOk result (λ id. id.0 ≡ item_index is_same_file self.old.files
             (record { path = text_of path; directory = directory.0 })) }
         ensures err { OnErr result (self.new ≡ self.old) }
-        ensures refused { IfErr result (λ e. e ≡ Memory) }
+        ensures refusal { IfErr result (λ e. e ≡ Memory) }
     {
         let key = FileKey { path, directory };
         match self.files.get_index_of(&key) {

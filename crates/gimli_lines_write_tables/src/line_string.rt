@@ -35,7 +35,7 @@ impl LineString {
         ensures table { IfOk result (λ _. line_strings.new ≡ table_after encoding.version bytes.now
             line_strings.old) }
         ensures err { OnErr result (line_strings.new ≡ line_strings.old) }
-        ensures refused { IfErr result (λ e. e ≡ Memory) }
+        ensures refusal { IfErr result (λ e. e ≡ Memory) }
     {
         if encoding.version <= 4 {
             Ok(LineString::String(Vec::from_slice(alloc, bytes)?))

@@ -53,7 +53,7 @@ impl StringTable {
         ensures ok { OnOk result (self.new ≡ with_text self.old bytes.now) }
         ensures place { IfOk result (λ id. id.0 ≡ text_index self.old bytes.now) }
         ensures err { OnErr result (self.new ≡ self.old) }
-        ensures refused { IfErr result (λ e. e ≡ Memory) }
+        ensures refusal { IfErr result (λ e. e ≡ Memory) }
     {
         let place = self.texts.add(alloc, bytes)?;
         Ok(StringId(place))
@@ -127,7 +127,7 @@ impl LineStringTable {
         ensures ok { OnOk result (self.new ≡ with_text self.old bytes.now) }
         ensures place { IfOk result (λ id. id.0 ≡ text_index self.old bytes.now) }
         ensures err { OnErr result (self.new ≡ self.old) }
-        ensures refused { IfErr result (λ e. e ≡ Memory) }
+        ensures refusal { IfErr result (λ e. e ≡ Memory) }
     {
         let place = self.texts.add(alloc, bytes)?;
         Ok(LineStringId(place))

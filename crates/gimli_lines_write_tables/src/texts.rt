@@ -36,7 +36,7 @@ impl Model for Texts {
 fn append(section: &mut Vec<u8>, bytes: &[u8]) -> Result<(), Error>
     ensures ok { OnOk result (section.new.items ≡ section.old.items ++ (bytes.now ++ 0 ∷ [])) }
     ensures err { OnErr result (section.new.items ≡ section.old.items) }
-    ensures refused { IfErr result (λ e. e ≡ Memory) }
+    ensures refusal { IfErr result (λ e. e ≡ Memory) }
 {
     let len = section.len();
     section.extend_from_slice(bytes)?;
@@ -65,7 +65,7 @@ impl Texts {
         ensures ok { OnOk result (self.new ≡ with_text self.old bytes.now) }
         ensures place { IfOk result (λ place. place ≡ text_index self.old bytes.now) }
         ensures err { OnErr result (self.new ≡ self.old) }
-        ensures refused { IfErr result (λ e. e ≡ Memory) }
+        ensures refusal { IfErr result (λ e. e ≡ Memory) }
     {
         match self.texts.get_index_of(bytes) {
             Some(place) => Ok(place),
@@ -80,7 +80,7 @@ impl Texts {
         ensures ok { OnOk result (self.new ≡ self.old ++ bytes.now ∷ []) }
         ensures place { IfOk result (λ place. place ≡ length self.old) }
         ensures err { OnErr result (self.new ≡ self.old) }
-        ensures refused { IfErr result (λ e. e ≡ Memory) }
+        ensures refusal { IfErr result (λ e. e ≡ Memory) }
     {
         let text = Vec::from_slice(alloc, bytes)?;
         let place = self.texts.len();

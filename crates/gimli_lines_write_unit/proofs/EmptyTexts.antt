@@ -8,7 +8,7 @@ use Rattle.gimli_lines_write_tables.specs.StringSections.{same_bytes, with_text,
 use Rattle.gimli_lines_write_tables.specs.FileTables.{Text, in_header, of_strings, of_line_strings, File, Info, ProgramFiles}
 use Rattle.gimli_lines_write_unit.specs.declared.details.FileDetails.{FileDetails}
 use Rattle.gimli_lines_write_unit.specs.HeaderContents.{IsKnown, AllKnown, strings_after, line_strings_after, empty_text, empty_form_of, GainsEmpty}
-use Rattle.gimli_lines_write_tables.proofs.SectionTexts.{stands}
+use Rattle.gimli_lines_write_tables.proofs.SectionTexts.{text_at_index}
 
 with_text-longer : (texts : List (List ℕ)) (t : List ℕ) → length texts ≤ length (with_text texts t)
 with_text-longer texts t = by (list_any (same_bytes t) texts)
@@ -38,7 +38,7 @@ known_stays s l s' l' p q (of_strings place) known = omega arith
 known_stays s l s' l' p q (of_line_strings place) known = omega arith
 
 place_within : (texts : List (List ℕ)) (t : List ℕ) → text_index texts t < length (with_text texts t)
-place_within texts t = slice_get_within (with_text texts t) (text_index texts t) t (stands texts t)
+place_within texts t = slice_get_within (with_text texts t) (text_index texts t) t (text_at_index texts t)
 
 empty_known : (s l : List (List ℕ)) (needed : Option Text)
     → IsKnown (strings_after needed s) (line_strings_after needed l) (empty_text s l needed)

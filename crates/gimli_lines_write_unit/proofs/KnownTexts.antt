@@ -35,9 +35,9 @@ module _ (strings line_strings : List (List ℕ)) (version : ℕ) where
   map_map [] = refl
   map_map (t ∷ ts) = ap (λ l. header_text strings line_strings (text_of t) ∷ l) (map_map ts)
 
-  behind_first : (ts : List LineString) → map text_of (drop 1 ts) ≡ drop 1 (map text_of ts)
-  behind_first [] = refl
-  behind_first (t ∷ ts) = refl
+  after_first : (ts : List LineString) → map text_of (drop 1 ts) ≡ drop 1 (map text_of ts)
+  after_first [] = refl
+  after_first (t ∷ ts) = refl
 
   -- as they are written
   pub told_written : (directories : List LineString) (tables : List Text) → map text_of directories ≡ tables
@@ -47,7 +47,7 @@ module _ (strings line_strings : List (List ℕ)) (version : ℕ) where
       ∙ ap (map (header_text strings line_strings)) (by (nat_le version 4))
     where
       by : (b : Bool) → map text_of (cond b (drop 1 directories) directories) ≡ cond b (drop 1 tables) tables
-      by true = behind_first directories ∙ ap (drop 1) same
+      by true = after_first directories ∙ ap (drop 1) same
       by false = same
 
 -- as many things as are seen

@@ -14,10 +14,10 @@ pub joined-none : (r : Result (List ℕ) Error) → r ≡ join_bytes (Ok []) r
 joined-none (Ok b) = refl
 joined-none (Err e) = refl
 
-pub joined-behind : (a b : List ℕ) (r : Result (List ℕ) Error) → join_bytes (Ok a) (join_bytes (Ok b) r)
+pub joined-later : (a b : List ℕ) (r : Result (List ℕ) Error) → join_bytes (Ok a) (join_bytes (Ok b) r)
     ≡ join_bytes (Ok (a ++ b)) r
-joined-behind a b (Ok c) = ap Ok (sym (append_assoc a b c))
-joined-behind a b (Err e) = refl
+joined-later a b (Ok c) = ap Ok (sym (append_assoc a b c))
+joined-later a b (Err e) = refl
 
 -- What is left of a list that is being written, whose things are written in an order.
 pub record Left {A : Type 0} (f : Bool → A → Result (List ℕ) Error) (start now : WriterContents)
@@ -58,7 +58,7 @@ module _ {A : Type 0} (f : Bool → A → Result (List ℕ) Error) (start now : 
               order = ap (λ (w : WriterContents). w.is_big) (sym there) ∙ left.begins.order;
             };
             bytes = ahead ∙ ap (λ r. join_bytes (Ok left.begins.more) (join_bytes r (all_bytes (f start.is_big) rest)))
-                s ∙ joined-behind left.begins.more b (all_bytes (f start.is_big) rest);
+                s ∙ joined-later left.begins.more b (all_bytes (f start.is_big) rest);
           }
 
 -- the next thing, before those after it
@@ -104,13 +104,13 @@ extends_after old new bytes b =
     record { more = bytes ++ b.more; bytes = b.bytes ∙ append_assoc old.bytes bytes b.more; order = b.order }
 
 module _ {A : Type 0} (r : Result A Error) (old mid new : WriterContents) (a b : Bool → Result (List ℕ) Error) where
-  behind_bytes : (bytes : List ℕ) (c : Result (List ℕ) Error) (s : Result A Error)
+  after_bytes : (bytes : List ℕ) (c : Result (List ℕ) Error) (s : Result A Error)
       → Continues s (append bytes old) new c → Continues s old new (join_bytes (Ok bytes) c)
-  behind_bytes bytes (Ok more) (Ok x) h =
+  after_bytes bytes (Ok more) (Ok x) h =
       ap (λ l. Ok (record { bytes = l; is_big = old.is_big })) (sym (append_assoc old.bytes bytes more)) ∙ h
-  behind_bytes bytes (Err f) (Ok x) h = absurd (cc)
-  behind_bytes bytes (Ok more) (Err e) h = (λ n. absurd (let k = h.0 n in cc), extends_after old new bytes h.1)
-  behind_bytes bytes (Err f) (Err e) h = (λ n. let k = h.0 n in cc, extends_after old new bytes h.1)
+  after_bytes bytes (Err f) (Ok x) h = absurd (cc)
+  after_bytes bytes (Ok more) (Err e) h = (λ n. absurd (let k = h.0 n in cc), extends_after old new bytes h.1)
+  after_bytes bytes (Err f) (Err e) h = (λ n. let k = h.0 n in cc, extends_after old new bytes h.1)
 
   -- a write that goes on after another one
   pub then_continues : append_result (a old.is_big) old ≡ Ok mid → Continues r mid new (b mid.is_big)
@@ -123,5 +123,5 @@ module _ {A : Type 0} (r : Result A Error) (old mid new : WriterContents) (a b :
       by (Ok bytes) is k =
           let there : append bytes old ≡ mid = cc in
           subst (λ s. Continues r old new (join_bytes s (b old.is_big))) (sym is)
-          (behind_bytes bytes (b old.is_big) r
+          (after_bytes bytes (b old.is_big) r
           (subst (λ (m : WriterContents). Continues r m new (b m.is_big)) (sym there) h))

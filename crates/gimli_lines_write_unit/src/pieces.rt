@@ -114,7 +114,7 @@ fn push_if(
 ) -> Result<(), Error>
     ensures ok { OnOk result (formats.new.items ≡ formats.old.items
         ++ when present (field_format content_type.0 form.0)) }
-    ensures refused { IfErr result (λ e. e ≡ Memory) }
+    ensures refusal { IfErr result (λ e. e ≡ Memory) }
 {
     if present {
         formats.push(entry_format(content_type, form))?;
@@ -131,7 +131,7 @@ pub fn file_formats(
 ) -> Result<Vec<FileEntryFormat>, Error>
     ensures ok { IfOk result (λ formats. formats.items ≡ file_formats (details_of details)
         path_form.0 source_form.0) }
-    ensures refused { IfErr result (λ e. e ≡ Memory) }
+    ensures refusal { IfErr result (λ e. e ≡ Memory) }
 {
     let mut formats = Vec::new(alloc);
     push_if(&mut formats, true, DW_LNCT_path, path_form)?;

@@ -64,9 +64,9 @@ pub fn empty_text(
         strings.old) }
     ensures line_strings { OnOk result (line_strings.new
         ≡ line_strings_after (empty_form_of tables.now details) line_strings.old) }
-    ensures strings_refused { OnErr result (strings.new ≡ strings.old) }
-    ensures line_strings_refused { OnErr result (line_strings.new ≡ line_strings.old) }
-    ensures refused { IfErr result (λ e. e ≡ Memory) }
+    ensures strings_at_refusal { OnErr result (strings.new ≡ strings.old) }
+    ensures line_strings_at_refusal { OnErr result (line_strings.new ≡ line_strings.old) }
+    ensures refusal { IfErr result (λ e. e ≡ Memory) }
 {
     match empty_form(version, details, tables.infos()) {
         Some(LineString::StringRef(_)) => Ok(LineString::StringRef(strings.add(alloc, &[])?)),

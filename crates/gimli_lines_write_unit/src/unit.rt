@@ -137,8 +137,8 @@ fn write_with_tables<W: Writer>(
         strings.old) }
     ensures line_strings { OnOk result (line_strings.new
         ≡ line_strings_after (empty_form_of tables.now details) line_strings.old) }
-    ensures strings_refused { OnErr result (GainsEmpty strings.old strings.new) }
-    ensures line_strings_refused { OnErr result (GainsEmpty line_strings.old line_strings.new) }
+    ensures strings_at_refusal { OnErr result (GainsEmpty strings.old strings.new) }
+    ensures line_strings_at_refusal { OnErr result (GainsEmpty line_strings.old line_strings.new) }
 {
     let version = rows.rules().encoding.version;
     let empty = empty_text(alloc, tables, version, details, strings, line_strings)?;
@@ -178,8 +178,8 @@ pub fn write_unit<W: Writer>(
         strings.old) }
     ensures line_strings { OnOk result (line_strings.new
         ≡ line_strings_after (empty_form_of tables.now details) line_strings.old) }
-    ensures strings_refused { OnErr result (GainsEmpty strings.old strings.new) }
-    ensures line_strings_refused { OnErr result (GainsEmpty line_strings.old line_strings.new) }
+    ensures strings_at_refusal { OnErr result (GainsEmpty strings.old strings.new) }
+    ensures line_strings_at_refusal { OnErr result (GainsEmpty line_strings.old line_strings.new) }
 {
     let rules = rows.rules();
     let version = rules.encoding.version;

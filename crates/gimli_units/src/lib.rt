@@ -6,7 +6,7 @@ pub use gimli_units_entries::{
     ArangeEntry, ArangeEntryIter, ArangeHeader, ArangeHeaderIter, Attribute, AttributeValue,
     DebugAranges, DebugInfo, DebugInfoUnitHeadersIter, DebuggingInformationEntry, EntriesRaw,
     OffsetInSection, OffsetInUnit, Spelling, UnitEntries, UnitHeader, UnitType, entries_raw,
-    parse_attribute, push_attribute, read_attribute, skip_attributes, spelling_of,
+    parse_attribute, skip_attributes, spelling_of,
 };
 pub use gimli_units_lists::{
     DebugInfoOffset, DebugLoc, DebugLocLists, DebugRanges, DebugRngLists, Expression, ListsHeader,

@@ -58,7 +58,6 @@ fn parts_of_units(rt: HostRuntime) -> Result<(), Fail> {
         assert_eq!(rt; offsets(inside, place)?, (is_inside, offset));
     }
     let unit = unit_at(13)?;
-    assert!(rt; unit.offset().0 < 100);
     let place = UnitOffset(24).to_debug_info_offset(&unit);
     assert_eq!(rt; place, Some(DebugInfoOffset(37)));
     Ok(())

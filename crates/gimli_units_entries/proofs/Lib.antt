@@ -11,3 +11,4 @@ pub mod OffsetLookupLemmas
 pub mod ChoiceLemmas
 pub mod RowSteps
 pub mod AttributePushLemmas
+mod EntryReads

@@ -16,8 +16,8 @@ use Rattle.gimli_core_base.specs.NumberParsers.{number_and_rest, unsigned}
 use Rattle.gimli_core_base.proofs.NumberReadSizes.{Stands, judged_stands}
 use Rattle.gimli_units_forms.specs.Declarations.{Declaration}
 use Rattle.gimli_units_forms.specs.AttributeValues.{RawAttribute}
-use Rattle.gimli_units_forms.proofs.RunLemmas.{leaves, Runs-from_run, run-Ok, run-zero}
-use Rattle.gimli_units_forms.proofs.AfterLemmas.{IsAfter, IsAfter-IsAfter, IsAfter-fewer}
+use Rattle.gimli_units_forms.specs.Places.{IsAfter}
+use Rattle.gimli_units_forms.proofs.AfterLemmas.{IsAfter-self, IsAfter-IsAfter, IsAfter-fewer}
 use Rattle.gimli_units_forms.proofs.FormSizes.{attributes-after}
 use Rattle.gimli_units_headers.specs.UnitHeaders.{DebugUnit, IsWellFormed, length_including_self, header_size}
 use Rattle.gimli_units_headers.specs.UnitOffsets.{is_in_bounds, if_in_bounds, bytes_from}
@@ -36,15 +36,15 @@ number_result n k = Ok (n, k)
 
 unsigned_fits : (bound : ℕ) (bytes : List ℕ) (r : Result (List ℕ) Fault) → ((s : List ℕ) → r ≡ Ok s → Stands s bytes)
     → (n k : ℕ) → unsigned_of bound r ≡ Ok (n, k) → k ≤ length bytes
-unsigned_fits bound bytes (Err fault) stands n k e = absurd cc
-unsigned_fits bound bytes (Ok s) stands n k e = by_test (nat_lt (unsigned_number s) bound) e
+unsigned_fits bound bytes (Err fault) string_fits n k e = absurd cc
+unsigned_fits bound bytes (Ok s) string_fits n k e = by_test (nat_lt (unsigned_number s) bound) e
   where
     by_test : (b : Bool) → cond b (number_result (unsigned_number s) (length s)) (Err Bad) ≡ number_result n k
         → k ≤ length bytes
     by_test true h =
         let pair : (unsigned_number s, length s) ≡ (n, k) = cc in
         let same : length s ≡ k = ap (λ (p : ℕ × ℕ). p.1) pair in
-        let fits = (stands s refl).fits in
+        let fits = (string_fits s refl).fits in
         omega arith
     by_test false h = absurd cc
 
@@ -57,22 +57,22 @@ unsigned-after n v w e = found (unsigned_at 10 (2 ^ 64) v.bytes) refl e
     found (Err fault) q h = absurd cc
     found (Ok p) q h = record {
       count = p.1;
-      leads =
-          run-Ok p.1 v (unsigned_fits (2 ^ 64) v.bytes (bounded_string 10 v.bytes) (judged_stands 10 v.bytes) p.0 p.1 q)
-          ∙ ap leaves (state_is p.0 n (after p.1 v) w h);
+      within = unsigned_fits (2 ^ 64) v.bytes (bounded_string 10 v.bytes) (judged_stands 10 v.bytes) p.0 p.1 q;
+      rest = state_is p.0 n (after p.1 v) w h;
     }
 
 contents-after : (limit : ℕ) (e : Encoding) (d : Option Declaration) (v w : View) (found : List RawAttribute)
     → contents_in limit any_tag e d v ≡ Ok (found, w) → IsAfter v w
-contents-after limit e None v w found h = record { count = 0; leads = run-zero v ∙ ap leaves (state_is [] found v w h) }
+contents-after limit e None v w found h =
+    subst (λ (u : View). IsAfter v u) (state_is [] found v w h) (IsAfter-self v)
 contents-after limit e (Some d) v w found h = attributes-after limit e d.attributes v w found h
 
 row-after : (limit : ℕ) (w t : Walk) (r : Row) → HasRow limit any_tag w r t → IsAfter w.rest t.rest
 row-after limit w t r h =
     let rest : h.rest ≡ t.rest = ap (λ (x : Walk). x.rest) h.leads in
-    let all = IsAfter-IsAfter w.rest h.behind_its_code h.rest
-    (unsigned-after h.headed.code w.rest h.behind_its_code h.headed.coded)
-    (contents-after limit w.encoding h.declaration h.behind_its_code h.rest h.found h.filled) in
+    let all = IsAfter-IsAfter w.rest h.after_its_code h.rest
+    (unsigned-after h.headed.code w.rest h.after_its_code h.headed.coded)
+    (contents-after limit w.encoding h.declaration h.after_its_code h.rest h.found h.filled) in
     subst (λ (v : View). IsAfter w.rest v) rest all
 
 -- ---- walks in a unit
@@ -110,7 +110,7 @@ row-again limit u table w t r i h =
       s,
       sym (row-all limit start) ∙ row-from limit any_tag start s (at_depth_0 r) (record {
         declaration = h.declaration;
-        behind_its_code = h.behind_its_code;
+        after_its_code = h.after_its_code;
         rest = h.rest;
         found = h.found;
         headed =
@@ -121,7 +121,7 @@ row-again limit u table w t r i h =
                   x.table) i.is ∙ h.headed.known;
             };
         filled =
-            ap (λ (x : Walk). contents_in limit any_tag x.encoding h.declaration h.behind_its_code) i.is ∙ h.filled;
+            ap (λ (x : Walk). contents_in limit any_tag x.encoding h.declaration h.after_its_code) i.is ∙ h.filled;
         is_row =
             row_of-depth (next_offset start) w.depth h.declaration h.found
             ∙ ap (λ (o : ℕ). at_depth_0 (row_of o w.depth h.declaration h.found)) offset ∙ ap at_depth_0 h.is_row;
@@ -140,9 +140,8 @@ bytes_from-walk : (most : ℕ) (u : DebugUnit) (v : View) (offset : ℕ) → IsW
 bytes_from-walk most u v offset h b some e =
     let fewer = IsAfter-fewer u.entries v b in
     let whole = h.is_whole in
-    let runs = Runs-from_run b.count u.entries v b.leads in
-    let there = runs.there in
-    let left : bytes_left (after b.count u.entries) ≡ bytes_left v = ap bytes_left runs.behind_it in
+    let there = b.within in
+    let left : bytes_left (after b.count u.entries) ≡ bytes_left v = ap bytes_left b.rest in
     let dropped = length-drop b.count u.entries.bytes in
     let above : header_size u ≤ offset = omega arith in
     let below : offset < length_including_self u = omega arith in
@@ -151,7 +150,7 @@ bytes_from-walk most u v offset h b some e =
     ≡ true = ap (λ (x : Bool). x && nat_lt offset (length_including_self u)) (le-leb (header_size u) offset above)
     ∙ lt-ltb offset (length_including_self u) below in
     ap (λ (x : Bool). if_in_bounds x (after (offset - header_size u) u.entries)) inside
-    ∙ ap (λ (n : ℕ). view_result (after n u.entries)) passed ∙ ap view_result runs.behind_it
+    ∙ ap (λ (n : ℕ). view_result (after n u.entries)) passed ∙ ap view_result b.rest
 
 row-lookup : (limit most : ℕ) (u : DebugUnit) (table : List Declaration) (w t : Walk) (r : Row) → IsWellFormed most u
     → InUnit u table w → HasRow limit any_tag w r t → entry_at limit u table r.offset ≡ not_null r.offset (at_depth_0 r)
@@ -195,4 +194,4 @@ pub rows-lookups : (limit most : ℕ) (u : DebugUnit) (table : List Declaration)
 unfolding rows listing_in
 rows-lookups limit most u table h =
     all-lookups limit most u table h (suc (bytes_left u.entries)) (walk_before u table u.entries)
-    (record { is = refl; from = record { count = 0; leads = run-zero u.entries } })
+    (record { is = refl; from = IsAfter-self u.entries })

@@ -44,10 +44,10 @@ contents-all limit (Some d) w = refl
 pub row-all : (limit : ℕ) (w : Walk) → row_choosing limit any_tag w ≡ row limit w
 unfolding row row_choosing
 row-all limit w =
-    let given = λ (d : Option Declaration) (found : List RawAttribute). row_of (next_offset w) w.depth d found in
-    onward-alike (entry_head w) (λ d s. proceed (contents limit any_tag d s) (λ found. give (given d found)))
-    (λ d s. proceed (all_contents limit d s) (λ found. give (given d found)))
-    (λ d s. ap (λ (x : Result (List RawAttribute × Walk) Error). proceed x (λ found. give (given d found)))
+    let row_with = λ (d : Option Declaration) (found : List RawAttribute). row_of (next_offset w) w.depth d found in
+    onward-alike (entry_head w) (λ d s. proceed (contents limit any_tag d s) (λ found. give (row_with d found)))
+    (λ d s. proceed (all_contents limit d s) (λ found. give (row_with d found)))
+    (λ d s. ap (λ (x : Result (List RawAttribute × Walk) Error). proceed x (λ found. give (row_with d found)))
     (contents-all limit d s))
 
 -- what is kept of attributes
@@ -86,11 +86,11 @@ row-choice limit chosen w t r e =
     let h = row-parts limit any_tag w t r (row-all limit w ∙ e) in
     row-from limit chosen w t (row_under_choice chosen r) (record {
       declaration = h.declaration;
-      behind_its_code = h.behind_its_code;
+      after_its_code = h.after_its_code;
       rest = h.rest;
       found = attributes_if (chosen (tag_of h.declaration)) h.found;
       headed = h.headed;
-      filled = contents_in-choice limit chosen w.encoding h.declaration h.behind_its_code h.rest h.found h.filled;
+      filled = contents_in-choice limit chosen w.encoding h.declaration h.after_its_code h.rest h.found h.filled;
       is_row =
           row_of-choice (next_offset w) w.depth h.declaration chosen h.found ∙ ap (row_under_choice chosen) h.is_row;
       leads = h.leads;

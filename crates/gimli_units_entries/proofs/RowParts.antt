@@ -112,11 +112,11 @@ contents_in-AtMost limit chosen e (Some d) v =
 -- a row was read: its code, and its attributes after that
 pub record HasRow (limit : ℕ) (chosen : ℕ → Bool) (w : Walk) (r : Row) (t : Walk) : Type 0 where
   pub declaration : Option Declaration
-  pub behind_its_code : View
+  pub after_its_code : View
   pub rest : View
   pub found : List RawAttribute
-  pub headed : HasHead w declaration behind_its_code
-  pub filled : contents_in limit chosen w.encoding declaration behind_its_code ≡ Ok (found, rest)
+  pub headed : HasHead w declaration after_its_code
+  pub filled : contents_in limit chosen w.encoding declaration after_its_code ≡ Ok (found, rest)
   pub is_row : row_of (next_offset w) w.depth declaration found ≡ r
   pub leads : walk_after_code w declaration rest ≡ t
 
@@ -124,15 +124,15 @@ pub row-parts : (limit : ℕ) (chosen : ℕ → Bool) (w t : Walk) (r : Row) →
     → HasRow limit chosen w r t
 unfolding row_choosing
 row-parts limit chosen w t r e =
-    let given = λ (d : Option Declaration) (found : List RawAttribute). row_of (next_offset w) w.depth d found in
-    let b = begins (entry_head w) (λ d s. proceed (contents limit chosen d s) (λ found. give (given d found))) r t e in
+    let row_with = λ (d : Option Declaration) (found : List RawAttribute). row_of (next_offset w) w.depth d found in
+    let b = begins (entry_head w) (λ d s. proceed (contents limit chosen d s) (λ found. give (row_with d found))) r t e in
     let h = entry_head-parts w b.1 b.0 b.2 in
-    let k = begins (contents limit chosen b.0 b.1) (λ found. give (given b.0 found)) r t b.3 in
+    let k = begins (contents limit chosen b.0 b.1) (λ found. give (row_with b.0 found)) r t b.3 in
     let c = read_in_walk-Ok (walk_after_code w b.0 h.0) (contents_in limit chosen w.encoding b.0 h.0) k.0 k.1
     (sym (contents-is limit chosen b.0 (walk_after_code w b.0 h.0)) ∙ ap (contents limit chosen b.0) h.2 ∙ k.2) in
     record {
       declaration = b.0;
-      behind_its_code = h.0;
+      after_its_code = h.0;
       rest = c.0;
       found = k.0;
       headed = h.1;
@@ -146,13 +146,13 @@ pub row-from : (limit : ℕ) (chosen : ℕ → Bool) (w t : Walk) (r : Row) → 
 unfolding row_choosing
 row-from limit chosen w t r h =
     let d = h.declaration in
-    let given = λ (o : Option Declaration) (found : List RawAttribute). row_of (next_offset w) w.depth o found in
+    let row_with = λ (o : Option Declaration) (found : List RawAttribute). row_of (next_offset w) w.depth o found in
     ap (λ (x : Result (Option Declaration × Walk) Error). proceed x
-    (λ o s. proceed (contents limit chosen o s) (λ found. give (given o found))))
-    (entry_head-from w d h.behind_its_code h.headed)
-    ∙ ap (λ (x : Result (List RawAttribute × Walk) Error). proceed x (λ found. give (given d found)))
-    (contents-is limit chosen d (walk_after_code w d h.behind_its_code)
-    ∙ ap (read_in_walk (walk_after_code w d h.behind_its_code)) h.filled)
+    (λ o s. proceed (contents limit chosen o s) (λ found. give (row_with o found))))
+    (entry_head-from w d h.after_its_code h.headed)
+    ∙ ap (λ (x : Result (List RawAttribute × Walk) Error). proceed x (λ found. give (row_with d found)))
+    (contents-is limit chosen d (walk_after_code w d h.after_its_code)
+    ∙ ap (read_in_walk (walk_after_code w d h.after_its_code)) h.filled)
     ∙ ap (λ (x : Row). read x (walk_after_code w d h.rest)) h.is_row
     ∙ ap (read r) h.leads
 
@@ -160,10 +160,10 @@ row-from limit chosen w t r h =
 pub row-takes : (limit : ℕ) (chosen : ℕ → Bool) (w t : Walk) (r : Row) → HasRow limit chosen w r t
     → bytes_left t.rest < bytes_left w.rest
 row-takes limit chosen w t r h =
-    let code : bytes_left h.behind_its_code < bytes_left w.rest = (Below-unsigned w.rest (omega arith)).left _ _
+    let code : bytes_left h.after_its_code < bytes_left w.rest = (Below-unsigned w.rest (omega arith)).left _ _
     h.headed.coded in
     let attributes : bytes_left h.rest
-    ≤ bytes_left h.behind_its_code = (contents_in-AtMost limit chosen w.encoding h.declaration h.behind_its_code).left _
+    ≤ bytes_left h.after_its_code = (contents_in-AtMost limit chosen w.encoding h.declaration h.after_its_code).left _
     _ h.filled in
     let same : bytes_left h.rest ≡ bytes_left t.rest = ap (λ (x : Walk). bytes_left x.rest) h.leads in
     omega arith

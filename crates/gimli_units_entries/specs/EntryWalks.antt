@@ -4,7 +4,7 @@
 use Rattle.std.specs.Prelude.{ℕ, ℤ, pos, ◌+ℤ◌, ◌-ℤ◌, ◌≤ℤ◌, ◌<ℤ◌, ◌-◌, ◌≤◌, ◌^◌, ◌==◌, List, Option, Some, None, Result, Ok, Err, if◌then◌else◌}
 use Rattle.gimli_core_base.specs.declared.error.Error.{Error}
 use Rattle.gimli_core_base.specs.declared.error.Error.TheVariants.{InvalidAbbreviationCode}
-use Rattle.gimli_core_base.specs.View.{View, bytes_left}
+use Rattle.gimli_core_base.specs.View.{View, after, bytes_left}
 use Rattle.gimli_core_base.specs.Parsers.{Step, Parser, ◌>>=◌, here, lift}
 use Rattle.gimli_core_base.specs.declared.common.Encoding.{Encoding}
 use Rattle.gimli_core_base.specs.NumberParsers.{unsigned}
@@ -74,6 +74,16 @@ change_depth d w =
         rest = w.rest;
       },
     )
+
+-- the walk after bytes that begin with the code of an entry, which stands for this declaration
+abbrev pub walk_after : ℕ → Option Declaration → Walk → Walk
+walk_after count d w = record {
+  encoding = w.encoding;
+  table = w.table;
+  end_offset = w.end_offset;
+  depth = depth_after w.depth d;
+  rest = after count w.rest;
+}
 
 -- the code of an entry, as the declaration that it stands for; none for a null entry
 unfoldable pub entry_head : Step Walk (Option Declaration)

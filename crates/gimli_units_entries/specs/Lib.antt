@@ -16,6 +16,7 @@ pub use Rattle.gimli_units_forms.specs.AttributeReading
 pub use Rattle.gimli_units_forms.specs.AttributeSkipping
 pub use Rattle.gimli_units_forms.specs.AttributeValues
 pub use Rattle.gimli_units_forms.specs.FormSpellings
+pub use Rattle.gimli_units_forms.specs.Places
 pub use Rattle.gimli_units_forms.specs.declared.value.Attribute
 pub use Rattle.gimli_units_headers.specs.ArangeSets
 pub use Rattle.gimli_units_headers.specs.Tiling

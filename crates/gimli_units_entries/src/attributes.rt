@@ -1,53 +1,68 @@
 //! The attributes of an entry, read one after the other.
 
-ghost use Rattle.std.specs.Prelude.{◌≡◌, [], map, OnErr};
+ghost use Rattle.std.specs.Prelude.{◌≡◌, ◌≤◌, [], map, IfOk, OnErr};
 ghost use Rattle.gimli_core_base.specs.Calls.{ReturnsAsOrNoMemory};
+ghost use Rattle.gimli_core_base.specs.View.{after, bytes_left};
 ghost use Rattle.gimli_units_forms.specs.AbbreviationViews.{attribute_view};
 ghost use Rattle.gimli_units_forms.specs.AttributeReading.{attributes};
+ghost use Rattle.gimli_units_forms.specs.Places.{IsAfter};
 ghost use Rattle.gimli_units_entries.specs.EntryViews.{raw_attributes};
 
 use gimli_core_base::Encoding;
 use gimli_core_base::error::Error;
-use gimli_units_forms::{Attribute, AttributeSpecification, push_attribute};
+use gimli_units_forms::{
+    Attribute, AttributeSpecification, EndianSlice, borrowed, bytes_before, push_attribute,
+};
 use gimli_units_headers::Reader;
 
-// Reads the attributes that declarations describe in place of those of a list. A refusal leaves
-// those that were read so far, and a reader that may have moved.
+// Reads the attributes that declarations describe, at a place in a reader, in place of those of a
+// list. A refusal leaves those that were read so far.
 fn fill<R: Reader>(
     attrs: &mut Vec<Attribute<R>>,
-    input: &mut R,
+    place: &mut EndianSlice<'_, R::Endian>,
+    reader: &R,
     encoding: Encoding,
     specifications: &[AttributeSpecification],
 ) -> Result<(), Error>
+    requires { IsAfter (R.view reader.now) place.old }
     ensures { ReturnsAsOrNoMemory
-        (λ _. (raw_attributes R.view R.Offset.count attrs.new.items, R.view input.new)) result
-        (attributes R.Offset.limit encoding (map attribute_view specifications.now)
-        (R.view input.old)) }
+        (λ _. (raw_attributes R.view R.Offset.count attrs.new.items, place.new)) result
+        (attributes R.Offset.limit encoding (map attribute_view specifications.now) place.old) }
 {
     attrs.clear();
     for specification in specifications {
-        push_attribute(attrs, input, encoding, *specification)?;
+        push_attribute(attrs, place, reader, encoding, *specification)?;
     }
     Ok(())
 }
 
-// Reads the attributes that declarations describe in place of those of a list, whose memory they
-// take. A refusal leaves an empty list, and a reader that may have moved.
+// Reads the attributes that declarations describe, after some bytes of a reader, in place of those
+// of a list, whose memory they take; returns how many bytes come before what is left. A refusal
+// leaves an empty list.
 pub(crate) fn read_each<R: Reader>(
     attrs: &mut Vec<Attribute<R>>,
-    input: &mut R,
+    reader: &R,
+    before: usize,
     encoding: Encoding,
     specifications: &[AttributeSpecification],
-) -> Result<(), Error>
+) -> Result<usize, Error>
+    requires { before ≤ bytes_left (R.view reader.now) }
     ensures value { ReturnsAsOrNoMemory
-        (λ _. (raw_attributes R.view R.Offset.count attrs.new.items, R.view input.new)) result
+        (λ n. (raw_attributes R.view R.Offset.count attrs.new.items, after n (R.view reader.now)))
+        result
         (attributes R.Offset.limit encoding (map attribute_view specifications.now)
-        (R.view input.old)) }
-    ensures refused { OnErr result (attrs.new.items ≡ []) }
+        (after before (R.view reader.now))) }
+    ensures forward { IfOk result (λ n.
+        (before ≤ n) × (n ≤ bytes_left (R.view reader.now))) }
+    ensures refusal { OnErr result (attrs.new.items ≡ []) }
 {
-    let read = fill(attrs, input, encoding, specifications);
-    if read.is_err() {
-        attrs.clear();
+    let mut place = borrowed(reader);
+    place.advance(before);
+    match fill(attrs, &mut place, reader, encoding, specifications) {
+        Ok(()) => Ok(bytes_before(&place, reader)),
+        Err(fault) => {
+            attrs.clear();
+            Err(fault)
+        }
     }
-    read
 }

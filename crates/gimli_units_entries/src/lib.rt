@@ -14,16 +14,16 @@ pub use gimli_core_base::{
     DW_AT_MIPS_linkage_name, DW_AT_abstract_origin, DW_AT_addr_base, DW_AT_call_column,
     DW_AT_call_file, DW_AT_call_line, DW_AT_comp_dir, DW_AT_dwo_name, DW_AT_linkage_name,
     DW_AT_loclists_base, DW_AT_low_pc, DW_AT_name, DW_AT_rnglists_base, DW_AT_specification,
-    DW_AT_stmt_list, DW_AT_str_offsets_base, DW_TAG_inlined_subroutine, DW_TAG_subprogram,
-    DebugAbbrevOffset, DebugAddrBase, DebugAddrIndex, DebugLineOffset, DebugLocListsBase,
-    DebugRngListsBase, DebugRngListsIndex, DebugStrOffset, DebugStrOffsetsBase, DwAt, DwLang,
-    DwTag, DwarfFileType, DwoId, RangeListsOffset, RawRangeListsOffset, ReaderOffset, SectionId,
+    DW_AT_stmt_list, DW_AT_str_offsets_base, DW_TAG_inlined_subroutine, DW_TAG_partial_unit,
+    DW_TAG_subprogram, DebugAbbrevOffset, DebugAddrBase, DebugAddrIndex, DebugLineOffset,
+    DebugLocListsBase, DebugRngListsBase, DebugRngListsIndex, DebugStrOffset, DebugStrOffsetsBase,
+    DwAt, DwLang, DwTag, DwarfFileType, DwoId, RangeListsOffset, RawRangeListsOffset, ReaderOffset,
+    SectionId,
 };
 pub use gimli_units_forms::attribute::bytes_are_small_numbers;
 pub use gimli_units_forms::skipping::skipping_follows_reading;
 pub use gimli_units_forms::{
-    Attribute, AttributeValue, Spelling, parse_attribute, push_attribute, read_attribute,
-    skip_attributes, spelling_of,
+    Attribute, AttributeValue, Spelling, parse_attribute, skip_attributes, spelling_of,
 };
 pub use gimli_units_headers::{
     ArangeEntry, ArangeEntryIter, ArangeHeader, ArangeHeaderIter, DebugAranges, DebugInfo,

@@ -6,7 +6,7 @@ ghost use Rattle.gimli_core_base.specs.Calls.{ReturnsAs, ReturnsAsOrNoMemory, Re
 ghost use Rattle.gimli_core_base.specs.NumberParsers.{unsigned};
 ghost use Rattle.gimli_units_forms.specs.AbbreviationViews.{declaration_view, attribute_view};
 ghost use Rattle.gimli_units_forms.specs.AttributeValues.{raw_attribute_of};
-ghost use Rattle.gimli_units_entries.specs.EntryWalks.{IsWithin, next_offset, entry_head, value, values, skip_values};
+ghost use Rattle.gimli_units_entries.specs.EntryWalks.{IsWithin, next_offset, walk_after, entry_head, value, values, skip_values};
 ghost use Rattle.gimli_units_entries.specs.EntryRows.{null_at, row, present_row};
 ghost use Rattle.gimli_units_entries.specs.EntryViews.{entry_of, raw_attributes};
 
@@ -87,21 +87,9 @@ impl<'abbrev, R: Reader> EntriesRaw<'abbrev, R> {
         ensures { ReadsAs (option_map (λ a. declaration_view a.now)) result self.old self.new
             (entry_head self.old) }
     {
-        let (code, length) = code_at(&self.input)?;
-        if code == 0 {
-            self.input.advance(length);
-            self.depth -= 1;
-            return Ok(None);
-        }
-        let table = self.abbreviations;
-        let Some(abbreviation) = table.get(code) else {
-            return Err(Error::InvalidAbbreviationCode(code));
-        };
-        self.input.advance(length);
-        if abbreviation.has_children() {
-            self.depth += 1;
-        }
-        Ok(Some(abbreviation))
+        let (abbreviation, length) = self.next_abbreviation()?;
+        self.pass(length, abbreviation);
+        Ok(abbreviation)
     }
 
     /// The next attribute, as its declaration describes it. A refusal leaves the walk as it was.
@@ -162,96 +150,84 @@ impl<'abbrev, R: Reader> EntriesRaw<'abbrev, R> {
         ensures value { StepsAsOrNoMemory
             (λ _. raw_attributes R.view R.Offset.count attrs.new.items) result self.old self.new
             (values R.Offset.limit (map attribute_view specifications.now)) }
-        ensures refused { OnErr result (attrs.new.items ≡ []) }
+        ensures refusal { OnErr result (attrs.new.items ≡ []) }
     {
-        attrs.clear();
-        let mut rest = self.input.copy()?;
-        read_each(attrs, &mut rest, self.encoding, specifications)?;
-        self.input = rest;
+        let count = read_each(attrs, &self.input, 0, self.encoding, specifications)?;
+        self.input.advance(count);
         Ok(())
     }
 
     /// Reads the next entry with its attributes in place of another, whose memory they take, and
     /// returns whether it isn't a null entry. A refusal leaves the walk as it was, and the entry
     /// null at the walk's place.
+    #[tactic(auto, unfolding(crate::specs::EntryRows::row, crate::specs::EntryWalks::values))]
     pub fn read_entry(&mut self, entry: &mut DebuggingInformationEntry<R>) -> Result<bool, Error>
         ensures value { StepsAsOrNoMemory
             (λ is_present. (is_present, entry_of R.view R.Offset.count entry.new)) result
             self.old self.new (present_row R.Offset.limit) }
-        ensures refused { OnErr result
+        ensures refusal { OnErr result
             (entry_of R.view R.Offset.count entry.new
             ≡ null_at (next_offset self.old) self.old.depth) }
     {
         entry.set_null(self.next_offset(), self.next_depth());
-        *self = self.copy()?.read_into(entry)?;
+        let (abbreviation, length) = self.next_abbreviation()?;
+        let Some(abbreviation) = abbreviation else {
+            self.pass(length, None);
+            return Ok(false);
+        };
+        let specifications = abbreviation.attributes();
+        let count = read_each(
+            &mut entry.attrs,
+            &self.input,
+            length,
+            self.encoding,
+            specifications,
+        )?;
+        self.pass(count, Some(abbreviation));
+        entry.tag = abbreviation.tag();
+        entry.has_children = abbreviation.has_children();
         Ok(!entry.is_null())
     }
 
-    // The walk after the next entry, which is read into a null one at its place. A refusal leaves
-    // that one.
-    #[tactic(auto, unfolding(crate::specs::EntryRows::row))]
-    fn read_into(
-        mut self,
-        entry: &mut DebuggingInformationEntry<R>,
-    ) -> Result<EntriesRaw<'abbrev, R>, Error>
-        requires { entry_of R.view R.Offset.count entry.old
-            ≡ null_at (next_offset self) self.depth }
-        ensures value { ReturnsAsOrNoMemory (λ w. (entry_of R.view R.Offset.count entry.new, w))
-            result
-            (row R.Offset.limit self.entry) }
-        ensures refused { OnErr result
-            (entry_of R.view R.Offset.count entry.new ≡ entry_of R.view R.Offset.count entry.old) }
+    // The next entry's declaration, and how many bytes its code takes.
+    #[inline(always)]
+    #[tactic(auto, unfolding(crate::specs::EntryWalks::entry_head))]
+    fn next_abbreviation(&self) -> Result<(Option<&'abbrev Abbreviation>, usize), Error>
+        ensures value { ReturnsAs (λ p. (
+          option_map (λ a. declaration_view a.now) p.0,
+          walk_after p.1 (option_map (λ a. declaration_view a.now) p.0) self.now,
+        )) result
+            (entry_head self.now) }
+        ensures some { IfOk result (λ p. 0 < p.1) }
+        ensures within { IfOk result (λ p. p.1 ≤ bytes_left self.now.rest) }
     {
-        let Some(abbreviation) = self.read_abbreviation()? else {
-            return Ok(self);
+        let (code, length) = code_at(&self.input)?;
+        if code == 0 {
+            return Ok((None, length));
+        }
+        let table = self.abbreviations;
+        match table.get(code) {
+            Some(abbreviation) => Ok((Some(abbreviation), length)),
+            None => Err(Error::InvalidAbbreviationCode(code)),
+        }
+    }
+
+    // Moves past bytes that begin with the code of an entry.
+    #[inline(always)]
+    fn pass(&mut self, count: usize, abbreviation: Option<&Abbreviation>)
+        requires some { 0 < count }
+        requires within { count ≤ bytes_left self.old.rest }
+        ensures { self.new
+            ≡ walk_after count (option_map (λ a. declaration_view a.now) abbreviation.entry) self.old }
+    {
+        self.input.advance(count);
+        let Some(abbreviation) = abbreviation else {
+            self.depth -= 1;
+            return;
         };
-        let after_entry = self.read_values(abbreviation.attributes(), &mut entry.attrs)?;
-        entry.tag = abbreviation.tag();
-        entry.has_children = abbreviation.has_children();
-        Ok(after_entry)
-    }
-
-    // The walk after attributes, which are read in place of those of a list. A refusal leaves an
-    // empty list.
-    #[tactic(auto, unfolding(crate::specs::EntryWalks::values))]
-    fn read_values(
-        self,
-        specifications: &[AttributeSpecification],
-        attrs: &mut Vec<Attribute<R>>,
-    ) -> Result<EntriesRaw<'abbrev, R>, Error>
-        ensures value { ReturnsAsOrNoMemory
-            (λ w. (raw_attributes R.view R.Offset.count attrs.new.items, w)) result
-            (values R.Offset.limit (map attribute_view specifications.now) self.entry) }
-        ensures refused { OnErr result (attrs.new.items ≡ []) }
-    {
-        let EntriesRaw {
-            mut input,
-            encoding,
-            abbreviations,
-            end_offset,
-            depth,
-        } = self;
-        read_each(attrs, &mut input, encoding, specifications)?;
-        Ok(EntriesRaw {
-            input,
-            encoding,
-            abbreviations,
-            end_offset,
-            depth,
-        })
-    }
-
-    // A second walk at the same place.
-    fn copy(&self) -> Result<EntriesRaw<'abbrev, R>, Error>
-        ensures { ReturnsOrNoMemory result (Ok self.now) }
-    {
-        Ok(EntriesRaw {
-            input: self.input.copy()?,
-            encoding: self.encoding,
-            abbreviations: self.abbreviations,
-            end_offset: self.end_offset,
-            depth: self.depth,
-        })
+        if abbreviation.has_children() {
+            self.depth += 1;
+        }
     }
 }
 

@@ -15,6 +15,7 @@ use Rattle.gimli_core_abbrev.specs.NumberParsers.{fixed, unsigned, unsigned_16, 
 use Rattle.gimli_units_forms.specs.declared.spelling.Spelling.{Spelling}
 use Rattle.gimli_units_forms.specs.declared.spelling.Spelling.TheVariants.{Address, Fixed, Sixteen, Block, LongBlock, Unsigned, Signed, Text, Indirect, Constant, Unknown}
 use Rattle.gimli_units_forms.specs.FormSpellings.{spelling}
+use Rattle.gimli_units_forms.specs.Places.{IsAfter}
 use Rattle.gimli_units_forms.specs.AttributeReading.{form_within, final_form}
 use Rattle.gimli_units_forms.specs.AttributeSkipping.{Way, by_width, by_look, look_of, plain_way, look_at_value, way_of, run, skip_ways, skip_values, skip_text}
 use Rattle.gimli_core_abbrev.proofs.NumberReadSizes.{string_stands, judged_stands}
@@ -23,16 +24,38 @@ use Rattle.gimli_units_forms.specs.AttributeValues.{RawAttribute}
 use Rattle.gimli_units_forms.proofs.SkipAgreementLemmas.{skip_values-attributes}
 use Rattle.gimli_units_forms.proofs.RunLemmas.{at_place, Runs-from_run, leaves, run-Ok, run-run, run-zero, fixed-run, found-within}
 
--- w is what comes after some bytes of v: a run leads there
-pub record IsAfter (v w : View) : Type 0 where
-  pub count : ℕ
-  pub leads : run count v ≡ leaves w
+-- what comes after bytes that are there
+pub IsAfter-after : (n : ℕ) (v : View) → n ≤ bytes_left v → IsAfter v (after n v)
+IsAfter-after n v h = record { count = n; within = h; rest = refl }
 
-IsAfter-self : (v : View) → IsAfter v v
-IsAfter-self v = record { count = 0; leads = run-zero v }
+-- after no bytes all are left
+pub after-zero : (v : View) → after 0 v ≡ v
+after-zero v =
+    let first : v.first + 0 ≡ v.first = omega arith in ap (λ (k : ℕ). at_place v.is_big v.bytes k) first
+
+-- a run leads to what comes after some bytes
+pub IsAfter-run : (n : ℕ) (v w : View) → run n v ≡ leaves w → IsAfter v w
+IsAfter-run n v w h =
+    let r = Runs-from_run n v w h in record { count = n; within = r.there; rest = r.after_it }
+
+pub IsAfter-self : (v : View) → IsAfter v v
+IsAfter-self v = IsAfter-run 0 v v (run-zero v)
+
+-- and what comes after some bytes is where a run leads
+pub leads : (v w : View) (a : IsAfter v w) → run a.count v ≡ leaves w
+leads v w a = run-Ok a.count v a.within ∙ ap leaves a.rest
 
 pub IsAfter-IsAfter : (u v w : View) → IsAfter u v → IsAfter v w → IsAfter u w
-IsAfter-IsAfter u v w a b = record { count = a.count + b.count; leads = run-run a.count b.count u v w a.leads b.leads }
+IsAfter-IsAfter u v w a b =
+    IsAfter-run (a.count + b.count) u w (run-run a.count b.count u v w (leads u v a) (leads v w b))
+
+-- the bytes before a place are those that it lacks
+pub bytes_before-count : (v w : View) (a : IsAfter v w) → bytes_left v - bytes_left w ≡ a.count
+bytes_before-count v w a =
+    let left = ap bytes_left (sym a.rest) in omega (arith, a.within, left, length-drop a.count v.bytes)
+
+pub bytes_before-rest : (v w : View) (n : ℕ) → IsAfter v w → n ≡ bytes_left v - bytes_left w → after n v ≡ w
+bytes_before-rest v w n a e = ap (λ k. after k v) (e ∙ bytes_before-count v w a) ∙ a.rest
 
 -- a step leaves what comes after some bytes
 pub record Goes {A : Type 0} (p : Parser A) : Type 0 where
@@ -51,13 +74,13 @@ Goes-give x = record { goes = λ v y w e. subst (λ (u : View). IsAfter v u) (st
 Goes-fail : {A : Type 0} (e : Error) → Goes {A = A} (fail e)
 Goes-fail e = record { goes = λ v y w k. absurd cc }
 
-Goes-fixed : (n : ℕ) → Goes (fixed n)
-Goes-fixed n = record { goes = λ v x w e. record { count = n; leads = fixed-run n x v w e } }
+pub Goes-fixed : (n : ℕ) → Goes (fixed n)
+Goes-fixed n = record { goes = λ v x w e. IsAfter-run n v w (fixed-run n x v w e) }
 
 -- ---- strings
 
 after_string : (v w : View) (s : List ℕ) → length s ≤ bytes_left v → after (length s) v ≡ w → IsAfter v w
-after_string v w s h e = record { count = length s; leads = run-Ok (length s) v h ∙ ap leaves e }
+after_string v w s h e = record { count = length s; within = h; rest = e }
 
 goes_after : (limit bound : ℕ) (r : Result (List ℕ) Fault) (v : View) (x : ℕ) (w : View)
     → bounded_string limit v.bytes ≡ r → number_and_rest BadUnsignedLeb128 v (unsigned_of bound r) ≡ read x w
@@ -74,7 +97,7 @@ Goes-unsigned_16 : Goes unsigned_16
 unfolding unsigned_16
 Goes-unsigned_16 = record { goes = λ v x w e. goes_after 3 (2 ^ 16) (bounded_string 3 v.bytes) v x w refl e }
 
-Goes-unsigned : Goes unsigned
+pub Goes-unsigned : Goes unsigned
 unfolding unsigned
 Goes-unsigned = record { goes = λ v x w e. goes_after 10 (2 ^ 64) (bounded_string 10 v.bytes) v x w refl e }
 
@@ -91,8 +114,8 @@ goes_text : (r : Result ℕ Error) (v : View) (x w : View) → find_byte 0 v ≡
 goes_text (Ok n) v x w f e =
     record {
       count = n + 1;
-      leads = run-Ok (n + 1) v (omega (arith, found-within n v f))
-          ∙ ap leaves (state_is (prefix n v) x _ _ e);
+      within = omega (arith, found-within n v f);
+      rest = state_is (prefix n v) x _ _ e;
     }
 goes_text (Err d) v x w f e = absurd cc
 
@@ -112,7 +135,7 @@ Goes-form_within (suc n) form =
     by_test true k = k
     by_test false k = Goes-give form
 
-Goes-final_form : (form : ℕ) → Goes (final_form form)
+pub Goes-final_form : (form : ℕ) → Goes (final_form form)
 unfolding final_form
 Goes-final_form form = record { goes = λ v x w e. (Goes-form_within (suc (length v.bytes)) form).goes v x w e }
 
@@ -148,7 +171,7 @@ Goes-way_of e form = by_test (eqb form 0x16)
 -- ---- attributes
 
 Goes-run : (n : ℕ) → Goes (run n)
-Goes-run n = record { goes = λ v x w e. record { count = n; leads = e } }
+Goes-run n = record { goes = λ v x w e. IsAfter-run n v w e }
 
 goes_along : (n : ℕ) (way : Way) (ways : List Way) → Goes (look_of way) → ((m : ℕ) → Goes (skip_ways m ways))
     → Goes (skip_ways n (way ∷ ways))
@@ -174,9 +197,7 @@ skip_values-after e ss v w h = (Goes-skip_ways e ss 0).goes v tt w h
 -- no more bytes than there were
 pub IsAfter-fewer : (v w : View) → IsAfter v w → bytes_left w ≤ bytes_left v
 IsAfter-fewer v w b =
-    let r = Runs-from_run b.count v w b.leads in
-    let left = ap bytes_left (sym r.behind_it) in
-    omega (arith, left, length-drop b.count v.bytes)
+    let left = ap bytes_left (sym b.rest) in omega (arith, left, length-drop b.count v.bytes)
 
 pub skip_values-fewer : (e : Encoding) (ss : List Attribute) (v w : View) → skip_values e ss v ≡ leaves w
     → bytes_left w ≤ bytes_left v
@@ -185,12 +206,11 @@ skip_values-fewer e ss v w h = IsAfter-fewer v w (skip_values-after e ss v w h)
 -- the bytes that are no longer there were skipped
 pub skip_values-count : (e : Encoding) (ss : List Attribute) (v w : View) (n : ℕ) → skip_values e ss v ≡ leaves w
     → n ≡ bytes_left v - bytes_left w → after n v ≡ w
-skip_values-count e ss v w n h k =
-    let b = skip_values-after e ss v w h in
-    let r = Runs-from_run b.count v w b.leads in
-    let left : bytes_left w ≡ bytes_left (after b.count v) = ap bytes_left (sym r.behind_it) in
-    let same : n ≡ b.count = omega (arith, r.there, left, length-drop b.count v.bytes) in
-    ap (λ (m : ℕ). after m v) same ∙ r.behind_it
+skip_values-count e ss v w n h k = bytes_before-rest v w n (skip_values-after e ss v w h) k
+
+-- a place in a reader stays in it
+pub Goes-on : {A : Type 0} (p : Parser A) (u v w : View) (x : A) → Goes p → IsAfter u v → p v ≡ Ok (x, w) → IsAfter u w
+Goes-on p u v w x goes a h = IsAfter-IsAfter u v w a (goes.goes v x w h)
 
 -- what can be read isn't refused when skipped
 pub read_values_are_skipped : (limit : ℕ) (e : Encoding) (ss : List Attribute) (all : List RawAttribute) (v rest : View)

@@ -1,6 +1,8 @@
 -- How much of the bytes attributes take, read or skipped: what follows them is what the bytes left begin with.
-use Rattle.std.proofs.Common.{◌≡◌, ℕ, ◌≤◌, List, Ok, arith}
+use Rattle.std.proofs.Common.{◌≡◌, ℕ, ◌≤◌, List, Ok, ap, subst, ◌∙◌, arith}
 use Rattle.gimli_core_abbrev.specs.View.{View, bytes_left}
+use Rattle.gimli_core_abbrev.specs.Parsers.{map_value, give}
+use Rattle.gimli_core_abbrev.proofs.StepParts.{begins, state_is, read}
 use Rattle.gimli_core_abbrev.proofs.StepSizes.{AtMost}
 use Rattle.gimli_core_abbrev.specs.Encoding.{Encoding}
 use Rattle.gimli_core_abbrev.specs.Declarations.{Attribute}
@@ -8,14 +10,26 @@ use Rattle.gimli_units_forms.specs.AttributeValues.{RawAttribute}
 use Rattle.gimli_units_forms.specs.AttributeReading.{attribute, attributes}
 use Rattle.gimli_units_forms.specs.AttributeSkipping.{skip_values, way_of}
 use Rattle.gimli_units_forms.proofs.SkipAgreementLemmas.{attribute-leads, look-leads, skip_values-attributes}
-use Rattle.gimli_units_forms.proofs.AfterLemmas.{IsAfter, IsAfter-IsAfter, IsAfter-fewer, Goes-way_of, skip_values-after}
+use Rattle.gimli_units_forms.specs.Places.{IsAfter}
+use Rattle.gimli_units_forms.proofs.AfterLemmas.{IsAfter-run, IsAfter-IsAfter, IsAfter-fewer, Goes-way_of, skip_values-after}
+
+-- equal views have the same places
+pub IsAfter-same : (u v w : View) → v ≡ u → IsAfter v w → IsAfter u w
+IsAfter-same u v w e a = subst (λ (x : View). IsAfter x w) e a
 
 -- what is left after an attribute comes after some of the bytes
 pub attribute-after : (limit : ℕ) (e : Encoding) (s : Attribute) (v w : View) (a : RawAttribute)
     → attribute limit e s v ≡ Ok (a, w) → IsAfter v w
 attribute-after limit e s v w a h =
     let l = look-leads (way_of e s.form) v w (attribute-leads limit e s v a w h) in
-    IsAfter-IsAfter v l.1 w ((Goes-way_of e s.form).goes v l.0 l.1 l.2) (record { count = l.0; leads = l.3 })
+    IsAfter-IsAfter v l.1 w ((Goes-way_of e s.form).goes v l.0 l.1 l.2) (IsAfter-run l.0 l.1 w l.3)
+
+-- and after one that something is made of
+pub made-after : {A : Type 0} (limit : ℕ) (e : Encoding) (s : Attribute) (f : RawAttribute → A) (v w : View) (x : A)
+    → map_value f (attribute limit e s) v ≡ Ok (x, w) → IsAfter v w
+made-after limit e s f v w x h =
+    let b = begins (attribute limit e s v) (λ a. give (f a)) x w h in
+    attribute-after limit e s v w b.0 (b.2 ∙ ap (λ (t : View). read b.0 t) (state_is (f b.0) x b.1 w b.3))
 
 -- and after several
 pub attributes-after : (limit : ℕ) (e : Encoding) (ss : List Attribute) (v w : View) (all : List RawAttribute)

@@ -4,3 +4,5 @@ pub mod RunLemmas
 pub mod SkipAgreementLemmas
 pub mod AfterLemmas
 pub mod FormSizes
+pub mod SpellingWidths
+mod SkippingRuns

@@ -25,7 +25,7 @@ run-Ok n v h = rw (le-leb n (length v.bytes) h) refl
 -- what a run skips was there
 pub record Runs (n : ℕ) (v w : View) : Type 0 where
   pub there : n ≤ bytes_left v
-  pub behind_it : after n v ≡ w
+  pub after_it : after n v ≡ w
 
 pub Runs-from_run : (n : ℕ) (v w : View) → run n v ≡ leaves w → Runs n v w
 unfolding run
@@ -33,7 +33,7 @@ Runs-from_run n v w h = by_test (leb n (length v.bytes)) refl h
   where
     by_test : (t : Bool) → leb n (length v.bytes) ≡ t → cond t (leaves (after n v)) (Err (run_fault n v)) ≡ leaves w
         → Runs n v w
-    by_test true e k = record { there = leb-true _ _ e; behind_it = state_is tt tt _ _ k }
+    by_test true e k = record { there = leb-true _ _ e; after_it = state_is tt tt _ _ k }
     by_test false e k = absurd cc
 
 -- a view by its parts
@@ -45,8 +45,8 @@ pub run-run : (n m : ℕ) (u v w : View) → run n u ≡ leaves v → run m v �
 run-run n m u v w h k =
     let a = Runs-from_run n u v h in
     let b = Runs-from_run m v w k in
-    let left : bytes_left v ≡ bytes_left (after n u) = ap bytes_left (sym a.behind_it) in
-    let rest : after (n + m) u ≡ w = sym (after-after m n u) ∙ ap (after m) a.behind_it ∙ b.behind_it in
+    let left : bytes_left v ≡ bytes_left (after n u) = ap bytes_left (sym a.after_it) in
+    let rest : after (n + m) u ≡ w = sym (after-after m n u) ∙ ap (after m) a.after_it ∙ b.after_it in
     run-Ok (n + m) u (omega (arith, a.there, b.there, left, length-drop n u.bytes)) ∙ ap leaves rest
 
 pub run-zero : (v : View) → run 0 v ≡ leaves v

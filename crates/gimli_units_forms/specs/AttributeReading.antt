@@ -166,16 +166,23 @@ spelled_value limit e name form constant Unknown = fail (UnknownForm (record { 0
 unfoldable pub value : ℕ → Encoding → ℕ → Option ℤ → ℕ → Parser RawValue
 value limit e name constant form = spelled_value limit e name form constant (spelling e form)
 
+-- the value that a declaration describes, in a form that isn't indirect
+abbrev pub value_in_form : ℕ → Encoding → Attribute → ℕ → Parser RawValue
+value_in_form limit e s form = value limit e s.name s.implicit_const form
+
 -- an attribute by its parts
 abbrev pub raw_attribute : ℕ → ℕ → RawValue → RawAttribute
 raw_attribute name form x = record { name = name; form = form; value = x }
+
+-- the attribute that a declaration describes, in such a form
+abbrev pub attribute_in_form : ℕ → Encoding → Attribute → ℕ → Parser RawAttribute
+attribute_in_form limit e s form = map_value (raw_attribute s.name form) (value_in_form limit e s form)
 
 -- the attribute that a declaration describes
 unfoldable pub attribute : ℕ → Encoding → Attribute → Parser RawAttribute
 attribute limit e s = do
   form ← final_form s.form
-  x ← value limit e s.name s.implicit_const form
-  give (raw_attribute s.name form x)
+  attribute_in_form limit e s form
 
 -- the attributes of several declarations, one after the other
 unfoldable pub attributes : ℕ → Encoding → List Attribute → Parser (List RawAttribute)

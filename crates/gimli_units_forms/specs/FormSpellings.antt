@@ -72,5 +72,5 @@ spellings e =
     ∷ []
 
 -- the spelling of a form
-abbrev pub spelling : Encoding → ℕ → Spelling
+unfoldable pub spelling : Encoding → ℕ → Spelling
 spelling e form = spelling_in (spellings e) form

@@ -4,8 +4,10 @@ pub use Rattle.gimli_core_abbrev.specs.TableCache
 pub use Rattle.gimli_core_abbrev.specs.TableParsing
 pub use Rattle.gimli_core_abbrev.specs.declared.abbreviation.AttributeSpecification
 pub use Rattle.gimli_core_abbrev.specs.declared.cache.AbbreviationsCache
+pub mod Places
 pub mod FormSpellings
 pub mod AttributeValues
 pub mod AttributeMeanings
 pub mod AttributeReading
 pub mod AttributeSkipping
+pub mod SkippingLaws

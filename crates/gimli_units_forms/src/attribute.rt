@@ -89,7 +89,7 @@ impl<R: Reader> AttributeValue<R> {
         ensures value { ReturnsAsOrNoMemory (option_map R.view) result
             (Ok (text_of debug_str.now (raw_value_of R.view R.Offset.count self.now))) }
         ensures free { IsTrue R.copies_freely → IsOk result }
-        ensures refused { IfErr result (λ e. e ≡ Memory) }
+        ensures refusal { IfErr result (λ e. e ≡ Memory) }
     {
         match self {
             AttributeValue::String(text) => Ok(Some(text.copy()?)),
@@ -208,6 +208,14 @@ impl<R: Reader> Attribute<R> {
         self.value.copy()
     }
 
+    /// The value as the form gives it, lent: copies nothing.
+    pub fn raw_value_ref(&self) -> &AttributeValue<R>
+        ensures { raw_value_of R.view R.Offset.count result.now
+            ≡ (raw_attribute_of R.view R.Offset.count self.now).value }
+    {
+        &self.value
+    }
+
     /// The value that the attribute's name makes of it, and where it doesn't fit a copy of the
     /// value as the form gives it.
     pub fn value(&self) -> Result<AttributeValue<R>, Error>
@@ -263,7 +271,7 @@ impl<R: Reader> Attribute<R> {
         ensures value { ReturnsAsOrNoMemory (option_map R.view) result
             (Ok (text_of debug_str.now (raw_attribute_of R.view R.Offset.count self.now).value)) }
         ensures free { IsTrue R.copies_freely → IsOk result }
-        ensures refused { IfErr result (λ e. e ≡ Memory) }
+        ensures refusal { IfErr result (λ e. e ≡ Memory) }
     {
         self.value.string_value(debug_str)
     }

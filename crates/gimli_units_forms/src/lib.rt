@@ -2,6 +2,7 @@
 #![tactic(auto)]
 
 pub mod attribute;
+pub mod place;
 pub mod reading;
 pub mod skipping;
 pub mod spelling;
@@ -9,9 +10,10 @@ pub mod value;
 
 pub use gimli_core_abbrev::{
     Abbreviation, Abbreviations, AbbreviationsCache, AbbreviationsCacheStrategy,
-    AttributeSpecification, DebugAbbrev,
+    AttributeSpecification, DebugAbbrev, EndianSlice,
 };
-pub use reading::{parse_attribute, push_attribute, read_attribute};
+pub use place::{borrowed, bytes_before};
+pub use reading::{parse_attribute, push_attribute};
 pub use skipping::skip_attributes;
 pub use spelling::{Spelling, spelling_of};
 pub use value::{Attribute, AttributeValue};

@@ -1,13 +1,14 @@
-ghost use Rattle.std.specs.Prelude.{◌≡◌, ◌≤◌, ◌++◌, ◌∷◌, [], map, IfOk, IsTrue, ◌<◌, ◌^◌, ℕ};
-ghost use Rattle.gimli_core_abbrev.specs.Parsers.{map_value};
+ghost use Rattle.std.specs.Prelude.{◌≡◌, ◌≤◌, ◌++◌, ◌∷◌, [], map, IfOk, IsTrue, OnErr};
+ghost use Rattle.gimli_core_abbrev.specs.Parsers.{map_value, null_terminated};
 ghost use Rattle.gimli_core_abbrev.specs.Calls.{ReturnsAs, ReturnsAsOrNoMemory, ReadsAs, ReadsAsOrNoMemory};
-ghost use Rattle.gimli_core_abbrev.specs.View.{View};
 ghost use Rattle.gimli_core_abbrev.specs.NumberParsers.{fixed, unsigned};
 ghost use Rattle.gimli_core_abbrev.specs.AbbreviationViews.{attribute_view};
-ghost use Rattle.gimli_units_forms.specs.AttributeReading.{number_value, is_offset_data, meaning_in, offset_meanings, FitsSpelling, FitsWidth, final_form, bytes_value, bytes_by_length, value, raw_attribute, attribute};
+ghost use Rattle.gimli_units_forms.specs.AttributeReading.{number_value, is_offset_data, meaning_in, offset_meanings, FitsSpelling, FitsWidth, final_form, bytes_value, bytes_by_length, value_in_form, attribute_in_form, attribute};
 ghost use Rattle.gimli_units_forms.specs.FormSpellings.{spelling};
+ghost use Rattle.gimli_units_forms.specs.Places.{IsAfter};
 ghost use Rattle.gimli_units_forms.specs.AttributeValues.{raw_value_of, raw_attribute_of};
 
+use crate::place::{borrowed, bytes_before, cut};
 use crate::spelling::{Spelling, spelling_of};
 use crate::value::{Attribute, AttributeValue};
 use gimli_core_abbrev::{
@@ -21,8 +22,8 @@ use gimli_core_abbrev::{
     DW_FORM_strp, DW_FORM_strp_sup, DW_FORM_strx, DW_FORM_strx1, DW_FORM_strx2, DW_FORM_strx3,
     DW_FORM_strx4, DW_FORM_udata, DebugAddrIndex, DebugInfoOffset, DebugLineStrOffset,
     DebugLocListsIndex, DebugRngListsIndex, DebugStrOffset, DebugStrOffsetsIndex,
-    DebugTypeSignature, DwAt, DwForm, Encoding, Error, Expression, Format, Reader, ReaderOffset,
-    UnitOffset,
+    DebugTypeSignature, DwAt, DwForm, Encoding, EndianSlice, Error, Expression, Format, Reader,
+    ReaderOffset, UnitOffset,
 };
 
 // Whether data of a form stands for an offset: data of an offset's width, under `DW_AT_stmt_list`
@@ -80,7 +81,7 @@ fn offset_value_of<R: Reader>(form: DwForm, number: u64) -> Result<AttributeValu
 }
 
 // The value of a form that spells a number.
-#[tactic(auto, unfolding(crate::specs::AttributeReading::number_value))]
+#[tactic(auto, unfolding(crate::specs::AttributeReading::number_value, crate::specs::FormSpellings::spelling))]
 #[inline(always)]
 fn number_value_of<R: Reader>(
     encoding: Encoding,
@@ -151,66 +152,90 @@ fn bytes_value_of<R: Reader>(form: DwForm, bytes: R) -> AttributeValue<R>
 
 // As many bytes as a length of that width says.
 #[tactic(auto, unfolding(crate::specs::AttributeReading::bytes_by_length))]
-fn read_block<R: Reader>(reader: &mut R, width: u8) -> Result<R, Error>
-    requires { width ≤ 8 }
-    ensures value { ReturnsAsOrNoMemory (λ bytes. (R.view bytes, R.view reader.new)) result
-        (bytes_by_length R.Offset.limit (fixed width) (R.view reader.old)) }
+fn read_block<R: Reader>(
+    place: &mut EndianSlice<'_, R::Endian>,
+    reader: &R,
+    width: u8,
+) -> Result<R, Error>
+    requires narrow { width ≤ 8 }
+    requires in_reader { IsAfter (R.view reader.now) place.old }
+    ensures value { ReturnsAsOrNoMemory (λ bytes. (R.view bytes, place.new)) result
+        (bytes_by_length R.Offset.limit (fixed width) place.old) }
     ensures free { IsTrue R.copies_freely
-        → ReturnsAs (λ bytes. (R.view bytes, R.view reader.new)) result
-        (bytes_by_length R.Offset.limit (fixed width) (R.view reader.old)) }
+        → ReturnsAs (λ bytes. (R.view bytes, place.new)) result
+        (bytes_by_length R.Offset.limit (fixed width) place.old) }
 {
-    let length = read_fixed(reader, width)?;
-    reader.split(R::Offset::from_u64(length)?)
+    let length = read_fixed(place, width)?;
+    cut(place, reader, R::Offset::from_u64(length)?.into_u64())
 }
 
 // As many bytes as an unsigned LEB128 length says.
 #[tactic(auto, unfolding(crate::specs::AttributeReading::bytes_by_length))]
-fn read_long_block<R: Reader>(reader: &mut R) -> Result<R, Error>
-    ensures value { ReturnsAsOrNoMemory (λ bytes. (R.view bytes, R.view reader.new)) result
-        (bytes_by_length R.Offset.limit unsigned (R.view reader.old)) }
+fn read_long_block<R: Reader>(
+    place: &mut EndianSlice<'_, R::Endian>,
+    reader: &R,
+) -> Result<R, Error>
+    requires { IsAfter (R.view reader.now) place.old }
+    ensures value { ReturnsAsOrNoMemory (λ bytes. (R.view bytes, place.new)) result
+        (bytes_by_length R.Offset.limit unsigned place.old) }
     ensures free { IsTrue R.copies_freely
-        → ReturnsAs (λ bytes. (R.view bytes, R.view reader.new)) result
-        (bytes_by_length R.Offset.limit unsigned (R.view reader.old)) }
+        → ReturnsAs (λ bytes. (R.view bytes, place.new)) result
+        (bytes_by_length R.Offset.limit unsigned place.old) }
 {
-    let length = reader.read_uleb128()?;
-    reader.split(R::Offset::from_u64(length)?)
+    let length = place.read_uleb128()?;
+    cut(place, reader, R::Offset::from_u64(length)?.into_u64())
 }
 
-// The value of a form that isn't `DW_FORM_indirect`.
-#[tactic(auto, unfolding(crate::specs::AttributeReading::value))]
+// The text before a zero byte, which is skipped too.
+fn read_text<R: Reader>(place: &mut EndianSlice<'_, R::Endian>, reader: &R) -> Result<R, Error>
+    requires { IsAfter (R.view reader.now) place.old }
+    ensures value { ReturnsAsOrNoMemory (λ text. (R.view text, place.new)) result
+        (null_terminated place.old) }
+    ensures free { IsTrue R.copies_freely
+        → ReturnsAs (λ text. (R.view text, place.new)) result (null_terminated place.old) }
+{
+    let length = Reader::find(place, 0)?;
+    let text = cut(place, reader, length as u64)?;
+    place.advance(1);
+    Ok(text)
+}
+
+// The value of a form that isn't `DW_FORM_indirect`, at a place in a reader.
+#[tactic(auto, using(crate::proofs::SpellingWidths::fixed_is_narrow, crate::proofs::SpellingWidths::block_is_narrow), unfolding(crate::specs::AttributeReading::value))]
 fn read_value<R: Reader>(
-    reader: &mut R,
+    place: &mut EndianSlice<'_, R::Endian>,
+    reader: &R,
     encoding: Encoding,
-    name: DwAt,
-    constant: Option<i64>,
+    specification: AttributeSpecification,
     form: DwForm,
 ) -> Result<AttributeValue<R>, Error>
+    requires { IsAfter (R.view reader.now) place.old }
     ensures value { ReturnsAsOrNoMemory
-        (λ value. (raw_value_of R.view R.Offset.count value, R.view reader.new)) result
-        (value R.Offset.limit encoding name.0 constant form.0 (R.view reader.old)) }
+        (λ value. (raw_value_of R.view R.Offset.count value, place.new)) result
+        (value_in_form R.Offset.limit encoding (attribute_view specification) form.0 place.old) }
     ensures free { IsTrue R.copies_freely
-        → ReturnsAs (λ value. (raw_value_of R.view R.Offset.count value, R.view reader.new)) result
-        (value R.Offset.limit encoding name.0 constant form.0 (R.view reader.old)) }
+        → ReturnsAs (λ value. (raw_value_of R.view R.Offset.count value, place.new)) result
+        (value_in_form R.Offset.limit encoding (attribute_view specification) form.0 place.old) }
 {
     match spelling_of(encoding, form) {
         Spelling::Address => {
-            let number = reader.read_address(encoding.address_size)?;
-            number_value_of(encoding, name, form, number)
+            let number = place.read_address(encoding.address_size)?;
+            number_value_of(encoding, specification.name(), form, number)
         }
         Spelling::Fixed(width) => {
-            let number = read_fixed(reader, width)?;
-            number_value_of(encoding, name, form, number)
+            let number = read_fixed(place, width)?;
+            number_value_of(encoding, specification.name(), form, number)
         }
-        Spelling::Sixteen => Ok(AttributeValue::Data16(reader.read_u128()?)),
-        Spelling::Block(width) => Ok(bytes_value_of(form, read_block(reader, width)?)),
-        Spelling::LongBlock => Ok(bytes_value_of(form, read_long_block(reader)?)),
         Spelling::Unsigned => {
-            let number = reader.read_uleb128()?;
-            number_value_of(encoding, name, form, number)
+            let number = place.read_uleb128()?;
+            number_value_of(encoding, specification.name(), form, number)
         }
-        Spelling::Signed => Ok(AttributeValue::Sdata(reader.read_sleb128()?)),
-        Spelling::Text => Ok(AttributeValue::String(reader.read_null_terminated_slice()?)),
-        Spelling::Constant => match constant {
+        Spelling::Sixteen => Ok(AttributeValue::Data16(place.read_u128()?)),
+        Spelling::Signed => Ok(AttributeValue::Sdata(place.read_sleb128()?)),
+        Spelling::Block(width) => Ok(bytes_value_of(form, read_block(place, reader, width)?)),
+        Spelling::LongBlock => Ok(bytes_value_of(form, read_long_block(place, reader)?)),
+        Spelling::Text => Ok(AttributeValue::String(read_text(place, reader)?)),
+        Spelling::Constant => match specification.implicit_const_value() {
             Some(constant) => Ok(AttributeValue::Sdata(constant)),
             None => Err(Error::InvalidImplicitConst),
         },
@@ -218,162 +243,125 @@ fn read_value<R: Reader>(
     }
 }
 
-// The attribute of a name and of a form that isn't `DW_FORM_indirect`.
-#[inline(always)]
-fn attribute_of_form<R: Reader>(
-    reader: &mut R,
-    encoding: Encoding,
-    name: DwAt,
-    constant: Option<i64>,
-    form: DwForm,
-) -> Result<Attribute<R>, Error>
-    ensures value { ReturnsAsOrNoMemory
-        (λ a. (raw_attribute_of R.view R.Offset.count a, R.view reader.new)) result
-        (map_value (raw_attribute name.0 form.0)
-        (value R.Offset.limit encoding name.0 constant form.0) (R.view reader.old)) }
-    ensures free { IsTrue R.copies_freely
-        → ReturnsAs (λ a. (raw_attribute_of R.view R.Offset.count a, R.view reader.new)) result
-        (map_value (raw_attribute name.0 form.0)
-        (value R.Offset.limit encoding name.0 constant form.0) (R.view reader.old)) }
-{
-    let value = read_value(reader, encoding, name, constant, form)?;
-    Ok(Attribute { name, form, value })
-}
-
-// The same, at the end of a list.
-#[inline(always)]
-fn push_attribute_of_form<R: Reader>(
-    attributes: &mut Vec<Attribute<R>>,
-    reader: &mut R,
-    encoding: Encoding,
-    name: DwAt,
-    constant: Option<i64>,
-    form: DwForm,
-) -> Result<(), Error>
-    ensures { ReturnsAsOrNoMemory
-        (λ _.
-        (map (raw_attribute_of R.view R.Offset.count) attributes.new.items, R.view reader.new))
-        result
-        (map_value
-        (λ x. map (raw_attribute_of R.view R.Offset.count) attributes.old.items
-        ++ raw_attribute name.0 form.0 x ∷ [])
-        (value R.Offset.limit encoding name.0 constant form.0) (R.view reader.old)) }
-{
-    let value = read_value(reader, encoding, name, constant, form)?;
-    attributes.push(Attribute { name, form, value })?;
-    Ok(())
-}
-
-// A call at a form, its last argument. The commonest forms are constants there, so that each has
-// code of its own, and what is made of its value is made at once.
+// An expression of a form. The commonest forms are constants in it, so that each has code of its
+// own, and what is made of its value is made at once.
 macro_rules! at_form {
-    ($form:ident, $call:ident($($argument:ident),*)) => {
+    ($form:ident => $made:expr) => {
         match $form {
-            DW_FORM_addr => $call($($argument,)* DW_FORM_addr),
-            DW_FORM_data1 => $call($($argument,)* DW_FORM_data1),
-            DW_FORM_data2 => $call($($argument,)* DW_FORM_data2),
-            DW_FORM_data4 => $call($($argument,)* DW_FORM_data4),
-            DW_FORM_ref4 => $call($($argument,)* DW_FORM_ref4),
-            DW_FORM_udata => $call($($argument,)* DW_FORM_udata),
-            DW_FORM_strp => $call($($argument,)* DW_FORM_strp),
-            DW_FORM_sec_offset => $call($($argument,)* DW_FORM_sec_offset),
-            _ => $call($($argument,)* $form),
+            DW_FORM_addr => at_form!($form = DW_FORM_addr, $made),
+            DW_FORM_data1 => at_form!($form = DW_FORM_data1, $made),
+            DW_FORM_data2 => at_form!($form = DW_FORM_data2, $made),
+            DW_FORM_data4 => at_form!($form = DW_FORM_data4, $made),
+            DW_FORM_ref4 => at_form!($form = DW_FORM_ref4, $made),
+            DW_FORM_udata => at_form!($form = DW_FORM_udata, $made),
+            DW_FORM_strp => at_form!($form = DW_FORM_strp, $made),
+            DW_FORM_sec_offset => at_form!($form = DW_FORM_sec_offset, $made),
+            _ => $made,
         }
     };
+    ($form:ident = $constant:ident, $made:expr) => {{
+        let $form = $constant;
+        $made
+    }};
 }
 
-// The same as `attribute_of_form`, and faster.
+// The attribute that a declaration describes, in a form that isn't `DW_FORM_indirect`.
 #[inline(always)]
-fn attribute_of_any_form<R: Reader>(
-    reader: &mut R,
+fn attribute_in_form<R: Reader>(
+    place: &mut EndianSlice<'_, R::Endian>,
+    reader: &R,
     encoding: Encoding,
-    name: DwAt,
-    constant: Option<i64>,
+    specification: AttributeSpecification,
     form: DwForm,
 ) -> Result<Attribute<R>, Error>
+    requires { IsAfter (R.view reader.now) place.old }
     ensures value { ReturnsAsOrNoMemory
-        (λ a. (raw_attribute_of R.view R.Offset.count a, R.view reader.new)) result
-        (map_value (raw_attribute name.0 form.0)
-        (value R.Offset.limit encoding name.0 constant form.0) (R.view reader.old)) }
+        (λ a. (raw_attribute_of R.view R.Offset.count a, place.new)) result
+        (attribute_in_form R.Offset.limit encoding (attribute_view specification) form.0 place.old) }
     ensures free { IsTrue R.copies_freely
-        → ReturnsAs (λ a. (raw_attribute_of R.view R.Offset.count a, R.view reader.new)) result
-        (map_value (raw_attribute name.0 form.0)
-        (value R.Offset.limit encoding name.0 constant form.0) (R.view reader.old)) }
+        → ReturnsAs (λ a. (raw_attribute_of R.view R.Offset.count a, place.new)) result
+        (attribute_in_form R.Offset.limit encoding (attribute_view specification) form.0 place.old) }
 {
-    at_form!(form, attribute_of_form(reader, encoding, name, constant))
+    let name = specification.name();
+    at_form!(form => {
+        let value = read_value(place, reader, encoding, specification, form)?;
+        Ok(Attribute { name, form, value })
+    })
 }
 
-// The same as `push_attribute_of_form`, and faster.
+// The same at the end of a list, where it is made.
 #[inline(always)]
-fn push_attribute_of_any_form<R: Reader>(
+fn push_in_form<R: Reader>(
     attributes: &mut Vec<Attribute<R>>,
-    reader: &mut R,
+    place: &mut EndianSlice<'_, R::Endian>,
+    reader: &R,
     encoding: Encoding,
-    name: DwAt,
-    constant: Option<i64>,
+    specification: AttributeSpecification,
     form: DwForm,
 ) -> Result<(), Error>
-    ensures { ReturnsAsOrNoMemory
-        (λ _.
-        (map (raw_attribute_of R.view R.Offset.count) attributes.new.items, R.view reader.new))
-        result
+    requires { IsAfter (R.view reader.now) place.old }
+    ensures value { ReturnsAsOrNoMemory
+        (λ _. (map (raw_attribute_of R.view R.Offset.count) attributes.new.items, place.new)) result
         (map_value
-        (λ x. map (raw_attribute_of R.view R.Offset.count) attributes.old.items
-        ++ raw_attribute name.0 form.0 x ∷ [])
-        (value R.Offset.limit encoding name.0 constant form.0) (R.view reader.old)) }
+        (λ a. map (raw_attribute_of R.view R.Offset.count) attributes.old.items ++ a ∷ [])
+        (attribute_in_form R.Offset.limit encoding (attribute_view specification) form.0)
+        place.old) }
+    ensures refused { OnErr result (attributes.new.items ≡ attributes.old.items) }
 {
-    at_form!(
-        form,
-        push_attribute_of_form(attributes, reader, encoding, name, constant)
-    )
+    let name = specification.name();
+    at_form!(form => {
+        let value = read_value(place, reader, encoding, specification, form)?;
+        attributes.push(Attribute { name, form, value })?;
+        Ok(())
+    })
 }
 
-/// Reads the attribute that a declaration describes, and may move the reader also where it is
-/// refused: for who reads several on a copy.
+// The attribute that a declaration describes, at a place in a reader.
+#[inline(always)]
 #[tactic(auto, unfolding(crate::specs::AttributeReading::attribute))]
-pub fn read_attribute<R: Reader>(
-    reader: &mut R,
+fn read_attribute<R: Reader>(
+    place: &mut EndianSlice<'_, R::Endian>,
+    reader: &R,
     encoding: Encoding,
     specification: AttributeSpecification,
 ) -> Result<Attribute<R>, Error>
+    requires { IsAfter (R.view reader.now) place.old }
     ensures value { ReturnsAsOrNoMemory
-        (λ a. (raw_attribute_of R.view R.Offset.count a, R.view reader.new)) result
-        (attribute R.Offset.limit encoding (attribute_view specification) (R.view reader.old)) }
-    // Where copies take no memory, this takes none.
+        (λ a. (raw_attribute_of R.view R.Offset.count a, place.new)) result
+        (attribute R.Offset.limit encoding (attribute_view specification) place.old) }
     ensures free { IsTrue R.copies_freely
-        → ReturnsAs (λ a. (raw_attribute_of R.view R.Offset.count a, R.view reader.new)) result
-        (attribute R.Offset.limit encoding (attribute_view specification) (R.view reader.old)) }
+        → ReturnsAs (λ a. (raw_attribute_of R.view R.Offset.count a, place.new)) result
+        (attribute R.Offset.limit encoding (attribute_view specification) place.old) }
 {
-    let name = specification.name();
-    let constant = specification.implicit_const_value();
-    let form = read_form(reader, specification.form())?;
-    attribute_of_any_form(reader, encoding, name, constant, form)
+    let form = read_form(place, specification.form())?;
+    attribute_in_form(place, reader, encoding, specification, form)
 }
 
-/// Reads the attribute that a declaration describes, adds it to a list, and may move the reader
-/// also where it is refused.
+/// Reads the attribute that a declaration describes, at a place in a reader, and adds it to a list.
+/// Copies the reader only for a value that holds bytes. A refusal leaves the list, and a place that
+/// may have moved.
 #[tactic(auto, unfolding(crate::specs::AttributeReading::attribute))]
 pub fn push_attribute<R: Reader>(
     attributes: &mut Vec<Attribute<R>>,
-    reader: &mut R,
+    place: &mut EndianSlice<'_, R::Endian>,
+    reader: &R,
     encoding: Encoding,
     specification: AttributeSpecification,
 ) -> Result<(), Error>
-    ensures { ReturnsAsOrNoMemory
-        (λ _.
-        (map (raw_attribute_of R.view R.Offset.count) attributes.new.items, R.view reader.new))
-        result
+    requires { IsAfter (R.view reader.now) place.old }
+    ensures value { ReturnsAsOrNoMemory
+        (λ _. (map (raw_attribute_of R.view R.Offset.count) attributes.new.items, place.new)) result
         (map_value
         (λ a. map (raw_attribute_of R.view R.Offset.count) attributes.old.items ++ a ∷ [])
-        (attribute R.Offset.limit encoding (attribute_view specification)) (R.view reader.old)) }
+        (attribute R.Offset.limit encoding (attribute_view specification)) place.old) }
+    ensures refused { OnErr result (attributes.new.items ≡ attributes.old.items) }
 {
-    let name = specification.name();
-    let constant = specification.implicit_const_value();
-    let form = read_form(reader, specification.form())?;
-    push_attribute_of_any_form(attributes, reader, encoding, name, constant, form)
+    let form = read_form(place, specification.form())?;
+    push_in_form(attributes, place, reader, encoding, specification, form)
 }
 
-/// Reads the attribute that a declaration describes. A refusal leaves the reader as it was.
+/// Reads the attribute that a declaration describes. Copies the reader only for a value that holds
+/// bytes. A refusal leaves the reader as it was.
 #[inline(always)]
 pub fn parse_attribute<R: Reader>(
     reader: &mut R,
@@ -389,8 +377,9 @@ pub fn parse_attribute<R: Reader>(
         (R.view reader.new)
         (attribute R.Offset.limit encoding (attribute_view specification) (R.view reader.old)) }
 {
-    let mut rest = reader.copy()?;
-    let attribute = read_attribute(&mut rest, encoding, specification)?;
-    *reader = rest;
+    let mut place = borrowed(reader);
+    let attribute = read_attribute(&mut place, reader, encoding, specification)?;
+    let count = bytes_before(&place, reader);
+    reader.advance(count);
     Ok(attribute)
 }

@@ -6,15 +6,17 @@ ghost use Rattle.gimli_units_forms.specs.AttributeReading.{attributes};
 ghost use Rattle.gimli_units_forms.specs.AttributeValues.{RawAttribute};
 ghost use Rattle.gimli_core_abbrev.specs.View.{View, after};
 ghost use Rattle.gimli_core_abbrev.specs.Results.{and_then};
+ghost use Rattle.gimli_units_forms.specs.SkippingLaws.{SkipsByRuns};
 ghost use Rattle.gimli_units_forms.specs.AttributeSkipping.{skip_text, way_of, width_of, look_at_value, run as run_of, Way, skip_ways, skip_values};
 
+use crate::place::{borrowed, bytes_before};
 use crate::reading::{read_fixed, read_form};
 use crate::spelling::{Spelling, spelling_of};
-use gimli_core_abbrev::{AttributeSpecification, DwForm, Encoding, EndianSlice, Error, Reader};
+use gimli_core_abbrev::{AttributeSpecification, DwForm, Encoding, Error, Reader};
 
 // The width of a form's value, where it doesn't depend on the bytes.
 #[inline(always)]
-#[tactic(auto, unfolding(crate::specs::AttributeSkipping::way_of))]
+#[tactic(auto, unfolding(crate::specs::AttributeSkipping::way_of, crate::specs::FormSpellings::spelling))]
 fn fixed_width(encoding: Encoding, form: DwForm) -> Option<u8>
     ensures { result ≡ width_of (way_of encoding form.0) }
 {
@@ -50,7 +52,7 @@ fn skip_string<R: Reader>(place: &mut R) -> Result<(), Error>
 }
 
 // Looks at the bytes of a form's value, and returns how many more follow.
-#[tactic(auto, unfolding(crate::specs::AttributeSkipping::look_at_value))]
+#[tactic(auto, using(crate::proofs::SpellingWidths::block_is_narrow), unfolding(crate::specs::AttributeSkipping::look_at_value))]
 fn look<R: Reader>(place: &mut R, encoding: Encoding, form: DwForm) -> Result<u64, Error>
     ensures { ReturnsAs (λ more. (more, R.view place.new)) result
         (look_at_value encoding form.0 (R.view place.old)) }
@@ -128,10 +130,9 @@ fn bytes_to_skip<R: Reader>(
     ensures value { ReturnsAs (λ n. (tt, after n (R.view reader.now))) result
         (skip_values encoding (map attribute_view specifications.now) (R.view reader.now)) }
 {
-    let bytes = reader.as_bytes();
-    let mut place = EndianSlice::with_first_id(bytes, reader.endian(), reader.offset_id());
+    let mut place = borrowed(reader);
     skip_all(&mut place, encoding, specifications)?;
-    Ok(bytes.len() - place.slice().len())
+    Ok(bytes_before(&place, reader))
 }
 
 /// Skips the values that declarations describe, by their widths alone: a number isn't judged,
@@ -160,4 +161,9 @@ pub fn skipping_follows_reading()
     ensures { (limit : ℕ) (encoding : Encoding) (specifications : List Attribute) (view rest : View)
         (all : List RawAttribute) → attributes limit encoding specifications view ≡ Ok (all, rest)
         → skip_values encoding specifications view ≡ Ok (tt, rest) }
+{}
+
+/// The bytes between two places where bytes must be looked at are one run.
+pub fn skips_by_runs()
+    ensures { SkipsByRuns }
 {}

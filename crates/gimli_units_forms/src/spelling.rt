@@ -43,6 +43,7 @@ pub enum Spelling {
 
 /// How a form spells its value.
 #[inline(always)]
+#[tactic(auto, unfolding(crate::specs::FormSpellings::spelling))]
 pub fn spelling_of(encoding: Encoding, form: DwForm) -> Spelling
     ensures { result ≡ spelling encoding form.0 }
 {

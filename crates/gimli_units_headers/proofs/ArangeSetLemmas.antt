@@ -6,7 +6,7 @@ use Rattle.std.specs.List.{filter_map, cons_option}
 use Rattle.gimli_core_base.specs.declared.error.Error.{Error}
 use Rattle.gimli_core_base.specs.declared.error.Error.TheVariants.{UnknownVersion, UnsupportedSegmentSize}
 use Rattle.gimli_core_base.specs.View.{View, bytes_left}
-use Rattle.gimli_core_base.specs.Parsers.{proceed, give}
+use Rattle.gimli_core_base.specs.Parsers.{proceed, give, value_of}
 use Rattle.gimli_core_base.specs.Calls.{ReturnsOrNoMemory}
 use Rattle.gimli_core_base.specs.Repetition.{Listing, listing_in}
 use Rattle.gimli_core_base.proofs.StepParts.{begins, value_is, state_is}
@@ -16,7 +16,7 @@ use Rattle.gimli_core_base.specs.declared.common.Format.{Format}
 use Rattle.gimli_core_base.specs.FormatSizes.{initial_length_size}
 use Rattle.gimli_core_base.specs.NumberParsers.{is_address_size}
 use Rattle.gimli_core_readers.specs.Iterators.{ReturnsNext}
-use Rattle.gimli_units_headers.specs.ArangeSets.{ArangeSet, ArangePair, RemainingPairs, arange_fields, arange_padding, arange_set_in, arange_set, set_size, pair, next_pair, arange_of, transpose, pairs_of, pairs_to_come, aranges_to_come}
+use Rattle.gimli_units_headers.specs.ArangeSets.{ArangeSet, ArangeFields, ArangePair, RemainingPairs, arange_fields, arange_padding, arange_set_in, arange_set, set_size, pair, next_pair, arange_of, transpose, pairs_of, pairs_to_come, aranges_to_come}
 use Rattle.gimli_core_readers.proofs.ByteCountLemmas.{Took, took_left, took_both, took_same, Yields, yields-Ok, yields-Err, yields-proceed, yields-cond, yields-weaker, yields-within, four_at_least, some_size, fixed_took, part_took, skip_took, word_took, address_size_took, initial_length_took}
 use Rattle.gimli_core_readers.proofs.TilingLemmas.{Parts, listing_few}
 
@@ -76,6 +76,24 @@ sets_are_parts limit = record {
       let some = four_at_least s.encoding.format in
       record { placed = is.0; took = is.1; some = omega arith };
 }
+
+-- by the fields that are read
+pub set_in_refused : (limit offset set_length : ℕ) (format : Format) (v : View) (e : Error)
+    → arange_fields limit format v ≡ Err e → value_of (arange_set_in limit offset set_length format v) ≡ Err e
+unfolding arange_set_in
+set_in_refused limit offset set_length format v e h = rw h refl
+
+pub set_in_is_read : (limit offset set_length : ℕ) (format : Format) (v : View) (fields : ArangeFields) (w : View)
+    → arange_fields limit format v ≡ Ok (fields, w)
+    → value_of (arange_set_in limit offset set_length format v) ≡ Ok (record {
+      offset = offset;
+      length = set_length;
+      encoding = fields.encoding;
+      info_offset = fields.info_offset;
+      pairs = w;
+    })
+unfolding arange_set_in
+set_in_is_read limit offset set_length format v fields w h = rw h refl
 
 -- ---- pairs
 
@@ -175,7 +193,7 @@ filter_map_few f (x ∷ xs) = cons_few (f x) (filter_map f xs) (length xs) (filt
 few_ranges : (s : RemainingPairs) → IsTrue (is_address_size s.address_size)
     → length (aranges_to_come s) ≤ bytes_left s.rest
 few_ranges s h =
-    let kept = filter_map_few (λ p. transpose (arange_of s.address_size p)) (pairs_to_come s) in
+    let few_pairs = filter_map_few (λ p. transpose (arange_of s.address_size p)) (pairs_to_come s) in
     let few = listing_few (pairs_shrink s.address_size (some_size s.address_size h)) s.rest in
     omega arith
 

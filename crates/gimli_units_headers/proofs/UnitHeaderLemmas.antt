@@ -1,9 +1,12 @@
 -- What is known of a unit that was read: its offset, the bytes that it takes, and the sizes of its header and entries.
-use Rattle.std.proofs.Common.{◌≡◌, ℕ, ◌+◌, ◌<◌, ◌≤◌, ◌≢◌, Bool, false, leb, eqb, length, Ok, refl, sym, ◌∙◌, ap, subst, arith, length-take, ◌&&◌}
+use Rattle.std.proofs.Common.{◌≡◌, ℕ, ◌+◌, ◌<◌, ◌≤◌, ◌≢◌, Bool, false, leb, eqb, Ok, Err, refl, sym, ◌∙◌, ap, subst, arith, length-take, ◌&&◌}
 use Rattle.std.proofs.lemmas.Bool.{and_parts, leb-true, ne_eqb}
 use Rattle.std.specs.Prelude.{IsTrue, ◌==◌, if◌then◌else◌}
+use Rattle.gimli_core_base.specs.declared.error.Error.{Error}
 use Rattle.gimli_core_base.specs.declared.error.Error.TheVariants.{UnknownVersion, UnsupportedUnitType}
 use Rattle.gimli_core_base.specs.View.{View, bytes_left}
+use Rattle.gimli_core_base.specs.Parsers.{value_of}
+use Rattle.gimli_core_base.proofs.StepParts.{value_of-Ok}
 use Rattle.gimli_core_base.specs.declared.common.Format.{Format}
 use Rattle.gimli_core_base.specs.FormatSizes.{initial_length_size, word_size}
 use Rattle.gimli_core_base.specs.NumberParsers.{is_address_size}
@@ -150,11 +153,13 @@ unit_is limit offset v =
       is_whole = omega arith;
     })))
 
--- a unit of bytes whose number is an offset
-pub unit_is_well_formed : (limit offset : ℕ) (v : View) (u : DebugUnit) (w : View) → length v.bytes < limit
-    → unit limit offset v ≡ Ok (u, w) → IsWellFormed limit u
-unit_is_well_formed limit offset v u w fits e =
-    let is = (unit_is limit offset v).hold u w e in
+-- a unit of bytes that end at an offset
+pub unit_is_well_formed : (limit offset : ℕ) (v : View) (u : DebugUnit) → offset + bytes_left v < limit
+    → value_of (unit limit offset v) ≡ Ok u → IsWellFormed limit u
+unit_is_well_formed limit offset v u fits e =
+    let found = value_of-Ok (unit limit offset v) u e in
+    let is = (unit_is limit offset v).hold u found.0 found.1 in
+    let placed = is.placed in
     let enough = is.took.enough in
     record { has_address_size = is.has_address_size; is_whole = is.is_whole; fits = omega arith }
 
@@ -166,3 +171,22 @@ units_are_parts limit = record {
       let some = four_at_least u.encoding.format in
       record { placed = is.placed; took = is.took; some = omega arith };
 }
+
+-- ---- by the fields that are read
+
+pub unit_in_refused : (limit offset unit_length : ℕ) (format : Format) (v : View) (e : Error)
+    → unit_fields limit format v ≡ Err e → value_of (unit_in limit offset unit_length format v) ≡ Err e
+unfolding unit_in
+unit_in_refused limit offset unit_length format v e h = rw h refl
+
+pub unit_in_is_read : (limit offset unit_length : ℕ) (format : Format) (v : View) (fields : HeaderFields) (w : View)
+    → unit_fields limit format v ≡ Ok (fields, w) → value_of (unit_in limit offset unit_length format v) ≡ Ok (record {
+      offset = offset;
+      unit_length = unit_length;
+      encoding = fields.encoding;
+      kind = fields.kind;
+      abbrev_offset = fields.abbrev_offset;
+      entries = w;
+    })
+unfolding unit_in
+unit_in_is_read limit offset unit_length format v fields w h = rw h refl

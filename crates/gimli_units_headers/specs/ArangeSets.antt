@@ -5,7 +5,7 @@ use Rattle.std.specs.List.{All, filter_map}
 use Rattle.gimli_core_base.specs.declared.error.Error.{Error}
 use Rattle.gimli_core_base.specs.declared.error.Error.TheVariants.{UnknownVersion, UnsupportedSegmentSize, AddressOverflow}
 use Rattle.gimli_core_base.specs.View.{View, bytes_left}
-use Rattle.gimli_core_base.specs.Parsers.{Parser, ◌>>=◌, ◌>>◌, give, demand, within, value_of, here, part, skip, proceed}
+use Rattle.gimli_core_base.specs.Parsers.{Parser, ◌>>=◌, give, demand, within, here, part, skip, proceed}
 use Rattle.gimli_core_base.specs.Repetition.{Listing, listing_in}
 use Rattle.gimli_core_base.specs.declared.common.Format.{Format}
 use Rattle.gimli_core_base.specs.declared.common.Encoding.{Encoding}
@@ -13,6 +13,7 @@ use Rattle.gimli_core_base.specs.FormatSizes.{initial_length_size, word_size}
 use Rattle.gimli_core_base.specs.NumberParsers.{fixed, initial_length, word, address_size}
 use Rattle.gimli_core_readers.specs.Addresses.{is_tombstone}
 use Rattle.gimli_core_readers.specs.Tiling.{RemainingSection, whole_section, next_part, parts_to_come}
+use Rattle.gimli_units_headers.specs.SectionParts.{part_lookup}
 
 -- ---- sets
 
@@ -91,7 +92,7 @@ sets_of limit section = (sets_to_come limit (whole_section section)).items
 
 -- the set at an offset of a section
 abbrev pub arange_set_at : ℕ → ℕ → View → Result ArangeSet Error
-arange_set_at limit offset section = value_of ((skip offset >> arange_set limit offset) section)
+arange_set_at limit offset section = part_lookup (arange_set limit) offset section
 
 -- ---- pairs
 

@@ -13,6 +13,7 @@ pub use Rattle.gimli_core_base.specs.declared.constants.TheConstants
 pub use Rattle.gimli_core_base.specs.declared.error.Error
 pub use Rattle.gimli_core_readers.specs.Tiling
 pub use Rattle.gimli_core_readers.specs.declared.range.Range
+pub mod SectionParts
 pub mod UnitHeaders
 pub mod UnitOffsets
 pub mod ArangeSets

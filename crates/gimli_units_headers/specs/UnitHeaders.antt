@@ -5,13 +5,14 @@ use Rattle.gimli_core_base.specs.declared.constants.TheConstants.{DW_UT_compile,
 use Rattle.gimli_core_base.specs.declared.error.Error.{Error}
 use Rattle.gimli_core_base.specs.declared.error.Error.TheVariants.{UnknownVersion, UnsupportedUnitType}
 use Rattle.gimli_core_base.specs.View.{View, bytes_left}
-use Rattle.gimli_core_base.specs.Parsers.{Parser, ◌>>=◌, ◌>>◌, give, fail, branch, within, value_of, here, part, skip}
+use Rattle.gimli_core_base.specs.Parsers.{Parser, ◌>>=◌, give, fail, branch, within, here, part}
 use Rattle.gimli_core_base.specs.Repetition.{Listing}
 use Rattle.gimli_core_base.specs.declared.common.Format.{Format}
 use Rattle.gimli_core_base.specs.declared.common.Encoding.{Encoding}
 use Rattle.gimli_core_base.specs.FormatSizes.{initial_length_size, word_size}
 use Rattle.gimli_core_base.specs.NumberParsers.{fixed, initial_length, word, address_size, is_address_size}
 use Rattle.gimli_core_readers.specs.Tiling.{RemainingSection, whole_section, next_part, parts_to_come}
+use Rattle.gimli_units_headers.specs.SectionParts.{part_lookup}
 
 -- what a unit is, and what its header says for that (DWARF 5, 7.5.1.1 to 7.5.1.3)
 pub data UnitKind : Type 0 where
@@ -139,7 +140,7 @@ units_of limit section = (units_to_come limit (whole_section section)).items
 
 -- the unit at an offset of a section
 abbrev pub unit_at : ℕ → ℕ → View → Result DebugUnit Error
-unit_at limit offset section = value_of ((skip offset >> unit limit offset) section)
+unit_at limit offset section = part_lookup (unit limit) offset section
 
 -- ---- sizes
 
@@ -170,9 +171,9 @@ fields_size e kind =
 abbrev pub size_of_header : DebugUnit → ℕ
 size_of_header u = initial_length_size u.encoding.format + fields_size u.encoding u.kind
 
--- what holds of every unit that is read: its fields and its entries are all its bytes, and their
--- number is an offset
+-- what holds of every unit that is read: its fields and its entries are all its bytes, and its end
+-- is an offset of the section
 pub record IsWellFormed (limit : ℕ) (u : DebugUnit) : Type 0 where
   pub has_address_size : IsTrue (is_address_size u.encoding.address_size)
   pub is_whole : size_of_header u + bytes_left u.entries ≡ length_including_self u
-  pub fits : length_including_self u < limit
+  pub fits : u.offset + length_including_self u < limit

@@ -1,6 +1,6 @@
 -- Offsets of a unit's entries, counted from the start of the unit or of the section (DWARF 5,
 -- 7.5.1, and 7.5.5, references).
-use Rattle.std.specs.Prelude.{ℕ, ◌-◌, Bool, ◌&&◌, nat_lt, nat_le, Option, Some, None, Result, Ok, Err, if◌then◌else◌}
+use Rattle.std.specs.Prelude.{ℕ, ◌+◌, ◌-◌, Bool, ◌&&◌, nat_lt, nat_le, Option, Some, None, Result, Ok, Err, if◌then◌else◌}
 use Rattle.gimli_core_base.specs.declared.error.Error.{Error}
 use Rattle.gimli_core_base.specs.declared.error.Error.TheVariants.{OffsetOutOfBounds}
 use Rattle.gimli_core_base.specs.View.{View, after, prefix}
@@ -15,6 +15,11 @@ abbrev pub to_unit_offset : DebugUnit → ℕ → Option ℕ
 to_unit_offset u offset =
     if nat_le u.offset offset && is_in_bounds u (offset - u.offset) then Some (offset - u.offset)
     else None
+
+-- an offset of the unit as one of the section, if it is below the limit of offsets
+abbrev pub to_section_offset : ℕ → DebugUnit → ℕ → Option ℕ
+to_section_offset limit u offset =
+    if nat_lt (u.offset + offset) limit then Some (u.offset + offset) else None
 
 -- bytes that are within the bounds of the entries, else a refusal
 abbrev pub if_in_bounds : Bool → View → Result View Error

@@ -2,13 +2,14 @@
 
 ghost use Rattle.std.specs.Prelude.{◌≡◌, ◌≢◌, ◌≤◌, IfOk, IsTrue, Ok, Err, length};
 ghost use Rattle.gimli_core_base.specs.View.{bytes_left};
-ghost use Rattle.gimli_core_base.specs.Calls.{ReturnsAs, ReturnsAsOrNoMemory, ReturnsOrNoMemory};
+ghost use Rattle.gimli_core_base.specs.Calls.{ReturnsAs, ReturnsOrNoMemory};
 ghost use Rattle.gimli_core_base.specs.declared.error.Error.TheVariants.{Memory};
 ghost use Rattle.gimli_core_base.specs.NumberParsers.{is_address_size};
-ghost use Rattle.gimli_units_headers.specs.ArangeSets.{arange_set, arange_set_in, arange_fields, arange_padding, pairs_of, aranges_to_come};
+ghost use Rattle.gimli_units_headers.specs.ArangeSets.{arange_fields, arange_padding, pairs_of, aranges_to_come};
 ghost use Rattle.gimli_units_headers.specs.ParsedAranges.{arange_fields_of};
 
 use crate::arange_entry::ArangeEntryIter;
+use crate::parts::SectionPart;
 use gimli_core_base::error::Error;
 use gimli_core_base::{DebugArangesOffset, Encoding, Format, ReaderOffset};
 use gimli_core_readers::{DebugInfoOffset, Reader};
@@ -90,26 +91,34 @@ pub struct ArangeFields<O> {
     pub debug_info_offset: DebugInfoOffset<O>,
 }
 
-// The next set, which begins at an offset of its section.
-#[tactic(auto, unfolding(crate::specs::ArangeSets::arange_set, crate::specs::ArangeSets::arange_set_in))]
-pub(crate) fn parse_arange_header<R: Reader>(
-    input: &mut R,
-    offset: DebugArangesOffset<R::Offset>,
-) -> Result<ArangeHeader<R>, Error>
-    ensures value { ReturnsAsOrNoMemory (λ header. (header, R.view input.new)) result
-        (arange_set R.Offset.limit (R.Offset.count offset.0) (R.view input.old)) }
-    ensures free { IsTrue R.copies_freely → result ≢ Err Memory }
-{
-    let (length, format) = input.read_initial_length()?;
-    let mut entries = input.split(length)?;
-    let fields = parse_fields(&mut entries, format)?;
-    Ok(ArangeHeader {
-        offset,
-        length,
-        encoding: fields.encoding,
-        debug_info_offset: fields.debug_info_offset,
-        entries,
-    })
+impl<R: Reader> SectionPart<R> for ArangeHeader<R> {
+    ghost use Rattle.gimli_units_headers.specs.ArangeSets.{arange_set, set_size};
+
+    ghost read = { arange_set R.Offset.limit };
+
+    ghost offset_of = { λ s. s.offset };
+
+    ghost size_of = { set_size };
+
+    // The set at an offset of its section. The bytes become its pairs.
+    #[tactic(auto, unfolding(crate::specs::ArangeSets::arange_set, crate::specs::ArangeSets::arange_set_in), using(crate::proofs::ArangeSetLemmas::sets_are_parts))]
+    fn parse(mut bytes: R, offset: R::Offset) -> Result<Self, Error> {
+        let (length, format) = bytes.read_initial_length()?;
+        bytes.truncate(length)?;
+        let fields = parse_fields(&mut bytes, format)?;
+        Ok(ArangeHeader {
+            offset: DebugArangesOffset(offset),
+            length,
+            encoding: fields.encoding,
+            debug_info_offset: fields.debug_info_offset,
+            entries: bytes,
+        })
+    }
+
+    fn size(&self) -> R::Offset {
+        let length_size = R::Offset::from_u8(self.encoding.format.initial_length_size());
+        length_size.wrapping_add(self.length)
+    }
 }
 
 // The fields after the length, and the padding.

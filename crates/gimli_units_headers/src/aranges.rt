@@ -6,12 +6,13 @@ ghost use Rattle.gimli_core_base.specs.View.{bytes_left};
 ghost use Rattle.gimli_core_base.specs.Calls.{ReturnsOrNoMemory};
 ghost use Rattle.gimli_core_base.specs.declared.error.Error.TheVariants.{Memory};
 ghost use Rattle.gimli_core_readers.specs.Iterators.{ReadsOrEndsOrNoMemory, ComesNext};
-ghost use Rattle.gimli_core_readers.specs.Tiling.{whole_section, next_offset, Tile};
+ghost use Rattle.gimli_core_readers.specs.Tiling.{whole_section, Tile};
 ghost use Rattle.gimli_units_headers.specs.ArangeSets.{arange_set, next_set, sets_to_come, sets_of, arange_set_at, set_size};
 
-use crate::arange_set::{ArangeHeader, parse_arange_header};
+use crate::arange_set::ArangeHeader;
+use crate::parts::{SectionParts, part_at};
 use gimli_core_base::error::Error;
-use gimli_core_base::{DebugArangesOffset, Endianity, ReaderOffset, SectionId};
+use gimli_core_base::{DebugArangesOffset, Endianity, SectionId};
 use gimli_core_readers::{EndianSlice, Reader, Section};
 use std::marker::Model;
 
@@ -91,12 +92,11 @@ impl<R: Reader> DebugAranges<R> {
             (λ sets. length (sets_to_come R.Offset.limit sets).items ≤ bytes_left self.now) }
     {
         Ok(ArangeHeaderIter {
-            input: self.section.copy()?,
-            section_len: self.section.len(),
+            parts: SectionParts::new(&self.section)?,
         })
     }
 
-    /// The set at an offset of the section. Takes memory only where a part of the reader does.
+    /// The set at an offset of the section. Takes memory only where a copy of the reader does.
     pub fn header(&self, offset: DebugArangesOffset<R::Offset>) -> Result<ArangeHeader<R>, Error>
         ensures value { ReturnsOrNoMemory result
             (arange_set_at R.Offset.limit (R.Offset.count offset.0) self.now) }
@@ -106,37 +106,27 @@ impl<R: Reader> DebugAranges<R> {
             (λ s. s.offset ≡ R.Offset.count offset.0 → ReturnsOrNoMemory result (Ok s))
             (sets_of R.Offset.limit self.now) }
     {
-        let mut input = self.section.copy()?;
-        input.skip(offset.0)?;
-        parse_arange_header(&mut input, offset)
+        part_at(&self.section, offset.0)
     }
 }
 
 /// The sets of `.debug_aranges`, from one of them on.
 #[derive(Debug, Drop)]
 pub struct ArangeHeaderIter<R: Reader> {
-    // The bytes from the next set on.
-    input: R,
-    section_len: R::Offset,
+    parts: SectionParts<R, ArangeHeader<R>>,
 }
 
 impl<R: Reader> Model for ArangeHeaderIter<R> {
-    ghost use Rattle.std.specs.Prelude.{◌≤◌, length};
     ghost use Rattle.gimli_core_readers.specs.Tiling.{RemainingSection};
 
     ghost Value = { RemainingSection };
 
-    ghost view = { λ s. record {
-      section_length = R.Offset.count s.section_len;
-      rest = R.view s.input;
-    } };
-
-    ghost invariant = { λ s. length (R.view s.input).bytes ≤ R.Offset.count s.section_len };
+    ghost view = { λ s. s.parts };
 }
 
 impl<R: Reader> ArangeHeaderIter<R> {
     /// The next set, none at the section's end. After a set that can't be read there are no more.
-    /// Takes memory only where a part of the reader does, and changes nothing when out of memory.
+    /// Takes memory only where a copy of the reader does, and changes nothing when out of memory.
     pub fn next(&mut self) -> Result<Option<ArangeHeader<R>>, Error>
         ensures value { ReadsOrEndsOrNoMemory result self.old.rest self.new.rest
             (next_set R.Offset.limit self.old) }
@@ -145,27 +135,6 @@ impl<R: Reader> ArangeHeaderIter<R> {
         ensures order { ComesNext result (sets_to_come R.Offset.limit self.old)
             (sets_to_come R.Offset.limit self.new) }
     {
-        if self.input.is_empty() {
-            return Ok(None);
-        }
-        let mut input = self.input.copy()?;
-        match parse_arange_header(&mut input, self.offset()) {
-            Ok(header) => {
-                self.input = input;
-                Ok(Some(header))
-            }
-            Err(Error::Memory) => Err(Error::Memory),
-            Err(fault) => {
-                self.input.empty();
-                Err(fault)
-            }
-        }
-    }
-
-    // The offset of the next set.
-    fn offset(&self) -> DebugArangesOffset<R::Offset>
-        ensures { R.Offset.count result.0 ≡ next_offset self.now }
-    {
-        DebugArangesOffset(self.section_len.checked_sub(self.input.len()).unwrap())
+        self.parts.next()
     }
 }

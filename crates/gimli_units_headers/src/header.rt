@@ -5,11 +5,12 @@ ghost use Rattle.gimli_core_base.specs.Calls.{ReturnsAsOrNoMemory};
 ghost use Rattle.gimli_core_base.specs.declared.error.Error.TheVariants.{Memory};
 ghost use Rattle.gimli_core_base.specs.NumberParsers.{is_address_size};
 ghost use Rattle.gimli_core_readers.specs.Addresses.{is_tombstone};
-ghost use Rattle.gimli_units_headers.specs.UnitHeaders.{unit, unit_in, length_including_self, header_size, size_of_header};
-ghost use Rattle.gimli_units_headers.specs.UnitOffsets.{is_in_bounds, bytes_from, bytes_to, bytes_between};
+ghost use Rattle.gimli_units_headers.specs.UnitHeaders.{length_including_self, header_size, size_of_header};
+ghost use Rattle.gimli_units_headers.specs.UnitOffsets.{is_in_bounds, to_section_offset, bytes_from, bytes_to, bytes_between};
 ghost use Rattle.gimli_units_headers.specs.UnitTypes.{kind_of};
 
 use crate::fields::{UnitType, parse_fields};
+use crate::parts::SectionPart;
 use gimli_core_base::error::Error;
 use gimli_core_base::{DebugAbbrevOffset, Encoding, Format, ReaderOffset};
 use gimli_core_readers::{DebugInfoOffset, Reader, UnitOffset, least_tombstone};
@@ -173,15 +174,19 @@ impl<R: Reader> UnitHeader<R> {
         self.header_size().into_u64() <= offset && offset < self.length_including_self().into_u64()
     }
 
-    // An offset of the unit, counted from the start of the section.
+    // An offset of the unit, counted from the start of the section; none where that is no offset.
     pub(crate) fn section_offset_of(
         &self,
         offset: &UnitOffset<R::Offset>,
-    ) -> DebugInfoOffset<R::Offset>
-        requires { self.now.offset + R.Offset.count offset.now.0 < R.Offset.limit }
-        ensures { R.Offset.count result.0 ≡ self.now.offset + R.Offset.count offset.now.0 }
+    ) -> Option<DebugInfoOffset<R::Offset>>
+        ensures value { option_map (λ offset. R.Offset.count offset.0) result
+            ≡ to_section_offset R.Offset.limit self.now (R.Offset.count offset.now.0) }
+        ensures within { R.Offset.count offset.now.0 ≤ length_including_self self.now
+            → option_map (λ offset. R.Offset.count offset.0) result
+            ≡ Some (self.now.offset + R.Offset.count offset.now.0) }
     {
-        DebugInfoOffset(self.offset.0.wrapping_add(offset.0))
+        let sum = self.offset.0.into_u64().checked_add(offset.0.into_u64())?;
+        R::Offset::from_u64(sum).ok().map(DebugInfoOffset)
     }
 
     /// The bytes between two offsets of the entries. Takes memory only where a copy of the reader
@@ -241,27 +246,32 @@ impl<R: Reader> UnitHeader<R> {
     }
 }
 
-// The next unit, which begins at an offset of its section.
-#[tactic(auto, unfolding(crate::specs::UnitHeaders::unit, crate::specs::UnitHeaders::unit_in))]
-pub(crate) fn parse_unit_header<R: Reader>(
-    input: &mut R,
-    offset: DebugInfoOffset<R::Offset>,
-) -> Result<UnitHeader<R>, Error>
-    ensures value { ReturnsAsOrNoMemory (λ header. (header, R.view input.new)) result
-        (unit R.Offset.limit (R.Offset.count offset.0) (R.view input.old)) }
-    ensures free { IsTrue R.copies_freely → result ≢ Err Memory }
-{
-    // The number of bytes is an offset.
-    let _bytes = input.as_bytes();
-    let (unit_length, format) = input.read_initial_length()?;
-    let mut entries = input.split(unit_length)?;
-    let fields = parse_fields(&mut entries, format)?;
-    Ok(UnitHeader {
-        offset,
-        unit_length,
-        encoding: fields.encoding,
-        unit_type: fields.unit_type,
-        debug_abbrev_offset: fields.debug_abbrev_offset,
-        entries,
-    })
+impl<R: Reader> SectionPart<R> for UnitHeader<R> {
+    ghost use Rattle.gimli_units_headers.specs.UnitHeaders.{unit, length_including_self};
+
+    ghost read = { unit R.Offset.limit };
+
+    ghost offset_of = { λ u. u.offset };
+
+    ghost size_of = { length_including_self };
+
+    // The unit at an offset of its section. The bytes become its entries.
+    #[tactic(auto, unfolding(crate::specs::UnitHeaders::unit, crate::specs::UnitHeaders::unit_in), using(crate::proofs::UnitHeaderLemmas::units_are_parts))]
+    fn parse(mut bytes: R, offset: R::Offset) -> Result<Self, Error> {
+        let (unit_length, format) = bytes.read_initial_length()?;
+        bytes.truncate(unit_length)?;
+        let fields = parse_fields(&mut bytes, format)?;
+        Ok(UnitHeader {
+            offset: DebugInfoOffset(offset),
+            unit_length,
+            encoding: fields.encoding,
+            unit_type: fields.unit_type,
+            debug_abbrev_offset: fields.debug_abbrev_offset,
+            entries: bytes,
+        })
+    }
+
+    fn size(&self) -> R::Offset {
+        self.length_including_self()
+    }
 }

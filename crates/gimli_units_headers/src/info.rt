@@ -6,12 +6,13 @@ ghost use Rattle.gimli_core_base.specs.View.{bytes_left};
 ghost use Rattle.gimli_core_base.specs.Calls.{ReturnsOrNoMemory};
 ghost use Rattle.gimli_core_base.specs.declared.error.Error.TheVariants.{Memory};
 ghost use Rattle.gimli_core_readers.specs.Iterators.{ReadsOrEndsOrNoMemory, ComesNext};
-ghost use Rattle.gimli_core_readers.specs.Tiling.{whole_section, next_offset, Tile};
+ghost use Rattle.gimli_core_readers.specs.Tiling.{whole_section, Tile};
 ghost use Rattle.gimli_units_headers.specs.UnitHeaders.{unit, next_unit, units_to_come, units_of, unit_at, length_including_self};
 
-use crate::header::{UnitHeader, parse_unit_header};
+use crate::header::UnitHeader;
+use crate::parts::{SectionParts, part_at};
 use gimli_core_base::error::Error;
-use gimli_core_base::{Endianity, ReaderOffset, SectionId};
+use gimli_core_base::{Endianity, SectionId};
 use gimli_core_readers::{DebugInfoOffset, EndianSlice, Reader, Section};
 use std::marker::Model;
 
@@ -91,12 +92,11 @@ impl<R: Reader> DebugInfo<R> {
             (λ units. length (units_to_come R.Offset.limit units).items ≤ bytes_left self.now) }
     {
         Ok(DebugInfoUnitHeadersIter {
-            input: self.section.copy()?,
-            section_len: self.section.len(),
+            parts: SectionParts::new(&self.section)?,
         })
     }
 
-    /// The unit at an offset of the section. Takes memory only where a part of the reader does.
+    /// The unit at an offset of the section. Takes memory only where a copy of the reader does.
     pub fn header_from_offset(
         &self,
         offset: DebugInfoOffset<R::Offset>,
@@ -109,37 +109,27 @@ impl<R: Reader> DebugInfo<R> {
             (λ u. u.offset ≡ R.Offset.count offset.0 → ReturnsOrNoMemory result (Ok u))
             (units_of R.Offset.limit self.now) }
     {
-        let mut input = self.section.copy()?;
-        input.skip(offset.0)?;
-        parse_unit_header(&mut input, offset)
+        part_at(&self.section, offset.0)
     }
 }
 
 /// The units of `.debug_info`, from one of them on.
 #[derive(Debug, Drop)]
 pub struct DebugInfoUnitHeadersIter<R: Reader> {
-    // The bytes from the next unit on.
-    input: R,
-    section_len: R::Offset,
+    parts: SectionParts<R, UnitHeader<R>>,
 }
 
 impl<R: Reader> Model for DebugInfoUnitHeadersIter<R> {
-    ghost use Rattle.std.specs.Prelude.{◌≤◌, length};
     ghost use Rattle.gimli_core_readers.specs.Tiling.{RemainingSection};
 
     ghost Value = { RemainingSection };
 
-    ghost view = { λ s. record {
-      section_length = R.Offset.count s.section_len;
-      rest = R.view s.input;
-    } };
-
-    ghost invariant = { λ s. length (R.view s.input).bytes ≤ R.Offset.count s.section_len };
+    ghost view = { λ s. s.parts };
 }
 
 impl<R: Reader> DebugInfoUnitHeadersIter<R> {
     /// The next unit, none at the section's end. After a unit that can't be read there are no more.
-    /// Takes memory only where a part of the reader does, and changes nothing when out of memory.
+    /// Takes memory only where a copy of the reader does, and changes nothing when out of memory.
     pub fn next(&mut self) -> Result<Option<UnitHeader<R>>, Error>
         ensures value { ReadsOrEndsOrNoMemory result self.old.rest self.new.rest
             (next_unit R.Offset.limit self.old) }
@@ -148,27 +138,6 @@ impl<R: Reader> DebugInfoUnitHeadersIter<R> {
         ensures order { ComesNext result (units_to_come R.Offset.limit self.old)
             (units_to_come R.Offset.limit self.new) }
     {
-        if self.input.is_empty() {
-            return Ok(None);
-        }
-        let mut input = self.input.copy()?;
-        match parse_unit_header(&mut input, self.offset()) {
-            Ok(header) => {
-                self.input = input;
-                Ok(Some(header))
-            }
-            Err(Error::Memory) => Err(Error::Memory),
-            Err(fault) => {
-                self.input.empty();
-                Err(fault)
-            }
-        }
-    }
-
-    // The offset of the next unit.
-    fn offset(&self) -> DebugInfoOffset<R::Offset>
-        ensures { R.Offset.count result.0 ≡ next_offset self.now }
-    {
-        DebugInfoOffset(self.section_len.checked_sub(self.input.len()).unwrap())
+        self.parts.next()
     }
 }

@@ -9,6 +9,7 @@ pub mod fields;
 pub mod header;
 pub mod info;
 pub mod offset;
+mod parts;
 
 pub use arange_entry::{ArangeEntry, ArangeEntryIter};
 pub use arange_set::ArangeHeader;

@@ -1,7 +1,8 @@
 //! Offsets of `.debug_info`, counted from the start of the section or of a unit.
 
-ghost use Rattle.std.specs.Prelude.{◌≡◌, ◌+◌, ◌<◌, ℕ, option_map, IfSome, Some};
-ghost use Rattle.gimli_units_headers.specs.UnitOffsets.{is_in_bounds, to_unit_offset};
+ghost use Rattle.std.specs.Prelude.{◌≡◌, ◌+◌, ◌≤◌, ℕ, option_map, IfSome, Some};
+ghost use Rattle.gimli_units_headers.specs.UnitHeaders.{length_including_self};
+ghost use Rattle.gimli_units_headers.specs.UnitOffsets.{is_in_bounds, to_unit_offset, to_section_offset};
 
 use crate::header::UnitHeader;
 use gimli_core_base::ReaderOffset;
@@ -44,11 +45,13 @@ pub trait OffsetInUnit<R: Reader> {
     fn is_in_bounds(&self, unit: &UnitHeader<R>) -> bool
         ensures { result ≡ is_in_bounds unit.now (number self.now) };
 
-    /// The same place counted from the start of the section; always there, since every unit is in
-    /// `.debug_info`.
+    /// The same place counted from the start of the section, none where that is no offset.
     fn to_debug_info_offset(&self, unit: &UnitHeader<R>) -> Option<DebugInfoOffset<R::Offset>>
-        requires { unit.now.offset + number self.now < R.Offset.limit }
-        ensures { option_map (λ offset. R.Offset.count offset.0) result
+        ensures value { option_map (λ offset. R.Offset.count offset.0) result
+            ≡ to_section_offset R.Offset.limit unit.now (number self.now) }
+        // Every place of the unit, its end included, has one.
+        ensures within { number self.now ≤ length_including_self unit.now
+            → option_map (λ offset. R.Offset.count offset.0) result
             ≡ Some (unit.now.offset + number self.now) };
 }
 
@@ -60,6 +63,6 @@ impl<R: Reader> OffsetInUnit<R> for UnitOffset<R::Offset> {
     }
 
     fn to_debug_info_offset(&self, unit: &UnitHeader<R>) -> Option<DebugInfoOffset<R::Offset>> {
-        Some(unit.section_offset_of(self))
+        unit.section_offset_of(self)
     }
 }

@@ -7,10 +7,9 @@ pub mod ListBaseLemmas
 pub mod FieldMemoryLemmas
 pub mod ListEntryMemoryLemmas
 pub mod ListTableMemoryLemmas
+pub mod ListSteps
 pub mod RangeSteps
 pub mod LocationEntrySizes
-pub mod RawLocations
-pub mod LocationSteps
 pub mod ListCounts
 pub mod ListRefusals
 pub mod ProgressLemmas

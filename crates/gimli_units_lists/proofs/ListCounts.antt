@@ -4,6 +4,7 @@ use Rattle.std.proofs.lemmas.Bool.{eqb-false}
 use Rattle.gimli_core_readers.specs.Error.{Error}
 use Rattle.gimli_core_readers.specs.View.{View, bytes_left}
 use Rattle.gimli_core_readers.specs.Parsers.{Parser}
+use Rattle.gimli_units_lists.specs.Lists.{entries_from}
 use Rattle.gimli_units_lists.specs.ListResolutions.{base_after, answer_list, resolutions_after}
 use Rattle.gimli_units_lists.specs.ListEntries.{base_in, range_of}
 use Rattle.gimli_units_lists.specs.RangeEntries.{RemainingRawRanges, raw_ranges_to_come}
@@ -11,7 +12,7 @@ use Rattle.gimli_units_lists.specs.LocationEntries.{RemainingRawLocations, raw_l
 use Rattle.gimli_units_lists.specs.ListSections.{RemainingRanges, ranges_to_come, RemainingLocations, locations_to_come}
 use Rattle.gimli_units_lists.proofs.RangeEntrySizes.{range_entry_takes}
 use Rattle.gimli_units_lists.proofs.LocationEntrySizes.{location_entry_takes}
-use Rattle.gimli_units_lists.proofs.RawListSteps.{Takes, to_come, step, entry_here, come_none, come_item, come_end}
+use Rattle.gimli_units_lists.proofs.RawListSteps.{Takes, step, entry_here, come_none, come_item, come_end}
 
 -- none or one
 one_answer_at_most : {A : Type 0} (r : Result (Option A) Error) → length (answer_list r) ≤ 1
@@ -40,8 +41,8 @@ few_resolutions sets resolve first before (Err d ∷ rest) =
 -- by what is read first, where some byte is left
 by_item : {A : Type 0} {p : Parser (Option A)} → Takes p → (v : View) (o : Option A) (w : View) → p v ≡ Ok (o, w)
     → (eqb (length v.bytes) 0) ≡ false
-    → ((u : View) → bytes_left u < bytes_left v → length (to_come p u) ≤ bytes_left u)
-    → length (to_come p v) ≤ bytes_left v
+    → ((u : View) → bytes_left u < bytes_left v → length (entries_from p u) ≤ bytes_left u)
+    → length (entries_from p v) ≤ bytes_left v
 by_item h v None w e some k = let is = come_end h v w some e in omega (arith, ap length is)
 by_item {A} {p} h v (Some x) w e some k =
     let is = come_item h v w x some e in
@@ -51,8 +52,8 @@ by_item {A} {p} h v (Some x) w e some k =
 
 by_read : {A : Type 0} {p : Parser (Option A)} → Takes p → (v : View) (r : Result (Option A × View) Error) → p v ≡ r
     → (eqb (length v.bytes) 0) ≡ false
-    → ((u : View) → bytes_left u < bytes_left v → length (to_come p u) ≤ bytes_left u)
-    → length (to_come p v) ≤ bytes_left v
+    → ((u : View) → bytes_left u < bytes_left v → length (entries_from p u) ≤ bytes_left u)
+    → length (entries_from p v) ≤ bytes_left v
 by_read h v (Ok r) e some k = by_item h v r.0 r.1 e some k
 by_read {A} {p} h v (Err d) e some k =
     let is = step h v (Err d) (entry_here p v (Err d) some e) in
@@ -60,19 +61,19 @@ by_read {A} {p} h v (Err d) e some k =
     omega (arith, ap length is, ne)
 
 by_place : {A : Type 0} {p : Parser (Option A)} → Takes p → (v : View) (b : Bool) → (eqb (length v.bytes) 0) ≡ b
-    → ((u : View) → bytes_left u < bytes_left v → length (to_come p u) ≤ bytes_left u)
-    → length (to_come p v) ≤ bytes_left v
+    → ((u : View) → bytes_left u < bytes_left v → length (entries_from p u) ≤ bytes_left u)
+    → length (entries_from p v) ≤ bytes_left v
 by_place h v true none k = let is = come_none h v none in omega (arith, ap length is)
 by_place {A} {p} h v false some k = by_read h v (p v) refl some k
 
 -- each answer takes a byte
 few_within : {A : Type 0} {p : Parser (Option A)} → Takes p → (n : ℕ) (v : View) → bytes_left v < n
-    → length (to_come p v) ≤ bytes_left v
+    → length (entries_from p v) ≤ bytes_left v
 few_within h zero v lt = absurd (omega arith)
 few_within {A} {p} h (suc n) v lt =
     by_place h v (eqb (length v.bytes) 0) refl (λ u less. few_within h n u (omega arith))
 
-pub few_answers : {A : Type 0} {p : Parser (Option A)} → Takes p → (v : View) → length (to_come p v) ≤ bytes_left v
+pub few_answers : {A : Type 0} {p : Parser (Option A)} → Takes p → (v : View) → length (entries_from p v) ≤ bytes_left v
 few_answers h v = few_within h (suc (bytes_left v)) v (omega arith)
 
 -- ---- lists

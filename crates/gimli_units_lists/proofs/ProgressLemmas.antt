@@ -1,13 +1,10 @@
 -- What a call takes of the entries, one after the other.
 use Rattle.std.proofs.Common.{◌≡◌, ℕ, List, [], ◌∷◌, ◌++◌, Option, None, unwrap_or, Result, Ok, Err, refl, sym, ◌∙◌, ap, append_assoc}
 use Rattle.gimli_core_readers.specs.Error.{Error}
-use Rattle.gimli_core_readers.specs.declared.range.Range.{Range}
 use Rattle.gimli_units_lists.specs.ListResolutions.{answer_list, resolutions}
-use Rattle.gimli_units_lists.specs.ListEntries.{RawEntry, Setting, base_in, range_of}
-use Rattle.gimli_units_lists.specs.RangeEntries.{raw_ranges_to_come}
-use Rattle.gimli_units_lists.specs.LocationEntries.{RawLocation, Location, location_base_in, location_of, raw_locations_to_come}
-use Rattle.gimli_units_lists.specs.ListSections.{Resolution, RemainingRanges, RemainingLocations}
-use Rattle.gimli_units_lists.specs.ListProgress.{StandFor, SkipsEntries, StopsAfter, SkipsRanges, FindsRange, SkipsLocations, FindsLocation}
+use Rattle.gimli_units_lists.specs.ListEntries.{Setting}
+use Rattle.gimli_units_lists.specs.Lists.{ListKind, Resolution, RemainingList, entries_of}
+use Rattle.gimli_units_lists.specs.ListProgress.{StandFor, SkipsEntries, StopsAfter, Skips, Finds}
 use Rattle.gimli_units_lists.proofs.ListBaseLemmas.{resolutions_step}
 
 -- ---- entries
@@ -90,106 +87,58 @@ leaves_base : {E : Type 0} (sets : Setting → E → Option ℕ) (s : Setting) (
 leaves_base {E} sets s b c t e same at is =
     is ∙ ap (λ (u : Setting). unwrap_or (sets u e) t.base) same ∙ ap (λ (d : ℕ). unwrap_or (sets s e) d) at
 
--- ---- ranges
+-- ---- lists
 
 -- an entry e was read, between the states old and mid, and resolved to nothing, which left the state new
-pub range_passes : (limit : ℕ) (first old mid new : RemainingRanges) (e : RawEntry) → SkipsRanges limit first old
-    → old.against.setting ≡ first.against.setting
-    → raw_ranges_to_come limit old.raw ≡ Ok e ∷ raw_ranges_to_come limit mid.raw → mid.against ≡ old.against
-    → range_of mid.against.setting mid.against.base e ≡ Ok None → new.raw ≡ mid.raw
-    → new.against.base ≡ unwrap_or (base_in mid.against.setting e) mid.against.base → SkipsRanges limit first new
-range_passes limit first old mid new e p same is against none raw base =
+pub list_passes : {H E A : Type 0} (kind : ListKind H E A) (limit : ℕ) (first old mid new : RemainingList H) (e : E)
+    → Skips kind limit first old → old.against.setting ≡ first.against.setting
+    → entries_of kind limit old ≡ Ok e ∷ entries_of kind limit mid → mid.against ≡ old.against
+    → kind.answer_of mid.against.setting mid.against.base e ≡ Ok None
+    → entries_of kind limit new ≡ entries_of kind limit mid
+    → new.against.base ≡ unwrap_or (kind.base_in mid.against.setting e) mid.against.base → Skips kind limit first new
+list_passes kind limit first old mid new e p same is against none raw base =
     let setting : mid.against.setting ≡ first.against.setting = ap (λ (a : Resolution). a.setting) against ∙ same in
     let at : mid.against.base ≡ old.against.base = ap (λ (a : Resolution). a.base) against in
-    passes_one (base_in first.against.setting) (range_of first.against.setting) first.against.base old.against.base
-    new.against.base
-    (raw_ranges_to_come limit first.raw) (raw_ranges_to_come limit old.raw) (raw_ranges_to_come limit new.raw) e p
-    (is ∙ ap (λ l. Ok e ∷ raw_ranges_to_come limit l) (sym raw))
-    (resolves_as range_of first.against.setting old.against.base mid.against e (Ok None) setting at none)
-    (leaves_base base_in first.against.setting old.against.base new.against.base mid.against e setting at base)
+    passes_one (kind.base_in first.against.setting) (kind.answer_of first.against.setting) first.against.base
+    old.against.base new.against.base
+    (entries_of kind limit first) (entries_of kind limit old) (entries_of kind limit new) e p
+    (is ∙ ap (λ l. Ok e ∷ l) (sym raw))
+    (resolves_as kind.answer_of first.against.setting old.against.base mid.against e (Ok None) setting at none)
+    (leaves_base kind.base_in first.against.setting old.against.base new.against.base mid.against e setting at base)
 
-pub range_stops : (limit : ℕ) (first old mid new : RemainingRanges) (e : RawEntry) (r : Result (Option Range) Error)
-    (x : Result Range Error) → answer_list r ≡ x ∷ [] → SkipsRanges limit first old
+pub list_stops : {H E A : Type 0} (kind : ListKind H E A) (limit : ℕ) (first old mid new : RemainingList H) (e : E)
+    (r : Result (Option A) Error) (x : Result A Error) → answer_list r ≡ x ∷ [] → Skips kind limit first old
     → old.against.setting ≡ first.against.setting
-    → raw_ranges_to_come limit old.raw ≡ Ok e ∷ raw_ranges_to_come limit mid.raw → mid.against ≡ old.against
-    → range_of mid.against.setting mid.against.base e ≡ r → new.raw ≡ mid.raw
-    → new.against.base ≡ unwrap_or (base_in mid.against.setting e) mid.against.base → FindsRange limit first new x
-range_stops limit first old mid new e r x one p same is against resolves raw base =
+    → entries_of kind limit old ≡ Ok e ∷ entries_of kind limit mid → mid.against ≡ old.against
+    → kind.answer_of mid.against.setting mid.against.base e ≡ r
+    → entries_of kind limit new ≡ entries_of kind limit mid
+    → new.against.base ≡ unwrap_or (kind.base_in mid.against.setting e) mid.against.base → Finds kind limit first new x
+list_stops kind limit first old mid new e r x one p same is against resolves raw base =
     let setting : mid.against.setting ≡ first.against.setting = ap (λ (a : Resolution). a.setting) against ∙ same in
     let at : mid.against.base ≡ old.against.base = ap (λ (a : Resolution). a.base) against in
-    stops_at (base_in first.against.setting) (range_of first.against.setting) first.against.base old.against.base
-    new.against.base
-    (raw_ranges_to_come limit first.raw) (raw_ranges_to_come limit old.raw) (raw_ranges_to_come limit new.raw) e r x p
-    (is ∙ ap (λ l. Ok e ∷ raw_ranges_to_come limit l) (sym raw))
-    (resolves_as range_of first.against.setting old.against.base mid.against e r setting at resolves)
+    stops_at (kind.base_in first.against.setting) (kind.answer_of first.against.setting) first.against.base
+    old.against.base new.against.base
+    (entries_of kind limit first) (entries_of kind limit old) (entries_of kind limit new) e r x p
+    (is ∙ ap (λ l. Ok e ∷ l) (sym raw))
+    (resolves_as kind.answer_of first.against.setting old.against.base mid.against e r setting at resolves)
     one
-    (leaves_base base_in first.against.setting old.against.base new.against.base mid.against e setting at base)
+    (leaves_base kind.base_in first.against.setting old.against.base new.against.base mid.against e setting at base)
 
-pub range_stops_at_fault : (limit : ℕ) (first old new : RemainingRanges) (d : Error) → SkipsRanges limit first old
-    → raw_ranges_to_come limit old.raw ≡ Err d ∷ raw_ranges_to_come limit new.raw → new.against ≡ old.against
-    → FindsRange limit first new (Err d)
-range_stops_at_fault limit first old new d p is same =
-    stops_at_fault (base_in first.against.setting) (range_of first.against.setting) first.against.base old.against.base
-    new.against.base
-    (raw_ranges_to_come limit first.raw) (raw_ranges_to_come limit old.raw) (raw_ranges_to_come limit new.raw) d
+pub list_stops_at_fault : {H E A : Type 0} (kind : ListKind H E A) (limit : ℕ) (first old new : RemainingList H)
+    (d : Error) → Skips kind limit first old
+    → entries_of kind limit old ≡ Err d ∷ entries_of kind limit new → new.against ≡ old.against
+    → Finds kind limit first new (Err d)
+list_stops_at_fault kind limit first old new d p is same =
+    stops_at_fault (kind.base_in first.against.setting) (kind.answer_of first.against.setting) first.against.base
+    old.against.base new.against.base
+    (entries_of kind limit first) (entries_of kind limit old) (entries_of kind limit new) d
     p is (ap (λ (a : Resolution). a.base) same)
 
--- ---- locations
-
--- an entry e was read, between the states old and mid, and resolved to nothing, which left the state new
-pub location_passes : (limit : ℕ) (first old mid new : RemainingLocations) (e : RawLocation)
-    → SkipsLocations limit first old
-    → old.against.setting ≡ first.against.setting
-    → raw_locations_to_come limit old.raw ≡ Ok e ∷ raw_locations_to_come limit mid.raw → mid.against ≡ old.against
-    → location_of mid.against.setting mid.against.base e ≡ Ok None → new.raw ≡ mid.raw
-    → new.against.base ≡ unwrap_or (location_base_in mid.against.setting e) mid.against.base
-    → SkipsLocations limit first new
-location_passes limit first old mid new e p same is against none raw base =
-    let setting : mid.against.setting ≡ first.against.setting = ap (λ (a : Resolution). a.setting) against ∙ same in
-    let at : mid.against.base ≡ old.against.base = ap (λ (a : Resolution). a.base) against in
-    passes_one (location_base_in first.against.setting) (location_of first.against.setting) first.against.base
+pub skips_all : {H E A : Type 0} (kind : ListKind H E A) (limit : ℕ) (first old new : RemainingList H)
+    → Skips kind limit first old
+    → entries_of kind limit old ≡ entries_of kind limit new → new.against ≡ old.against → Skips kind limit first new
+skips_all kind limit first old new p is same =
+    passes_same (kind.base_in first.against.setting) (kind.answer_of first.against.setting) first.against.base
     old.against.base new.against.base
-    (raw_locations_to_come limit first.raw) (raw_locations_to_come limit old.raw) (raw_locations_to_come limit new.raw)
-    e p
-    (is ∙ ap (λ l. Ok e ∷ raw_locations_to_come limit l) (sym raw))
-    (resolves_as location_of first.against.setting old.against.base mid.against e (Ok None) setting at none)
-    (leaves_base location_base_in first.against.setting old.against.base new.against.base mid.against e setting at base)
-
-pub location_stops : (limit : ℕ) (first old mid new : RemainingLocations) (e : RawLocation)
-    (r : Result (Option Location) Error) (x : Result Location Error) → answer_list r ≡ x ∷ []
-    → SkipsLocations limit first old → old.against.setting ≡ first.against.setting
-    → raw_locations_to_come limit old.raw ≡ Ok e ∷ raw_locations_to_come limit mid.raw → mid.against ≡ old.against
-    → location_of mid.against.setting mid.against.base e ≡ r → new.raw ≡ mid.raw
-    → new.against.base ≡ unwrap_or (location_base_in mid.against.setting e) mid.against.base
-    → FindsLocation limit first new x
-location_stops limit first old mid new e r x one p same is against resolves raw base =
-    let setting : mid.against.setting ≡ first.against.setting = ap (λ (a : Resolution). a.setting) against ∙ same in
-    let at : mid.against.base ≡ old.against.base = ap (λ (a : Resolution). a.base) against in
-    stops_at (location_base_in first.against.setting) (location_of first.against.setting) first.against.base
-    old.against.base new.against.base
-    (raw_locations_to_come limit first.raw) (raw_locations_to_come limit old.raw) (raw_locations_to_come limit new.raw)
-    e r x p
-    (is ∙ ap (λ l. Ok e ∷ raw_locations_to_come limit l) (sym raw))
-    (resolves_as location_of first.against.setting old.against.base mid.against e r setting at resolves)
-    one
-    (leaves_base location_base_in first.against.setting old.against.base new.against.base mid.against e setting at base)
-
-pub location_stops_at_fault : (limit : ℕ) (first old new : RemainingLocations) (d : Error)
-    → SkipsLocations limit first old
-    → raw_locations_to_come limit old.raw ≡ Err d ∷ raw_locations_to_come limit new.raw → new.against ≡ old.against
-    → FindsLocation limit first new (Err d)
-location_stops_at_fault limit first old new d p is same =
-    stops_at_fault (location_base_in first.against.setting) (location_of first.against.setting) first.against.base
-    old.against.base new.against.base
-    (raw_locations_to_come limit first.raw) (raw_locations_to_come limit old.raw) (raw_locations_to_come limit new.raw)
-    d
-    p is (ap (λ (a : Resolution). a.base) same)
-
-pub skips_all_locations : (limit : ℕ) (first old new : RemainingLocations) → SkipsLocations limit first old
-    → raw_locations_to_come limit old.raw ≡ raw_locations_to_come limit new.raw → new.against ≡ old.against
-    → SkipsLocations limit first new
-skips_all_locations limit first old new p is same =
-    passes_same (location_base_in first.against.setting) (location_of first.against.setting) first.against.base
-    old.against.base new.against.base
-    (raw_locations_to_come limit first.raw) (raw_locations_to_come limit old.raw) (raw_locations_to_come limit new.raw)
+    (entries_of kind limit first) (entries_of kind limit old) (entries_of kind limit new)
     p is (ap (λ (a : Resolution). a.base) same)

@@ -4,10 +4,10 @@ use Rattle.gimli_core_readers.specs.Error.{Error}
 use Rattle.gimli_core_readers.specs.Error.TheVariants.{Memory}
 use Rattle.gimli_core_readers.specs.declared.range.Range.{Range}
 use Rattle.gimli_units_lists.specs.ListResolutions.{resolutions}
-use Rattle.gimli_units_lists.specs.ListEntries.{base_in, range_of}
-use Rattle.gimli_units_lists.specs.RangeEntries.{raw_ranges_to_come}
-use Rattle.gimli_units_lists.specs.LocationEntries.{Location, location_base_in, location_of, raw_locations_to_come}
-use Rattle.gimli_units_lists.specs.ListSections.{RemainingRanges, RemainingLocations}
+use Rattle.gimli_units_lists.specs.Lists.{ListKind, RemainingList, entries_of}
+use Rattle.gimli_units_lists.specs.RangeEntries.{range_lists, raw_ranges_to_come}
+use Rattle.gimli_units_lists.specs.LocationEntries.{Location, location_lists}
+use Rattle.gimli_units_lists.specs.ListSections.{RemainingRanges, range_list, RemainingLocations, location_list}
 
 -- Entries that stand for these answers and leave another base: what comes after them is resolved at
 -- that base.
@@ -36,52 +36,44 @@ pub record StopsAfter {E A : Type 0} (sets : E → Option ℕ)
   pub nothing : StandFor sets resolve base skips [] between
   pub answer : StandFor sets resolve between (last ∷ []) (x ∷ []) after
 
--- ---- ranges
+-- ---- lists
 
--- the entries from the old place to the new one stand for no range
-abbrev pub SkipsRanges : ℕ → RemainingRanges → RemainingRanges → Type 0
-SkipsRanges limit old new =
-    SkipsEntries (base_in old.against.setting) (range_of old.against.setting)
-    old.against.base new.against.base
-    (raw_ranges_to_come limit old.raw) (raw_ranges_to_come limit new.raw)
+-- the entries from the old place to the new one stand for nothing
+abbrev pub Skips : {H E A : Type 0} → ListKind H E A → ℕ → RemainingList H → RemainingList H
+    → Type 0
+Skips kind limit old new =
+    SkipsEntries (kind.base_in old.against.setting) (kind.answer_of old.against.setting)
+    old.against.base new.against.base (entries_of kind limit old) (entries_of kind limit new)
 
 -- the last of them stands for this answer
-abbrev pub FindsRange : ℕ → RemainingRanges → RemainingRanges → Result Range Error → Type 0
-FindsRange limit old new x =
-    StopsAfter (base_in old.against.setting) (range_of old.against.setting)
-    old.against.base new.against.base
-    (raw_ranges_to_come limit old.raw) (raw_ranges_to_come limit new.raw) x
+abbrev pub Finds : {H E A : Type 0} → ListKind H E A → ℕ → RemainingList H → RemainingList H
+    → Result A Error → Type 0
+Finds kind limit old new x =
+    StopsAfter (kind.base_in old.against.setting) (kind.answer_of old.against.setting)
+    old.against.base new.against.base (entries_of kind limit old) (entries_of kind limit new) x
 
--- a call takes the entries up to its answer, and all where there is none
+-- A call takes the entries up to its answer, and all where there is none. One that is out of memory
+-- may have skipped some.
+abbrev pub TakesEntries : {H E A B : Type 0} → ListKind H E A → (B → A) → ℕ
+    → Result (Option B) Error → RemainingList H → RemainingList H → Type 0
+TakesEntries kind see limit (Ok None) old new =
+    Skips kind limit old new × (entries_of kind limit new ≡ [])
+TakesEntries kind see limit (Ok (Some x)) old new = Finds kind limit old new (Ok (see x))
+TakesEntries kind see limit (Err e) old new =
+    (e ≢ Memory → Finds kind limit old new (Err e)) × (e ≡ Memory → Skips kind limit old new)
+
+-- the same of ranges, which take no memory
 abbrev pub TakesRange : ℕ → Result (Option Range) Error → RemainingRanges → RemainingRanges → Type 0
 TakesRange limit (Ok None) old new =
-    SkipsRanges limit old new × (raw_ranges_to_come limit new.raw ≡ [])
-TakesRange limit (Ok (Some r)) old new = FindsRange limit old new (Ok r)
-TakesRange limit (Err e) old new = FindsRange limit old new (Err e)
+    Skips range_lists limit (range_list old) (range_list new)
+    × (raw_ranges_to_come limit new.raw ≡ [])
+TakesRange limit (Ok (Some r)) old new =
+    Finds range_lists limit (range_list old) (range_list new) (Ok r)
+TakesRange limit (Err e) old new =
+    Finds range_lists limit (range_list old) (range_list new) (Err e)
 
--- ---- locations
-
--- the entries from the old place to the new one stand for no location
-abbrev pub SkipsLocations : ℕ → RemainingLocations → RemainingLocations → Type 0
-SkipsLocations limit old new =
-    SkipsEntries (location_base_in old.against.setting) (location_of old.against.setting)
-    old.against.base new.against.base
-    (raw_locations_to_come limit old.raw) (raw_locations_to_come limit new.raw)
-
--- the last of them stands for this answer
-abbrev pub FindsLocation : ℕ → RemainingLocations → RemainingLocations → Result Location Error
-    → Type 0
-FindsLocation limit old new x =
-    StopsAfter (location_base_in old.against.setting) (location_of old.against.setting)
-    old.against.base new.against.base
-    (raw_locations_to_come limit old.raw) (raw_locations_to_come limit new.raw) x
-
--- the same; one that is out of memory may have skipped some
+-- and of locations
 abbrev pub TakesLocation : {L : Type 0} → (L → Location) → ℕ → Result (Option L) Error
     → RemainingLocations → RemainingLocations → Type 0
-TakesLocation see limit (Ok None) old new =
-    SkipsLocations limit old new × (raw_locations_to_come limit new.raw ≡ [])
-TakesLocation see limit (Ok (Some l)) old new = FindsLocation limit old new (Ok (see l))
-TakesLocation see limit (Err e) old new =
-    (e ≢ Memory → FindsLocation limit old new (Err e))
-    × (e ≡ Memory → SkipsLocations limit old new)
+TakesLocation see limit result old new =
+    TakesEntries location_lists see limit result (location_list old) (location_list new)

@@ -14,17 +14,11 @@ use Rattle.gimli_core_readers.specs.NumberParsers.{fixed, initial_length, addres
 use Rattle.gimli_core_readers.specs.SectionReads.{table_offset_at}
 use Rattle.gimli_core_readers.specs.declared.range.Range.{Range}
 use Rattle.gimli_units_lists.specs.declared.header.ListsHeader.{ListsHeader}
-use Rattle.gimli_units_lists.specs.ListResolutions.{resolutions}
-use Rattle.gimli_units_lists.specs.ListEntries.{Setting, base_in, range_of}
-use Rattle.gimli_units_lists.specs.RangeEntries.{RemainingRawRanges, raw_ranges_to_come}
-use Rattle.gimli_units_lists.specs.LocationEntries.{RemainingRawLocations, raw_locations_to_come, Location, location_base_in, location_of}
+use Rattle.gimli_units_lists.specs.Lists.{Resolution, RemainingList, answers_to_come}
+use Rattle.gimli_units_lists.specs.RangeEntries.{RemainingRawRanges, range_lists}
+use Rattle.gimli_units_lists.specs.LocationEntries.{RemainingRawLocations, Location, location_lists}
 
 -- ---- resolved lists
-
--- what the ranges of entries are made with: a setting, and the base, until an entry sets another
-pub record Resolution : Type 0 where
-  pub setting : Setting
-  pub base : ℕ
 
 -- before the first entry of a unit's list
 abbrev pub from_low_pc : Encoding → ℕ → ℕ → View → Resolution
@@ -43,24 +37,33 @@ pub record RemainingRanges : Type 0 where
   pub raw : RemainingRawRanges
   pub against : Resolution
 
+-- the list that it goes over
+abbrev pub range_list : RemainingRanges → RemainingList Encoding
+range_list r = record { how = r.raw.encoding; rest = r.raw.rest; against = r.against }
+
 -- the ranges that it answers from here on, and the faults among them
 abbrev pub ranges_to_come : ℕ → RemainingRanges → List (Result Range Error)
-ranges_to_come limit r =
-    resolutions (base_in r.against.setting) (range_of r.against.setting) r.against.base
-    (raw_ranges_to_come limit r.raw)
+ranges_to_come limit r = answers_to_come range_lists limit (range_list r)
 
 -- what an iterator over the locations of a list has left
 pub record RemainingLocations : Type 0 where
   pub raw : RemainingRawLocations
   pub against : Resolution
 
+-- the list that it goes over
+abbrev pub location_list : RemainingLocations → RemainingList (Encoding × Bool)
+location_list r =
+    record { how = (r.raw.encoding, r.raw.by_kind); rest = r.raw.rest; against = r.against }
+
 -- the locations that it answers from here on, and the faults among them
 abbrev pub locations_to_come : ℕ → RemainingLocations → List (Result Location Error)
-locations_to_come limit r =
-    resolutions (location_base_in r.against.setting) (location_of r.against.setting) r.against.base
-    (raw_locations_to_come limit r.raw)
+locations_to_come limit r = answers_to_come location_lists limit (location_list r)
 
 -- ---- sections
+
+-- the section of lists up to version 4, or that from version 5 on
+abbrev pub section_of_version : Encoding → View → View → View
+section_of_version encoding to_4 from_5 = if nat_le encoding.version 4 then to_4 else from_5
 
 -- the two sections of range lists
 pub record RangeSections : Type 0 where
@@ -69,7 +72,7 @@ pub record RangeSections : Type 0 where
 
 -- the one for a unit's version
 abbrev pub range_section : Encoding → RangeSections → View
-range_section encoding s = if nat_le encoding.version 4 then s.debug_ranges else s.debug_rnglists
+range_section encoding s = section_of_version encoding s.debug_ranges s.debug_rnglists
 
 -- the two sections of location lists
 pub record LocationSections : Type 0 where
@@ -78,7 +81,7 @@ pub record LocationSections : Type 0 where
 
 -- the one for a unit's version
 abbrev pub location_section : Encoding → LocationSections → View
-location_section encoding s = if nat_le encoding.version 4 then s.debug_loc else s.debug_loclists
+location_section encoding s = section_of_version encoding s.debug_loc s.debug_loclists
 
 -- the bytes of a section from an offset on
 abbrev pub from_offset : ℕ → View → Result View Error

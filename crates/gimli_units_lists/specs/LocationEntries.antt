@@ -4,15 +4,15 @@ use Rattle.std.specs.Prelude.{ℕ, ◌-◌, ◌^◌, ◌==◌, nat_le, Bool, Lis
 use Rattle.gimli_core_readers.specs.TheConstants.{DW_LLE_end_of_list, DW_LLE_base_addressx, DW_LLE_startx_endx, DW_LLE_startx_length, DW_LLE_offset_pair, DW_LLE_default_location, DW_LLE_base_address, DW_LLE_start_end, DW_LLE_start_length}
 use Rattle.gimli_core_readers.specs.Error.{Error}
 use Rattle.gimli_core_readers.specs.Error.TheVariants.{UnknownLocListsEntry}
-use Rattle.gimli_core_readers.specs.View.{View, bytes_left}
+use Rattle.gimli_core_readers.specs.View.{View}
 use Rattle.gimli_core_readers.specs.Parsers.{Parser, ◌>>=◌, give, fail, branch, lift, part}
-use Rattle.gimli_core_readers.specs.Repetition.{Listing, listing_in, answers_of}
 use Rattle.gimli_core_readers.specs.Encoding.{Encoding}
 use Rattle.gimli_core_readers.specs.NumberParsers.{fixed, unsigned, address, offset_below}
 use Rattle.gimli_core_readers.specs.declared.range.Range.{Range}
 use Rattle.gimli_units_lists.specs.ListEntries.{RawEntry, base_address, base_addressx, startx_endx, startx_length, offset_pair, start_end, start_length, Setting, base_in, range_of}
-use Rattle.gimli_units_lists.specs.ListEntryFields.{entry_or_end, both, index, indexes, offsets, addresses, address_and_length}
+use Rattle.gimli_units_lists.specs.ListEntryFields.{both, index, indexes, offsets, addresses, address_and_length}
 use Rattle.gimli_units_lists.specs.RangeEntries.{pair_entry}
+use Rattle.gimli_units_lists.specs.Lists.{ListKind, entries_from}
 
 -- One entry as its list has it: a base, a range with an expression, or the expression of all other
 -- addresses.
@@ -114,14 +114,9 @@ pub record RemainingRawLocations : Type 0 where
   pub by_kind : Bool
   pub rest : View
 
--- the entries up to the list's end, or to the first fault
-abbrev pub location_entries : ℕ → RemainingRawLocations → Listing View RawLocation
-location_entries limit r =
-    listing_in bytes_left (entry_or_end (location_entry limit r.encoding r.by_kind)) r.rest
-
--- what the iterator answers from here on
+-- what the iterator answers from here on: the entries up to the list's end, or to the first fault
 abbrev pub raw_locations_to_come : ℕ → RemainingRawLocations → List (Result RawLocation Error)
-raw_locations_to_come limit r = answers_of (location_entries limit r)
+raw_locations_to_come limit r = entries_from (location_entry limit r.encoding r.by_kind) r.rest
 
 -- ---- what the entries stand for
 
@@ -149,3 +144,11 @@ location_of s b (base e) = without_expression (range_of s b e)
 location_of s b (bounded_location e x) = with_expression x (range_of s b e)
 location_of s b (default_location x) =
     Ok (Some (record { range = record { begin = 0; end = 2 ^ 64 - 1 }; expression = x }))
+
+-- location lists
+abbrev pub location_lists : ListKind (Encoding × Bool) RawLocation Location
+location_lists = record {
+  entry = λ limit how. location_entry limit how.0 how.1;
+  base_in = location_base_in;
+  answer_of = location_of;
+}

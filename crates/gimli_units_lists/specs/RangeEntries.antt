@@ -4,14 +4,15 @@ use Rattle.std.specs.Prelude.{ℕ, ◌==◌, ◌&&◌, nat_le, List, Option, Som
 use Rattle.gimli_core_readers.specs.TheConstants.{DW_RLE_end_of_list, DW_RLE_base_addressx, DW_RLE_startx_endx, DW_RLE_startx_length, DW_RLE_offset_pair, DW_RLE_base_address, DW_RLE_start_end, DW_RLE_start_length}
 use Rattle.gimli_core_readers.specs.Error.{Error}
 use Rattle.gimli_core_readers.specs.Error.TheVariants.{UnknownRangeListsEntry}
-use Rattle.gimli_core_readers.specs.View.{View, bytes_left}
+use Rattle.gimli_core_readers.specs.View.{View}
 use Rattle.gimli_core_readers.specs.Parsers.{Parser, ◌>>=◌, give, fail, branch}
-use Rattle.gimli_core_readers.specs.Repetition.{Listing, listing_in, answers_of}
 use Rattle.gimli_core_readers.specs.Encoding.{Encoding}
 use Rattle.gimli_core_readers.specs.NumberParsers.{fixed, unsigned, address}
 use Rattle.gimli_core_readers.specs.Addresses.{greatest_address}
-use Rattle.gimli_units_lists.specs.ListEntries.{RawEntry, address_or_offset_pair, base_address, base_addressx, startx_endx, startx_length, offset_pair, start_end, start_length}
-use Rattle.gimli_units_lists.specs.ListEntryFields.{entry_or_end, both, index, indexes, offsets, addresses, address_and_length}
+use Rattle.gimli_core_readers.specs.declared.range.Range.{Range}
+use Rattle.gimli_units_lists.specs.ListEntries.{RawEntry, address_or_offset_pair, base_address, base_addressx, startx_endx, startx_length, offset_pair, start_end, start_length, base_in, range_of}
+use Rattle.gimli_units_lists.specs.Lists.{ListKind, entries_from}
+use Rattle.gimli_units_lists.specs.ListEntryFields.{both, index, indexes, offsets, addresses, address_and_length}
 
 -- ---- pairs
 
@@ -70,10 +71,10 @@ pub record RemainingRawRanges : Type 0 where
   pub encoding : Encoding
   pub rest : View
 
--- the entries up to the list's end, or to the first fault
-abbrev pub range_entries : ℕ → RemainingRawRanges → Listing View RawEntry
-range_entries limit r = listing_in bytes_left (entry_or_end (range_entry limit r.encoding)) r.rest
+-- range lists
+abbrev pub range_lists : ListKind Encoding RawEntry Range
+range_lists = record { entry = range_entry; base_in = base_in; answer_of = range_of }
 
--- what the iterator answers from here on
+-- what the iterator answers from here on: the entries up to the list's end, or to the first fault
 abbrev pub raw_ranges_to_come : ℕ → RemainingRawRanges → List (Result RawEntry Error)
-raw_ranges_to_come limit r = answers_of (range_entries limit r)
+raw_ranges_to_come limit r = entries_from (range_entry limit r.encoding) r.rest

@@ -2,6 +2,7 @@
 //! for.
 #![tactic(auto)]
 
+mod entry_list;
 mod fields;
 pub mod header;
 mod list_offset;

@@ -4,6 +4,7 @@ ghost use Rattle.gimli_core_readers.specs.Error.TheVariants.{Memory};
 ghost use Rattle.gimli_units_lists.specs.LocationEntries.{location_pair, location_kind, location_entry, expression, index_and_length};
 ghost use Rattle.gimli_units_lists.specs.ListEntryViews.{raw_location, raw_parts};
 
+use crate::entry_list::ListEntry;
 use crate::fields::{
     read_address_and_length, read_addresses, read_index, read_indexes, read_offsets,
 };
@@ -65,9 +66,34 @@ pub enum RawLocListEntry<R: Reader> {
     },
 }
 
+impl<R: Reader> ListEntry<R> for RawLocListEntry<R> {
+    ghost use Rattle.std.specs.Prelude.{IsTrue};
+    ghost use Rattle.gimli_units_lists.specs.ListEntryViews.{raw_location};
+    ghost use Rattle.gimli_units_lists.specs.LocationEntries.{RawLocation, location_entry};
+
+    // The encoding, and whether entries begin with their kind.
+    type How = (Encoding, bool);
+
+    ghost Raw = { RawLocation };
+
+    ghost see = { raw_location R.view R.Offset.count };
+
+    ghost entry = { λ how. location_entry R.Offset.limit how.0 how.1 };
+
+    ghost reads_freely = { IsTrue R.copies_freely };
+
+    fn parse(input: &mut R, how: (Encoding, bool)) -> Result<Option<Self>, Error> {
+        let (encoding, by_kind) = how;
+        let mut rest = input.copy()?;
+        let entry = parse_entry(&mut rest, encoding, by_kind)?;
+        *input = rest;
+        Ok(entry)
+    }
+}
+
 // The next entry of a list, none at its end.
 #[tactic(auto, unfolding(crate::specs::LocationEntries::location_entry))]
-pub(crate) fn parse_entry<R: Reader>(
+fn parse_entry<R: Reader>(
     input: &mut R,
     encoding: Encoding,
     by_kind: bool,

@@ -1,13 +1,13 @@
 ghost use Rattle.std.specs.Prelude.{◌≡◌, ◌≢◌, ◌≤◌, length, IsTrue, IfOk, true, false, option_map, Err};
 ghost use Rattle.gimli_core_readers.specs.View.{bytes_left};
-ghost use Rattle.std.specs.Fn.{CalledAt};
-ghost use Rattle.gimli_core_readers.specs.Calls.{ReturnsAs, ReturnsAsOrNoMemory, ReturnsOrNoMemory};
+ghost use Rattle.std.specs.Fn.{FnReturnsAt};
+ghost use Rattle.gimli_core_readers.specs.Calls.{ReturnsAs, ReturnsOrNoMemory};
 ghost use Rattle.gimli_core_readers.specs.Error.TheVariants.{Memory};
 ghost use Rattle.gimli_core_readers.specs.NumberParsers.{is_address_size};
 ghost use Rattle.gimli_units_lists.specs.LocationEntries.{raw_locations_to_come};
-ghost use Rattle.gimli_units_lists.specs.ListSections.{raw_locations_at, locations_at, locations_to_come, from_low_pc, from_offset, location_section, list_offset_at, location_place_of};
+ghost use Rattle.gimli_units_lists.specs.ListSections.{raw_locations_at, locations_at, locations_to_come, from_low_pc, list_offset_at, location_place_of};
 
-use crate::list_offset::list_offset;
+use crate::list_offset::{list_bytes, list_offset};
 use crate::location_sections::{DebugLoc, DebugLocLists};
 use crate::locations::LocListIter;
 use crate::raw_locations::RawLocListIter;
@@ -115,7 +115,8 @@ impl<R: Reader> LocationLists<R> {
             (λ entries. length (raw_locations_to_come R.Offset.limit entries)
             ≤ bytes_left entries.rest) }
     {
-        let input = self.section_from(offset, unit_encoding)?;
+        let (to_4, from_5) = (self.debug_loc.reader(), self.debug_loclists.reader());
+        let input = list_bytes(to_4, from_5, unit_encoding, offset.0)?;
         let by_kind = unit_encoding.version > 4;
         Ok(RawLocListIter::new(input, unit_encoding, by_kind))
     }
@@ -135,27 +136,9 @@ impl<R: Reader> LocationLists<R> {
             (λ entries. length (raw_locations_to_come R.Offset.limit entries)
             ≤ bytes_left entries.rest) }
     {
-        let input = self.section_from(offset, unit_encoding)?;
+        let (to_4, from_5) = (self.debug_loc.reader(), self.debug_loclists.reader());
+        let input = list_bytes(to_4, from_5, unit_encoding, offset.0)?;
         Ok(RawLocListIter::new(input, unit_encoding, true))
-    }
-
-    // The bytes of the section of a unit's version, from an offset on.
-    fn section_from(
-        &self,
-        offset: LocationListsOffset<R::Offset>,
-        unit_encoding: Encoding,
-    ) -> Result<R, Error>
-        ensures value { ReturnsAsOrNoMemory R.view result
-            (from_offset (R.Offset.count offset.0) (location_section unit_encoding self.now)) }
-        ensures free { IsTrue R.copies_freely → result ≢ Err Memory }
-    {
-        let mut input = if unit_encoding.version <= 4 {
-            self.debug_loc.reader().copy()?
-        } else {
-            self.debug_loclists.reader().copy()?
-        };
-        input.skip(offset.0)?;
-        Ok(input)
     }
 
     /// The offset of the list that an index stands for, in `.debug_loclists` (DWARF 5, 7.29). Takes
@@ -185,15 +168,16 @@ impl<R: Reader> LocationLists<R> {
             .or_else(|| self.debug_loclists.lookup_offset_id(id))
     }
 
-    /// The lists over what a function makes of the reader of each section, `.debug_loc` first.
-    pub fn borrow<'a, F, S>(&'a self, mut f: F) -> LocationLists<S>
+    /// The lists over what a function makes of the reader of each section. It has no state, so it
+    /// doesn't matter which it is called with first.
+    pub fn borrow<'a, F, S>(&'a self, f: F) -> LocationLists<S>
     where
-        F: FnMut(&'a R) -> S,
+        F: Fn(&'a R) -> S,
         S: Reader,
         requires { F.IsAlwaysCallable f }
-        ensures { (loc loclists : R) × (old new : S) × (between last : F)
+        ensures { (loc loclists : R) × (old new : S)
             × (R.view loc ≡ self.now.debug_loc) × (R.view loclists ≡ self.now.debug_loclists)
-            × CalledAt F.FnMut f loc old between × CalledAt F.FnMut between loclists new last
+            × FnReturnsAt F.Fn f loc old × FnReturnsAt F.Fn f loclists new
             × (result ≡ record { debug_loc = S.view old; debug_loclists = S.view new }) }
     {
         let debug_loc = DebugLoc::from(f(self.debug_loc.reader()));

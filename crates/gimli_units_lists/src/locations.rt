@@ -8,6 +8,7 @@ ghost use Rattle.gimli_units_lists.specs.ListProgress.{TakesLocation};
 ghost use Rattle.gimli_units_lists.specs.LocationEntries.{raw_locations_to_come, location_base_in, location_of};
 ghost use Rattle.gimli_units_lists.specs.ListEntryViews.{raw_location, location};
 
+use crate::entry_list::{EntryList, next_answer};
 use crate::location_entry::{Parts, RawLocListEntry, parts_of};
 use crate::raw_locations::RawLocListIter;
 use crate::resolver::Resolver;
@@ -61,12 +62,7 @@ impl<R: Reader> LocListIter<R> {
         ensures setting { self.new.against.setting ≡ self.old.against.setting }
         ensures free { IsTrue R.copies_freely → result ≢ Err Memory }
     {
-        while let Some(entry) = self.next_raw()? {
-            if let Some(location) = self.convert_raw(entry)? {
-                return Ok(Some(location));
-            }
-        }
-        Ok(None)
+        next_answer(self)
     }
 
     /// The next entry, not converted; it sets no base.
@@ -116,5 +112,48 @@ impl<R: Reader> LocListIter<R> {
                 Ok(Some(LocationListEntry { range, expression }))
             }
         }
+    }
+}
+
+impl<R: Reader> EntryList for LocListIter<R> {
+    ghost use Rattle.std.specs.Prelude.{Bool, IsTrue};
+    ghost use Rattle.gimli_core_readers.specs.Encoding.{Encoding};
+    ghost use Rattle.gimli_units_lists.specs.ListEntryViews.{raw_location, location};
+    ghost use Rattle.gimli_units_lists.specs.ListSections.{location_list};
+    ghost use Rattle.gimli_units_lists.specs.LocationEntries.{RawLocation, Location, location_lists};
+
+    type Entry = RawLocListEntry<R>;
+
+    type Answer = LocationListEntry<R>;
+
+    ghost How = { Encoding × Bool };
+
+    ghost Raw = { RawLocation };
+
+    ghost Found = { Location };
+
+    ghost see_entry = { raw_location R.view R.Offset.count };
+
+    ghost see = { location R.view };
+
+    ghost kind = { location_lists };
+
+    ghost limit = { R.Offset.limit };
+
+    ghost remaining = { location_list };
+
+    ghost range_in = { λ l. l.range };
+
+    ghost reads_freely = { IsTrue R.copies_freely };
+
+    fn take_entry(&mut self) -> Result<Option<RawLocListEntry<R>>, Error> {
+        self.next_raw()
+    }
+
+    fn resolve(
+        &mut self,
+        entry: RawLocListEntry<R>,
+    ) -> Result<Option<LocationListEntry<R>>, Error> {
+        self.convert_raw(entry)
     }
 }

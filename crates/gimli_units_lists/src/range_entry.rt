@@ -3,6 +3,7 @@ ghost use Rattle.gimli_core_readers.specs.Calls.{ReturnsAs};
 ghost use Rattle.gimli_units_lists.specs.RangeEntries.{range_pair, range_kind, range_entry};
 ghost use Rattle.gimli_units_lists.specs.ListEntryViews.{raw_entry};
 
+use crate::entry_list::ListEntry;
 use crate::fields::{
     read_address_and_length, read_addresses, read_index, read_indexes, read_offsets,
 };
@@ -51,9 +52,29 @@ pub enum RawRngListEntry<T> {
     },
 }
 
+impl<R: Reader> ListEntry<R> for RawRngListEntry<R::Offset> {
+    ghost use Rattle.gimli_units_lists.specs.ListEntries.{RawEntry};
+    ghost use Rattle.gimli_units_lists.specs.ListEntryViews.{raw_entry};
+    ghost use Rattle.gimli_units_lists.specs.RangeEntries.{range_entry};
+
+    type How = Encoding;
+
+    ghost Raw = { RawEntry };
+
+    ghost see = { raw_entry R.Offset.count };
+
+    ghost entry = { range_entry R.Offset.limit };
+
+    ghost reads_freely = { Unit {0} };
+
+    fn parse(input: &mut R, encoding: Encoding) -> Result<Option<Self>, Error> {
+        parse_entry(input, encoding)
+    }
+}
+
 // The next entry of a list, none at its end.
 #[tactic(auto, unfolding(crate::specs::RangeEntries::range_entry))]
-pub(crate) fn parse_entry<R: Reader>(
+fn parse_entry<R: Reader>(
     input: &mut R,
     encoding: Encoding,
 ) -> Result<Option<RawRngListEntry<R::Offset>>, Error>

@@ -1,13 +1,13 @@
 ghost use Rattle.std.specs.Prelude.{◌≡◌, ◌≢◌, ◌≤◌, length, IsTrue, IfOk, option_map, Err};
 ghost use Rattle.gimli_core_readers.specs.View.{bytes_left};
-ghost use Rattle.std.specs.Fn.{CalledAt};
+ghost use Rattle.std.specs.Fn.{FnReturnsAt};
 ghost use Rattle.gimli_core_readers.specs.Calls.{ReturnsAs, ReturnsOrNoMemory};
 ghost use Rattle.gimli_core_readers.specs.Error.TheVariants.{Memory};
 ghost use Rattle.gimli_core_readers.specs.NumberParsers.{is_address_size};
 ghost use Rattle.gimli_units_lists.specs.RangeEntries.{raw_ranges_to_come};
 ghost use Rattle.gimli_units_lists.specs.ListSections.{raw_ranges_at, ranges_at, ranges_to_come, from_low_pc, list_offset_at, range_place_of};
 
-use crate::list_offset::list_offset;
+use crate::list_offset::{list_bytes, list_offset};
 use crate::range_sections::{DebugRanges, DebugRngLists};
 use crate::ranges::RngListIter;
 use crate::raw_ranges::RawRngListIter;
@@ -113,12 +113,8 @@ impl<R: Reader> RangeLists<R> {
             (λ entries. length (raw_ranges_to_come R.Offset.limit entries)
             ≤ bytes_left entries.rest) }
     {
-        let mut input = if unit_encoding.version <= 4 {
-            self.debug_ranges.reader().copy()?
-        } else {
-            self.debug_rnglists.reader().copy()?
-        };
-        input.skip(offset.0)?;
+        let (to_4, from_5) = (self.debug_ranges.reader(), self.debug_rnglists.reader());
+        let input = list_bytes(to_4, from_5, unit_encoding, offset.0)?;
         Ok(RawRngListIter::new(input, unit_encoding))
     }
 
@@ -150,15 +146,16 @@ impl<R: Reader> RangeLists<R> {
             .or_else(|| self.debug_rnglists.lookup_offset_id(id))
     }
 
-    /// The lists over what a function makes of the reader of each section, `.debug_ranges` first.
-    pub fn borrow<'a, F, S>(&'a self, mut f: F) -> RangeLists<S>
+    /// The lists over what a function makes of the reader of each section. It has no state, so it
+    /// doesn't matter which it is called with first.
+    pub fn borrow<'a, F, S>(&'a self, f: F) -> RangeLists<S>
     where
-        F: FnMut(&'a R) -> S,
+        F: Fn(&'a R) -> S,
         S: Reader,
         requires { F.IsAlwaysCallable f }
-        ensures { (ranges rnglists : R) × (old new : S) × (between last : F)
+        ensures { (ranges rnglists : R) × (old new : S)
             × (R.view ranges ≡ self.now.debug_ranges) × (R.view rnglists ≡ self.now.debug_rnglists)
-            × CalledAt F.FnMut f ranges old between × CalledAt F.FnMut between rnglists new last
+            × FnReturnsAt F.Fn f ranges old × FnReturnsAt F.Fn f rnglists new
             × (result ≡ record { debug_ranges = S.view old; debug_rnglists = S.view new }) }
     {
         let debug_ranges = DebugRanges::from(f(self.debug_ranges.reader()));

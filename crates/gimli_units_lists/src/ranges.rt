@@ -8,6 +8,7 @@ ghost use Rattle.gimli_units_lists.specs.ListProgress.{TakesRange};
 ghost use Rattle.gimli_units_lists.specs.RangeEntries.{raw_ranges_to_come};
 ghost use Rattle.gimli_units_lists.specs.ListEntryViews.{raw_entry};
 
+use crate::entry_list::{EntryList, next_answer};
 use crate::range_entry::RawRngListEntry;
 use crate::raw_ranges::RawRngListIter;
 use crate::resolver::Resolver;
@@ -50,12 +51,7 @@ impl<R: Reader> RngListIter<R> {
         ensures setting { self.new.against.setting ≡ self.old.against.setting }
         ensures free { result ≢ Err Memory }
     {
-        while let Some(entry) = self.next_raw()? {
-            if let Some(range) = self.convert_raw(entry)? {
-                return Ok(Some(range));
-            }
-        }
-        Ok(None)
+        next_answer(self)
     }
 
     /// The next entry, not converted; it sets no base.
@@ -89,5 +85,46 @@ impl<R: Reader> RngListIter<R> {
         ensures free { result ≢ Err Memory }
     {
         self.resolver.range(raw_range)
+    }
+}
+
+impl<R: Reader> EntryList for RngListIter<R> {
+    ghost use Rattle.gimli_core_readers.specs.Encoding.{Encoding};
+    ghost use Rattle.gimli_core_readers.specs.declared.range.Range.{Range};
+    ghost use Rattle.gimli_units_lists.specs.ListEntries.{RawEntry};
+    ghost use Rattle.gimli_units_lists.specs.ListEntryViews.{raw_entry};
+    ghost use Rattle.gimli_units_lists.specs.ListSections.{range_list};
+    ghost use Rattle.gimli_units_lists.specs.RangeEntries.{range_lists};
+
+    type Entry = RawRngListEntry<R::Offset>;
+
+    type Answer = Range;
+
+    ghost How = { Encoding };
+
+    ghost Raw = { RawEntry };
+
+    ghost Found = { Range };
+
+    ghost see_entry = { raw_entry R.Offset.count };
+
+    ghost see = { λ range. range };
+
+    ghost kind = { range_lists };
+
+    ghost limit = { R.Offset.limit };
+
+    ghost remaining = { range_list };
+
+    ghost range_in = { λ range. range };
+
+    ghost reads_freely = { Unit {0} };
+
+    fn take_entry(&mut self) -> Result<Option<RawRngListEntry<R::Offset>>, Error> {
+        self.next_raw()
+    }
+
+    fn resolve(&mut self, entry: RawRngListEntry<R::Offset>) -> Result<Option<Range>, Error> {
+        self.convert_raw(entry)
     }
 }

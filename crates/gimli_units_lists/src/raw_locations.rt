@@ -4,7 +4,8 @@ ghost use Rattle.gimli_core_readers.specs.Iterators.{ReturnsNextOrNoMemory};
 ghost use Rattle.gimli_units_lists.specs.LocationEntries.{raw_locations_to_come};
 ghost use Rattle.gimli_units_lists.specs.ListEntryViews.{raw_location};
 
-use crate::location_entry::{RawLocListEntry, parse_entry};
+use crate::entry_list::next_entry;
+use crate::location_entry::RawLocListEntry;
 use gimli_core_readers::{Encoding, Error, Reader};
 use std::marker::Model;
 
@@ -51,24 +52,6 @@ impl<R: Reader> RawLocListIter<R> {
         ensures by_kind { self.new.by_kind ≡ self.old.by_kind }
         ensures free { IsTrue R.copies_freely → result ≢ Err Memory }
     {
-        if self.input.is_empty() {
-            return Ok(None);
-        }
-        let mut input = self.input.copy()?;
-        match parse_entry(&mut input, self.encoding, self.by_kind) {
-            Ok(Some(entry)) => {
-                self.input = input;
-                Ok(Some(entry))
-            }
-            Ok(None) => {
-                self.input.empty();
-                Ok(None)
-            }
-            Err(Error::Memory) => Err(Error::Memory),
-            Err(fault) => {
-                self.input.empty();
-                Err(fault)
-            }
-        }
+        next_entry(&mut self.input, (self.encoding, self.by_kind))
     }
 }

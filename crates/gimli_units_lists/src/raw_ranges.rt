@@ -1,10 +1,11 @@
-ghost use Rattle.std.specs.Prelude.{◌≡◌, ◌≢◌, IsTrue, Ok, Err};
+ghost use Rattle.std.specs.Prelude.{◌≡◌, ◌≢◌, Err};
 ghost use Rattle.gimli_core_readers.specs.Error.TheVariants.{Memory};
 ghost use Rattle.gimli_core_readers.specs.Iterators.{ReturnsNext};
 ghost use Rattle.gimli_units_lists.specs.RangeEntries.{raw_ranges_to_come};
 ghost use Rattle.gimli_units_lists.specs.ListEntryViews.{raw_entry};
 
-use crate::range_entry::{RawRngListEntry, parse_entry};
+use crate::entry_list::next_entry;
+use crate::range_entry::RawRngListEntry;
 use gimli_core_readers::{Encoding, Error, Reader};
 use std::marker::Model;
 
@@ -40,19 +41,6 @@ impl<R: Reader> RawRngListIter<R> {
         ensures encoding { self.new.encoding ≡ self.old.encoding }
         ensures free { result ≢ Err Memory }
     {
-        if self.input.is_empty() {
-            return Ok(None);
-        }
-        match parse_entry(&mut self.input, self.encoding) {
-            Ok(Some(entry)) => Ok(Some(entry)),
-            Ok(None) => {
-                self.input.empty();
-                Ok(None)
-            }
-            Err(fault) => {
-                self.input.empty();
-                Err(fault)
-            }
-        }
+        next_entry(&mut self.input, self.encoding)
     }
 }

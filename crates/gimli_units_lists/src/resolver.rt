@@ -26,7 +26,7 @@ pub(crate) struct Resolver<R: Reader> {
 impl<R: Reader> Model for Resolver<R> {
     ghost use Rattle.std.specs.Prelude.{IsTrue};
     ghost use Rattle.gimli_core_readers.specs.NumberParsers.{is_address_size};
-    ghost use Rattle.gimli_units_lists.specs.ListSections.{Resolution};
+    ghost use Rattle.gimli_units_lists.specs.Lists.{Resolution};
 
     ghost Value = { Resolution };
 

@@ -79,15 +79,15 @@ pub fn read_whole<R: Reader>(alloc: Global, info: R, abbrev: R) -> Result<u64, E
 
 // A number for each value; for bytes, how many there are.
 fn number_of<R: Reader>(attribute: &Attribute<R>) -> Result<u64, Error> {
-    Ok(match attribute.raw_value()? {
-        AttributeValue::Addr(address) => address,
-        AttributeValue::Data1(number) => u64::from(number),
-        AttributeValue::Data2(number) => u64::from(number),
-        AttributeValue::Data4(number) => u64::from(number),
-        AttributeValue::Data8(number) => number,
-        AttributeValue::Udata(number) => number,
+    Ok(match attribute.raw_value_ref() {
+        AttributeValue::Addr(address) => *address,
+        AttributeValue::Data1(number) => u64::from(*number),
+        AttributeValue::Data2(number) => u64::from(*number),
+        AttributeValue::Data4(number) => u64::from(*number),
+        AttributeValue::Data8(number) => *number,
+        AttributeValue::Udata(number) => *number,
         AttributeValue::Sdata(number) => number.cast_unsigned(),
-        AttributeValue::Flag(flag) => u64::from(flag),
+        AttributeValue::Flag(flag) => u64::from(*flag),
         AttributeValue::UnitRef(offset) => offset.0.into_u64(),
         AttributeValue::SecOffset(offset) => offset.into_u64(),
         AttributeValue::DebugStrRef(offset) => offset.0.into_u64(),

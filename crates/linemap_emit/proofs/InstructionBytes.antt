@@ -12,9 +12,9 @@ pub same_instructions : (e : Encoding) (is_big order : Bool) (u : UnitPart) (ss 
     → order ≡ is_big → ss ≡ u.sequences
     → entries_bytes constant_of order (emitted_rules e) (first_row (emitted_rules e)) (emitted_sequences ss) ≡ Ok xs
     → instructions_of e is_big u ≡ Ok ys → xs ≡ ys
-same_instructions e is_big order u ss xs ys big same given known =
+same_instructions e is_big order u ss xs ys big same premise known =
     ap bytes_if_any
-    (sym given ∙ ap
+    (sym premise ∙ ap
     (λ (b : Bool). entries_bytes constant_of b (emitted_rules e) (first_row (emitted_rules e)) (emitted_sequences ss))
     big
     ∙ ap (λ (s : List SequencePart). entries_bytes constant_of is_big (emitted_rules e) (first_row (emitted_rules e))

@@ -109,12 +109,12 @@ before_next e is_big x same order =
 next_holds : (e : Encoding) (is_big : Bool) (u : UnitPart) (st : EmittedTable)
     → HoldsTable e is_big (with_emitted_unit e is_big u st) (with_unit_added u (emitter_of e is_big st))
 next_holds e is_big u st =
-    let kept = unit_keeps (length st.lines) u (before_entries e is_big st) in
+    let keeps = unit_keeps (length st.lines) u (before_entries e is_big st) in
     record {
       encoding_is = refl;
       lines_are = refl;
       units_are = ap (bytes_in_order is_big) (units_more e is_big st.units (after_entries e is_big u st).entries);
-      emitter_is = before_next e is_big (after_entries e is_big u st) kept.0 kept.1;
+      emitter_is = before_next e is_big (after_entries e is_big u st) keeps.0 keeps.1;
     }
 
 pub unit_added : (e : Encoding) (is_big : Bool) (u : UnitPart) (st : EmittedTable) (s t : TableEmitter)
@@ -189,10 +189,10 @@ can_take e is_big u st s served holds_before fits =
     }
 
 -- all units, one of them and then the others
-pub all_behind : (e : Encoding) (is_big : Bool) (u : UnitPart) (us : List UnitPart) (st : EmittedTable)
+pub all_later : (e : Encoding) (is_big : Bool) (u : UnitPart) (us : List UnitPart) (st : EmittedTable)
     → with_emitted_units e is_big (u ∷ us) st ≡ with_emitted_units e is_big us (with_emitted_unit e is_big u st)
 unfolding with_emitted_units
-all_behind e is_big u us st = refl
+all_later e is_big u us st = refl
 
 pub none_left : (e : Encoding) (is_big : Bool) (st : EmittedTable) → with_emitted_units e is_big [] st ≡ st
 unfolding with_emitted_units

@@ -1,16 +1,10 @@
 -- The targets that sections are emitted for.
-use Rattle.std.specs.Prelude.{ℕ, ◌==◌, ◌&&◌, not, Bool, true, false}
+use Rattle.std.specs.Prelude.{ℕ, ◌==◌, ◌&&◌, not, Bool, false}
 use Rattle.linemap_emit_fits.specs.Encoding.{Encoding}
 use Rattle.linemap_emit_fits.specs.Format.{Format}
 use Rattle.linemap_emit_fits.specs.Format.TheVariants.{Dwarf32, Dwarf64}
-use Rattle.linemap_emit_fits.specs.RunTimeEndian.{RunTimeEndian}
-use Rattle.linemap_emit_fits.specs.RunTimeEndian.TheVariants.{Little, Big}
+use Rattle.linemap_emit_fits.specs.ByteOrders.{is_big_endian}
 use Rattle.linemap_emit.specs.declared.target.Target.{Target}
-
--- whether the more significant byte of a number comes first
-abbrev pub is_big : RunTimeEndian → Bool
-is_big Little = false
-is_big Big = true
 
 -- its version, format and address size
 abbrev pub encoding_of : Target → Encoding
@@ -18,7 +12,7 @@ encoding_of t = t.encoding
 
 -- its order of bytes
 abbrev pub is_big_of : Target → Bool
-is_big_of t = is_big t.endian
+is_big_of t = is_big_endian t.endian
 
 -- the targets that are served: version 4, 32-bit DWARF, addresses of eight bytes, the less
 -- significant byte of a number first

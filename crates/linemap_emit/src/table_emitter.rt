@@ -15,7 +15,8 @@ ghost use Rattle.linemap_emit_fits.specs.EmittedRows.{emitted_rules, emitted_seq
 ghost use Rattle.linemap_emit_fits.specs.SoundSequences.{CanEmitSequences};
 ghost use Rattle.linemap_emit_fits.specs.TableEmission.{program_of, no_units, emitted_table};
 ghost use Rattle.linemap_emit_fits.specs.FittingUnits.{IsServed, AllUnitsFit};
-ghost use Rattle.linemap_emit.specs.EmissionTargets.{encoding_of, is_big, is_big_of};
+ghost use Rattle.linemap_emit.specs.EmissionTargets.{encoding_of, is_big_of};
+ghost use Rattle.linemap_emit_fits.specs.ByteOrders.{is_big_endian};
 ghost use Rattle.linemap_emit_fits.specs.EmittedSections.{emitted_sections};
 ghost use Rattle.linemap_emit.specs.TableEmitterSteps.{CanAddUnit, ProgramFits, HoldsTable, with_unit_added};
 
@@ -59,14 +60,14 @@ fn instructions(
 ) -> Result<EndianVec<RunTimeEndian>, Error>
     requires served { IsServed encoding }
     requires emits { CanEmitSequences (map sequence_part sequences.now) }
-    requires spelled { IsOk (entries_bytes constant_of (is_big endian) (emitted_rules encoding)
+    requires spelled { IsOk (entries_bytes constant_of (is_big_endian endian) (emitted_rules encoding)
         (first_row (emitted_rules encoding))
         (emitted_sequences (map sequence_part sequences.now))) }
     ensures ok { IfOk result
-        (λ w. entries_bytes constant_of (is_big endian) (emitted_rules encoding)
+        (λ w. entries_bytes constant_of (is_big_endian endian) (emitted_rules encoding)
         (first_row (emitted_rules encoding))
         (emitted_sequences (map sequence_part sequences.now)) ≡ Ok w.bytes) }
-    ensures refused { IfErr result (λ e. e ≡ Memory) }
+    ensures refusal { IfErr result (λ e. e ≡ Memory) }
 {
     let entries = entries_of(alloc, sequences)?;
     let mut bytes = EndianVec::new(alloc, endian);
@@ -139,7 +140,7 @@ impl TableEmitter {
     fn unit(&mut self, alloc: Global, unit: &TableUnit) -> Result<(), Error>
         requires { CanAddUnit (unit_part unit.now) self.old }
         ensures ok { OnOk result (self.new ≡ with_unit_added (unit_part unit.now) self.old) }
-        ensures refused { IfErr result (λ e. e ≡ Memory) }
+        ensures refusal { IfErr result (λ e. e ≡ Memory) }
     {
         let line_program = self.lines.len() as u64;
         write_info(
@@ -156,7 +157,7 @@ impl TableEmitter {
     // The section of the declarations.
     fn declarations(&self, alloc: Global) -> Result<Vec<u8>, Error>
         ensures ok { IfOk result (λ bytes. bytes.items ≡ spelled_declarations self.now.encoding) }
-        ensures refused { IfErr result (λ e. e ≡ Memory) }
+        ensures refusal { IfErr result (λ e. e ≡ Memory) }
     {
         let mut w = EndianVec::new(alloc, self.info.endian());
         write_declarations(&mut w, self.encoding)?;
@@ -166,7 +167,7 @@ impl TableEmitter {
     // The section of the texts.
     fn texts(&self, alloc: Global) -> Result<Vec<u8>, Error>
         ensures ok { IfOk result (λ bytes. bytes.items ≡ section_of self.now.emitter.texts) }
-        ensures refused { IfErr result (λ e. e ≡ Memory) }
+        ensures refusal { IfErr result (λ e. e ≡ Memory) }
     {
         let mut w = EndianVec::new(alloc, self.info.endian());
         self.emitter.write_strings(&mut w)?;
@@ -205,7 +206,7 @@ fn emitter_of_units(
     ensures ok { IfOk result
         (HoldsTable (encoding_of target) (is_big_of target)
         (emitted_table (encoding_of target) (is_big_of target) (map unit_part units.now))) }
-    ensures refused { IfErr result (λ e. e ≡ Memory) }
+    ensures refusal { IfErr result (λ e. e ≡ Memory) }
 {
     let mut emitter = TableEmitter::new(alloc, target);
     for unit in units {
@@ -224,7 +225,7 @@ pub(crate) fn emit_units(
         no_units }
     ensures ok { IfOk result (λ s. s
         ≡ emitted_sections (encoding_of target) (is_big_of target) (map unit_part units.now)) }
-    ensures refused { IfErr result (λ e. e ≡ Memory) }
+    ensures refusal { IfErr result (λ e. e ≡ Memory) }
 {
     let emitter = emitter_of_units(alloc, target, units)?;
     let declarations = emitter.declarations(alloc)?;

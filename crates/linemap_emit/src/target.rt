@@ -15,7 +15,8 @@ pub struct Target {
 }
 
 impl Target {
-    ghost use Rattle.linemap_emit.specs.EmissionTargets.{encoding_of, is_big, is_big_of, is_served};
+    ghost use Rattle.linemap_emit.specs.EmissionTargets.{encoding_of, is_big_of, is_served};
+    ghost use Rattle.linemap_emit_fits.specs.ByteOrders.{is_big_endian};
 
     /// The target of a version, a format, a size of addresses in bytes, and an order of bytes.
     /// Version 4 is served, in 32-bit DWARF, with addresses of eight bytes, the less significant
@@ -49,7 +50,7 @@ impl Target {
 
     /// The order of bytes.
     pub fn endian(self) -> RunTimeEndian
-        ensures { is_big result ≡ is_big_of self }
+        ensures { is_big_endian result ≡ is_big_of self }
     {
         self.endian
     }

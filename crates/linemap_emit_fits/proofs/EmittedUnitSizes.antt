@@ -48,9 +48,9 @@ module _ (e : Encoding) (is_big : Bool) (served : IsServed e) where
   unit_fits m u st rows can bounded fits =
       let few_bytes = instructions_few u rows in
       let bytes_few = few_bytes.few in
-      let kept = entries_bounded m u st can bounded fits in
+      let bounds = entries_bounded m u st can bounded fits in
       let entries = after_entries e is_big u st in
-      let entries_few = kept.entries_few in
+      let entries_few = bounds.entries_few in
       let header = header_few e.version u in
       let after = body_few e is_big u few_bytes.bytes in
       let fields = fields_few e is_big in
@@ -64,7 +64,7 @@ module _ (e : Encoding) (is_big : Bool) (served : IsServed e) where
         instructions_are = few_bytes.are;
         header_small = omega arith;
         program_small = omega arith;
-        entries_fit = kept.fit;
+        entries_fit = bounds.fit;
         entries_small = omega arith;
       }
 
@@ -73,15 +73,15 @@ module _ (e : Encoding) (is_big : Bool) (served : IsServed e) where
       → IsTableBounded (m + unit_weight u) (with_emitted_unit e is_big u st)
   unit_bounded m u st rows can bounded fits =
       let few_bytes = instructions_few u rows in
-      let kept = entries_bounded m u st can bounded fits in
+      let bounds = entries_bounded m u st can bounded fits in
       let bytes = bytes_if_any (instructions_of e is_big u) in
       let lines : length (st.lines ++ program_of e is_big u) ≤ m + unit_weight u =
       sum _ (length u.ranges) (length u.directory) (length u.name) (sum_by file_weight u.files)
       (sum_by function_weight u.functions) _ _ _ m _ _ bounded.lines_few few_bytes.few
       (ap (λ r. length (bytes_if_any r)) few_bytes.are) (program_few e is_big u bytes)
       (length-append st.lines (program_of e is_big u)) in
-      let texts = kept.texts_few in
-      let ranges = kept.ranges_few in
+      let texts = bounds.texts_few in
+      let ranges = bounds.ranges_few in
       record { lines_few = lines; texts_few = omega arith; ranges_few = omega arith }
     where
       sum : (l r d n f fs s t b m p x : ℕ) → l ≤ m → t ≤ s → b ≡ t → p ≤ 42 + f + b → x ≡ l + p

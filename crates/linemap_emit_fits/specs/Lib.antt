@@ -3,6 +3,7 @@ pub use Rattle.linemap_emit_units.specs.NumberParsers
 pub use Rattle.linemap_emit_units.specs.Encoding
 pub use Rattle.linemap_emit_units.specs.Format
 pub use Rattle.linemap_emit_units.specs.SectionId
+pub use Rattle.linemap_emit_units.specs.ByteOrders
 pub use Rattle.linemap_emit_units.specs.RunTimeEndian
 pub use Rattle.linemap_emit_units.specs.DwarfFiles
 pub use Rattle.linemap_emit_units.specs.BytesAt

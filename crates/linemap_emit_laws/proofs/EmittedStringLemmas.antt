@@ -6,7 +6,7 @@ use Rattle.linemap_emit_units.specs.Encoding.{Encoding}
 use Rattle.linemap_emit_units.specs.SectionReads.{string_at}
 use Rattle.linemap_emit_units.specs.StringSections.{same_bytes, IsText as HasNoZero, with_text, text_index, offset_of, section_of}
 use Rattle.linemap_emit_units.proofs.TextTableLemmas.{with_text-again, with_text-new}
-use Rattle.linemap_emit_units.proofs.SectionTexts.{stands, stays, read_again}
+use Rattle.linemap_emit_units.proofs.SectionTexts.{text_at_index, stays, read_again}
 use Rattle.linemap_emit_units.specs.DwarfFiles.{DwarfFile}
 use Rattle.linemap_emit_units.specs.TableParts.{Calls, no_calls, more_calls, FunctionPart, UnitPart}
 use Rattle.linemap_emit_units.specs.UnitEmission.{EmittedUnit, has_calls, with_end_of_children, with_call, with_calls, with_function_entry, with_function, with_functions, with_unit_entry, with_unit, CanEmitCalls, CanEmitFunctions, CanEmitUnit}
@@ -76,7 +76,7 @@ pub text_is : (s : DwarfFile) (is_big : Bool) (first : ℕ) (all texts : List (L
     → HasTextAt s (offset_of (with_text texts t) (text_index texts t)) t
 text_is s is_big first all texts t str no_zeros stay =
     let place = text_index texts t in
-    let there = stay place t (stands texts t) in
+    let there = stay place t (text_at_index texts t) in
     record {
       found = bytes_at is_big (first + offset_of all place) t;
       there = ap (λ n. string_at n s.sections.debug_str) (sym there.1) ∙ ap (string_at (offset_of all place)) str

@@ -25,7 +25,7 @@ use Rattle.linemap_emit_units.specs.UnitFacts.{UnitFacts, in_file, root}
 use Rattle.linemap_emit_units.specs.Lines.{Lines, sequences_of_rows}
 use Rattle.linemap_emit_units.specs.UnitLines.{lines_of_unit}
 use Rattle.linemap_emit_units.specs.UnitRanges.{RangeFact, no_fact, begins_at, has_list, last_of, list_in, declared_ranges, ranges_of_attributes, or_else, ranges_of_lines, language_in}
-use Rattle.linemap_emit_units.specs.Contexts.{ContextUnit, context, context_unit, unit_of_root, facts_of_code_unit, readable_facts, headers_of, units_of_file, units_of_supplement, ranges_of, lines_of, location}
+use Rattle.linemap_emit_units.specs.Contexts.{ContextUnit, context, context_unit, unit_of_entry, facts_of_code_unit, readable_facts, headers_of, units_of_file, units_of_supplement, ranges_of, lines_of, location}
 use Rattle.linemap_emit_units.specs.TableParts.{RangePart, UnitPart}
 use Rattle.linemap_emit_units.specs.Conditions.{has_no_range, any_call, IsSound}
 use Rattle.linemap_emit_units.specs.Meaning as table
@@ -118,10 +118,10 @@ unit_again e is_big s u xs say offset first w main some =
     (root_entry e s u xs say))) (sym say.entries_are)
     (root_again s.offset_limit e is_big offset first say.name say.directory say.line_program say.range_list say.others w
     say.fit) in
-    ap (λ l. and_then (root s.offset_limit f.header f.table) (λ r. unit_of_root (in_file s f) l r.attributes)) lines_is
+    ap (λ l. and_then (root s.offset_limit f.header f.table) (λ r. unit_of_entry (in_file s f) l r)) lines_is
     ∙ ap (λ q. and_then q
-    (λ (r : Row). unit_of_root (in_file s f) (Ok (record { sequences = sequences_of_rows say.rows; files = say.files }))
-    r.attributes)) root_is
+    (λ (r : Row). unit_of_entry (in_file s f) (Ok (record { sequences = sequences_of_rows say.rows; files = say.files }))
+    r)) root_is
     ∙ ap (λ q. and_then q
     (λ ranges. Ok
     (record {
@@ -232,7 +232,7 @@ pub context_again : (e : Encoding) (is_big : Bool) (s : DwarfFile) (us : List Un
       supplement_units = [];
     })
 context_again e is_big s us all t some =
-    let told = agreeing_units e is_big s us all t.units_are_recorded 0 t.info_first in
+    let own_units = agreeing_units e is_big s us all t.units_are_recorded 0 t.info_first in
     let whole : headers_of s
     ≡ record {
       items = units_for e is_big 0 t.info_first all;
@@ -240,7 +240,7 @@ context_again e is_big s us all t some =
     } =
     ap (λ v. units_to_come s.offset_limit (whole_section v)) t.units_are
     ∙ units_again s.offset_limit e is_big t.info_first all t.encoding_is_written t.units_are_small in
-    let of_file : units_of_file s ≡ Ok told =
+    let of_file : units_of_file s ≡ Ok own_units =
     ap (λ l. and_then (each (λ u. context_unit (in_file s u)) (filter_map (facts_of_code_unit s) l.items))
     (λ us. unless (fault_of l) (Ok us))) whole
     ∙ ap (λ fs. and_then (each (λ u. context_unit (in_file s u)) fs) (λ us. Ok us))
@@ -257,7 +257,7 @@ context_again e is_big s us all t some =
     (λ units. and_then (units_of_supplement (supplement s))
     (λ supplement_units. Ok (record { units = units; supplement_units = supplement_units })))) of_file
     ∙ ap (λ l. and_then (units_of_supplement (first_supplement s.offset_limit l))
-    (λ supplement_units. Ok (record { units = told; supplement_units = supplement_units }))) t.is_alone
+    (λ supplement_units. Ok (record { units = own_units; supplement_units = supplement_units }))) t.is_alone
 
 -- its places are the table's
 pub places_again : (e : Encoding) (is_big : Bool) (s : DwarfFile) (us : List UnitPart)

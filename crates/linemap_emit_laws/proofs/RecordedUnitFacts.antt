@@ -137,8 +137,8 @@ facts_again e is_big s abbrev_first u xs offset first say w declared =
     (CompileUnit say.name say.directory say.line_program say.range_list) say.is_name.found say.is_directory.found
     say.header))
     (sym say.entries_are)
-    (ap (λ (v : View). and_then (table_at 0 v) behind_table) declared
-    ∙ ap (λ r. and_then r behind_table) (declarations_again e is_big abbrev_first)
+    (ap (λ (v : View). and_then (table_at 0 v) after_table) declared
+    ∙ ap (λ r. and_then r after_table) (declarations_again e is_big abbrev_first)
     ∙ ap (λ r. and_then r (λ (row : Row). facts_of s unit (declarations e) row.attributes))
     (root_again s.offset_limit e is_big offset first say.name say.directory say.line_program say.range_list say.others w
     say.fit)
@@ -149,5 +149,5 @@ facts_again e is_big s abbrev_first u xs offset first say w declared =
     unit = unit_for e is_big offset first
         (CompileUnit say.name say.directory say.line_program say.range_list ∷ say.others)
 
-    behind_table : List Declaration → Result UnitFacts Error
-    behind_table table = and_then (root s.offset_limit unit table) (λ r. facts_of s unit table r.attributes)
+    after_table : List Declaration → Result UnitFacts Error
+    after_table table = and_then (root s.offset_limit unit table) (λ r. facts_of s unit table r.attributes)

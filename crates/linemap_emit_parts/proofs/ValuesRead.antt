@@ -11,6 +11,7 @@ use Rattle.gimli_lines_write_bytes.specs.FormatSizes.{word_size}
 use Rattle.gimli_lines_write_bytes.specs.NumberParsers.{fixed, unsigned, offset_below, address as address_of_size, is_address_size}
 use Rattle.gimli_lines_write_bytes.specs.Fixed.{number_bytes}
 use Rattle.gimli_lines_write_bytes.specs.Spelling.{unsigned_string}
+use Rattle.gimli_lines_header.specs.FormSpellings.{spelling}
 use Rattle.gimli_lines_header.specs.AttributeReading.{attribute, final_form, form_within, value, number_value, from_number, offset_or_fault, data_of_word}
 use Rattle.gimli_lines_header.specs.AttributeValues.{RawValue, string_reference, section_offset, address, unsigned_data}
 use Rattle.linemap_emit_parts.specs.EmittedEntries.{EmittedValue, strp, sec_offset, addr, udata, form_of, offset_form, spelled_value, raw_value_of, Fits}
@@ -88,7 +89,7 @@ data_means limit e name n Dwarf64 named small = rw named (offset_is limit n sect
 data_spells : (limit : ℕ) (e : Encoding) (name : ℕ) (format : Format) (v : View)
     → value limit (in_format e format) name None (data_of_word format) v
     ≡ from_number limit (in_format e format) name (data_of_word format) (fixed (word_size format)) v
-unfolding value
+unfolding value spelling
 data_spells limit e name Dwarf32 v = refl
 data_spells limit e name Dwarf64 v = refl
 
@@ -101,7 +102,7 @@ pub value_again : (limit : ℕ) (e : Encoding) (is_big : Bool) (first name : ℕ
     → is_address_size e.address_size ≡ true → Fits limit e name x
     → Again is_big first (attribute limit e (record { name = name; form = form_of e x; implicit_const = None }))
     (record { name = name; form = form_of e x; value = raw_value_of x }) (spelled_value e is_big x)
-unfolding value address_of_size
+unfolding value spelling address_of_size
 value_again limit e is_big first name (strp n) is_size fits =
     number_again limit e is_big first name 0x0e n (fixed (word_size e.format)) (string_reference n)
     (number_bytes is_big (word_size e.format) n) refl (λ v. refl)

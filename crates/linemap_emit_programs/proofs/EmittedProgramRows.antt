@@ -98,14 +98,14 @@ shows_again limit h is_big entries wide can follow readable order bytes =
     let parsed =
     tiled_listed is_big (instruction_with file_in limit rules h.standard_opcode_lengths.bytes) is h.program tiled
     order in
-    let told =
+    let runs =
     program_told FileFacts rules can (fits_64 rules can) entries 0 (first_row rules) (first_placed rules can) follow
     readable in
     let ran : shows rules (start rules) is
-    ≡ record { items = rows_of rules entries; ending = Ok told.0 } = ap (λ r. shows rules r is)
-    (sym (start_is rules)) ∙ told.1 in
+    ≡ record { items = rows_of rules entries; ending = Ok runs.0 } = ap (λ r. shows rules r is)
+    (sym (start_is rules)) ∙ runs.1 in
     let whole : run_of_program limit h ≡ run_of rules is = ap (λ l. run_of rules l.items) parsed in
-    let end : (run_of rules is).ending ≡ Ok told.0 = ap (λ (l : Listing Registers Registers). l.ending) ran in
+    let end : (run_of rules is).ending ≡ Ok runs.0 = ap (λ (l : Listing Registers Registers). l.ending) ran in
     record {
       has_no_fault =
           ap (λ l. option_or (fault_of (run_of rules l.items)) (fault_of l)) parsed
@@ -113,6 +113,6 @@ shows_again limit h is_big entries wide can follow readable order bytes =
       rows_are = ap (λ l. map program_row (shown_rows l.items)) whole
           ∙ ap (λ (l : Listing Registers Registers). map program_row l.items) ran;
       defines_none = ap (λ l. defined_files (map instruction_of l.items)) whole
-          ∙ ap defined_files (all_executed rules (start rules) told.0 is end)
+          ∙ ap defined_files (all_executed rules (start rules) runs.0 is end)
           ∙ entries_define rules (first_row rules) entries;
     }

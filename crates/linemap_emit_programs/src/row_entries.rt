@@ -35,7 +35,7 @@ fn push_rows(entries: &mut Vec<LineEntry>, begin: u64, rows: &[TableRow]) -> Res
     requires { AllFrom begin (map row_part rows.now) }
     ensures ok { OnOk result
         (entries.new.items ≡ entries.old.items ++ emitted_rows begin (map row_part rows.now)) }
-    ensures refused { IfErr result (λ e. e ≡ Memory) }
+    ensures refusal { IfErr result (λ e. e ≡ Memory) }
 {
     for row in rows {
         entries.push(LineEntry::Row(row_of(begin, row)))?;
@@ -49,7 +49,7 @@ fn push_sequence(entries: &mut Vec<LineEntry>, sequence: &TableSequence) -> Resu
     requires { IsOrdered (sequence_part sequence.now) }
     ensures ok { OnOk result
         (entries.new.items ≡ entries.old.items ++ emitted_sequence (sequence_part sequence.now)) }
-    ensures refused { IfErr result (λ e. e ≡ Memory) }
+    ensures refusal { IfErr result (λ e. e ≡ Memory) }
 {
     if let Some(first) = sequence.rows.first() {
         entries.push(LineEntry::SetAddress(Address::Constant(first.address)))?;
@@ -68,7 +68,7 @@ pub fn entries_of(alloc: Global, sequences: &[TableSequence]) -> Result<Vec<Line
     requires { AllOrdered (map sequence_part sequences.now) }
     ensures ok { IfOk result
         (λ entries. entries.items ≡ emitted_sequences (map sequence_part sequences.now)) }
-    ensures refused { IfErr result (λ e. e ≡ Memory) }
+    ensures refusal { IfErr result (λ e. e ≡ Memory) }
 {
     let mut entries = Vec::new(alloc);
     for sequence in sequences {

@@ -52,11 +52,11 @@ call_emitted size c rest st st1 st2 st3 final children some head inner end can w
     end ∙ ap (with_end_of_children children)
     (inner ∙ ap (λ cs. with_calls cs st1) (sym (inner_is c)) ∙ ap (with_calls (call_part c).inner) head)
     ∙ ap (λ b. with_end_of_children b (with_calls (call_part c).inner (with_call b (call_part c).site st))) some in
-    let kept =
+    let can_rest =
     ap (λ x. x.encoding) after ∙ closed_keeps (has_calls (call_part c).inner)
     (with_calls (call_part c).inner (with_call (has_calls (call_part c).inner) (call_part c).site st))
     ∙ calls_keep (call_part c).inner (with_call (has_calls (call_part c).inner) (call_part c).site st) in
-    (kept, can.3, ap (with_calls (calls_part rest)) after ∙ whole)
+    (can_rest, can.3, ap (with_calls (calls_part rest)) after ∙ whole)
 
 -- the same of a function
 pub function_emitted : (size : ℕ) (f : FunctionPart) (rest : List FunctionPart) (st st1 st2 st3 final : EmittedUnit)
@@ -69,10 +69,10 @@ function_emitted size f rest st st1 st2 st3 final children some head inner end c
     let after : st3 ≡ with_function f st =
     end ∙ ap (with_end_of_children children) (inner ∙ ap (with_calls f.calls) head)
     ∙ ap (λ b. with_end_of_children b (with_calls f.calls (with_function_entry f st))) some in
-    let kept =
+    let can_rest =
     ap (λ x. x.encoding) after ∙ closed_keeps (has_calls f.calls) (with_calls f.calls (with_function_entry f st))
     ∙ calls_keep f.calls (with_function_entry f st) in
-    (kept, can.2, ap (with_functions rest) after ∙ whole)
+    (can_rest, can.2, ap (with_functions rest) after ∙ whole)
 
 -- an element before those after it
 pub from_here : {X : Type 0} (xs : List X) (i : ℕ) (x : X) → i < length xs → x ≡ get_or xs i x

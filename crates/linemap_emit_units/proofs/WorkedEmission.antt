@@ -76,9 +76,9 @@ b_unit =
     }
 
 -- a second unit refers to its own name, program and list after those of the first, and to the same directory
-second_unit_behind_the_first : (emitted_table target false (a_unit ∷ b_unit ∷ [])).units ≡
+second_unit_after_the_first : (emitted_table target false (a_unit ∷ b_unit ∷ [])).units ≡
     (CompileUnit 0 4 0 0 ∷ Function false 7 32 ∷ EndOfChildren ∷ []) ∷ (CompileUnit 12 4 70 64 ∷ EndOfChildren ∷ [])
     ∷ []
 unfolding with_emitted_units entries.with_calls spelling.unsigned_within spelling.signed_within pieces.row_piece
     pieces.flags pieces.changes pieces.moves pieces.end_piece
-second_unit_behind_the_first = refl
+second_unit_after_the_first = refl

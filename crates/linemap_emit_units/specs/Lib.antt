@@ -17,6 +17,7 @@ pub use Rattle.gimli_lines_write_tables.specs.Encoding
 pub use Rattle.gimli_lines_write_tables.specs.Format
 pub use Rattle.gimli_lines_write_tables.specs.SectionId
 pub use Rattle.gimli_lines_write_tables.specs.Error
+pub use Rattle.gimli_lines_write_tables.specs.ByteOrders
 pub use Rattle.gimli_lines_write_tables.specs.RunTimeEndian
 pub use Rattle.gimli_lines_write_tables.specs.SectionReads
 pub use Rattle.gimli_lines_write_tables.specs.Range

@@ -60,7 +60,7 @@ impl UnitEmitter {
         requires { IsText text.now }
         ensures ok { OnOk result (self.new ≡ with_name text.now self.old) }
         ensures offset { IfOk result (λ offset. offset ≡ text_offset text.now self.old) }
-        ensures refused { IfErr result (λ e. e ≡ Memory) }
+        ensures refusal { IfErr result (λ e. e ≡ Memory) }
     {
         let id = self.strings.add(alloc, text.as_bytes())?;
         Ok(self.strings.offset(id).0 as u64)
@@ -73,7 +73,7 @@ impl UnitEmitter {
             (map lookup_range (map range_part ranges.now)) }
         ensures ok { OnOk result (self.new ≡ with_list (map range_part ranges.now) self.old) }
         ensures offset { IfOk result (λ offset. offset ≡ list_offset self.old) }
-        ensures refused { IfErr result (λ e. e ≡ Memory) }
+        ensures refusal { IfErr result (λ e. e ≡ Memory) }
     {
         let offset = self.ranges.len() as u64;
         let list = ranges_of(alloc, ranges)?;
@@ -84,7 +84,7 @@ impl UnitEmitter {
     // Adds an entry.
     fn entry(&mut self, entry: Entry) -> Result<(), Error>
         ensures ok { OnOk result (self.new ≡ with_entry entry self.old) }
-        ensures refused { IfErr result (λ e. e ≡ Memory) }
+        ensures refusal { IfErr result (λ e. e ≡ Memory) }
     {
         self.entries.push(entry)?;
         Ok(())
@@ -93,7 +93,7 @@ impl UnitEmitter {
     // Ends the children, if there are some.
     fn close(&mut self, has_children: bool) -> Result<(), Error>
         ensures ok { OnOk result (self.new ≡ with_end_of_children has_children self.old) }
-        ensures refused { IfErr result (λ e. e ≡ Memory) }
+        ensures refusal { IfErr result (λ e. e ≡ Memory) }
     {
         if has_children {
             self.entry(Entry::EndOfChildren)?;
@@ -109,7 +109,7 @@ impl UnitEmitter {
         requires file { (call_part call.now).site.file + 1 < 2 ^ 64 }
         ensures ok { OnOk result
             (self.new ≡ with_call has_children (call_part call.now).site self.old) }
-        ensures refused { IfErr result (λ e. e ≡ Memory) }
+        ensures refusal { IfErr result (λ e. e ≡ Memory) }
     {
         let name = self.text(alloc, &call.name)?;
         let ranges = self.list(alloc, &call.ranges)?;
@@ -129,7 +129,7 @@ impl UnitEmitter {
         requires size { is_address_size self.old.encoding.address_size ≡ true }
         requires can_emit { CanEmitCalls self.old.encoding.address_size (calls_part calls.now) }
         ensures ok { OnOk result (self.new ≡ with_calls (calls_part calls.now) self.old) }
-        ensures refused { IfErr result (λ e. e ≡ Memory) }
+        ensures refusal { IfErr result (λ e. e ≡ Memory) }
     {
         for call in calls {
             let has_children = !call.calls.is_empty();
@@ -148,7 +148,7 @@ impl UnitEmitter {
             (function_part function.now).ranges }
         ensures ok { OnOk result
             (self.new ≡ with_function_entry (function_part function.now) self.old) }
-        ensures refused { IfErr result (λ e. e ≡ Memory) }
+        ensures refusal { IfErr result (λ e. e ≡ Memory) }
     {
         let name = self.text(alloc, &function.name)?;
         let ranges = self.list(alloc, &function.ranges)?;
@@ -167,7 +167,7 @@ impl UnitEmitter {
             (map function_part functions.now) }
         ensures ok { OnOk result
             (self.new ≡ with_functions (map function_part functions.now) self.old) }
-        ensures refused { IfErr result (λ e. e ≡ Memory) }
+        ensures refusal { IfErr result (λ e. e ≡ Memory) }
     {
         for function in functions {
             let has_children = !function.calls.is_empty();
@@ -186,7 +186,7 @@ impl UnitEmitter {
             (unit_part unit.now).ranges }
         ensures ok { OnOk result
             (self.new ≡ with_unit_entry line_program (unit_part unit.now) self.old) }
-        ensures refused { IfErr result (λ e. e ≡ Memory) }
+        ensures refusal { IfErr result (λ e. e ≡ Memory) }
     {
         let name = self.text(alloc, &unit.name)?;
         let directory = self.text(alloc, &unit.directory)?;
@@ -205,7 +205,7 @@ impl UnitEmitter {
         requires size { is_address_size self.old.encoding.address_size ≡ true }
         requires can_emit { CanEmitUnit self.old.encoding.address_size (unit_part unit.now) }
         ensures ok { OnOk result (self.new ≡ with_unit line_program (unit_part unit.now) self.old) }
-        ensures refused { IfErr result (λ e. e ≡ Memory) }
+        ensures refusal { IfErr result (λ e. e ≡ Memory) }
     {
         self.root(alloc, unit, line_program)?;
         self.functions(alloc, &unit.functions)?;
@@ -246,7 +246,7 @@ impl UnitEmitter {
 // Ranges as they are written.
 fn ranges_of(alloc: Global, ranges: &[TableRange]) -> Result<Vec<Range>, Error>
     ensures ok { IfOk result (λ list. list.items ≡ map lookup_range (map range_part ranges.now)) }
-    ensures refused { IfErr result (λ e. e ≡ Memory) }
+    ensures refusal { IfErr result (λ e. e ≡ Memory) }
 {
     let mut list = Vec::new(alloc);
     for range in ranges {

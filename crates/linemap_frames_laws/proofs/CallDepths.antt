@@ -203,15 +203,15 @@ holder_at a t d parent (more_calls site inner others) outside overlapping =
         → cond ((d == t) && any_holds a site.ranges) (Some (at_depth d site))
         (option_or (nested_at t (d + 1) (chain a inner)) (nested_at t d (chain a others)))
         ≡ nested_at t d (cond (any_holds a site.ranges) (site ∷ chain a inner) (chain a others))
-    by_case true e none_behind none_below =
+    by_case true e none_later none_below =
         ap (λ c. cond ((d == t) && c) (Some (at_depth d site))
         (option_or (nested_at t (d + 1) (chain a inner)) (nested_at t d (chain a others)))) e
         ∙ ap (λ ss. cond ((d == t) && true) (Some (at_depth d site))
-        (option_or (nested_at t (d + 1) (chain a inner)) (nested_at t d ss))) (none_behind e)
+        (option_or (nested_at t (d + 1) (chain a inner)) (nested_at t d ss))) (none_later e)
         ∙ ap (λ o. cond ((d == t) && true) (Some (at_depth d site)) o) (or_none (nested_at t (d + 1) (chain a inner)))
         ∙ if_at (d == t)
         ∙ sym (ap (λ c. nested_at t d (cond c (site ∷ chain a inner) (chain a others))) e)
-    by_case false e none_behind none_below =
+    by_case false e none_later none_below =
         ap (λ c. cond ((d == t) && c) (Some (at_depth d site))
         (option_or (nested_at t (d + 1) (chain a inner)) (nested_at t d (chain a others)))) e
         ∙ if_not (d == t) (option_or (nested_at t (d + 1) (chain a inner)) (nested_at t d (chain a others)))

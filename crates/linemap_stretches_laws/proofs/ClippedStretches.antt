@@ -117,10 +117,10 @@ module _ (low high : ℕ) (r : Range) where
       → Each (IsPlaced r) (all_of files ss)
       → stretches_at a (added_stretches files ss)
       ≡ cond (holds a r) (stretches_at a (filter (is_between low high) (all_of files ss))) []
-  added_alike a files ss kept apart placed =
+  added_alike a files ss sound apart placed =
       at_if a (overlaps low high r)
       (lines_between (record { sequences = ss; files = files }) (max low r.begin) (min high r.end))
-      ∙ ap (λ l. cond (overlaps low high r) l []) (lines_alike files (max low r.begin) (min high r.end) a ss kept apart
+      ∙ ap (λ l. cond (overlaps low high r) l []) (lines_alike files (max low r.begin) (min high r.end) a ss sound apart
       ∙ both_filters (λ t. t.address == a) is_clipped_between (all_of files ss))
       ∙ filter_if (overlaps low high r) (λ t. t.address == a && is_clipped_between t) (all_of files ss)
       ∙ same_pass (λ t. overlaps low high r && (t.address == a && is_clipped_between t))
@@ -142,21 +142,21 @@ module _ (low high : ℕ) (r : Range) where
 
   pub added_begins : (files : List (List ℕ)) (ss : List Sequence) → Each IsKept ss → AllApart range_of ss
       → Each (IsPlaced r) (all_of files ss) → Each (BeginsIn r) (added_stretches files ss)
-  added_begins files ss kept apart placed =
+  added_begins files ss sound apart placed =
       elim (overlaps low high r)
       as (λ b. Each (BeginsIn r)
       (cond b (lines_between (record { sequences = ss; files = files }) (max low r.begin) (min high r.end)) [])) [
-        | true ↦ lines_each files (max low r.begin) (min high r.end) (BeginsIn r) ss kept apart
+        | true ↦ lines_each files (max low r.begin) (min high r.end) (BeginsIn r) ss sound apart
             (begins_of_placed (all_of files ss) placed)
         | false ↦ tt
       ]
 
   pub added_climbs : (files : List (List ℕ)) (ss : List Sequence) → Each IsKept ss → AllApart range_of ss
       → Climbs 0 (added_stretches files ss)
-  added_climbs files ss kept apart =
+  added_climbs files ss sound apart =
       elim (overlaps low high r)
       as (λ b. Climbs 0
       (cond b (lines_between (record { sequences = ss; files = files }) (max low r.begin) (min high r.end)) [])) [
-        | true ↦ lines_climb files (max low r.begin) (min high r.end) ss kept apart
+        | true ↦ lines_climb files (max low r.begin) (min high r.end) ss sound apart
         | false ↦ tt
       ]

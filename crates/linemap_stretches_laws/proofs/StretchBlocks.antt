@@ -23,10 +23,10 @@ BeginsIn r t = (r.begin ≤ t.address) × (t.address < r.end)
 
 -- the order goes by the ranges
 abbrev pub GoesBy : {X : Type 0} → (X → Range) → (X → X → Bool) → Type 0
-GoesBy {X} range is_behind =
+GoesBy {X} range is_after =
     (x y : X) → Apart (range x) (range y) → Full (range x) → Full (range y)
-    → (is_behind x y ≡ true → (range y).end ≤ (range x).begin)
-    × (is_behind x y ≡ false → (range x).end ≤ (range y).begin)
+    → (is_after x y ≡ true → (range y).end ≤ (range x).begin)
+    × (is_after x y ≡ false → (range x).end ≤ (range y).begin)
 
 -- no two ranges share an address
 abbrev pub AllApart : {X : Type 0} → (X → Range) → List X → Type 0
@@ -39,20 +39,20 @@ IsBlock range block x = Full (range x) × Each (BeginsIn (range x)) (block x) ×
 
 -- ---- lists put in order
 
-module _ {X : Type 0} (is_behind : X → X → Bool) (P : X → Type 0) where
-  put_each : (x : X) (ys : List X) → P x → Each P ys → Each P (put_in_order is_behind x ys)
+module _ {X : Type 0} (is_after : X → X → Bool) (P : X → Type 0) where
+  put_each : (x : X) (ys : List X) → P x → Each P ys → Each P (put_in_order is_after x ys)
   put_each x [] p all = (p, tt)
   put_each x (y ∷ ys) p all =
-      elim (is_behind x y) as (λ b. Each P (cond b (y ∷ put_in_order is_behind x ys) (x ∷ y ∷ ys))) [
+      elim (is_after x y) as (λ b. Each P (cond b (y ∷ put_in_order is_after x ys) (x ∷ y ∷ ys))) [
         | true ↦ (all.0, put_each x ys p all.1)
         | false ↦ (p, all)
       ]
 
-  pub in_order_each : (xs : List X) → Each P xs → Each P (in_order is_behind xs)
+  pub in_order_each : (xs : List X) → Each P xs → Each P (in_order is_after xs)
   in_order_each [] all = tt
-  in_order_each (x ∷ xs) all = put_each x (in_order is_behind xs) all.0 (in_order_each xs all.1)
+  in_order_each (x ∷ xs) all = put_each x (in_order is_after xs) all.0 (in_order_each xs all.1)
 
-module _ {X : Type 0} (range : X → Range) (is_behind : X → X → Bool) (block : X → List Stretch) where
+module _ {X : Type 0} (range : X → Range) (is_after : X → X → Bool) (block : X → List Stretch) where
   -- each range begins where the one before it ends, or above
   abbrev Follow : ℕ → List X → Type 0
   Follow low [] = Unit {0}
@@ -61,24 +61,24 @@ module _ {X : Type 0} (range : X → Range) (is_behind : X → X → Bool) (bloc
   abbrev IsFull : X → Type 0
   IsFull x = Full (range x)
 
-  put_follows : GoesBy range is_behind → (low : ℕ) (x : X) (ys : List X) → low ≤ (range x).begin → IsFull x
+  put_follows : GoesBy range is_after → (low : ℕ) (x : X) (ys : List X) → low ≤ (range x).begin → IsFull x
       → Each IsFull ys → Each (λ y. Apart (range x) (range y)) ys → Follow low ys
-      → Follow low (put_in_order is_behind x ys)
+      → Follow low (put_in_order is_after x ys)
   put_follows by low x [] le full all apart follow = (le, tt)
   put_follows by low x (y ∷ ys) le full all apart follow =
       let sides = by x y apart.0 full all.0 in
-      elim (is_behind x y) as (λ b. is_behind x y ≡ b
-      → Follow low (cond b (y ∷ put_in_order is_behind x ys) (x ∷ y ∷ ys))) [
+      elim (is_after x y) as (λ b. is_after x y ≡ b
+      → Follow low (cond b (y ∷ put_in_order is_after x ys) (x ∷ y ∷ ys))) [
         | true ↦ λ e. (follow.0, put_follows by (range y).end x ys (sides.0 e) full all.1 apart.1 follow.1)
         | false ↦ λ e. (le, (sides.1 e, follow.1))
       ] refl
 
-  order_follows : GoesBy range is_behind → (xs : List X) → AllApart range xs → Each IsFull xs
-      → Follow 0 (in_order is_behind xs)
+  order_follows : GoesBy range is_after → (xs : List X) → AllApart range xs → Each IsFull xs
+      → Follow 0 (in_order is_after xs)
   order_follows by [] apart full = tt
   order_follows by (x ∷ xs) apart full =
-      put_follows by 0 x (in_order is_behind xs) (omega arith) full.0 (in_order_each is_behind IsFull xs full.1)
-      (in_order_each is_behind (λ y. Apart (range x) (range y)) xs apart.0) (order_follows by xs apart.1 full.1)
+      put_follows by 0 x (in_order is_after xs) (omega arith) full.0 (in_order_each is_after IsFull xs full.1)
+      (in_order_each is_after (λ y. Apart (range x) (range y)) xs apart.0) (order_follows by xs apart.1 full.1)
 
   -- ---- blocks one after the other ascend
 
@@ -105,11 +105,11 @@ module _ {X : Type 0} (range : X → Range) (is_behind : X → X → Bool) (bloc
   all_full [] good = tt
   all_full (x ∷ xs) good = (good.0.0, all_full xs good.1)
 
-  pub blocks_climb : GoesBy range is_behind → (xs : List X) → AllApart range xs → Each (IsBlock range block) xs
-      → Climbs 0 (flat_map block (in_order is_behind xs))
+  pub blocks_climb : GoesBy range is_after → (xs : List X) → AllApart range xs → Each (IsBlock range block) xs
+      → Climbs 0 (flat_map block (in_order is_after xs))
   blocks_climb by xs apart good =
-      follow_climbs 0 (in_order is_behind xs) (order_follows by xs apart (all_full xs good))
-      (in_order_each is_behind (IsBlock range block) xs good)
+      follow_climbs 0 (in_order is_after xs) (order_follows by xs apart (all_full xs good))
+      (in_order_each is_after (IsBlock range block) xs good)
 
   -- ---- at one address
 
@@ -148,15 +148,15 @@ module _ {X : Type 0} (range : X → Range) (is_behind : X → X → Bool) (bloc
 
   put_alike : (a : ℕ) (x : X) (ys : List X) → Each (λ y. Apart (range x) (range y)) ys → IsBlock range block x
       → Each (IsBlock range block) ys
-      → stretches_at a (flat_map block (put_in_order is_behind x ys))
+      → stretches_at a (flat_map block (put_in_order is_after x ys))
       ≡ stretches_at a (block x) ++ stretches_at a (flat_map block ys)
   put_alike a x [] apart good all = at_first a x []
   put_alike a x (y ∷ ys) apart good all =
-      elim (is_behind x y)
-      as (λ b. stretches_at a (flat_map block (cond b (y ∷ put_in_order is_behind x ys) (x ∷ y ∷ ys)))
+      elim (is_after x y)
+      as (λ b. stretches_at a (flat_map block (cond b (y ∷ put_in_order is_after x ys) (x ∷ y ∷ ys)))
       ≡ stretches_at a (block x) ++ stretches_at a (flat_map block (y ∷ ys))) [
         | true ↦
-            at_first a y (put_in_order is_behind x ys)
+            at_first a y (put_in_order is_after x ys)
             ∙ ap (λ l. stretches_at a (block y) ++ l) (put_alike a x ys apart.1 good all.1)
             ∙ swap_blocks (stretches_at a (block x)) (stretches_at a (block y)) (stretches_at a (flat_map block ys))
             (one_is_empty a (range x) (range y) (block x) (block y) apart.0 good.1 all.0.1)
@@ -166,9 +166,9 @@ module _ {X : Type 0} (range : X → Range) (is_behind : X → X → Bool) (bloc
 
   -- put in order, they have the same at each address
   pub blocks_alike : (a : ℕ) (xs : List X) → AllApart range xs → Each (IsBlock range block) xs
-      → stretches_at a (flat_map block (in_order is_behind xs)) ≡ stretches_at a (flat_map block xs)
+      → stretches_at a (flat_map block (in_order is_after xs)) ≡ stretches_at a (flat_map block xs)
   blocks_alike a [] apart good = refl
   blocks_alike a (x ∷ xs) apart good =
-      put_alike a x (in_order is_behind xs) (in_order_each is_behind (λ y. Apart (range x) (range y)) xs apart.0) good.0
-      (in_order_each is_behind (IsBlock range block) xs good.1)
+      put_alike a x (in_order is_after xs) (in_order_each is_after (λ y. Apart (range x) (range y)) xs apart.0) good.0
+      (in_order_each is_after (IsBlock range block) xs good.1)
       ∙ ap (λ l. stretches_at a (block x) ++ l) (blocks_alike a xs apart.1 good.1) ∙ sym (at_first a x xs)

@@ -140,10 +140,10 @@ both_filters {X = X} p q (x ∷ xs) = by_second (q x) (both_filters p q xs)
     both : List X
     both = filter (λ x. p x && q x) xs
 
-    kept : (b : Bool) → filter p (filter q xs) ≡ both
+    with_first : (b : Bool) → filter p (filter q xs) ≡ both
         → cond b (x ∷ filter p (filter q xs)) (filter p (filter q xs)) ≡ cond (b && true) (x ∷ both) both
-    kept true rest = ap (λ l. x ∷ l) rest
-    kept false rest = rest
+    with_first true rest = ap (λ l. x ∷ l) rest
+    with_first false rest = rest
 
     left : (b : Bool) → filter p (filter q xs) ≡ both → filter p (filter q xs) ≡ cond (b && false) (x ∷ both) both
     left true rest = rest
@@ -151,7 +151,7 @@ both_filters {X = X} p q (x ∷ xs) = by_second (q x) (both_filters p q xs)
 
     by_second : (c : Bool) → filter p (filter q xs) ≡ both
         → filter p (cond c (x ∷ filter q xs) (filter q xs)) ≡ cond (p x && c) (x ∷ both) both
-    by_second true rest = kept (p x) rest
+    by_second true rest = with_first (p x) rest
     by_second false rest = left (p x) rest
 
 -- ---- a sequence

@@ -139,11 +139,11 @@ all_fine us sound =
 
 by_ends : {U : Type 0} → GoesBy (λ (p : Pair U). p.range) ends_after
 by_ends p q (inl before) full_p full_q =
-    let not_behind : ends_after p q ≡ false = le-ltb q.range.end p.range.end (omega (arith, before, full_q)) in
-    (λ e. absurd (both_ways (ends_after p q) not_behind e), λ e. before)
+    let not_after : ends_after p q ≡ false = le-ltb q.range.end p.range.end (omega (arith, before, full_q)) in
+    (λ e. absurd (both_ways (ends_after p q) not_after e), λ e. before)
 by_ends p q (inr after) full_p full_q =
-    let yes_behind : ends_after p q ≡ true = lt-ltb q.range.end p.range.end (omega (arith, after, full_p)) in
-    (λ e. after, λ e. absurd (both_ways (ends_after p q) e yes_behind))
+    let yes_after : ends_after p q ≡ true = lt-ltb q.range.end p.range.end (omega (arith, after, full_p)) in
+    (λ e. after, λ e. absurd (both_ways (ends_after p q) e yes_after))
 
 -- lines that weren't refused
 abbrev IsRead : Result Lines Error → Type 0

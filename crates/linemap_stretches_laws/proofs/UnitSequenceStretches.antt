@@ -47,14 +47,14 @@ by_starts : GoesBy range_of starts_after
 by_starts s t (inl before) full_s full_t =
     let lower = le-ltb t.start s.start (omega arith) in
     let other : s.start ≡ t.start → ⊥ = λ e. omega (arith, e) in
-    let not_behind : starts_after s t ≡ false =
+    let not_after : starts_after s t ≡ false =
     or_from _ _ lower (and_left (s.start == t.start) (nat_lt t.end s.end) (ne_eqb s.start t.start other)) in
-    (λ e. absurd (both_ways (starts_after s t) not_behind e), λ e. before)
+    (λ e. absurd (both_ways (starts_after s t) not_after e), λ e. before)
 by_starts s t (inr after) full_s full_t =
-    let yes_behind : starts_after s t ≡ true =
+    let yes_after : starts_after s t ≡ true =
     or_left (nat_lt t.start s.start) (s.start == t.start && nat_lt t.end s.end)
     (lt-ltb t.start s.start (omega arith)) in
-    (λ e. after, λ e. absurd (both_ways (starts_after s t) e yes_behind))
+    (λ e. after, λ e. absurd (both_ways (starts_after s t) e yes_after))
 
 -- ---- a unit
 
@@ -67,54 +67,54 @@ module _ (files : List (List ℕ)) (low high : ℕ) where
   part_of s = cond (reaches low high s) (sequence_between files low high s) []
 
   part_is : (s : Sequence) → IsKept s → part_of s ≡ filter (is_between low high) (all_of s)
-  part_is s kept = sequence_is files low high s kept.starts kept.rises
+  part_is s sound = sequence_is files low high s sound.starts sound.rises
 
   part_block : (s : Sequence) → IsKept s → IsBlock range_of part_of s
-  part_block s kept =
-      let from = kept.starts in
-      let within = all_within files s.start s.end s.rows (omega (arith, from)) kept.rises in
+  part_block s sound =
+      let from = sound.starts in
+      let within = all_within files s.start s.end s.rows (omega (arith, from)) sound.rises in
       let inside : Each (BeginsIn (range_of s)) (all_of s) =
       each_implies (IsWithin s.start s.end) (BeginsIn (range_of s)) (all_of s)
       (λ t w. let a = w.0 in let b = w.1 in let c = w.2 in (omega arith, omega arith)) within in
       let whole : Each (BeginsIn (range_of s)) (filter (is_between low high) (all_of s)) =
       filter_each (BeginsIn (range_of s)) (is_between low high) (all_of s) inside in
       let climbs : Climbs 0 (filter (is_between low high) (all_of s)) =
-      filter_climbs (is_between low high) 0 (all_of s) (all_climb files 0 s.end s.rows (omega arith) kept.rises) in
-      let same = sym (part_is s kept) in
-      (kept.full, subst (λ l. Each (BeginsIn (range_of s)) l) same whole, subst (λ l. Climbs 0 l) same climbs)
+      filter_climbs (is_between low high) 0 (all_of s) (all_climb files 0 s.end s.rows (omega arith) sound.rises) in
+      let same = sym (part_is s sound) in
+      (sound.full, subst (λ l. Each (BeginsIn (range_of s)) l) same whole, subst (λ l. Climbs 0 l) same climbs)
 
   parts_are : (ss : List Sequence) → Each IsKept ss
       → flat_map part_of ss ≡ filter (is_between low high) (flat_map (λ s. stretches_of files s.end s.rows) ss)
-  parts_are [] kept = refl
-  parts_are (s ∷ ss) kept =
-      ap (λ l. l ++ flat_map part_of ss) (part_is s kept.0)
-      ∙ ap (λ l. filter (is_between low high) (all_of s) ++ l) (parts_are ss kept.1)
+  parts_are [] sound = refl
+  parts_are (s ∷ ss) sound =
+      ap (λ l. l ++ flat_map part_of ss) (part_is s sound.0)
+      ∙ ap (λ l. filter (is_between low high) (all_of s) ++ l) (parts_are ss sound.1)
       ∙ sym (filter-append (is_between low high) (all_of s) (flat_map (λ s. stretches_of files s.end s.rows) ss))
 
   part_blocks : (ss : List Sequence) → Each IsKept ss → Each (IsBlock range_of part_of) ss
-  part_blocks ss kept = each_implies IsKept (IsBlock range_of part_of) ss part_block kept
+  part_blocks ss sound = each_implies IsKept (IsBlock range_of part_of) ss part_block sound
 
   pub lines_climb : (ss : List Sequence) → Each IsKept ss → AllApart range_of ss
       → Climbs 0 (lines_between (record { sequences = ss; files = files }) low high)
-  lines_climb ss kept apart =
+  lines_climb ss sound apart =
       subst (λ l. Climbs 0 l)
       (sym (flat_filter (sequence_between files low high) (reaches low high) (in_order starts_after ss)))
-      (blocks_climb range_of starts_after part_of by_starts ss apart (part_blocks ss kept))
+      (blocks_climb range_of starts_after part_of by_starts ss apart (part_blocks ss sound))
 
   pub lines_alike : (a : ℕ) (ss : List Sequence) → Each IsKept ss → AllApart range_of ss
       → stretches_at a (lines_between (record { sequences = ss; files = files }) low high)
       ≡ stretches_at a (filter (is_between low high) (flat_map (λ s. stretches_of files s.end s.rows) ss))
-  lines_alike a ss kept apart =
+  lines_alike a ss sound apart =
       ap (stretches_at a) (flat_filter (sequence_between files low high) (reaches low high) (in_order starts_after ss))
-      ∙ blocks_alike range_of starts_after part_of a ss apart (part_blocks ss kept)
-      ∙ ap (stretches_at a) (parts_are ss kept)
+      ∙ blocks_alike range_of starts_after part_of a ss apart (part_blocks ss sound)
+      ∙ ap (stretches_at a) (parts_are ss sound)
 
   -- what is so of each stretch between is so of each of these
   pub lines_each : (P : Stretch → Type 0) (ss : List Sequence) → Each IsKept ss → AllApart range_of ss
       → Each P (filter (is_between low high) (flat_map (λ s. stretches_of files s.end s.rows) ss))
       → Each P (lines_between (record { sequences = ss; files = files }) low high)
-  lines_each P ss kept apart all =
+  lines_each P ss sound apart all =
       from_each_address P (lines_between (record { sequences = ss; files = files }) low high)
-      (λ a. subst (λ l. Each P l) (sym (lines_alike a ss kept apart))
+      (λ a. subst (λ l. Each P l) (sym (lines_alike a ss sound apart))
       (filter_each P (λ t. t.address == a)
       (filter (is_between low high) (flat_map (λ s. stretches_of files s.end s.rows) ss)) all))

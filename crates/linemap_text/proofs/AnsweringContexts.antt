@@ -3,8 +3,7 @@ use Rattle.std.proofs.Common.{◌≡◌, Result, Ok, Err, ap}
 use Rattle.addr2line_context.specs.Error.{Error}
 use Rattle.addr2line_context.specs.Results.{and_then}
 use Rattle.addr2line_context.specs.DwarfFiles.{DwarfFile}
-use Rattle.addr2line_context.specs.Contexts.{Context, context}
-use Rattle.addr2line_context.specs.FileContexts.{FileContext, file_context}
+use Rattle.addr2line_context.specs.Contexts.{Context, context, FileContext, file_context}
 
 abbrev with_file : DwarfFile → Context → Result FileContext Error
 with_file s c = Ok (record { file = s; context = c })

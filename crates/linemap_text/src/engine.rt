@@ -35,7 +35,7 @@ pub fn ask<O: Write, E: Write>(
         × Appends (E.contents err.old) (E.contents err.new) p.err × (result.status ≡ p.status) }
     ensures prefix { AppendsPrefix (O.contents out.old) (O.contents out.new)
         (ask_outcome text.now (map string_bytes words.now)).out }
-    ensures refused { (ask_outcome text.now (map string_bytes words.now)).status ≡ 1
+    ensures refusal { (ask_outcome text.now (map string_bytes words.now)).status ≡ 1
         → result.status ≡ 1 }
     ensures flags { FlagsMean (ask_outcome text.now (map string_bytes words.now))
         (E.contents err.old) (E.contents err.new) result }
@@ -70,7 +70,7 @@ fn target() -> Target
 fn sections_of(alloc: Global, table: &Table) -> Result<Sections, Stop>
     ensures answers { IfOk result (λ s. AreAnswers false s (units_of table.now)) }
     ensures light { OnOk result (table_weight (units_of table.now) < 2 ^ 31) }
-    ensures refused { IfErr result (EmissionStops (units_of table.now)) }
+    ensures refusal { IfErr result (EmissionStops (units_of table.now)) }
 {
     Ok(emit_sections(alloc, table, target())?)
 }

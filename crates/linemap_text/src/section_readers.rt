@@ -3,7 +3,7 @@
 ghost use Rattle.std.specs.Prelude.{◌≡◌, ◌^◌};
 ghost use Rattle.addr2line_context.specs.RunTimeEndian.{RunTimeEndian as Order};
 ghost use Rattle.linemap_emit.specs.SectionBytesById.{bytes_of};
-ghost use Rattle.linemap_emit.specs.EmissionTargets.{is_big};
+ghost use Rattle.linemap_emit.specs.ByteOrders.{is_big_endian};
 ghost use Rattle.linemap_text.specs.WordLaws.{file_of};
 ghost use Rattle.linemap_emit.specs.BytesAt.{bytes_at};
 
@@ -20,7 +20,7 @@ fn section(
     endian: RunTimeEndian,
     id: SectionId,
 ) -> EndianSlice<'_, RunTimeEndian>
-    ensures { result ≡ bytes_at (is_big endian) 0 (bytes_of id sections.now) }
+    ensures { result ≡ bytes_at (is_big_endian endian) 0 (bytes_of id sections.now) }
 {
     EndianSlice::new(sections.get(id), endian)
 }
@@ -31,7 +31,7 @@ pub fn dwarf_of(
     sections: &Sections,
     endian: RunTimeEndian,
 ) -> Dwarf<EndianSlice<'_, RunTimeEndian>>
-    ensures { result ≡ file_of (2 ^ 64) (is_big endian) sections.now }
+    ensures { result ≡ file_of (2 ^ 64) (is_big_endian endian) sections.now }
 {
     Dwarf {
         debug_abbrev: DebugAbbrev::from(section(sections, endian, SectionId::DebugAbbrev)),

@@ -77,7 +77,7 @@ const UNIT: &[u8] = b"\x20\0\0\0\x04\0\0\0\0\0\x08\
     \x01\0\0\0\0\0\x10\0\0\0\0\0\0\x08\0\0\0a.c\0/w\0\x0c";
 
 // A unit whose first entry is null, and the first one after it.
-const BEHIND: &[u8] = b"\x08\0\0\0\x04\0\0\0\0\0\x08\0\
+const LATE: &[u8] = b"\x08\0\0\0\x04\0\0\0\0\0\x08\0\
     \x20\0\0\0\x04\0\0\0\0\0\x08\
     \x01\0\0\0\0\0\x10\0\0\0\0\0\0\x08\0\0\0a.c\0/w\0\x0c";
 
@@ -224,8 +224,8 @@ fn a_unit_and_its_places(rt: HostRuntime) {
     let expected = Ok((1, 0, Some(0x0c), 0x1000, 0x1008));
     assert_eq!(rt; first_unit(alloc, whole), expected);
     // A unit before it that is refused is not kept.
-    let behind = file_with_language(BEHIND, LINES, b"");
-    assert_eq!(rt; first_unit(alloc, behind), expected);
+    let late = file_with_language(LATE, LINES, b"");
+    assert_eq!(rt; first_unit(alloc, late), expected);
     let line_3 = Ok(Some((Some(3), Some(0), true)));
     assert_eq!(rt; place(alloc, whole, 0x1004), line_3);
     assert_eq!(rt; place_in_shared(alloc, whole, 0x1004), line_3);

@@ -121,7 +121,7 @@ fn asked_before(alloc: Global, refused: SectionId) -> (usize, Option<Error>) {
 }
 
 // Whether the cache keeps the table that all units of the file share.
-fn is_kept(alloc: Global, info: &'static [u8]) -> Result<bool, Error> {
+fn is_cached(alloc: Global, info: &'static [u8]) -> Result<bool, Error> {
     let sections = [
         (SectionId::DebugAbbrev, TABLE.as_slice()),
         (SectionId::DebugInfo, info),
@@ -129,10 +129,10 @@ fn is_kept(alloc: Global, info: &'static [u8]) -> Result<bool, Error> {
     let mut dwarf = file_of(alloc, &sections)?;
     dwarf.populate_abbreviations_cache(alloc, AbbreviationsCacheStrategy::Duplicates)?;
     let other = DebugAbbrev::new(&[], LittleEndian);
-    let kept = dwarf
+    let table = dwarf
         .abbreviations_cache
         .get(alloc, &other, DebugAbbrevOffset(0))?;
-    Ok(kept.get(2).is_some())
+    Ok(table.get(2).is_some())
 }
 
 #[test]
@@ -142,8 +142,8 @@ fn sections_are_loaded(rt: HostRuntime) -> Result<(), Fail> {
     // A refused section is the last that is asked for.
     let fault = Some(Error::UnsupportedSegmentSize);
     assert_eq!(rt; asked_before(alloc, SectionId::DebugLineStr), (6, fault));
-    assert!(rt; is_kept(alloc, &UNITS)?);
-    assert!(rt; !is_kept(alloc, &UNITS[..32])?);
+    assert!(rt; is_cached(alloc, &UNITS)?);
+    assert!(rt; !is_cached(alloc, &UNITS[..32])?);
     Ok(())
 }
 

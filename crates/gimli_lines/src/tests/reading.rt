@@ -93,18 +93,29 @@ fn after_end(alloc: Global) -> Result<(u64, bool, u64), Error> {
     Ok((address, gives_row, row.address()))
 }
 
+// Address 1, set to 0: the address after that, and after the same once more with an advance.
+fn after_setting_0(alloc: Global) -> Result<(u64, u64), Error> {
+    let section = DebugLine::new(OF_4, LittleEndian);
+    let mut program = section.program(alloc, DebugLineOffset(0), 8, None, None)?;
+    let mut row = LineRow::new(program.header());
+    let _gives_row = row.execute(LineInstruction::SetAddress(1), &mut program)?;
+    let _gives_row = row.execute(LineInstruction::SetAddress(0), &mut program)?;
+    let first = row.address();
+    let _gives_row = row.execute(LineInstruction::SetAddress(0), &mut program)?;
+    let _gives_row = row.execute(LineInstruction::AdvancePc(9), &mut program)?;
+    Ok((first, row.address()))
+}
+
 // The second instruction, asked of a copy.
 fn second_instruction(alloc: Global) -> Result<Option<u64>, Error> {
     let section = DebugLine::new(OF_4, LittleEndian);
     let program = section.program(alloc, DebugLineOffset(0), 8, None, None)?;
     let header = program.header();
-    let Some((first, rest)) = header.instructions()?.read_next(header)? else {
+    let mut instructions = header.instructions()?;
+    let Some(LineInstruction::SetAddress(address)) = instructions.next_instruction(header)? else {
         return Ok(None);
     };
-    let LineInstruction::SetAddress(address) = first else {
-        return Ok(None);
-    };
-    let mut copy = rest.copy()?;
+    let mut copy = instructions.copy()?;
     let second = copy.next_instruction(header)?;
     let is_copy = matches!(second, Some(LineInstruction::Copy));
     Ok(is_copy.then_some(address))
@@ -114,6 +125,7 @@ fn second_instruction(alloc: Global) -> Result<Option<u64>, Error> {
 fn instructions_are_executed(rt: HostRuntime) -> Result<(), Fail> {
     assert_eq!(rt; after_special(rt.alloc())?, (3, Some(4), true));
     assert_eq!(rt; after_end(rt.alloc())?, (3, true, 0));
+    assert_eq!(rt; after_setting_0(rt.alloc())?, (1, 1));
     assert_eq!(rt; second_instruction(rt.alloc())?, Some(0x10));
     Ok(())
 }

@@ -6,8 +6,8 @@ use Rattle.linemap_table.proofs.parse.Goals as goal
 pub returns-in-Ok-clause-value : goal.returns-in-Ok-clause-value
 returns-in-Ok-clause-value c = json_in-read c.args.text.now _ c.in-Ok.ensures.ok.0 c.in-Ok.ensures.ok.1
 
-pub returns-in-Err-2-clause-refused : goal.returns-in-Err-2-clause-refused
-returns-in-Err-2-clause-refused c =
+pub returns-in-Err-2-clause-refusal : goal.returns-in-Err-2-clause-refusal
+returns-in-Err-2-clause-refusal c =
     λ _. (
       refl,
       json_in-refused c.args.text.now

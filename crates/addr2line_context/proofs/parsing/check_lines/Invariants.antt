@@ -1,6 +1,6 @@
 -- The lines of the units before those that are left can be read.
 use Rattle.std.proofs.Common.{◌≡◌, length}
-use Rattle.addr2line_context.specs.FileContexts.{all_lines_or_refusal}
+use Rattle.addr2line_units.specs.Contexts.{all_lines_or_refusal}
 use Rattle.addr2line_context.proofs.parsing.check_lines.Given as goal
 
 abbrev pub invariant-loop-unit : goal.invariant-loop-unit

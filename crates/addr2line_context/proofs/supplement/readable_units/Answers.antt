@@ -10,22 +10,22 @@ use Rattle.addr2line_context.proofs.supplement.readable_units.Goals as goal
 pub loop-headers-init : goal.loop-headers-init
 loop-headers-init g c =
     let limit = g.R.Offset.ReaderOffset.limit in
-    let kept = λ (h : DebugUnit). readable_facts (unit_facts c.args.dwarf.now h) in
+    let choose = λ (h : DebugUnit). readable_facts (unit_facts c.args.dwarf.now h) in
     let whole : c.in_ok-headers.headers ≡ whole_section c.args.dwarf.now.sections.debug_info =
     cc c.in_ok-headers.ensures.value in
-    read_start kept ok_of (units_to_come limit c.in_ok-headers.headers) (headers_of c.args.dwarf.now)
+    read_start choose ok_of (units_to_come limit c.in_ok-headers.headers) (headers_of c.args.dwarf.now)
     c.new-units.result.items c.new-units.ensures.items
     (ap (units_to_come limit) whole
     ∙ ap (λ n. units_to_come n (whole_section c.args.dwarf.now.sections.debug_info))
     (sym c.in_ok-headers.ensures.limit))
-    ∙ read_ok kept (headers_of c.args.dwarf.now)
+    ∙ read_ok choose (headers_of c.args.dwarf.now)
 
 pub loop-headers-preserved : goal.loop-headers-preserved
 loop-headers-preserved g c =
     let limit = g.R.Offset.ReaderOffset.limit in
-    let kept = λ (h : DebugUnit). readable_facts (unit_facts c.args.dwarf.now h) in
-    read_more kept ok_of (units_to_come limit c.loop-headers.headers) (units_to_come limit c.next.new.self)
+    let choose = λ (h : DebugUnit). readable_facts (unit_facts c.args.dwarf.now h) in
+    read_more choose ok_of (units_to_come limit c.loop-headers.headers) (units_to_come limit c.next.new.self)
     c.in_ok-header.field-0 c.in-Some.header c.in_ok-unit.unit c.loop-headers.units.items c.push_unit.new.units.items
     c.in-Some.is c.in_ok-header.ensures.order
-    (if_any_ok (kept c.in-Some.header) ∙ c.in_ok-unit.ensures) c.in_ok-push_unit.ensures.ok
+    (if_any_ok (choose c.in-Some.header) ∙ c.in_ok-unit.ensures) c.in_ok-push_unit.ensures.ok
     (readable_units c.args.dwarf.now) c.loop-headers.invariant

@@ -27,7 +27,7 @@ pub returns-in_err-push_row : goal.returns-in_err-push_row
 returns-in_err-push_row g c =
     no_memory_for_row g.R.Offset.ReaderOffset.limit c.from_residual-in_err-push_row.result c.args.rows.now
     c.advance.new.self c.args.builder.now c.push_row.new.builder _ c.from_residual-in_err-push_row.ensures.1
-    c.in_err-push_row.ensures.refused
+    c.in_err-push_row.ensures.refusal
 
 pub returns : goal.returns
 returns g c =

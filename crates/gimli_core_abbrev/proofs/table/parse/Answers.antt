@@ -10,8 +10,8 @@ use Rattle.gimli_core_abbrev.proofs.DeclarationSizes.{declarations-shrink}
 use Rattle.gimli_core_abbrev.proofs.TableCollection.{table_fault, table_end, table_repeated, listing_further, repeated_push, put_all-push, declaration-coded, is_some-map, none_there}
 use Rattle.gimli_core_abbrev.proofs.table.parse.Goals as goal
 
-abbrev refused : ℕ → Result (List Declaration × View) Error
-refused code = Err (DuplicateAbbreviationCode code)
+abbrev refusal : ℕ → Result (List Declaration × View) Error
+refusal code = Err (DuplicateAbbreviationCode code)
 
 pub returns : goal.returns
 returns g c = let was = c.loop-found.invariant in rw was.2 (table_end was.0 _ _ _ was.1 was.3 (search rules))
@@ -38,7 +38,7 @@ returns-then-is_some g c =
     ∙ ap is_some (sym c.get.ensures) ∙ is_some-map (λ a. declaration_view a.now) c.get.result
     ∙ sym c.is_some.ensures ∙ c.if-is_some.true in
     λ ne. table_repeated was.0 d _ _ (view c.parse.new.input) was.1 was.3 (search rules) there
-    ∙ ap (λ (k : ℕ). refused k) (sym c.code-code.ensures)
+    ∙ ap (λ (k : ℕ). refusal k) (sym c.code-code.ensures)
 
 pub loop-found-smaller : goal.loop-found-smaller
 loop-found-smaller g c =

@@ -39,10 +39,10 @@ up_to-requires g c =
     let went = path_to_row limit c.loop-before.rows c.advance.new.self _ c.if-branch.true
     c.in_ok-advance.ensures.path in
     let held = path_holds (path_path c.loop-before.invariant.0.path went.0) in
-    let behind : c.instructions-then-end_sequence.result.now ≡ c.advance.new.self.rest =
+    let rest_is : c.instructions-then-end_sequence.result.now ≡ c.advance.new.self.rest =
     c.instructions-then-end_sequence.ensures in
     subst (λ (v : View). Holds v c.instructions-then-end_sequence.result.now) (sym c.loop-before.invariant.1)
-    (subst (λ (w : View). Holds c.args.rows.now.rest w) (sym behind) held)
+    (subst (λ (w : View). Holds c.args.rows.now.rest w) (sym rest_is) held)
 
 pub returns-then-end_sequence : goal.returns-then-end_sequence
 returns-then-end_sequence g c =

@@ -7,7 +7,7 @@ use Rattle.linemap_emit_fits.specs.TableEmission.{EmittedTable, with_emitted_uni
 use Rattle.linemap_emit_fits.specs.FittingUnits.{AllUnitsFit}
 use Rattle.linemap_emit.specs.EmissionTargets.{encoding_of, is_big_of}
 use Rattle.linemap_emit.specs.TableEmitterSteps.{HoldsTable}
-use Rattle.linemap_emit.proofs.TableEmitterLemmas.{unit_added, first_fits, can_take, others_fit, all_behind, none_left}
+use Rattle.linemap_emit.proofs.TableEmitterLemmas.{unit_added, first_fits, can_take, others_fit, all_later, none_left}
 use Rattle.linemap_emit.proofs.table_emitter.emitter_of_units.Goals as goal
 
 pub loop-unit-init : goal.loop-unit-init
@@ -41,7 +41,7 @@ loop-unit-preserved c =
       unit_added e is_big (unit_part unit) so_far.0 c.loop-unit.emitter c.unit.new.self so_far.1
           c.in_ok-unit.ensures.ok,
       others_fit e is_big (unit_part unit) rest so_far.0 fit,
-      sym (all_behind e is_big (unit_part unit) rest so_far.0)
+      sym (all_later e is_big (unit_part unit) rest so_far.0)
           ∙ ap (λ (l : List TableUnit). with_emitted_units e is_big (map unit_part l) so_far.0) (sym here) ∙ so_far.3,
     )
 

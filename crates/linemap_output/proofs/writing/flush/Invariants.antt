@@ -5,7 +5,7 @@ use Rattle.linemap_output.proofs.writing.flush.Given as goal
 -- what the writer holds stays, and more interruptions are allowed
 abbrev pub invariant-flush : goal.invariant-flush
 invariant-flush g l = record {
-  kept : Keeps (g.W.Write.contents l.fn.out) (g.W.Write.contents l.out);
+  keeps : Keeps (g.W.Write.contents l.fn.out) (g.W.Write.contents l.out);
   allowed : l.interruptions < 1000;
 }
 

@@ -6,8 +6,8 @@ use Rattle.linemap_output.proofs.writing.write_bytes.Goals as goal
 pub returns-in-Ok-eq0-clause-prefix : goal.returns-in-Ok-eq0-clause-prefix
 returns-in-Ok-eq0-clause-prefix g c =
     let w = c.write.invariant.written in
-    let kept = appends_more _ _ _ w.0 [] w.1 (search rules) in
-    prefix_before _ _ (w.0 ++ []) c.write.rest.now c.args.bytes.now kept (rw (append-nil w.0) w.2)
+    let extends = appends_more _ _ _ w.0 [] w.1 (search rules) in
+    prefix_before _ _ (w.0 ++ []) c.write.rest.now c.args.bytes.now extends (rw (append-nil w.0) w.2)
 
 pub write-preserved-in-Ok : goal.write-preserved-in-Ok
 write-preserved-in-Ok g c =

@@ -1,9 +1,8 @@
 use Rattle.std.proofs.Common.{subst, List, option_map}
 use Rattle.addr2line_units.specs.Calls.{ReturnsAs}
 use Rattle.addr2line_units.specs.PlaceLookups.{location_at}
-use Rattle.addr2line_units.specs.Contexts.{ContextUnit, ranges_of, lines_of, location}
+use Rattle.addr2line_units.specs.Contexts.{ContextUnit, ranges_of, lines_of, location, FileContext}
 use Rattle.addr2line_units.specs.BorrowedLocations.{location_value}
-use Rattle.addr2line_context.specs.FileContexts.{FileContext}
 use Rattle.addr2line_context.proofs.context.Context.find_location.Goals as goal
 
 pub returns : goal.returns

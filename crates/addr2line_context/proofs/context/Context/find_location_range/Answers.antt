@@ -1,7 +1,6 @@
 use Rattle.std.proofs.Common.{◌≡◌, ◌∙◌, ap, sym, Ok}
 use Rattle.addr2line_units.specs.PlaceLookups.{stretches_between}
-use Rattle.addr2line_units.specs.Contexts.{ranges_of, lines_of, stretches}
-use Rattle.addr2line_context.specs.FileContexts.{FileContext}
+use Rattle.addr2line_units.specs.Contexts.{ranges_of, lines_of, stretches, FileContext}
 use Rattle.addr2line_context.proofs.context.Context.find_location_range.Goals as goal
 
 pub returns : goal.returns

@@ -1,7 +1,7 @@
 use Rattle.std.proofs.Common.{◌≡◌, ◌∙◌, sym, ap, Ok, subst}
 use Rattle.std.proofs.lemmas.Result.{err_from_is_err_and}
 use Rattle.addr2line_units.specs.DwarfFiles.{DwarfFile}
-use Rattle.addr2line_context.specs.FileContexts.{file_context}
+use Rattle.addr2line_units.specs.Contexts.{file_context}
 use Rattle.addr2line_context.proofs.ContextParts.{file_context_of_parts, supplement_refused}
 use Rattle.addr2line_context.proofs.context.Context.from_arc_dwarf.Goals as goal
 

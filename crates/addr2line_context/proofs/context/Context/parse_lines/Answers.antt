@@ -1,5 +1,5 @@
 use Rattle.std.proofs.Common.{◌∙◌, ap}
-use Rattle.addr2line_context.specs.FileContexts.{FileContext, all_lines_or_refusal}
+use Rattle.addr2line_units.specs.Contexts.{FileContext, all_lines_or_refusal}
 use Rattle.addr2line_context.proofs.context.Context.parse_lines.Goals as goal
 
 pub returns : goal.returns

@@ -2,7 +2,7 @@ use Rattle.std.proofs.Common.{inl}
 use Rattle.std.proofs.lemmas.Result.{err_from_is_err_and}
 use Rattle.gimli_dwarf.proofs.dwarf.Dwarf.load_sup.Goals as goal
 
-pub returns-in_err-supplement-clause-refused : goal.returns-in_err-supplement-clause-refused
-returns-in_err-supplement-clause-refused g c =
+pub returns-in_err-supplement-clause-refusal : goal.returns-in_err-supplement-clause-refusal
+returns-in_err-supplement-clause-refusal g c =
     let p = err_from_is_err_and c.from_residual.result c.from_residual.ensures.1 in
-    rw (p.1, p.2) (inl c.in_err-supplement.ensures.refused)
+    rw (p.1, p.2) (inl c.in_err-supplement.ensures.refusal)

@@ -35,10 +35,10 @@ old_file k file info place there same =
     }) (sym (with_old is_same_file k.files file there))
 
 -- one that is new
-new_file : (k : ProgramFiles) (file : File) (info : Option Info) (told : Info) → list_any (is_same_file file) k.files
-    ≡ false → told ≡ unwrap_or info no_info → record k { files = k.files ++ file ∷ []; infos = k.infos ++ told ∷ [] }
+new_file : (k : ProgramFiles) (file : File) (info : Option Info) (facts : Info) → list_any (is_same_file file) k.files
+    ≡ false → facts ≡ unwrap_or info no_info → record k { files = k.files ++ file ∷ []; infos = k.infos ++ facts ∷ [] }
     ≡ with_file file info k
-new_file k file info told absent same =
+new_file k file info facts absent same =
     ap (λ t. record k { files = k.files ++ file ∷ []; infos = k.infos ++ t ∷ [] }) same
     ∙ ap (λ is. record k { files = k.files ++ file ∷ []; infos = is }) (by info)
     ∙ ap (λ b. record k {

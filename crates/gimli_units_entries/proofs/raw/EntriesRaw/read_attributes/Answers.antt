@@ -1,8 +1,15 @@
-use Rattle.gimli_units_forms.proofs.FormSizes.{AtMost-attributes}
-use Rattle.gimli_units_entries.proofs.WalkLemmas.{IsWithin-leaves, copy_fewer}
+use Rattle.std.proofs.Common.{rules}
+use Rattle.gimli_units_entries.proofs.EntryReads.{values-read, values-fault, after_fewer, reads_refused}
+use Rattle.gimli_units_entries.proofs.WalkLemmas.{IsWithin-with_left}
 use Rattle.gimli_units_entries.proofs.raw.EntriesRaw.read_attributes.Goals as goal
 
 pub invariant_of-self : goal.invariant_of-self
-invariant_of-self g c =
-    IsWithin-leaves _ _ _ _ c.self.invariant c.in_ok-read_each.ensures.value
-    (AtMost-attributes _ _ _ _ (copy_fewer _ _ c.in_ok-rest.ensures.value))
+invariant_of-self g c = IsWithin-with_left _ _ c.self.invariant (after_fewer _ _ _ c.advance.ensures)
+
+pub returns-clause-value : goal.returns-clause-value
+returns-clause-value g c = values-read _ _ _ _ _ _ _ c.self.view_is c.in_ok-count.ensures.value c.advance.ensures
+
+pub returns-in_err-count-clause-value : goal.returns-in_err-count-clause-value
+returns-in_err-count-clause-value g c =
+    reads_refused _ c.from_residual.result _ _ _ _ c.from_residual.ensures.1
+    (λ ne. values-fault _ _ _ _ _ c.self.view_is (c.in_err-count.ensures.value ne)) (search rules)

@@ -4,12 +4,7 @@ use Rattle.gimli_core_readers.proofs.TilingLemmas.{lookup_is_part}
 use Rattle.gimli_units_headers.proofs.ArangeSetLemmas.{sets_are_parts}
 use Rattle.gimli_units_headers.proofs.aranges.DebugAranges.header.Goals as goal
 
-pub returns-in_err-skip-clause-again : goal.returns-in_err-skip-clause-again
-returns-in_err-skip-clause-again g c =
-    lookup_is_part (sets_are_parts g.R.Offset.ReaderOffset.limit) c.args.self.now
-    (g.R.Offset.ReaderOffset.count c.args.offset.0) c.from_residual-in_err-skip.result (search rules)
-
 pub returns-clause-again : goal.returns-clause-again
 returns-clause-again g c =
     lookup_is_part (sets_are_parts g.R.Offset.ReaderOffset.limit) c.args.self.now
-    (g.R.Offset.ReaderOffset.count c.args.offset.0) c.parse_arange_header.result (search rules)
+    (g.R.Offset.ReaderOffset.count c.args.offset.0) c.part_at.result (search rules)

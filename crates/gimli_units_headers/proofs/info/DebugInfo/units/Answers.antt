@@ -6,16 +6,8 @@ use Rattle.gimli_units_headers.proofs.info.DebugInfo.units.Goals as goal
 
 pub returns-clause-tile : goal.returns-clause-tile
 returns-clause-tile g c =
-    tile_in (units_are_parts g.R.Offset.ReaderOffset.limit) c.args.self.now
-    (Ok
-    (record
-    { section_length = g.R.Offset.ReaderOffset.count c.len.result; rest = g.R.Reader.view c.in_ok-copy.field-0 }))
-    (search rules)
+    tile_in (units_are_parts g.R.Offset.ReaderOffset.limit) c.args.self.now (Ok c.in_ok-new.field-0) (search rules)
 
 pub returns-clause-few : goal.returns-clause-few
 returns-clause-few g c =
-    few_in (units_are_parts g.R.Offset.ReaderOffset.limit) c.args.self.now
-    (Ok
-    (record
-    { section_length = g.R.Offset.ReaderOffset.count c.len.result; rest = g.R.Reader.view c.in_ok-copy.field-0 }))
-    (search rules)
+    few_in (units_are_parts g.R.Offset.ReaderOffset.limit) c.args.self.now (Ok c.in_ok-new.field-0) (search rules)

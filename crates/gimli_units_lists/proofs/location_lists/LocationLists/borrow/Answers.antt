@@ -8,11 +8,9 @@ returns g c = (
   c.reader-2.result.now,
   c.f.result,
   c.f-2.result,
-  c.f.new.self,
-  c.f-2.new.self,
   search rules,
   search rules,
-  record { shown = c.reader.result; shows = refl; called = c.f.ensures },
-  record { shown = c.reader-2.result; shows = refl; called = c.f-2.ensures },
+  record { shown = c.reader.result; shows = refl; says = record { met = c.f.ensures } },
+  record { shown = c.reader-2.result; shows = refl; says = record { met = c.f-2.ensures } },
   search rules,
 )

@@ -10,14 +10,14 @@ loop-call-preserved n c =
     let call = c.call-item.result in
     let rest = drop (c.loop-call.call-index + 1) cs in
     let here = from_here cs c.loop-call.call-index call c.loop-call-test.true c.call-item.is in
-    let kept = c.loop-call.invariant in
-    let told =
+    let so_far = c.loop-call.invariant in
+    let step =
     call_emitted c.args.self.now.encoding.address_size call rest c.loop-call.self c.call.new.self c.calls.new.self
     c.close.new.self (with_calls (calls_part cs) c.args.self.now) (not c.is_empty-has_children.result)
     (ap not c.is_empty-has_children.ensures ∙ ap (λ n. not (n == 0))
     (sym c.deref.ensures.len ∙ ap length c.deref.ensures.value) ∙ sym (some_in call)) c.in_ok-call.ensures.ok
     (c.in_ok-calls.ensures.ok ∙ ap (λ l. with_calls (calls_part l) c.call.new.self) c.deref.ensures.value)
     c.in_ok-close.ensures.ok
-    (subst (λ l. CanEmitCalls c.args.self.now.encoding.address_size (calls_part l)) here kept.1)
-    (ap (λ l. with_calls (calls_part l) c.loop-call.self) (sym here) ∙ kept.2) in
-    (told.0 ∙ kept.0, told.1, told.2)
+    (subst (λ l. CanEmitCalls c.args.self.now.encoding.address_size (calls_part l)) here so_far.1)
+    (ap (λ l. with_calls (calls_part l) c.loop-call.self) (sym here) ∙ so_far.2) in
+    (step.0 ∙ so_far.0, step.1, step.2)

@@ -10,8 +10,8 @@ loop-function-preserved c =
     let function = c.function-item.result in
     let rest = drop (c.loop-function.function-index + 1) fs in
     let here = from_here fs c.loop-function.function-index function c.loop-function-test.true c.function-item.is in
-    let kept = c.loop-function.invariant in
-    let told =
+    let so_far = c.loop-function.invariant in
+    let step =
     function_emitted c.args.self.now.encoding.address_size (function_part function) (map function_part rest)
     c.loop-function.self c.function.new.self c.calls.new.self c.close.new.self
     (with_functions (map function_part fs) c.args.self.now) (not c.is_empty-has_children.result)
@@ -20,6 +20,6 @@ loop-function-preserved c =
     ∙ sym (some_calls function.calls.items)) c.in_ok-function.ensures.ok
     (c.in_ok-calls.ensures.ok ∙ ap (λ l. with_calls (calls_part l) c.function.new.self) c.deref.ensures.value)
     c.in_ok-close.ensures.ok
-    (subst (λ l. CanEmitFunctions c.args.self.now.encoding.address_size (map function_part l)) here kept.1)
-    (ap (λ l. with_functions (map function_part l) c.loop-function.self) (sym here) ∙ kept.2) in
-    (told.0 ∙ kept.0, told.1, told.2)
+    (subst (λ l. CanEmitFunctions c.args.self.now.encoding.address_size (map function_part l)) here so_far.1)
+    (ap (λ l. with_functions (map function_part l) c.loop-function.self) (sym here) ∙ so_far.2) in
+    (step.0 ∙ so_far.0, step.1, step.2)

@@ -1,0 +1,2 @@
+pub mod ProbedLists
+pub mod Searches

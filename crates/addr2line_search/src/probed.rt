@@ -1,0 +1,83 @@
+//! Lists whose entries are counted as they are looked at. No search stands here, so that none can
+//! look at an entry unseen.
+
+ghost use Rattle.std.specs.Prelude.{◌≡◌, ◌+◌, ◌<◌, length, slice_get, Some};
+
+use crate::tally::{Mark, Tally};
+use std::marker::Model;
+use std::mem::size_of;
+
+// Neither takes a byte.
+const _: () = prove!(size_of::<Probes>() == 0);
+
+const _: () = prove!(size_of::<Mark>() == 0);
+
+/// How many entries of lists were looked at. It takes no bytes and has no greatest value.
+#[derive(Drop)]
+pub struct Probes {
+    tally: Tally,
+}
+
+impl Model for Probes {
+    ghost use Rattle.addr2line_search.specs.ProbedLists.{ProbeCount};
+
+    ghost Value = { ProbeCount };
+
+    ghost view = { λ p. record { name = p.tally.name; count = p.tally.count } };
+}
+
+impl Probes {
+    /// A counter at 0.
+    pub fn new() -> Self
+        ensures { result.count ≡ 0 }
+    {
+        Probes {
+            tally: Tally::new(),
+        }
+    }
+}
+
+/// A list whose entries are shown by `at` alone, which counts each of them.
+#[derive(Drop)]
+pub struct Probed<T> {
+    entries: Vec<T>,
+    counter: Mark,
+}
+
+impl<T> Model for Probed<T> {
+    ghost use Rattle.addr2line_search.specs.ProbedLists.{ProbedList};
+
+    ghost Value = { ProbedList T };
+
+    ghost view = { λ p. record { entries = p.entries.items; counter = p.counter.name } };
+}
+
+impl<T> Probed<T> {
+    /// A list whose entries this counter counts.
+    pub fn new(entries: Vec<T>, probes: &Probes) -> Self
+        ensures { result ≡ record { entries = entries.items; counter = probes.now.name } }
+    {
+        Probed {
+            entries,
+            counter: probes.tally.mark(),
+        }
+    }
+
+    /// How many entries there are.
+    pub fn len(&self) -> usize
+        ensures { result ≡ length self.now.entries }
+    {
+        self.entries.len()
+    }
+
+    /// The entry at an index, which is counted.
+    pub fn at(&self, index: usize, probes: &mut Probes) -> &T
+        requires counter { probes.old.name ≡ self.now.counter }
+        requires within { index < length self.now.entries }
+        ensures entry { slice_get self.now.entries index ≡ Some result.now }
+        ensures counted { probes.new ≡ record probes.old { count = probes.old.count + 1 } }
+    {
+        probes.tally.raise();
+        &self.entries[index]
+    }
+}

@@ -1,0 +1,28 @@
+-- Each answer is what was to come.
+use Rattle.std.proofs.Common.{rules, sym}
+use Rattle.gimli_units_lists.proofs.RawListSteps.{takes, come_none, come_item, come_end, come_fault, no_more}
+use Rattle.gimli_units_lists.proofs.entry_list.next_entry.Goals as goal
+
+pub returns-then-is_empty-clause-next : goal.returns-then-is_empty-clause-next
+returns-then-is_empty-clause-next g c =
+    let none = no_more (g.E.ListEntry.entry c.args.how) (g.R.Reader.view c.args.input.now) (search rules) in
+    (none, none)
+
+pub returns-in-Ok-Some-clause-next : goal.returns-in-Ok-Some-clause-next
+returns-in-Ok-Some-clause-next g c =
+    come_item (takes c.in-Ok-Some.ensures.takes) (g.R.Reader.view c.args.input.now) (g.R.Reader.view c.parse.new.input)
+    (g.E.ListEntry.see c.in-Ok-Some.entry) (search rules) (search rules)
+
+pub returns-in-Ok-None-clause-next : goal.returns-in-Ok-None-clause-next
+returns-in-Ok-None-clause-next g c = (
+  come_end (takes c.in-Ok-None.ensures.takes) (g.R.Reader.view c.args.input.now) (g.R.Reader.view c.parse.new.input)
+      (search rules) (search rules),
+  no_more (g.E.ListEntry.entry c.args.how) (g.R.Reader.view c.empty.new.self) (search rules),
+)
+
+pub returns-in-Err-clause-next : goal.returns-in-Err-clause-next
+returns-in-Err-clause-next g c = (
+  (λ ne. come_fault (takes c.in-Err.ensures.takes) (g.R.Reader.view c.args.input.now)
+      (g.R.Reader.view c.empty-in-Err.new.self) c.in-Err.fault (search rules) (search (rules, ne)) (search rules)),
+  search rules,
+)

@@ -1,0 +1,16 @@
+-- Each entry takes a byte.
+use Rattle.gimli_units_lists.proofs.LocationEntrySizes.{location_entry_takes}
+use Rattle.gimli_units_lists.proofs.RawListSteps.{takes_bytes}
+use Rattle.gimli_units_lists.proofs.location_entry.RawLocListEntryListEntry.parse.Goals as goal
+
+pub returns-in_err-rest-clause-takes : goal.returns-in_err-rest-clause-takes
+returns-in_err-rest-clause-takes g c =
+    takes_bytes (location_entry_takes g.R.Offset.ReaderOffset.limit c.args.how.0 c.args.how.1)
+
+pub returns-in_err-entry-clause-takes : goal.returns-in_err-entry-clause-takes
+returns-in_err-entry-clause-takes g c =
+    takes_bytes (location_entry_takes g.R.Offset.ReaderOffset.limit c.args.how.0 c.args.how.1)
+
+pub returns-clause-takes : goal.returns-clause-takes
+returns-clause-takes g c =
+    takes_bytes (location_entry_takes g.R.Offset.ReaderOffset.limit c.args.how.0 c.args.how.1)
