@@ -2,6 +2,7 @@
 import functools
 import os
 import re
+import shutil
 
 TOP = os.path.dirname(os.path.dirname(os.path.realpath(__file__)))
 PARTS = ("src", "specs", "proofs")
@@ -57,3 +58,17 @@ def at_a_time(wanted):
         return int(fixed)
     free = re.search(rb"MemAvailable:\s+(\d+)", bytes_of("/proc/meminfo"))
     return max(1, min(wanted, 1024 * int(free[1]) // MEMORY if free else 1))
+
+
+def copy_folder(name, part, to, how):
+    """Copies a folder of a crate, where there is one, to the same place in another repository, each file by how."""
+    if os.path.isdir(f"{TOP}/crates/{name}/{part}"):
+        shutil.copytree(f"{TOP}/crates/{name}/{part}", f"{to}/crates/{name}/{part}", copy_function=how)
+
+
+def link(file, to):
+    """Links a file, or copies it where that can't be done."""
+    try:
+        os.link(file, to)
+    except OSError:
+        shutil.copy2(file, to)

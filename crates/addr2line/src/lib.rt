@@ -4,7 +4,7 @@
 #![tactic(auto)]
 
 pub use addr2line_context::{
-    Context, ContextUnit, Lines, Location, LocationRangeIter, lines_of_unit,
+    Context, Lines, Location, LocationRangeIter, ResUnit, Runs, UnitLines,
 };
 pub use addr2line_demangle::{demangle, demangle_auto};
 pub use addr2line_elf::{Elf, LoadError, Symbol, Symbols};

@@ -1,79 +1,28 @@
--- A unit of a context, and a context, from their parts.
-use Rattle.std.proofs.Common.{◌≡◌, ℕ, Bool, false, List, [], ◌∷◌, Option, None, Result, Ok, Err, refl, sym, ap, ◌∙◌, slice_get, map, option_map, length, arith, if◌then◌else◌}
-use Rattle.std.proofs.lemmas.Option.{slice_get-map}
-use Rattle.addr2line_units.specs.Error.{Error}
-use Rattle.addr2line_units.specs.Repetition.{fault_of}
-use Rattle.addr2line_units.specs.Range.{Range}
-use Rattle.addr2line_units.specs.EntryRows.{Row}
-use Rattle.addr2line_units.specs.AttributeValues.{RawAttribute}
-use Rattle.addr2line_units.specs.ArangeSets.{sets_to_come}
-use Rattle.addr2line_units.specs.Tiling.{whole_section}
-use Rattle.addr2line_units.specs.Results.{and_then, unless}
-use Rattle.addr2line_units.specs.DwarfFiles.{DwarfFile, supplement}
-use Rattle.addr2line_units.specs.UnitFacts.{UnitFacts, UnitInFile, root}
-use Rattle.addr2line_units.specs.Lines.{Lines}
-use Rattle.addr2line_units.specs.PlaceLookups.{location_at}
-use Rattle.addr2line_units.specs.Contexts.{ContextUnit, Context, ranges_of, lines_of, unit_of_root, partial_unit, unit_of_entry, context_unit, units_of_file, units_of_supplement, context, FileContext, file_context, all_lines, all_lines_or_refusal}
-use Rattle.addr2line_units.specs.UnitLines.{lines_of_unit}
-use Rattle.addr2line_units.specs.UnitRanges.{ranges_of_attributes, language_in, is_partial}
-use Rattle.addr2line_units.specs.UnitRange.{UnitRange}
-use Rattle.addr2line_units.specs.RangeIndexLaws.{answer_from}
-use Rattle.addr2line_units.specs.NumberedRanges.{covering_ranges}
-use Rattle.addr2line_units.specs.UnitPlaces.{answer_of, answer_at}
-use Rattle.addr2line_units.proofs.UnitAnswers.{location_by_numbers}
-use Rattle.addr2line_units.proofs.UnitViews.{places_of_views}
-use Rattle.addr2line_context.specs.ContextUnits.{unit_places, ordered_ranges}
+-- A context from its parts.
+use Rattle.std.proofs.Common.{◌≡◌, List, map, Option, None, Some, Result, Ok, Err, sym, ap, ◌∙◌}
+use Rattle.std.proofs.lemmas.Simd.{map-map}
+use Rattle.addr2line_resolved.specs.Error.{Error}
+use Rattle.addr2line_resolved.specs.Repetition.{fault_of}
+use Rattle.addr2line_resolved.specs.ArangeSets.{sets_to_come}
+use Rattle.addr2line_resolved.specs.Tiling.{whole_section}
+use Rattle.addr2line_resolved.specs.Results.{and_then, unless}
+use Rattle.addr2line_resolved.specs.DwarfFiles.{DwarfFile, supplement}
+use Rattle.addr2line_resolved.specs.UnitFacts.{UnitFacts}
+use Rattle.addr2line_resolved.specs.Contexts.{ContextUnit, Context, units_of_file, units_of_supplement, context, FileContext, file_context}
+use Rattle.addr2line_resolved.specs.ResolvedUnits.{ResolvedUnit, value_of_unit, plain_unit, new_units}
+use Rattle.addr2line_resolved.proofs.NewUnits.{unit_of, units_alone, units_of_new}
+use Rattle.addr2line_context.proofs.KeptLines.{same_plain}
 
--- ---- a unit
+-- ---- units
 
--- lines, or why there are none, which were read
-abbrev pub ok_lines : Result Lines Error → Result (Result Lines Error) Error
-ok_lines lines = Ok lines
+-- the units that were made are a context's
+pub made_units : (file : DwarfFile) (us : List ResolvedUnit) → new_units file ≡ Ok (map value_of_unit us)
+    → units_of_file file ≡ Ok (map plain_unit us)
+made_units file us h =
+    sym (units_of_new file) ∙ ap units_alone h ∙ ap Ok (map-map unit_of value_of_unit us)
 
-abbrev with_ranges : UnitFacts → Result Lines Error → List RawAttribute → List Range → Result ContextUnit Error
-with_ranges u lines attributes ranges =
-    Ok (record { facts = u; ranges = ranges; language = language_in attributes; lines = lines })
-
-module _ (u : UnitInFile) (lines : Result Lines Error) where
-  -- refused ranges refuse a unit
-  pub ranges_refused : (attributes : List RawAttribute) (e : Error)
-      → ranges_of_attributes u lines attributes ≡ Err e → unit_of_root u lines attributes ≡ Err e
-  ranges_refused attributes e h = ap (λ r. and_then r (with_ranges u.facts lines attributes)) h
-
-  -- so does a refused root
-  pub root_refused : (e : Error) → root u.file.offset_limit u.facts.header u.facts.table ≡ Err e
-      → and_then (root u.file.offset_limit u.facts.header u.facts.table) (λ r. unit_of_entry u lines r) ≡ Err e
-  root_refused e h = ap (λ r. and_then r (λ x. unit_of_entry u lines x)) h
-
-  -- a unit with its lines
-  pub unit_with_lines : ok_lines (lines_of_unit u) ≡ ok_lines lines
-      → and_then (root u.file.offset_limit u.facts.header u.facts.table) (λ r. unit_of_entry u lines r)
-      ≡ context_unit u
-  unit_with_lines same =
-      let of_unit : lines ≡ lines_of_unit u = cc in
-      ap (λ l. and_then (root u.file.offset_limit u.facts.header u.facts.table) (λ r. unit_of_entry u l r)) of_unit
-
-  -- one that isn't partial
-  pub not_partial : (r : Row) (b : Bool) → b ≡ is_partial u.facts.header.kind r.tag → b ≡ false
-      → unit_of_root u lines r.attributes ≡ unit_of_entry u lines r
-  not_partial r b is not =
-      ap (λ c. if c then Ok (partial_unit u.facts lines) else unit_of_root u lines r.attributes) (sym not ∙ is)
-
--- ---- answers
-
--- what a unit answers is found by its number
-pub answer_by_number : (us : List ContextUnit) (a n : ℕ) (o : Option ContextUnit) → o ≡ slice_get us n
-    → answer_at (map unit_places us) a n ≡ answer_of a (option_map unit_places o)
-answer_by_number us a n o found =
-    ap (answer_of a) (slice_get-map unit_places us n) ∙ ap (λ x. answer_of a (option_map unit_places x)) (sym found)
-
--- before the first range that covers an address
-pub answers_start : (us : List ContextUnit) (a : ℕ) (all rs : List UnitRange) → all ≡ ordered_ranges us
-    → rs ≡ covering_ranges a all
-    → location_at ranges_of lines_of us a ≡ answer_from (map unit_places us) a rs
-answers_start us a all rs ordered covering =
-    sym (places_of_views unit_places us a)
-    ∙ location_by_numbers (map unit_places us) a rs (covering ∙ ap (covering_ranges a) ordered)
+pub refused_units : (file : DwarfFile) (e : Error) → new_units file ≡ Err e → units_of_file file ≡ Err e
+refused_units file e h = sym (units_of_new file) ∙ ap units_alone h
 
 -- ---- a context
 
@@ -119,35 +68,28 @@ module _ (s : DwarfFile) where
       (ap (with_sets s) sound ∙ ap (λ r. and_then r (with_units s)) file
       ∙ ap (λ r. and_then r (with_supplement units)) h)
 
--- ---- all lines
+  -- or by its units
+  pub units_refused : (e : Error) → fault_of_sets ≡ None → units_of_file s ≡ Err e → file_context s ≡ Err e
+  units_refused e sound file =
+      ap (λ r. and_then r (with_file s)) (ap (with_sets s) sound ∙ ap (λ r. and_then r (with_units s)) file)
 
--- whether they could be read
-abbrev without_value : {A : Type 0} → Result A Error → Result (Unit {0}) Error
-without_value r = and_then r (λ lines. Ok tt)
+  -- or by its address ranges
+  pub sets_refused : (e : Error) → fault_of_sets ≡ Some e → file_context s ≡ Err e
+  sets_refused e unsound = ap (λ r. and_then r (with_file s)) (ap (with_sets s) unsound)
 
-abbrev one_more : Lines → Result (List Lines) Error → Result (List Lines) Error
-one_more l r = and_then r (λ ls. Ok (l ∷ ls))
+-- ---- a context whose units were read
 
-lines_change_nothing : (l : Lines) (r : Result (List Lines) Error) → without_value (one_more l r) ≡ without_value r
-lines_change_nothing l (Ok ls) = refl
-lines_change_nothing l (Err e) = refl
+abbrev pub context_of_units : DwarfFile → List ContextUnit → List UnitFacts → FileContext
+context_of_units file units supplement_units =
+    record { file = file; context = record { units = units; supplement_units = supplement_units } }
 
--- lines that can be read refuse nothing
-pub read_lines_first : (units : List ContextUnit) (u : ContextUnit) (us : List ContextUnit) (l : Lines) → units ≡ u ∷ us
-    → Ok l ≡ u.lines
-    → all_lines_or_refusal units ≡ all_lines_or_refusal us
-read_lines_first units u us l whole is =
-    ap all_lines_or_refusal whole ∙ ap (λ r. without_value (and_then r (λ y. one_more y (all_lines us)))) (sym is)
-    ∙ lines_change_nothing l (all_lines us)
+abbrev pub context_with : DwarfFile → List ResolvedUnit → List UnitFacts → FileContext
+context_with file us supplement_units =
+    context_of_units file (map plain_unit us) supplement_units
 
--- others refuse all
-pub refused_lines_first : (units : List ContextUnit) (u : ContextUnit) (us : List ContextUnit) (e : Error)
-    → units ≡ u ∷ us → Err e ≡ u.lines
-    → all_lines_or_refusal units ≡ Err e
-refused_lines_first units u us e whole is =
-    ap all_lines_or_refusal whole ∙ ap (λ r. without_value (and_then r (λ y. one_more y (all_lines us)))) (sym is)
-
--- no units refuse nothing
-pub no_lines_left : (units : List ContextUnit) → length units ≡ 0 → all_lines_or_refusal units ≡ Ok tt
-no_lines_left [] h = refl
-no_lines_left (u ∷ us) h = absurd (omega arith)
+-- it is the same where the units' values are
+pub same_context : (file : DwarfFile) (us vs : List ResolvedUnit) (supplement_units : List UnitFacts) (c : FileContext)
+    → map value_of_unit vs ≡ map value_of_unit us → context_with file us supplement_units ≡ c
+    → context_with file vs supplement_units ≡ c
+same_context file us vs supplement_units c same is =
+    ap (λ units. context_of_units file units supplement_units) (same_plain vs us same) ∙ is

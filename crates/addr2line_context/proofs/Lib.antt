@@ -1,3 +1,3 @@
-pub mod ContextOrder
 pub mod ContextParts
-pub mod ContextReading
+pub mod KeptLines
+pub mod UnitAnswers

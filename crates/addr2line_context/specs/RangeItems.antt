@@ -1,8 +1,8 @@
 -- A stretch of addresses with its place, as the iterator answers it.
 use Rattle.std.specs.Prelude.{ℕ}
-use Rattle.addr2line_units.specs.Lines.{Stretch}
-use Rattle.addr2line_units.specs.Location.{Location}
-use Rattle.addr2line_units.specs.BorrowedLocations.{location_value}
+use Rattle.addr2line_resolved.specs.Lines.{Stretch}
+use Rattle.addr2line_resolved.specs.Location.{Location}
+use Rattle.addr2line_resolved.specs.BorrowedLocations.{location_value}
 
 -- an address, how many there are from it on, and their place
 abbrev pub stretch_of_item : ℕ × ℕ × Location → Stretch

@@ -1,54 +1,56 @@
 //! A context, and the places that it knows.
 
-ghost use Rattle.std.specs.Prelude.{◌≡◌, Ok, option_map};
-ghost use Rattle.addr2line_units.specs.Calls.{ReturnsAs, Returns, ReturnsOrNoMemory};
-ghost use Rattle.addr2line_units.specs.Contexts.{location, stretches, file_context, all_lines_or_refusal};
-ghost use Rattle.addr2line_units.specs.BorrowedLocations.{location_value};
+ghost use Rattle.std.specs.Prelude.{◌≡◌, Ok, map, option_map};
+ghost use Rattle.addr2line_resolved.specs.Calls.{ReturnsAsOrNoMemory, ReturnsOrNoMemory};
+ghost use Rattle.addr2line_resolved.specs.Contexts.{location, stretches, file_context, all_lines_or_refusal};
+ghost use Rattle.addr2line_resolved.specs.BorrowedLocations.{location_value};
+ghost use Rattle.addr2line_resolved.specs.ResolvedUnits.{plain_unit};
 
-use crate::answers::first_answer;
 use crate::location_range::LocationRangeIter;
-use crate::order::ordered_ranges;
-use crate::parsing::check_lines;
-use crate::supplement::units_of_supplement;
-use crate::unit::ContextUnit;
-use crate::units::units_of_file;
-use addr2line_units::{Dwarf, Error, Location, Reader, Unit, UnitRanges, check_aranges};
+use crate::units::Units;
+use addr2line_resolved::{
+    ArangeIndex, Dwarf, Error, Location, Reader, ResUnit, Unit, units_of_file, units_of_supplement,
+};
 use std::alloc::Global;
 use std::marker::Model;
 use std::rc::Rc;
 
 /// What lookups go over: a file's sections, the units of the file, numbered from 0 on, each with
 /// its ranges, its language and its lines, and the units of the file's supplement. Units of types
-/// and units that are refused are left out.
+/// and units that are refused are left out. The lines of a unit are read by the first lookup that
+/// asks for them, and kept.
 #[derive(Drop)]
 pub struct Context<R: Reader> {
     sections: Rc<Dwarf<R>>,
-    units: Vec<ContextUnit<R>>,
+    units: Units<R>,
     supplement_units: Vec<Unit<R>>,
-    /// The ranges of all units, in the order in which lookups ask them.
-    ranges: UnitRanges,
 }
 
 impl<R: Reader> Model for Context<R> {
-    ghost use Rattle.std.specs.Prelude.{◌≡◌};
-    ghost use Rattle.addr2line_units.specs.Contexts.{FileContext};
-    ghost use Rattle.addr2line_context.specs.ContextUnits.{ordered_ranges};
+    ghost use Rattle.std.specs.Prelude.{map};
+    ghost use Rattle.addr2line_resolved.specs.Contexts.{FileContext};
+    ghost use Rattle.addr2line_resolved.specs.ResolvedUnits.{plain_unit};
 
     ghost Value = { FileContext };
 
     ghost view = { λ c. record {
-      file = c.sections.value;
-      context = record { units = c.units.items; supplement_units = c.supplement_units.items };
+      file = c.sections.value.file;
+      context = record {
+        units = map plain_unit c.units;
+        supplement_units = c.supplement_units.items;
+      };
     } };
-
-    ghost invariant = { λ c. c.ranges ≡ ordered_ranges c.units.items };
 }
 
 impl<R: Reader> Context<R> {
+    ghost use Rattle.std.specs.Borrow.{sem};
+    ghost use Rattle.std.specs.Io.BufRead.{Rests};
+    ghost use Rattle.addr2line_context.specs.contracts.context.Context.{the_row};
+
     /// The context of a file's sections. It takes memory for what shares them, and else is
     /// `from_arc_dwarf`.
     pub fn from_dwarf(alloc: Global, sections: Dwarf<R>) -> Result<Self, Error>
-        ensures { ReturnsOrNoMemory result (file_context sections) }
+        ensures { ReturnsOrNoMemory result (file_context sections.file) }
     {
         match Rc::new(alloc, sections) {
             Ok(sections) => Context::from_arc_dwarf(alloc, sections),
@@ -56,35 +58,36 @@ impl<R: Reader> Context<R> {
         }
     }
 
-    /// The context of a file's sections, which it keeps. All lines are read here. Refused, besides
-    /// out of memory, by a header of `.debug_aranges`, by the first fault in `.debug_info`, of a
-    /// unit's ranges or of a header, or by a header of the supplement, in this order.
+    /// The context of a file's sections, which it keeps. The lines of a unit are read here only
+    /// where its ranges are those of its lines. Refused, besides out of memory, by a header of
+    /// `.debug_aranges`, by the first fault in `.debug_info`, of a unit's ranges or of a header, or
+    /// by a header of the supplement, in this order.
     pub fn from_arc_dwarf(alloc: Global, sections: Rc<Dwarf<R>>) -> Result<Self, Error>
-        ensures { ReturnsOrNoMemory result (file_context sections.value) }
+        ensures { ReturnsOrNoMemory result (file_context sections.value.file) }
     {
         let dwarf = sections.as_ref();
-        check_aranges(dwarf)?;
-        let units = units_of_file(alloc, dwarf)?;
+        let aranges = ArangeIndex::read(alloc, dwarf)?;
+        aranges.check()?;
+        let units = units_of_file(alloc, &sections, &aranges)?;
         let supplement_units = units_of_supplement(alloc, dwarf)?;
-        let ranges = ordered_ranges(alloc, units.as_slice())?;
+        let kept = Units::new(alloc, units)?;
         Ok(Context {
             sections,
-            units,
+            units: kept,
             supplement_units,
-            ranges,
         })
     }
 
     /// The sections of the context.
     pub fn sections(&self) -> &Rc<Dwarf<R>>
-        ensures { result.now.value ≡ self.now.file }
+        ensures { result.now.value.file ≡ self.now.file }
     {
         &self.sections
     }
 
     /// The units, by their numbers.
-    pub fn units(&self) -> &[ContextUnit<R>]
-        ensures { result.now ≡ self.now.context.units }
+    pub fn units(&self) -> &[ResUnit<R>]
+        ensures { map plain_unit result.now ≡ self.now.context.units }
     {
         self.units.as_slice()
     }
@@ -97,40 +100,49 @@ impl<R: Reader> Context<R> {
     }
 
     /// The place of an address: of the units with a range over it, by the ranges' ends, the first
-    /// that has a place for it. A unit whose lines were refused ends the search with that refusal.
-    /// It takes no memory.
-    pub fn find_location(&self, probe: u64) -> Result<Option<Location<'_>>, Error>
-        ensures { ReturnsAs (option_map location_value) result (location self.now.context probe) }
+    /// that has a place for it. A unit whose lines are refused ends the search with that refusal.
+    /// The lines of the units that it asks are read, unless they are kept, and kept; else it takes
+    /// no memory. The context's value stays the same.
+    pub fn find_location(&mut self, probe: u64) -> Result<Option<Location<'_>>, Error>
+        ensures place { ReturnsAsOrNoMemory (option_map location_value) result
+            (location self.old.context probe) }
+        ensures* after { sem 𝓛 (Rests (the_row R.row R.Endian.row R.Offset.row R.Reader
+            R.Endian.Endianity.own (record { debug_output = R.Endian.debug_output })
+            (record { is_default = R.Endian.is_default }) (record { eq = R.Endian.eq })
+            R.Offset.ReaderOffset.own (record { debug_output = R.Offset.debug_output })
+            (record { eq = R.Offset.eq }) (record { cmp = R.Offset.cmp })
+            (record { partial_cmp = R.Offset.partial_cmp })
+            (record { hash_input = R.Offset.hash_input })) self.entry
+            (λ left. left ≡ self.old)) }
     {
-        first_answer(self.units.as_slice(), &self.ranges, probe)
+        match self.units.place_unit(probe)? {
+            Some(number) => self.units.place_in(number, probe),
+            None => Ok(None),
+        }
     }
 
     /// The stretches of addresses between two ends, with their places: of the units with a range
     /// there, in the order in which lookups ask them, those of their rows between the ends, both
-    /// clipped to that range. It takes no memory; the iterator does.
+    /// clipped to that range. The lines of these units are read, unless they are kept, and kept.
     pub fn find_location_range(
-        &self,
+        &mut self,
         probe_low: u64,
         probe_high: u64,
     ) -> Result<LocationRangeIter<'_, R>, Error>
-        ensures { Returns result (Ok (stretches self.now.context probe_low probe_high)) }
+        ensures { ReturnsOrNoMemory result
+            (Ok (stretches self.old.context probe_low probe_high)) }
     {
-        let alloc = *self.units.allocator();
-        Ok(LocationRangeIter::new(
-            alloc,
-            self.units.as_slice(),
-            &self.ranges,
-            probe_low,
-            probe_high,
-        ))
+        self.units.read_between(probe_low, probe_high)?;
+        Ok(self.units.stretches(probe_low, probe_high))
     }
 
     /// Whether the lines of all units can be read, or else the first refusal, by the units'
-    /// numbers. They were read when the context was made, so it takes no memory and changes
-    /// nothing.
-    pub fn parse_lines(&self) -> Result<(), Error>
-        ensures { result ≡ all_lines_or_refusal self.now.context.units }
+    /// numbers. They are read, unless they are kept, and kept, up to that refusal.
+    pub fn parse_lines(&mut self) -> Result<(), Error>
+        ensures lines { ReturnsOrNoMemory result
+            (all_lines_or_refusal self.old.context.units) }
+        ensures value { self.new ≡ self.old }
     {
-        check_lines(self.units.as_slice())
+        self.units.check_lines()
     }
 }

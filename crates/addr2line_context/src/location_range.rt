@@ -1,27 +1,28 @@
 //! The places between two ends, one after the other.
 
-ghost use Rattle.std.specs.Prelude.{◌≡◌};
-ghost use Rattle.addr2line_units.specs.PlaceLookups.{stretches_between};
-ghost use Rattle.addr2line_units.specs.Contexts.{ranges_of, lines_of};
-ghost use Rattle.addr2line_units.specs.StretchesLeft.{StretchComesNext};
-ghost use Rattle.addr2line_context.specs.ContextUnits.{ordered_ranges};
+ghost use Rattle.std.specs.Prelude.{◌≡◌, map};
+ghost use Rattle.addr2line_resolved.specs.PlaceLookups.{stretches_between};
+ghost use Rattle.addr2line_resolved.specs.Contexts.{ranges_of, lines_of};
+ghost use Rattle.addr2line_resolved.specs.StretchesLeft.{StretchComesNext};
+ghost use Rattle.addr2line_resolved.specs.ContextUnits.{ordered_ranges};
+ghost use Rattle.addr2line_resolved.specs.ResolvedUnits.{plain_unit};
+ghost use Rattle.addr2line_context.specs.KeptUnits.{KeepsBetween};
 ghost use Rattle.addr2line_context.specs.RangeItems.{stretch_of_item};
 
-use crate::unit::ContextUnit;
-use addr2line_units::{Error, Location, Reader, StretchesBetween, UnitRanges};
+use addr2line_resolved::{Error, Location, Reader, ResUnit, StretchesBetween, UnitRanges};
 use std::alloc::Global;
 use std::marker::Model;
 
 /// The stretches of addresses between two ends that are left, with their places. They end with the
-/// first unit whose lines were refused.
+/// first unit whose lines are refused.
 #[derive(Drop)]
 pub struct LocationRangeIter<'ctx, R: Reader> {
-    stretches: StretchesBetween<'ctx, ContextUnit<R>>,
+    stretches: StretchesBetween<'ctx, ResUnit<R>>,
 }
 
 impl<'ctx, R: Reader> Model for LocationRangeIter<'ctx, R> {
-    ghost use Rattle.addr2line_units.specs.Repetition.{Listing};
-    ghost use Rattle.addr2line_units.specs.Lines.{Stretch};
+    ghost use Rattle.addr2line_resolved.specs.Repetition.{Listing};
+    ghost use Rattle.addr2line_resolved.specs.Lines.{Stretch};
 
     ghost Value = { Listing (Unit {0}) Stretch };
 
@@ -31,13 +32,15 @@ impl<'ctx, R: Reader> Model for LocationRangeIter<'ctx, R> {
 impl<'ctx, R: Reader> LocationRangeIter<'ctx, R> {
     pub(crate) fn new(
         alloc: Global,
-        units: &'ctx [ContextUnit<R>],
+        units: &'ctx [ResUnit<R>],
         ranges: &'ctx UnitRanges,
         low: u64,
         high: u64,
     ) -> Self
-        requires { ranges.now ≡ ordered_ranges units.now }
-        ensures { result ≡ stretches_between ranges_of lines_of units.now low high }
+        requires kept { KeepsBetween low high units.now }
+        requires order { ranges.now ≡ ordered_ranges (map plain_unit units.now) }
+        ensures { result
+            ≡ stretches_between ranges_of lines_of (map plain_unit units.now) low high }
     {
         LocationRangeIter {
             stretches: StretchesBetween::new(alloc, units, ranges, low, high),

@@ -1,19 +1,45 @@
 //! The lines of all units.
 
-ghost use Rattle.std.specs.Prelude.{◌≡◌};
-ghost use Rattle.addr2line_units.specs.Contexts.{all_lines_or_refusal};
+ghost use Rattle.std.specs.Prelude.{◌≡◌, map};
+ghost use Rattle.addr2line_resolved.specs.Calls.{ReturnsOrNoMemory};
+ghost use Rattle.addr2line_resolved.specs.Contexts.{all_lines_or_refusal};
+ghost use Rattle.addr2line_resolved.specs.ResolvedUnits.{plain_unit, value_of_unit};
+ghost use Rattle.addr2line_context.specs.KeptUnits.{check_at};
 
-use crate::unit::ContextUnit;
-use addr2line_units::{Error, HasLines, Reader};
+use addr2line_resolved::{Error, Reader, ResUnit};
+use std::alloc::Global;
 
-// Whether the lines of all units can be read, or else the first refusal.
-pub(crate) fn check_lines<R: Reader>(units: &[ContextUnit<R>]) -> Result<(), Error>
-    ensures { result ≡ all_lines_or_refusal units.now }
+// Whether the lines of the unit of a number can be read, or else the refusal; they are read and
+// kept.
+fn check_at<R: Reader>(
+    alloc: Global,
+    units: &mut Vec<ResUnit<R>>,
+    number: usize,
+) -> Result<(), Error>
+    ensures values { map value_of_unit units.new.items ≡ map value_of_unit units.old.items }
+    ensures found { ReturnsOrNoMemory result (check_at (map plain_unit units.old.items) number) }
 {
-    let mut left = units;
-    while let Some((unit, rest)) = left.split_first() {
-        unit.lines()?;
-        left = rest;
+    if number >= units.len() {
+        return Ok(());
+    }
+    let unit = &mut units[number];
+    unit.check_lines(alloc)
+}
+
+// Whether the lines of all units can be read, or else the first refusal. They are read and kept, up
+// to that refusal.
+pub(crate) fn check_lines<R: Reader>(
+    alloc: Global,
+    units: &mut Vec<ResUnit<R>>,
+) -> Result<(), Error>
+    ensures values { map value_of_unit units.new.items ≡ map value_of_unit units.old.items }
+    ensures found { ReturnsOrNoMemory result
+        (all_lines_or_refusal (map plain_unit units.old.items)) }
+{
+    let mut number = 0;
+    while number < units.len() {
+        check_at(alloc, units, number)?;
+        number += 1;
     }
     Ok(())
 }

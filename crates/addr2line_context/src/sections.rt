@@ -1,11 +1,11 @@
 //! A context of sections that are handed in one by one.
 
-ghost use Rattle.addr2line_units.specs.Calls.{ReturnsOrNoMemory};
-ghost use Rattle.addr2line_units.specs.Contexts.{file_context};
+ghost use Rattle.addr2line_resolved.specs.Calls.{ReturnsOrNoMemory};
+ghost use Rattle.addr2line_resolved.specs.Contexts.{file_context};
 ghost use Rattle.addr2line_context.specs.MainFiles.{main_file};
 
 use crate::context::Context;
-use addr2line_units::{
+use addr2line_resolved::{
     AbbreviationsCache, DebugAbbrev, DebugAddr, DebugAranges, DebugInfo, DebugLine, DebugLineStr,
     DebugRanges, DebugRngLists, DebugStr, DebugStrOffsets, Dwarf, DwarfFileType, Error,
     LocationLists, RangeLists, Reader,
@@ -13,8 +13,8 @@ use addr2line_units::{
 use std::alloc::Global;
 
 impl<R: Reader> Context<R> {
-    /// The context of a main file without a supplement, from its sections; a copy of the last
-    /// stands for each that isn't named.
+    /// The context of a main file without a supplement, from its sections; a copy of the last is
+    /// used for each that isn't named.
     pub fn from_sections(
         alloc: Global,
         debug_abbrev: DebugAbbrev<R>,

@@ -1,10 +1,11 @@
 -- An element's text, from one dollar sign to the next.
-use Rattle.std.proofs.Common.{◌≡◌, ℕ, ◌+◌, ◌<◌, Bool, true, false, not, cond, ◌==◌, List, [], ◌∷◌, ◌++◌, length, Option, Some, None, option_map, refl, sym, ap, subst, ◌∙◌, arith, encode_utf8, Result, Ok, Err, OnOk, is_ok, if◌then◌else◌, append_assoc}
+use Rattle.std.proofs.Common.{◌≡◌, ℕ, ◌+◌, ◌<◌, Bool, true, false, not, cond, ◌==◌, List, [], ◌∷◌, ◌++◌, length, Option, Some, None, option_map, refl, sym, ap, subst, ◌∙◌, arith, encode_utf8, Result, Ok, Err, OnOk, is_ok, if◌then◌else◌, append_assoc, Bor, lit<}
 use Rattle.std.specs.List.{slice_split, join_with_byte, onto_first, position_or_len, before_first, after_first}
 use Rattle.std.proofs.lemmas.Bool.{eqb-true, eqb-false}
 use Rattle.std.proofs.lemmas.List.Splits.{slice_split_first, join_with_byte-slice_split}
 use Rattle.std.proofs.lemmas.List.Sums.{prefix_len-le-length}
 use Rattle.std.proofs.lemmas.List.{length-drop}
+use Rattle.std.proofs.lemmas.Str.Pattern.{IsSplitOnceResult, split_once_first}
 use Rattle.addr2line_demangle.specs.LegacyElements.{dots_as_colons, character_of, character_then, parts_text, Replacement, first_replacement}
 
 abbrev is_dollar : ℕ → Bool
@@ -124,6 +125,15 @@ rest_step rest plain tail lt p q =
     ++ after_dollar (after_first is_dollar rest)
     (first_replacement (after_first is_dollar rest))) (sym p)
     ∙ ap (λ (t : List ℕ). dots_as_colons plain ++ after_dollar t (first_replacement t)) (sym q)
+
+-- the same of a text that was split, with what its second part begins with
+pub rest_split : (rest : List ℕ) (plain tail : Bor (List ℕ)) (o : Option Replacement)
+    → IsSplitOnceResult 36 rest (Some (plain, tail)) → o ≡ first_replacement tail.now
+    → rest_text rest ≡ dots_as_colons plain.now ++ after_dollar tail.now o
+rest_split rest plain tail o split is =
+    let cut = split_once_first 36 rest (Some (plain, tail)) split (lit< tt) in
+    rest_step rest plain.now tail.now cut.0 cut.1 cut.2
+    ∙ ap (λ (r : Option Replacement). dots_as_colons plain.now ++ after_dollar tail.now r) (sym is)
 
 -- ---- the rest is shorter
 

@@ -19,12 +19,14 @@ pub record IsElementAndRest (text element rest : List ℕ) : Type 0 where
 -- a text is a path as compilers write it: elements, each after its length, then an 'E' and a suffix
 abbrev pub IsPath : List ℕ → List (List ℕ) → List ℕ → Type 0
 IsPath text [] suffix = text ≡ (end_of_path ∷ suffix)
-IsPath text (e ∷ es) suffix = (rest : List ℕ) × IsElementAndRest text e rest × IsPath rest es suffix
+IsPath text (e ∷ es) suffix =
+    (rest : List ℕ) × IsElementAndRest text e rest × IsPath rest es suffix
 
 -- each such path is read as it is written
 abbrev pub PathsAreRead : Type 0
 PathsAreRead =
-    (text : List ℕ) (elements : List (List ℕ)) (suffix : List ℕ) → IsPath text elements suffix
+    (text : List ℕ) (elements : List (List ℕ)) (suffix : List ℕ)
+    → IsPath text elements suffix
     → path_of text ≡ Some (record { elements = elements; suffix = suffix })
 
 -- and nothing else is read

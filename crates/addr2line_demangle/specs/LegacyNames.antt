@@ -97,7 +97,8 @@ path_end text =
     else None
 
 -- an element and the path after it, or the path's end
-abbrev pub element_or_end : Option Element → Option Path → (List ℕ → Option Path) → Option Path
+abbrev pub element_or_end : Option Element → Option Path → (List ℕ → Option Path)
+    → Option Path
 element_or_end None end rest = end
 element_or_end (Some e) end rest = option_map (add_first e.text) (rest e.rest)
 

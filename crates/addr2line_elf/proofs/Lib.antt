@@ -1,6 +1,8 @@
 pub mod Loads
 pub mod CountedReads
-pub mod HighestSymbols
 pub mod SymbolNames
 pub mod FirstHighestSymbol
 pub mod SectionTableRoom
+pub mod SymbolChoice
+pub mod SymbolStretchLemmas
+pub mod SymbolSweepLemmas

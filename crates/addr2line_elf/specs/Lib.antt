@@ -6,4 +6,6 @@ pub mod ElfTexts
 pub mod ElfImages
 pub mod SymbolEntries
 pub mod ElfSymbols
+pub mod SymbolStretches
+pub mod SymbolSweeps
 pub mod ElfDebugSections

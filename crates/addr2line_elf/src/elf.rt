@@ -117,7 +117,8 @@ impl Elf {
     }
 
     /// The symbols that have a name and are defined in the file, data and functions. Takes memory
-    /// for a list of all symbols.
+    /// for a list of all symbols, and for stretches of addresses, at most two for each symbol. It
+    /// reads each name and sorts the symbols.
     #[tactic(auto, using(crate::proofs::Loads::of_returned, crate::proofs::Loads::of_read))]
     pub fn symbols(&self, alloc: Global) -> Result<Symbols, LoadError>
         ensures { LoadsOrNoMemory result (symbols_of self.now) }

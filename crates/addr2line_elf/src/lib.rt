@@ -12,6 +12,8 @@ pub mod headers;
 mod identification;
 pub mod laws;
 mod reading;
+mod stretch;
+mod sweep;
 pub mod symbols;
 mod table;
 mod texts;

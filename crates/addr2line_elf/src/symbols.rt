@@ -1,6 +1,6 @@
 //! The symbols of an image, and the one of an address.
 
-ghost use Rattle.std.specs.Prelude.{◌≡◌, ◌==◌, option_map};
+ghost use Rattle.std.specs.Prelude.{◌≡◌, ◌==◌, filter, option_map};
 ghost use Rattle.std.specs.List.{find};
 ghost use Rattle.gimli_core_readers.specs.Parsers.{value_of};
 ghost use Rattle.gimli_core_readers.specs.Calls.{ReturnsAsOrNoMemory};
@@ -8,7 +8,8 @@ ghost use Rattle.gimli_core_readers.specs.Repetition.{times};
 ghost use Rattle.addr2line_elf.specs.SymbolEntries.{symbol_entry};
 ghost use Rattle.addr2line_elf.specs.ImageLoading.{LoadsAsOrNoMemory, LoadsOrNoMemory};
 ghost use Rattle.addr2line_elf.specs.ElfTexts.{text_at};
-ghost use Rattle.addr2line_elf.specs.ElfSymbols.{is_defined, as_name, symbol_of, symbol_table, section_or, entries_in, symbols_in, covers, if_holds, higher, symbol_at};
+ghost use Rattle.addr2line_elf.specs.ElfSymbols.{is_defined, as_name, symbol_of, symbol_table, section_or, entries_in, symbols_in, symbol_at};
+ghost use Rattle.addr2line_elf.specs.SymbolStretches.{is_named};
 
 use crate::class::Class;
 use crate::constants::{SHN_UNDEF, SHT_DYNSYM, SHT_SYMTAB, STT_FUNC};
@@ -16,10 +17,13 @@ use crate::entries::SymbolEntry;
 use crate::error::LoadError;
 use crate::headers::SectionHeader;
 use crate::reading::{in_file, input_of};
+use crate::stretch::{SymbolStretch, entry_at};
+use crate::sweep::stretches_of;
 use crate::texts::text_at;
 use gimli_core_readers::{EndianBytes, EndianSlice, Error, Reader, RunTimeEndian};
 use std::alloc::Global;
 use std::marker::Model;
+use std::snapshot::Snapshot;
 use std::str;
 
 /// A symbol: its name, the address of its first byte, and its size in bytes.
@@ -55,10 +59,12 @@ impl<'a> Symbol<'a> {
 }
 
 /// The symbols of an image that are defined in one of its sections, have a name, and are data,
-/// functions or without a type.
-#[derive(Debug, Drop)]
+/// functions or without a type. Their names are in the file's bytes, which are shared.
+#[derive(Drop)]
 pub struct Symbols {
-    entries: Vec<SymbolEntry>,
+    stretches: Vec<SymbolStretch>,
+    // In the order of the table. It takes no bytes.
+    entries: Snapshot<Vec<SymbolEntry>>,
     texts: EndianBytes<RunTimeEndian>,
 }
 
@@ -67,10 +73,14 @@ impl Model for Symbols {
     ghost use Rattle.std.specs.List.{filter_map};
     ghost use Rattle.addr2line_elf.specs.ElfSymbols.{NamedSymbol};
     ghost use Rattle.addr2line_elf.specs.ElfSymbols.{symbol_of};
+    ghost use Rattle.addr2line_elf.specs.SymbolStretches.{IsDivided};
 
     ghost Value = { List NamedSymbol };
 
-    ghost view = { λ s. filter_map (symbol_of s.texts.bytes) s.entries.items };
+    ghost view = { λ s. filter_map (symbol_of s.texts.bytes) s.entries.value.items };
+
+    ghost invariant = { λ s.
+        IsDivided s.texts.bytes s.entries.value.items s.stretches.items };
 }
 
 impl Symbols {
@@ -80,13 +90,16 @@ impl Symbols {
     pub(crate) fn none(alloc: Global, texts: EndianBytes<RunTimeEndian>) -> Symbols
         ensures { result ≡ [] }
     {
+        let entries = Vec::new(alloc);
         Symbols {
-            entries: Vec::new(alloc),
+            stretches: Vec::new(alloc),
+            entries: Snapshot::of(&entries),
             texts,
         }
     }
 
-    /// The symbols of a table, with their names.
+    /// The symbols of a table, with their names. Each name is checked once, and the entries are
+    /// sorted by their addresses.
     pub(crate) fn read(
         alloc: Global,
         class: Class,
@@ -95,22 +108,36 @@ impl Symbols {
     ) -> Result<Symbols, LoadError>
         ensures { LoadsOrNoMemory result (symbols_in class table.now texts) }
     {
-        let entries = read_entries(alloc, class, table)?;
-        Ok(Symbols { entries, texts })
+        let mut entries = read_entries(alloc, class, table)?;
+        keep_named(&mut entries, texts.as_bytes());
+        let appearance = Snapshot::of(&entries);
+        let stretches = stretches_of(alloc, entries)?;
+        Ok(Symbols {
+            stretches,
+            entries: appearance,
+            texts,
+        })
     }
 
     /// The symbol that holds an address: of several the one of the greatest address, and of these
-    /// the first. It looks at each symbol.
+    /// the first. It is a bisection, and then reads the name of the symbol. It takes no memory.
     pub fn find(&self, address: u64) -> Option<Symbol<'_>>
         ensures { result ≡ symbol_at address self.now }
     {
-        let texts = self.texts.as_bytes();
-        let mut best = None;
-        for entry in &self.entries {
-            best = higher(best, candidate(texts, entry, address));
-        }
-        best
+        let entry = entry_at(&self.stretches, address)?;
+        symbol_of(self.texts.as_bytes(), &entry)
     }
+}
+
+// Removes the entries that have no symbol.
+fn keep_named(entries: &mut Vec<SymbolEntry>, texts: &[u8])
+    ensures { entries.new.items ≡ filter (is_named texts.now) entries.old.items }
+{
+    entries.retain(
+        |entry: &SymbolEntry| -> bool
+            ensures { result ≡ is_named texts.entry.now entry.now }
+        { symbol_of(texts, entry).is_some() },
+    );
 }
 
 // As many entries as a table has room for.
@@ -174,41 +201,6 @@ fn first_of_type(sections: &[SectionHeader], section_type: u32) -> Option<&Secti
     sections
         .iter()
         .find(|section| section.section_type == section_type)
-}
-
-// The symbol of an entry, if it has one that holds an address.
-fn candidate<'a>(texts: &'a [u8], entry: &SymbolEntry, address: u64) -> Option<Symbol<'a>>
-    ensures { result ≡ if_holds address (symbol_of texts.now entry.now) }
-{
-    if !covers(entry.value, entry.size, address) {
-        return None;
-    }
-    symbol_of(texts, entry)
-}
-
-// Whether an address is among the bytes of a size from `begin` on; if the size is 0, these are all
-// from there on.
-fn covers(begin: u64, size: u64, address: u64) -> bool
-    ensures { result ≡ covers begin size address }
-{
-    begin <= address && (size == 0 || address - begin < size)
-}
-
-// The one of the greater address, and the first where neither is greater.
-fn higher<'a>(first: Option<Symbol<'a>>, other: Option<Symbol<'a>>) -> Option<Symbol<'a>>
-    ensures { result ≡ higher first.entry other.entry }
-{
-    match (first, other) {
-        (Some(first), Some(other)) => {
-            if first.address < other.address {
-                Some(other)
-            } else {
-                Some(first)
-            }
-        }
-        (Some(first), None) => Some(first),
-        (None, other) => other,
-    }
 }
 
 // The symbol of an entry, if it is defined and has a name.

@@ -7,10 +7,12 @@ use Rattle.gimli_units_entries.specs.EntryWalks.{Walk}
 use Rattle.gimli_units_entries.specs.EntryRows.{Row}
 use Rattle.gimli_units_entries.specs.Results.{and_then}
 use Rattle.addr2line_names.specs.UnitFacts.{UnitInFile}
-use Rattle.addr2line_units.specs.EntryRanges.{ranges_of_entry}
+use Rattle.addr2line_units.specs.EntryRanges.{ranges_of_facts}
+use Rattle.addr2line_units.specs.UnitRanges.{list_in, last_of}
 use Rattle.addr2line_units.specs.Functions.{is_subprogram}
-use Rattle.addr2line_units.specs.InlinedCalls.{Naming, Call, is_inlined, call_at, call_file, is_call_line, is_call_column, number_or_0, depth_count}
+use Rattle.addr2line_units.specs.InlinedCalls.{Naming, Call, CallFacts, no_call_facts, call_facts, is_inlined, call_at, depth_count}
 use Rattle.addr2line_functions.specs.CallNesting.{Nesting, no_nesting, shallower, leave, inside_of, call_if}
+use Rattle.addr2line_functions.proofs.CallFactSteps.{call_with}
 use Rattle.addr2line_functions.proofs.NestingLemmas.{nesting_of}
 use Rattle.addr2line_functions.proofs.CallEntrySteps.{HasEntry}
 
@@ -61,61 +63,20 @@ one_more tag e xs None = more_by e xs (is_subprogram tag) (is_inlined tag)
 -- the depth of a call is the one that it was made with
 depth_of : (u : UnitInFile) (naming : Naming) (depth : ℕ) (r : Row) (c : Call)
     → call_at u naming depth r ≡ Ok c → c.depth ≡ depth
-depth_of u naming depth r c h = by_name (naming r.attributes) h
+depth_of u naming depth r c h = by (call_facts u naming no_call_facts r.attributes) h
   where
-    by_ranges : (name : Option View) (file : Option ℕ) (line column : ℕ) (x : Result (List Range) Error)
-        → and_then x
-        (λ rs. Ok
-        (record {
-          depth =
-              depth;
-          offset = r.offset;
-          ranges = rs;
-          name = name;
-          file = file;
-          line = line;
-          column = column;
-        })) ≡ Ok c
-        → c.depth ≡ depth
-    by_ranges name file line column (Ok rs) k =
-        let is :
-        record {
-          depth =
-              depth;
-          offset = r.offset;
-          ranges = rs;
-          name = name;
-          file = file;
-          line = line;
-          column = column;
-        } ≡ c = cc in
-        sym (ap (λ (x : Call). x.depth) is)
-    by_ranges name file line column (Err e) k = absurd cc
+    by_ranges : (name : Option View) (x : Result (List Range) Error)
+        → and_then x (λ rs. Ok (call_with u naming depth r name rs)) ≡ Ok c → c.depth ≡ depth
+    by_ranges name (Ok rs) k =
+        let is : call_with u naming depth r name rs ≡ c = cc in sym (ap (λ (x : Call). x.depth) is)
+    by_ranges name (Err e) k = absurd cc
 
-    by_name : (x : Result (Option View) Error)
-        → and_then x
-        (λ name. and_then (ranges_of_entry u r.attributes)
-        (λ rs. Ok
-        (record {
-          depth =
-              depth;
-          offset =
-              r.offset;
-          ranges =
-              rs;
-          name =
-              name;
-          file =
-              call_file u.facts.header.encoding.version r.attributes;
-          line =
-              number_or_0 is_call_line r.attributes;
-          column = number_or_0 is_call_column r.attributes;
-        }))) ≡ Ok c
+    by : (x : Result CallFacts Error)
+        → and_then x (λ facts. and_then (ranges_of_facts u facts.ranges (last_of list_in facts.ranges))
+        (λ rs. Ok (call_with u naming depth r facts.name rs))) ≡ Ok c
         → c.depth ≡ depth
-    by_name (Ok name) k =
-        by_ranges name (call_file u.facts.header.encoding.version r.attributes) (number_or_0 is_call_line r.attributes)
-        (number_or_0 is_call_column r.attributes) (ranges_of_entry u r.attributes) k
-    by_name (Err e) k = absurd cc
+    by (Ok facts) k = by_ranges facts.name (ranges_of_facts u facts.ranges (last_of list_in facts.ranges)) k
+    by (Err e) k = absurd cc
 
 abbrev ok_number : Option Call → Result (Option Call) Error
 ok_number o = Ok o

@@ -1,5 +1,5 @@
 -- A function's own entry, before those below it.
-use Rattle.std.proofs.Common.{◌≡◌, ℕ, Bool, true, false, cond, not, ◌==◌, List, Option, Some, Result, Ok, Err, refl, sym, ap, ◌∙◌}
+use Rattle.std.proofs.Common.{◌≡◌, ℕ, Bool, true, false, cond, not, ◌==◌, List, Option, Some, None, Result, Ok, Err, refl, sym, ap, ◌∙◌}
 use Rattle.gimli_units_entries.specs.Error.{Error}
 use Rattle.gimli_units_entries.specs.Error.TheVariants.{NoEntryAtGivenOffset}
 use Rattle.gimli_units_entries.specs.View.{View}
@@ -11,7 +11,7 @@ use Rattle.gimli_units_entries.specs.EntryRows.{Row, row, present_row}
 use Rattle.gimli_units_entries.specs.UnitEntries.{walk_from}
 use Rattle.gimli_units_entries.specs.Results.{and_then}
 use Rattle.addr2line_names.specs.UnitFacts.{UnitInFile}
-use Rattle.addr2line_units.specs.InlinedCalls.{Naming, Call, FunctionCalls, calls_among, entries_of, function_calls, calls_of_row, calls_of_function}
+use Rattle.addr2line_units.specs.InlinedCalls.{Naming, name_by, Call, FunctionCalls, calls_among, entries_of, function_calls, calls_of_row, calls_of_function}
 
 module _ (limit : ℕ) (u : UnitInFile) (same_limit : u.file.offset_limit ≡ limit) (naming : Naming) where
   -- a function of a name
@@ -20,25 +20,25 @@ module _ (limit : ℕ) (u : UnitInFile) (same_limit : u.file.offset_limit ≡ li
       and_then (calls_among u naming (entries_of n w)) (λ calls. Ok (record { name = name; calls = calls }))
 
   with_name : (r : Row) (w : Walk) (attributes : List RawAttribute) (x : Result (Option View) Error)
-      → attributes ≡ r.attributes → naming attributes ≡ x
+      → attributes ≡ r.attributes → name_by naming None attributes ≡ x
       → function_calls u naming r w ≡ and_then x (function_of_name limit w)
   with_name r w attributes x same h =
-      ap (λ y. and_then y (function_of_name u.file.offset_limit w)) (ap naming (sym same) ∙ h)
+      ap (λ y. and_then y (function_of_name u.file.offset_limit w)) (ap (name_by naming None) (sym same) ∙ h)
       ∙ ap (λ n. and_then x (function_of_name n w)) same_limit
 
   pub name_refused : (r : Row) (w : Walk) (attributes : List RawAttribute) (e : Error) → attributes ≡ r.attributes
-      → naming attributes ≡ Err e → function_calls u naming r w ≡ Err e
+      → name_by naming None attributes ≡ Err e → function_calls u naming r w ≡ Err e
   name_refused r w attributes e same h = with_name r w attributes (Err e) same h
 
   pub calls_refused : (r : Row) (w : Walk) (attributes : List RawAttribute) (name : Option View) (e : Error)
-      → attributes ≡ r.attributes → naming attributes ≡ Ok name
+      → attributes ≡ r.attributes → name_by naming None attributes ≡ Ok name
       → calls_among u naming (entries_of limit w) ≡ Err e → function_calls u naming r w ≡ Err e
   calls_refused r w attributes name e same h k =
       with_name r w attributes (Ok name) same h
       ∙ ap (λ y. and_then y (λ calls. Ok (record { name = name; calls = calls }))) k
 
   pub calls_read : (r : Row) (w : Walk) (attributes : List RawAttribute) (name : Option View) (calls : List Call)
-      → attributes ≡ r.attributes → naming attributes ≡ Ok name
+      → attributes ≡ r.attributes → name_by naming None attributes ≡ Ok name
       → calls_among u naming (entries_of limit w) ≡ Ok calls
       → function_calls u naming r w ≡ Ok (record { name = name; calls = calls })
   calls_read r w attributes name calls same h k =

@@ -1,10 +1,16 @@
-pub mod LatestNumbered
+pub use Rattle.addr2line_units.proofs.UnitAnswers
+pub use Rattle.addr2line_units.proofs.UnitViews
+pub mod RangeNumbers
 pub mod PairNumbers
 pub mod FunctionEntrySteps
 pub mod NestingLemmas
 pub mod CallEntrySteps
+pub mod NameFolds
+pub mod CallFactSteps
 pub mod CallCounts
 pub mod ChainSteps
 pub mod UnsignedValues
 pub mod FunctionRowSteps
 pub mod FrameLists
+pub mod ChainProbes
+pub mod MadeValues

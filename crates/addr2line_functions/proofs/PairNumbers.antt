@@ -1,10 +1,10 @@
 -- The number of a pair is the index of its item.
-use Rattle.std.proofs.Common.{◌≡◌, ℕ, ◌+◌, List, [], ◌∷◌, ◌++◌, length, map, slice_get, Option, Some, None, option_map, refl, sym, ap, subst, ◌∙◌, arith, append_assoc, length-append}
+use Rattle.std.proofs.Common.{◌≡◌, ℕ, ◌+◌, Bool, List, [], ◌∷◌, ◌++◌, length, map, filter, slice_get, Option, Some, None, option_map, refl, sym, ap, subst, ◌∙◌, arith, append_assoc, length-append}
 use Rattle.std.specs.List.{AllByRecursion}
 use Rattle.gimli_units_entries.specs.Range.{Range}
 use Rattle.addr2line_units.specs.Choice.{holder}
 use Rattle.addr2line_units.specs.Pairs.{Pair, pairs_of, pairs_from}
-use Rattle.addr2line_units.proofs.RangeHolders.{holder_is}
+use Rattle.addr2line_units.proofs.RangeHolders.{holder_is, all_of_filter}
 
 module _ {U : Type 0} (ranges : U → List Range) where
   -- the item of a pair is at its number
@@ -37,31 +37,33 @@ module _ {U : Type 0} (ranges : U → List Range) where
       (all_of_one (before ++ u ∷ us) n u (ranges u) (ap (slice_get (before ++ u ∷ us)) h ∙ at_place before u us))
       (subst P (append_assoc before (u ∷ []) us) rest)
 
-  -- what holds an address is the item at its number
-  pub holder_at : (a : ℕ) (us : List U) (p : Pair U)
-      → holder (λ (q : Pair U). q.range) a (pairs_from ranges 0 us) ≡ Some p → slice_get us p.number ≡ Some p.unit
-  holder_at a us p e =
-      holder_is (λ (q : Pair U). q.range) (IsAt us) a (pairs_from ranges 0 us) p (all_at 0 [] us refl) e
+  module _ (keep : Pair U → Bool) (a : ℕ) (us : List U) where
+    -- the pair that holds an address, among those that are kept
+    abbrev pub pair_at : Option (Pair U)
+    pair_at = holder (λ (q : Pair U). q.range) a (filter keep (pairs_from ranges 0 us))
 
-  -- the item of the number that holds an address
-  pub item_at : (a : ℕ) (us : List U) (n : ℕ)
-      → option_map (λ (p : Pair U). p.number) (holder (λ (q : Pair U). q.range) a (pairs_from ranges 0 us)) ≡ Some n
-      → slice_get us n
-      ≡ option_map (λ (p : Pair U). p.unit) (holder (λ (q : Pair U). q.range) a (pairs_from ranges 0 us))
-  item_at a us n e = by (holder (λ (q : Pair U). q.range) a (pairs_from ranges 0 us)) refl e
-    where
-      by : (o : Option (Pair U)) → holder (λ (q : Pair U). q.range) a (pairs_from ranges 0 us) ≡ o
-          → option_map (λ (p : Pair U). p.number) o ≡ Some n → slice_get us n ≡ option_map (λ (p : Pair U). p.unit) o
-      by None found e = absurd cc
-      by (Some p) found e = let same : p.number ≡ n = cc in ap (slice_get us) (sym same) ∙ holder_at a us p found
+    -- what holds an address is the item at its number
+    holder_at : (p : Pair U) → pair_at ≡ Some p → slice_get us p.number ≡ Some p.unit
+    holder_at p e =
+        holder_is (λ (q : Pair U). q.range) (IsAt us) a (filter keep (pairs_from ranges 0 us)) p
+        (all_of_filter (IsAt us) keep (pairs_from ranges 0 us) (all_at 0 [] us refl)) e
 
-  -- without a number there is none
-  pub no_item : (a : ℕ) (us : List U)
-      → option_map (λ (p : Pair U). p.number) (holder (λ (q : Pair U). q.range) a (pairs_from ranges 0 us)) ≡ None
-      → option_map (λ (p : Pair U). p.unit) (holder (λ (q : Pair U). q.range) a (pairs_from ranges 0 us)) ≡ None
-  no_item a us e = by (holder (λ (q : Pair U). q.range) a (pairs_from ranges 0 us)) e
-    where
-      by : (o : Option (Pair U)) → option_map (λ (p : Pair U). p.number) o ≡ None
-          → option_map (λ (p : Pair U). p.unit) o ≡ None
-      by None e = refl
-      by (Some p) e = absurd cc
+    -- the item of the number that holds an address
+    pub item_at : (n : ℕ) → option_map (λ (p : Pair U). p.number) pair_at ≡ Some n
+        → slice_get us n ≡ option_map (λ (p : Pair U). p.unit) pair_at
+    item_at n e = by pair_at refl e
+      where
+        by : (o : Option (Pair U)) → pair_at ≡ o
+            → option_map (λ (p : Pair U). p.number) o ≡ Some n → slice_get us n ≡ option_map (λ (p : Pair U). p.unit) o
+        by None found e = absurd cc
+        by (Some p) found e = let same : p.number ≡ n = cc in ap (slice_get us) (sym same) ∙ holder_at p found
+
+    -- without a number there is none
+    pub no_item : option_map (λ (p : Pair U). p.number) pair_at ≡ None
+        → option_map (λ (p : Pair U). p.unit) pair_at ≡ None
+    no_item e = by pair_at e
+      where
+        by : (o : Option (Pair U)) → option_map (λ (p : Pair U). p.number) o ≡ None
+            → option_map (λ (p : Pair U). p.unit) o ≡ None
+        by None e = refl
+        by (Some p) e = absurd cc

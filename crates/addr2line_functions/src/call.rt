@@ -1,7 +1,10 @@
 //! A call that is inlined into a function.
 
 ghost use Rattle.std.specs.Prelude.{◌≡◌, option_map};
+ghost use Rattle.addr2line_units.specs.InlinedCalls.{ranges_of_call};
+ghost use Rattle.addr2line_functions.specs.CountedFunctions.{depth_of_call};
 
+use crate::numbered_range::HasRanges;
 use gimli_units_entries::{Range, Reader, UnitOffset};
 use std::marker::Model;
 
@@ -82,5 +85,19 @@ impl<R: Reader> Call<R> {
         ensures { result ≡ self.now.column }
     {
         self.column
+    }
+}
+
+impl<R: Reader> HasRanges for Call<R> {
+    ghost depth = { depth_of_call };
+
+    ghost ranges = { ranges_of_call };
+
+    fn range_depth(&self) -> usize {
+        self.depth
+    }
+
+    fn range_list(&self) -> &[Range] {
+        self.ranges.as_slice()
     }
 }

@@ -1,15 +1,17 @@
 //! A function with the calls that are inlined into it.
 
-ghost use Rattle.std.specs.Prelude.{◌≡◌, option_map};
-ghost use Rattle.gimli_units_entries.specs.Calls.{ReturnsOrNoMemory};
+ghost use Rattle.std.specs.Prelude.{◌≡◌, ◌≤◌, length, option_map, Ok, IfOk};
+ghost use Rattle.gimli_units_entries.specs.Calls.{ReturnsAsOrNoMemory, ReturnsOrNoMemory};
 ghost use Rattle.gimli_units_entries.specs.EntryViews.{entry_of};
-ghost use Rattle.addr2line_units.specs.InlinedCalls.{calls_of_function, function_calls, chain_from, chain_at};
+ghost use Rattle.addr2line_units.specs.InlinedCalls.{calls_of_function, function_calls, chain_at, depth_count};
+ghost use Rattle.addr2line_functions.specs.CountedFunctions.{call_probes};
 
 use crate::call::Call;
 use crate::chain::Chain;
-use crate::naming::Names;
+use crate::naming::{Names, name_by};
+use crate::numbered_range::{NumberedRange, range_index};
 use crate::walk::calls_below;
-use addr2line_units::UnitRef;
+use addr2line_units::{Probes, RangeIndex, UnitRef};
 use gimli_units_entries::{
     DebuggingInformationEntry, EntriesRaw, Error, Reader, ReaderOffset, UnitOffset,
 };
@@ -17,36 +19,61 @@ use std::alloc::Global;
 use std::marker::Model;
 
 /// A function: its name, and the calls that are inlined into it, in order of appearance, whatever
-/// each is in.
+/// each is in. A bisection of the calls' ranges finds the call of a depth that holds an address.
 #[derive(Drop)]
 pub struct FunctionCalls<R: Reader> {
     name: Option<R>,
     calls: Vec<Call<R>>,
+    ranges: RangeIndex<NumberedRange>,
 }
 
 impl<R: Reader> Model for FunctionCalls<R> {
     ghost use Rattle.std.specs.Prelude.{option_map};
-    ghost use Rattle.std.specs.Prelude.{◌≤◌, length};
-    ghost use Rattle.addr2line_units.specs.InlinedCalls.{depth_count, FunctionCalls as FunctionCallsPart};
+    ghost use Rattle.addr2line_functions.specs.CallIndexes.{IsCallIndex};
+    ghost use Rattle.addr2line_functions.specs.CountedFunctions.{CountedCalls};
 
-    ghost Value = { FunctionCallsPart };
+    ghost Value = { CountedCalls };
 
-    ghost view = { λ f. record { name = option_map R.view f.name; calls = f.calls.items } };
+    ghost view = { λ f. record {
+      function = record { name = option_map R.view f.name; calls = f.calls.items };
+      counter = f.ranges.counter;
+    } };
 
-    ghost invariant = { λ f. depth_count f.calls.items ≤ length f.calls.items };
+    ghost invariant = { λ f. IsCallIndex f.calls.items f.ranges.entries };
 }
 
 impl<R: Reader> FunctionCalls<R> {
+    // With the calls' ranges in order.
+    fn new(
+        alloc: Global,
+        name: Option<R>,
+        calls: Vec<Call<R>>,
+        probes: &Probes,
+    ) -> Result<Self, Error>
+        requires { depth_count calls.items ≤ length calls.items }
+        ensures { ReturnsOrNoMemory result (Ok (record {
+          function = record { name = option_map R.view name; calls = calls.items };
+          counter = probes.now.name;
+        })) }
+    {
+        let ranges = range_index(alloc, calls.as_slice(), probes)?;
+        Ok(FunctionCalls {
+            name,
+            calls,
+            ranges,
+        })
+    }
+
     /// The name of the function.
     pub fn name(&self) -> Option<&R>
-        ensures { option_map (λ r. R.view r.now) result ≡ self.now.name }
+        ensures { option_map (λ r. R.view r.now) result ≡ self.now.function.name }
     {
         self.name.as_ref()
     }
 
     /// The calls.
     pub fn calls(&self) -> &[Call<R>]
-        ensures { result.now ≡ self.now.calls }
+        ensures { result.now ≡ self.now.function.calls }
     {
         self.calls.as_slice()
     }
@@ -56,9 +83,13 @@ impl<R: Reader> FunctionCalls<R> {
     /// hold it, it is that whose range begins last, of these that whose range ends last, of these
     /// the last. It takes no memory.
     pub fn chain(&self, probe: u64) -> Chain<'_, R>
-        ensures { result ≡ chain_at self.now.calls probe }
+        ensures { result ≡ record {
+          calls = chain_at self.now.function.calls probe;
+          probes = call_probes self.now.function.calls;
+          counter = self.now.counter;
+        } }
     {
-        Chain::new(self.calls.as_slice(), probe)
+        Chain::new(self.calls.as_slice(), &self.ranges, probe)
     }
 }
 
@@ -69,37 +100,42 @@ fn function_calls<R: Reader, N: Names<R>>(
     names: &N,
     entry: &DebuggingInformationEntry<R>,
     entries: EntriesRaw<'_, R>,
+    probes: &Probes,
 ) -> Result<FunctionCalls<R>, Error>
-    ensures { ReturnsOrNoMemory result
+    ensures function { ReturnsAsOrNoMemory (λ f. f.function) result
         (function_calls unit.now (N.naming names.now)
         (entry_of R.view R.Offset.count entry.now) entries.entry) }
+    ensures counter { IfOk result (λ f. f.counter ≡ probes.now.name) }
 {
     // (shows the prover what a unit's model says of its file)
     let _ = &unit.dwarf;
-    let name = names.name_of(entry.attrs())?;
+    let name = name_by(names, entry.attrs())?;
     let calls = calls_below(alloc, unit, names, entries)?;
-    Ok(FunctionCalls { name, calls })
+    FunctionCalls::new(alloc, name, calls, probes)
 }
 
 /// The function whose entry is at an offset of a unit, with the calls that are inlined into it. Of
 /// the entries below its own those of tag `DW_TAG_inlined_subroutine` are read, and all others are
 /// skipped, as are nested functions with all that is in them. The first entry that can't be read or
 /// skipped, and the first name or range of a call that can't be read, is the error; `UnexpectedEof`
-/// where the unit ends before the last of its children.
+/// where the unit ends before the last of its children. This counter counts looks at the calls'
+/// ranges. It takes time by n log n in them, after reading.
 pub fn calls_of_function<R: Reader, N: Names<R>>(
     alloc: Global,
     unit: &UnitRef<'_, R>,
     names: &N,
     offset: UnitOffset<R::Offset>,
+    probes: &Probes,
 ) -> Result<FunctionCalls<R>, Error>
-    ensures { ReturnsOrNoMemory result
+    ensures function { ReturnsAsOrNoMemory (λ f. f.function) result
         (calls_of_function unit.now (N.naming names.now)
         (R.Offset.count offset.0)) }
+    ensures counter { IfOk result (λ f. f.counter ≡ probes.now.name) }
 {
     let mut entries = unit.entries_raw(Some(offset))?;
     let mut entry = DebuggingInformationEntry::null(alloc);
     if !entries.read_entry(&mut entry)? {
         return Err(Error::NoEntryAtGivenOffset(offset.0.into_u64()));
     }
-    function_calls(alloc, unit, names, &entry, entries)
+    function_calls(alloc, unit, names, &entry, entries, probes)
 }

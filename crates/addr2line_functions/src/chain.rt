@@ -1,57 +1,41 @@
 //! The calls that an address is in.
 
-ghost use Rattle.std.specs.Prelude.{◌≡◌, ◌≤◌, ◌∷◌, [], length, slice_get, option_map, MatchOption};
-ghost use Rattle.addr2line_units.specs.Choice.{holder};
-ghost use Rattle.addr2line_units.specs.Pairs.{pairs_from};
-ghost use Rattle.addr2line_units.specs.InlinedCalls.{call_at_depth, chain_at, depth_count};
-ghost use Rattle.addr2line_functions.specs.RangesAtDepth.{ranges_at};
+ghost use Rattle.std.specs.Prelude.{◌≡◌, ◌∷◌, [], slice_get, option_map, MatchOption};
+ghost use Rattle.addr2line_units.specs.Searches.{AtMostProbes};
+ghost use Rattle.addr2line_units.specs.InlinedCalls.{call_at_depth, chain_at, ranges_of_call};
+ghost use Rattle.addr2line_functions.specs.CallIndexes.{IsCallIndex};
+ghost use Rattle.addr2line_functions.specs.CountedFunctions.{call_probes, depth_of_call};
+ghost use Rattle.addr2line_functions.specs.RangesByNumber.{numbered_ranges};
 
 use crate::call::Call;
-use crate::{latest_among, number_holding};
-use gimli_units_entries::{Range, Reader};
+use crate::numbered_range::{NumberedRange, number_at};
+use addr2line_units::{Probes, RangeIndex};
+use gimli_units_entries::Reader;
 use std::marker::Model;
 
 /// The calls that an address is in, from a depth on.
 #[derive(Drop)]
 pub struct Chain<'a, R: Reader> {
     calls: &'a [Call<R>],
+    ranges: &'a RangeIndex<NumberedRange>,
     probe: u64,
     depth: usize,
 }
 
 impl<'a, R: Reader> Model for Chain<'a, R> {
-    ghost use Rattle.std.specs.Prelude.{List, ◌≤◌, length};
-    ghost use Rattle.addr2line_units.specs.InlinedCalls.{Call as CallPart, chain_from, depth_count};
+    ghost use Rattle.addr2line_units.specs.InlinedCalls.{chain_from};
+    ghost use Rattle.addr2line_functions.specs.CountedFunctions.{CountedChain, call_probes};
+    ghost use Rattle.addr2line_functions.specs.CallIndexes.{IsCallIndex};
 
-    ghost Value = { List CallPart };
+    ghost Value = { CountedChain };
 
-    ghost view = { λ c. chain_from c.calls.now c.probe c.depth };
+    ghost view = { λ c. record {
+      calls = chain_from c.calls.now c.probe c.depth;
+      probes = call_probes c.calls.now;
+      counter = c.ranges.now.counter;
+    } };
 
-    ghost invariant = { λ c. depth_count c.calls.now ≤ length c.calls.now };
-}
-
-// The ranges of a call, if it is of a depth.
-fn ranges_at<R: Reader>(call: &Call<R>, depth: usize) -> &[Range]
-    ensures { result.now ≡ ranges_at depth call.now }
-{
-    if call.depth() == depth {
-        call.ranges()
-    } else {
-        &[]
-    }
-}
-
-// The number of the call of a depth that holds an address.
-fn number_at<R: Reader>(calls: &[Call<R>], probe: u64, depth: usize) -> Option<usize>
-    ensures { result
-        ≡ option_map (λ p. p.number)
-        (holder (λ p. p.range) probe (pairs_from (ranges_at depth) 0 calls.now)) }
-{
-    let mut found = None;
-    for (number, call) in calls.iter().enumerate() {
-        found = latest_among(found, number, ranges_at(call, depth), probe);
-    }
-    number_holding(found, probe)
+    ghost invariant = { λ c. IsCallIndex c.calls.now c.ranges.now.entries };
 }
 
 // The call of a number.
@@ -61,39 +45,56 @@ fn call_of_number<R: Reader>(calls: &[Call<R>], number: usize) -> Option<&Call<R
     calls.get(number)
 }
 
-// The call of a depth that holds an address.
-fn call_at_depth<R: Reader>(calls: &[Call<R>], probe: u64, depth: usize) -> Option<&Call<R>>
-    ensures { option_map (λ c. c.now) result ≡ call_at_depth calls.now probe depth }
+// The call of a depth that holds an address, by the ranges of all.
+fn call_at_depth<'a, R: Reader>(
+    calls: &'a [Call<R>],
+    ranges: &RangeIndex<NumberedRange>,
+    probe: u64,
+    depth: usize,
+    probes: &mut Probes,
+) -> Option<&'a Call<R>>
+    requires counter { probes.old.name ≡ ranges.now.counter }
+    requires ranges { ranges.now.entries ≡ numbered_ranges depth_of_call ranges_of_call calls.now }
+    ensures call { option_map (λ c. c.now) result ≡ call_at_depth calls.now probe depth }
+    ensures cost { AtMostProbes (call_probes calls.now) probes.old probes.new }
 {
-    match number_at(calls, probe, depth) {
-        Some(number) => call_of_number(calls, number),
-        None => None,
-    }
+    let number = number_at(ranges, depth, probe, probes)?;
+    call_of_number(calls, number)
 }
 
 impl<'a, R: Reader> Chain<'a, R> {
     /// All calls that an address is in.
-    pub(crate) fn new(calls: &'a [Call<R>], probe: u64) -> Self
-        requires { depth_count calls.now ≤ length calls.now }
-        ensures { result ≡ chain_at calls.now probe }
+    pub(crate) fn new(
+        calls: &'a [Call<R>],
+        ranges: &'a RangeIndex<NumberedRange>,
+        probe: u64,
+    ) -> Self
+        requires { IsCallIndex calls.now ranges.now.entries }
+        ensures { result ≡ record {
+          calls = chain_at calls.now probe;
+          probes = call_probes calls.now;
+          counter = ranges.now.counter;
+        } }
     {
         Chain {
             calls,
+            ranges,
             probe,
             depth: 0,
         }
     }
 
-    /// The next of them. It looks at each range of the calls, and takes no memory.
-    pub fn next(&mut self) -> Option<&'a Call<R>>
-        ensures { MatchOption result (self.old ≡ []) (λ c. self.old ≡ c.now ∷ self.new) }
+    /// The next of them, found by one bisection of the calls' ranges, without memory.
+    pub fn next(&mut self, probes: &mut Probes) -> Option<&'a Call<R>>
+        requires counter { probes.old.name ≡ self.old.counter }
+        ensures call { MatchOption result (self.old.calls ≡ [])
+            (λ c. self.old.calls ≡ c.now ∷ self.new.calls) }
+        ensures probes { self.new.probes ≡ self.old.probes }
+        ensures counter { self.new.counter ≡ self.old.counter }
+        ensures cost { AtMostProbes self.old.probes probes.old probes.new }
     {
-        match call_at_depth(self.calls, self.probe, self.depth) {
-            Some(call) => {
-                self.depth += 1;
-                Some(call)
-            }
-            None => None,
-        }
+        let call = call_at_depth(self.calls, self.ranges, self.probe, self.depth, probes)?;
+        self.depth += 1;
+        Some(call)
     }
 }

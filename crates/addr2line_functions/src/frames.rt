@@ -1,17 +1,19 @@
 //! The frames of an address, one after the other.
 
-ghost use Rattle.std.specs.Prelude.{◌≡◌, ◌++◌, ◌∷◌, [], Ok, Some, option_map};
+ghost use Rattle.std.specs.Prelude.{◌≡◌, ◌+◌, ◌++◌, ◌∷◌, [], Ok, Some, option_map, IfOk};
 ghost use Rattle.gimli_units_entries.specs.Calls.{ReturnsAsOrNoMemory, ReturnsOrNoMemory};
 ghost use Rattle.addr2line_units.specs.BorrowedLocations.{location_value};
-ghost use Rattle.addr2line_units.specs.Lines.{place_in};
+ghost use Rattle.addr2line_units.specs.LineIndexes.{place_probes};
+ghost use Rattle.addr2line_units.specs.Searches.{AtMostProbes};
 ghost use Rattle.addr2line_units.specs.Frames.{function_name, frame, frames_in, frame_without_function, frames_of, frames_of_unit};
+ghost use Rattle.addr2line_functions.specs.CountedFunctions.{IsCountedBy, chain_probes, frame_probes, lines_or_refusal};
 ghost use Rattle.addr2line_functions.specs.NextFrames.{NextOf};
 
 use crate::Names;
 use crate::frame::{Frame, FunctionName};
-use crate::function_at::{FunctionAt, function_with_calls};
+use crate::function_at::{FunctionAt, borrowed, function_with_calls};
 use crate::site::call_site;
-use addr2line_units::{Lines, Location, UnitRef};
+use addr2line_units::{LineIndex, Location, Probes, UnitRef};
 use gimli_units_entries::{DwLang, Error, Reader, ReaderOffset, UnitOffset};
 use std::alloc::Global;
 use std::marker::Model;
@@ -87,30 +89,31 @@ fn push_frame<'ctx, R: Reader>(
 fn frames_in<'ctx, R: Reader>(
     alloc: Global,
     language: Option<DwLang>,
-    lines: &'ctx Lines,
-    function: &FunctionAt<R>,
+    lines: &'ctx LineIndex,
+    function: &FunctionAt<'_, R>,
     probe: u64,
+    probes: &mut Probes,
 ) -> Result<FrameIter<'ctx, R>, Error>
-    ensures { ReturnsOrNoMemory result
-        (Ok (frames_of (option_map (λ l. l.0) language) lines.now probe (Some function.now))) }
+    requires lines { probes.old.name ≡ lines.now.counter }
+    requires calls { probes.old.name ≡ function.now.counter }
+    ensures frames { ReturnsOrNoMemory result
+        (Ok (frames_of (option_map (λ l. l.0) language) lines.now.lines probe
+        (Some function.now.function))) }
+    ensures cost { AtMostProbes (place_probes lines.now.lines probe
+        + chain_probes function.now.function.calls.calls probe) probes.old probes.new }
 {
+    let place = lines.find_location(probe, probes);
     let mut frames = Vec::new(alloc);
     let mut offset = function.offset;
     let mut name = function.calls.name();
     let mut chain = function.calls.chain(probe);
-    while let Some(call) = chain.next() {
+    while let Some(call) = chain.next(probes) {
         let site = call_site(lines, call);
         push_frame(&mut frames, language, offset, name, Some(site))?;
         offset = call.offset();
         name = call.name();
     }
-    push_frame(
-        &mut frames,
-        language,
-        offset,
-        name,
-        lines.find_location(probe),
-    )?;
+    push_frame(&mut frames, language, offset, name, place)?;
     Ok(FrameIter { frames })
 }
 
@@ -133,6 +136,32 @@ fn frame_without_function<'ctx, R: Reader>(
     Ok(FrameIter { frames })
 }
 
+/// The frames of an address in a function that holds it, or in none, with these lines and this
+/// language, the innermost call first; none where there is neither a function nor a row. The only
+/// error is out of memory. One bisection each finds the place and the calls of each depth.
+pub fn frames_at<'ctx, R: Reader>(
+    alloc: Global,
+    language: Option<DwLang>,
+    lines: &'ctx LineIndex,
+    function: Option<FunctionAt<'_, R>>,
+    probe: u64,
+    probes: &mut Probes,
+) -> Result<FrameIter<'ctx, R>, Error>
+    requires lines { probes.old.name ≡ lines.now.counter }
+    requires calls { IsCountedBy probes.old.name function }
+    ensures frames { ReturnsOrNoMemory result
+        (Ok (frames_of (option_map (λ l. l.0) language) lines.now.lines probe
+        (option_map (λ f. f.function) function.entry))) }
+    ensures cost { AtMostProbes
+        (frame_probes lines.now.lines probe (option_map (λ f. f.function) function.entry))
+        probes.old probes.new }
+{
+    match function {
+        Some(function) => frames_in(alloc, language, lines, &function, probe, probes),
+        None => frame_without_function(alloc, lines.find_location(probe, probes)),
+    }
+}
+
 /// The frames of an address in a unit with these lines and of this language, the innermost call
 /// first; none where neither a function nor a row holds the address. An error is that of the unit's
 /// functions, of the function that holds the address, or of the lines, in this order.
@@ -141,20 +170,21 @@ pub fn frames_of_unit<'ctx, R: Reader, N: Names<R>>(
     unit: &UnitRef<'_, R>,
     names: &N,
     language: Option<DwLang>,
-    lines: &'ctx Result<Lines, Error>,
+    lines: &'ctx Result<LineIndex, Error>,
     probe: u64,
+    probes: &mut Probes,
 ) -> Result<FrameIter<'ctx, R>, Error>
-    ensures { ReturnsOrNoMemory result
+    requires { IfOk lines.now (λ l. probes.old.name ≡ l.counter) }
+    ensures frames { ReturnsOrNoMemory result
         (frames_of_unit unit.now (N.naming names.now)
-        (option_map (λ l. l.0) language) lines.now probe) }
+        (option_map (λ l. l.0) language) (lines_or_refusal lines.now) probe) }
+    ensures name { probes.new.name ≡ probes.old.name }
 {
-    let found = function_with_calls(alloc, unit, names, probe)?;
+    let found = function_with_calls(alloc, unit, names, probe, probes)?;
     let lines = match lines {
         Ok(lines) => lines,
         Err(error) => return Err(*error),
     };
-    match found {
-        Some(function) => frames_in(alloc, language, lines, &function, probe),
-        None => frame_without_function(alloc, lines.find_location(probe)),
-    }
+    let function = borrowed(&found);
+    frames_at(alloc, language, lines, function, probe, probes)
 }

@@ -1,7 +1,10 @@
 //! A function of a unit.
 
 ghost use Rattle.std.specs.Prelude.{◌≡◌};
+ghost use Rattle.addr2line_units.specs.Functions.{ranges_of_function};
+ghost use Rattle.addr2line_functions.specs.CountedFunctions.{no_depth};
 
+use crate::numbered_range::HasRanges;
 use gimli_units_entries::{Range, ReaderOffset, UnitOffset};
 use std::marker::Model;
 
@@ -32,6 +35,20 @@ impl<O: ReaderOffset> Function<O> {
     pub fn ranges(&self) -> &[Range]
         ensures { result.now ≡ self.now.ranges }
     {
+        self.ranges.as_slice()
+    }
+}
+
+impl<O: ReaderOffset> HasRanges for Function<O> {
+    ghost depth = { no_depth };
+
+    ghost ranges = { ranges_of_function };
+
+    fn range_depth(&self) -> usize {
+        0
+    }
+
+    fn range_list(&self) -> &[Range] {
         self.ranges.as_slice()
     }
 }

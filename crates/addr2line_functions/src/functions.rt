@@ -1,63 +1,80 @@
 //! The functions of a unit.
 
-ghost use Rattle.std.specs.Prelude.{◌≡◌, ◌++◌, [], option_map, option_to_list, slice_get, Ok};
+ghost use Rattle.std.specs.Prelude.{◌≡◌, ◌++◌, [], option_map, option_to_list, slice_get, Ok, IfOk};
 ghost use Rattle.gimli_units_entries.specs.Calls.{ReturnsAsOrNoMemory, ReturnsOrNoMemory};
 ghost use Rattle.addr2line_units.specs.Functions.{functions_of_unit, function_at, function_number};
+ghost use Rattle.addr2line_units.specs.Searches.{AtMostProbes};
+ghost use Rattle.addr2line_functions.specs.CountedFunctions.{function_probes};
 ghost use Rattle.addr2line_functions.specs.EntryRowViews.{row_view};
 ghost use Rattle.addr2line_functions.specs.NextFunctions.{if_has_range, function_of_row, next_function, functions_from};
 
 use crate::function::Function;
-use crate::latest::{latest_among, number_holding};
+use crate::numbered_range::{NumberedRange, number_at, range_index};
 use crate::row::{EntryRow, next_row};
-use addr2line_units::{UnitRef, ranges_of_entry};
+use addr2line_units::{Probes, RangeIndex, UnitRef, ranges_of_entry};
 use gimli_units_entries::{
     Attribute, DW_TAG_subprogram, EntriesRaw, Error, Range, Reader, ReaderOffset, UnitOffset,
 };
 use std::alloc::Global;
 use std::marker::Model;
 
-/// The functions of a unit that have a range, in order of appearance.
+/// The functions of a unit that have a range, in order of appearance. One bisection of their ranges
+/// finds the function of an address.
 #[derive(Drop)]
 pub struct Functions<O: ReaderOffset> {
     functions: Vec<Function<O>>,
+    ranges: RangeIndex<NumberedRange>,
 }
 
 impl<O: ReaderOffset> Model for Functions<O> {
-    ghost use Rattle.std.specs.Prelude.{List};
-    ghost use Rattle.addr2line_units.specs.Functions.{Function as FunctionPart};
+    ghost use Rattle.std.specs.Prelude.{◌≡◌};
+    ghost use Rattle.addr2line_units.specs.Functions.{ranges_of_function};
+    ghost use Rattle.addr2line_functions.specs.CountedFunctions.{CountedFunctions, no_depth};
+    ghost use Rattle.addr2line_functions.specs.RangesByNumber.{numbered_ranges};
 
-    ghost Value = { List FunctionPart };
+    ghost Value = { CountedFunctions };
 
-    ghost view = { λ f. f.functions.items };
+    ghost view = { λ f. record { functions = f.functions.items; counter = f.ranges.counter } };
+
+    ghost invariant = { λ f.
+        f.ranges.entries ≡ numbered_ranges no_depth ranges_of_function f.functions.items };
 }
 
 impl<O: ReaderOffset> Functions<O> {
+    // With their ranges in order.
+    fn new(alloc: Global, functions: Vec<Function<O>>, probes: &Probes) -> Result<Self, Error>
+        ensures { ReturnsOrNoMemory result
+            (Ok (record { functions = functions.items; counter = probes.now.name })) }
+    {
+        let ranges = range_index(alloc, functions.as_slice(), probes)?;
+        Ok(Functions { functions, ranges })
+    }
+
     /// The functions. A function's number is its index among them.
     pub fn functions(&self) -> &[Function<O>]
-        ensures { result.now ≡ self.now }
+        ensures { result.now ≡ self.now.functions }
     {
         self.functions.as_slice()
     }
 
     /// The number of the function that an address is in. Where several functions have it, it is
     /// that of the range that begins last, of these that of the one that ends last, of these that
-    /// of the last. It looks at each range, and takes no memory.
-    pub fn find_address(&self, probe: u64) -> Option<usize>
-        ensures { result ≡ function_number self.now probe }
+    /// of the last. One bisection of the ranges finds it, without memory.
+    pub fn find_address(&self, probe: u64, probes: &mut Probes) -> Option<usize>
+        requires counter { probes.old.name ≡ self.now.counter }
+        ensures number { result ≡ function_number self.now.functions probe }
+        ensures cost { AtMostProbes (function_probes self.now.functions) probes.old probes.new }
     {
-        let functions = self.functions.as_slice();
-        let mut found = None;
-        for (number, function) in functions.iter().enumerate() {
-            found = latest_among(found, number, function.ranges(), probe);
-        }
-        number_holding(found, probe)
+        number_at(&self.ranges, 0, probe, probes)
     }
 
-    /// The function that an address is in. It looks at each range, and takes no memory.
-    pub fn function_at(&self, probe: u64) -> Option<&Function<O>>
-        ensures { option_map (λ f. f.now) result ≡ function_at self.now probe }
+    /// The function that an address is in, found by one bisection of the ranges, without memory.
+    pub fn function_at(&self, probe: u64, probes: &mut Probes) -> Option<&Function<O>>
+        requires counter { probes.old.name ≡ self.now.counter }
+        ensures function { option_map (λ f. f.now) result ≡ function_at self.now.functions probe }
+        ensures cost { AtMostProbes (function_probes self.now.functions) probes.old probes.new }
     {
-        let number = self.find_address(probe)?;
+        let number = self.find_address(probe, probes)?;
         function_of_number(self.functions(), number)
     }
 }
@@ -129,14 +146,12 @@ fn push_if_any<O: ReaderOffset>(
     Ok(())
 }
 
-/// The functions of a unit that have a range. Of its entries those of functions are read and all
-/// others skipped. The first entry that can't be read or skipped, and the first function whose
-/// ranges can't be read, is the error.
-pub fn functions_of_unit<R: Reader>(
+// The functions of a unit that have a range, read from its entries.
+fn read_functions<R: Reader>(
     alloc: Global,
     unit: &UnitRef<'_, R>,
-) -> Result<Functions<R::Offset>, Error>
-    ensures { ReturnsOrNoMemory result (functions_of_unit unit.now) }
+) -> Result<Vec<Function<R::Offset>>, Error>
+    ensures { ReturnsAsOrNoMemory (λ v. v.items) result (functions_of_unit unit.now) }
 {
     let mut entries = unit.entries_raw(None)?;
     let mut attributes = Vec::new(alloc);
@@ -145,5 +160,22 @@ pub fn functions_of_unit<R: Reader>(
         let next = next_function(alloc, unit, &mut entries, &mut attributes)?;
         push_if_any(&mut functions, next)?;
     }
-    Ok(Functions { functions })
+    Ok(functions)
+}
+
+/// The functions of a unit that have a range, with their ranges in order, looks at which this
+/// counter counts. Of the unit's entries those of functions are read and all others skipped. The
+/// first entry that can't be read or skipped, and the first function whose ranges can't be read, is
+/// the error. It takes time by n log n in the ranges, after reading.
+pub fn functions_of_unit<R: Reader>(
+    alloc: Global,
+    unit: &UnitRef<'_, R>,
+    probes: &Probes,
+) -> Result<Functions<R::Offset>, Error>
+    ensures functions { ReturnsAsOrNoMemory (λ f. f.functions) result
+        (functions_of_unit unit.now) }
+    ensures counter { IfOk result (λ f. f.counter ≡ probes.now.name) }
+{
+    let functions = read_functions(alloc, unit)?;
+    Functions::new(alloc, functions, probes)
 }

@@ -2,16 +2,18 @@
 #![tactic(auto)]
 
 pub mod call;
+mod call_facts;
 pub mod calls;
 pub mod chain;
 pub mod frame;
 pub mod frames;
 pub mod function;
-mod function_at;
+pub mod function_at;
 pub mod functions;
-pub mod latest;
+pub mod name_laws;
 pub mod naming;
 mod nesting;
+pub mod numbered_range;
 mod place;
 pub mod row;
 mod site;
@@ -19,15 +21,28 @@ pub mod unit_names;
 mod walk;
 
 pub use addr2line_names::{DebugFile, HasUnit, HoldingUnit, KnownUnits};
+pub use addr2line_units::{
+    AbbreviationsCache, AbbreviationsCacheStrategy, ArangeIndex, Attribute, AttributeValue,
+    DW_LANG_Rust, DebugAbbrev, DebugAbbrevOffset, DebugAddr, DebugAddrIndex, DebugAranges,
+    DebugInfo, DebugLine, DebugLineStr, DebugLineStrOffset, DebugRanges, DebugRngLists,
+    DebugRngListsIndex, DebugStr, DebugStrOffset, DebugStrOffsets, DebugStrOffsetsIndex, DwLang,
+    Dwarf, DwarfFileType, DwoId, EndianBytes, EndianSlice, Error, Format, HasLines, LineIndex,
+    Lines, LinesBuilder, LittleEndian, Location, LocationLists, Probes, Range, RangeLists,
+    RangeListsOffset, RawRangeListsOffset, Reader, ReaderOffsetId, RootRanges, RunTimeEndian, Runs,
+    SectionId, StretchesBetween, Unit, UnitHeader, UnitLines, UnitOffset, UnitRanges,
+    UnitRangesBuilder, UnitRef, UnitRoot, UnitType, file_text, file_text_of_bytes, is_partial,
+    is_rooted, join, language_of, ranges_of_attributes, ranges_of_entry,
+};
 pub use call::Call;
 pub use calls::{FunctionCalls, calls_of_function};
 pub use chain::Chain;
 pub use frame::{Frame, FunctionName};
-pub use frames::{FrameIter, frames_of_unit};
+pub use frames::{FrameIter, frames_at, frames_of_unit};
 pub use function::Function;
+pub use function_at::FunctionAt;
 pub use functions::{Functions, functions_of_unit};
 pub use gimli_units_entries::{DebuggingInformationEntry, UnitEntries, entries_raw};
-pub use latest::{NumberedRange, latest_among, number_holding};
 pub use naming::Names;
+pub use numbered_range::NumberedRange;
 pub use row::{EntryRow, next_row};
 pub use unit_names::UnitNames;

@@ -1,22 +1,40 @@
 //! Finding the names of functions and calls.
 
-ghost use Rattle.std.specs.Prelude.{option_map};
+ghost use Rattle.std.specs.Prelude.{None, option_map};
 ghost use Rattle.gimli_units_entries.specs.Calls.{ReturnsAsOrNoMemory};
+ghost use Rattle.gimli_units_entries.specs.AttributeValues.{raw_attribute_of};
 ghost use Rattle.gimli_units_entries.specs.EntryViews.{raw_attributes};
-ghost use Rattle.addr2line_units.specs.InlinedCalls.{Naming};
+ghost use Rattle.addr2line_units.specs.InlinedCalls.{Naming, name_by};
 
 use gimli_units_entries::{Attribute, Error, Reader};
 
-/// What finds the name of an entry of one unit by its attributes. A name may be that of another
-/// entry, also of another unit, which a reference leads to; so it knows the units that these
-/// references reach.
+/// What finds the name of an entry of one unit, one attribute after the other. A name may be that
+/// of another entry, also of another unit, which a reference leads to; so it knows the units that
+/// these references reach.
 pub trait Names<R: Reader> {
-    /// The names that it finds.
+    /// How it finds names.
     ghost naming: { Self → Naming };
 
-    /// The name by these attributes, if they have one, or why a reference among them can't be
-    /// followed.
-    fn name_of(&self, attributes: &[Attribute<R>]) -> Result<Option<R>, Error>
+    /// The name of an entry by those attributes which gave this one, or none, and one more; or why
+    /// a reference can't be followed.
+    fn name_with(&self, found: Option<R>, attribute: &Attribute<R>) -> Result<Option<R>, Error>
         ensures { ReturnsAsOrNoMemory (option_map R.view) result
-            (naming self.now (raw_attributes R.view R.Offset.count attributes.now)) };
+            (naming self.now (option_map R.view found)
+            (raw_attribute_of R.view R.Offset.count attribute.now)) };
+}
+
+/// The name of an entry with these attributes, if they have one, or the first refusal.
+pub(crate) fn name_by<R: Reader, N: Names<R>>(
+    names: &N,
+    attributes: &[Attribute<R>],
+) -> Result<Option<R>, Error>
+    ensures { ReturnsAsOrNoMemory (option_map R.view) result
+        (name_by (N.naming names.now) None
+        (raw_attributes R.view R.Offset.count attributes.now)) }
+{
+    let mut found = None;
+    for attribute in attributes {
+        found = names.name_with(found, attribute)?;
+    }
+    Ok(found)
 }

@@ -5,7 +5,7 @@ ghost use Rattle.addr2line_units.specs.BorrowedLocations.{location_value};
 ghost use Rattle.addr2line_units.specs.Frames.{nonzero, call_site};
 
 use crate::Call;
-use addr2line_units::{Lines, Location};
+use addr2line_units::{LineIndex, Location};
 use gimli_units_entries::Reader;
 
 // A line or a column, if it is known; 0 is not.
@@ -16,8 +16,9 @@ fn nonzero(number: u32) -> Option<u32>
 }
 
 // The text of a file of the lines, if its number is known.
-fn file_of(lines: &Lines, number: Option<u64>) -> Option<&str>
-    ensures { option_map (λ t. t.now) result ≡ option_and_then (slice_get lines.now.files) number }
+fn file_of(lines: &LineIndex, number: Option<u64>) -> Option<&str>
+    ensures { option_map (λ t. t.now) result
+        ≡ option_and_then (slice_get lines.now.lines.files) number }
 {
     match number {
         Some(number) => lines.file(number),
@@ -26,8 +27,8 @@ fn file_of(lines: &Lines, number: Option<u64>) -> Option<&str>
 }
 
 /// The place that calls, in the files of the unit's lines.
-pub(crate) fn call_site<'ctx, R: Reader>(lines: &'ctx Lines, call: &Call<R>) -> Location<'ctx>
-    ensures { location_value result ≡ call_site lines.now.files call.now }
+pub(crate) fn call_site<'ctx, R: Reader>(lines: &'ctx LineIndex, call: &Call<R>) -> Location<'ctx>
+    ensures { location_value result ≡ call_site lines.now.lines.files call.now }
 {
     Location {
         file: file_of(lines, call.file()),

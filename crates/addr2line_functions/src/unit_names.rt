@@ -1,6 +1,9 @@
 //! The names of a unit's functions and calls, wherever they are.
 
-ghost use Rattle.addr2line_names.specs.FunctionNames.{name_of};
+ghost use Rattle.std.specs.Prelude.{option_map};
+ghost use Rattle.gimli_units_entries.specs.Calls.{ReturnsAsOrNoMemory};
+ghost use Rattle.gimli_units_entries.specs.AttributeValues.{raw_attribute_of};
+ghost use Rattle.addr2line_names.specs.FunctionNames.{name_with, name_by_reference, most_references};
 
 use crate::Names;
 use addr2line_names::{HasUnit, HoldingUnit, KnownUnits};
@@ -26,9 +29,15 @@ impl<'a, R: Reader, U: HasUnit<R>> Model for UnitNames<'a, R, U> {
 }
 
 impl<'a, R: Reader, U: HasUnit<R>> Names<R> for UnitNames<'a, R, U> {
-    ghost naming = { λ n. name_of n.known n.holder };
+    ghost naming = { λ n.
+        name_with n.holder (name_by_reference n.known most_references n.holder) };
 
-    fn name_of(&self, attributes: &[Attribute<R>]) -> Result<Option<R>, Error> {
-        self.known.name_of(&self.holder, attributes)
+    fn name_with(&self, found: Option<R>, attribute: &Attribute<R>) -> Result<Option<R>, Error>
+        ensures { ReturnsAsOrNoMemory (option_map R.view) result
+            (name_with self.now.holder
+            (name_by_reference self.now.known most_references self.now.holder)
+            (option_map R.view found) (raw_attribute_of R.view R.Offset.count attribute.now)) }
+    {
+        self.known.name_with(&self.holder, found, attribute)
     }
 }

@@ -7,11 +7,12 @@ ghost use Rattle.addr2line_units.specs.InlinedCalls.{call_at, calls_among, depth
 ghost use Rattle.addr2line_functions.specs.CallNesting.{call_if, next_call};
 
 use crate::call::Call;
+use crate::call_facts::{CallFacts, call_facts};
 use crate::naming::Names;
 use crate::nesting::Nesting;
 use crate::place::{call_file, number_or_0};
 use crate::{EntryRow, next_row};
-use addr2line_units::{UnitRef, ranges_of_entry};
+use addr2line_units::{UnitRef, entry_ranges};
 use gimli_units_entries::{
     Attribute, DW_AT_call_column, DW_AT_call_line, EntriesRaw, Error, Reader,
 };
@@ -30,8 +31,12 @@ fn call_at<R: Reader, N: Names<R>>(
         (call_at unit.now (N.naming names.now) depth
         (row_view R.view R.Offset.count row attributes.now)) }
 {
-    let name = names.name_of(attributes)?;
-    let ranges = ranges_of_entry(alloc, unit, attributes)?;
+    let found = call_facts(unit, names, attributes)?;
+    let CallFacts {
+        name,
+        ranges: facts,
+    } = found;
+    let ranges = entry_ranges(alloc, unit, &facts)?;
     let unit = unit.unit;
     Ok(Call {
         depth,

@@ -12,7 +12,7 @@ module _ {X Y : Type 0} (f : X → Y) (range : Y → Range) where
   abbrev inner : X → Range
   inner x = range (f x)
 
-  filter-view : (p : Y → Bool) (xs : List X) → filter p (map f xs) ≡ map f (filter (λ x. p (f x)) xs)
+  pub filter-view : (p : Y → Bool) (xs : List X) → filter p (map f xs) ≡ map f (filter (λ x. p (f x)) xs)
   filter-view p [] = refl
   filter-view p (x ∷ xs) =
       elim (p (f x)) as (λ b. cond b (f x ∷ filter p (map f xs)) (filter p (map f xs))
@@ -67,7 +67,8 @@ pub counter_of_found : (name n : ℕ) (o : Option (Bor CountedSequence)) (h : Op
     → MatchOption o (Unit {0}) (λ s. name ≡ s.now.counter)
 counter_of_found name n None h same is = tt
 counter_of_found name n (Some s) None same is = let wrong = same in absurd (cc)
-counter_of_found name n (Some s) (Some t) same is = let one : s.now ≡ with_counter n t = cc in is ∙ sym (ap (λ x. x.counter) one)
+counter_of_found name n (Some s) (Some t) same is =
+    let one : s.now ≡ with_counter n t = cc in is ∙ sym (ap (λ x. x.counter) one)
 
 -- and is that sequence
 pub sequence_of_found : (n : ℕ) (o : Option (Bor CountedSequence)) (h : Option Sequence)

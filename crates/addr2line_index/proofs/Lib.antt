@@ -15,3 +15,4 @@ pub mod SortedLast
 pub mod RangeLevelLemmas
 pub mod RankedRowLemmas
 pub mod HolderViews
+pub mod BoundedRangeLemmas

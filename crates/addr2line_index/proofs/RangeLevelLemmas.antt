@@ -85,7 +85,8 @@ module _ {X : Type 0} (level : X → ℕ) (range : X → Range) where
     with_next : (x : X) (g h : Option X) → (level x == n) ≡ true → IsOrBelow g h
         → IsOrBelow (Some (greater_of lt x g)) (Some (later_of range x h))
     with_next x None None here is = (refl, here)
-    with_next x (Some w) None here is = subst (λ b. IsOrBelow (Some (cond b x w)) (Some x)) (sym (higher w x is here)) (refl, here)
+    with_next x (Some w) None here is =
+        subst (λ b. IsOrBelow (Some (cond b x w)) (Some x)) (sym (higher w x is here)) (refl, here)
     with_next x None (Some y) here is = absurd is
     with_next x (Some w) (Some y) here is =
         subst (λ z. IsOrBelow (Some (cond (lt w x) x w)) (Some (cond (is_later (range x) (range z)) x z))) is.0

@@ -56,8 +56,8 @@ none_left : (a top : ℕ) (rs : List LineRow) → a < top → filter (none_above
 none_left a top [] h = refl
 none_left a top (r ∷ rs) h =
     let above : nat_le (max top r.address) a ≡ false = grind (arith, nat_tests) in
-    ap (λ b. cond b (record { greatest = max top r.address; row = r } ∷ filter (none_above a) (ranked_after (max top r.address) rs))
-    (filter (none_above a) (ranked_after (max top r.address) rs))) above
+    let left = filter (none_above a) (ranked_after (max top r.address) rs) in
+    ap (λ b. cond b (record { greatest = max top r.address; row = r } ∷ left) left) above
     ∙ none_left a (max top r.address) rs (omega arith)
 
 above_max : (top address a : ℕ) → nat_le address a ≡ false → a < max top address
@@ -80,7 +80,8 @@ ranked_rows a top (r ∷ rs) h =
     ∙ sym (take_while-cons (λ q. nat_le q.address a) r rs)
 
 last_or-rows : (o : Option RankedRow) (rs : List RankedRow)
-    → option_map (λ (r : RankedRow). r.row) (last_or o rs) ≡ last_or (option_map (λ (r : RankedRow). r.row) o) (rows_of rs)
+    → option_map (λ (r : RankedRow). r.row) (last_or o rs)
+    ≡ last_or (option_map (λ (r : RankedRow). r.row) o) (rows_of rs)
 last_or-rows o [] = refl
 last_or-rows o (r ∷ rs) = last_or-rows (Some r) rs
 

@@ -18,6 +18,8 @@ pub use Rattle.addr2line_spec.specs.Pairs
 pub use Rattle.addr2line_spec.specs.PlaceLookups
 pub use Rattle.addr2line_spec.specs.UnitLines
 pub use Rattle.addr2line_spec.specs.UnitRanges
+pub use Rattle.addr2line_search.specs.ProbedLists
+pub use Rattle.addr2line_search.specs.Searches
 pub mod PartialLines
 pub mod ChoiceSteps
 pub mod RangeIndexLaws
@@ -30,3 +32,4 @@ pub mod RankedRows
 pub mod LineIndexes
 pub mod NextStretches
 pub mod StretchesLeft
+pub mod BoundedRanges

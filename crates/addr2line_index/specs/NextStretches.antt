@@ -10,8 +10,8 @@ use Rattle.addr2line_index.specs.declared.next_stretches.RangeStretches.{RangeSt
 
 -- What is left from an index on is the stretch that was found, the others of the same range, and
 -- what is left after that. None is found where none is left, and a refusal where one ends them.
-abbrev pub FindsNext : (ℕ → Listing (Unit {0}) Stretch) → ℕ → Result (Option RangeStretches) Error
-    → Type 0
+abbrev pub FindsNext : (ℕ → Listing (Unit {0}) Stretch) → ℕ
+    → Result (Option RangeStretches) Error → Type 0
 FindsNext left from (Ok (Some f)) =
     left from ≡ prepend (stretch_of f.stretch ∷ map stretch_of (into_iter_items f.others))
     (left f.place)

@@ -14,7 +14,8 @@ use Rattle.addr2line_index.specs.UnitPlaces.{UnitPlaces, ranges_in_order, locati
 -- ---- by numbers
 
 -- the first answer of the units at these ranges
-abbrev pub answer_from : List UnitPlaces → ℕ → List UnitRange → Result (Option Location) Error
+abbrev pub answer_from : List UnitPlaces → ℕ → List UnitRange
+    → Result (Option Location) Error
 answer_from units a rs = first_answer (map (λ r. answer_at units a r.unit) rs)
 
 abbrev pub PlacesByNumbers : Type 0
@@ -23,20 +24,22 @@ PlacesByNumbers =
     → location_of units a ≡ answer_from units a (covering_ranges a (ranges_in_order units))
 
 -- the stretches of a unit's range before others, where there is a unit
-abbrev pub with_unit_stretches : ℕ → ℕ → Range → Option UnitPlaces → Listing (Unit {0}) Stretch
-    → Listing (Unit {0}) Stretch
+abbrev pub with_unit_stretches : ℕ → ℕ → Range → Option UnitPlaces
+    → Listing (Unit {0}) Stretch → Listing (Unit {0}) Stretch
 with_unit_stretches low high r None rest = rest
 with_unit_stretches low high r (Some u) rest = with_stretches low high r u.lines rest
 
 -- the stretches of the units at these ranges
-abbrev pub stretches_from : List UnitPlaces → ℕ → ℕ → List UnitRange → Listing (Unit {0}) Stretch
+abbrev pub stretches_from : List UnitPlaces → ℕ → ℕ → List UnitRange
+    → Listing (Unit {0}) Stretch
 stretches_from units low high [] = no_items (Ok tt)
 stretches_from units low high (r ∷ rs) =
     with_unit_stretches low high r.range (slice_get units r.unit) (stretches_from units low high rs)
 
 -- the stretches between two ends
 abbrev pub stretches_of_units : List UnitPlaces → ℕ → ℕ → Listing (Unit {0}) Stretch
-stretches_of_units units low high = stretches_between (λ u. u.ranges) (λ u. u.lines) units low high
+stretches_of_units units low high =
+    stretches_between (λ u. u.ranges) (λ u. u.lines) units low high
 
 abbrev pub StretchesByNumbers : Type 0
 StretchesByNumbers =

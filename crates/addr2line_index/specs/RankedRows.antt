@@ -7,7 +7,8 @@ use Rattle.addr2line_index.specs.declared.ranked_row.RankedRow.{RankedRow}
 abbrev pub ranked_after : ℕ → List LineRow → List RankedRow
 ranked_after greatest [] = []
 ranked_after greatest (r ∷ rs) =
-    record { greatest = max greatest r.address; row = r } ∷ ranked_after (max greatest r.address) rs
+    record { greatest = max greatest r.address; row = r }
+    ∷ ranked_after (max greatest r.address) rs
 
 abbrev pub rows_of : List RankedRow → List LineRow
 rows_of rs = map (λ r. r.row) rs

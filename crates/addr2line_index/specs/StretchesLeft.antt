@@ -13,7 +13,8 @@ use Rattle.addr2line_index.specs.UnitPlaces.{UnitPlaces}
 -- ---- one range
 
 -- the stretches of lines between two ends, both clipped to a range, or the refusal of the lines
-abbrev pub clipped_stretches : ℕ → ℕ → Range → Result Lines Error → Result (List Stretch) Error
+abbrev pub clipped_stretches : ℕ → ℕ → Range → Result Lines Error
+    → Result (List Stretch) Error
 clipped_stretches low high r (Ok l) = Ok (lines_between l (max low r.begin) (min high r.end))
 clipped_stretches low high r (Err e) = Err e
 

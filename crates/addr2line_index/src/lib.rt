@@ -1,6 +1,7 @@
 //! Lines made of rows, the ranges of all units, and the lookups over them.
 #![tactic(auto)]
 
+mod bounded_range;
 pub mod builder;
 pub mod has_lines;
 pub mod index_laws;
@@ -19,6 +20,7 @@ pub mod stretches_between;
 pub mod unit_range;
 pub mod unit_ranges;
 
+pub use addr2line_search::{Mark, Probed, Probes, Tally};
 pub use addr2line_spec::{file_text, file_text_of_bytes, is_rooted, join};
 pub use builder::LinesBuilder;
 pub use has_lines::HasLines;

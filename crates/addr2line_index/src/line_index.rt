@@ -1,6 +1,6 @@
 //! The lines of a unit, searched by bisections.
 
-ghost use Rattle.std.specs.Prelude.{◌≡◌, map, option_map, IfOk, IfErr};
+ghost use Rattle.std.specs.Prelude.{◌≡◌, map, slice_get, option_map, IfOk, IfErr};
 ghost use Rattle.std.specs.String.{string_bytes};
 ghost use Rattle.addr2line_spec.specs.Error.TheVariants.{Memory};
 ghost use Rattle.addr2line_spec.specs.Lines.{row_location, place_in};
@@ -8,7 +8,7 @@ ghost use Rattle.addr2line_search.specs.Searches.{AtMostProbes};
 ghost use Rattle.addr2line_index.specs.BorrowedLocations.{location_value};
 ghost use Rattle.addr2line_index.specs.LineIndexes.{with_counter, place_probes};
 
-use crate::lines::{Lines, row_location};
+use crate::lines::{Lines, file_text, row_location};
 use crate::location::Location;
 use crate::range_index::RangeIndex;
 use crate::sequence::{LineRow, LineSequence};
@@ -87,6 +87,13 @@ impl LineIndex {
             sequences: RangeIndex::new(sequences, probes)?,
             files: lines.into_files(),
         })
+    }
+
+    /// The text of a file by its number.
+    pub fn file(&self, index: u64) -> Option<&str>
+        ensures { option_map (λ t. t.now) result ≡ slice_get self.now.lines.files index }
+    {
+        file_text(self.files.as_slice(), index as usize)
     }
 
     /// The place of an address: that of its row in the sequence that holds it. It is found by one

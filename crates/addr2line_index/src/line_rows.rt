@@ -107,7 +107,8 @@ impl LineRows {
     pub fn find(&self, address: u64, probes: &mut Probes) -> Option<&LineRow>
         requires counter { probes.old.name ≡ self.now.counter }
         ensures row { option_map (λ r. r.now) result ≡ row_of self.now.entries address }
-        ensures cost { AtMostProbes (digit_count (length self.now.entries) + 1) probes.old probes.new }
+        ensures cost { AtMostProbes (digit_count (length self.now.entries) + 1)
+            probes.old probes.new }
     {
         let found = last_up_to(&self.ranked, &Address(address), probes);
         row_of_ranked(found)

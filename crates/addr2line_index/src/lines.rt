@@ -91,7 +91,8 @@ impl Lines {
     }
 }
 
-fn file_text(files: &[String], index: usize) -> Option<&str>
+// The text of a file by its number.
+pub(crate) fn file_text(files: &[String], index: usize) -> Option<&str>
     ensures { option_map (λ t. t.now) result ≡ slice_get (map string_bytes files.now) index }
 {
     files.get(index).map(|text| text.as_str())

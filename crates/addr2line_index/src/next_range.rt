@@ -1,9 +1,13 @@
 //! The next range from an index on.
 
-ghost use Rattle.std.specs.Prelude.{◌≡◌, ◌∷◌, [], drop, MatchOption};
+ghost use Rattle.std.specs.Prelude.{◌≡◌, ◌≤◌, ◌∷◌, [], drop, length, MatchOption};
+ghost use Rattle.std.specs.List.{prefix_len};
+ghost use Rattle.std.specs.List.Sorted.{IsNonDecreasingBy};
 ghost use Rattle.addr2line_spec.specs.Pairs.{overlaps};
 ghost use Rattle.addr2line_index.specs.NumberedRanges.{overlapping_ranges};
+ghost use Rattle.addr2line_index.specs.BoundedRanges.{ranges_in, end_of, ends_by, IsInOrder};
 
+use crate::bounded_range::BoundedRange;
 use crate::unit_range::UnitRange;
 use addr2line_spec::Range;
 
@@ -13,24 +17,42 @@ fn overlaps(range: Range, low: u64, high: u64) -> bool
     low < range.end && range.begin < high
 }
 
+// How many of ranges by their ends end at or below an address. It is a bisection.
+pub(crate) fn count_ending_by(entries: &[BoundedRange], address: u64) -> usize
+    requires { IsNonDecreasingBy end_of entries.now }
+    ensures count { result ≡ prefix_len (ends_by address) entries.now }
+    ensures within { result ≤ length entries.now }
+{
+    entries.partition_point(
+        |entry: &BoundedRange| -> bool
+            ensures { result ≡ ends_by address entry.now }
+        { entry.range.range.end <= address },
+    )
+}
+
 // The first range from an index on that overlaps what lies between two ends, and the index after
 // it.
 pub(crate) fn next_overlapping(
-    ranges: &[UnitRange],
+    entries: &[BoundedRange],
     from: usize,
     low: u64,
     high: u64,
 ) -> Option<(UnitRange, usize)>
-    ensures { MatchOption result (overlapping_ranges low high (drop from ranges.now) ≡ [])
-        (λ f. overlapping_ranges low high (drop from ranges.now)
-        ≡ f.0 ∷ overlapping_ranges low high (drop f.1 ranges.now)) }
+    requires { IsInOrder entries.now }
+    ensures { MatchOption result
+        (overlapping_ranges low high (drop from (ranges_in entries.now)) ≡ [])
+        (λ f. overlapping_ranges low high (drop from (ranges_in entries.now))
+        ≡ f.0 ∷ overlapping_ranges low high (drop f.1 (ranges_in entries.now))) }
 {
-    let mut place = from;
-    while place < ranges.len() {
-        let range = ranges[place];
+    let mut place = from.max(count_ending_by(entries, low));
+    while place < entries.len() {
+        let entry = entries[place];
+        if high <= entry.least_begin {
+            return None;
+        }
         place += 1;
-        if overlaps(range.range, low, high) {
-            return Some((range, place));
+        if overlaps(entry.range.range, low, high) {
+            return Some((entry.range, place));
         }
     }
     None

@@ -111,7 +111,8 @@ impl<T: Ranged> RangeIndex<T> {
     pub fn at(&self, index: usize, probes: &mut Probes) -> &T
         requires counter { probes.old.name ≡ self.now.counter }
         requires within { index < length self.now.entries }
-        ensures item { slice_get (by_level T.level T.range self.now.entries) index ≡ Some result.now }
+        ensures item { slice_get (by_level T.level T.range self.now.entries) index
+            ≡ Some result.now }
         ensures counted { probes.new ≡ record probes.old { count = probes.old.count + 1 } }
     {
         self.sorted.at(index, probes)
@@ -123,7 +124,8 @@ impl<T: Ranged> RangeIndex<T> {
         requires counter { probes.old.name ≡ self.now.counter }
         ensures holder { option_map (λ x. x.now) result
             ≡ holder T.range address (at_level T.level level self.now.entries) }
-        ensures cost { AtMostProbes (digit_count (length self.now.entries) + 1) probes.old probes.new }
+        ensures cost { AtMostProbes (digit_count (length self.now.entries) + 1)
+            probes.old probes.new }
     {
         let key = LevelAddress { level, address };
         let found = last_up_to(&self.sorted, &key, probes);

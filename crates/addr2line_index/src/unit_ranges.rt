@@ -4,8 +4,10 @@ ghost use Rattle.std.specs.Prelude.{◌≡◌, ◌++◌, ◌∷◌, [], List, le
 ghost use Rattle.addr2line_spec.specs.Error.TheVariants.{Memory};
 ghost use Rattle.addr2line_spec.specs.Range.{Range as RangePart};
 ghost use Rattle.addr2line_index.specs.NumberedRanges.{ranges_of_units, unit_ranges, covering_ranges, overlapping_ranges};
+ghost use Rattle.addr2line_index.specs.BoundedRanges.{ranges_in, with_least_begins, IsBounded};
 
-use crate::next_range::next_overlapping;
+use crate::bounded_range::BoundedRange;
+use crate::next_range::{count_ending_by, next_overlapping};
 use crate::unit_range::UnitRange;
 use addr2line_spec::{Error, Range};
 use std::alloc::Global;
@@ -79,51 +81,78 @@ impl UnitRangesBuilder {
     {
         let UnitRangesBuilder { mut ranges } = self;
         ranges.sort_by_key(|range| range.range.end)?;
-        Ok(UnitRanges { ranges })
+        let entries = bounded(*ranges.allocator(), ranges.as_slice())?;
+        Ok(UnitRanges { entries })
     }
 }
 
-/// The ranges of all units, in the order in which lookups ask the units.
+// The ranges, each with the least begin from it on.
+fn bounded(alloc: Global, ranges: &[UnitRange]) -> Result<Vec<BoundedRange>, Error>
+    ensures ok { IfOk result (λ entries. entries.items ≡ with_least_begins ranges.now) }
+    ensures refusal { IfErr result (λ e. e ≡ Memory) }
+{
+    let mut entries = Vec::new(alloc);
+    let mut least_begin = u64::MAX;
+    let mut left = ranges;
+    while let Some((last, rest)) = left.split_last() {
+        least_begin = least_begin.min(last.range.begin);
+        entries.push(BoundedRange {
+            range: *last,
+            least_begin,
+        })?;
+        left = rest;
+    }
+    entries.reverse();
+    Ok(entries)
+}
+
+/// The ranges of all units, in the order in which lookups ask the units. A search among them begins
+/// by a bisection, and ends at the first range from which on all begin too high.
 #[derive(Debug, Drop)]
 pub struct UnitRanges {
-    ranges: Vec<UnitRange>,
+    entries: Vec<BoundedRange>,
 }
 
 impl Model for UnitRanges {
     ghost use Rattle.std.specs.Prelude.{List};
     ghost use Rattle.addr2line_index.specs.declared.unit_range.UnitRange.{UnitRange as Numbered};
+    ghost use Rattle.addr2line_index.specs.BoundedRanges.{ranges_in, IsInOrder};
 
     ghost Value = { List Numbered };
 
-    ghost view = { λ r. r.ranges.items };
+    ghost view = { λ r. ranges_in r.entries.items };
+
+    ghost invariant = { λ r. IsInOrder r.entries.items };
 }
 
 impl UnitRanges {
-    /// Those that cover an address, in their order.
+    /// Those that cover an address, in their order. It is a bisection.
     pub fn covering(&self, probe: u64) -> CoveringRanges<'_>
         ensures { result ≡ covering_ranges probe self.now }
     {
+        let entries = self.entries.as_slice();
+        let first = count_ending_by(entries, probe);
         CoveringRanges {
-            left: self.ranges.as_slice(),
+            left: &entries[first..],
             probe,
         }
     }
 
     /// The first of them from an index on that overlaps what lies between two ends, and the index
-    /// after it.
+    /// after it. It is a bisection, and then a walk over ranges that end above the low end.
     pub fn next_overlapping(&self, from: usize, low: u64, high: u64) -> Option<(UnitRange, usize)>
         ensures { MatchOption result (overlapping_ranges low high (drop from self.now) ≡ [])
             (λ f. overlapping_ranges low high (drop from self.now)
             ≡ f.0 ∷ overlapping_ranges low high (drop f.1 self.now)) }
     {
-        next_overlapping(self.ranges.as_slice(), from, low, high)
+        next_overlapping(self.entries.as_slice(), from, low, high)
     }
 }
 
 /// The ranges that cover an address, from one of them on.
 #[derive(Debug, Drop)]
 pub struct CoveringRanges<'a> {
-    left: &'a [UnitRange],
+    left: &'a [BoundedRange],
     probe: u64,
 }
 
@@ -131,21 +160,30 @@ impl<'a> Model for CoveringRanges<'a> {
     ghost use Rattle.std.specs.Prelude.{List};
     ghost use Rattle.addr2line_index.specs.declared.unit_range.UnitRange.{UnitRange as Numbered};
     ghost use Rattle.addr2line_index.specs.NumberedRanges.{covering_ranges};
+    ghost use Rattle.addr2line_index.specs.BoundedRanges.{ranges_in, IsBounded};
 
     ghost Value = { List Numbered };
 
-    ghost view = { λ c. covering_ranges c.probe c.left.now };
+    ghost view = { λ c. covering_ranges c.probe (ranges_in c.left.now) };
+
+    ghost invariant = { λ c. IsBounded c.left.now };
 }
 
 // The first range that covers an address, and the ranges after it.
-fn first_covering(ranges: &[UnitRange], probe: u64) -> Option<(UnitRange, &[UnitRange])>
-    ensures { MatchOption result (covering_ranges probe ranges.now ≡ [])
-        (λ f. covering_ranges probe ranges.now ≡ f.0 ∷ covering_ranges probe f.1.now) }
+fn first_covering(entries: &[BoundedRange], probe: u64) -> Option<(UnitRange, &[BoundedRange])>
+    requires { IsBounded entries.now }
+    ensures next { MatchOption result (covering_ranges probe (ranges_in entries.now) ≡ [])
+        (λ f. covering_ranges probe (ranges_in entries.now)
+        ≡ f.0 ∷ covering_ranges probe (ranges_in f.1.now)) }
+    ensures rest { MatchOption result (Unit {0}) (λ f. IsBounded f.1.now) }
 {
-    let mut left = ranges;
+    let mut left = entries;
     while let [first, rest @ ..] = left {
-        if first.range.begin <= probe && probe < first.range.end {
-            return Some((*first, rest));
+        if probe < first.least_begin {
+            return None;
+        }
+        if first.range.range.begin <= probe && probe < first.range.range.end {
+            return Some((first.range, rest));
         }
         left = rest;
     }
@@ -153,7 +191,8 @@ fn first_covering(ranges: &[UnitRange], probe: u64) -> Option<(UnitRange, &[Unit
 }
 
 impl CoveringRanges<'_> {
-    /// The next of them.
+    /// The next of them. It goes no further than to the first range from which on all begin above
+    /// the address.
     pub fn next(&mut self) -> Option<UnitRange>
         ensures none { MatchOption result (self.old ≡ []) (λ first. self.old ≡ first ∷ self.new) }
         ensures ended { self.old ≡ [] → self.new ≡ [] }

@@ -86,7 +86,8 @@ naming_of h attributes =
     (reference_or_nameless (last_value is_reference attributes))
 
 -- a linkage name ends the reading, so that no fault after it counts
-abbrev pub linkage_name_or : Option View → Option Error → EntryNaming → Result EntryNaming Error
+abbrev pub linkage_name_or : Option View → Option Error → EntryNaming
+    → Result EntryNaming Error
 linkage_name_or (Some name) fault other = Ok (by_name name)
 linkage_name_or None (Some e) other = Err e
 linkage_name_or None None other = Ok other

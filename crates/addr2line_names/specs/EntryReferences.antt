@@ -57,7 +57,8 @@ or_error e None = Err e
 or_error e (Some x) = Ok x
 
 -- the entry at an offset of the section
-abbrev pub entry_among : DebugFile → DwarfFile → List UnitFacts → ℕ → Result ReferredEntry Error
+abbrev pub entry_among : DebugFile → DwarfFile → List UnitFacts → ℕ
+    → Result ReferredEntry Error
 entry_among file s units offset =
     or_error (NoEntryAtGivenOffset offset)
     (option_and_then (entry_in file s offset) (unit_below offset units))

@@ -8,7 +8,8 @@ use Rattle.addr2line_names.specs.declared.naming.EntryNaming.TheVariants.{ByName
 
 -- `view` and `count` are what contracts see of a reader and of an offset
 abbrev pub naming_view
-    : {R E O : Type 0} → (R → View) → (O → ℕ) → EntryNaming R E O → entries.EntryNaming
+    : {R E O : Type 0} → (R → View) → (O → ℕ) → EntryNaming R E O
+    → entries.EntryNaming
 naming_view view count (ByName name) = entries.by_name (view name)
 naming_view view count (ByReference v) = entries.by_reference (raw_value_of view count v)
 naming_view view count Nameless = entries.nameless

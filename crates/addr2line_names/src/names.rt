@@ -164,9 +164,10 @@ impl<'a, R: Reader, U: HasUnit<R>> KnownUnits<'a, R, U> {
         }
     }
 
-    // The name by those of some attributes and one more: a later linkage name counts in place of an
-    // earlier name, and nothing else does.
-    fn name_with(
+    /// The name by those attributes of an entry which gave this one, or none, and one more: a later
+    /// linkage name that can be read counts in place of an earlier name, and nothing else does. At
+    /// most 16 references are followed one after the other; an error there is the result.
+    pub fn name_with(
         &self,
         holder: &HoldingUnit<'a, R>,
         found: Option<R>,

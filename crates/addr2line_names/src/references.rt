@@ -46,7 +46,7 @@ pub(crate) fn entry_among<'a, R: Reader, U: HasUnit<R>>(
     offset: DebugInfoOffset<R::Offset>,
 ) -> Result<ReferredEntry<'a, R>, Error>
     ensures { Returns result
-        (entry_among file dwarf.now (map U.facts units.now) (R.Offset.count offset.0)) }
+        (entry_among file dwarf.now.file (map U.facts units.now) (R.Offset.count offset.0)) }
 {
     let refusal = Error::NoEntryAtGivenOffset(offset.0.into_u64());
     let unit = unit_below(units, offset).ok_or(refusal)?;

@@ -5,7 +5,8 @@ use Rattle.addr2line_paths.specs.FilePaths.{is_rooted, join, file_text, file_tex
 
 -- a text with a root replaces what it is joined to
 abbrev pub RootedTextReplacesPath : Type 0
-RootedTextReplacesPath = (path text : List ℕ) → is_rooted text ≡ true → join path text ≡ text
+RootedTextReplacesPath =
+    (path text : List ℕ) → is_rooted text ≡ true → join path text ≡ text
 
 -- in texts that are UTF-8 nothing is replaced
 abbrev pub Utf8TextIsUnchanged : Type 0

@@ -55,7 +55,9 @@ digit_count-half k n some half =
 
 -- nothing passes where the first doesn't
 none_passes : {X : Type 0} (p : X → Bool) (x : X) (xs : List X) → IsPartitionedBy p (x ∷ xs) → p x ≡ false
-    → (ys : List X) → ((j : ℕ) (d : X) → j < length ys → (k : ℕ) × ((k < length (x ∷ xs)) × (get_or (x ∷ xs) k d ≡ get_or ys j d)))
+    → (ys : List X)
+    → ((j : ℕ) (d : X) → j < length ys
+    → (k : ℕ) × ((k < length (x ∷ xs)) × (get_or (x ∷ xs) k d ≡ get_or ys j d)))
     → filter p ys ≡ []
 none_passes p x xs parted fails [] within = refl
 none_passes p x xs parted fails (y ∷ ys) within =
@@ -75,7 +77,8 @@ pub passing_first : {X : Type 0} (p : X → Bool) (xs : List X) → IsPartitione
     → filter p xs ≡ take (prefix_len p xs) xs
 passing_first p [] parted = refl
 passing_first p (x ∷ xs) parted =
-    elim (p x) as (λ b. p x ≡ b → cond b (x ∷ filter p xs) (filter p xs) ≡ take (cond b (1 + prefix_len p xs) 0) (x ∷ xs)) [
+    elim (p x) as (λ b. p x ≡ b
+    → cond b (x ∷ filter p xs) (filter p xs) ≡ take (cond b (1 + prefix_len p xs) 0) (x ∷ xs)) [
       | true ↦ λ _. ap (λ l. x ∷ l) (passing_first p xs (parted_rest p x xs parted))
           ∙ ap (λ n. take n (x ∷ xs)) one_before
       | false ↦ λ fails. none_passes p x xs parted fails xs (λ j d below. (suc j, (omega arith, refl)))

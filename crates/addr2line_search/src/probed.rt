@@ -1,5 +1,5 @@
-//! Lists whose entries are counted as they are looked at. No search stands here, so that none can
-//! look at an entry unseen.
+//! Lists that count each look at one of their entries. The searches are in other modules, so they
+//! can't look at an entry without being counted.
 
 ghost use Rattle.std.specs.Prelude.{◌≡◌, ◌+◌, ◌<◌, length, slice_get, Some};
 

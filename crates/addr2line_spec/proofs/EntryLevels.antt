@@ -124,12 +124,12 @@ all_enclosed limit (suc n) i fits = by (int_lt (pos 0) i.walk.depth) refl (all_e
     outer : List Row
     outer = enclosing_rows i.walk.depth i.before
 
-    read : (x : Result (Row × Walk) Error) → row_choosing limit (is_call_in outer) i.walk ≡ x → pos 0 <ℤ i.walk.depth
+    by_row : (x : Result (Row × Walk) Error) → row_choosing limit (is_call_in outer) i.walk ≡ x → pos 0 <ℤ i.walk.depth
         → ((j : FunctionWalk) → Fits j.before j.walk.depth
         → All IsEnclosed (items_within n (entry_below limit) j).items)
         → All IsEnclosed (next_item (entry_of_row i x) (items_within n (entry_below limit))).items
-    read (Err e) is some again = All-nil IsEnclosed
-    read (Ok x) is some again =
+    by_row (Err e) is some again = All-nil IsEnclosed
+    by_row (Ok x) is some again =
         let h = leads limit (is_call_in outer) i.walk x.1 x.0 is in
         let here = fits i.walk.depth (omega (arith, ints)) (omega (arith, ints)) in
         let j : FunctionWalk = record { walk = x.1; before = x.0 ∷ i.before } in
@@ -143,7 +143,7 @@ all_enclosed limit (suc n) i fits = by (int_lt (pos 0) i.walk.depth) refl (all_e
         → All IsEnclosed
         (next_item (cond b (entry_of_row i (row_choosing limit (is_call_in outer) i.walk)) (Ok (None, i)))
         (items_within n (entry_below limit))).items
-    by true e again = read (row_choosing limit (is_call_in outer) i.walk) refl (lt_is (pos 0) i.walk.depth e) again
+    by true e again = by_row (row_choosing limit (is_call_in outer) i.walk) refl (lt_is (pos 0) i.walk.depth e) again
     by false e again = All-nil IsEnclosed
 
 pub each_is_enclosed : (limit : ℕ) (w : Walk) → w.depth ≡ pos 1 → All IsEnclosed (entries_of limit w).items

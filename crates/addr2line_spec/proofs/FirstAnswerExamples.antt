@@ -54,7 +54,7 @@ at_line line =
     } ∷ []
 
 abbrev nameless : Namings
-nameless f as_read = Ok None
+nameless f name attribute = Ok name
 
 -- ---- files that answer loads
 
@@ -106,8 +106,8 @@ module _ (b : Bases) where
       }
 
   -- a file that isn't named, one that is, and one whose name isn't a text
-  abbrev split : FileContext
-  split = context_of (facts (Some 7) [] (1 ∷ []))
+  abbrev split_context : FileContext
+  split_context = context_of (facts (Some 7) [] (1 ∷ []))
 
   abbrev named_split : FileContext
   named_split =
@@ -126,7 +126,7 @@ module _ (b : Bases) where
 
   -- ---- before any answer
 
-  the_first_unit_is_pending : frames split nameless (no_answers 2) 0x14
+  the_first_unit_is_pending : frames split_context nameless (no_answers 2) 0x14
       ≡ pending (record { number = 0; load = load None })
   unfolding row entry_head values unsigned reading.attributes
   the_first_unit_is_pending = refl
@@ -137,11 +137,11 @@ module _ (b : Bases) where
       reading.form_within spelling
   its_file_is_named = refl
 
-  one_load : loads split (no_answers 2) 0x14 ≡ record { number = 0; load = load None } ∷ []
+  one_load : loads split_context (no_answers 2) 0x14 ≡ record { number = 0; load = load None } ∷ []
   unfolding row entry_head values unsigned reading.attributes
   one_load = refl
 
-  only_the_second_covers_it : frames split nameless (no_answers 2) 0x24 ≡ output (Ok (at_line 0x40))
+  only_the_second_covers_it : frames split_context nameless (no_answers 2) 0x24 ≡ output (Ok (at_line 0x40))
   unfolding row entry_head values unsigned reading.attributes listing_in items_within rows row_or_end row_choosing
       skip_values skipping.skip_values skipping.skip_ways skipping.run
   only_the_second_covers_it = refl
@@ -159,24 +159,25 @@ module _ (b : Bases) where
 
   -- ---- answers
 
-  no_file_leaves_the_unit_itself : answer_load split (no_answers 2) 0 None ≡ (Ok tt, Some (Ok None) ∷ None ∷ [])
+  no_file_leaves_the_unit_itself : answer_load split_context (no_answers 2) 0 None ≡ (Ok tt, Some (Ok None) ∷ None ∷ [])
   unfolding row entry_head values unsigned reading.attributes
   no_file_leaves_the_unit_itself = refl
 
-  its_own_row : frames split nameless (Some (Ok None) ∷ None ∷ []) 0x14 ≡ output (Ok (at_line 0x20))
+  its_own_row : frames split_context nameless (Some (Ok None) ∷ None ∷ []) 0x14 ≡ output (Ok (at_line 0x20))
   unfolding row entry_head values unsigned reading.attributes listing_in items_within rows row_or_end row_choosing
       skip_values skipping.skip_values skipping.skip_ways skipping.run
   its_own_row = refl
 
-  no_load_is_left : loads split (Some (Ok None) ∷ None ∷ []) 0x14 ≡ []
+  no_load_is_left : loads split_context (Some (Ok None) ∷ None ∷ []) 0x14 ≡ []
   unfolding row entry_head values unsigned reading.attributes
   no_load_is_left = refl
 
-  a_file_without_units : answer_load split (no_answers 2) 0 (Some no_sections) ≡ (Ok tt, Some (Ok None) ∷ None ∷ [])
+  a_file_without_units : answer_load split_context (no_answers 2) 0 (Some no_sections)
+      ≡ (Ok tt, Some (Ok None) ∷ None ∷ [])
   unfolding row entry_head values unsigned reading.attributes
   a_file_without_units = refl
 
-  a_code_without_a_declaration : answer_load split (no_answers 2) 0 (Some (file_of_code 9))
+  a_code_without_a_declaration : answer_load split_context (no_answers 2) 0 (Some (file_of_code 9))
       ≡ (Err (InvalidAbbreviationCode 9), Some (Err (InvalidAbbreviationCode 9)) ∷ None ∷ [])
   unfolding row entry_head values unsigned reading.attributes listing_in items_within rows row_or_end row_choosing
       skip_values skipping.skip_values skipping.skip_ways skipping.run unit unit_in unit_fields fields_to_4
@@ -184,34 +185,36 @@ module _ (b : Bases) where
       attributes attribute unsigned_16
   a_code_without_a_declaration = refl
 
-  is_refused_from_then_on : frames split nameless (Some (Err (InvalidAbbreviationCode 9)) ∷ None ∷ []) 0x14
+  is_refused_from_then_on : frames split_context nameless (Some (Err (InvalidAbbreviationCode 9)) ∷ None ∷ []) 0x14
       ≡ output (Err (InvalidAbbreviationCode 9))
   unfolding row entry_head values unsigned reading.attributes
   is_refused_from_then_on = refl
 
-  to_a_second_answer_too : answer_load split (Some (Err (InvalidAbbreviationCode 9)) ∷ None ∷ []) 0 None
+  to_a_second_answer_too : answer_load split_context (Some (Err (InvalidAbbreviationCode 9)) ∷ None ∷ []) 0 None
       ≡ (Err (InvalidAbbreviationCode 9), Some (Err (InvalidAbbreviationCode 9)) ∷ None ∷ [])
   unfolding row entry_head values unsigned reading.attributes
   to_a_second_answer_too = refl
 
-  while_a_unit_is_found_after_it : lookups.unit split nameless (Some (Err (InvalidAbbreviationCode 9)) ∷ None ∷ []) 0x14
+  while_a_unit_is_found_after_it :
+      lookups.unit split_context nameless (Some (Err (InvalidAbbreviationCode 9)) ∷ None ∷ []) 0x14
       ≡ output (Some (in_file no_sections (facts None [] (1 ∷ []))))
   unfolding row entry_head values unsigned reading.attributes listing_in items_within rows row_or_end row_choosing
       skip_values skipping.skip_values skipping.skip_ways skipping.run
   while_a_unit_is_found_after_it = refl
 
-  no_such_unit : answer_load split (no_answers 2) 2 None ≡ (Err NoSuchUnit, no_answers 2)
+  no_such_unit : answer_load split_context (no_answers 2) 2 None ≡ (Err NoSuchUnit, no_answers 2)
   no_such_unit = refl
 
   -- ---- histories
 
-  suspended_and_resumed : history split nameless (find_frames 0x14 [] ∷ find_frames 0x14 (None ∷ []) ∷ find_frames 0x14 [] ∷ [])
+  suspended_and_resumed :
+      history split_context nameless (find_frames 0x14 [] ∷ find_frames 0x14 (None ∷ []) ∷ find_frames 0x14 [] ∷ [])
       ≡ suspension ∷ frames_answer (Ok (at_line 0x20)) ∷ frames_answer (Ok (at_line 0x20)) ∷ []
   unfolding row entry_head values unsigned reading.attributes listing_in items_within rows row_or_end row_choosing
       skip_values skipping.skip_values skipping.skip_ways skipping.run
   suspended_and_resumed = refl
 
-  the_first_answer_stays : history split nameless
+  the_first_answer_stays : history split_context nameless
       (preload_units 0x14 ∷ answer_token 0 None ∷ answer_token 0 (Some (file_of_code 9)) ∷ answer_token 1 None
       ∷ find_frames 0x14 [] ∷ [])
       ≡ loads_answer (load None ∷ []) ∷ completion (Ok tt) ∷ completion (Ok tt) ∷ no_token
@@ -222,7 +225,7 @@ module _ (b : Bases) where
       attributes attribute unsigned_16
   the_first_answer_stays = refl
 
-  every_unit_is_answered_by_no_file : history split nameless (parse_functions ∷ find_frames 0x14 [] ∷ [])
+  every_unit_is_answered_by_no_file : history split_context nameless (parse_functions ∷ find_frames 0x14 [] ∷ [])
       ≡ completion (Ok tt) ∷ frames_answer (Ok (at_line 0x20)) ∷ []
   unfolding row entry_head values unsigned reading.attributes listing_in items_within rows row_or_end row_choosing
       skip_values skipping.skip_values skipping.skip_ways skipping.run

@@ -45,7 +45,7 @@ of_two_with_one_range_the_last : function_number
     (function 0x10 (range 0 8 ∷ []) ∷ function 0x20 (range 0 8 ∷ []) ∷ []) 4 ≡ Some 1
 of_two_with_one_range_the_last = refl
 
--- ---- what an entry stands in
+-- ---- what an entry is nested in
 
 abbrev row : ℕ → ℕ → ℕ → Bool → Row
 row offset depth tag has_children =
@@ -113,12 +113,12 @@ the_third = refl
 no_call : chain_at calls 0x30 ≡ []
 no_call = refl
 
--- where a call passes the one that it stands in, it counts at its depth
+-- where a call passes the end of the one that it is nested in, it counts at its depth
 abbrev passing_calls : List Call
 passing_calls = call 0 0x10 (range 0 8 ∷ []) ∷ call 1 0x20 (range 4 0x10 ∷ []) ∷ call 0 0x30 (range 8 0x10 ∷ []) ∷ []
 
-whatever_it_stands_in : offsets (chain_at passing_calls 0xc) ≡ 0x30 ∷ 0x20 ∷ []
-whatever_it_stands_in = refl
+whatever_it_is_nested_in : offsets (chain_at passing_calls 0xc) ≡ 0x30 ∷ 0x20 ∷ []
+whatever_it_is_nested_in = refl
 
 -- and where none of its depth does, the deeper ones don't count
 none_of_the_first_depth : chain_at (call 1 0x20 (range 0 8 ∷ []) ∷ []) 4 ≡ []

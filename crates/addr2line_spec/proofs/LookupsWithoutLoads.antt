@@ -51,30 +51,32 @@ module _ {U : Type 0} (ranges : U → List Range) (P : U → Type 0) where
 -- ---- frames
 
 module _ (c : FileContext) (naming : Namings) (answers : FirstAnswers) (a : ℕ) where
-  abbrev asked : Pair ContextUnit → Lookup (Result (List Frame) Error)
-  asked p = map_output (frames_under c naming a p.unit) (decision_of c answers p.number p.unit)
+  abbrev frames_lookup : Pair ContextUnit → Lookup (Result (List Frame) Error)
+  frames_lookup p = map_output (frames_under c naming a p.unit) (decision_of c answers p.number p.unit)
 
   abbrev itself : Pair ContextUnit → Result (List Frame) Error
   itself p = frames_of_itself c naming p.unit a
 
   -- nothing has to be known of a unit without a split part
-  decided : (p : Pair ContextUnit) → HasNoSplitPart p.unit → decision_of c answers p.number p.unit ≡ output (Ok None)
-  decided p h =
+  needs_no_load : (p : Pair ContextUnit) → HasNoSplitPart p.unit
+      → decision_of c answers p.number p.unit ≡ output (Ok None)
+  needs_no_load p h =
       ap (λ (id : Option ℕ). decision p.number (if_any (load_of_id (unit_in c p.unit)) id)
       (recorded_answer answers p.number)) h
 
   pub without_loads : (ps : List (Pair ContextUnit)) → All (λ p. HasNoSplitPart p.unit) ps
-      → first_output is_answer (Ok []) (map asked ps) ≡ output (first_nonempty (map itself ps))
+      → first_output is_answer (Ok []) (map frames_lookup ps) ≡ output (first_nonempty (map itself ps))
   without_loads [] h = refl
   without_loads (p ∷ ps) h =
       ap (λ (d : Lookup FirstAnswer). first_output is_answer (Ok [])
-      (map_output (frames_under c naming a p.unit) d ∷ map asked ps))
-      (decided p (All-head (λ (q : Pair ContextUnit). HasNoSplitPart q.unit) p ps h))
+      (map_output (frames_under c naming a p.unit) d ∷ map frames_lookup ps))
+      (needs_no_load p (All-head (λ (q : Pair ContextUnit). HasNoSplitPart q.unit) p ps h))
       ∙ by (itself p) (without_loads ps (All-tail (λ (q : Pair ContextUnit). HasNoSplitPart q.unit) p ps h))
     where
       by : (r : Result (List Frame) Error)
-          → first_output is_answer (Ok []) (map asked ps) ≡ output (first_nonempty (map itself ps))
-          → first_output is_answer (Ok []) (output r ∷ map asked ps) ≡ output (first_nonempty (r ∷ map itself ps))
+          → first_output is_answer (Ok []) (map frames_lookup ps) ≡ output (first_nonempty (map itself ps))
+          → first_output is_answer (Ok []) (output r ∷ map frames_lookup ps)
+          ≡ output (first_nonempty (r ∷ map itself ps))
       by (Ok []) later = later
       by (Ok (f ∷ fs)) later = refl
       by (Err e) later = refl

@@ -36,10 +36,12 @@ module _ {A : Type 0} (p q : A → Bool) where
       by true true hp hq h =
           ap (λ k. filter p (if_passes k x (filter q xs))) hq ∙ ap (λ k. if_passes k x (filter p (filter q xs))) hp
           ∙ ap (λ l. x ∷ l) h
-          ∙ sym (ap (λ k. filter q (if_passes k x (filter p xs))) hp ∙ ap (λ k. if_passes k x (filter q (filter p xs))) hq)
+          ∙ sym (ap (λ k. filter q (if_passes k x (filter p xs))) hp
+          ∙ ap (λ k. if_passes k x (filter q (filter p xs))) hq)
       by true false hp hq h =
           ap (λ k. filter p (if_passes k x (filter q xs))) hq ∙ h
-          ∙ sym (ap (λ k. filter q (if_passes k x (filter p xs))) hp ∙ ap (λ k. if_passes k x (filter q (filter p xs))) hq)
+          ∙ sym (ap (λ k. filter q (if_passes k x (filter p xs))) hp
+          ∙ ap (λ k. if_passes k x (filter q (filter p xs))) hq)
       by false true hp hq h =
           ap (λ k. filter p (if_passes k x (filter q xs))) hq ∙ ap (λ k. if_passes k x (filter p (filter q xs))) hp ∙ h
           ∙ sym (ap (λ k. filter q (if_passes k x (filter p xs))) hp)
@@ -65,31 +67,31 @@ module _ {A : Type 0} (p : A → Bool) where
 -- ---- the load that a lookup waits for
 
 module _ {X : Type 0} (decide : X → Lookup FirstAnswer) where
-  abbrev pub asked : {A : Type 0} → (X → FirstAnswer → A) → List X → List (Lookup A)
-  asked ask xs = map (λ x. map_output (ask x) (decide x)) xs
+  abbrev pub lookups_of : {A : Type 0} → (X → FirstAnswer → A) → List X → List (Lookup A)
+  lookups_of ask xs = map (λ x. map_output (ask x) (decide x)) xs
 
-  module _ {A B : Type 0} (is_something : A → Bool) (nothing : A) (ask : X → FirstAnswer → A) (other : X → FirstAnswer → B)
-      (p : PendingLoad) where
+  module _ {A B : Type 0} (is_something : A → Bool) (nothing : A) (ask : X → FirstAnswer → A)
+      (other : X → FirstAnswer → B) (p : PendingLoad) where
     abbrev first_of_loads : List (Lookup B) → Type 0
     first_of_loads ls = (rest : List PendingLoad) × (filter_map load_in ls ≡ p ∷ rest)
 
-    pub waits_for_first : (xs : List X) → first_output is_something nothing (asked ask xs) ≡ pending p
-        → first_of_loads (asked other xs)
+    pub waits_for_first : (xs : List X) → first_output is_something nothing (lookups_of ask xs) ≡ pending p
+        → first_of_loads (lookups_of other xs)
     waits_for_first [] h = absurd cc
     waits_for_first (x ∷ xs) h = by (decide x) h (waits_for_first xs)
       where
         by : (d : Lookup FirstAnswer)
-            → first_output is_something nothing (map_output (ask x) d ∷ asked ask xs) ≡ pending p
-            → (first_output is_something nothing (asked ask xs) ≡ pending p → first_of_loads (asked other xs))
-            → first_of_loads (map_output (other x) d ∷ asked other xs)
+            → first_output is_something nothing (map_output (ask x) d ∷ lookups_of ask xs) ≡ pending p
+            → (first_output is_something nothing (lookups_of ask xs) ≡ pending p → first_of_loads (lookups_of other xs))
+            → first_of_loads (map_output (other x) d ∷ lookups_of other xs)
         by (pending q) h later =
             let same : q ≡ p = cc in
-            (filter_map load_in (asked other xs), ap (λ l. l ∷ filter_map load_in (asked other xs)) same)
+            (filter_map load_in (lookups_of other xs), ap (λ l. l ∷ filter_map load_in (lookups_of other xs)) same)
         by (output first) h later = by_test (is_something (ask x first)) h
           where
             by_test : (b : Bool)
-                → cond b (output (ask x first)) (first_output is_something nothing (asked ask xs)) ≡ pending p
-                → first_of_loads (asked other xs)
+                → cond b (output (ask x first)) (first_output is_something nothing (lookups_of ask xs)) ≡ pending p
+                → first_of_loads (lookups_of other xs)
             by_test true h = absurd cc
             by_test false h = later h
 
@@ -111,12 +113,12 @@ module _ (number : ℕ) (ps later : List PendingLoad) (h : later ≡ filter (oth
   abbrev if_other : Bool → PendingLoad → List PendingLoad
   if_other b p = cond (not b) (p ∷ filter (other_than number) ps) (filter (other_than number) ps)
 
-  taken : (load : Result (Option SplitLoad) Error) (r : Option FirstAnswer) (first : FirstAnswer) (m : ℕ)
+  takes_load : (load : Result (Option SplitLoad) Error) (r : Option FirstAnswer) (first : FirstAnswer) (m : ℕ)
       → (m == number) ≡ true → takes (decision m load (Some first)) (decision m load r)
-  taken (Ok None) r first m is = h
-  taken (Err e) r first m is = h
-  taken (Ok (Some l)) (Some x) first m is = h
-  taken (Ok (Some l)) None first m is = h ∙ sym (ap (λ b. if_other b (record { number = m; load = l })) is)
+  takes_load (Ok None) r first m is = h
+  takes_load (Err e) r first m is = h
+  takes_load (Ok (Some l)) (Some x) first m is = h
+  takes_load (Ok (Some l)) None first m is = h ∙ sym (ap (λ b. if_other b (record { number = m; load = l })) is)
 
   stays : (load : Result (Option SplitLoad) Error) (r : Option FirstAnswer) (m : ℕ) → (m == number) ≡ false
       → takes (decision m load r) (decision m load r)
@@ -131,7 +133,7 @@ module _ {X : Type 0} (number_of : X → ℕ) (load : X → Result (Option Split
     (number : ℕ) (first : FirstAnswer) (within : number < length answers) where
   abbrev pub pending_under : FirstAnswers → List X → List PendingLoad
   pending_under recorded xs =
-      filter_map load_in (asked (λ x. decision (number_of x) (load x) (recorded_answer recorded (number_of x)))
+      filter_map load_in (lookups_of (λ x. decision (number_of x) (load x) (recorded_answer recorded (number_of x)))
       (λ x (answer : FirstAnswer). answer) xs)
 
   abbrev after : FirstAnswers
@@ -155,8 +157,9 @@ module _ {X : Type 0} (number_of : X → ℕ) (load : X → Result (Option Split
           → pending_under after xs ≡ filter (other_than number) (pending_under answers xs)
           → pending_under after (x ∷ xs) ≡ filter (other_than number) (pending_under answers (x ∷ xs))
       by true is h =
-          ap (λ r. with_load (decision (number_of x) (load x) r) (pending_under after xs)) (answer_there (number_of x) is)
-          ∙ taken number (pending_under answers xs) (pending_under after xs) h (load x)
+          ap (λ r. with_load (decision (number_of x) (load x) r) (pending_under after xs))
+          (answer_there (number_of x) is)
+          ∙ takes_load number (pending_under answers xs) (pending_under after xs) h (load x)
           (recorded_answer answers (number_of x)) first (number_of x) is
       by false is h =
           ap (λ r. with_load (decision (number_of x) (load x) r) (pending_under after xs))

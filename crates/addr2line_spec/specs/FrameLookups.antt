@@ -13,7 +13,7 @@ first_nonempty (Ok (x ∷ xs) ∷ rest) = Ok (x ∷ xs)
 first_nonempty (Err e ∷ rest) = Err e
 
 -- the frames of an address: those of the first pair that covers it whose unit has some
-abbrev pub frames_at : {U : Type 0} → (U → List Range) → (U → ℕ → Result (List Frame) Error)
-    → List U → ℕ → Result (List Frame) Error
+abbrev pub frames_at : {U : Type 0} → (U → List Range)
+    → (U → ℕ → Result (List Frame) Error) → List U → ℕ → Result (List Frame) Error
 frames_at ranges frames us a =
     first_nonempty (map (λ p. frames p.unit a) (covering_pairs ranges us a))

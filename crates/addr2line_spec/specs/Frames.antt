@@ -46,8 +46,8 @@ frame language offset name location =
 -- The frames of a function or a call with the calls that an address is in there, the outermost
 -- first: those of the calls, and then its own, at the place that calls the outermost of them, or at
 -- the address's own where there is none.
-abbrev pub frames_in : Option ℕ → List (List ℕ) → Option Location → ℕ → Option View → List Call
-    → List Frame
+abbrev pub frames_in : Option ℕ → List (List ℕ) → Option Location → ℕ → Option View
+    → List Call → List Frame
 frames_in language files here offset name [] = frame language offset name here ∷ []
 frames_in language files here offset name (c ∷ inside) =
     frames_in language files here c.offset c.name inside
@@ -66,7 +66,8 @@ pub record FunctionAt : Type 0 where
   pub calls : FunctionCalls
 
 -- that of the entry at an offset, where this is found at entries
-abbrev pub function_of_offset : (ℕ → Result FunctionCalls Error) → ℕ → Result FunctionAt Error
+abbrev pub function_of_offset : (ℕ → Result FunctionCalls Error) → ℕ
+    → Result FunctionAt Error
 function_of_offset at offset = do
   calls ← at offset
   Ok (record { offset = offset; calls = calls })

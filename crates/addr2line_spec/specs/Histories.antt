@@ -42,8 +42,8 @@ unless_refused (Err e) answers rest = (Err e, answers)
 
 -- Units numbered from a number on, read up to the first refusal. A load that is pending where the
 -- walk comes to its unit is answered by no file.
-abbrev pub parse_from : FileContext → (ContextUnit → FirstAnswer → Result (Unit {0}) Error) → ℕ
-    → List ContextUnit → FirstAnswers → Result (Unit {0}) Error × FirstAnswers
+abbrev pub parse_from : FileContext → (ContextUnit → FirstAnswer → Result (Unit {0}) Error)
+    → ℕ → List ContextUnit → FirstAnswers → Result (Unit {0}) Error × FirstAnswers
 parse_from c parse number [] answers = (Ok tt, answers)
 parse_from c parse number (u ∷ us) answers =
     let decided = decision_of c answers number u in
@@ -94,7 +94,8 @@ answer_or_suspension kind (output x) = kind x
 answer_or_suspension kind (pending p) = suspension
 
 -- a lookup with the answers to its loads
-abbrev pub lookup_call : {A : Type 0} → FileContext → (A → CallAnswer) → (FirstAnswers → Lookup A)
+abbrev pub lookup_call : {A : Type 0} → FileContext → (A → CallAnswer)
+    → (FirstAnswers → Lookup A)
     → List (Option DwarfFile) → ContextState → CallAnswer × ContextState
 lookup_call c kind lookup files s =
     let r = resume c lookup files s.answers in (answer_or_suspension kind r.0, with_answers s r.1)
@@ -110,7 +111,8 @@ token_call c None file s = (no_token, s)
 token_call c (Some number) file s = complete s (answer_load c s.answers number file)
 
 -- a call's answer, and what it leaves
-abbrev pub call : FileContext → Namings → ContextCall → ContextState → CallAnswer × ContextState
+abbrev pub call : FileContext → Namings → ContextCall → ContextState
+    → CallAnswer × ContextState
 call c naming (find_location a) s = (location_answer (location c.context a), s)
 call c naming (find_frames a files) s =
     lookup_call c frames_answer (λ answers. frames c naming answers a) files s
@@ -136,7 +138,8 @@ abbrev pub fresh : FileContext → ContextState
 fresh c = record { answers = no_answers (length c.context.units); tokens = [] }
 
 -- the answers of calls, one after the other
-abbrev pub history_from : FileContext → Namings → List ContextCall → ContextState → List CallAnswer
+abbrev pub history_from : FileContext → Namings → List ContextCall → ContextState
+    → List CallAnswer
 history_from c naming [] s = []
 history_from c naming (k ∷ ks) s =
     let r = call c naming k s in r.0 ∷ history_from c naming ks r.1

@@ -1,5 +1,5 @@
 -- The calls that are inlined into a function (DWARF 5, 3.3.8).
-use Rattle.std.specs.Prelude.{ℕ, ℤ, pos, ◌+◌, ◌-◌, ◌%◌, ◌^◌, ◌==◌, ◌&&◌, not, nat_lt, max, int_lt, Bool, List, [], ◌∷◌, length, map, filter, Option, Some, None, option_map, option_and_then, unwrap_or, Result, Ok, Err, if◌then◌else◌}
+use Rattle.std.specs.Prelude.{ℕ, ℤ, pos, ◌+◌, ◌-◌, ◌%◌, ◌^◌, ◌==◌, ◌&&◌, not, nat_lt, max, int_lt, Bool, List, [], ◌∷◌, ◌++◌, length, map, filter, Option, Some, None, option_map, option_and_then, unwrap_or, Result, Ok, Err, if◌then◌else◌}
 use Rattle.std.specs.List.{filter_map, last_or, list_any, range_with_len}
 use Rattle.gimli_lines_machine.specs.Error.{Error}
 use Rattle.gimli_lines_machine.specs.View.{View, bytes_left}
@@ -16,8 +16,9 @@ use Rattle.gimli_lines_machine.specs.Results.{unless, each, ◌>>=◌}
 use Rattle.gimli_dwarf_spec.specs.UnitFacts.{UnitInFile}
 use Rattle.addr2line_spec.specs.Choice.{holder}
 use Rattle.addr2line_spec.specs.Pairs.{Pair, pairs_from}
-use Rattle.addr2line_spec.specs.EntryRanges.{ranges_of_entry}
+use Rattle.addr2line_spec.specs.EntryRanges.{ranges_of_facts}
 use Rattle.addr2line_spec.specs.Functions.{is_subprogram}
+use Rattle.addr2line_spec.specs.UnitRanges.{RangeFact, fact_of, list_in, last_of}
 
 -- ---- enclosing entries
 
@@ -131,20 +132,53 @@ call_file version attributes =
 abbrev pub number_or_0 : (ℕ → Bool) → List RawAttribute → ℕ
 number_or_0 is_name attributes = unwrap_or (last_unsigned is_name attributes) 0 % 2 ^ 32
 
--- how a name is found from an entry's attributes
-abbrev pub Naming : Type 0
-Naming = List RawAttribute → Result (Option View) Error
+-- ---- names and facts, attribute by attribute
 
--- the call of an entry of a depth, or the refusal of its name, or else of its ranges
+-- how a name is found: that of an entry with some attributes and one more, from what those give
+abbrev pub Naming : Type 0
+Naming = Option View → RawAttribute → Result (Option View) Error
+
+-- the name by further attributes, or the first refusal
+abbrev pub name_by : Naming → Option View → List RawAttribute → Result (Option View) Error
+name_by naming name [] = Ok name
+name_by naming name (a ∷ rest) = do
+  more ← naming name a
+  name_by naming more rest
+
+-- what attributes say of a call: the name of the function that is called, and its ranges
+pub record CallFacts : Type 0 where
+  pub name : Option View
+  pub ranges : List RangeFact
+
+abbrev pub no_call_facts : CallFacts
+no_call_facts = record { name = None; ranges = [] }
+
+-- with one more attribute, whose name is refused before its fact
+abbrev pub with_attribute : UnitInFile → Naming → CallFacts → RawAttribute → Result CallFacts Error
+with_attribute u naming facts a = do
+  name ← naming facts.name a
+  fact ← fact_of u a
+  Ok (record { name = name; ranges = facts.ranges ++ fact ∷ [] })
+
+-- with further attributes, or the first refusal
+abbrev pub call_facts : UnitInFile → Naming → CallFacts → List RawAttribute
+    → Result CallFacts Error
+call_facts u naming facts [] = Ok facts
+call_facts u naming facts (a ∷ rest) = do
+  more ← with_attribute u naming facts a
+  call_facts u naming more rest
+
+-- The call of an entry of a depth, or the first refusal of its attributes, in their order, or else
+-- that of its range list.
 abbrev pub call_at : UnitInFile → Naming → ℕ → Row → Result Call Error
 call_at u naming depth r = do
-  name ← naming r.attributes
-  rs ← ranges_of_entry u r.attributes
+  facts ← call_facts u naming no_call_facts r.attributes
+  rs ← ranges_of_facts u facts.ranges (last_of list_in facts.ranges)
   Ok (record {
     depth = depth;
     offset = r.offset;
     ranges = rs;
-    name = name;
+    name = facts.name;
     file = call_file u.facts.header.encoding.version r.attributes;
     line = number_or_0 is_call_line r.attributes;
     column = number_or_0 is_call_column r.attributes;
@@ -172,7 +206,7 @@ pub record FunctionCalls : Type 0 where
 abbrev pub function_calls : UnitInFile → Naming → Row → Walk
     → Result FunctionCalls Error
 function_calls u naming r w = do
-  name ← naming r.attributes
+  name ← name_by naming None r.attributes
   calls ← calls_among u naming (entries_of u.file.offset_limit w)
   Ok (record { name = name; calls = calls })
 
@@ -202,7 +236,8 @@ call_ranges depth cs = filter (λ p. p.unit.depth == depth) (pairs_from ranges_o
 
 -- the call of a depth that holds an address
 abbrev pub call_at_depth : List Call → ℕ → ℕ → Option Call
-call_at_depth cs a depth = option_map (λ p. p.unit) (holder (λ p. p.range) a (call_ranges depth cs))
+call_at_depth cs a depth =
+    option_map (λ p. p.unit) (holder (λ p. p.range) a (call_ranges depth cs))
 
 -- the first depth that no call has
 abbrev pub depth_count : List Call → ℕ

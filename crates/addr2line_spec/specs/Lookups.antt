@@ -58,7 +58,8 @@ split_or_itself u None = record { is_split = false; unit = u }
 split_or_itself u (Some split) = record { is_split = true; unit = split }
 
 -- that of a unit under its first answer, if this isn't a refusal
-abbrev pub functions_unit : FileContext → ContextUnit → FirstAnswer → Result FunctionsUnit Error
+abbrev pub functions_unit : FileContext → ContextUnit → FirstAnswer
+    → Result FunctionsUnit Error
 functions_unit c u first = do
   split ← first
   Ok (split_or_itself (unit_in c u) split)
@@ -68,7 +69,8 @@ abbrev pub Namings : Type 0
 Namings = FunctionsUnit → Naming
 
 -- the frames of an address in the functions of a unit; language and lines are the main file's
-abbrev pub frames_by : Namings → ContextUnit → ℕ → FunctionsUnit → Result (List Frame) Error
+abbrev pub frames_by : Namings → ContextUnit → ℕ → FunctionsUnit
+    → Result (List Frame) Error
 frames_by naming u a f = frames_of_unit f.unit (naming f) u.language u.lines a
 
 -- The frames of an address in a unit, or the refusal of its first answer, of its functions, of the
@@ -90,7 +92,8 @@ unit_with_frames frames_in (Err e) = None
 unit_with_frames frames_in (Ok f) = if has_frames (frames_in f) then Some f.unit else None
 
 -- that of a unit under its first answer
-abbrev pub unit_under : FileContext → Namings → ℕ → ContextUnit → FirstAnswer → Option UnitInFile
+abbrev pub unit_under : FileContext → Namings → ℕ → ContextUnit → FirstAnswer
+    → Option UnitInFile
 unit_under c naming a u first =
     unit_with_frames (frames_by naming u a) (functions_unit c u first)
 
@@ -102,7 +105,8 @@ is_answer (Ok []) = false
 is_answer _ = true
 
 -- the frames of an address: those of the first unit that has some, unless one is refused before
-abbrev pub frames : FileContext → Namings → FirstAnswers → ℕ → Lookup (Result (List Frame) Error)
+abbrev pub frames : FileContext → Namings → FirstAnswers → ℕ
+    → Lookup (Result (List Frame) Error)
 frames c naming answers a =
     first_output is_answer (Ok []) (ask_covering (frames_under c naming a) c answers a)
 
@@ -171,7 +175,7 @@ resume c lookup (file ∷ files) answers =
     resume c lookup files (answer_load c answers p.number file).1)
 
 -- a lookup whose loads are all answered by no file
-abbrev pub without_loads : {A : Type 0} → FileContext → (FirstAnswers → Lookup A) → FirstAnswers
-    → Lookup A × FirstAnswers
+abbrev pub without_loads : {A : Type 0} → FileContext → (FirstAnswers → Lookup A)
+    → FirstAnswers → Lookup A × FirstAnswers
 without_loads c lookup answers =
     resume c lookup (replicate (length c.context.units) None) answers

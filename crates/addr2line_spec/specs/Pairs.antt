@@ -36,5 +36,7 @@ abbrev pub overlaps : ℕ → ℕ → Range → Bool
 overlaps low high r = nat_lt low r.end && nat_lt r.begin high
 
 -- the pairs that overlap what lies between two ends
-abbrev pub overlapping_pairs : {U : Type 0} → (U → List Range) → List U → ℕ → ℕ → List (Pair U)
-overlapping_pairs ranges us low high = filter (λ p. overlaps low high p.range) (all_pairs ranges us)
+abbrev pub overlapping_pairs : {U : Type 0} → (U → List Range) → List U → ℕ → ℕ
+    → List (Pair U)
+overlapping_pairs ranges us low high =
+    filter (λ p. overlaps low high p.range) (all_pairs ranges us)

@@ -33,7 +33,8 @@ abbrev pub HasNoSplitPart : ContextUnit → Type 0
 HasNoSplitPart u = u.facts.dwo_id ≡ None
 
 -- the frames of an address in a unit that has its functions itself
-abbrev pub frames_of_itself : FileContext → Namings → ContextUnit → ℕ → Result (List Frame) Error
+abbrev pub frames_of_itself : FileContext → Namings → ContextUnit → ℕ
+    → Result (List Frame) Error
 frames_of_itself c naming u a = frames_under c naming a u (Ok None)
 
 -- Where no unit has a split part, lookups have their output at once: the frames of the first unit

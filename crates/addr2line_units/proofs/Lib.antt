@@ -2,6 +2,7 @@ pub use Rattle.addr2line_index.proofs.UnitAnswers
 pub use Rattle.addr2line_index.proofs.UnitViews
 pub use Rattle.addr2line_index.proofs.CallChains
 pub use Rattle.addr2line_index.proofs.EntryLevels
+pub use Rattle.addr2line_index.proofs.HolderViews
 pub use Rattle.addr2line_index.proofs.LatestFromLeft
 pub use Rattle.addr2line_index.proofs.RangeHolders
 pub mod ProgramHeaders
@@ -12,3 +13,5 @@ pub mod FileTextLemmas
 pub mod UnitRangeLemmas
 pub mod LastFactLemmas
 pub mod LastValueStep
+pub mod ArangeIndexLemmas
+pub mod RootLemmas

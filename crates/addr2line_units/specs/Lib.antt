@@ -1,6 +1,10 @@
 pub use Rattle.addr2line_index.specs.BorrowedLocations
 pub use Rattle.addr2line_index.specs.ChoiceSteps
+pub use Rattle.addr2line_index.specs.LineIndexes
 pub use Rattle.addr2line_index.specs.NumberedRanges
+pub use Rattle.addr2line_index.specs.ProbedLists
+pub use Rattle.addr2line_index.specs.RangeLevels
+pub use Rattle.addr2line_index.specs.Searches
 pub use Rattle.addr2line_index.specs.RangeIndexLaws
 pub use Rattle.addr2line_index.specs.Stretches
 pub use Rattle.addr2line_index.specs.StretchesLeft
@@ -36,6 +40,7 @@ pub use Rattle.gimli_lines_rows.specs.Error
 pub use Rattle.gimli_lines_rows.specs.RunTimeEndian
 pub use Rattle.gimli_lines_rows.specs.Iterators
 pub use Rattle.gimli_lines_rows.specs.Range
+pub use Rattle.gimli_dwarf.specs.CachedFiles
 pub use Rattle.gimli_dwarf.specs.SectionLoading
 pub use Rattle.gimli_dwarf.specs.DwarfFiles
 pub use Rattle.gimli_dwarf.specs.UnitFacts
@@ -48,5 +53,7 @@ pub use Rattle.gimli_lines_rows.specs.UnitHeaders
 pub mod LineProgramRuns
 pub mod FileTextLists
 pub mod LastFacts
-pub mod UnitAranges
+pub mod ArangeIndexes
 pub mod RangeListReading
+pub mod CountedRuns
+pub mod RootRanges

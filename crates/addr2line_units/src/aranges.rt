@@ -1,131 +1,89 @@
-//! The ranges of a unit in `.debug_aranges` (DWARF 5, 6.1.2).
+//! The ranges in the sets of `.debug_aranges` (DWARF 5, 6.1.2).
 
-ghost use Rattle.std.specs.Prelude.{◌≡◌, ◌≢◌, ◌++◌, ◌∷◌, [], Ok, OnOk, IfErr, None, Some};
+ghost use Rattle.std.specs.Prelude.{◌≡◌, ◌++◌, ◌∷◌, [], Ok, OnOk, IfOk, IfErr};
 ghost use Rattle.std.specs.Option.{option_to_list};
-ghost use Rattle.gimli_lines_rows.specs.Calls.{ReturnsAsOrNoMemory};
 ghost use Rattle.gimli_lines_rows.specs.Repetition.{fault_of};
 ghost use Rattle.gimli_lines_rows.specs.Error.TheVariants.{Memory};
 ghost use Rattle.gimli_lines_rows.specs.ArangeSets.{sets_to_come};
-ghost use Rattle.gimli_lines_rows.specs.Tiling.{whole_section};
-ghost use Rattle.addr2line_index.specs.UnitRanges.{range_of_arange, ranges_of_aranges};
-ghost use Rattle.addr2line_units.specs.UnitAranges.{ranges_to_come, ranges_of_sets};
+ghost use Rattle.addr2line_units.specs.ArangeIndexes.{arange_at, aranges_from, aranges_of_sets};
 
-use gimli_dwarf::{Dwarf, UnitRef};
+use crate::unit_arange::UnitArange;
 use gimli_lines_rows::{
-    ArangeEntry, ArangeEntryIter, ArangeHeader, ArangeHeaderIter, Error, Range, Reader,
-    ReaderOffset,
+    ArangeEntry, ArangeEntryIter, ArangeHeader, ArangeHeaderIter, Error, Reader, ReaderOffset,
 };
-use std::alloc::Global;
 
-// The addresses of an entry, unless there are none.
-fn range_of(entry: ArangeEntry) -> Option<Range>
-    ensures { result ≡ range_of_arange (Ok entry) }
+// The addresses of an entry of the set of the unit at an offset, unless there are none.
+fn arange_at(offset: u64, entry: ArangeEntry) -> Option<UnitArange>
+    ensures { result ≡ arange_at offset (Ok entry) }
 {
     if entry.length() == 0 {
         None
     } else {
-        Some(entry.range())
+        Some(UnitArange {
+            offset,
+            range: entry.range(),
+        })
     }
 }
 
-// Appends a range, if there is one.
-pub(crate) fn push_if_any(ranges: &mut Vec<Range>, range: Option<Range>) -> Result<(), Error>
-    ensures ok { OnOk result (ranges.new.items ≡ ranges.old.items ++ option_to_list range) }
+// Appends an item, if there is one.
+pub(crate) fn push_if_any<T: Drop>(items: &mut Vec<T>, item: Option<T>) -> Result<(), Error>
+    ensures ok { OnOk result (items.new.items ≡ items.old.items ++ option_to_list item) }
     ensures refusal { IfErr result (λ e. e ≡ Memory) }
 {
-    if let Some(range) = range {
-        ranges.push(range)?;
+    if let Some(item) = item {
+        items.push(item)?;
     }
     Ok(())
 }
 
-// Appends the ranges of the entries that are to come; one that is refused is skipped.
+// Appends the ranges of the entries that are to come, which are those of the unit at an offset; one
+// that is refused is skipped.
 fn push_entries<R: Reader>(
-    ranges: &mut Vec<Range>,
+    aranges: &mut Vec<UnitArange>,
+    offset: u64,
     mut entries: ArangeEntryIter<R>,
 ) -> Result<(), Error>
-    ensures ok { OnOk result (ranges.new.items ≡ ranges.old.items ++ ranges_to_come entries) }
+    ensures ok { OnOk result
+        (aranges.new.items ≡ aranges.old.items ++ aranges_from offset entries) }
     ensures refusal { IfErr result (λ e. e ≡ Memory) }
 {
     loop {
         match entries.next() {
             Ok(None) => return Ok(()),
-            Ok(Some(entry)) => push_if_any(ranges, range_of(entry))?,
+            Ok(Some(entry)) => push_if_any(aranges, arange_at(offset, entry))?,
             Err(_) => {}
         }
     }
 }
 
-// Appends the ranges of a set, if it is that of the unit at an offset.
-fn push_set<R: Reader>(
-    ranges: &mut Vec<Range>,
-    set: &ArangeHeader<R>,
-    offset: u64,
-) -> Result<(), Error>
+// Appends the ranges of a set.
+fn push_set<R: Reader>(aranges: &mut Vec<UnitArange>, set: &ArangeHeader<R>) -> Result<(), Error>
     ensures ok { OnOk result
-        (ranges.new.items ≡ ranges.old.items ++ ranges_of_sets offset (set.now ∷ [])) }
+        (aranges.new.items ≡ aranges.old.items ++ aranges_of_sets (set.now ∷ [])) }
     ensures refusal { IfErr result (λ e. e ≡ Memory) }
 {
-    if set.debug_info_offset().0.into_u64() == offset {
-        push_entries(ranges, set.entries()?)?;
-    }
-    Ok(())
+    let offset = set.debug_info_offset().0.into_u64();
+    push_entries(aranges, offset, set.entries()?)
 }
 
-// The ranges of those sets that are to come and belong to the unit at an offset. A set that can't
-// be read ends them.
-fn ranges_of_sets<R: Reader>(
-    alloc: Global,
+// Appends the ranges of the sets that are to come. A set that can't be read ends them, and is the
+// answer.
+pub(crate) fn push_sets<R: Reader>(
+    aranges: &mut Vec<UnitArange>,
     mut sets: ArangeHeaderIter<R>,
-    offset: u64,
-) -> Result<Vec<Range>, Error>
-    ensures { ReturnsAsOrNoMemory (λ v. v.items) result
-        (Ok (ranges_of_sets offset (sets_to_come R.Offset.limit sets).items)) }
+) -> Result<Option<Error>, Error>
+    ensures ok { OnOk result (aranges.new.items
+        ≡ aranges.old.items ++ aranges_of_sets (sets_to_come R.Offset.limit sets).items) }
+    ensures fault { IfOk result (λ fault. fault ≡ fault_of (sets_to_come R.Offset.limit sets)) }
+    ensures refusal { IfErr result (λ e. e ≡ Memory) }
 {
-    let mut ranges = Vec::new(alloc);
     loop {
         match sets.next() {
-            Ok(Some(set)) => push_set(&mut ranges, &set, offset)?,
+            Ok(Some(set)) => push_set(aranges, &set)?,
+            Ok(None) => return Ok(None),
             Err(Error::Memory) => return Err(Error::Memory),
-            Ok(None) | Err(_) => return Ok(ranges),
+            Err(fault) => return Ok(Some(fault)),
         }
     }
-}
-
-// The ranges of a unit in the section.
-pub(crate) fn ranges_of_aranges<R: Reader>(
-    alloc: Global,
-    unit: &UnitRef<'_, R>,
-) -> Result<Vec<Range>, Error>
-    ensures { ReturnsAsOrNoMemory (λ v. v.items) result
-        (Ok (ranges_of_aranges unit.now.file unit.now.facts.header.offset)) }
-{
-    let dwarf = unit.dwarf;
-    let unit = unit.unit;
-    let offset = unit.header.offset().0.into_u64();
-    ranges_of_sets(alloc, dwarf.debug_aranges.headers()?, offset)
-}
-
-/// Reads the headers of all sets of `.debug_aranges`, up to the first that can't be read. Takes
-/// memory only where parts of the reader do.
-pub fn check_aranges<R: Reader>(dwarf: &Dwarf<R>) -> Result<(), Error>
-    ensures ok { OnOk result
-        (fault_of (sets_to_come dwarf.now.offset_limit
-        (whole_section dwarf.now.sections.debug_aranges)) ≡ None) }
-    // Refused by the first fault, or when out of memory.
-    ensures refusal { IfErr result (λ e. e ≢ Memory
-        → fault_of (sets_to_come dwarf.now.offset_limit
-        (whole_section dwarf.now.sections.debug_aranges)) ≡ Some e) }
-{
-    check_sets(dwarf.debug_aranges.headers()?)
-}
-
-// Reads the headers that are to come.
-fn check_sets<R: Reader>(mut sets: ArangeHeaderIter<R>) -> Result<(), Error>
-    ensures ok { OnOk result (fault_of (sets_to_come R.Offset.limit sets) ≡ None) }
-    ensures refusal { IfErr result
-        (λ e. e ≢ Memory → fault_of (sets_to_come R.Offset.limit sets) ≡ Some e) }
-{
-    while sets.next()?.is_some() {}
-    Ok(())
 }

@@ -62,8 +62,8 @@ fn ranges_fact<R: Reader>(
     Ok(Fact::HasList(unit.attr_ranges_offset(value)?))
 }
 
-// What an attribute says, or why the address or the list that it names can't be read.
-pub(crate) fn fact_of<R: Reader>(
+/// What an attribute says of ranges, or why the address or the list that it names can't be read.
+pub fn fact_of<R: Reader>(
     unit: &UnitRef<'_, R>,
     attribute: &Attribute<R>,
 ) -> Result<Fact<R::Offset>, Error>

@@ -34,8 +34,8 @@ impl<O: ReaderOffset> Model for LastFacts<O> {
 }
 
 impl<O: ReaderOffset> LastFacts<O> {
-    // Before the first fact.
-    fn none() -> Self
+    /// Before the first fact.
+    pub fn none() -> Self
         ensures { result ≡ no_facts }
     {
         LastFacts {
@@ -46,8 +46,8 @@ impl<O: ReaderOffset> LastFacts<O> {
         }
     }
 
-    // Takes a further fact.
-    fn take(&mut self, fact: Fact<O>)
+    /// Takes a further fact.
+    pub fn take(&mut self, fact: Fact<O>)
         ensures { self.new ≡ with_fact (range_fact O.count fact) self.old }
     {
         match fact {

@@ -1,22 +1,28 @@
 //! The lines, the ranges and the language of a unit, read from its sections.
 #![tactic(auto)]
 
+pub mod arange_index;
 mod aranges;
-mod fact;
-mod facts;
+pub mod fact;
+pub mod facts;
 mod files;
 mod language;
 mod lists;
 mod partial;
-mod ranges;
+pub mod ranges;
+pub mod root;
 mod rows;
-pub mod unit;
+mod unit_arange;
+pub mod unit_lines;
 
 pub use addr2line_index::{
-    HasLines, Lines, LinesBuilder, Location, StretchesBetween, UnitRanges, UnitRangesBuilder,
-    file_text, file_text_of_bytes, is_rooted, join,
+    HasLines, LineIndex, Lines, LinesBuilder, Location, Probes, RangeIndex, Ranged,
+    StretchesBetween, UnitRanges, UnitRangesBuilder, file_text, file_text_of_bytes, is_rooted,
+    join,
 };
-pub use aranges::check_aranges;
+pub use arange_index::ArangeIndex;
+pub use fact::{Fact, fact_of};
+pub use facts::LastFacts;
 pub use gimli_dwarf::{
     DebugRanges, DebugRngLists, DebuggingInformationEntry, Dwarf, LocationLists, RangeLists, Unit,
     UnitRef,
@@ -31,5 +37,6 @@ pub use gimli_lines_rows::{
 };
 pub use language::language_of;
 pub use partial::is_partial;
-pub use ranges::{ranges_of_attributes, ranges_of_entry};
-pub use unit::lines_of_unit;
+pub use ranges::{RootRanges, entry_ranges, ranges_of_attributes, ranges_of_entry};
+pub use root::UnitRoot;
+pub use unit_lines::{Runs, UnitLines};

@@ -1,21 +1,27 @@
 //! The ranges that a unit covers (DWARF 5, 2.17 and 3.1.1).
 
-ghost use Rattle.std.specs.Prelude.{◌≡◌, Ok, map};
+ghost use Rattle.std.specs.Prelude.{◌≡◌, ◌+◌, Ok, OnOk, IfOk, map};
 ghost use Rattle.std.specs.Option.{option_to_list};
-ghost use Rattle.gimli_lines_rows.specs.Calls.{ReturnsAsOrNoMemory};
+ghost use Rattle.gimli_lines_rows.specs.Calls.{ReturnsAsOrNoMemory, ReturnsOrNoMemory};
 ghost use Rattle.gimli_dwarf.specs.EntryViews.{raw_attributes};
 ghost use Rattle.addr2line_index.specs.Lines.{range_of};
 ghost use Rattle.addr2line_index.specs.UnitRanges.{range_if_nonempty, low_to_high, or_else, ranges_of_aranges, ranges_of_lines, ranges_of_attributes};
 ghost use Rattle.addr2line_index.specs.EntryRanges.{ranges_of_entry};
+ghost use Rattle.addr2line_index.specs.UnitLines.{lines_of_unit};
+ghost use Rattle.addr2line_units.specs.ArangeIndexes.{IsIndexOf};
 ghost use Rattle.addr2line_units.specs.LastFacts.{root_range, declared_by, entry_ranges_by};
+ghost use Rattle.addr2line_units.specs.RootRanges.{ranges_by_run, RunsForRanges};
 
-use crate::aranges::{push_if_any, ranges_of_aranges};
+use crate::arange_index::ArangeIndex;
+use crate::aranges::push_if_any;
 use crate::facts::{LastFacts, facts_of};
 use crate::lists::listed_ranges;
-use addr2line_index::{LineSequence, Lines};
+use crate::unit_lines::{Runs, UnitLines};
+use addr2line_index::LineSequence;
 use gimli_dwarf::UnitRef;
 use gimli_lines_rows::{Attribute, Error, Range, Reader, ReaderOffset};
 use std::alloc::Global;
+use std::marker::Model;
 
 // A range, if it begins before it ends.
 fn range_if_nonempty(begin: u64, end: u64) -> Option<Range>
@@ -51,17 +57,33 @@ fn root_range<O: ReaderOffset>(facts: &LastFacts<O>) -> Option<Range>
 fn aranges_or<R: Reader>(
     alloc: Global,
     unit: &UnitRef<'_, R>,
+    aranges: &ArangeIndex,
     other: Option<Range>,
 ) -> Result<Vec<Range>, Error>
+    requires { IsIndexOf unit.now.file aranges.now }
     ensures { ReturnsAsOrNoMemory (λ v. v.items) result
         (Ok (or_else (ranges_of_aranges unit.now.file unit.now.facts.header.offset)
         (option_to_list other))) }
 {
-    let mut ranges = ranges_of_aranges(alloc, unit)?;
+    let mut ranges = aranges_of_unit(alloc, unit, aranges)?;
     if ranges.is_empty() {
         push_if_any(&mut ranges, other)?;
     }
     Ok(ranges)
+}
+
+// The ranges of a unit in `.debug_aranges`.
+fn aranges_of_unit<R: Reader>(
+    alloc: Global,
+    unit: &UnitRef<'_, R>,
+    aranges: &ArangeIndex,
+) -> Result<Vec<Range>, Error>
+    requires { IsIndexOf unit.now.file aranges.now }
+    ensures { ReturnsAsOrNoMemory (λ v. v.items) result
+        (Ok (ranges_of_aranges unit.now.file unit.now.facts.header.offset)) }
+{
+    let unit = unit.unit;
+    aranges.ranges_at(alloc, unit.header.offset().0.into_u64())
 }
 
 // What a unit declares: its range list, or else its address ranges, or else what low_pc and
@@ -69,14 +91,16 @@ fn aranges_or<R: Reader>(
 fn declared_ranges<R: Reader>(
     alloc: Global,
     unit: &UnitRef<'_, R>,
+    aranges: &ArangeIndex,
     facts: &LastFacts<R::Offset>,
 ) -> Result<Vec<Range>, Error>
+    requires { IsIndexOf unit.now.file aranges.now }
     ensures { ReturnsAsOrNoMemory (λ v. v.items) result
         (declared_by unit.now facts.now) }
 {
     match facts.list {
         Some(Some(offset)) => listed_ranges(alloc, unit, offset),
-        _ => aranges_or(alloc, unit, root_range(facts)),
+        _ => aranges_or(alloc, unit, aranges, root_range(facts)),
     }
 }
 
@@ -91,38 +115,91 @@ fn ranges_of_sequences(alloc: Global, sequences: &[LineSequence]) -> Result<Vec<
     Ok(ranges)
 }
 
-// Those that are declared, or else those of the lines. Refused lines have none.
-fn or_lines(
-    alloc: Global,
-    declared: Vec<Range>,
-    lines: &Result<Lines, Error>,
-) -> Result<Vec<Range>, Error>
-    ensures { ReturnsAsOrNoMemory (λ v. v.items) result
-        (Ok (or_else declared.items (ranges_of_lines lines.now))) }
+// Those of lines. Refused lines have none.
+fn ranges_of_lines(alloc: Global, lines: &Result<UnitLines, Error>) -> Result<Vec<Range>, Error>
+    ensures { ReturnsAsOrNoMemory (λ v. v.items) result (Ok (ranges_of_lines lines.now)) }
 {
     match lines {
-        Ok(lines) if declared.is_empty() => ranges_of_sequences(alloc, lines.sequences()),
-        _ => Ok(declared),
+        Ok(lines) => ranges_of_sequences(alloc, lines.lines().sequences()),
+        Err(_) => Ok(Vec::new(alloc)),
     }
 }
 
+/// The ranges of a unit, and its lines, or why they can't be read, where its line number program
+/// was run for the ranges.
+#[derive(Drop)]
+pub struct RootRanges {
+    pub ranges: Vec<Range>,
+    pub lines: Option<Result<UnitLines, Error>>,
+}
+
+impl Model for RootRanges {
+    ghost use Rattle.addr2line_units.specs.RootRanges.{RootRanges as Found};
+
+    ghost Value = { Found };
+
+    ghost view = { λ r. record { ranges = r.ranges.items; lines = r.lines } };
+}
+
+// The ranges of a unit's lines, with the lines.
+fn ranges_by_run<R: Reader>(
+    alloc: Global,
+    unit: &UnitRef<'_, R>,
+    runs: &mut Runs,
+) -> Result<RootRanges, Error>
+    ensures value { ReturnsOrNoMemory result (Ok (ranges_by_run unit.now)) }
+    ensures counted { OnOk result (runs.new ≡ runs.old + 1) }
+{
+    let lines = UnitLines::run_to_keep(alloc, unit, runs)?;
+    let ranges = ranges_of_lines(alloc, &lines)?;
+    Ok(RootRanges {
+        ranges,
+        lines: Some(lines),
+    })
+}
+
+// Those that are declared, or else those of the unit's lines.
+fn or_by_run<R: Reader>(
+    alloc: Global,
+    unit: &UnitRef<'_, R>,
+    runs: &mut Runs,
+    declared: Vec<Range>,
+) -> Result<RootRanges, Error>
+    ensures ranges { ReturnsAsOrNoMemory (λ r. r.ranges) result
+        (Ok (or_else declared.items (ranges_of_lines (lines_of_unit unit.now)))) }
+    ensures lines { IfOk result
+        (λ r. RunsForRanges unit.now r.ranges r.lines runs.old runs.new) }
+{
+    if declared.is_empty() {
+        return ranges_by_run(alloc, unit, runs);
+    }
+    Ok(RootRanges {
+        ranges: declared,
+        lines: None,
+    })
+}
+
 /// The ranges of a unit whose root has these attributes: those that it declares, or else those of
-/// its lines. Declared they are by its range list, or else by `.debug_aranges`, or else by low_pc
-/// and high_pc. Refused is an attribute whose address or list can't be read, the first of them, and
-/// then a range list.
+/// its lines, for which its line number program is run. Declared they are by its range list, or
+/// else by `.debug_aranges`, or else by low_pc and high_pc. Refused is an attribute whose address
+/// or list can't be read, the first of them, and then a range list.
 pub fn ranges_of_attributes<R: Reader>(
     alloc: Global,
     unit: &UnitRef<'_, R>,
-    lines: &Result<Lines, Error>,
+    aranges: &ArangeIndex,
+    runs: &mut Runs,
     attributes: &[Attribute<R>],
-) -> Result<Vec<Range>, Error>
-    ensures { ReturnsAsOrNoMemory (λ v. v.items) result
-        (ranges_of_attributes unit.now lines.now
+) -> Result<RootRanges, Error>
+    requires index { IsIndexOf unit.now.file aranges.now }
+    ensures ranges { ReturnsAsOrNoMemory (λ r. r.ranges) result
+        (ranges_of_attributes unit.now (lines_of_unit unit.now)
         (raw_attributes R.view R.Offset.count attributes.now)) }
+    ensures lines { IfOk result
+        (λ r. RunsForRanges unit.now r.ranges r.lines runs.old runs.new) }
 {
     let facts = facts_of(unit, attributes)?;
-    let declared = declared_ranges(alloc, unit, &facts)?;
-    or_lines(alloc, declared, lines)
+    let declared = declared_ranges(alloc, unit, aranges, &facts)?;
+    or_by_run(alloc, unit, runs, declared)
 }
 
 // A range as a list, if there is one.
@@ -134,8 +211,8 @@ fn list_of_range(alloc: Global, range: Option<Range>) -> Result<Vec<Range>, Erro
     Ok(ranges)
 }
 
-// What an entry with these facts declares: its range list, or else what low_pc and high_pc say.
-fn entry_ranges<R: Reader>(
+/// What an entry with these facts declares: its range list, or else what low_pc and high_pc say.
+pub fn entry_ranges<R: Reader>(
     alloc: Global,
     unit: &UnitRef<'_, R>,
     facts: &LastFacts<R::Offset>,

@@ -16,7 +16,7 @@ pub fn name_of_unit<R: Reader>(
     header: UnitHeader<R>,
 ) -> Result<Option<R>, Error>
     ensures { ReturnsAsOrNoMemory (option_map R.view) result
-        (name_of_unit sections.now header) }
+        (name_of_unit sections.now.file header) }
 {
     let Unit { name, .. } = sections.unit(alloc, header)?;
     Ok(name)

@@ -14,11 +14,12 @@ pub fn source_line<R: Reader>(
     sections: Dwarf<R>,
     address: u64,
 ) -> Result<Option<u32>, Error>
-    ensures { ReturnsOrNoMemory result (source_line sections address) }
+    ensures { ReturnsOrNoMemory result (source_line sections.file address) }
 {
-    let context = Context::from_dwarf(alloc, sections)?;
-    match context.find_location(address)? {
-        Some(location) => Ok(location.line),
-        None => Ok(None),
+    let mut context = Context::from_dwarf(alloc, sections)?;
+    match context.find_location(address) {
+        Ok(Some(location)) => Ok(location.line),
+        Ok(None) => Ok(None),
+        Err(error) => Err(error),
     }
 }

@@ -1,29 +1,32 @@
 //! Attributes (DWARF 5, 7.5.4 to 7.5.6).
 
+use crate::answer::Answer;
 use crate::case::Case;
 use crate::sections::Sections;
-use crate::text;
 use gimli_core::{DebugStr, DwForm, Error, Reader, ReaderOffset};
 use gimli_units::{Attribute, AttributeValue, parse_attribute, skip_attributes};
 use std::alloc::Global;
 
-/// Answers a question about attributes, if it is one.
-pub fn answer<R: Reader>(
-    alloc: Global,
-    case: &Case,
-    sections: &mut Sections<R>,
-    out: &mut String,
-) -> Result<bool, Error> {
+/// Answers a question about attributes.
+pub fn answer<R: Reader>(alloc: Global, case: &Case, sections: Sections<R>, out: &mut Answer) {
+    let mut reader = sections.first;
     match case.operation.as_str() {
-        "attributes" => attributes(alloc, case, &mut sections.first, out)?,
-        "attribute_numbers" => numbers(case, &mut sections.first, out)?,
-        "attribute_offset" => offset(case, &mut sections.first, out)?,
-        "attribute_string" => string(alloc, case, sections, out)?,
-        "attribute_expression" => expression(alloc, case, sections, out)?,
-        "skip_attributes" => after_skipping(alloc, case, &mut sections.first, out)?,
-        _ => return Ok(false),
+        "attributes" => attributes(case, &mut reader, out),
+        "skip_attributes" => after_skipping(alloc, case, &mut reader, out),
+        _ => match first(case, &mut reader) {
+            Ok(attribute) => parts(case, &attribute, sections.second, out),
+            Err(error) => out.refuse(error),
+        },
     }
-    Ok(true)
+}
+
+fn parts<R: Reader>(case: &Case, attribute: &Attribute<R>, strings: R, out: &mut Answer) {
+    match case.operation.as_str() {
+        "attribute_numbers" => numbers(attribute, out),
+        "attribute_offset" => out.code(&attribute.offset_value()),
+        "attribute_string" => string(attribute, strings, out),
+        _ => expression(attribute, out),
+    }
 }
 
 // The attribute of the first form.
@@ -36,156 +39,144 @@ fn first<R: Reader>(case: &Case, reader: &mut R) -> Result<Attribute<R>, Error> 
 }
 
 // The attributes of the forms, and the bytes left.
-fn attributes<R: Reader>(
-    alloc: Global,
-    case: &Case,
-    reader: &mut R,
-    out: &mut String,
-) -> Result<(), Error> {
+fn attributes<R: Reader>(case: &Case, reader: &mut R, out: &mut Answer) {
     for form in case.forms.iter() {
-        let attribute = parse_attribute(reader, case.encoding(), case.specification(*form))?;
-        value(alloc, &attribute.raw_value()?, out)?;
-        value(alloc, &attribute.value()?, out)?;
+        match parse_attribute(reader, case.encoding(), case.specification(*form)) {
+            Ok(attribute) => {
+                value_of(&attribute.raw_value(), out);
+                value_of(&attribute.value(), out);
+            }
+            Err(error) => {
+                out.refuse(error);
+                return;
+            }
+        }
     }
-    out.push_str(" left ")?;
-    text::bytes(alloc, out, reader)?;
-    Ok(())
+    out.text(" left ");
+    out.bytes(reader);
+}
+
+fn value_of<R: Reader>(found: &Result<AttributeValue<R>, Error>, out: &mut Answer) {
+    match found {
+        Ok(found) => value(found, out),
+        Err(error) => out.refuse(*error),
+    }
+}
+
+/// A value that an entry may have.
+pub fn value_if_any<R: Reader>(found: &Result<Option<AttributeValue<R>>, Error>, out: &mut Answer) {
+    match found {
+        Ok(Some(found)) => value(found, out),
+        Ok(None) => {}
+        Err(error) => out.refuse(*error),
+    }
 }
 
 /// A value: its kind, and its number, or how many bytes it has and its text.
-pub fn value<R: Reader>(
-    alloc: Global,
-    value: &AttributeValue<R>,
-    out: &mut String,
-) -> Result<(), Error> {
-    if let AttributeValue::Sdata(number) = value {
-        write!(out, "[Sdata {number}]")?;
-        return Ok(());
-    }
-    let (kind, number) = match value {
-        AttributeValue::String(_) | AttributeValue::Block(_) | AttributeValue::Exprloc(_) => {
-            bytes_of(value)
+pub fn value<R: Reader>(value: &AttributeValue<R>, out: &mut Answer) {
+    out.text("[");
+    match value {
+        AttributeValue::String(text) => {
+            kind("String", text.len().into_u64(), out);
+            out.text(" ");
+            out.lossy(text);
         }
-        AttributeValue::DebugStrRef(_)
-        | AttributeValue::DebugStrRefSup(_)
-        | AttributeValue::DebugStrOffsetsBase(_)
-        | AttributeValue::DebugStrOffsetsIndex(_)
-        | AttributeValue::DebugLineStrRef(_) => string_of(value),
-        _ => number_of(value),
-    };
-    write!(out, "[{kind} {number}")?;
-    if let AttributeValue::String(text) = value {
-        out.push_str(" ")?;
-        text::lossy(alloc, out, text)?;
+        AttributeValue::Block(bytes) => kind("Block", bytes.len().into_u64(), out),
+        AttributeValue::Exprloc(expression) => {
+            kind("Exprloc", expression.0.len().into_u64(), out);
+        }
+        AttributeValue::Sdata(number) => {
+            out.text("Sdata ");
+            out.value(number);
+        }
+        _ => number_of(value, out),
     }
-    out.push_str("]")?;
-    Ok(())
+    out.text("]");
 }
 
-fn bytes_of<R: Reader>(value: &AttributeValue<R>) -> (&'static str, u64) {
-    match value {
-        AttributeValue::String(bytes) => ("String", bytes.len().into_u64()),
-        AttributeValue::Block(bytes) => ("Block", bytes.len().into_u64()),
-        AttributeValue::Exprloc(expression) => ("Exprloc", expression.0.len().into_u64()),
-        _ => ("other", 0),
-    }
+fn kind(kind: &str, number: u64, out: &mut Answer) {
+    out.text(kind);
+    out.text(" ");
+    out.value(&number);
 }
 
-fn string_of<R: Reader>(value: &AttributeValue<R>) -> (&'static str, u64) {
+fn number_of<R: Reader>(value: &AttributeValue<R>, out: &mut Answer) {
     match value {
-        AttributeValue::DebugStrRef(to) => ("DebugStrRef", to.0.into_u64()),
-        AttributeValue::DebugStrRefSup(to) => ("DebugStrRefSup", to.0.into_u64()),
-        AttributeValue::DebugStrOffsetsBase(to) => ("DebugStrOffsetsBase", to.0.into_u64()),
-        AttributeValue::DebugStrOffsetsIndex(to) => ("DebugStrOffsetsIndex", to.0.into_u64()),
-        AttributeValue::DebugLineStrRef(to) => ("DebugLineStrRef", to.0.into_u64()),
-        _ => ("other", 0),
+        AttributeValue::Addr(address) => kind("Addr", *address, out),
+        AttributeValue::Data1(number) => kind("Data1", u64::from(*number), out),
+        AttributeValue::Data2(number) => kind("Data2", u64::from(*number), out),
+        AttributeValue::Data4(number) => kind("Data4", u64::from(*number), out),
+        AttributeValue::Data8(number) => kind("Data8", *number, out),
+        AttributeValue::Udata(number) => kind("Udata", *number, out),
+        AttributeValue::Flag(is_set) => kind("Flag", u64::from(*is_set), out),
+        AttributeValue::FileIndex(number) => kind("FileIndex", *number, out),
+        AttributeValue::Language(language) => kind("Language", u64::from(language.0), out),
+        _ => offset_of(value, out),
     }
 }
 
-fn number_of<R: Reader>(value: &AttributeValue<R>) -> (&'static str, u64) {
+fn offset_of<R: Reader>(value: &AttributeValue<R>, out: &mut Answer) {
     match value {
-        AttributeValue::Addr(address) => ("Addr", *address),
-        AttributeValue::Data1(number) => ("Data1", u64::from(*number)),
-        AttributeValue::Data2(number) => ("Data2", u64::from(*number)),
-        AttributeValue::Data4(number) => ("Data4", u64::from(*number)),
-        AttributeValue::Data8(number) => ("Data8", *number),
-        AttributeValue::Udata(number) => ("Udata", *number),
-        AttributeValue::Flag(is_set) => ("Flag", u64::from(*is_set)),
-        AttributeValue::FileIndex(number) => ("FileIndex", *number),
-        AttributeValue::Language(language) => ("Language", u64::from(language.0)),
-        _ => offset_of(value),
+        AttributeValue::SecOffset(to) => kind("SecOffset", to.into_u64(), out),
+        AttributeValue::UnitRef(to) => kind("UnitRef", to.0.into_u64(), out),
+        AttributeValue::DebugInfoRef(to) => kind("DebugInfoRef", to.0.into_u64(), out),
+        AttributeValue::DebugLineRef(to) => kind("DebugLineRef", to.0.into_u64(), out),
+        AttributeValue::RangeListsRef(to) => kind("RangeListsRef", to.0.into_u64(), out),
+        AttributeValue::DebugAddrIndex(to) => kind("DebugAddrIndex", to.0.into_u64(), out),
+        _ => string_of(value, out),
     }
 }
 
-fn offset_of<R: Reader>(value: &AttributeValue<R>) -> (&'static str, u64) {
+fn string_of<R: Reader>(value: &AttributeValue<R>, out: &mut Answer) {
     match value {
-        AttributeValue::SecOffset(to) => ("SecOffset", to.into_u64()),
-        AttributeValue::UnitRef(to) => ("UnitRef", to.0.into_u64()),
-        AttributeValue::DebugInfoRef(to) => ("DebugInfoRef", to.0.into_u64()),
-        AttributeValue::DebugLineRef(to) => ("DebugLineRef", to.0.into_u64()),
-        AttributeValue::RangeListsRef(to) => ("RangeListsRef", to.0.into_u64()),
-        AttributeValue::DebugAddrIndex(to) => ("DebugAddrIndex", to.0.into_u64()),
-        _ => ("other", 0),
+        AttributeValue::DebugStrRef(to) => kind("DebugStrRef", to.0.into_u64(), out),
+        AttributeValue::DebugStrRefSup(to) => kind("DebugStrRefSup", to.0.into_u64(), out),
+        AttributeValue::DebugStrOffsetsBase(to) => {
+            kind("DebugStrOffsetsBase", to.0.into_u64(), out);
+        }
+        AttributeValue::DebugStrOffsetsIndex(to) => {
+            kind("DebugStrOffsetsIndex", to.0.into_u64(), out);
+        }
+        AttributeValue::DebugLineStrRef(to) => kind("DebugLineStrRef", to.0.into_u64(), out),
+        _ => kind("other", 0, out),
     }
 }
 
 // The attribute as a number of 8, 16 and 64 bits, and with a sign.
-fn numbers<R: Reader>(case: &Case, reader: &mut R, out: &mut String) -> Result<(), Error> {
-    let attribute = first(case, reader)?;
-    let (small, middle) = (attribute.u8_value(), attribute.u16_value());
-    let (unsigned, signed) = (attribute.udata_value(), attribute.sdata_value());
-    write!(out, "{small:?} {middle:?} {unsigned:?} {signed:?}")?;
-    Ok(())
-}
-
-fn offset<R: Reader>(case: &Case, reader: &mut R, out: &mut String) -> Result<(), Error> {
-    let attribute = first(case, reader)?;
-    write!(out, "{:?}", attribute.offset_value())?;
-    Ok(())
+fn numbers<R: Reader>(attribute: &Attribute<R>, out: &mut Answer) {
+    out.word(&attribute.u8_value());
+    out.word(&attribute.u16_value());
+    out.word(&attribute.udata_value());
+    out.code(&attribute.sdata_value());
 }
 
 // The attribute's text, its own or one of the second section.
-fn string<R: Reader>(
-    alloc: Global,
-    case: &Case,
-    sections: &mut Sections<R>,
-    out: &mut String,
-) -> Result<(), Error> {
-    let attribute = first(case, &mut sections.first)?;
-    let strings = DebugStr::from(sections.second.copy()?);
-    match attribute.string_value(&strings)? {
-        Some(text) => text::lossy(alloc, out, &text),
-        None => Ok(out.push_str("none")?),
+fn string<R: Reader>(attribute: &Attribute<R>, strings: R, out: &mut Answer) {
+    match attribute.string_value(&DebugStr::from(strings)) {
+        Ok(Some(text)) => out.lossy(&text),
+        Ok(None) => out.text("none"),
+        Err(error) => out.refuse(error),
     }
 }
 
-fn expression<R: Reader>(
-    alloc: Global,
-    case: &Case,
-    sections: &mut Sections<R>,
-    out: &mut String,
-) -> Result<(), Error> {
-    let attribute = first(case, &mut sections.first)?;
-    match attribute.exprloc_value()? {
-        Some(expression) => Ok(text::bytes(alloc, out, &expression.0)?),
-        None => Ok(out.push_str("none")?),
+fn expression<R: Reader>(attribute: &Attribute<R>, out: &mut Answer) {
+    match attribute.exprloc_value() {
+        Ok(Some(expression)) => out.bytes(&expression.0),
+        Ok(None) => out.text("none"),
+        Err(error) => out.refuse(error),
     }
 }
 
 // The bytes left after the attributes of the forms are skipped, and a refusal.
-fn after_skipping<R: Reader>(
-    alloc: Global,
-    case: &Case,
-    reader: &mut R,
-    out: &mut String,
-) -> Result<(), Error> {
-    let all = case.specifications(alloc)?;
-    let outcome = skip_attributes(reader, case.encoding(), &all);
-    out.push_str("left ")?;
-    text::bytes(alloc, out, reader)?;
+fn after_skipping<R: Reader>(alloc: Global, case: &Case, reader: &mut R, out: &mut Answer) {
+    let outcome = match case.specifications(alloc) {
+        Ok(all) => skip_attributes(reader, case.encoding(), &all),
+        Err(error) => Err(error),
+    };
+    out.text("left ");
+    out.bytes(reader);
     if let Err(error) = outcome {
-        out.push_str(" ")?;
-        text::refusal(out, error)?;
+        out.text(" ");
+        out.refuse(error);
     }
-    Ok(())
 }

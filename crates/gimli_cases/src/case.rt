@@ -185,12 +185,13 @@ impl Case {
         T::try_from(self.value).map_err(|_| write::Error::ValueTooLarge)
     }
 
-    pub fn base<O: ReaderOffset>(&self) -> Result<O, Error> {
-        O::from_u64(self.base)
-    }
-
-    pub fn index<O: ReaderOffset>(&self) -> Result<O, Error> {
-        O::from_u64(self.index)
+    /// The base and the index.
+    pub fn base_and_index<O: ReaderOffset>(&self) -> Result<(O, O), Error> {
+        match (O::from_u64(self.base), O::from_u64(self.index)) {
+            (Ok(base), Ok(index)) => Ok((base, index)),
+            (Err(error), _) => Err(error),
+            (_, Err(error)) => Err(error),
+        }
     }
 
     /// The attribute of a form, with `signed` as its constant where the form has one.

@@ -1,180 +1,189 @@
 //! Line number programs (DWARF 4, 6.2; DWARF 5, 6.2).
 
+use crate::answer::Answer;
+use crate::attributes;
 use crate::case::Case;
 use crate::sections::Sections;
-use crate::{attributes, text};
 use gimli_core::{DebugLineOffset, Error, Reader};
 use gimli_lines::{
     ColumnType, CompleteLineProgram, DebugLine, FileEntry, IncompleteLineProgram, LineInstruction,
-    LineProgramHeader, LineRow, LineSequence, ProgramInstructions,
+    LineProgramHeader, LineRow, LineRows, LineSequence, ProgramInstructions,
 };
 use std::alloc::Global;
 
-/// Answers a question about line number programs, if it is one. The second and third sections are
-/// the unit's directory and name.
-pub fn answer<R: Reader>(
-    alloc: Global,
-    case: &Case,
-    sections: &Sections<R>,
-    out: &mut String,
-) -> Result<bool, Error> {
-    match case.operation.as_str() {
-        "line_header" => line_header(alloc, &header(alloc, case, sections)?, out)?,
-        "line_files" => files(alloc, &header(alloc, case, sections)?, out)?,
-        "line_formats" => formats(&header(alloc, case, sections)?, out)?,
-        "line_rows" => rows(alloc, header(alloc, case, sections)?, out)?,
-        "line_instructions" => instructions(&header(alloc, case, sections)?, out)?,
-        "line_sequences" => sequences(alloc, header(alloc, case, sections)?, out)?,
-        _ => return Ok(false),
+/// Answers a question about line number programs. The second and third sections are the unit's
+/// directory and name.
+pub fn answer<R: Reader>(alloc: Global, case: &Case, sections: Sections<R>, out: &mut Answer) {
+    match header(alloc, case, sections) {
+        Ok(header) => match case.operation.as_str() {
+            "line_header" => line_header(&header, out),
+            "line_files" => files(&header, out),
+            "line_formats" => formats(&header, out),
+            "line_rows" => rows(header, out),
+            "line_instructions" => instructions(&header, out),
+            _ => sequences(alloc, header, out),
+        },
+        Err(error) => out.refuse(error),
     }
-    Ok(true)
 }
 
 fn header<R: Reader>(
     alloc: Global,
     case: &Case,
-    sections: &Sections<R>,
+    sections: Sections<R>,
 ) -> Result<LineProgramHeader<R>, Error> {
-    let (directory, name) = (sections.second.copy()?, sections.third.copy()?);
-    let section = DebugLine::from(sections.first.copy()?);
-    let offset = DebugLineOffset(case.offset()?);
-    let size = case.encoding().address_size;
-    match size {
-        1 | 2 | 4 | 8 => section.header(alloc, offset, size, Some(directory), Some(name)),
-        _ => Err(Error::UnsupportedAddressSize(size)),
+    let (directory, name) = (sections.second, sections.third);
+    let section = DebugLine::from(sections.first);
+    let size = case.address_size;
+    match (case.offset(), size) {
+        (Ok(offset), 1 | 2 | 4 | 8) => {
+            let offset = DebugLineOffset(offset);
+            section.header(alloc, offset, size, Some(directory), Some(name))
+        }
+        (Ok(_), _) => Err(Error::UnsupportedAddressSize(size)),
+        (Err(error), _) => Err(error),
     }
 }
 
 // The fields of a header.
-fn line_header<R: Reader>(
-    alloc: Global,
-    header: &LineProgramHeader<R>,
-    out: &mut String,
-) -> Result<(), Error> {
-    let (offset, length) = (header.offset().0, header.unit_length());
-    write!(out, "{offset:?} {length:?} {:?} ", header.header_length())?;
-    write!(out, "{:?} {:?} ", header.encoding(), header.line_encoding())?;
-    write!(out, "{} ", header.opcode_base())?;
-    text::bytes(alloc, out, header.standard_opcode_lengths())?;
-    out.push_str(" ")?;
-    text::bytes(alloc, out, &header.raw_program_buf()?)?;
-    Ok(())
+fn line_header<R: Reader>(header: &LineProgramHeader<R>, out: &mut Answer) {
+    out.word(&header.offset().0);
+    out.word(&header.unit_length());
+    out.word(&header.header_length());
+    out.word(&header.encoding());
+    out.word(&header.line_encoding());
+    out.word(&header.opcode_base());
+    out.bytes(header.standard_opcode_lengths());
+    out.text(" ");
+    match header.raw_program_buf() {
+        Ok(program) => out.bytes(&program),
+        Err(error) => out.refuse(error),
+    }
 }
 
 // What the files have, and how they are described.
-fn formats<R: Reader>(header: &LineProgramHeader<R>, out: &mut String) -> Result<(), Error> {
-    for (is_there, word) in [
-        (header.file_has_timestamp(), "[timestamp]"),
-        (header.file_has_size(), "[size]"),
-        (header.file_has_md5(), "[md5]"),
-        (header.file_has_source(), "[source]"),
-    ] {
-        if is_there {
-            out.push_str(word)?;
-        }
-    }
+fn formats<R: Reader>(header: &LineProgramHeader<R>, out: &mut Answer) {
+    out.text_if(header.file_has_timestamp(), "[timestamp]");
+    out.text_if(header.file_has_size(), "[size]");
+    out.text_if(header.file_has_md5(), "[md5]");
+    out.text_if(header.file_has_source(), "[source]");
     for format in header.file_name_entry_format() {
-        write!(out, "[{:?} {:?}]", format.content_type, format.form)?;
+        out.text("[");
+        out.word(&format.content_type);
+        out.code(&format.form);
+        out.text("]");
     }
-    Ok(())
 }
 
 // The directories and the files, from 0 on.
-fn files<R: Reader>(
-    alloc: Global,
-    header: &LineProgramHeader<R>,
-    out: &mut String,
-) -> Result<(), Error> {
+fn files<R: Reader>(header: &LineProgramHeader<R>, out: &mut Answer) {
     for number in 0..4 {
         if let Some(directory) = header.directory(number) {
-            write!(out, "{number}")?;
-            attributes::value(alloc, directory, out)?;
+            out.value(&number);
+            attributes::value(directory, out);
         }
     }
     for number in 0..4 {
         if let Some(found) = header.file(number) {
-            write!(out, " {number}")?;
-            file(alloc, found, out)?;
+            out.text(" ");
+            out.value(&number);
+            file(found, out);
         }
     }
-    Ok(())
 }
 
-fn file<R: Reader>(alloc: Global, file: &FileEntry<R>, out: &mut String) -> Result<(), Error> {
-    attributes::value(alloc, file.path_name(), out)?;
-    let (directory, timestamp) = (file.directory_index(), file.timestamp());
-    write!(out, "{directory} {timestamp} {} ", file.size())?;
-    out.push_str(&hex::encode(alloc, file.md5().as_slice())?)?;
+fn file<R: Reader>(file: &FileEntry<R>, out: &mut Answer) {
+    attributes::value(file.path_name(), out);
+    out.word(&file.directory_index());
+    out.word(&file.timestamp());
+    out.word(&file.size());
+    out.digits(file.md5().as_slice());
     if let Some(source) = file.source() {
-        attributes::value(alloc, source, out)?;
+        attributes::value(source, out);
     }
-    Ok(())
 }
 
-// The rows, with a refusal in its place.
-fn rows<R: Reader>(
-    alloc: Global,
-    header: LineProgramHeader<R>,
-    out: &mut String,
-) -> Result<(), Error> {
-    let mut rows = IncompleteLineProgram::new(header).rows()?;
-    for _ in 0..20 {
-        match rows.next_row() {
-            Ok(Some((_, found))) => row(found, out)?,
-            Ok(None) => break,
-            Err(error) => text::refusal(out, error)?,
+// The rows, with a refusal in its place, and the files after them.
+fn rows<R: Reader>(header: LineProgramHeader<R>, out: &mut Answer) {
+    match IncompleteLineProgram::new(header).rows() {
+        Ok(mut rows) => {
+            for _ in 0..20 {
+                if !next_row(&mut rows, out) {
+                    break;
+                }
+            }
+            out.text(" ");
+            files(rows.header(), out);
+        }
+        Err(error) => out.refuse(error),
+    }
+}
+
+// The next row or a refusal; whether there is one.
+fn next_row<R: Reader>(rows: &mut LineRows<R, IncompleteLineProgram<R>>, out: &mut Answer) -> bool {
+    match rows.next_row() {
+        Ok(Some((_, found))) => {
+            row(found, out);
+            true
+        }
+        Ok(None) => false,
+        Err(error) => {
+            out.refuse(error);
+            true
         }
     }
-    out.push_str(" ")?;
-    files(alloc, rows.header(), out)
 }
 
-fn row(row: &LineRow, out: &mut String) -> Result<(), Error> {
-    let line = row.line().map_or(0, |line| line.get());
-    write!(
-        out,
-        "[{:#x} {} file {} line {line}",
-        row.address(),
-        row.op_index(),
-        row.file_index()
-    )?;
+fn row(row: &LineRow, out: &mut Answer) {
+    out.text("[");
+    out.hex(row.address());
+    out.text(" ");
+    out.word(&row.op_index());
+    out.text("file ");
+    out.word(&row.file_index());
+    out.text("line ");
+    out.value(&line_of(row));
     if let ColumnType::Column(column) = row.column() {
-        write!(out, " column {}", column.get())?;
+        out.text(" column ");
+        out.value(&column.get());
     }
-    for (is_set, word) in [
-        (row.is_stmt(), " is_stmt"),
-        (row.basic_block(), " basic_block"),
-        (row.end_sequence(), " end_sequence"),
-        (row.prologue_end(), " prologue_end"),
-        (row.epilogue_begin(), " epilogue_begin"),
-    ] {
-        if is_set {
-            out.push_str(word)?;
-        }
+    out.text_if(row.is_stmt(), " is_stmt");
+    out.text_if(row.basic_block(), " basic_block");
+    out.text_if(row.end_sequence(), " end_sequence");
+    out.text_if(row.prologue_end(), " prologue_end");
+    out.text_if(row.epilogue_begin(), " epilogue_begin");
+    out.text(" isa ");
+    out.word(&row.isa());
+    out.text("discriminator ");
+    out.code(&row.discriminator());
+    out.text("]");
+}
+
+// The line of a row, 0 for none.
+fn line_of(row: &LineRow) -> u64 {
+    match row.line() {
+        Some(line) => line.get(),
+        None => 0,
     }
-    write!(
-        out,
-        " isa {} discriminator {}]",
-        row.isa(),
-        row.discriminator()
-    )?;
-    Ok(())
 }
 
 // The instructions, with a refusal in its place.
-fn instructions<R: Reader>(header: &LineProgramHeader<R>, out: &mut String) -> Result<(), Error> {
-    let mut instructions = header.instructions()?;
-    for _ in 0..40 {
-        match instructions.next_instruction(header) {
-            Ok(Some(found)) => instruction(&found, out)?,
-            Ok(None) => break,
-            Err(error) => text::refusal(out, error)?,
+fn instructions<R: Reader>(header: &LineProgramHeader<R>, out: &mut Answer) {
+    match header.instructions() {
+        Ok(mut instructions) => {
+            for _ in 0..40 {
+                match instructions.next_instruction(header) {
+                    Ok(Some(found)) => instruction(&found, out),
+                    Ok(None) => break,
+                    Err(error) => out.refuse(error),
+                }
+            }
         }
+        Err(error) => out.refuse(error),
     }
-    Ok(())
 }
 
-fn instruction<R: Reader>(found: &LineInstruction<R>, out: &mut String) -> Result<(), Error> {
+fn instruction<R: Reader>(found: &LineInstruction<R>, out: &mut Answer) {
     let (kind, operand) = match found {
         LineInstruction::Special(opcode) => ("Special", u64::from(*opcode)),
         LineInstruction::AdvancePc(operations) => ("AdvancePc", *operations),
@@ -189,8 +198,11 @@ fn instruction<R: Reader>(found: &LineInstruction<R>, out: &mut String) -> Resul
         LineInstruction::UnknownExtended(opcode, _) => ("UnknownExtended", u64::from(opcode.0)),
         other => (name_of(other), 0),
     };
-    write!(out, "[{kind} {operand}]")?;
-    Ok(())
+    out.text("[");
+    out.text(kind);
+    out.text(" ");
+    out.value(&operand);
+    out.text("]");
 }
 
 // The name of an instruction without an operand that is printed.
@@ -208,30 +220,38 @@ fn name_of<R: Reader>(instruction: &LineInstruction<R>) -> &'static str {
 }
 
 // The sequences, each with the rows that it gives when it is resumed.
-fn sequences<R: Reader>(
-    alloc: Global,
-    header: LineProgramHeader<R>,
-    out: &mut String,
-) -> Result<(), Error> {
-    let (program, sequences) = IncompleteLineProgram::new(header).sequences(alloc)?;
-    for sequence in sequences.iter() {
-        write!(out, "{:#x} {:#x}", sequence.start, sequence.end)?;
-        resumed(&program, sequence, out)?;
+fn sequences<R: Reader>(alloc: Global, header: LineProgramHeader<R>, out: &mut Answer) {
+    match IncompleteLineProgram::new(header).sequences(alloc) {
+        Ok((program, sequences)) => {
+            for sequence in sequences.iter() {
+                out.hex(sequence.start);
+                out.text(" ");
+                out.hex(sequence.end);
+                resumed(&program, sequence, out);
+            }
+        }
+        Err(error) => out.refuse(error),
     }
-    Ok(())
 }
 
 fn resumed<R: Reader>(
     program: &CompleteLineProgram<R>,
     sequence: &LineSequence<R>,
-    out: &mut String,
-) -> Result<(), Error> {
-    let mut rows = program.resume_from(sequence)?;
-    for _ in 0..20 {
-        if !rows.advance()? {
-            break;
+    out: &mut Answer,
+) {
+    match program.resume_from(sequence) {
+        Ok(mut rows) => {
+            for _ in 0..20 {
+                match rows.advance() {
+                    Ok(true) => row(rows.row(), out),
+                    Ok(false) => break,
+                    Err(error) => {
+                        out.refuse(error);
+                        break;
+                    }
+                }
+            }
         }
-        row(rows.row(), out)?;
+        Err(error) => out.refuse(error),
     }
-    Ok(())
 }

@@ -1,240 +1,329 @@
 //! Range lists and location lists (DWARF 4, 2.6.2 and 2.17.3; DWARF 5, 7.25, 7.28 and 7.29).
 
+use crate::answer::Answer;
 use crate::case::Case;
 use crate::sections::Sections;
-use crate::text;
 use gimli_core::{
     DebugAddr, DebugAddrBase, DebugLocListsBase, DebugLocListsIndex, DebugRngListsBase,
     DebugRngListsIndex, Error, LocationListsOffset, RangeListsOffset, Reader, ReaderOffset,
 };
 use gimli_units::{
     DebugLoc, DebugLocLists, DebugRanges, DebugRngLists, ListsHeader, LocListIter,
-    LocationListEntry, LocationLists, Range, RangeLists, RawLocListEntry, RngListIter,
+    LocationListEntry, LocationLists, Range, RangeLists, RawLocListEntry, RawLocListIter,
+    RawRngListEntry, RngListIter,
 };
-use std::alloc::Global;
 
-/// Answers a question about lists, if it is one. The first section holds the lists of the version,
-/// and the second the addresses that they name, from 0 on.
-pub fn answer<R: Reader>(
-    alloc: Global,
-    case: &Case,
-    sections: &Sections<R>,
-    out: &mut String,
-) -> Result<bool, Error> {
+/// Answers a question about range lists. The first section holds the lists of the version, and the
+/// second the addresses that they name, from 0 on.
+pub fn answer<R: Reader>(case: &Case, sections: Sections<R>, out: &mut Answer) {
+    let lists = range_lists(case, sections.first, sections.third);
     match case.operation.as_str() {
-        "ranges" => ranges(case, sections, out)?,
-        "raw_ranges" => raw_ranges(case, sections, out)?,
-        "ranges_by_one" => ranges_by_one(case, sections, out)?,
-        "lists_header" => lists_header(sections.first.copy()?, out)?,
-        "range_list_offset" => range_list_offset(case, sections, out)?,
-        "location_list_offset" => location_list_offset(case, sections, out)?,
-        "locations" => locations(alloc, case, sections, out)?,
-        "raw_locations" => raw_locations(case, sections, out)?,
-        "locations_by_one" => locations_by_one(alloc, case, sections, out)?,
-        _ => return Ok(false),
+        "ranges" => entries(ranges_of(case, &lists, sections.second), out),
+        "ranges_by_one" => entries_by_one(ranges_of(case, &lists, sections.second), out),
+        "raw_ranges" => raw_ranges(case, &lists, out),
+        _ => range_list_offset(case, &lists, out),
     }
-    Ok(true)
 }
 
-fn range_lists<R: Reader>(case: &Case, sections: &Sections<R>) -> Result<RangeLists<R>, Error> {
-    let (lists, none) = (sections.first.copy()?, sections.third.copy()?);
-    Ok(if case.version <= 4 {
+/// Answers a question about location lists.
+pub fn answer_about_locations<R: Reader>(case: &Case, sections: Sections<R>, out: &mut Answer) {
+    let lists = location_lists(case, sections.first, sections.third);
+    match case.operation.as_str() {
+        "locations" => entries(locations_of(case, &lists, sections.second), out),
+        "locations_by_one" => entries_by_one(locations_of(case, &lists, sections.second), out),
+        "raw_locations" => raw_locations(raw_locations_of(case, &lists), out),
+        _ => location_list_offset(case, &lists, out),
+    }
+}
+
+fn range_lists<R: Reader>(case: &Case, lists: R, none: R) -> RangeLists<R> {
+    if case.version <= 4 {
         RangeLists::new(DebugRanges::from(lists), DebugRngLists::from(none))
     } else {
         RangeLists::new(DebugRanges::from(none), DebugRngLists::from(lists))
-    })
+    }
 }
 
-fn ranges_of<R: Reader>(case: &Case, sections: &Sections<R>) -> Result<RngListIter<R>, Error> {
-    let lists = range_lists(case, sections)?;
-    let addresses = DebugAddr::from(sections.second.copy()?);
-    let offset = RangeListsOffset(case.offset()?);
+fn ranges_of<R: Reader>(
+    case: &Case,
+    lists: &RangeLists<R>,
+    addresses: R,
+) -> Result<RngListIter<R>, Error> {
+    let addresses = DebugAddr::from(addresses);
     let start = DebugAddrBase(R::Offset::from_u8(0));
     let encoding = case.encoding();
-    match encoding.address_size {
-        1 | 2 | 4 | 8 => lists.ranges(offset, encoding, case.base, &addresses, start),
-        size => Err(Error::UnsupportedAddressSize(size)),
-    }
-}
-
-// The ranges that count, with a refusal in its place.
-fn ranges<R: Reader>(case: &Case, sections: &Sections<R>, out: &mut String) -> Result<(), Error> {
-    let mut ranges = ranges_of(case, sections)?;
-    for _ in 0..20 {
-        match ranges.next() {
-            Ok(Some(found)) => range(found, out)?,
-            Ok(None) => break,
-            Err(error) => text::refusal(out, error)?,
+    match (case.offset(), encoding.address_size) {
+        (Ok(offset), 1 | 2 | 4 | 8) => {
+            lists.ranges(
+                RangeListsOffset(offset),
+                encoding,
+                case.base,
+                &addresses,
+                start,
+            )
         }
+        (Ok(_), size) => Err(Error::UnsupportedAddressSize(size)),
+        (Err(error), _) => Err(error),
     }
-    Ok(())
 }
 
-fn range(found: Range, out: &mut String) -> Result<(), Error> {
-    write!(out, "[{:#x} {:#x}]", found.begin, found.end)?;
-    Ok(())
+// A list of ranges or of locations.
+trait EntryList: Drop {
+    type Entry: Drop;
+
+    type RawEntry: Drop;
+
+    fn next_entry(&mut self) -> Result<Option<Self::Entry>, Error>;
+
+    fn next_raw_entry(&mut self) -> Result<Option<Self::RawEntry>, Error>;
+
+    fn convert(&mut self, entry: Self::RawEntry) -> Result<Option<Self::Entry>, Error>;
+
+    fn answer_entry(entry: &Self::Entry, out: &mut Answer);
 }
 
-// The entries as they are written.
-fn raw_ranges<R: Reader>(
-    case: &Case,
-    sections: &Sections<R>,
-    out: &mut String,
-) -> Result<(), Error> {
-    let lists = range_lists(case, sections)?;
-    let mut entries = lists.raw_ranges(RangeListsOffset(case.offset()?), case.encoding())?;
-    for _ in 0..20 {
-        match entries.next()? {
-            Some(entry) => write!(out, "[{entry:?}]")?,
-            None => break,
+impl<R: Reader> EntryList for RngListIter<R> {
+    type Entry = Range;
+
+    type RawEntry = RawRngListEntry<R::Offset>;
+
+    fn next_entry(&mut self) -> Result<Option<Range>, Error> {
+        self.next()
+    }
+
+    fn next_raw_entry(&mut self) -> Result<Option<RawRngListEntry<R::Offset>>, Error> {
+        self.next_raw()
+    }
+
+    fn convert(&mut self, entry: RawRngListEntry<R::Offset>) -> Result<Option<Range>, Error> {
+        self.convert_raw(entry)
+    }
+
+    fn answer_entry(entry: &Range, out: &mut Answer) {
+        out.pair(entry.begin, entry.end);
+    }
+}
+
+impl<R: Reader> EntryList for LocListIter<R> {
+    type Entry = LocationListEntry<R>;
+
+    type RawEntry = RawLocListEntry<R>;
+
+    fn next_entry(&mut self) -> Result<Option<LocationListEntry<R>>, Error> {
+        self.next()
+    }
+
+    fn next_raw_entry(&mut self) -> Result<Option<RawLocListEntry<R>>, Error> {
+        self.next_raw()
+    }
+
+    fn convert(
+        &mut self,
+        entry: RawLocListEntry<R>,
+    ) -> Result<Option<LocationListEntry<R>>, Error> {
+        self.convert_raw(entry)
+    }
+
+    fn answer_entry(entry: &LocationListEntry<R>, out: &mut Answer) {
+        out.text("[");
+        out.hex(entry.range.begin);
+        out.text(" ");
+        out.hex(entry.range.end);
+        out.text(" ");
+        out.bytes(&entry.expression.0);
+        out.text("]");
+    }
+}
+
+// The entries that count, with a refusal in its place.
+fn entries<L: EntryList>(list: Result<L, Error>, out: &mut Answer) {
+    match list {
+        Ok(mut list) => {
+            for _ in 0..20 {
+                match list.next_entry() {
+                    Ok(Some(entry)) => L::answer_entry(&entry, out),
+                    Ok(None) => break,
+                    Err(error) => out.refuse(error),
+                }
+            }
         }
+        Err(error) => out.refuse(error),
     }
-    Ok(())
 }
 
 // The entries, each converted by itself.
-fn ranges_by_one<R: Reader>(
-    case: &Case,
-    sections: &Sections<R>,
-    out: &mut String,
-) -> Result<(), Error> {
-    let mut ranges = ranges_of(case, sections)?;
-    for _ in 0..20 {
-        match ranges.next_raw()? {
-            Some(entry) => match ranges.convert_raw(entry) {
-                Ok(Some(found)) => range(found, out)?,
-                Ok(None) => out.push_str("[none]")?,
-                Err(error) => text::refusal(out, error)?,
-            },
-            None => break,
+fn entries_by_one<L: EntryList>(list: Result<L, Error>, out: &mut Answer) {
+    match list {
+        Ok(mut list) => {
+            for _ in 0..20 {
+                if !convert_next(&mut list, out) {
+                    break;
+                }
+            }
+        }
+        Err(error) => out.refuse(error),
+    }
+}
+
+// Converts the next entry; whether there may be another.
+fn convert_next<L: EntryList>(list: &mut L, out: &mut Answer) -> bool {
+    match list.next_raw_entry() {
+        Ok(Some(entry)) => {
+            match list.convert(entry) {
+                Ok(Some(found)) => L::answer_entry(&found, out),
+                Ok(None) => out.text("[none]"),
+                Err(error) => out.refuse(error),
+            }
+            true
+        }
+        Ok(None) => false,
+        Err(error) => {
+            out.refuse(error);
+            false
         }
     }
-    Ok(())
 }
 
-// The header of a table of lists, and the bytes left of its table.
-fn lists_header<R: Reader>(mut reader: R, out: &mut String) -> Result<(), Error> {
-    let header = ListsHeader::parse(&mut reader)?;
-    let left = reader.len().into_u64();
-    let (count, size) = (header.offset_entry_count, header.size());
-    write!(
-        out,
-        "{:?}, {count} lists, {size} bytes, {left} left",
-        header.encoding
-    )?;
-    Ok(())
+// The entries as they are written.
+fn raw_ranges<R: Reader>(case: &Case, lists: &RangeLists<R>, out: &mut Answer) {
+    let entries = match case.offset() {
+        Ok(offset) => lists.raw_ranges(RangeListsOffset(offset), case.encoding()),
+        Err(error) => Err(error),
+    };
+    match entries {
+        Ok(mut entries) => {
+            for _ in 0..20 {
+                match entries.next() {
+                    Ok(Some(entry)) => {
+                        out.text("[");
+                        out.code(&entry);
+                        out.text("]");
+                    }
+                    Ok(None) => break,
+                    Err(error) => {
+                        out.refuse(error);
+                        break;
+                    }
+                }
+            }
+        }
+        Err(error) => out.refuse(error),
+    }
 }
 
-fn range_list_offset<R: Reader>(
-    case: &Case,
-    sections: &Sections<R>,
-    out: &mut String,
-) -> Result<(), Error> {
-    let (base, index) = (
-        DebugRngListsBase(case.base()?),
-        DebugRngListsIndex(case.index()?),
-    );
-    let lists = range_lists(case, sections)?;
-    let offset = lists.get_offset(case.encoding(), base, index)?;
-    write!(out, "{:?}", offset.0)?;
-    Ok(())
+/// The header of a table of lists, and the bytes left of its table.
+pub fn lists_header<R: Reader>(mut reader: R, out: &mut Answer) {
+    match ListsHeader::parse(&mut reader) {
+        Ok(header) => {
+            out.code(&header.encoding);
+            out.text(", ");
+            out.word(&header.offset_entry_count);
+            out.text("lists, ");
+            out.word(&header.size());
+            out.text("bytes, ");
+            out.word(&reader.len().into_u64());
+            out.text("left");
+        }
+        Err(error) => out.refuse(error),
+    }
 }
 
-fn location_lists<R: Reader>(
-    case: &Case,
-    sections: &Sections<R>,
-) -> Result<LocationLists<R>, Error> {
-    let (lists, none) = (sections.first.copy()?, sections.third.copy()?);
-    Ok(if case.version <= 4 {
+fn range_list_offset<R: Reader>(case: &Case, lists: &RangeLists<R>, out: &mut Answer) {
+    match case.base_and_index() {
+        Ok((base, index)) => {
+            let (base, index) = (DebugRngListsBase(base), DebugRngListsIndex(index));
+            match lists.get_offset(case.encoding(), base, index) {
+                Ok(offset) => out.code(&offset.0),
+                Err(error) => out.refuse(error),
+            }
+        }
+        Err(error) => out.refuse(error),
+    }
+}
+
+fn location_lists<R: Reader>(case: &Case, lists: R, none: R) -> LocationLists<R> {
+    if case.version <= 4 {
         LocationLists::new(DebugLoc::from(lists), DebugLocLists::from(none))
     } else {
         LocationLists::new(DebugLoc::from(none), DebugLocLists::from(lists))
-    })
+    }
 }
 
-fn location_list_offset<R: Reader>(
+fn location_list_offset<R: Reader>(case: &Case, lists: &LocationLists<R>, out: &mut Answer) {
+    match case.base_and_index() {
+        Ok((base, index)) => {
+            let (base, index) = (DebugLocListsBase(base), DebugLocListsIndex(index));
+            match lists.get_offset(case.encoding(), base, index) {
+                Ok(offset) => out.code(&offset.0),
+                Err(error) => out.refuse(error),
+            }
+        }
+        Err(error) => out.refuse(error),
+    }
+}
+
+fn locations_of<R: Reader>(
     case: &Case,
-    sections: &Sections<R>,
-    out: &mut String,
-) -> Result<(), Error> {
-    let (base, index) = (
-        DebugLocListsBase(case.base()?),
-        DebugLocListsIndex(case.index()?),
-    );
-    let lists = location_lists(case, sections)?;
-    let offset = lists.get_offset(case.encoding(), base, index)?;
-    write!(out, "{:?}", offset.0)?;
-    Ok(())
+    lists: &LocationLists<R>,
+    addresses: R,
+) -> Result<LocListIter<R>, Error> {
+    match case.offset() {
+        Ok(offset) => locations_at(case, lists, &DebugAddr::from(addresses), offset),
+        Err(error) => Err(error),
+    }
 }
 
-fn locations_of<R: Reader>(case: &Case, sections: &Sections<R>) -> Result<LocListIter<R>, Error> {
-    let lists = location_lists(case, sections)?;
-    let addresses = DebugAddr::from(sections.second.copy()?);
-    let offset = LocationListsOffset(case.offset()?);
+fn locations_at<R: Reader>(
+    case: &Case,
+    lists: &LocationLists<R>,
+    addresses: &DebugAddr<R>,
+    offset: R::Offset,
+) -> Result<LocListIter<R>, Error> {
+    let offset = LocationListsOffset(offset);
     let start = DebugAddrBase(R::Offset::from_u8(0));
     let encoding = case.encoding();
     match encoding.address_size {
         1 | 2 | 4 | 8 if case.is_split => {
-            lists.locations_dwo(offset, encoding, case.base, &addresses, start)
+            lists.locations_dwo(offset, encoding, case.base, addresses, start)
         }
-        1 | 2 | 4 | 8 => lists.locations(offset, encoding, case.base, &addresses, start),
+        1 | 2 | 4 | 8 => lists.locations(offset, encoding, case.base, addresses, start),
         size => Err(Error::UnsupportedAddressSize(size)),
     }
 }
 
-// The locations, with a refusal in its place.
-fn locations<R: Reader>(
-    alloc: Global,
+fn raw_locations_of<R: Reader>(
     case: &Case,
-    sections: &Sections<R>,
-    out: &mut String,
-) -> Result<(), Error> {
-    let mut locations = locations_of(case, sections)?;
-    for _ in 0..20 {
-        match locations.next() {
-            Ok(Some(found)) => location(alloc, &found, out)?,
-            Ok(None) => break,
-            Err(error) => text::refusal(out, error)?,
+    lists: &LocationLists<R>,
+) -> Result<RawLocListIter<R>, Error> {
+    match case.offset() {
+        Ok(offset) if case.is_split => {
+            lists.raw_locations_dwo(LocationListsOffset(offset), case.encoding())
         }
+        Ok(offset) => lists.raw_locations(LocationListsOffset(offset), case.encoding()),
+        Err(error) => Err(error),
     }
-    Ok(())
-}
-
-fn location<R: Reader>(
-    alloc: Global,
-    found: &LocationListEntry<R>,
-    out: &mut String,
-) -> Result<(), Error> {
-    let (begin, end) = (found.range.begin, found.range.end);
-    write!(out, "[{begin:#x} {end:#x} ")?;
-    text::bytes(alloc, out, &found.expression.0)?;
-    out.push_str("]")?;
-    Ok(())
 }
 
 // The kinds of the entries as they are written.
-fn raw_locations<R: Reader>(
-    case: &Case,
-    sections: &Sections<R>,
-    out: &mut String,
-) -> Result<(), Error> {
-    let lists = location_lists(case, sections)?;
-    let (offset, encoding) = (LocationListsOffset(case.offset()?), case.encoding());
-    let mut entries = if case.is_split {
-        lists.raw_locations_dwo(offset, encoding)?
-    } else {
-        lists.raw_locations(offset, encoding)?
-    };
-    for _ in 0..20 {
-        match entries.next()? {
-            Some(entry) => raw_location(&entry, out)?,
-            None => break,
+fn raw_locations<R: Reader>(entries: Result<RawLocListIter<R>, Error>, out: &mut Answer) {
+    match entries {
+        Ok(mut entries) => {
+            for _ in 0..20 {
+                match entries.next() {
+                    Ok(Some(entry)) => raw_location(&entry, out),
+                    Ok(None) => break,
+                    Err(error) => {
+                        out.refuse(error);
+                        break;
+                    }
+                }
+            }
         }
+        Err(error) => out.refuse(error),
     }
-    Ok(())
 }
 
-fn raw_location<R: Reader>(entry: &RawLocListEntry<R>, out: &mut String) -> Result<(), Error> {
+fn raw_location<R: Reader>(entry: &RawLocListEntry<R>, out: &mut Answer) {
     let (kind, first, second) = match entry {
         RawLocListEntry::AddressOrOffsetPair { begin, end, .. } => {
             ("AddressOrOffsetPair", *begin, *end)
@@ -245,27 +334,11 @@ fn raw_location<R: Reader>(entry: &RawLocListEntry<R>, out: &mut String) -> Resu
         RawLocListEntry::BaseAddress { addr } => ("BaseAddress", *addr, 0),
         _ => ("other", 0, 0),
     };
-    write!(out, "[{kind} {first:#x} {second:#x}]")?;
-    Ok(())
-}
-
-// The entries, each converted by itself.
-fn locations_by_one<R: Reader>(
-    alloc: Global,
-    case: &Case,
-    sections: &Sections<R>,
-    out: &mut String,
-) -> Result<(), Error> {
-    let mut locations = locations_of(case, sections)?;
-    for _ in 0..20 {
-        match locations.next_raw()? {
-            Some(entry) => match locations.convert_raw(entry) {
-                Ok(Some(found)) => location(alloc, &found, out)?,
-                Ok(None) => out.push_str("[none]")?,
-                Err(error) => text::refusal(out, error)?,
-            },
-            None => break,
-        }
-    }
-    Ok(())
+    out.text("[");
+    out.text(kind);
+    out.text(" ");
+    out.hex(first);
+    out.text(" ");
+    out.hex(second);
+    out.text("]");
 }

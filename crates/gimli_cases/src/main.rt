@@ -4,20 +4,24 @@
 //! `#` is a heading.
 #![tactic(auto)]
 
+mod answer;
 mod attributes;
 mod case;
+mod facility;
 mod lines;
 mod lists;
 mod numbers;
+mod refusals;
 mod sections;
-mod text;
 mod units;
 mod writing;
 
+use answer::Answer;
 use bytes::Bytes;
 use case::{Case, Mistake};
+use facility::{Facility, facility_of};
 use gimli_core::{
-    BigEndian, EndianBytes, EndianSlice, Endianity, Error, LittleEndian, Reader, ReaderOffsetId,
+    BigEndian, EndianBytes, EndianSlice, Endianity, LittleEndian, Reader, ReaderOffsetId,
     RunTimeEndian,
 };
 use sections::Sections;
@@ -91,41 +95,32 @@ fn shared_reader(
     Ok(EndianBytes::with_first_id(bytes, case.order(), first))
 }
 
-// The answer, with the refusal that ends it.
 fn answer_with<R: Reader>(
     alloc: Global,
     case: &Case,
     sections: Sections<R>,
 ) -> Result<String, AllocError> {
-    if let Some(text) = writing::answer(alloc, case, sections.first.endian())? {
-        return Ok(text);
-    }
-    let mut out = String::new(alloc);
-    match answer(alloc, case, sections, &mut out) {
-        Ok(()) => {}
-        Err(Error::Memory) => return Err(AllocError),
-        Err(error) => text::refusal(&mut out, error)?,
-    }
-    Ok(out)
+    let mut out = Answer::new(alloc);
+    dispatch(alloc, case, sections, &mut out);
+    out.finish()
 }
 
-fn answer<R: Reader>(
-    alloc: Global,
-    case: &Case,
-    mut sections: Sections<R>,
-    out: &mut String,
-) -> Result<(), Error> {
-    if text::answer(case, out)?
-        || numbers::answer(alloc, case, &mut sections.first, out)?
-        || sections::answer(alloc, case, &sections, out)?
-        || units::answer(alloc, case, &sections, out)?
-        || attributes::answer(alloc, case, &mut sections, out)?
-        || lists::answer(alloc, case, &sections, out)?
-        || lines::answer(alloc, case, &sections, out)?
-    {
-        Ok(())
-    } else {
-        out.push_str("no such operation")?;
-        Ok(())
+// Has the part of the program answer that the operation is about.
+fn dispatch<R: Reader>(alloc: Global, case: &Case, sections: Sections<R>, out: &mut Answer) {
+    match facility_of(&case.operation) {
+        Facility::Refusals => refusals::answer(out),
+        Facility::Numbers => numbers::answer(case, sections.first, out),
+        Facility::Widths => sections::widths(case, out),
+        Facility::Bases => sections::default_bases(case, out),
+        Facility::Sections => sections::answer(alloc, case, sections, out),
+        Facility::Units => units::answer(case, sections.first, out),
+        Facility::Entries => units::answer_about_entries(alloc, case, sections, out),
+        Facility::Attributes => attributes::answer(alloc, case, sections, out),
+        Facility::Ranges => lists::answer(case, sections, out),
+        Facility::Locations => lists::answer_about_locations(case, sections, out),
+        Facility::ListsHeader => lists::lists_header(sections.first, out),
+        Facility::Lines => lines::answer(alloc, case, sections, out),
+        Facility::Writing => writing::answer(alloc, case, sections.first.endian(), out),
+        Facility::Unknown => out.text("no such operation"),
     }
 }

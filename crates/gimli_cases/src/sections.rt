@@ -1,7 +1,7 @@
 //! Abbreviations, strings and addresses (DWARF 5, 7.5.3, 7.26 and 7.27).
 
+use crate::answer::Answer;
 use crate::case::Case;
-use crate::text;
 use gimli_core::{
     Abbreviation, Abbreviations, AddrHeader, DebugAbbrev, DebugAbbrevOffset, DebugAddr,
     DebugAddrBase, DebugAddrIndex, DebugLineStr, DebugLineStrOffset, DebugLocListsBase,
@@ -18,162 +18,176 @@ pub struct Sections<R: Reader> {
     pub third: R,
 }
 
-/// Answers a question about one of these sections, if it is one.
-pub fn answer<R: Reader>(
-    alloc: Global,
-    case: &Case,
-    sections: &Sections<R>,
-    out: &mut String,
-) -> Result<bool, Error> {
-    let section = sections.first.copy()?;
+/// Answers a question about one of these sections.
+pub fn answer<R: Reader>(alloc: Global, case: &Case, sections: Sections<R>, out: &mut Answer) {
+    let section = sections.first;
     match case.operation.as_str() {
-        "abbreviations" => abbreviations(alloc, case, section, out)?,
-        "same_abbreviation" => same_abbreviation(alloc, sections, out)?,
-        "width_of_forms" => widths(case, out)?,
-        "string" => string(alloc, case, section, out)?,
-        "line_string" => line_string(alloc, case, section, out)?,
-        "string_offset" => string_offset(case, section, out)?,
-        "address_at" => address_at(case, section, out)?,
-        "address_sets" => address_sets(section, out)?,
-        "default_bases" => default_bases(case, out)?,
-        _ => return Ok(false),
+        "abbreviations" => abbreviations(table(alloc, section, case.offset()), out),
+        "same_abbreviation" => same_abbreviation(alloc, section, sections.second, out),
+        "string" => string(case, section, out),
+        "line_string" => line_string(case, section, out),
+        "string_offset" => string_offset(case, section, out),
+        "address_at" => address_at(case, section, out),
+        _ => address_sets(section, out),
     }
-    Ok(true)
 }
 
+/// The table at an offset.
 pub fn table<R: Reader>(
     alloc: Global,
     section: R,
-    offset: R::Offset,
+    offset: Result<R::Offset, Error>,
 ) -> Result<Abbreviations, Error> {
-    DebugAbbrev::from(section).abbreviations(alloc, DebugAbbrevOffset(offset))
+    match offset {
+        Ok(offset) => DebugAbbrev::from(section).abbreviations(alloc, DebugAbbrevOffset(offset)),
+        Err(error) => Err(error),
+    }
 }
 
 // The declarations of the first codes.
-fn abbreviations<R: Reader>(
-    alloc: Global,
-    case: &Case,
-    section: R,
-    out: &mut String,
-) -> Result<(), Error> {
-    let offset = case.offset()?;
-    let table = table(alloc, section, offset)?;
-    for code in 0..8 {
-        if let Some(found) = table.get(code) {
-            declaration(found, out)?;
+fn abbreviations(table: Result<Abbreviations, Error>, out: &mut Answer) {
+    match table {
+        Ok(table) => {
+            for code in 0..8 {
+                if let Some(found) = table.get(code) {
+                    declaration(found, out);
+                }
+            }
         }
+        Err(error) => out.refuse(error),
     }
-    Ok(())
 }
 
-fn declaration(found: &Abbreviation, out: &mut String) -> Result<(), Error> {
-    write!(out, "[{} {:?}", found.code(), found.tag())?;
-    if found.has_children() {
-        out.push_str(" children")?;
-    }
+fn declaration(found: &Abbreviation, out: &mut Answer) {
+    out.text("[");
+    out.word(&found.code());
+    out.code(&found.tag());
+    out.text_if(found.has_children(), " children");
     for attribute in found.attributes() {
-        write!(out, ", {:?} {:?}", attribute.name(), attribute.form())?;
+        out.text(", ");
+        out.word(&attribute.name());
+        out.code(&attribute.form());
         if let Some(constant) = attribute.implicit_const_value() {
-            write!(out, " {constant}")?;
+            out.text(" ");
+            out.value(&constant);
         }
     }
-    out.push_str("]")?;
-    Ok(())
+    out.text("]");
 }
 
 // Whether the declarations of code 1 in two tables are equal.
-fn same_abbreviation<R: Reader>(
-    alloc: Global,
-    sections: &Sections<R>,
-    out: &mut String,
-) -> Result<(), Error> {
-    let one = table(alloc, sections.first.copy()?, R::Offset::from_u8(0))?;
-    let other = table(alloc, sections.second.copy()?, R::Offset::from_u8(0))?;
-    let is_same = one.get(1) == other.get(1);
-    write!(out, "{is_same}")?;
-    Ok(())
+fn same_abbreviation<R: Reader>(alloc: Global, one: R, other: R, out: &mut Answer) {
+    let start = R::Offset::from_u8(0);
+    let one = table(alloc, one, Ok(start));
+    let other = table(alloc, other, Ok(start));
+    match (one, other) {
+        (Ok(one), Ok(other)) => out.value(&(one.get(1) == other.get(1))),
+        (Err(error), _) => out.refuse(error),
+        (_, Err(error)) => out.refuse(error),
+    }
 }
 
-// The bytes of the values of the forms, where the encoding decides them.
-fn widths(case: &Case, out: &mut String) -> Result<(), Error> {
+/// The bytes of the values of the forms, where the encoding decides them.
+pub fn widths(case: &Case, out: &mut Answer) {
     let encoding = case.encoding();
     for form in case.forms.iter() {
         let DwForm(number) = *form;
-        let size = case.specification(*form).size(encoding);
-        write!(out, "[{number} {size:?}]")?;
+        out.text("[");
+        out.word(&number);
+        out.code(&case.specification(*form).size(encoding));
+        out.text("]");
     }
-    Ok(())
 }
 
-fn string<R: Reader>(
-    alloc: Global,
-    case: &Case,
-    section: R,
-    out: &mut String,
-) -> Result<(), Error> {
-    let text = DebugStr::from(section).get_str(DebugStrOffset(case.offset()?))?;
-    text::lossy(alloc, out, &text)
+fn string<R: Reader>(case: &Case, section: R, out: &mut Answer) {
+    match case.offset() {
+        Ok(offset) => out.text_of(DebugStr::from(section).get_str(DebugStrOffset(offset))),
+        Err(error) => out.refuse(error),
+    }
 }
 
-fn line_string<R: Reader>(
-    alloc: Global,
-    case: &Case,
-    section: R,
-    out: &mut String,
-) -> Result<(), Error> {
-    let text = DebugLineStr::from(section).get_str(DebugLineStrOffset(case.offset()?))?;
-    text::lossy(alloc, out, &text)
+fn line_string<R: Reader>(case: &Case, section: R, out: &mut Answer) {
+    match case.offset() {
+        Ok(offset) => out.text_of(DebugLineStr::from(section).get_str(DebugLineStrOffset(offset))),
+        Err(error) => out.refuse(error),
+    }
 }
 
-fn string_offset<R: Reader>(case: &Case, section: R, out: &mut String) -> Result<(), Error> {
-    let base = DebugStrOffsetsBase(case.base()?);
-    let index = DebugStrOffsetsIndex(case.index()?);
-    let offset = DebugStrOffsets::from(section).get_str_offset(case.format, base, index)?;
-    write!(out, "{}", offset.0.into_u64())?;
-    Ok(())
+fn string_offset<R: Reader>(case: &Case, section: R, out: &mut Answer) {
+    match case.base_and_index() {
+        Ok((base, index)) => {
+            let (base, index) = (DebugStrOffsetsBase(base), DebugStrOffsetsIndex(index));
+            match DebugStrOffsets::from(section).get_str_offset(case.format, base, index) {
+                Ok(offset) => out.value(&offset.0.into_u64()),
+                Err(error) => out.refuse(error),
+            }
+        }
+        Err(error) => out.refuse(error),
+    }
 }
 
-fn address_at<R: Reader>(case: &Case, section: R, out: &mut String) -> Result<(), Error> {
-    let base = DebugAddrBase(case.base()?);
-    let index = DebugAddrIndex(case.index()?);
-    let address = DebugAddr::from(section).get_address(case.address_size, base, index)?;
-    write!(out, "{address:#x}")?;
-    Ok(())
+fn address_at<R: Reader>(case: &Case, section: R, out: &mut Answer) {
+    match case.base_and_index() {
+        Ok((base, index)) => {
+            let (base, index) = (DebugAddrBase(base), DebugAddrIndex(index));
+            match DebugAddr::from(section).get_address(case.address_size, base, index) {
+                Ok(address) => out.hex(address),
+                Err(error) => out.refuse(error),
+            }
+        }
+        Err(error) => out.refuse(error),
+    }
 }
 
 // The sets, one after the other, with a refusal in its place.
-fn address_sets<R: Reader>(section: R, out: &mut String) -> Result<(), Error> {
-    let mut headers = DebugAddr::from(section).headers()?;
-    for _ in 0..20 {
-        match headers.next() {
-            Ok(Some(set)) => address_set(&set, out)?,
-            Ok(None) => break,
-            Err(error) => text::refusal(out, error)?,
-        }
-    }
-    Ok(())
-}
-
-fn address_set<R: Reader>(set: &AddrHeader<R>, out: &mut String) -> Result<(), Error> {
-    let (offset, length) = (set.offset().0, set.length());
-    write!(out, "[{offset:?} {length:?} {:?}:", set.encoding())?;
-    let mut entries = set.entries()?;
-    for _ in 0..20 {
-        match entries.next() {
-            Ok(Some(address)) => write!(out, " {address:#x}")?,
-            Ok(None) => break,
-            Err(error) => {
-                out.push_str(" ")?;
-                text::refusal(out, error)?;
+fn address_sets<R: Reader>(section: R, out: &mut Answer) {
+    match DebugAddr::from(section).headers() {
+        Ok(mut headers) => {
+            for _ in 0..20 {
+                match headers.next() {
+                    Ok(Some(set)) => address_set(&set, out),
+                    Ok(None) => break,
+                    Err(error) => out.refuse(error),
+                }
             }
         }
+        Err(error) => out.refuse(error),
     }
-    out.push_str("]")?;
-    Ok(())
 }
 
-// Where the string offsets, range lists and location lists of a unit without bases begin.
-fn default_bases(case: &Case, out: &mut String) -> Result<(), Error> {
+fn address_set<R: Reader>(set: &AddrHeader<R>, out: &mut Answer) {
+    out.text("[");
+    out.word(&set.offset().0);
+    out.word(&set.length());
+    out.code(&set.encoding());
+    out.text(":");
+    addresses(set, out);
+    out.text("]");
+}
+
+fn addresses<R: Reader>(set: &AddrHeader<R>, out: &mut Answer) {
+    match set.entries() {
+        Ok(mut entries) => {
+            for _ in 0..20 {
+                match entries.next() {
+                    Ok(Some(address)) => {
+                        out.text(" ");
+                        out.hex(address);
+                    }
+                    Ok(None) => break,
+                    Err(error) => {
+                        out.text(" ");
+                        out.refuse(error);
+                    }
+                }
+            }
+        }
+        Err(error) => out.refuse(error),
+    }
+}
+
+/// Where the string offsets, range lists and location lists of a unit without bases begin.
+pub fn default_bases(case: &Case, out: &mut Answer) {
     let encoding = case.encoding();
     let file = if case.is_split {
         DwarfFileType::Dwo
@@ -183,6 +197,7 @@ fn default_bases(case: &Case, out: &mut String) -> Result<(), Error> {
     let strings = DebugStrOffsetsBase::<usize>::default_for_encoding_and_file(encoding, file);
     let ranges = DebugRngListsBase::<usize>::default_for_encoding_and_file(encoding, file);
     let locations = DebugLocListsBase::<usize>::default_for_encoding_and_file(encoding, file);
-    write!(out, "{} {} {}", strings.0, ranges.0, locations.0)?;
-    Ok(())
+    out.word(&strings.0);
+    out.word(&ranges.0);
+    out.code(&locations.0);
 }

@@ -1,253 +1,352 @@
 //! Headers, address ranges and entries (DWARF 5, 7.5 and 6.1.2).
 
+use crate::answer::Answer;
+use crate::attributes;
 use crate::case::Case;
 use crate::sections::{Sections, table};
-use crate::{attributes, text};
-use gimli_core::{
-    Abbreviations, DebugAbbrev, DebugArangesOffset, DwAt, Error, Reader, ReaderOffset,
-};
+use gimli_core::{Abbreviations, DebugAbbrev, DebugArangesOffset, Error, Reader, ReaderOffset};
 use gimli_units::{
-    ArangeEntryIter, ArangeHeader, DebugAranges, DebugInfo, DebugInfoOffset,
+    ArangeEntry, ArangeEntryIter, ArangeHeader, DebugAranges, DebugInfo, DebugInfoOffset,
     DebuggingInformationEntry, EntriesRaw, UnitEntries, UnitHeader, UnitOffset, entries_raw,
 };
 use std::alloc::Global;
 
-/// Answers a question about units, if it is one.
-pub fn answer<R: Reader>(
+/// Answers a question about headers and address ranges.
+pub fn answer<R: Reader>(case: &Case, section: R, out: &mut Answer) {
+    match case.operation.as_str() {
+        "units" => units(section, out),
+        "unit" => one_unit(&unit(case, section), out),
+        "tombstone" => tombstone(case, &unit(case, section), out),
+        "arange_sets" => arange_sets(section, out),
+        "aranges" => aranges(pairs(case, section), out),
+        _ => aranges_by_one(pairs(case, section), out),
+    }
+}
+
+/// Answers a question about entries.
+pub fn answer_about_entries<R: Reader>(
     alloc: Global,
     case: &Case,
-    sections: &Sections<R>,
-    out: &mut String,
-) -> Result<bool, Error> {
-    let section = sections.first.copy()?;
+    sections: Sections<R>,
+    out: &mut Answer,
+) {
     match case.operation.as_str() {
-        "units" => units(alloc, section, out)?,
-        "unit" => header(alloc, &unit(case, section)?, out)?,
-        "tombstone" => tombstone(case, &unit(case, section)?, out)?,
-        "arange_sets" => arange_sets(section, out)?,
-        "aranges" => aranges(case, section, out)?,
-        "aranges_by_one" => aranges_by_one(case, section, out)?,
-        "entries" => entries(alloc, sections, out)?,
-        "entries_skipped" => entries_skipped(alloc, sections, out)?,
-        "entry" => entry_at(alloc, case, sections, out)?,
-        "attribute_of_entry" => attribute_of_entry(alloc, case, sections, out)?,
-        _ => return Ok(false),
+        "entries" => entries(alloc, first_unit(alloc, sections), out),
+        "entries_skipped" => entries_skipped(first_unit(alloc, sections), out),
+        "entry" => one_entry(&entry(alloc, case, sections), out),
+        _ => attribute_of_entry(case, entry(alloc, case, sections), out),
     }
-    Ok(true)
 }
 
 fn unit<R: Reader>(case: &Case, section: R) -> Result<UnitHeader<R>, Error> {
-    DebugInfo::from(section).header_from_offset(DebugInfoOffset(case.offset()?))
+    match case.offset() {
+        Ok(offset) => DebugInfo::from(section).header_from_offset(DebugInfoOffset(offset)),
+        Err(error) => Err(error),
+    }
 }
 
 // The units, one after the other, with a refusal in its place.
-fn units<R: Reader>(alloc: Global, section: R, out: &mut String) -> Result<(), Error> {
-    let mut units = DebugInfo::from(section).units()?;
-    for _ in 0..20 {
-        match units.next() {
-            Ok(Some(unit)) => header(alloc, &unit, out)?,
-            Ok(None) => break,
-            Err(error) => text::refusal(out, error)?,
+fn units<R: Reader>(section: R, out: &mut Answer) {
+    match DebugInfo::from(section).units() {
+        Ok(mut units) => {
+            for _ in 0..20 {
+                match units.next() {
+                    Ok(Some(unit)) => header(&unit, out),
+                    Ok(None) => break,
+                    Err(error) => out.refuse(error),
+                }
+            }
         }
+        Err(error) => out.refuse(error),
     }
-    Ok(())
 }
 
-fn header<R: Reader>(alloc: Global, unit: &UnitHeader<R>, out: &mut String) -> Result<(), Error> {
-    let (offset, length) = (unit.offset().0, unit.unit_length());
-    write!(
-        out,
-        "[{offset:?} {length:?} {:?} ",
-        unit.length_including_self()
-    )?;
-    write!(out, "{:?} {:?} ", unit.encoding(), unit.type_())?;
-    let (declared, size) = (unit.debug_abbrev_offset().0, unit.header_size());
-    write!(out, "{declared:?} {size:?} {:?} ", unit.root_offset().0)?;
-    text::bytes(alloc, out, unit.entries_reader())?;
-    out.push_str("]")?;
-    Ok(())
+fn one_unit<R: Reader>(unit: &Result<UnitHeader<R>, Error>, out: &mut Answer) {
+    match unit {
+        Ok(unit) => header(unit, out),
+        Err(error) => out.refuse(*error),
+    }
 }
 
-fn tombstone<R: Reader>(case: &Case, unit: &UnitHeader<R>, out: &mut String) -> Result<(), Error> {
-    write!(out, "{}", unit.is_tombstone_address(case.value))?;
-    Ok(())
+fn header<R: Reader>(unit: &UnitHeader<R>, out: &mut Answer) {
+    out.text("[");
+    out.word(&unit.offset().0);
+    out.word(&unit.unit_length());
+    out.word(&unit.length_including_self());
+    out.word(&unit.encoding());
+    out.word(&unit.type_());
+    out.word(&unit.debug_abbrev_offset().0);
+    out.word(&unit.header_size());
+    out.word(&unit.root_offset().0);
+    out.bytes(unit.entries_reader());
+    out.text("]");
+}
+
+fn tombstone<R: Reader>(case: &Case, unit: &Result<UnitHeader<R>, Error>, out: &mut Answer) {
+    match unit {
+        Ok(unit) => out.value(&unit.is_tombstone_address(case.value)),
+        Err(error) => out.refuse(*error),
+    }
 }
 
 // The sets of address ranges, one after the other, with a refusal in its place.
-fn arange_sets<R: Reader>(section: R, out: &mut String) -> Result<(), Error> {
-    let mut sets = DebugAranges::from(section).headers()?;
-    for _ in 0..20 {
-        match sets.next() {
-            Ok(Some(set)) => arange_set(&set, out)?,
-            Ok(None) => break,
-            Err(error) => text::refusal(out, error)?,
+fn arange_sets<R: Reader>(section: R, out: &mut Answer) {
+    match DebugAranges::from(section).headers() {
+        Ok(mut sets) => {
+            for _ in 0..20 {
+                match sets.next() {
+                    Ok(Some(set)) => arange_set(&set, out),
+                    Ok(None) => break,
+                    Err(error) => out.refuse(error),
+                }
+            }
         }
+        Err(error) => out.refuse(error),
     }
-    Ok(())
 }
 
-fn arange_set<R: Reader>(set: &ArangeHeader<R>, out: &mut String) -> Result<(), Error> {
-    let (offset, length) = (set.offset().0, set.length());
-    let unit = set.debug_info_offset().0;
-    write!(out, "[{offset:?} {length:?} {unit:?} {:?}]", set.encoding())?;
-    Ok(())
+fn arange_set<R: Reader>(set: &ArangeHeader<R>, out: &mut Answer) {
+    out.text("[");
+    out.word(&set.offset().0);
+    out.word(&set.length());
+    out.word(&set.debug_info_offset().0);
+    out.code(&set.encoding());
+    out.text("]");
 }
 
 // The pairs of the set at the offset.
 fn pairs<R: Reader>(case: &Case, section: R) -> Result<ArangeEntryIter<R>, Error> {
-    let set = DebugAranges::from(section).header(DebugArangesOffset(case.offset()?))?;
-    set.entries()
+    match case.offset() {
+        Ok(offset) => pairs_at(section, offset),
+        Err(error) => Err(error),
+    }
+}
+
+fn pairs_at<R: Reader>(section: R, offset: R::Offset) -> Result<ArangeEntryIter<R>, Error> {
+    match DebugAranges::from(section).header(DebugArangesOffset(offset)) {
+        Ok(set) => set.entries(),
+        Err(error) => Err(error),
+    }
 }
 
 // The ranges of a set, with a refusal in its place.
-fn aranges<R: Reader>(case: &Case, section: R, out: &mut String) -> Result<(), Error> {
-    let mut pairs = pairs(case, section)?;
-    for _ in 0..20 {
-        match pairs.next() {
-            Ok(Some(pair)) => {
-                let range = pair.range();
-                write!(out, "[{:#x} {:#x}]", range.begin, range.end)?;
+fn aranges<R: Reader>(pairs: Result<ArangeEntryIter<R>, Error>, out: &mut Answer) {
+    match pairs {
+        Ok(mut pairs) => {
+            for _ in 0..20 {
+                match pairs.next() {
+                    Ok(Some(pair)) => range(&pair, out),
+                    Ok(None) => break,
+                    Err(error) => out.refuse(error),
+                }
             }
-            Ok(None) => break,
-            Err(error) => text::refusal(out, error)?,
         }
+        Err(error) => out.refuse(error),
     }
-    Ok(())
+}
+
+fn range(pair: &ArangeEntry, out: &mut Answer) {
+    let range = pair.range();
+    out.pair(range.begin, range.end);
 }
 
 // The pairs of a set as they are written, and whether each counts.
-fn aranges_by_one<R: Reader>(case: &Case, section: R, out: &mut String) -> Result<(), Error> {
-    let mut pairs = pairs(case, section)?;
-    for _ in 0..20 {
-        match pairs.next_raw()? {
-            Some(pair) => {
-                let counts = pairs.convert_raw(pair)?.is_some();
-                write!(out, "[{:#x} {:#x} {counts}]", pair.address(), pair.length())?;
+fn aranges_by_one<R: Reader>(pairs: Result<ArangeEntryIter<R>, Error>, out: &mut Answer) {
+    match pairs {
+        Ok(mut pairs) => {
+            for _ in 0..20 {
+                match pairs.next_raw() {
+                    Ok(Some(pair)) => pair_as_written(&pairs, pair, out),
+                    Ok(None) => break,
+                    Err(error) => {
+                        out.refuse(error);
+                        break;
+                    }
+                }
             }
-            None => break,
         }
+        Err(error) => out.refuse(error),
     }
-    Ok(())
+}
+
+fn pair_as_written<R: Reader>(pairs: &ArangeEntryIter<R>, pair: ArangeEntry, out: &mut Answer) {
+    out.text("[");
+    out.hex(pair.address());
+    out.text(" ");
+    out.hex(pair.length());
+    out.text(" ");
+    match pairs.convert_raw(pair) {
+        Ok(counted) => out.value(&counted.is_some()),
+        Err(error) => out.refuse(error),
+    }
+    out.text("]");
 }
 
 // The first unit, and the declarations of its entries in the second section.
 fn first_unit<R: Reader>(
     alloc: Global,
-    sections: &Sections<R>,
+    sections: Sections<R>,
 ) -> Result<(UnitHeader<R>, Abbreviations), Error> {
     let start = DebugInfoOffset(R::Offset::from_u8(0));
-    let unit = DebugInfo::from(sections.first.copy()?).header_from_offset(start)?;
-    let declared = DebugAbbrev::from(sections.second.copy()?);
-    let table = unit.abbreviations(alloc, &declared)?;
-    Ok((unit, table))
+    let declared = DebugAbbrev::from(sections.second);
+    match DebugInfo::from(sections.first).header_from_offset(start) {
+        Ok(unit) => match unit.abbreviations(alloc, &declared) {
+            Ok(table) => Ok((unit, table)),
+            Err(error) => Err(error),
+        },
+        Err(error) => Err(error),
+    }
 }
 
 // All entries, read.
 fn entries<R: Reader>(
     alloc: Global,
-    sections: &Sections<R>,
-    out: &mut String,
-) -> Result<(), Error> {
-    let (unit, table) = first_unit(alloc, sections)?;
-    let mut entries = entries_raw(&unit, &table, None)?;
+    unit: Result<(UnitHeader<R>, Abbreviations), Error>,
+    out: &mut Answer,
+) {
+    match unit {
+        Ok((unit, table)) => match entries_raw(&unit, &table, None) {
+            Ok(mut entries) => read_all(alloc, &mut entries, out),
+            Err(error) => out.refuse(error),
+        },
+        Err(error) => out.refuse(error),
+    }
+}
+
+fn read_all<R: Reader>(alloc: Global, entries: &mut EntriesRaw<'_, R>, out: &mut Answer) {
     let mut entry = DebuggingInformationEntry::null(alloc);
     for _ in 0..50 {
         if entries.is_empty() {
             break;
         }
-        let is_present = entries.read_entry(&mut entry)?;
-        row(&entry, is_present, out)?;
+        match entries.read_entry(&mut entry) {
+            Ok(is_present) => row(&entry, is_present, out),
+            Err(error) => {
+                out.refuse(error);
+                break;
+            }
+        }
     }
-    Ok(())
 }
 
-fn row<R: Reader>(
-    entry: &DebuggingInformationEntry<R>,
-    is_present: bool,
-    out: &mut String,
-) -> Result<(), Error> {
-    let (offset, depth) = (entry.offset().0, entry.depth());
+fn row<R: Reader>(entry: &DebuggingInformationEntry<R>, is_present: bool, out: &mut Answer) {
+    out.text("[");
+    out.word(&entry.offset().0);
+    out.word(&entry.depth());
     if is_present {
-        let count = entry.attrs().len();
-        write!(out, "[{offset:?} {depth} {:?}", entry.tag())?;
-        if entry.has_children() {
-            out.push_str(" children")?;
-        }
-        write!(out, " {count} attributes]")?;
+        out.code(&entry.tag());
+        out.text_if(entry.has_children(), " children");
+        out.text(" ");
+        out.word(&entry.attrs().len());
+        out.text("attributes]");
     } else {
-        write!(out, "[{offset:?} {depth} null]")?;
+        out.text("null]");
     }
-    Ok(())
 }
 
 // All entries, whose attributes are skipped.
 fn entries_skipped<R: Reader>(
-    alloc: Global,
-    sections: &Sections<R>,
-    out: &mut String,
-) -> Result<(), Error> {
-    let (unit, table) = first_unit(alloc, sections)?;
-    let mut entries = entries_raw(&unit, &table, None)?;
-    for _ in 0..50 {
-        if entries.is_empty() {
-            break;
-        }
-        skip_entry(&mut entries, out)?;
+    unit: Result<(UnitHeader<R>, Abbreviations), Error>,
+    out: &mut Answer,
+) {
+    match unit {
+        Ok((unit, table)) => match entries_raw(&unit, &table, None) {
+            Ok(mut entries) => skip_all(&mut entries, out),
+            Err(error) => out.refuse(error),
+        },
+        Err(error) => out.refuse(error),
     }
-    Ok(())
 }
 
-fn skip_entry<R: Reader>(entries: &mut EntriesRaw<'_, R>, out: &mut String) -> Result<(), Error> {
-    let (offset, depth) = (entries.next_offset().0, entries.next_depth());
-    match entries.read_abbreviation()? {
-        Some(declared) => {
-            entries.skip_attributes(declared.attributes())?;
-            write!(out, "[{offset:?} {depth} {:?}]", declared.tag())?;
+fn skip_all<R: Reader>(entries: &mut EntriesRaw<'_, R>, out: &mut Answer) {
+    for _ in 0..50 {
+        if entries.is_empty() || !skip_entry(entries, out) {
+            break;
         }
-        None => write!(out, "[{offset:?} {depth} null]")?,
     }
-    Ok(())
+}
+
+// Skips an entry; whether it can.
+fn skip_entry<R: Reader>(entries: &mut EntriesRaw<'_, R>, out: &mut Answer) -> bool {
+    let (offset, depth) = (entries.next_offset().0, entries.next_depth());
+    let outcome = match entries.read_abbreviation() {
+        Ok(Some(declared)) => match entries.skip_attributes(declared.attributes()) {
+            Ok(()) => Ok(Some(declared.tag())),
+            Err(error) => Err(error),
+        },
+        Ok(None) => Ok(None),
+        Err(error) => Err(error),
+    };
+    match outcome {
+        Ok(tag) => {
+            out.text("[");
+            out.word(&offset);
+            out.word(&depth);
+            match tag {
+                Some(tag) => out.code(&tag),
+                None => out.text("null"),
+            }
+            out.text("]");
+            true
+        }
+        Err(error) => {
+            out.refuse(error);
+            false
+        }
+    }
 }
 
 // The entry at the offset.
-fn entry_at<R: Reader>(
-    alloc: Global,
-    case: &Case,
-    sections: &Sections<R>,
-    out: &mut String,
-) -> Result<(), Error> {
-    row(&entry(alloc, case, sections)?, true, out)
+fn one_entry<R: Reader>(entry: &Result<DebuggingInformationEntry<R>, Error>, out: &mut Answer) {
+    match entry {
+        Ok(entry) => row(entry, true, out),
+        Err(error) => out.refuse(*error),
+    }
 }
 
 fn entry<R: Reader>(
     alloc: Global,
     case: &Case,
-    sections: &Sections<R>,
+    sections: Sections<R>,
 ) -> Result<DebuggingInformationEntry<R>, Error> {
     let start = DebugInfoOffset(R::Offset::from_u8(0));
-    let unit = DebugInfo::from(sections.first.copy()?).header_from_offset(start)?;
-    let table = table(alloc, sections.second.copy()?, R::Offset::from_u8(0))?;
-    unit.entry(alloc, &table, UnitOffset(case.offset()?))
+    match DebugInfo::from(sections.first).header_from_offset(start) {
+        Ok(unit) => {
+            let table = table(alloc, sections.second, Ok(R::Offset::from_u8(0)));
+            entry_of(alloc, &unit, table, case.offset())
+        }
+        Err(error) => Err(error),
+    }
+}
+
+fn entry_of<R: Reader>(
+    alloc: Global,
+    unit: &UnitHeader<R>,
+    table: Result<Abbreviations, Error>,
+    offset: Result<R::Offset, Error>,
+) -> Result<DebuggingInformationEntry<R>, Error> {
+    match (table, offset) {
+        (Ok(table), Ok(offset)) => unit.entry(alloc, &table, UnitOffset(offset)),
+        (Err(error), _) => Err(error),
+        (_, Err(error)) => Err(error),
+    }
 }
 
 // The attribute of the name, as it is read and as its name makes it.
 fn attribute_of_entry<R: Reader>(
-    alloc: Global,
     case: &Case,
-    sections: &Sections<R>,
-    out: &mut String,
-) -> Result<(), Error> {
-    let entry = entry(alloc, case, sections)?;
-    let name: DwAt = case.name;
-    match entry.attr(name) {
-        Some(attribute) => write!(out, "{:?}", attribute.form())?,
-        None => write!(out, "{}", entry.has_attr(name))?,
+    entry: Result<DebuggingInformationEntry<R>, Error>,
+    out: &mut Answer,
+) {
+    match entry {
+        Ok(entry) => {
+            match entry.attr(case.name) {
+                Some(attribute) => out.code(&attribute.form()),
+                None => out.value(&entry.has_attr(case.name)),
+            }
+            attributes::value_if_any(&entry.attr_value_raw(case.name), out);
+            attributes::value_if_any(&entry.attr_value(case.name), out);
+        }
+        Err(error) => out.refuse(error),
     }
-    if let Some(value) = entry.attr_value_raw(name)? {
-        attributes::value(alloc, &value, out)?;
-    }
-    if let Some(value) = entry.attr_value(name)? {
-        attributes::value(alloc, &value, out)?;
-    }
-    Ok(())
 }

@@ -14,56 +14,95 @@ const VALID: &[u8] = b"na\xc3\xafve";
 
 const BROKEN: &[u8] = b"a\xffb";
 
-#[test]
-fn parts_of_shared_bytes(rt: HostRuntime) -> Result<(), Fail> {
-    let mut reader = EndianBytes::new(Bytes::from_static(b"cdef"), BigEndian);
-    assert_eq!(rt; reader.split(2)?.to_slice()?.as_slice(), b"cd".as_slice());
-    assert_eq!(rt; reader.lookup_offset_id(ReaderOffsetId(4)), Some(2));
-    assert_eq!(rt; read_u8_array::<2, _>(&mut reader)?, [b'e', b'f']);
+// Each call is in a helper to which its bytes are passed: with the literals in one body, the
+// checker would compute the contracts on them.
+
+fn shared(bytes: &'static [u8]) -> EndianBytes<BigEndian> {
+    EndianBytes::new(Bytes::from_static(bytes), BigEndian)
+}
+
+fn slice(bytes: &'static [u8]) -> EndianSlice<'static, RunTimeEndian> {
+    EndianSlice::new(bytes, RunTimeEndian::Big)
+}
+
+// Whether the next bytes are these, and where an identifier is in what is left.
+fn split<R: Reader>(reader: &mut R, bytes: &[u8], id: u64) -> Result<(bool, Option<u64>), Error> {
+    let count = R::Offset::from_u64(bytes.len() as u64)?;
+    let next = reader.split(count)?;
+    let is_next = next.to_slice()?.as_slice() == bytes;
+    let place = reader.lookup_offset_id(ReaderOffsetId(id));
+    Ok((is_next, place.map(|place| place.into_u64())))
+}
+
+fn two_bytes<R: Reader>(reader: &mut R) -> Result<[u8; 2], Error> {
+    read_u8_array::<2, _>(reader)
+}
+
+fn is_empty_after_all<R: Reader>(mut reader: R) -> bool {
     reader.empty();
-    assert!(rt; reader.is_empty());
-    Ok(())
+    reader.is_empty()
 }
 
 #[test]
-fn parts_of_slices(rt: HostRuntime) -> Result<(), Fail> {
-    let whole = EndianSlice::new(b"name\0rest", RunTimeEndian::Big);
-    let (front, back) = whole.split_at(4);
-    assert_eq!(rt; front.to_string()?, "name");
-    assert_eq!(rt; back.offset_from(&whole), 4);
-    assert_eq!(rt; back.find(b'r'), Some(1));
-    assert!(rt; whole.range(2..3) == EndianSlice::new(b"m", RunTimeEndian::Big));
+fn parts_of_shared_bytes(rt: HostRuntime) -> Result<(), Fail> {
+    let mut reader = shared(b"cdef");
+    assert_eq!(rt; split(&mut reader, b"cd", 4)?, (true, Some(2)));
+    assert_eq!(rt; two_bytes(&mut reader)?, [b'e', b'f']);
+    assert!(rt; is_empty_after_all(shared(b"cdef")));
     Ok(())
+}
+
+// The text before a place, how far it is to what comes after, where a byte is in that, and whether
+// the byte at 2 is this one.
+fn parts(
+    whole: &EndianSlice<'static, RunTimeEndian>,
+    place: usize,
+    byte: u8,
+) -> Option<(&'static str, usize, Option<usize>)> {
+    if place > whole.slice().len() {
+        return None;
+    }
+    let (front, back) = whole.split_at(place);
+    let text = front.to_string().ok()?;
+    Some((text, back.offset_from(whole), back.find(byte)))
+}
+
+fn is_part(whole: &EndianSlice<'static, RunTimeEndian>, place: usize, byte: &'static [u8]) -> bool {
+    place < whole.slice().len() && whole.range(place..place + 1) == slice(byte)
+}
+
+#[test]
+fn parts_of_slices(rt: HostRuntime) {
+    let whole = slice(b"name\0rest");
+    assert_eq!(rt; parts(&whole, 4, b'r'), Some(("name", 4, Some(1))));
+    assert!(rt; is_part(&whole, 2, b"m"));
+}
+
+// Whether the bytes are this text, whether they are with faults replaced, and whether that is lent.
+fn texts<R: Reader>(
+    alloc: Global,
+    reader: &R,
+    text: &str,
+) -> Result<(Result<bool, Error>, bool, bool), Error> {
+    let is_text = match reader.to_string() {
+        Ok(found) => Ok(found.as_str() == text),
+        Err(error) => Err(error),
+    };
+    let lossy = reader.to_string_lossy(alloc)?;
+    let is_lent = matches!(&lossy, CowStr::Borrowed(_));
+    Ok((is_text, lossy.as_str() == text, is_lent))
 }
 
 // A text with a letter of two bytes is lent, and a byte that is no UTF-8 is replaced.
 #[test]
-fn texts_of_slices(rt: HostRuntime) -> Result<(), Fail> {
-    let valid = EndianSlice::new(VALID, LittleEndian);
-    let broken = EndianSlice::new(BROKEN, LittleEndian);
-    assert!(rt;
-        matches!(
-            valid.to_string_lossy(rt.alloc())?,
-            CowStr::Borrowed("na\u{ef}ve")
-        )
-    );
-    assert_eq!(rt; broken.to_string_lossy(rt.alloc())?.as_str(), "a\u{fffd}b");
-    assert!(rt; matches!(broken.to_string(), Err(Error::BadUtf8)));
-    Ok(())
-}
-
-#[test]
-fn texts_of_shared_bytes(rt: HostRuntime) -> Result<(), Fail> {
-    let valid = EndianBytes::new(Bytes::from_static(VALID), LittleEndian);
-    let broken = EndianBytes::new(Bytes::from_static(BROKEN), LittleEndian);
-    assert!(rt;
-        matches!(
-            valid.to_string_lossy(rt.alloc())?,
-            CowStr::Borrowed("na\u{ef}ve")
-        )
-    );
-    assert_eq!(rt; broken.to_string_lossy(rt.alloc())?.as_str(), "a\u{fffd}b");
-    assert!(rt; matches!(broken.to_string(), Err(Error::BadUtf8)));
+fn texts_of_readers(rt: HostRuntime) -> Result<(), Fail> {
+    let alloc = rt.alloc();
+    let valid = (Ok(true), true, true);
+    assert_eq!(rt; texts(alloc, &slice(VALID), "na\u{ef}ve")?, valid);
+    assert_eq!(rt; texts(alloc, &shared(VALID), "na\u{ef}ve")?, valid);
+    let broken = (Err(Error::BadUtf8), true, false);
+    assert_eq!(rt; texts(alloc, &slice(BROKEN), "a\u{fffd}b")?, broken);
+    assert_eq!(rt; texts(alloc, &shared(BROKEN), "a\u{fffd}b")?, broken);
     Ok(())
 }
 
@@ -84,51 +123,56 @@ fn in_big_order(reader: &EndianSlice<'static, LittleEndian>) -> EndianSlice<'sta
 // An abbreviation, a string of two bytes, an address and the offset of a string, high byte first.
 const BYTES: &[u8] = b"\x01\x11\0\0\0\0\x12\x34";
 
-// Whether the table that the bytes begin with declares the code 1.
-fn has_abbreviation(alloc: Global) -> Result<bool, Error> {
-    let section = DebugAbbrev::new(BYTES, LittleEndian);
+// Whether the table that bytes begin with declares a code.
+fn has_abbreviation(alloc: Global, bytes: &'static [u8], code: u64) -> Result<bool, Error> {
+    let section = DebugAbbrev::new(bytes, LittleEndian);
     let borrowed = section.borrow(in_big_order);
     let table = borrowed.abbreviations(alloc, DebugAbbrevOffset(0))?;
-    Ok(table.get(1).is_some())
+    Ok(table.get(code).is_some())
 }
 
-fn string_length() -> Result<usize, Error> {
-    let section = DebugStr::new(BYTES, LittleEndian);
+fn string_length(bytes: &'static [u8]) -> Result<usize, Error> {
+    let section = DebugStr::new(bytes, LittleEndian);
     let text = section.borrow(in_big_order).get_str(DebugStrOffset(0))?;
     Ok(text.slice().len())
 }
 
-fn address() -> Result<u64, Error> {
-    let section = DebugAddr::new(BYTES, LittleEndian);
+fn address(bytes: &'static [u8], base: usize) -> Result<u64, Error> {
+    let section = DebugAddr::new(bytes, LittleEndian);
     let borrowed = section.borrow(in_big_order);
-    borrowed.get_address(2, DebugAddrBase(6), DebugAddrIndex(0))
+    borrowed.get_address(2, DebugAddrBase(base), DebugAddrIndex(0))
 }
 
-fn string_offset() -> Result<DebugStrOffset, Error> {
-    let section = DebugStrOffsets::new(BYTES, LittleEndian);
-    let (base, index) = (DebugStrOffsetsBase(4), DebugStrOffsetsIndex(0));
+fn string_offset(bytes: &'static [u8], base: usize) -> Result<DebugStrOffset, Error> {
+    let section = DebugStrOffsets::new(bytes, LittleEndian);
+    let (base, index) = (DebugStrOffsetsBase(base), DebugStrOffsetsIndex(0));
     let borrowed = section.borrow(in_big_order);
     borrowed.get_str_offset(Format::Dwarf32, base, index)
 }
 
-// The place of an identifier in a section that is loaded by its name, and a string of it.
-fn place_and_string() -> Result<(Option<(SectionId, usize)>, usize), Error> {
+// The place of an identifier in a section that is loaded by its name, and the length of a string
+// of it.
+fn place_and_string(id: u64, offset: usize) -> Result<(Option<(SectionId, usize)>, usize), Error> {
     let section: DebugLineStr<EndianSlice<LittleEndian>> = Section::load(load_line_strings)?;
-    let place = section.lookup_offset_id(ReaderOffsetId(2));
-    let text = section.borrow(in_big_order).get_str(DebugLineStrOffset(1))?;
+    let place = section.lookup_offset_id(ReaderOffsetId(id));
+    let borrowed = section.borrow(in_big_order);
+    let text = borrowed.get_str(DebugLineStrOffset(offset))?;
     Ok((place, text.slice().len()))
+}
+
+fn name_of_line_strings() -> &'static str {
+    <DebugLineStr<EndianSlice<LittleEndian>> as Section<_>>::section_name()
 }
 
 #[test]
 fn sections_are_borrowed_in_another_order(rt: HostRuntime) -> Result<(), Fail> {
-    assert!(rt; has_abbreviation(rt.alloc())?);
-    assert_eq!(rt; string_length()?, 2);
-    assert_eq!(rt; address()?, 0x1234);
-    assert_eq!(rt; string_offset()?, DebugStrOffset(0x1234));
+    assert!(rt; has_abbreviation(rt.alloc(), BYTES, 1)?);
+    assert_eq!(rt; string_length(BYTES), Ok(2));
+    assert_eq!(rt; address(BYTES, 6), Ok(0x1234));
+    assert_eq!(rt; string_offset(BYTES, 4), Ok(DebugStrOffset(0x1234)));
     let place = Some((SectionId::DebugLineStr, 2));
-    assert_eq!(rt; place_and_string()?, (place, 2));
-    let name = <DebugLineStr<EndianSlice<LittleEndian>> as Section<_>>::section_name();
-    assert_eq!(rt; name, ".debug_line_str");
+    assert_eq!(rt; place_and_string(2, 1), Ok((place, 2)));
+    assert_eq!(rt; name_of_line_strings(), ".debug_line_str");
     Ok(())
 }
 
@@ -148,9 +192,13 @@ fn offsets(alloc: Global) -> Result<Vec<Result<DebugAbbrevOffset, Error>>, Error
     Ok(offsets)
 }
 
-// Whether each of the two tables is in the cache, which is asked with an empty section.
-fn is_in_cache(alloc: Global, strategy: AbbreviationsCacheStrategy) -> Result<(bool, bool), Error> {
-    let section = DebugAbbrev::new(&TWO, LittleEndian);
+// Whether each of two tables is in the cache, which is asked with an empty section.
+fn is_in_cache(
+    alloc: Global,
+    bytes: &'static [u8],
+    strategy: AbbreviationsCacheStrategy,
+) -> Result<(bool, bool), Error> {
+    let section = DebugAbbrev::new(bytes, LittleEndian);
     let empty = DebugAbbrev::new(&[], LittleEndian);
     let mut cache = AbbreviationsCache::new(alloc);
     cache.populate(alloc, strategy, &section, offsets(alloc)?.into_iter())?;
@@ -163,8 +211,8 @@ fn is_in_cache(alloc: Global, strategy: AbbreviationsCacheStrategy) -> Result<(b
 }
 
 // Whether a table that is set is found at its offset.
-fn is_set(alloc: Global) -> Result<bool, Error> {
-    let section = DebugAbbrev::new(&TWO, LittleEndian);
+fn is_set(alloc: Global, bytes: &'static [u8]) -> Result<bool, Error> {
+    let section = DebugAbbrev::new(bytes, LittleEndian);
     let mut cache = AbbreviationsCache::new(alloc);
     let table = section.abbreviations(alloc, DebugAbbrevOffset(0))?;
     cache.set(DebugAbbrevOffset(8usize), Rc::new(alloc, table)?)?;
@@ -178,8 +226,8 @@ fn a_cache_has_the_tables_that_are_asked_for(rt: HostRuntime) -> Result<(), Fail
         AbbreviationsCacheStrategy::All,
         AbbreviationsCacheStrategy::Duplicates,
     );
-    assert_eq!(rt; is_in_cache(rt.alloc(), all)?, (true, true));
-    assert_eq!(rt; is_in_cache(rt.alloc(), duplicates)?, (true, false));
-    assert!(rt; is_set(rt.alloc())?);
+    assert_eq!(rt; is_in_cache(rt.alloc(), &TWO, all)?, (true, true));
+    assert_eq!(rt; is_in_cache(rt.alloc(), &TWO, duplicates)?, (true, false));
+    assert!(rt; is_set(rt.alloc(), &TWO)?);
     Ok(())
 }

@@ -16,7 +16,7 @@ use Rattle.gimli_core_readers.specs.Fault.TheVariants.{Cut, Bad}
 use Rattle.gimli_core_readers.specs.Leb128.{bounded_string, unsigned_number, signed_number, fits_i64, unsigned_of, unsigned_at, signed_of, signed_at}
 use Rattle.gimli_core_readers.specs.NumberParsers.{fixed, number_and_rest, unsigned, unsigned_16, signed}
 use Rattle.gimli_core_readers.proofs.LebStringLaws.{unsigned_ignores_rest, signed_ignores_rest}
-use Rattle.gimli_core_readers.proofs.NumberReadSizes.{judged_stands}
+use Rattle.gimli_core_readers.proofs.NumberReadSizes.{judged_fits_in}
 use Rattle.gimli_core_abbrev.specs.TableLaws.{with_more_bytes}
 
 -- ---- answers
@@ -107,34 +107,37 @@ Stays-fixed {more} n v = elim (cases_lt (length v.bytes) n) [
 
 -- ---- LEB128
 
-abbrev spelled : {A : Type 0} → A → ℕ → Result (A × ℕ) Fault
-spelled x k = Ok (x, k)
+abbrev value_and_count : {A : Type 0} → A → ℕ → Result (A × ℕ) Fault
+value_and_count x k = Ok (x, k)
 
-length_is : {A : Type 0} (x y : A) (m k : ℕ) → spelled x m ≡ spelled y k → m ≡ k
+length_is : {A : Type 0} (x y : A) (m k : ℕ) → value_and_count x m ≡ value_and_count y k → m ≡ k
 length_is {A} x y m k e = let is : (x, m) ≡ (y, k) = cc in ap (λ (p : A × ℕ). p.1) is
 
 unsigned_fits : (bound limit : ℕ) (bytes : List ℕ) (x k : ℕ) → unsigned_at limit bound bytes ≡ Ok (x, k)
     → k ≤ length bytes
 unsigned_fits bound limit bytes x k e = judgement (bounded_string limit bytes) refl e
   where
-    judgement : (r : Result (List ℕ) Fault) → bounded_string limit bytes ≡ r → unsigned_of bound r ≡ spelled x k
+    judgement : (r : Result (List ℕ) Fault) → bounded_string limit bytes ≡ r → unsigned_of bound r ≡ value_and_count x k
         → k ≤ length bytes
     judgement (Err fault) is h = absurd cc
     judgement (Ok s) is h = cases (nat_lt (unsigned_number s) bound) h
       where
-        cases : (b : Bool) → cond b (spelled (unsigned_number s) (length s)) (Err Bad) ≡ spelled x k → k ≤ length bytes
-        cases true g = rw (← length_is (unsigned_number s) x (length s) k g) (judged_stands limit bytes s is).fits
+        cases : (b : Bool) → cond b (value_and_count (unsigned_number s) (length s)) (Err Bad) ≡ value_and_count x k
+            → k ≤ length bytes
+        cases true g = rw (← length_is (unsigned_number s) x (length s) k g) (judged_fits_in limit bytes s is).fits
         cases false g = absurd cc
 
 signed_fits : (bytes : List ℕ) (x : ℤ) (k : ℕ) → signed_at bytes ≡ Ok (x, k) → k ≤ length bytes
 signed_fits bytes x k e = judgement (bounded_string 10 bytes) refl e
   where
-    judgement : (r : Result (List ℕ) Fault) → bounded_string 10 bytes ≡ r → signed_of r ≡ spelled x k → k ≤ length bytes
+    judgement : (r : Result (List ℕ) Fault) → bounded_string 10 bytes ≡ r → signed_of r ≡ value_and_count x k
+        → k ≤ length bytes
     judgement (Err fault) is h = absurd cc
     judgement (Ok s) is h = cases (fits_i64 (signed_number s)) h
       where
-        cases : (b : Bool) → cond b (spelled (signed_number s) (length s)) (Err Bad) ≡ spelled x k → k ≤ length bytes
-        cases true g = rw (← length_is (signed_number s) x (length s) k g) (judged_stands 10 bytes s is).fits
+        cases : (b : Bool) → cond b (value_and_count (signed_number s) (length s)) (Err Bad) ≡ value_and_count x k
+            → k ≤ length bytes
+        cases true g = rw (← length_is (signed_number s) x (length s) k g) (judged_fits_in 10 bytes s is).fits
         cases false g = absurd cc
 
 rest-stays : {A : Type 0} {more : List ℕ} (bad : Error) (v : View) (r s : Result (A × ℕ) Fault)
@@ -193,39 +196,40 @@ pub listing-stays : {A : Type 0} {p : Step View (Option A)} (more : List ℕ) �
 listing-stays more h k zero v few uncut = absurd (omega arith)
 listing-stays {A} {p} more h k (suc n) v few uncut =
     listing_next h (with_more_bytes more v)
-    ∙ stepped (p v) (p (with_more_bytes more v)) refl (k v) (rw (listing_next h v) at uncut)
+    ∙ by_step (p v) (p (with_more_bytes more v)) refl (k v) (rw (listing_next h v) at uncut)
     (λ t lt. listing-stays more h k n t (omega arith))
     ∙ ap (listing_with more) (sym (listing_next h v))
   where
-    stepped : (r s : Result (Option A × View) Error) → p v ≡ r → Stays more r s
+    by_step : (r s : Result (Option A × View) Error) → p v ≡ r → Stays more r s
         → NotCut (next_item r (listing_in bytes_left p)).ending
         → ((t : View) → bytes_left t < bytes_left v → NotCut (listing_in bytes_left p t).ending
         → listing_in bytes_left p (with_more_bytes more t) ≡ listing_with more (listing_in bytes_left p t))
         → next_item s (listing_in bytes_left p) ≡ listing_with more (next_item r (listing_in bytes_left p))
-    stepped (Err d) s is st not_cut again =
+    by_step (Err d) s is st not_cut again =
         let same : s ≡ Err d = st.same (NotCut-Err d not_cut) in
         ap (λ (t : Result (Option A × View) Error). next_item t (listing_in bytes_left p)) same
-    stepped (Ok r) s is st not_cut again =
+    by_step (Ok r) s is st not_cut again =
         let same : s ≡ read r.0 (with_more_bytes more r.1) = st.same (λ id e. cc) in
-        ap (λ (t : Result (Option A × View) Error). next_item t (listing_in bytes_left p)) same ∙ itemed r.0 refl not_cut
+        ap (λ (t : Result (Option A × View) Error). next_item t (listing_in bytes_left p)) same
+        ∙ by_item r.0 refl not_cut
       where
-        itemed : (o : Option A) → r.0 ≡ o → NotCut (item_or_end o r.1 (listing_in bytes_left p)).ending
+        by_item : (o : Option A) → r.0 ≡ o → NotCut (item_or_end o r.1 (listing_in bytes_left p)).ending
             → item_or_end o (with_more_bytes more r.1) (listing_in bytes_left p)
             ≡ listing_with more (item_or_end o r.1 (listing_in bytes_left p))
-        itemed None e still = refl
-        itemed (Some x) e still =
+        by_item None e still = refl
+        by_item (Some x) e still =
             let lt : bytes_left r.1 < bytes_left v = item_smaller h v x r.1 (is ∙ ap (λ (o : Option A). read o r.1) e)
             in
             ap (prepend (x ∷ [])) (again r.1 lt still)
 
 pub Stays-whole : {A : Type 0} {more : List ℕ} (l m : Listing View A) → (NotCut l.ending → m ≡ listing_with more l)
     → Stays more (whole l) (whole m)
-Stays-whole {A} {more} l m same = record { same = λ w. ap whole (same (uncut l.ending w)) ∙ moved l.ending }
+Stays-whole {A} {more} l m same = record { same = λ w. ap whole (same (uncut l.ending w)) ∙ by_ending l.ending }
   where
     uncut : (r : Result View Error) → NotCut (whole_of l.items r) → NotCut r
     uncut (Ok u) w = λ id e. cc
     uncut (Err d) w = NotCut-Err d w
 
-    moved : (r : Result View Error) → whole_of l.items (ending_with more r) ≡ with_more more (whole_of l.items r)
-    moved (Ok u) = refl
-    moved (Err d) = refl
+    by_ending : (r : Result View Error) → whole_of l.items (ending_with more r) ≡ with_more more (whole_of l.items r)
+    by_ending (Ok u) = refl
+    by_ending (Err d) = refl

@@ -20,8 +20,8 @@ use Rattle.gimli_core_abbrev.specs.TableParsing.{table_at}
 use Rattle.gimli_core_abbrev.proofs.TableInsertion.{key_test}
 use Rattle.gimli_core_abbrev.proofs.RepeatedOffsets.{among, times_among, among_times, place_test}
 
-abbrev Cached : Type 0
-Cached = Result (Rc Abbreviations Global) Error
+abbrev CachedTable : Type 0
+CachedTable = Result (Rc Abbreviations Global) Error
 
 -- two caches that have the same table at each offset are equal
 pub same_tables : (m n : TablesByOffset) → ((offset : ℕ) → get m offset ≡ get n offset) → m ≡ n
@@ -29,7 +29,7 @@ same_tables m n same = same_map nat_cmp_total nat_cmp-IsAntisymmetric m n same
 
 -- ---- the tree of tables
 
-find_cached : (offset : ℕ) (es : List (ℕ × Cached))
+find_cached : (offset : ℕ) (es : List (ℕ × CachedTable))
     → find nat_cmp offset (map cached_view es) ≡ option_map table_view (lookup (is_at (nat_cmp offset)) es)
 find_cached offset [] = refl
 find_cached offset (e ∷ es) =
@@ -40,19 +40,19 @@ find_cached offset (e ∷ es) =
     ]
 
 -- the cache has at an offset what its tree has
-pub get_cached : (es : List (ℕ × Cached)) (offset : ℕ)
+pub get_cached : (es : List (ℕ × CachedTable)) (offset : ℕ)
     → get (from_entries {R = nat_cmp} (map cached_view es)) offset
     ≡ option_map table_view (lookup (is_at (nat_cmp offset)) es)
 get_cached es offset = get-from_entries nat_cmp_total (map cached_view es) offset ∙ find_cached offset es
 
-pub no_tables : (es : List (ℕ × Cached)) → es ≡ [] → (offset : ℕ)
+pub no_tables : (es : List (ℕ × CachedTable)) → es ≡ [] → (offset : ℕ)
     → get (from_entries {R = nat_cmp} (map cached_view es)) offset ≡ None
 no_tables es empty offset =
     get_cached es offset
-    ∙ ap (λ (fs : List (ℕ × Cached)). option_map table_view (lookup (is_at (nat_cmp offset)) fs)) empty
+    ∙ ap (λ (fs : List (ℕ × CachedTable)). option_map table_view (lookup (is_at (nat_cmp offset)) fs)) empty
 
 -- a tree that has one table more, or another at its offset
-pub insert_cached : (es fs : List (ℕ × Cached)) (place : ℕ) (table : Cached)
+pub insert_cached : (es fs : List (ℕ × CachedTable)) (place : ℕ) (table : CachedTable)
     → ((offset : ℕ) → lookup (is_at (nat_cmp offset)) fs
     ≡ cond (is_at (nat_cmp place) offset) (Some table) (lookup (is_at (nat_cmp offset)) es))
     → from_entries {R = nat_cmp} (map cached_view fs)
@@ -70,8 +70,8 @@ insert_cached es fs place table is = same_tables _ _ (λ offset.
     at offset true = refl
     at offset false = sym (get_cached es offset)
 
-pub set_cached : {E : Type 0} (r : Result (Unit {0}) E) (m : TablesByOffset) (es fs : List (ℕ × Cached)) (place at : ℕ)
-    (table : Cached) → from_entries {R = nat_cmp} (map cached_view es) ≡ m → place ≡ at
+pub set_cached : {E : Type 0} (r : Result (Unit {0}) E) (m : TablesByOffset) (es fs : List (ℕ × CachedTable))
+    (place at : ℕ) (table : CachedTable) → from_entries {R = nat_cmp} (map cached_view es) ≡ m → place ≡ at
     → OnOk r ((offset : ℕ) → lookup (is_at (nat_cmp offset)) fs
     ≡ cond (is_at (nat_cmp place) offset) (Some table) (lookup (is_at (nat_cmp offset)) es))
     → OnOk r (from_entries {R = nat_cmp} (map cached_view fs) ≡ insert m at (table_view table))

@@ -35,17 +35,17 @@ listed_leaves : {A : Type 0} (p : Step View (Option A))
     → bytes_left v ≤ n → (items_within k p v).ending ≡ Ok w → bytes_left w ≤ n
 unfolding items_within
 listed_leaves p leaves zero v w n h e = rw (← (ok_is v w e)) h
-listed_leaves {A} p leaves (suc k) v w n h e = stepped (p v) refl e (λ t. listed_leaves p leaves k t w n)
+listed_leaves {A} p leaves (suc k) v w n h e = by_step (p v) refl e (λ t. listed_leaves p leaves k t w n)
   where
-    stepped : (r : Result (Option A × View) Error) → p v ≡ r → (next_item r (items_within k p)).ending ≡ Ok w
+    by_step : (r : Result (Option A × View) Error) → p v ≡ r → (next_item r (items_within k p)).ending ≡ Ok w
         → ((t : View) → bytes_left t ≤ n → (items_within k p t).ending ≡ Ok w → bytes_left w ≤ n) → bytes_left w ≤ n
-    stepped (Err d) q f again = absurd cc
-    stepped (Ok r) q f again = itemed r.0 ((leaves v n h).left r.0 r.1 q) f
+    by_step (Err d) q f again = absurd cc
+    by_step (Ok r) q f again = by_item r.0 ((leaves v n h).left r.0 r.1 q) f
       where
-        itemed : (o : Option A) → bytes_left r.1 ≤ n → (item_or_end o r.1 (items_within k p)).ending ≡ Ok w
+        by_item : (o : Option A) → bytes_left r.1 ≤ n → (item_or_end o r.1 (items_within k p)).ending ≡ Ok w
             → bytes_left w ≤ n
-        itemed None le g = rw (← (ok_is r.1 w g)) le
-        itemed (Some x) le g = again r.1 le g
+        by_item None le g = rw (← (ok_is r.1 w g)) le
+        by_item (Some x) le g = again r.1 le g
 
 pub attribute-leaves : (v : View) (n : ℕ) → bytes_left v ≤ n → AtMost bytes_left n (attribute v)
 unfolding attribute attribute_of implicit_const
@@ -58,12 +58,12 @@ listing_leaves v w n h e = listed_leaves attribute attribute-leaves (suc (bytes_
 
 pub attributes-leave : (v : View) (n : ℕ) → bytes_left v ≤ n → AtMost bytes_left n (attributes v)
 unfolding attributes
-attributes-leave v n h = ended (listing_in bytes_left attribute v).ending refl
+attributes-leave v n h = by_end (listing_in bytes_left attribute v).ending refl
   where
-    ended : (r : Result View Error) → (listing_in bytes_left attribute v).ending ≡ r
+    by_end : (r : Result View Error) → (listing_in bytes_left attribute v).ending ≡ r
         → AtMost bytes_left n (whole_of (listing_in bytes_left attribute v).items r)
-    ended (Ok w) e = AtMost-Ok (listing_leaves v w n h e)
-    ended (Err d) e = AtMost-Err
+    by_end (Ok w) e = AtMost-Ok (listing_leaves v w n h e)
+    by_end (Err d) e = AtMost-Err
 
 attributes-below : (v : View) (n : ℕ) → bytes_left v < n → Below bytes_left n (attributes v)
 attributes-below v n h = Below-lt (attributes-leave v (bytes_left v) (omega arith)) h

@@ -1,22 +1,14 @@
 -- Offsets of a list, and those that occur twice or more.
-use Rattle.std.proofs.Common.{◌≡◌, ℕ, ◌+◌, ◌<◌, ◌≤◌, Bool, true, false, cond, not, ◌||◌, eqb, leb, List, [], ◌∷◌, ◌++◌, length, map, take, get_or, count_by, refl, sym, ap, ◌∙◌, inl, inr, arith}
+use Rattle.std.proofs.Common.{◌≡◌, ℕ, ◌+◌, ◌<◌, ◌≤◌, Bool, true, false, cond, ◌||◌, eqb, leb, List, [], ◌∷◌, ◌++◌, length, map, take, get_or, count_by, refl, sym, ap, ◌∙◌, inl, inr, arith}
 use Rattle.std.specs.List.{list_any}
 use Rattle.std.specs.Ordering.{nat_cmp}
 use Rattle.std.specs.BTreeMap.{is_at}
+use Rattle.std.proofs.Math.Bool.{or-false, or-true}
 use Rattle.std.proofs.lemmas.Bool.{cases_eq, eqb-true, eq-eqb, ne_eqb, le-leb, lt-leb, leb-true, leb-false}
 use Rattle.std.proofs.lemmas.List.{take_more, map-append}
 use Rattle.std.proofs.lemmas.List.Folds.{list_any-append}
 use Rattle.std.proofs.lemmas.List.Sums.{sum_by-append}
 use Rattle.gimli_core_abbrev.proofs.TableInsertion.{key_test}
-
--- an answer that is turned round
-pub not_true : (b c : Bool) → b ≡ not c → b ≡ true → c ≡ false
-not_true b true e h = absurd (let t = sym e ∙ h in cc)
-not_true b false e h = refl
-
-pub not_false : (b c : Bool) → b ≡ not c → b ≡ false → c ≡ true
-not_false b true e h = refl
-not_false b false e h = absurd (let t = sym e ∙ h in cc)
 
 -- the offset is among these
 abbrev pub among : ℕ → List ℕ → Bool
@@ -24,10 +16,6 @@ among offset places = list_any (λ (p : ℕ). eqb p offset) places
 
 abbrev pub times_among : ℕ → List ℕ → ℕ
 times_among offset places = count_by (λ (p : ℕ). eqb p offset) places
-
-pub or_false : (b : Bool) → (b || false) ≡ b
-or_false true = refl
-or_false false = refl
 
 -- ---- one place more
 
@@ -41,7 +29,7 @@ pub among-push : (offset : ℕ) (places : List ℕ) (c : ℕ)
     → among offset (places ++ c ∷ []) ≡ (among offset places || eqb c offset)
 among-push offset places c =
     list_any-append (λ (p : ℕ). eqb p offset) places (c ∷ [])
-    ∙ ap (λ (b : Bool). among offset places || b) (or_false (eqb c offset))
+    ∙ ap (λ (b : Bool). among offset places || b) (or-false (eqb c offset))
 
 times-push : (offset : ℕ) (places : List ℕ) (c : ℕ) → times_among offset (places ++ c ∷ []) ≡ times_among offset places
     + cond (eqb c offset) 1 0
@@ -64,30 +52,26 @@ among_times offset (p ∷ places) =
 pub same_among : (offset c : ℕ) (places : List ℕ) → eqb c offset ≡ true → among c places ≡ among offset places
 same_among offset c places e = ap (λ (x : ℕ). among x places) (eqb-true c offset e)
 
-flipped : (a b : ℕ) → eqb a b ≡ eqb b a
-flipped a b = elim (cases_eq a b) [
+eqb_swap : (a b : ℕ) → eqb a b ≡ eqb b a
+eqb_swap a b = elim (cases_eq a b) [
   | inl same ↦ eq-eqb a b same ∙ sym (eq-eqb b a (sym same))
   | inr other ↦ ne_eqb a b other ∙ sym (ne_eqb b a (λ e. other (sym e)))
 ]
 
 -- a key of a map is compared with a place as the numbers are
 pub place_test : (a b : ℕ) → is_at (nat_cmp a) b ≡ eqb a b
-place_test a b = key_test a b ∙ flipped b a
+place_test a b = key_test a b ∙ eqb_swap b a
 
 -- ---- once
 
 pub distinct_more : (offset c : ℕ) (places : List ℕ) (old new : Bool) → new ≡ cond (is_at (nat_cmp c) offset) true old
     → old ≡ among offset places → new ≡ among offset (places ++ c ∷ [])
 distinct_more offset c places old new is was =
-    is ∙ rw (place_test c offset) (joined (eqb c offset) old was) ∙ sym (among-push offset places c)
+    is ∙ rw (place_test c offset) (or_cond (eqb c offset) old was) ∙ sym (among-push offset places c)
   where
-    joined : (b x : Bool) → x ≡ among offset places → cond b true x ≡ (among offset places || b)
-    joined true x h = true_there (among offset places)
-      where
-        true_there : (y : Bool) → true ≡ (y || true)
-        true_there true = refl
-        true_there false = refl
-    joined false x h = h ∙ sym (or_false (among offset places))
+    or_cond : (b x : Bool) → x ≡ among offset places → cond b true x ≡ (among offset places || b)
+    or_cond true x h = sym (or-true (among offset places))
+    or_cond false x h = h ∙ sym (or-false (among offset places))
 
 -- ---- twice
 
@@ -112,15 +96,11 @@ pub repeated_again : (offset c : ℕ) (places found : List ℕ) → among c plac
     → among offset found ≡ leb 2 (times_among offset places)
     → among offset (found ++ c ∷ []) ≡ leb 2 (times_among offset (places ++ c ∷ []))
 repeated_again offset c places found there was =
-    among-push offset found c ∙ sym (ap (leb 2) (times-push offset places c) ∙ counted (eqb c offset) refl)
+    among-push offset found c ∙ sym (ap (leb 2) (times-push offset places c) ∙ by_test (eqb c offset) refl)
   where
-    counted : (b : Bool) → eqb c offset ≡ b → leb 2 (times_among offset places + cond b 1 0) ≡ (among offset found || b)
-    counted true e =
+    by_test : (b : Bool) → eqb c offset ≡ b → leb 2 (times_among offset places + cond b 1 0) ≡ (among offset found || b)
+    by_test true e =
         let some : 1 ≤ times_among offset places = leb-true 1 (times_among offset places)
         (sym (among_times offset places) ∙ sym (same_among offset c places e) ∙ there) in
-        le-leb 2 (times_among offset places + 1) (omega arith) ∙ true_there (among offset found)
-      where
-        true_there : (y : Bool) → true ≡ (y || true)
-        true_there true = refl
-        true_there false = refl
-    counted false e = ap (leb 2) (omega arith) ∙ sym was ∙ sym (or_false (among offset found))
+        le-leb 2 (times_among offset places + 1) (omega arith) ∙ sym (or-true (among offset found))
+    by_test false e = ap (leb 2) (omega arith) ∙ sym was ∙ sym (or-false (among offset found))

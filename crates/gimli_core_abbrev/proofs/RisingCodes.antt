@@ -1,5 +1,5 @@
 -- The codes of a table rise from above 0.
-use Rattle.std.proofs.Common.{◌≡◌, ℕ, zero, suc, ◌<◌, ◌≤◌, Bool, true, false, cond, ◌||◌, eqb, List, [], ◌∷◌, ◌++◌, Option, Some, None, is_some, Result, Ok, Err, refl, ap, subst, ◌∙◌, inl, inr, arith}
+use Rattle.std.proofs.Common.{◌≡◌, ℕ, zero, suc, ◌<◌, ◌≤◌, Bool, ◌||◌, eqb, List, [], ◌∷◌, ◌++◌, Option, Some, None, is_some, Result, Ok, Err, refl, ap, subst, ◌∙◌, inl, inr, arith}
 use Rattle.std.proofs.lemmas.Bool.{cases_lt, ne_eqb, eqb-false, lt-ltb, le-ltb}
 use Rattle.gimli_core_readers.specs.Error.{Error}
 use Rattle.gimli_core_readers.specs.View.{View, bytes_left}
@@ -8,7 +8,7 @@ use Rattle.gimli_core_readers.specs.Repetition.{Listing, items_within, listing_i
 use Rattle.gimli_core_readers.proofs.StepParts.{begins, value_of-Ok, value_is, read}
 use Rattle.gimli_core_abbrev.specs.Declarations.{Declaration, declaration_at, has_code, put, put_all, by_code, repeated_after, repeated_code}
 use Rattle.gimli_core_abbrev.specs.TableParsing.{declaration, distinct, table_of, table, table_at}
-use Rattle.gimli_core_abbrev.proofs.TableCollection.{has_code-put, none_there, declaration-coded}
+use Rattle.gimli_core_abbrev.proofs.TableCollection.{has_code-put, none_there, none_later, declaration-coded}
 
 -- the codes rise from above n
 abbrev pub Rise : ℕ → List Declaration → Type 0
@@ -16,22 +16,17 @@ Rise n [] = Unit {0}
 Rise n (d ∷ ds) = (n < d.code) × Rise d.code ds
 
 -- none of the codes is 0
-abbrev pub Counted : List Declaration → Type 0
-Counted [] = Unit {0}
-Counted (d ∷ ds) = (0 < d.code) × Counted ds
+abbrev pub NoneIsZero : List Declaration → Type 0
+NoneIsZero [] = Unit {0}
+NoneIsZero (d ∷ ds) = (0 < d.code) × NoneIsZero ds
 
 -- ---- what is put among those that rise
-
--- the first one isn't found, nor is one behind it
-pub others : (b : Bool) (e : Declaration) (o : Option Declaration) → cond b (Some e) o ≡ None → (b ≡ false) × (o ≡ None)
-others true e o h = absurd cc
-others false e o h = (refl, h)
 
 Rise-put : (n : ℕ) (d : Declaration) (ds : List Declaration) → Rise n ds → n < d.code → declaration_at d.code ds ≡ None
     → Rise n (put d ds)
 Rise-put n d [] rises above absent = (above, tt)
 Rise-put n d (e ∷ ds) rises above absent =
-    let other = others (eqb e.code d.code) e (declaration_at d.code ds) absent in
+    let other = none_later (eqb e.code d.code) e (declaration_at d.code ds) absent in
     elim (cases_lt d.code e.code) [
       | inl less ↦ rw (lt-ltb d.code e.code less) (above, (less, rises.1))
       | inr le ↦
@@ -40,46 +35,43 @@ Rise-put n d (e ∷ ds) rises above absent =
     ]
 
 Rise-put_all : (before so_far ds : List Declaration)
-    → ((code : ℕ) → is_some (declaration_at code so_far) ≡ has_code code before) → Rise 0 so_far → Counted ds
+    → ((code : ℕ) → is_some (declaration_at code so_far) ≡ has_code code before) → Rise 0 so_far → NoneIsZero ds
     → repeated_after before ds ≡ None → Rise 0 (put_all so_far ds)
 Rise-put_all before so_far [] same rises counted once = rises
 Rise-put_all before so_far (d ∷ ds) same rises counted once =
-    let here = split (has_code d.code before) d.code (repeated_after (d ∷ before) ds) once in
-    let absent : declaration_at d.code so_far ≡ None = none_there (declaration_at d.code so_far) (same d.code ∙ here.0) in
+    let here = none_later (has_code d.code before) d.code (repeated_after (d ∷ before) ds) once in
+    let absent : declaration_at d.code so_far ≡ None =
+    none_there (declaration_at d.code so_far) (same d.code ∙ here.0) in
     Rise-put_all (d ∷ before) (put d so_far) ds
     (λ code. has_code-put code d so_far ∙ ap (λ (b : Bool). eqb d.code code || b) (same code))
     (Rise-put 0 d so_far rises counted.0 absent) counted.1 here.1
-  where
-    split : (b : Bool) (code : ℕ) (o : Option ℕ) → cond b (Some code) o ≡ None → (b ≡ false) × (o ≡ None)
-    split true code o h = absurd cc
-    split false code o h = (refl, h)
 
 -- ---- what is listed
 
-Counted-listed : (k : ℕ) (v : View) → Counted (items_within k declaration v).items
+NoneIsZero-listed : (k : ℕ) (v : View) → NoneIsZero (items_within k declaration v).items
 unfolding items_within
-Counted-listed zero v = tt
-Counted-listed (suc k) v = stepped (declaration v) refl (λ t. Counted-listed k t)
+NoneIsZero-listed zero v = tt
+NoneIsZero-listed (suc k) v = by_step (declaration v) refl (λ t. NoneIsZero-listed k t)
   where
-    stepped : (r : Result (Option Declaration × View) Error) → declaration v ≡ r
-        → ((t : View) → Counted (items_within k declaration t).items)
-        → Counted (next_item r (items_within k declaration)).items
-    stepped (Err e) is rest = tt
-    stepped (Ok r) is rest = itemed r.0
+    by_step : (r : Result (Option Declaration × View) Error) → declaration v ≡ r
+        → ((t : View) → NoneIsZero (items_within k declaration t).items)
+        → NoneIsZero (next_item r (items_within k declaration)).items
+    by_step (Err e) is rest = tt
+    by_step (Ok r) is rest = by_item r.0
         (λ d e. declaration-coded v d r.1 (is ∙ ap (λ (o : Option Declaration). read o r.1) e))
       where
-        itemed : (o : Option Declaration) → ((d : Declaration) → o ≡ Some d → 0 < d.code)
-            → Counted (item_or_end o r.1 (items_within k declaration)).items
-        itemed None counts = tt
-        itemed (Some d) counts = (counts d refl, rest r.1)
+        by_item : (o : Option Declaration) → ((d : Declaration) → o ≡ Some d → 0 < d.code)
+            → NoneIsZero (item_or_end o r.1 (items_within k declaration)).items
+        by_item None counts = tt
+        by_item (Some d) counts = (counts d refl, rest r.1)
 
-listed : (v : View) → Counted (listing_in bytes_left declaration v).items
+none_is_zero : (v : View) → NoneIsZero (listing_in bytes_left declaration v).items
 unfolding listing_in
-listed v = Counted-listed (suc (bytes_left v)) v
+none_is_zero v = NoneIsZero-listed (suc (bytes_left v)) v
 
 -- ---- the table
 
-table_of-rises : (l : Listing View Declaration) (ds : List Declaration) (u : View) → Counted l.items
+table_of-rises : (l : Listing View Declaration) (ds : List Declaration) (u : View) → NoneIsZero l.items
     → table_of l ≡ Ok (ds, u) → Rise 0 ds
 table_of-rises l ds u counted made = cases (repeated_code l.items) l.ending refl made
   where
@@ -92,7 +84,7 @@ table_of-rises l ds u counted made = cases (repeated_code l.items) l.ending refl
 
 pub table-rises : (v : View) (ds : List Declaration) (u : View) → table v ≡ Ok (ds, u) → Rise 0 ds
 unfolding table
-table-rises v ds u made = table_of-rises (listing_in bytes_left declaration v) ds u (listed v) made
+table-rises v ds u made = table_of-rises (listing_in bytes_left declaration v) ds u (none_is_zero v) made
 
 pub table_at-rises : (offset : ℕ) (section : View) (ds : List Declaration) → table_at offset section ≡ Ok ds → Rise 0 ds
 table_at-rises offset section ds made =

@@ -17,8 +17,7 @@ use Rattle.gimli_core_abbrev.specs.Declarations.{Declaration, declaration_at, ha
 use Rattle.gimli_core_abbrev.specs.TableParsing.{implicit_const, attribute_of, attribute, attributes, children, declaration_of, coded_declaration, unless_ended, declaration, distinct, table, table_at}
 use Rattle.gimli_core_abbrev.specs.TableLaws.{with_more_bytes, table_to_0_at, IsEndedBySection}
 use Rattle.gimli_core_abbrev.proofs.DeclarationSizes.{attributes-shrink, coded-shrinks, declarations-shrink}
-use Rattle.gimli_core_abbrev.proofs.TableCollection.{has_code-put, none_there}
-use Rattle.gimli_core_abbrev.proofs.RisingCodes.{others}
+use Rattle.gimli_core_abbrev.proofs.TableCollection.{has_code-put, none_there, none_later}
 use Rattle.gimli_core_abbrev.proofs.AppendedBytes.{NotCut, Stays, Stays-whole, stays, listing-stays, ending_with, listing_with, after-more}
 
 -- ---- a declaration
@@ -64,7 +63,7 @@ codes-shrink = record { smaller = λ v n h. coded-shrinks v n h }
 -- What further bytes make (m) of the declarations that were there (l), beside those that the code 0 alone ends (c):
 -- they stay; or a read was cut; or the end ended them, as a code 0 does.
 pub data Becomes (more : List ℕ) (l m c : Listing View Declaration) : Type 0 where
-  stayed : NotCut l.ending → c ≡ l → m ≡ listing_with more l → Becomes more l m c
+  was_whole : NotCut l.ending → c ≡ l → m ≡ listing_with more l → Becomes more l m c
   was_cut : (id : ReaderOffsetId) (rest : List Declaration) → l.ending ≡ Err (UnexpectedEof id) → c ≡ l
       → m.items ≡ l.items ++ rest → Becomes more l m c
   was_ended : (id : ReaderOffsetId) (w : View) (rest : List Declaration) → l.ending ≡ Ok w
@@ -73,7 +72,7 @@ pub data Becomes (more : List ℕ) (l m c : Listing View Declaration) : Type 0 w
 
 Becomes-prepend : {more : List ℕ} {l m c : Listing View Declaration} (ds : List Declaration) → Becomes more l m c
     → Becomes more (prepend ds l) (prepend ds m) (prepend ds c)
-Becomes-prepend ds (stayed uncut same is) = stayed uncut (ap (prepend ds) same) (ap (prepend ds) is)
+Becomes-prepend ds (was_whole uncut same is) = was_whole uncut (ap (prepend ds) same) (ap (prepend ds) is)
 Becomes-prepend {l = l} ds (was_cut id rest cut same is) =
     was_cut id rest cut (ap (prepend ds) same)
     (ap (λ (xs : List Declaration). ds ++ xs) is ∙ sym (append_assoc ds l.items rest))
@@ -93,13 +92,13 @@ which : (e : Error) → ((id : ReaderOffsetId) × (e ≡ UnexpectedEof id)) ⊎ 
 which (UnexpectedEof id) = inl (id, refl)
 which _ = inr (λ id is. cc)
 
-abbrev Found : Type 0
-Found = Result (Option Declaration × View) Error
+abbrev Step : Type 0
+Step = Result (Option Declaration × View) Error
 
-abbrev found : Option Declaration → View → Found
-found o v = Ok (o, v)
+abbrev step_of : Option Declaration → View → Step
+step_of o v = Ok (o, v)
 
-abbrev fault : Error → Found
+abbrev fault : Error → Step
 fault e = Err e
 
 abbrev stops : Result View Error → Listing View Declaration
@@ -118,11 +117,11 @@ faulty_is d e h = cc
 abbrev pub all : View → Listing View Declaration
 all v = listing_in bytes_left declaration v
 
-abbrev pub coded : View → Listing View Declaration
-coded v = listing_in bytes_left coded_declaration v
+abbrev pub coded_list : View → Listing View Declaration
+coded_list v = listing_in bytes_left coded_declaration v
 
 -- what follows the number that is read
-abbrev after_code : ℕ → View → Found
+abbrev after_code : ℕ → View → Step
 after_code code = branch (eqb code 0) (give None) (declaration_of code >>= λ declaration. give (Some declaration))
 
 -- no byte is left
@@ -133,23 +132,23 @@ coded-empty v none =
     ap (λ (bs : List ℕ). proceed (number_and_rest BadUnsignedLeb128 v (unsigned_at 10 (2 ^ 64) bs)) after_code) none
 
 -- the next byte is a code 0
-coded-zero : (v : View) (tail : List ℕ) → v.bytes ≡ 0 ∷ tail → coded_declaration v ≡ found None (after 1 v)
+coded-zero : (v : View) (tail : List ℕ) → v.bytes ≡ 0 ∷ tail → coded_declaration v ≡ step_of None (after 1 v)
 unfolding coded_declaration unsigned
 coded-zero v tail is =
     ap (λ (bs : List ℕ). proceed (number_and_rest BadUnsignedLeb128 v (unsigned_at 10 (2 ^ 64) bs)) after_code) is
 
 zero_or_end : (bytes : List ℕ) (v : View) (tail : List ℕ) → bytes ≡ 0 ∷ tail → v.bytes ≡ 0 ∷ tail
-    → unless_ended bytes coded_declaration v ≡ found None (after 1 v)
+    → unless_ended bytes coded_declaration v ≡ step_of None (after 1 v)
 zero_or_end bytes v tail is holds =
     ap (λ (bs : List ℕ). unless_ended bs coded_declaration v) is ∙ coded-zero v tail holds
 
 at_end : (more : List ℕ) (v : View) → v.bytes ≡ []
     → Becomes more (stops (Ok v)) (next_item (unless_ended more coded_declaration (with_more_bytes more v)) all)
-    (next_item (coded_declaration v) coded)
+    (next_item (coded_declaration v) coded_list)
 at_end more v none =
     was_ended (record { 0 = v.first + length v.bytes }) v
     (next_item (unless_ended more coded_declaration (with_more_bytes more v)) all).items
-    refl (ap (λ (r : Found). next_item r coded) (coded-empty v none)) refl zero_ends
+    refl (ap (λ (r : Step). next_item r coded_list) (coded-empty v none)) refl zero_ends
   where
     zero_ends : (tail : List ℕ) → more ≡ 0 ∷ tail
         → ((next_item (unless_ended more coded_declaration (with_more_bytes more v)) all).items ≡ [])
@@ -158,52 +157,53 @@ at_end more v none =
         let holds : v.bytes ++ more ≡ 0 ∷ tail = ap (λ (bs : List ℕ). bs ++ more) none ∙ is in
         let same : next_item (unless_ended more coded_declaration (with_more_bytes more v)) all
         ≡ stops (Ok (after 1 (with_more_bytes more v))) =
-        ap (λ (r : Found). next_item r all) (zero_or_end more (with_more_bytes more v) tail is holds) in (
+        ap (λ (r : Step). next_item r all) (zero_or_end more (with_more_bytes more v) tail is holds) in (
           ap (λ (l : Listing View Declaration). l.items) same,
           (after 1 (with_more_bytes more v), ap (λ (l : Listing View Declaration). l.ending) same),
         )
 
 coded_step : (more : List ℕ) (v : View)
-    → ((t : View) → bytes_left t < bytes_left v → Becomes more (all t) (all (with_more_bytes more t)) (coded t))
-    → (r s : Found) → coded_declaration v ≡ r → Stays more r s
-    → Becomes more (next_item r all) (next_item s all) (next_item r coded)
+    → ((t : View) → bytes_left t < bytes_left v → Becomes more (all t) (all (with_more_bytes more t)) (coded_list t))
+    → (r s : Step) → coded_declaration v ≡ r → Stays more r s
+    → Becomes more (next_item r all) (next_item s all) (next_item r coded_list)
 coded_step more v again (Err d) s is st = elim (which d) [
   | inl cut ↦ was_cut cut.0 (next_item s all).items (ap faulty cut.1) refl refl
   | inr other ↦
       let same : s ≡ fault d = st.same (λ id e. other id (fault_is d (UnexpectedEof id) e)) in
-      stayed (λ id e. other id (faulty_is d (UnexpectedEof id) e)) refl (ap (λ (r : Found). next_item r all) same)
+      was_whole (λ id e. other id (faulty_is d (UnexpectedEof id) e)) refl (ap (λ (r : Step). next_item r all) same)
 ]
 coded_step more v again (Ok r) s is st =
-    let same : s ≡ found r.0 (with_more_bytes more r.1) = st.same (λ id e. cc) in
-    subst (λ (t : Found). Becomes more (item_or_end r.0 r.1 all) (next_item t all) (item_or_end r.0 r.1 coded))
-    (sym same) (itemed r.0 refl)
+    let same : s ≡ step_of r.0 (with_more_bytes more r.1) = st.same (λ id e. cc) in
+    subst (λ (t : Step). Becomes more (item_or_end r.0 r.1 all) (next_item t all) (item_or_end r.0 r.1 coded_list))
+    (sym same) (by_item r.0 refl)
   where
-    itemed : (o : Option Declaration) → r.0 ≡ o
-        → Becomes more (item_or_end o r.1 all) (item_or_end o (with_more_bytes more r.1) all) (item_or_end o r.1 coded)
-    itemed None e = stayed (λ id h. cc) refl refl
-    itemed (Some x) e =
+    by_item : (o : Option Declaration) → r.0 ≡ o
+        → Becomes more (item_or_end o r.1 all) (item_or_end o (with_more_bytes more r.1) all)
+        (item_or_end o r.1 coded_list)
+    by_item None e = was_whole (λ id h. cc) refl refl
+    by_item (Some x) e =
         let lt : bytes_left r.1 < bytes_left v = item_smaller codes-shrink v x r.1
-        (is ∙ ap (λ (o : Option Declaration). found o r.1) e) in
+        (is ∙ ap (λ (o : Option Declaration). step_of o r.1) e) in
         Becomes-prepend (x ∷ []) (again r.1 lt)
 
-stepped : (more : List ℕ) (v : View)
-    → ((t : View) → bytes_left t < bytes_left v → Becomes more (all t) (all (with_more_bytes more t)) (coded t))
+by_step : (more : List ℕ) (v : View)
+    → ((t : View) → bytes_left t < bytes_left v → Becomes more (all t) (all (with_more_bytes more t)) (coded_list t))
     → (bytes : List ℕ) → v.bytes ≡ bytes
     → Becomes more (next_item (unless_ended bytes coded_declaration v) all)
     (next_item (unless_ended (bytes ++ more) coded_declaration (with_more_bytes more v)) all)
-    (next_item (coded_declaration v) coded)
-stepped more v again [] none = at_end more v none
-stepped more v again (b ∷ bytes) is =
+    (next_item (coded_declaration v) coded_list)
+by_step more v again [] none = at_end more v none
+by_step more v again (b ∷ bytes) is =
     coded_step more v again (coded_declaration v) (coded_declaration (with_more_bytes more v)) refl (coded-stays v)
 
 pub becomes : (more : List ℕ) (n : ℕ) (v : View) → bytes_left v < n
-    → Becomes more (all v) (all (with_more_bytes more v)) (coded v)
+    → Becomes more (all v) (all (with_more_bytes more v)) (coded_list v)
 unfolding declaration
 becomes more zero v few = absurd (omega arith)
 becomes more (suc n) v few =
     along (listing_next declarations-shrink v) (listing_next declarations-shrink (with_more_bytes more v))
     (listing_next codes-shrink v)
-    (stepped more v (λ t lt. becomes more n t (omega arith)) v.bytes refl)
+    (by_step more v (λ t lt. becomes more n t (omega arith)) v.bytes refl)
 
 -- ---- the answer
 
@@ -213,31 +213,33 @@ good ds = Ok ds
 abbrev bad : Error → Result (List Declaration) Error
 bad e = Err e
 
-abbrev answered : Option ℕ → List Declaration → Result View Error → Result (List Declaration) Error
-answered twice ds r = value_of (distinct twice (proceed (whole_of ds r) (λ xs. give (by_code xs))))
+abbrev answer_at_end : Option ℕ → List Declaration → Result View Error → Result (List Declaration) Error
+answer_at_end twice ds r = value_of (distinct twice (proceed (whole_of ds r) (λ xs. give (by_code xs))))
 
 abbrev answer : Listing View Declaration → Result (List Declaration) Error
-answer l = answered (repeated_code l.items) l.items l.ending
+answer l = answer_at_end (repeated_code l.items) l.items l.ending
 
 answered-more : (more : List ℕ) (twice : Option ℕ) (ds : List Declaration) (r : Result View Error)
-    → answered twice ds (ending_with more r) ≡ answered twice ds r
+    → answer_at_end twice ds (ending_with more r) ≡ answer_at_end twice ds r
 answered-more more (Some code) ds r = refl
 answered-more more None ds (Ok w) = refl
 answered-more more None ds (Err e) = refl
 
 is_repeated : (l : Listing View Declaration) (code : ℕ) → repeated_code l.items ≡ Some code
     → answer l ≡ Err (DuplicateAbbreviationCode code)
-is_repeated l code e = ap (λ (o : Option ℕ). answered o l.items l.ending) e
+is_repeated l code e = ap (λ (o : Option ℕ). answer_at_end o l.items l.ending) e
 
 is_refused : (l : Listing View Declaration) (d : Error) → repeated_code l.items ≡ None → l.ending ≡ Err d
     → answer l ≡ Err d
 is_refused l d e f =
-    ap (λ (o : Option ℕ). answered o l.items l.ending) e ∙ ap (λ (r : Result View Error). answered None l.items r) f
+    ap (λ (o : Option ℕ). answer_at_end o l.items l.ending) e
+    ∙ ap (λ (r : Result View Error). answer_at_end None l.items r) f
 
 is_read : (l : Listing View Declaration) (w : View) → repeated_code l.items ≡ None → l.ending ≡ Ok w
     → answer l ≡ Ok (by_code l.items)
 is_read l w e f =
-    ap (λ (o : Option ℕ). answered o l.items l.ending) e ∙ ap (λ (r : Result View Error). answered None l.items r) f
+    ap (λ (o : Option ℕ). answer_at_end o l.items l.ending) e
+    ∙ ap (λ (r : Result View Error). answer_at_end None l.items r) f
 
 -- the first code that occurs twice is the same, whatever follows
 repeated-append : (before ds rest : List Declaration) (code : ℕ) → repeated_after before ds ≡ Some code
@@ -261,7 +263,7 @@ repeated_stays l m rest code is e =
 
 stays_answered : (more : List ℕ) (l m c : Listing View Declaration) → Becomes more l m c → NotCut (answer l)
     → ¬ (IsOk (answer l) × IsErr (answer c)) → answer m ≡ answer l
-stays_answered more l m c (stayed uncut same is) not_cut zero_there =
+stays_answered more l m c (was_whole uncut same is) not_cut zero_there =
     ap answer is ∙ answered-more more (repeated_code l.items) l.items l.ending
 stays_answered more l m c (was_cut id rest cut same is) not_cut zero_there = cases (repeated_code l.items) refl
   where
@@ -276,12 +278,12 @@ stays_answered more l m c (was_ended id w rest end same is zero_ends) not_cut ze
     cases None e = absurd (zero_there (
       ap is_ok (is_read l w e end),
       ap is_err
-          (ap answer same ∙ ap (λ (o : Option ℕ). answered o l.items (Err (UnexpectedEof id))) e),
+          (ap answer same ∙ ap (λ (o : Option ℕ). answer_at_end o l.items (Err (UnexpectedEof id))) e),
     ))
 
 zero_answered : (tail : List ℕ) (l m c : Listing View Declaration) → Becomes (0 ∷ tail) l m c → IsOk (answer l)
     → answer m ≡ answer l
-zero_answered tail l m c (stayed uncut same is) ok =
+zero_answered tail l m c (was_whole uncut same is) ok =
     ap answer is ∙ answered-more (0 ∷ tail) (repeated_code l.items) l.items l.ending
 zero_answered tail l m c (was_cut id rest cut same is) ok = cases (repeated_code l.items) refl
   where
@@ -307,7 +309,7 @@ unfolding table
 table_at-is offset section fits = rw (le-ltb (length section.bytes) offset fits) refl
 
 table_to_0_at-is : (offset : ℕ) (section : View) → offset ≤ length section.bytes
-    → table_to_0_at offset section ≡ answer (coded (after offset section))
+    → table_to_0_at offset section ≡ answer (coded_list (after offset section))
 table_to_0_at-is offset section fits = rw (le-ltb (length section.bytes) offset fits) refl
 
 table_at-beyond : (offset : ℕ) (section : View) → length section.bytes < offset
@@ -321,7 +323,7 @@ table_at-more offset section more fits =
     table_at-is offset (with_more_bytes more section) (omega (arith, fits, length-append section.bytes more))
     ∙ ap (λ (v : View). answer (all v)) (after-more offset section more fits)
 
-becomes_at : (more : List ℕ) (v : View) → Becomes more (all v) (all (with_more_bytes more v)) (coded v)
+becomes_at : (more : List ℕ) (v : View) → Becomes more (all v) (all (with_more_bytes more v)) (coded_list v)
 becomes_at more v = becomes more (suc (bytes_left v)) v (omega arith)
 
 pub answers_stay : (offset : ℕ) (section : View) (more : List ℕ) → NotCut (table_at offset section)
@@ -333,7 +335,7 @@ answers_stay offset section more uncut zero_there = elim (cases_lt (length secti
       let at = table_at-is offset section fits in
       let to_0 = table_to_0_at-is offset section fits in
       table_at-more offset section more fits
-      ∙ stays_answered more (all w) (all (with_more_bytes more w)) (coded w) (becomes_at more w)
+      ∙ stays_answered more (all w) (all (with_more_bytes more w)) (coded_list w) (becomes_at more w)
       (λ id e. uncut id (at ∙ e)) (λ both. zero_there (ap is_ok at ∙ both.0, ap is_err to_0 ∙ both.1))
       ∙ sym at
 ]
@@ -348,7 +350,7 @@ ends_as_code_0 offset section more ended_there = elim (cases_lt (length section.
       let w = after offset section in
       let at = table_at-is offset section fits in
       table_at-more offset section (0 ∷ more) fits
-      ∙ zero_answered more (all w) (all (with_more_bytes (0 ∷ more) w)) (coded w) (becomes_at (0 ∷ more) w)
+      ∙ zero_answered more (all w) (all (with_more_bytes (0 ∷ more) w)) (coded_list w) (becomes_at (0 ∷ more) w)
       (sym (ap is_ok at) ∙ ended_there.0)
       ∙ sym at
 ]
@@ -359,24 +361,24 @@ found_put : (code : ℕ) (d : Declaration) (ds : List Declaration) → declarati
     → declaration_at code (put d ds) ≡ cond (eqb d.code code) (Some d) (declaration_at code ds)
 found_put code d [] absent = refl
 found_put code d (e ∷ ds) absent =
-    let other = others (eqb e.code d.code) e (declaration_at d.code ds) absent in
-    placed (ltb d.code e.code) (found_put code d ds other.1)
+    let other = none_later (eqb e.code d.code) e (declaration_at d.code ds) absent in
+    by_place (ltb d.code e.code) (found_put code d ds other.1)
     (λ p q. eqb-false e.code d.code other.0 (eqb-true e.code code q ∙ sym (eqb-true d.code code p)))
   where
-    swapped : (a b : Bool) (o : Option Declaration) → (a ≡ true → b ≡ true → ⊥)
+    swap_conds : (a b : Bool) (o : Option Declaration) → (a ≡ true → b ≡ true → ⊥)
         → cond b (Some e) (cond a (Some d) o) ≡ cond a (Some d) (cond b (Some e) o)
-    swapped true true o never = absurd (never refl refl)
-    swapped true false o never = refl
-    swapped false true o never = refl
-    swapped false false o never = refl
+    swap_conds true true o never = absurd (never refl refl)
+    swap_conds true false o never = refl
+    swap_conds false true o never = refl
+    swap_conds false false o never = refl
 
-    placed : (b : Bool) → declaration_at code (put d ds) ≡ cond (eqb d.code code) (Some d) (declaration_at code ds)
+    by_place : (b : Bool) → declaration_at code (put d ds) ≡ cond (eqb d.code code) (Some d) (declaration_at code ds)
         → (eqb d.code code ≡ true → eqb e.code code ≡ true → ⊥)
         → declaration_at code (cond b (d ∷ e ∷ ds) (e ∷ put d ds))
         ≡ cond (eqb d.code code) (Some d) (declaration_at code (e ∷ ds))
-    placed true rest never = refl
-    placed false rest never = ap (λ (o : Option Declaration). cond (eqb e.code code) (Some e) o) rest
-        ∙ swapped (eqb d.code code) (eqb e.code code) (declaration_at code ds) never
+    by_place true rest never = refl
+    by_place false rest never = ap (λ (o : Option Declaration). cond (eqb e.code code) (Some e) o) rest
+        ∙ swap_conds (eqb d.code code) (eqb e.code code) (declaration_at code ds) never
 
 -- one, else the other
 abbrev first_of : Option Declaration → Option Declaration → Option Declaration
@@ -392,22 +394,19 @@ found_put_all code before so_far [] same once = end (declaration_at code so_far)
     end (Some d) = refl
     end None = refl
 found_put_all code before so_far (d ∷ ds) same once =
-    let here = split (has_code d.code before) d.code (repeated_after (d ∷ before) ds) once in
-    let absent : declaration_at d.code so_far ≡ None = none_there (declaration_at d.code so_far) (same d.code ∙ here.0) in
+    let here = none_later (has_code d.code before) d.code (repeated_after (d ∷ before) ds) once in
+    let absent : declaration_at d.code so_far ≡ None =
+    none_there (declaration_at d.code so_far) (same d.code ∙ here.0) in
     found_put_all code (d ∷ before) (put d so_far) ds
     (λ c. has_code-put c d so_far ∙ ap (λ (b : Bool). eqb d.code c || b) (same c)) here.1
     ∙ ap (λ (o : Option Declaration). first_of o (declaration_at code ds)) (found_put code d so_far absent)
-    ∙ moved (eqb d.code code) (λ p. subst (λ (c : ℕ). declaration_at c so_far ≡ None) (eqb-true d.code code p) absent)
+    ∙ by_test (eqb d.code code) (λ p. subst (λ (c : ℕ). declaration_at c so_far ≡ None) (eqb-true d.code code p) absent)
   where
-    split : (b : Bool) (c : ℕ) (o : Option ℕ) → cond b (Some c) o ≡ None → (b ≡ false) × (o ≡ None)
-    split true c o h = absurd cc
-    split false c o h = (refl, h)
-
-    moved : (b : Bool) → (b ≡ true → declaration_at code so_far ≡ None)
+    by_test : (b : Bool) → (b ≡ true → declaration_at code so_far ≡ None)
         → first_of (cond b (Some d) (declaration_at code so_far)) (declaration_at code ds)
         ≡ first_of (declaration_at code so_far) (cond b (Some d) (declaration_at code ds))
-    moved true none = sym (ap (λ (o : Option Declaration). first_of o (Some d)) (none refl))
-    moved false none = refl
+    by_test true none = sym (ap (λ (o : Option Declaration). first_of o (Some d)) (none refl))
+    by_test false none = refl
 
 found_in : (code : ℕ) (l : Listing View Declaration) (ds : List Declaration) → answer l ≡ Ok ds
     → declaration_at code ds ≡ declaration_at code l.items
@@ -416,7 +415,7 @@ found_in code l ds made = cases (repeated_code l.items) l.ending refl made
     table_is : (x y : List Declaration) → good x ≡ good y → x ≡ y
     table_is x y e = cc
 
-    cases : (o : Option ℕ) (r : Result View Error) → repeated_code l.items ≡ o → answered o l.items r ≡ good ds
+    cases : (o : Option ℕ) (r : Result View Error) → repeated_code l.items ≡ o → answer_at_end o l.items r ≡ good ds
         → declaration_at code ds ≡ declaration_at code l.items
     cases (Some c) r e h = absurd cc
     cases None (Err d) e h = absurd cc

@@ -1,5 +1,6 @@
 -- The table that a loop over the declarations collects.
 use Rattle.std.proofs.Common.{◌≡◌, ℕ, ◌<◌, Bool, true, false, cond, ◌||◌, eqb, ltb, List, [], ◌∷◌, ◌++◌, Option, Some, None, is_some, option_map, Result, Ok, Err, refl, sym, ap, ◌∙◌, arith, append_assoc}
+use Rattle.std.proofs.Math.Bool.{or-false}
 use Rattle.std.proofs.lemmas.Bool.{eqb-false}
 use Rattle.std.proofs.lemmas.List.{append-nil}
 use Rattle.gimli_core_readers.specs.Error.{Error}
@@ -24,7 +25,7 @@ has_code-put code d [] = one (eqb d.code code)
     one : (b : Bool) → is_some (cond b (Some d) None) ≡ (b || false)
     one true = refl
     one false = refl
-has_code-put code d (e ∷ table) = placed (ltb d.code e.code) (has_code-put code d table)
+has_code-put code d (e ∷ table) = by_place (ltb d.code e.code) (has_code-put code d table)
   where
     first : (a b : Bool) (o : Option Declaration) → is_some (cond a (Some d) (cond b (Some e) o))
         ≡ (a || is_some (cond b (Some e) o))
@@ -37,30 +38,26 @@ has_code-put code d (e ∷ table) = placed (ltb d.code e.code) (has_code-put cod
     second false true o p h = refl
     second a false o p h = h
 
-    placed : (b : Bool) → is_some (declaration_at code (put d table))
+    by_place : (b : Bool) → is_some (declaration_at code (put d table))
         ≡ (eqb d.code code || is_some (declaration_at code table))
         → is_some (declaration_at code (cond b (d ∷ e ∷ table) (e ∷ put d table)))
         ≡ (eqb d.code code || is_some (declaration_at code (e ∷ table)))
-    placed true h = first (eqb d.code code) (eqb e.code code) (declaration_at code table)
-    placed false h = second (eqb d.code code) (eqb e.code code) (declaration_at code table)
+    by_place true h = first (eqb d.code code) (eqb e.code code) (declaration_at code table)
+    by_place false h = second (eqb d.code code) (eqb e.code code) (declaration_at code table)
         (declaration_at code (put d table)) h
+
+or_swap : (a b c : Bool) → ((a || b) || c) ≡ (b || (a || c))
+or_swap true true c = refl
+or_swap true false c = refl
+or_swap false true c = refl
+or_swap false false c = refl
 
 has_code-put_all : (code : ℕ) (table ds : List Declaration)
     → is_some (declaration_at code (put_all table ds)) ≡ (is_some (declaration_at code table) || has_code code ds)
-has_code-put_all code table [] = ends (is_some (declaration_at code table))
-  where
-    ends : (b : Bool) → b ≡ (b || false)
-    ends true = refl
-    ends false = refl
+has_code-put_all code table [] = sym (or-false (is_some (declaration_at code table)))
 has_code-put_all code table (d ∷ ds) =
     has_code-put_all code (put d table) ds ∙ ap (λ (b : Bool). b || has_code code ds) (has_code-put code d table)
-    ∙ moved (eqb d.code code) (is_some (declaration_at code table)) (has_code code ds)
-  where
-    moved : (a b c : Bool) → ((a || b) || c) ≡ (b || (a || c))
-    moved true true c = refl
-    moved true false c = refl
-    moved false true c = refl
-    moved false false c = refl
+    ∙ or_swap (eqb d.code code) (is_some (declaration_at code table)) (has_code code ds)
 
 pub has_code-by_code : (code : ℕ) (ds : List Declaration)
     → is_some (declaration_at code (by_code ds)) ≡ has_code code ds
@@ -81,53 +78,35 @@ pub none_there : (o : Option Declaration) → is_some o ≡ false → o ≡ None
 none_there None e = refl
 none_there (Some x) e = absurd cc
 
--- ---- the first code that stands twice
+-- ---- the first code that is there twice
 
-none_later : (b : Bool) (code : ℕ) (o : Option ℕ) → cond b (Some code) o ≡ None → (b ≡ false) × (o ≡ None)
-none_later true code o e = absurd cc
-none_later false code o e = (refl, e)
+-- where none is found, the first isn't the one that is looked for, nor is any after it
+pub none_later : {X : Type 0} (b : Bool) (x : X) (o : Option X) → cond b (Some x) o ≡ None → (b ≡ false) × (o ≡ None)
+none_later true x o e = absurd cc
+none_later false x o e = (refl, e)
 
 -- a declaration whose code one before it has is the first such one
 repeated_first : (before ds rest : List Declaration) (d : Declaration) → repeated_after before ds ≡ None
     → (has_code d.code before || has_code d.code ds) ≡ true → repeated_after before (ds ++ d ∷ rest) ≡ Some d.code
-repeated_first before [] rest d once twice = rw (settled (has_code d.code before) twice) refl
-  where
-    settled : (b : Bool) → (b || false) ≡ true → b ≡ true
-    settled true h = refl
-    settled false h = h
+repeated_first before [] rest d once twice = rw (sym (or-false (has_code d.code before)) ∙ twice) refl
 repeated_first before (x ∷ ds) rest d once twice =
     let here = none_later (has_code x.code before) x.code (repeated_after (x ∷ before) ds) once in
     rw here.0 (repeated_first (x ∷ before) ds rest d here.1
-    (moved (eqb x.code d.code) (has_code d.code before) (has_code d.code ds) twice))
-  where
-    moved : (a b c : Bool) → (b || (a || c)) ≡ true → ((a || b) || c) ≡ true
-    moved true b c h = refl
-    moved false true c h = refl
-    moved false false c h = h
+    (or_swap (eqb x.code d.code) (has_code d.code before) (has_code d.code ds) ∙ twice))
 
 repeated_further : (before ds : List Declaration) (d : Declaration) → repeated_after before ds ≡ None
     → (has_code d.code before || has_code d.code ds) ≡ false → repeated_after before (ds ++ d ∷ []) ≡ None
-repeated_further before [] d once new = rw (settled (has_code d.code before) new) refl
-  where
-    settled : (b : Bool) → (b || false) ≡ false → b ≡ false
-    settled true h = h
-    settled false h = refl
+repeated_further before [] d once new = rw (sym (or-false (has_code d.code before)) ∙ new) refl
 repeated_further before (x ∷ ds) d once new =
     let here = none_later (has_code x.code before) x.code (repeated_after (x ∷ before) ds) once in
     rw here.0 (repeated_further (x ∷ before) ds d here.1
-    (moved (eqb x.code d.code) (has_code d.code before) (has_code d.code ds) new))
-  where
-    moved : (a b c : Bool) → (b || (a || c)) ≡ false → ((a || b) || c) ≡ false
-    moved true true c h = h
-    moved true false c h = h
-    moved false true c h = h
-    moved false false c h = h
+    (or_swap (eqb x.code d.code) (has_code d.code before) (has_code d.code ds) ∙ new))
 
 pub repeated_push : (ds : List Declaration) (d : Declaration) → repeated_code ds ≡ None
     → declaration_at d.code (by_code ds) ≡ None → repeated_code (ds ++ d ∷ []) ≡ None
 repeated_push ds d once absent = repeated_further [] ds d once (sym (has_code-by_code d.code ds) ∙ ap is_some absent)
 
--- ---- a loop that has read ds and stands at w, where it began at v
+-- ---- a loop that began at v, has read ds and is at w
 
 pub table_fault : (ds : List Declaration) (v w : View) (e : Error)
     → prepend ds (listing_in bytes_left declaration w) ≡ listing_in bytes_left declaration v → repeated_code ds ≡ None

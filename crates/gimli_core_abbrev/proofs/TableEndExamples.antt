@@ -37,7 +37,7 @@ unfolding coded_declaration declaration_of children attributes attribute attribu
     unsigned_16 listing_in items_within
 zero_ends_one = refl
 
--- a code that stands twice is refused before the end of the section
+-- a code that is there twice is refused before the end of the section
 pub twice_at_end : table_at 0 (view (1 ∷ 0x11 ∷ 0 ∷ 0 ∷ 0 ∷ 1 ∷ 0x11 ∷ 0 ∷ 0 ∷ 0 ∷ []))
     ≡ table_to_0_at 0 (view (1 ∷ 0x11 ∷ 0 ∷ 0 ∷ 0 ∷ 1 ∷ 0x11 ∷ 0 ∷ 0 ∷ 0 ∷ []))
 unfolding table declaration coded_declaration declaration_of children attributes attribute attribute_of implicit_const

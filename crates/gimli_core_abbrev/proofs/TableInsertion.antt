@@ -17,7 +17,7 @@ values es = map (λ (e : ℕ × Declaration). e.1) es
 
 -- ---- found by the code
 
--- one that came in order stands at its place
+-- one that came in order is at its place
 pub found_in_order : (i : ℕ) (front back : List Declaration) (code : ℕ) (d : Declaration) → CountUp i front → i ≤ code
     → code < i + length front → declaration_at code (front ++ back) ≡ Some (get_or front (code - i) d)
 found_in_order i [] back code d counts low high = absurd (omega arith)
@@ -62,14 +62,14 @@ found_by_key n code (e ∷ es) rises =
     let test : is_at (nat_cmp code) e.0 ≡ eqb e.1.code code = key_test code e.0
     ∙ ap (λ (k : ℕ). eqb k code) (sym rises.1) in
     let rest = found_by_key e.0 code es rises.2 in
-    rw test (chosen (eqb e.1.code code) e.1 (lookup (is_at (nat_cmp code)) es)
+    rw test (by_test (eqb e.1.code code) e.1 (lookup (is_at (nat_cmp code)) es)
     (declaration_at code (values (map entry_view es))) rest)
   where
-    chosen : (b : Bool) (a : Abbreviation) (o : Option Abbreviation) (r : Option Declaration)
+    by_test : (b : Bool) (a : Abbreviation) (o : Option Abbreviation) (r : Option Declaration)
         → option_map declaration_view o ≡ r → option_map declaration_view (cond b (Some a) o)
         ≡ cond b (Some (declaration_view a)) r
-    chosen true a o r h = refl
-    chosen false a o r h = h
+    by_test true a o r h = refl
+    by_test false a o r h = h
 
 -- ---- put at its place
 
@@ -178,17 +178,17 @@ pub seen_at_place : (es : List (ℕ × Abbreviation)) (code : ℕ) (a : Abbrevia
     → map entry_view (insert_entry nat_cmp es code a)
     ≡ insert_entry nat_cmp (map entry_view es) code (declaration_view a)
 seen_at_place [] code a = refl
-seen_at_place (e ∷ es) code a = chosen (nat_cmp code e.0) (seen_at_place es code a)
+seen_at_place (e ∷ es) code a = by_order (nat_cmp code e.0) (seen_at_place es code a)
   where
-    chosen : (o : Ordering) → map entry_view (insert_entry nat_cmp es code a)
+    by_order : (o : Ordering) → map entry_view (insert_entry nat_cmp es code a)
         ≡ insert_entry nat_cmp (map entry_view es) code (declaration_view a)
         → map entry_view (match_ordering o ((code, a) ∷ e ∷ es) ((e.0, a) ∷ es) (e ∷ insert_entry nat_cmp es code a))
         ≡ match_ordering o ((code, declaration_view a) ∷ entry_view e ∷ map entry_view es)
         ((e.0, declaration_view a) ∷ map entry_view es)
         (entry_view e ∷ insert_entry nat_cmp (map entry_view es) code (declaration_view a))
-    chosen Less h = refl
-    chosen Equal h = refl
-    chosen Greater h = ap (λ (rest : List (ℕ × Declaration)). entry_view e ∷ rest) h
+    by_order Less h = refl
+    by_order Equal h = refl
+    by_order Greater h = ap (λ (rest : List (ℕ × Declaration)). entry_view e ∷ rest) h
 
 -- ---- the same of what is kept
 

@@ -20,8 +20,8 @@ well w = Ok w
 abbrev answer : Option Declaration → View → Result (Option Declaration × View) Error
 answer o s = Ok (o, s)
 
-abbrev passed : View → Result (Unit {0} × View) Error
-passed s = Ok (tt, s)
+abbrev unit_and_rest : View → Result (Unit {0} × View) Error
+unit_and_rest s = Ok (tt, s)
 
 abbrev just : Declaration → Option Declaration
 just d = Some d
@@ -59,21 +59,21 @@ attributes_within : (k : ℕ) (v w : View) → bytes_left v < k → (items_withi
     → 2 * length (items_within k attribute v).items + 2 + bytes_left w ≤ bytes_left v
 unfolding items_within
 attributes_within zero v w h e = absurd (omega arith)
-attributes_within (suc k) v w h e = stepped (attribute v) refl e (λ t lt. attributes_within k t w lt)
+attributes_within (suc k) v w h e = by_step (attribute v) refl e (λ t lt. attributes_within k t w lt)
   where
-    stepped : (r : Result (Option Attribute × View) Error) → attribute v ≡ r
+    by_step : (r : Result (Option Attribute × View) Error) → attribute v ≡ r
         → (next_item r (items_within k attribute)).ending ≡ Ok w
         → ((t : View) → bytes_left t < k → (items_within k attribute t).ending ≡ Ok w
         → 2 * length (items_within k attribute t).items + 2 + bytes_left w ≤ bytes_left t)
         → 2 * length (next_item r (items_within k attribute)).items + 2 + bytes_left w ≤ bytes_left v
-    stepped (Err d) is f again = absurd cc
-    stepped (Ok r) is f again = itemed r.0 (attribute-two v r.0 r.1 is) f
+    by_step (Err d) is f again = absurd cc
+    by_step (Ok r) is f again = by_item r.0 (attribute-two v r.0 r.1 is) f
       where
-        itemed : (o : Option Attribute) → bytes_left r.1 + 2 ≤ bytes_left v
+        by_item : (o : Option Attribute) → bytes_left r.1 + 2 ≤ bytes_left v
             → (item_or_end o r.1 (items_within k attribute)).ending ≡ Ok w
             → 2 * length (item_or_end o r.1 (items_within k attribute)).items + 2 + bytes_left w ≤ bytes_left v
-        itemed None le g = let same = ap bytes_left (ok_is r.1 w g) in omega (arith, le, same)
-        itemed (Some a) le g = let rest = again r.1 (omega (arith, le, h)) g in omega (arith, le, rest)
+        by_item None le g = let same = ap bytes_left (ok_is r.1 w g) in omega (arith, le, same)
+        by_item (Some a) le g = let rest = again r.1 (omega (arith, le, h)) g in omega (arith, le, rest)
 
 attributes-room : (v : View) (xs : List Attribute) (w : View) → attributes v ≡ Ok (xs, w)
     → 2 * length xs + 2 + bytes_left w ≤ bytes_left v
@@ -177,30 +177,30 @@ sum-cons d ds = sum_by-append bytes_needed (d ∷ []) ds ∙ omega arith
 listed-room : (k : ℕ) (v : View) → sum_by bytes_needed (items_within k declaration v).items ≤ bytes_left v
 unfolding items_within
 listed-room zero v = omega arith
-listed-room (suc k) v = stepped (declaration v) refl (λ t. listed-room k t)
+listed-room (suc k) v = by_step (declaration v) refl (λ t. listed-room k t)
   where
-    stepped : (r : Result (Option Declaration × View) Error) → declaration v ≡ r
+    by_step : (r : Result (Option Declaration × View) Error) → declaration v ≡ r
         → ((t : View) → sum_by bytes_needed (items_within k declaration t).items ≤ bytes_left t)
         → sum_by bytes_needed (next_item r (items_within k declaration)).items ≤ bytes_left v
-    stepped (Err e) is rest = omega arith
-    stepped (Ok r) is rest = itemed r.0
+    by_step (Err e) is rest = omega arith
+    by_step (Ok r) is rest = by_item r.0
         (λ d e. declaration-room v d r.1 (is ∙ ap (λ (o : Option Declaration). answer o r.1) e))
       where
-        itemed : (o : Option Declaration)
+        by_item : (o : Option Declaration)
             → ((d : Declaration) → o ≡ Some d → bytes_needed d + bytes_left r.1 ≤ bytes_left v)
             → sum_by bytes_needed (item_or_end o r.1 (items_within k declaration)).items ≤ bytes_left v
-        itemed None room = omega arith
-        itemed (Some d) room = omega (arith, room d refl, rest r.1, sum-cons d (items_within k declaration r.1).items)
+        by_item None room = omega arith
+        by_item (Some d) room = omega (arith, room d refl, rest r.1, sum-cons d (items_within k declaration r.1).items)
 
 sum-put : (d : Declaration) (ds : List Declaration) → sum_by bytes_needed (put d ds) ≡ bytes_needed d
     + sum_by bytes_needed ds
 sum-put d [] = sum-cons d []
-sum-put d (e ∷ ds) = placed (ltb d.code e.code) (sum-put d ds)
+sum-put d (e ∷ ds) = by_place (ltb d.code e.code) (sum-put d ds)
   where
-    placed : (b : Bool) → sum_by bytes_needed (put d ds) ≡ bytes_needed d + sum_by bytes_needed ds
+    by_place : (b : Bool) → sum_by bytes_needed (put d ds) ≡ bytes_needed d + sum_by bytes_needed ds
         → sum_by bytes_needed (cond b (d ∷ e ∷ ds) (e ∷ put d ds)) ≡ bytes_needed d + sum_by bytes_needed (e ∷ ds)
-    placed true h = sum-cons d (e ∷ ds)
-    placed false h = omega (arith, h, sum-cons e (put d ds), sum-cons e ds)
+    by_place true h = sum-cons d (e ∷ ds)
+    by_place false h = omega (arith, h, sum-cons e (put d ds), sum-cons e ds)
 
 sum-put_all : (so_far ds : List Declaration) → sum_by bytes_needed (put_all so_far ds) ≡ sum_by bytes_needed so_far
     + sum_by bytes_needed ds
@@ -233,7 +233,7 @@ table-room v ds u made =
 skip-leaves : (n : ℕ) (v : View) (x : Unit {0}) (t : View) → skip n v ≡ Ok (x, t) → bytes_left t ≡ bytes_left v - n
 skip-leaves n v x t e = cases (ltb (length v.bytes) n) e
   where
-    cases : (b : Bool) → cond b (Err (unexpected_end v)) (passed (after n v)) ≡ passed t
+    cases : (b : Bool) → cond b (Err (unexpected_end v)) (unit_and_rest (after n v)) ≡ unit_and_rest t
         → bytes_left t ≡ bytes_left v - n
     cases true h = absurd cc
     cases false h = ap bytes_left (sym (state_is tt tt (after n v) t h)) ∙ length-drop n v.bytes

@@ -21,7 +21,8 @@ pub record Declaration : Type 0 where
 -- as tuples of their fields
 abbrev pub attribute_coding : Coded Attribute
 attribute_coding =
-    code_by (ℕ × (ℕ × Option ℤ)) (coded× coded_ℕ (coded× coded_ℕ (coded_option coded_ℤ)))
+    code_by (ℕ × (ℕ × Option ℤ))
+    (coded× coded_ℕ (coded× coded_ℕ (coded_option coded_ℤ)))
     (λ a. (a.name, (a.form, a.implicit_const)))
     (λ p. record { name = p.0; form = p.1.0; implicit_const = p.1.1 }) (λ _. refl)
 

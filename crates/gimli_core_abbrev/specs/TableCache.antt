@@ -41,7 +41,8 @@ AreTablesOf section tables =
 
 -- the tables of a section at these offsets
 abbrev pub tables_at : List ℕ → View → TablesByOffset
-tables_at offsets section = from_entries (map (λ offset. (offset, table_at offset section)) offsets)
+tables_at offsets section =
+    from_entries (map (λ offset. (offset, table_at offset section)) offsets)
 
 -- the offsets whose tables a strategy asks for: all, or those that occur twice or more
 abbrev pub chosen_offsets : AbbreviationsCacheStrategy → List ℕ → List ℕ

@@ -12,7 +12,8 @@ use Rattle.gimli_core_abbrev.specs.TableParsing.{coded_declaration, declaration,
 -- the code 0 is in no table
 abbrev pub NoCode0 : Type 0
 NoCode0 =
-    (offset : ℕ) (section : View) (table : List Declaration) → table_at offset section ≡ Ok table
+    (offset : ℕ) (section : View) (table : List Declaration)
+    → table_at offset section ≡ Ok table
     → declaration_at 0 table ≡ None
 
 -- each code of a table occurs in it once: each declaration is the one that its code finds
@@ -30,7 +31,8 @@ bytes_needed d = 5 + 2 * length d.attributes
 -- a table needs no more than the bytes from its offset on
 abbrev pub NeedsRoom : Type 0
 NeedsRoom =
-    (offset : ℕ) (section : View) (table : List Declaration) → table_at offset section ≡ Ok table
+    (offset : ℕ) (section : View) (table : List Declaration)
+    → table_at offset section ≡ Ok table
     → sum_by bytes_needed table ≤ length section.bytes - offset
 
 -- the declarations from an offset on, in the order of the bytes

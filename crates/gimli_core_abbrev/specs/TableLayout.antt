@@ -13,7 +13,8 @@ abbrev pub RiseAbove : ℕ → List (ℕ × Declaration) → Type 0
 RiseAbove n [] = Unit {0}
 RiseAbove n (e ∷ es) = (n < e.0) × (e.1.code ≡ e.0) × RiseAbove e.0 es
 
-pub record IsLayout (in_order : List Declaration) (others : List (ℕ × Declaration)) : Type 0 where
+pub record IsLayout (in_order : List Declaration)
+    (others : List (ℕ × Declaration)) : Type 0 where
   pub counts_up : CountUp 1 in_order
   pub rises : RiseAbove (length in_order) others
 

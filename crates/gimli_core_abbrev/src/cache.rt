@@ -79,7 +79,8 @@ impl AbbreviationsCache {
         requires ends { IsFinite (I.remaining offsets) }
         ensures ok { OnOk result ((items : List (DebugAbbrevOffset R.Offset))
             × (last : Option (Result (DebugAbbrevOffset R.Offset) Error)) × (rest : I)
-            × YieldsThen I.next_gives offsets (map (λ o. Ok o) items) last rest × EndsOffsets last
+            × YieldsThen I.next_gives offsets (map (λ o. Ok o) items) last rest
+            × EndsOffsets last
             × (self.new ≡ chosen_tables strategy (map (λ o. R.Offset.count o.0) items)
             section.now)) }
         ensures own { OnOk result (AreTablesOf section.now self.new) }
@@ -251,7 +252,8 @@ fn put_table(
 ) -> Result<(), Error>
     ensures ok { OnOk result ((offset : ℕ) → get nat_cmp tables.new offset
         ≡ (if is_at (nat_cmp place) offset then Some table else get nat_cmp tables.old offset)) }
-    ensures err { IfErr result (λ e. (e ≡ Memory) × (tables.new.entries ≡ tables.old.entries)) }
+    ensures err { IfErr result (λ e. (e ≡ Memory)
+        × (tables.new.entries ≡ tables.old.entries)) }
 {
     tables.insert(place, table)?;
     Ok(())

@@ -55,7 +55,8 @@ impl Abbreviations {
 
     /// The declaration of a code.
     pub fn get(&self, code: u64) -> Option<&Abbreviation>
-        ensures { option_map (λ a. declaration_view a.now) result ≡ declaration_at code self.now }
+        ensures { option_map (λ a. declaration_view a.now) result
+            ≡ declaration_at code self.now }
     {
         if 1 <= code && code <= self.in_order.len() as u64 {
             Some(&self.in_order[(code - 1) as usize])
@@ -89,7 +90,8 @@ fn put_under(
 ) -> Result<(), Error>
     ensures ok { OnOk result (others.new.entries ≡ insert_entry nat_cmp others.old.entries code
         abbreviation) }
-    ensures err { IfErr result (λ e. (e ≡ Memory) × (others.new.entries ≡ others.old.entries)) }
+    ensures err { IfErr result (λ e. (e ≡ Memory)
+        × (others.new.entries ≡ others.old.entries)) }
 {
     others.insert(code, abbreviation)?;
     Ok(())

@@ -165,9 +165,9 @@ negative_last k n i last =
         rw (digit, place) (omega (arith, sum, next_power i))
 
 -- one digit more in front
-joined : (n i d q sum top : ℕ) → d < 128 → n ≡ q * 128 + d → sum + (q + 1) * 128 ^ (i + 1) ≡ top
+one_digit_more : (n i d q sum top : ℕ) → d < 128 → n ≡ q * 128 + d → sum + (q + 1) * 128 ^ (i + 1) ≡ top
     → (127 - d) * 128 ^ i + sum + (n + 1) * 128 ^ i ≡ top
-joined n i d q sum top low split so_far =
+one_digit_more n i d q sum top low split so_far =
     let p = 128 ^ i in
     let high : (q + 1) * 128 ^ (i + 1) ≡ (q + 1) * 128 * p = ap (λ (x : ℕ). (q + 1) * x) (next_power i ∙ mul_comm p 128)
     ∙ sym (mul_assoc (q + 1) 128 p) in
@@ -188,7 +188,8 @@ signed_negative (suc j) n i below = elim (cases_lt n 64) [
       let digit : (128 + (127 - n % 128)) % 128 ≡ 127 - n % 128 = omega arith in
       let place : i + length ((128 + (127 - n % 128)) ∷ rest) ≡ i + 1 + length rest = omega arith in
       let sign = is_negative-cons (128 + (127 - n % 128)) rest (signed_some j (negsuc (n / 128))) in (
-        rw (one, digit, place) (joined n i (n % 128) (n / 128) (digits_from (i + 1) rest) (128 ^ (i + 1 + length rest))
+        rw (one, digit, place)
+            (one_digit_more n i (n % 128) (n / 128) (digits_from (i + 1) rest) (128 ^ (i + 1 + length rest))
             (omega arith) (omega arith) tail.0),
         rw one (sign ∙ tail.1),
       )

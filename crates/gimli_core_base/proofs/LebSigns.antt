@@ -48,7 +48,7 @@ signed_refused bytes string found past = rw (found, fits_i64-no (signed_number s
 
 -- what bit 6 of the last byte is worth
 pub record IsHalf (half n : ℕ) : Type 0 where
-  pub doubled : 2 * half ≡ 128 ^ n
+  pub two_halves : 2 * half ≡ 128 ^ n
   pub fits : half ≤ 2 ^ 62
 
 pub half_is : (n sum : ℕ) → n ≤ 9 → 128 ^ n ≤ 2 * sum → sum < 128 ^ n → IsHalf (1 * 2 ^ (7 * n - 1) % 2 ^ 64) n
@@ -59,7 +59,7 @@ half_is (suc n) sum short set digits =
     let one : 7 * suc n ≡ suc (7 * suc n - 1) = omega arith in
     let twice : 128 ^ suc n ≡ 2 * 2 ^ (7 * suc n - 1) = pow128 (suc n) ∙ ap (λ (e : ℕ). 2 ^ e) one
     ∙ pow-succ' 2 (7 * suc n - 1) in
-    record { doubled = omega (arith, top, twice); fits = omega (arith, top) }
+    record { two_halves = omega (arith, top, twice); fits = omega (arith, top) }
 
 pub nine_sevens : (n : ℕ) → n ≤ 9 → 128 ^ n ≤ 2 ^ 63
 nine_sevens n short =

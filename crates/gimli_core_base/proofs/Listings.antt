@@ -60,7 +60,7 @@ pub listing_fault : {S A : Type 0} {size : S → ℕ} {p : Step S (Option A)} �
     → p s ≡ Err d → listing_in size p s ≡ no_items (Err d)
 listing_fault {size = size} {p = p} h s d e = listing_next h s ∙ ap (λ r. next_item r (listing_in size p)) e
 
--- ---- a loop that has read the items xs and stands at t, where it began at s
+-- ---- a loop that began at s, has read the items xs and is at t
 
 -- the next item can't be read: its fault is that of all
 pub all_of_fault : {S A : Type 0} {size : S → ℕ} {p : Step S (Option A)} → Shrinks size p

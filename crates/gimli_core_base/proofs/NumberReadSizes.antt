@@ -38,20 +38,20 @@ read x k = Ok (x, k)
 pair_is : {A : Type 0} (x y : A) (m k : ℕ) → read x m ≡ read y k → m ≡ k
 pair_is {A} x y m k e = let is : (x, m) ≡ (y, k) = cc in ap (λ (p : A × ℕ). p.1) is
 
--- a string has a byte, and no more of them than the bytes that it stands in
-pub record Stands (string bytes : List ℕ) : Type 0 where
+-- a string has a byte, and no more of them than the bytes that it is in
+pub record FitsIn (string bytes : List ℕ) : Type 0 where
   pub some : 0 < length string
   pub fits : length string ≤ length bytes
 
-pub string_stands : (bytes string : List ℕ) → leb_string bytes ≡ Some string → Stands string bytes
-string_stands [] string e = absurd cc
-string_stands (b ∷ bytes) string e = elim (cases_lt b 128) [
+pub string_fits_in : (bytes string : List ℕ) → leb_string bytes ≡ Some string → FitsIn string bytes
+string_fits_in [] string e = absurd cc
+string_fits_in (b ∷ bytes) string e = elim (cases_lt b 128) [
   | inl last ↦
       let is : b ∷ [] ≡ string = some_is (b ∷ []) string (sym (string_at-last b bytes last) ∙ e) in
       rw (← is) (record { some = omega arith; fits = omega arith })
   | inr more ↦
       let m = map_some b (leb_string bytes) string (sym (string_at-goes_on b bytes more) ∙ e) in
-      let rest = string_stands bytes m.0 m.1 in
+      let rest = string_fits_in bytes m.0 m.1 in
       rw (← m.2) (record { some = omega arith; fits = omega (arith, rest.fits) })
 ]
   where
@@ -68,12 +68,12 @@ found_is : (o : Option (List ℕ)) (fault : Fault) (string : List ℕ) → ok_or
 found_is None fault string e = absurd cc
 found_is (Some s) fault string e = cc
 
-pub judged_stands : (limit : ℕ) (bytes string : List ℕ) → bounded_string limit bytes ≡ Ok string → Stands string bytes
-judged_stands limit bytes string e =
-    let inner = string_stands (take limit bytes) string (found_is (leb_string (take limit bytes)) _ string e) in
+pub judged_fits_in : (limit : ℕ) (bytes string : List ℕ) → bounded_string limit bytes ≡ Ok string → FitsIn string bytes
+judged_fits_in limit bytes string e =
+    let inner = string_fits_in (take limit bytes) string (found_is (leb_string (take limit bytes)) _ string e) in
     record { some = inner.some; fits = omega (arith, inner.fits, length-take limit bytes) }
 
--- what was read is behind a string that stands there
+-- a read takes the bytes of a string
 abbrev Takes : {A : Type 0} → View → Result (A × ℕ) Fault → Type 0
 Takes {A} v r = (x : A) (k : ℕ) → r ≡ Ok (x, k) → (0 < k) × (k ≤ bytes_left v)
 
@@ -83,7 +83,7 @@ Below-rest {A} {n} bad v (Ok found) t h =
     let some = t found.0 found.1 refl in Below-Ok (omega (arith, length-drop found.1 v.bytes, some))
 Below-rest {A} {n} bad v (Err fault) t h = Below-Err
 
-unsigned_takes : (bound : ℕ) (v : View) (r : Result (List ℕ) Fault) → ((s : List ℕ) → r ≡ Ok s → Stands s v.bytes)
+unsigned_takes : (bound : ℕ) (v : View) (r : Result (List ℕ) Fault) → ((s : List ℕ) → r ≡ Ok s → FitsIn s v.bytes)
     → Takes v (unsigned_of bound r)
 unsigned_takes bound v (Err fault) string_fits x k e = absurd cc
 unsigned_takes bound v (Ok s) string_fits x k e = cases (nat_lt (unsigned_number s) bound) refl
@@ -96,7 +96,7 @@ unsigned_takes bound v (Ok s) string_fits x k e = cases (nat_lt (unsigned_number
         rw (← is) (found.some, found.fits)
     cases false h = absurd (let e' = rw h at e in cc)
 
-signed_takes : (v : View) (r : Result (List ℕ) Fault) → ((s : List ℕ) → r ≡ Ok s → Stands s v.bytes)
+signed_takes : (v : View) (r : Result (List ℕ) Fault) → ((s : List ℕ) → r ≡ Ok s → FitsIn s v.bytes)
     → Takes v (signed_of r)
 signed_takes v (Err fault) string_fits x k e = absurd cc
 signed_takes v (Ok s) string_fits x k e = cases (fits_i64 (signed_number s)) refl
@@ -113,19 +113,19 @@ pub Below-unsigned : {n : ℕ} (v : View) → bytes_left v ≤ n → Below bytes
 unfolding unsigned
 Below-unsigned v h =
     Below-rest BadUnsignedLeb128 v (unsigned_at 10 (2 ^ 64) v.bytes)
-    (unsigned_takes (2 ^ 64) v (bounded_string 10 v.bytes) (judged_stands 10 v.bytes)) h
+    (unsigned_takes (2 ^ 64) v (bounded_string 10 v.bytes) (judged_fits_in 10 v.bytes)) h
 
 pub Below-unsigned_16 : {n : ℕ} (v : View) → bytes_left v ≤ n → Below bytes_left n (unsigned_16 v)
 unfolding unsigned_16
 Below-unsigned_16 v h =
     Below-rest BadUnsignedLeb128 v (unsigned_at 3 (2 ^ 16) v.bytes)
-    (unsigned_takes (2 ^ 16) v (bounded_string 3 v.bytes) (judged_stands 3 v.bytes)) h
+    (unsigned_takes (2 ^ 16) v (bounded_string 3 v.bytes) (judged_fits_in 3 v.bytes)) h
 
 pub Below-signed : {n : ℕ} (v : View) → bytes_left v ≤ n → Below bytes_left n (signed v)
 unfolding signed
 Below-signed v h =
     Below-rest BadSignedLeb128 v (signed_at v.bytes)
-    (signed_takes v (bounded_string 10 v.bytes) (judged_stands 10 v.bytes)) h
+    (signed_takes v (bounded_string 10 v.bytes) (judged_fits_in 10 v.bytes)) h
 
 pub Below-skipped : {n : ℕ} (v : View) → bytes_left v ≤ n → Below bytes_left n (skip_leb v)
 unfolding skip_leb
@@ -133,7 +133,7 @@ Below-skipped {n} v h = cases (leb_string v.bytes) refl
   where
     cases : (o : Option (List ℕ)) → leb_string v.bytes ≡ o → Below bytes_left n (rest_after_string v o)
     cases None e = Below-Err
-    cases (Some s) e = let found = string_stands v.bytes s e in Below-Ok
+    cases (Some s) e = let found = string_fits_in v.bytes s e in Below-Ok
         (omega (arith, length-drop (length s) v.bytes, found))
 
 ruleset basic = (sizes, AtMost-fixed, Below-fixed, Below-unsigned, Below-unsigned_16, Below-signed, Below-skipped)

@@ -1,35 +1,29 @@
 -- A view that begins with what is spelled of a number gives the number, and leaves what follows.
-use Rattle.std.proofs.Common.{◌≡◌, ℕ, zero, suc, ◌+◌, ◌*◌, ◌^◌, ◌/◌, ◌<◌, ◌≤◌, ◌%◌, Bool, true, false, List, ◌++◌, length, take, drop, Ok, refl, sym, ap, ◌∙◌, arith}
+use Rattle.std.proofs.Common.{◌≡◌, ℕ, zero, suc, ◌+◌, ◌*◌, ◌^◌, ◌/◌, ◌<◌, ◌≤◌, ◌%◌, Bool, true, false, List, ◌++◌, length, take, Ok, refl, sym, ap, ◌∙◌, arith}
 use Rattle.std.specs.Prelude.{ℤ, FitsSigned}
 use Rattle.std.specs.Int.{w64, byte_at, bytes_low_first, bytes_high_first}
 use Rattle.std.proofs.lemmas.Bool.{le-ltb}
-use Rattle.std.proofs.lemmas.List.{take_at, drop_at, length-append}
+use Rattle.std.proofs.lemmas.List.{take_at, length-append}
 use Rattle.std.proofs.Math.Nat.{add-mul, add_assoc, mul-add-mod_self_right, mul-le-mul_right, mul_assoc, div-add-mod', div-div-eq-div-mul, div-one, mod-eq_of_lt, mod-lt, one-le-pow, pow-suc, pow-succ'}
 use Rattle.std.proofs.lemmas.Nat.{div_below}
 use Rattle.gimli_core_base.specs.declared.error.Error.TheVariants.{BadUnsignedLeb128, BadSignedLeb128}
-use Rattle.gimli_core_base.specs.View.{View, after}
+use Rattle.gimli_core_base.specs.View.{View}
 use Rattle.gimli_core_base.specs.Fixed.{little, big, number, number_bytes}
 use Rattle.gimli_core_base.specs.Leb128.{unsigned_at, signed_at}
 use Rattle.gimli_core_base.specs.NumberParsers.{number_and_rest, fixed, unsigned, signed}
 use Rattle.gimli_core_base.specs.Spelling.{unsigned_string, signed_string}
 use Rattle.gimli_core_base.proofs.LebRoundTrip.{unsigned_string_reads_back, signed_string_reads_back}
-
-abbrev left : View → ℕ → List ℕ → View
-left v k rest = record { bytes = rest; is_big = v.is_big; first = v.first + k }
-
-after_is : (v : View) (front rest : List ℕ) (k : ℕ) → v.bytes ≡ front ++ rest → length front ≡ k
-    → after k v ≡ left v k rest
-after_is v front rest k whole len = ap (λ (bs : List ℕ). left v k bs) (ap (drop k) whole ∙ drop_at front rest k len)
+use Rattle.gimli_core_base.proofs.PrefixReads.{rest_after, after_is}
 
 pub unsigned_reads_back : (n : ℕ) (rest : List ℕ) (v : View) → n < 2 ^ 64 → v.bytes ≡ unsigned_string n ++ rest
-    → unsigned v ≡ Ok (n, left v (length (unsigned_string n)) rest)
+    → unsigned v ≡ Ok (n, rest_after v (length (unsigned_string n)) rest)
 unfolding unsigned
 unsigned_reads_back n rest v h whole =
     ap (number_and_rest BadUnsignedLeb128 v) (ap (unsigned_at 10 (2 ^ 64)) whole ∙ unsigned_string_reads_back n rest h)
     ∙ ap (λ (w : View). Ok (n, w)) (after_is v (unsigned_string n) rest (length (unsigned_string n)) whole refl)
 
 pub signed_reads_back : (z : ℤ) (rest : List ℕ) (v : View) → FitsSigned w64 z → v.bytes ≡ signed_string z ++ rest
-    → signed v ≡ Ok (z, left v (length (signed_string z)) rest)
+    → signed v ≡ Ok (z, rest_after v (length (signed_string z)) rest)
 unfolding signed
 signed_reads_back z rest v h whole =
     ap (number_and_rest BadSignedLeb128 v) (ap signed_at whole ∙ signed_string_reads_back z rest h)
@@ -94,7 +88,7 @@ number_again true n x h = high_again n x ∙ mod-eq_of_lt h
 number_again false n x h = low_again n 0 x (rw (div-one x) h) ∙ div-one x
 
 pub fixed_reads_back : (n x : ℕ) (rest : List ℕ) (v : View) → x < 256 ^ n
-    → v.bytes ≡ number_bytes v.is_big n x ++ rest → fixed n v ≡ Ok (x, left v n rest)
+    → v.bytes ≡ number_bytes v.is_big n x ++ rest → fixed n v ≡ Ok (x, rest_after v n rest)
 unfolding fixed
 fixed_reads_back n x rest v h whole =
     let len = length-spelled v.is_big n x in

@@ -33,7 +33,8 @@ items_within (suc n) p s = next_item (p s) (items_within n p)
 
 -- All items from a state on. Each makes the state's size smaller, so there are no more of them than
 -- that size.
-unfoldable pub listing_in : {S A : Type 0} → (S → ℕ) → Step S (Option A) → S → Listing S A
+unfoldable pub listing_in : {S A : Type 0} → (S → ℕ) → Step S (Option A) → S
+    → Listing S A
 listing_in size p s = items_within (suc (size s)) p s
 
 -- all items, or the first fault

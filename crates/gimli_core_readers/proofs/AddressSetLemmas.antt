@@ -1,10 +1,9 @@
 -- What is known of a set of addresses that was read, and how its addresses follow one another.
-use Rattle.std.proofs.Common.{◌≡◌, ℕ, eqb, Option, Result, refl, sym, ap, subst, arith}
+use Rattle.std.proofs.Common.{◌≡◌, ℕ, eqb, Option, Result, refl, sym, subst, arith}
 use Rattle.gimli_core_base.specs.declared.error.Error.{Error}
 use Rattle.gimli_core_base.specs.declared.error.Error.TheVariants.{UnknownVersion, UnsupportedSegmentSize}
 use Rattle.gimli_core_base.specs.declared.common.Format.{Format}
 use Rattle.gimli_core_base.specs.View.{View, bytes_left}
-use Rattle.gimli_core_base.specs.FormatSizes.{initial_length_size}
 use Rattle.gimli_core_base.specs.NumberParsers.{address}
 use Rattle.gimli_core_base.specs.Calls.{ReturnsAsOrNoMemory}
 use Rattle.gimli_core_base.specs.Repetition.{listing_in, until_end}
@@ -12,8 +11,8 @@ use Rattle.gimli_core_base.proofs.StepSizes.{SomeBelow-until_end}
 use Rattle.gimli_core_base.proofs.Listings.{Shrinks}
 use Rattle.gimli_core_readers.specs.Iterators.{ComesNext}
 use Rattle.gimli_core_readers.specs.AddressSets.{AddressSet, set_encoding, set_fields, address_set, set_size, RemainingAddresses, next_address, addresses_to_come}
-use Rattle.gimli_core_readers.proofs.ByteCountLemmas.{Took, took_left, took_both, took_same, Yields, yields-Ok, yields-Err, yields-proceed, yields-cond, yields-weaker, yields-within, four_at_least, fixed_took, part_took, address_size_took, address_took, initial_length_took}
-use Rattle.gimli_core_readers.proofs.TilingLemmas.{Parts, comes_next}
+use Rattle.gimli_core_readers.proofs.ByteCountLemmas.{took_left, Yields, yields-Ok, yields-Err, yields-proceed, yields-cond, fixed_took, address_size_took, address_took}
+use Rattle.gimli_core_readers.proofs.TilingLemmas.{Parts, IsCounted, counted_parts, comes_next}
 
 -- ---- sets
 
@@ -31,42 +30,19 @@ encoding_is format v =
     yields-Ok _ s5 refl)))))
 
 -- a set in the bytes that its length counts
-record IsSetIn (offset set_length : ℕ) (format : Format) (s : AddressSet) : Type 0 where
-  at_offset : s.offset ≡ offset
-  long : s.length ≡ set_length
-  in_format : s.encoding.format ≡ format
-
-set_in_is : (offset set_length : ℕ) (format : Format) (v : View)
-    → Yields (λ s w. IsSetIn offset set_length format s) (set_fields offset set_length format v)
-set_in_is offset set_length format v =
+set_is : (offset set_length : ℕ) (format : Format) (v : View)
+    → Yields (λ s w. IsCounted (λ (s : AddressSet). s.offset) (λ s. s.length) (λ s. s.encoding.format) offset set_length
+    format s) (set_fields offset set_length format v)
+set_is offset set_length format v =
     yields-proceed (encoding_is format v)
     (λ e s h. yields-Ok _ s (record { at_offset = refl; long = refl; in_format = h }))
 
--- a set takes its bytes
-set_is : (limit offset : ℕ) (v : View)
-    → Yields (λ s w. (s.offset ≡ offset) × Took (set_size s) v w) (address_set limit offset v)
-unfolding address_set
-set_is limit offset v =
-    yields-proceed (initial_length_took limit v) (λ l s h.
-    yields-proceed (part_took l.0 s) (λ bytes t part.
-    yields-weaker (yields-within bytes (set_fields offset l.0 l.1) t (set_in_is offset l.0 l.1 bytes))
-    (λ u w is.
-    let long : u.length ≡ l.0 = is.0.long in
-    let format : initial_length_size u.encoding.format
-    ≡ initial_length_size l.1 = ap initial_length_size is.0.in_format in (
-      is.0.at_offset,
-      subst (λ (x : View). Took (set_size u) v x) (sym is.1)
-          (took_same (took_both h part.1) (omega arith)),
-    ))))
-
 -- sets are parts of a section that lie end to end
 pub sets_are_parts : (limit : ℕ) → Parts (address_set limit) (λ s. s.offset) set_size
-sets_are_parts limit = record {
-  each = λ offset v s w e.
-      let is = (set_is limit offset v).hold s w e in
-      let some = four_at_least s.encoding.format in
-      record { placed = is.0; took = is.1; some = omega arith };
-}
+unfolding address_set
+sets_are_parts limit =
+    counted_parts (λ (s : AddressSet). s.offset) (λ s. s.length) (λ s. s.encoding.format) limit
+    (λ offset l. set_fields offset l.0 l.1) (λ offset l v. set_is offset l.0 l.1 v)
 
 -- ---- addresses
 

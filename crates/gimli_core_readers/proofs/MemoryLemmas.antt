@@ -57,10 +57,10 @@ free-lift {S} {A} (Err e) s h = λ is. let same : e ≡ Memory = is_refusal e is
     refusal : Error → Result A Error
     refusal d = Err d
 
-    lifted : Error → Result (A × S) Error
-    lifted d = Err d
+    error_of : Error → Result (A × S) Error
+    error_of d = Err d
 
-    is_refusal : (d : Error) → lifted d ≡ Err Memory → d ≡ Memory
+    is_refusal : (d : Error) → error_of d ≡ Err Memory → d ≡ Memory
     is_refusal d k = cc
 
 pub free-cond : {A : Type 0} (b : Bool) {x y : Result A Error} → IsFree x → IsFree y → IsFree (cond b x y)
@@ -80,10 +80,10 @@ free_refusal {A} {B} e d h free = λ is. let same : e ≡ Memory = is_refusal e 
     refusal : Error → Result B Error
     refusal y = Err y
 
-    answered : Error → Result A Error
-    answered y = Err y
+    error_of : Error → Result A Error
+    error_of y = Err y
 
-    is_refusal : (y : Error) → answered y ≡ Err Memory → y ≡ Memory
+    is_refusal : (y : Error) → error_of y ≡ Err Memory → y ≡ Memory
     is_refusal y k = cc
 
 -- the same of any answer

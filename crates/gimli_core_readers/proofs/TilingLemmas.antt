@@ -7,7 +7,10 @@ use Rattle.std.specs.List.{All}
 use Rattle.std.specs.Result.{IfOk}
 use Rattle.gimli_core_base.specs.declared.error.Error.{Error}
 use Rattle.gimli_core_base.specs.View.{View, after, bytes_left, unexpected_end}
-use Rattle.gimli_core_base.specs.Parsers.{Step, Parser, proceed, give, skip, value_of, ◌>>◌}
+use Rattle.gimli_core_base.specs.declared.common.Format.{Format}
+use Rattle.gimli_core_base.specs.FormatSizes.{initial_length_size}
+use Rattle.gimli_core_base.specs.NumberParsers.{initial_length}
+use Rattle.gimli_core_base.specs.Parsers.{Step, Parser, proceed, give, skip, part, within, value_of, ◌>>◌, ◌>>=◌}
 use Rattle.gimli_core_base.specs.Calls.{ReturnsAsOrNoMemory, ReturnsOrNoMemory}
 use Rattle.gimli_core_base.specs.Repetition.{Listing, fault_of, listing_in, items_within, next_item, item_or_end, until_end}
 use Rattle.gimli_core_base.proofs.StepParts.{read}
@@ -15,17 +18,55 @@ use Rattle.gimli_core_base.proofs.StepSizes.{SomeBelow-until_end}
 use Rattle.gimli_core_base.proofs.Listings.{Shrinks, listing_end, listing_item, listing_fault}
 use Rattle.gimli_core_readers.specs.Iterators.{ComesNext}
 use Rattle.gimli_core_readers.specs.Tiling.{RemainingSection, whole_section, part_of, next_part, parts_to_come, Tile}
-use Rattle.gimli_core_readers.proofs.ByteCountLemmas.{Took, took_left, after_after}
+use Rattle.gimli_core_readers.proofs.ByteCountLemmas.{Took, took_left, took_both, took_same, after_after, Yields, yields-proceed, yields-weaker, yields-within, four_at_least, part_took, initial_length_took}
 
 -- what is known of a part that was read: its offset, and that it took its bytes, of which there are some
 pub record IsPart {A : Type 0} (offset_of size_of : A → ℕ) (offset : ℕ) (v : View) (x : A) (w : View) : Type 0 where
-  pub placed : offset_of x ≡ offset
+  pub at_offset : offset_of x ≡ offset
   pub took : Took (size_of x) v w
   pub some : 0 < size_of x
 
 pub record Parts {A : Type 0} (read : ℕ → Parser A) (offset_of size_of : A → ℕ) : Type 0 where
   pub each : (offset : ℕ) (v : View) (x : A) (w : View) → read offset v ≡ Ok (x, w)
       → IsPart offset_of size_of offset v x w
+
+-- ---- parts that begin with their length
+
+-- a part in the n bytes after its length, in the format of that
+pub record IsCounted {A : Type 0} (offset_of length_of : A → ℕ) (format_of : A → Format) (offset n : ℕ)
+    (format : Format) (x : A) : Type 0 where
+  pub at_offset : offset_of x ≡ offset
+  pub long : length_of x ≡ n
+  pub in_format : format_of x ≡ format
+
+pub counted_parts : {A : Type 0} (offset_of length_of : A → ℕ) (format_of : A → Format) (limit : ℕ)
+    (parse : ℕ → ℕ × Format → Parser A)
+    → ((offset : ℕ) (l : ℕ × Format) (v : View)
+    → Yields (λ x w. IsCounted offset_of length_of format_of offset l.0 l.1 x) (parse offset l v))
+    → Parts (λ offset. initial_length limit >>= λ l. (part l.0 >>= λ bytes. within bytes (parse offset l))) offset_of
+    (λ x. initial_length_size (format_of x) + length_of x)
+counted_parts {A} offset_of length_of format_of limit parse each = record {
+  each = λ offset v x w e.
+      let is = (takes offset v).hold x w e in
+      let some = four_at_least (format_of x) in
+      record { at_offset = is.0; took = is.1; some = omega arith };
+}
+  where
+    takes : (offset : ℕ) (v : View)
+        → Yields (λ x w. (offset_of x ≡ offset) × Took (initial_length_size (format_of x) + length_of x) v w)
+        ((initial_length limit >>= λ l. (part l.0 >>= λ bytes. within bytes (parse offset l))) v)
+    takes offset v =
+        yields-proceed (initial_length_took limit v) (λ l s h.
+        yields-proceed (part_took l.0 s) (λ bytes t k.
+        yields-weaker (yields-within bytes (parse offset l) t (each offset l bytes))
+        (λ x w is.
+        let long : length_of x ≡ l.0 = is.0.long in
+        let format : initial_length_size (format_of x) ≡ initial_length_size l.1 =
+        ap initial_length_size is.0.in_format in (
+          is.0.at_offset,
+          subst (λ (u : View). Took (initial_length_size (format_of x) + length_of x) v u) (sym is.1)
+              (took_same (took_both h k.1) (omega arith)),
+        ))))
 
 -- ---- end to end
 
@@ -43,11 +84,12 @@ tile_after_read : {A : Type 0} {parse : ℕ → Parser A} {offset_of size_of : A
 tile_after_read parts section offset rest (Err e) lt more h = (lt, ap value_of h)
 tile_after_read {parse = parse} {offset_of = offset_of} {size_of = size_of} parts section offset rest (Ok r) lt more h =
     let is = parts.each offset (after offset section) r.0 r.1 h in
-    let rest_is : r.1 ≡ after (offset + size_of r.0) section = is.took.rest ∙ after_after offset (size_of r.0) section in
+    let rest_is : r.1 ≡ after (offset + size_of r.0) section =
+    is.took.rest ∙ after_after offset (size_of r.0) section in
     let enough = is.took.enough in
     let some = is.some in
     let fits : offset + size_of r.0 ≤ bytes_left section = omega (arith, length-drop offset section.bytes) in (
-      is.placed,
+      is.at_offset,
       h ∙ ap (λ (w : View). read r.0 w) rest_is,
       subst (λ (w : View). TileListing parse offset_of size_of section (offset + size_of r.0) (rest w)) (sym rest_is)
           (more (size_of r.0) some fits),
@@ -63,20 +105,20 @@ one_round : {A : Type 0} {parse : ℕ → Parser A} {offset_of size_of : A → �
 one_round {A} {parse} {offset_of} {size_of} parts section offset rest within more =
     by_end (eqb (length (drop offset section.bytes)) 0) refl
   where
-    left : length (drop offset section.bytes) ≡ bytes_left section - offset
-    left = length-drop offset section.bytes
+    length_left : length (drop offset section.bytes) ≡ bytes_left section - offset
+    length_left = length-drop offset section.bytes
 
     by_end : (b : Bool) → eqb (length (drop offset section.bytes)) 0 ≡ b
         → TileListing parse offset_of size_of section offset
         (next_item
         (cond b (Ok (None, after offset section))
         (proceed (part_of parse (bytes_left section) (after offset section)) (λ x. give (Some x)))) rest)
-    by_end true e = let none : length (drop offset section.bytes) ≡ 0 = eqb-true _ _ e in omega (arith, left)
+    by_end true e = let none : length (drop offset section.bytes) ≡ 0 = eqb-true _ _ e in omega (arith, length_left)
     by_end false e =
         let some : length (drop offset section.bytes) ≢ 0 = eqb-false _ _ e in
-        let same : offset ≡ bytes_left section - length (drop offset section.bytes) = omega (arith, left) in
+        let same : offset ≡ bytes_left section - length (drop offset section.bytes) = omega (arith, length_left) in
         tile_after_read parts section offset rest (part_of parse (bytes_left section) (after offset section))
-        (omega (arith, left)) more
+        (omega (arith, length_left)) more
         (ap (λ (o : ℕ). parse o (after offset section)) same)
 
 tile_from : {A : Type 0} {parse : ℕ → Parser A} {offset_of size_of : A → ℕ} (parts : Parts parse offset_of size_of)

@@ -39,7 +39,7 @@ part-Ok n v w u e = at (ltb (length v.bytes) n) refl e
           sym (state_is (prefix n v) w (after n v) u h);
     }
 
--- a text is what stands before its zero byte
+-- a text is what comes before its zero byte
 pub text_is : (n : ℕ) (v w u t : View) → find_byte 0 v ≡ Ok n → part n v ≡ Ok (w, u) → t ≡ after 1 u
     → null_terminated v ≡ Ok (w, t)
 text_is n v w u t f p e =

@@ -15,7 +15,7 @@ pub mod_mod : (n bits k m : ℕ) → k + m ≡ bits → n % 2 ^ bits % 2 ^ m ≡
 mod_mod n bits k m e = ap (λ b. n % 2 ^ b % 2 ^ m) (sym e) ∙ mod-mod-pow n k m
 
 -- what is left of a sum of 64 bits under a mask
-pub masked : (size n : ℕ) → IsTrue (is_address_size size) → bit_and (n % 2 ^ 64) (2 ^ (8 * size) - 1) ≡ wrap size n
-masked size n is =
+pub mask_wraps : (size n : ℕ) → IsTrue (is_address_size size) → bit_and (n % 2 ^ 64) (2 ^ (8 * size) - 1) ≡ wrap size n
+mask_wraps size n is =
     let small = at_most_eight size is in
     and_mask (n % 2 ^ 64) (8 * size) ∙ mod_mod n 64 (64 - 8 * size) (8 * size) (omega arith)

@@ -22,7 +22,8 @@ abbrev pub ReadsAsOrEndsOrNoMemory : {A B : Type 0}
     → (A → B) → Result A Error → View → View → Result (B × View) Error → Type 0
 ReadsAsOrEndsOrNoMemory see (Ok x) old new meaning = meaning ≡ Ok (see x, new)
 ReadsAsOrEndsOrNoMemory see (Err e) old new meaning =
-    (e ≢ Memory → (meaning ≡ Err e) × (new ≡ prefix 0 old)) × (e ≡ Memory → new ≡ old)
+    (e ≢ Memory → (meaning ≡ Err e) × (new ≡ prefix 0 old))
+    × (e ≡ Memory → new ≡ old)
 
 abbrev pub ReadsOrEndsOrNoMemory : {A : Type 0}
     → Result A Error → View → View → Result (A × View) Error → Type 0
@@ -34,8 +35,8 @@ ReadsOrEndsOrNoMemory result old new meaning =
 -- What was to come before a call is the item that it returns, and then what is to come after it.
 -- Nothing more was to come where it returns none, and where it returns a fault, that is what ended
 -- the items.
-abbrev pub ComesNext : {A : Type 0} → Result (Option A) Error → Listing View A → Listing View A
-    → Type 0
+abbrev pub ComesNext : {A : Type 0} → Result (Option A) Error → Listing View A
+    → Listing View A → Type 0
 ComesNext (Ok None) old new = (old.items ≡ []) × (fault_of old ≡ None)
 ComesNext (Ok (Some x)) old new = old ≡ prepend (x ∷ []) new
 ComesNext (Err e) old new = e ≢ Memory → (old.items ≡ []) × (fault_of old ≡ Some e)

@@ -20,7 +20,8 @@ pub record IsIndexable (limit : ℕ) (v : View) : Type 0 where
 
 -- the bytes of v are among those of base, by their identifiers
 abbrev pub Holds : View → View → Type 0
-Holds base v = (base.first ≤ v.first) × (v.first + length v.bytes ≤ base.first + length base.bytes)
+Holds base v =
+    (base.first ≤ v.first) × (v.first + length v.bytes ≤ base.first + length base.bytes)
 
 -- the bytes as a text, where they are UTF-8
 abbrev pub utf8_of : List ℕ → Result (List ℕ) Error

@@ -29,7 +29,8 @@ abbrev pub next_part : {A : Type 0} → (ℕ → Parser A) → RemainingSection
 next_part read s = until_end (part_of read s.section_length) s.rest
 
 -- all parts from there on, and what ends them: the section's end, or the first fault
-abbrev pub parts_to_come : {A : Type 0} → (ℕ → Parser A) → RemainingSection → Listing View A
+abbrev pub parts_to_come : {A : Type 0} → (ℕ → Parser A) → RemainingSection
+    → Listing View A
 parts_to_come read s = listing_in bytes_left (until_end (part_of read s.section_length)) s.rest
 
 -- the part at an offset of a section
@@ -38,8 +39,8 @@ part_at read offset section = value_of (read offset (after offset section))
 
 -- From an offset on the parts lie end to end: each at the offset that it names, and the next one
 -- after its last byte, up to the section's end or to a part that can't be read.
-abbrev pub Tile : {A : Type 0} → (ℕ → Parser A) → (A → ℕ) → (A → ℕ) → View → ℕ → List A
-    → Result View Error → Type 0
+abbrev pub Tile : {A : Type 0} → (ℕ → Parser A) → (A → ℕ) → (A → ℕ) → View
+    → ℕ → List A → Result View Error → Type 0
 Tile read offset_of size_of section offset [] (Ok rest) = offset ≡ bytes_left section
 Tile read offset_of size_of section offset [] (Err e) =
     (offset < bytes_left section) × (part_at read offset section ≡ Err e)

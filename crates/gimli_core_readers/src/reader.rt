@@ -400,8 +400,8 @@ pub trait Reader: Drop {
     /// An initial length and its format (DWARF 5, 7.4).
     #[tactic(auto, unfolding(gimli_core_base::specs::NumberParsers::initial_length, gimli_core_base::specs::NumberParsers::fixed, gimli_core_base::specs::NumberParsers::sized_offset))]
     final fn read_initial_length(&mut self) -> Result<(Self::Offset, Format), Error>
-        ensures { ReadsAs (λ p. (Self.Offset.count p.0, p.1)) result (view self.old) (view self.new)
-            (initial_length Self.Offset.limit (view self.old)) }
+        ensures { ReadsAs (λ p. (Self.Offset.count p.0, p.1)) result (view self.old)
+            (view self.new) (initial_length Self.Offset.limit (view self.old)) }
     {
         need(self, 4)?;
         let word = self.endian().read_u32(self.as_bytes());

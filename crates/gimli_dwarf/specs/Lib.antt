@@ -18,6 +18,8 @@ pub use Rattle.gimli_dwarf_spec.specs.AttributeValues
 pub use Rattle.gimli_dwarf_spec.specs.UnitHeaders
 pub use Rattle.gimli_dwarf_spec.specs.UnitOffsets
 pub use Rattle.gimli_dwarf_spec.specs.ListSections
+pub mod CachedFiles
+pub mod OffsetCalls
 pub mod RootBases
 pub mod Roots
 pub mod SectionLoading

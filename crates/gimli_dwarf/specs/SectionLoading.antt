@@ -1,12 +1,10 @@
 -- All sections of a file, by what a function answers for each.
-use Rattle.std.specs.Prelude.{◌≡◌, List, [], ◌∷◌, ◌++◌, ℕ, suc, length, map, Option, Some, None, Result, Ok, Err}
+use Rattle.std.specs.Prelude.{◌≡◌, List, [], ◌∷◌, ◌++◌, ℕ, map, Some, Result, Ok, Err}
 use Rattle.std.specs.List.{FoldsTo}
 use Rattle.gimli_dwarf_spec.specs.View.{View}
 use Rattle.gimli_dwarf_spec.specs.DwarfFileType.TheVariants.{Main}
 use Rattle.gimli_dwarf_spec.specs.SectionId.{SectionId}
 use Rattle.gimli_dwarf_spec.specs.SectionId.TheVariants.{DebugAbbrev, DebugAddr, DebugAranges, DebugInfo, DebugLine, DebugLineStr, DebugLoc, DebugLocLists, DebugMacinfo, DebugMacro, DebugNames, DebugRanges, DebugRngLists, DebugStr, DebugStrOffsets, DebugTypes}
-use Rattle.gimli_dwarf_spec.specs.Tiling.{RemainingSection}
-use Rattle.gimli_dwarf_spec.specs.UnitHeaders.{units_to_come}
 use Rattle.gimli_dwarf_spec.specs.DwarfFiles.{DwarfFile, dwarf_file}
 
 -- those of a main file without a supplement
@@ -89,8 +87,3 @@ module _ {F R E : Type 0} (step : F → SectionId → Result R E → F → Type 
 -- a file with another's sections for its supplement's
 abbrev pub with_supplement : DwarfFile → DwarfFile → DwarfFile
 with_supplement supplement file = dwarf_file file.offset_limit file.sections (Some supplement)
-
--- a bound on the offsets of a section's units, with a fault after them
-abbrev pub offsets_left : ℕ → Option RemainingSection → ℕ
-offsets_left limit None = 0
-offsets_left limit (Some s) = suc (length (units_to_come limit s).items)

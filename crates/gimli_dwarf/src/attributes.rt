@@ -22,7 +22,7 @@ impl<R: Reader> Dwarf<R> {
     /// reader does.
     pub fn attr_string(&self, unit: &Unit<R>, attr: AttributeValue<R>) -> Result<R, Error>
         ensures { ReturnsAsOrNoMemory R.view result
-            (attr_string self.now unit.now.bases
+            (attr_string self.now.file unit.now.bases
             (raw_value_of R.view R.Offset.count attr)) }
     {
         match attr {
@@ -44,7 +44,7 @@ impl<R: Reader> Dwarf<R> {
     /// The address that an index stands for (DWARF 5, 7.27). Takes no memory.
     pub fn address(&self, unit: &Unit<R>, index: DebugAddrIndex<R::Offset>) -> Result<u64, Error>
         ensures { Returns result
-            (indexed_address self.now unit.now.bases (R.Offset.count index.0)) }
+            (indexed_address self.now.file unit.now.bases (R.Offset.count index.0)) }
     {
         let size = unit.header.address_size();
         self.debug_addr.get_address(size, unit.addr_base, index)
@@ -58,7 +58,7 @@ impl<R: Reader> Dwarf<R> {
         attr: AttributeValue<R>,
     ) -> Result<Option<u64>, Error>
         ensures { Returns result
-            (attr_address self.now unit.now.bases (raw_value_of R.view R.Offset.count attr)) }
+            (attr_address self.now.file unit.now.bases (raw_value_of R.view R.Offset.count attr)) }
     {
         match &attr {
             AttributeValue::Addr(address) => Ok(Some(*address)),
@@ -76,7 +76,7 @@ impl<R: Reader> Dwarf<R> {
         offset: RawRangeListsOffset<R::Offset>,
     ) -> Result<RangeListsOffset<R::Offset>, Error>
         ensures { ReturnsAs (λ o. R.Offset.count o.0) result
-            (ranges_offset_from_raw self.now unit.now.bases
+            (ranges_offset_from_raw self.now.file unit.now.bases
             (R.Offset.count offset.0)) }
     {
         if self.file_type == DwarfFileType::Dwo && unit.header.version() < 5 {
@@ -99,7 +99,7 @@ impl<R: Reader> Dwarf<R> {
         index: DebugRngListsIndex<R::Offset>,
     ) -> Result<RangeListsOffset<R::Offset>, Error>
         ensures { ReturnsAs (λ o. R.Offset.count o.0) result
-            (ranges_offset self.now unit.now.bases (R.Offset.count index.0)) }
+            (ranges_offset self.now.file unit.now.bases (R.Offset.count index.0)) }
     {
         let encoding = unit.header.encoding();
         self.ranges.get_offset(encoding, unit.rnglists_base, index)
@@ -113,7 +113,7 @@ impl<R: Reader> Dwarf<R> {
         attr: AttributeValue<R>,
     ) -> Result<Option<RangeListsOffset<R::Offset>>, Error>
         ensures { ReturnsAs (option_map (λ o. R.Offset.count o.0)) result
-            (attr_ranges_offset self.now unit.now.bases
+            (attr_ranges_offset self.now.file unit.now.bases
             (raw_value_of R.view R.Offset.count attr)) }
     {
         match &attr {
@@ -134,7 +134,7 @@ impl<R: Reader> Dwarf<R> {
         offset: RangeListsOffset<R::Offset>,
     ) -> Result<RngListIter<R>, Error>
         ensures value { ReturnsOrNoMemory result
-            (ranges self.now unit.now.bases (R.Offset.count offset.0)) }
+            (ranges self.now.file unit.now.bases (R.Offset.count offset.0)) }
         ensures free { IsTrue R.copies_freely → result ≢ Err Memory }
         // There are no more of them, refusals among them, than bytes.
         ensures few { IfOk result

@@ -24,7 +24,8 @@ use std::marker::Model;
 use std::rc::Rc;
 
 /// All sections of a file, and those of its supplement, if it has one (DWARF 5, 7.3.6). The cache
-/// holds abbreviation tables of this file's own `.debug_abbrev`, or nothing.
+/// has tables of this file's own `.debug_abbrev`, or why they can't be read, at some of their
+/// offsets.
 #[derive(Drop)]
 pub struct Dwarf<R: Reader> {
     pub debug_abbrev: DebugAbbrev<R>,
@@ -48,12 +49,13 @@ pub struct Dwarf<R: Reader> {
 
 impl<R: Reader> Model for Dwarf<R> {
     ghost use Rattle.std.specs.Prelude.{option_map, length};
-    ghost use Rattle.gimli_dwarf_spec.specs.DwarfFiles.{DwarfFile, dwarf_file};
+    ghost use Rattle.gimli_dwarf_spec.specs.DwarfFiles.{dwarf_file};
     ghost use Rattle.gimli_dwarf_spec.specs.TableCache.{AreTablesOf};
+    ghost use Rattle.gimli_dwarf.specs.CachedFiles.{CachedFile, cached_file, SharesLimit};
 
-    ghost Value = { DwarfFile };
+    ghost Value = { CachedFile };
 
-    ghost view = { λ d. dwarf_file R.Offset.limit (record {
+    ghost view = { λ d. cached_file (dwarf_file R.Offset.limit (record {
       debug_abbrev = d.debug_abbrev;
       debug_addr = d.debug_addr;
       debug_aranges = d.debug_aranges;
@@ -69,11 +71,12 @@ impl<R: Reader> Model for Dwarf<R> {
       locations = d.locations;
       ranges = d.ranges;
       file_type = d.file_type;
-    }) (option_map (λ s. s.value) d.sup) };
+    }) (option_map (λ s. s.value.file) d.sup)) d.abbreviations_cache };
 
-    ghost invariant = { λ d. AreTablesOf d.debug_abbrev d.abbreviations_cache };
+    ghost invariant = { λ d. AreTablesOf d.debug_abbrev d.abbreviations_cache
+        × SharesLimit R.Offset.limit (option_map (λ s. s.value) d.sup) };
 
-    ghost size = { λ s. length s.supplements };
+    ghost size = { λ s. length s.file.supplements };
 
     ghost use Rattle.std.proofs.Common.{arith};
 
@@ -84,7 +87,7 @@ impl<R: Reader> Dwarf<R> {
     /// The string at an offset of `.debug_str`. Takes memory only where a copy of the reader does.
     pub fn string(&self, offset: DebugStrOffset<R::Offset>) -> Result<R, Error>
         ensures { ReturnsAsOrNoMemory R.view result
-            (string_at (R.Offset.count offset.0) self.now.sections.debug_str) }
+            (string_at (R.Offset.count offset.0) self.now.file.sections.debug_str) }
     {
         self.debug_str.get_str(offset)
     }
@@ -93,7 +96,7 @@ impl<R: Reader> Dwarf<R> {
     // where there is no supplement.
     pub(crate) fn supplement_string(&self, offset: DebugStrOffset<R::Offset>) -> Result<R, Error>
         ensures { ReturnsAsOrNoMemory R.view result
-            (supplement_string (R.Offset.count offset.0) (supplement self.now)) }
+            (supplement_string (R.Offset.count offset.0) (supplement self.now.file)) }
     {
         match &self.sup {
             Some(sup) => sup.string(offset),
@@ -103,27 +106,26 @@ impl<R: Reader> Dwarf<R> {
 
     /// The supplement, if the file has one (DWARF 5, 7.3.6).
     pub fn sup(&self) -> Option<&Dwarf<R>>
-        ensures { option_map (λ s. s.now) result ≡ supplement self.now }
+        ensures { option_map (λ s. s.now.file) result ≡ supplement self.now.file }
     {
         let sup: &Dwarf<R> = self.sup.as_ref()?;
-        // (shows the prover what the model says of a file's offsets)
-        let _ = &sup.file_type;
         Some(sup)
     }
 
     /// The headers of the file's units, in order (DWARF 5, 7.5.1).
     pub fn units(&self) -> Result<DebugInfoUnitHeadersIter<R>, Error>
-        ensures value { ReturnsOrNoMemory result (Ok (whole_section self.now.sections.debug_info)) }
+        ensures value { ReturnsOrNoMemory result
+            (Ok (whole_section self.now.file.sections.debug_info)) }
         ensures free { IsTrue R.copies_freely → result ≢ Err Memory }
         // Offsets in the headers are the file's.
-        ensures limit { self.now.offset_limit ≡ R.Offset.limit }
+        ensures limit { self.now.file.offset_limit ≡ R.Offset.limit }
     {
         self.debug_info.units()
     }
 
     /// The unit of a header, with the facts of its root.
     pub fn unit(&self, alloc: Global, header: UnitHeader<R>) -> Result<Unit<R>, Error>
-        ensures { ReturnsOrNoMemory result (unit_facts self.now header) }
+        ensures { ReturnsOrNoMemory result (unit_facts self.now.file header) }
     {
         Unit::new(alloc, self, header)
     }
@@ -135,18 +137,20 @@ impl<R: Reader> Dwarf<R> {
         offset: DebugAbbrevOffset<R::Offset>,
     ) -> Result<Rc<Abbreviations>, Error>
         ensures value { ReturnsAsOrNoMemory (λ t. t.value) result
-            (table_at (R.Offset.count offset.0) self.now.sections.debug_abbrev) }
+            (table_at (R.Offset.count offset.0) self.now.file.sections.debug_abbrev) }
         // Offsets in the file are the reader's.
-        ensures limit { self.now.offset_limit ≡ R.Offset.limit }
+        ensures limit { self.now.file.offset_limit ≡ R.Offset.limit }
     {
         self.abbreviations_cache
             .get(alloc, &self.debug_abbrev, offset)
     }
 
     /// Makes this a split file of a main file: its addresses, its range lists of old versions and
-    /// its supplement are the main file's (DWARF 5, 7.3.2). The only refusal is out of memory.
+    /// its supplement are the main file's (DWARF 5, 7.3.2). The cache stays as it is. The only
+    /// refusal is out of memory.
     pub fn make_dwo(&mut self, parent: &Dwarf<R>) -> Result<(), Error>
-        ensures ok { OnOk result (self.new ≡ split_from parent.now self.old) }
+        ensures ok { OnOk result (self.new.file ≡ split_from parent.now.file self.old.file) }
+        ensures cache { self.new.cached_offsets ≡ self.old.cached_offsets }
         ensures unchanged { OnErr result (self.new ≡ self.old) }
         ensures memory { IfErr result (λ e. e ≡ Memory) }
     {

@@ -3,6 +3,8 @@
 ghost use Rattle.std.specs.Prelude.{◌≡◌, ◌⊎◌, [], ◌∷◌, IfOk, IfErr, OnOk, OnErr, alloc_error};
 ghost use Rattle.gimli_dwarf_spec.specs.Error.TheVariants.{Memory};
 ghost use Rattle.gimli_dwarf_spec.specs.DwarfFiles.{DwarfFile};
+ghost use Rattle.gimli_dwarf_spec.specs.TableCache.{chosen_tables};
+ghost use Rattle.gimli_dwarf.specs.CachedFiles.{cached_file, table_offsets};
 ghost use Rattle.gimli_dwarf.specs.SectionLoading.{Answers, RefusesOneOf, Loads, RefusesToLoad, with_supplement};
 
 use crate::dwarf::Dwarf;
@@ -15,12 +17,14 @@ use std::rc::Rc;
 
 impl<R: Reader> Dwarf<R> {
     /// The sections that a function loads, each asked for once, as those of a main file without a
-    /// supplement; or the function's first refusal. It takes no memory itself.
+    /// supplement, with an empty cache; or the function's first refusal. It takes no memory itself.
     pub fn load<F, E>(alloc: Global, mut section: F) -> Result<Self, E>
     where
         F: FnMut(SectionId) -> Result<R, E>,
         requires { F.IsAlwaysCallable section }
-        ensures loaded { IfOk result (λ dwarf. Loads F.step R.view R.Offset.limit section dwarf) }
+        ensures loaded { IfOk result
+            (λ dwarf. Loads F.step R.view R.Offset.limit section dwarf.file) }
+        ensures cache { IfOk result (λ dwarf. dwarf.cached_offsets ≡ []) }
         ensures refusal { IfErr result (λ e. RefusesToLoad F.step R.view section e) }
     {
         let (debug_abbrev, debug_addr, debug_aranges, debug_info) = load_four(
@@ -82,7 +86,8 @@ impl<R: Reader> Dwarf<R> {
         requires { F.IsAlwaysCallable section }
         ensures ok { OnOk result ((supplement : DwarfFile)
             × Loads F.step R.view R.Offset.limit section supplement
-            × (self.new ≡ with_supplement supplement self.old)) }
+            × (self.new.file ≡ with_supplement supplement self.old.file)) }
+        ensures cache { self.new.cached_offsets ≡ self.old.cached_offsets }
         ensures unchanged { OnErr result (self.new ≡ self.old) }
         ensures refusal { IfErr result (λ e. RefusesToLoad F.step R.view section e
             ⊎ ((supplement : DwarfFile)
@@ -99,14 +104,17 @@ impl<R: Reader> Dwarf<R> {
         }
     }
 
-    /// Keeps the abbreviation tables of the file's units that a strategy asks for, in place of
+    /// Caches the abbreviation tables of the file's units that a strategy asks for, in place of
     /// those before. A unit that can't be read ends the units. The only refusal is out of memory.
     pub fn populate_abbreviations_cache(
         &mut self,
         alloc: Global,
         strategy: AbbreviationsCacheStrategy,
     ) -> Result<(), Error>
-        ensures unchanged { self.new ≡ self.old }
+        ensures ok { OnOk result (self.new ≡ cached_file self.old.file
+            (chosen_tables strategy (table_offsets self.old.file)
+            self.old.file.sections.debug_abbrev)) }
+        ensures unchanged { OnErr result (self.new ≡ self.old) }
         ensures memory { IfErr result (λ e. e ≡ Memory) }
     {
         let offsets = TableOffsets {
@@ -150,11 +158,14 @@ struct TableOffsets<R: Reader> {
 
 impl<R: Reader> Iterator for TableOffsets<R> {
     ghost use Rattle.std.specs.Iterator.{at_most};
-    ghost use Rattle.gimli_dwarf.specs.SectionLoading.{offsets_left};
+    ghost use Rattle.gimli_dwarf.specs.OffsetCalls.{GivesOffset, answers_left};
 
     type Item = Result<DebugAbbrevOffset<R::Offset>, Error>;
 
-    ghost remaining = { λ s. at_most (offsets_left R.Offset.limit s.units) };
+    ghost next_gives = { λ old answer new.
+        GivesOffset R.Offset.limit (λ o. R.Offset.count o.0) old.units answer new.units };
+
+    ghost remaining = { λ s. at_most (answers_left R.Offset.limit s.units) };
 
     fn next(&mut self) -> Option<Self::Item> {
         match self.units.as_mut()?.next() {

@@ -72,7 +72,7 @@ impl<R: Reader> Unit<R> {
     /// A unit of a file, with the facts of its root. Refused is a unit whose declarations can't be
     /// read, whose root is missing or can't be read, or whose line header or `low_pc` is refused.
     pub fn new(alloc: Global, dwarf: &Dwarf<R>, header: UnitHeader<R>) -> Result<Self, Error>
-        ensures { ReturnsOrNoMemory result (unit_facts dwarf.now header) }
+        ensures { ReturnsOrNoMemory result (unit_facts dwarf.now.file header) }
     {
         let abbreviations = dwarf.abbreviations(alloc, header.debug_abbrev_offset())?;
         let root = root_entry(alloc, &header, &abbreviations)?;
@@ -88,7 +88,7 @@ impl<R: Reader> Unit<R> {
         attrs: &[Attribute<R>],
     ) -> Result<Self, Error>
         ensures { ReturnsOrNoMemory result
-            (facts_of dwarf.now header abbreviations.value
+            (facts_of dwarf.now.file header abbreviations.value
             (raw_attributes R.view R.Offset.count attrs.now)) }
     {
         let unit = Unit::without_texts(dwarf.file_type, header, abbreviations, attrs)?;
@@ -134,7 +134,7 @@ impl<R: Reader> Unit<R> {
     // The unit with its name and its directory.
     fn with_texts(mut self, dwarf: &Dwarf<R>, attrs: &[Attribute<R>]) -> Result<Self, Error>
         ensures { ReturnsOrNoMemory result
-            (Ok (facts_with_texts dwarf.now self
+            (Ok (facts_with_texts dwarf.now.file self
             (raw_attributes R.view R.Offset.count attrs.now))) }
     {
         let name = self.text(dwarf, attrs, DW_AT_name)?;
@@ -147,7 +147,7 @@ impl<R: Reader> Unit<R> {
     // The text of the last attribute of a name, if it can be read.
     fn text(&self, dwarf: &Dwarf<R>, attrs: &[Attribute<R>], name: DwAt) -> Result<Option<R>, Error>
         ensures { ReturnsAsOrNoMemory (option_map R.view) result
-            (Ok (readable_text dwarf.now self.now.bases
+            (Ok (readable_text dwarf.now.file self.now.bases
             (last_value (λ n. n == name.0) (raw_attributes R.view R.Offset.count attrs.now)))) }
     {
         let value = last_value(attrs, name)?;
@@ -162,7 +162,7 @@ impl<R: Reader> Unit<R> {
         attrs: &[Attribute<R>],
     ) -> Result<Self, Error>
         ensures { ReturnsOrNoMemory result
-            (facts_with_program dwarf.now self
+            (facts_with_program dwarf.now.file self
             (raw_attributes R.view R.Offset.count attrs.now)) }
     {
         let line_program = self.line_header(alloc, dwarf, attrs)?;
@@ -180,7 +180,7 @@ impl<R: Reader> Unit<R> {
         attrs: &[Attribute<R>],
     ) -> Result<Option<LineProgramHeader<R>>, Error>
         ensures { ReturnsOrNoMemory result
-            (line_header_of dwarf.now (line_unit self.now)
+            (line_header_of dwarf.now.file (line_unit self.now)
             (last_value_of_kind line_reference_of is_stmt_list
             (raw_attributes R.view R.Offset.count attrs.now))) }
     {
@@ -190,7 +190,7 @@ impl<R: Reader> Unit<R> {
 
     // The address that the unit begins at; 0 where its root doesn't say.
     fn begin(&self, dwarf: &Dwarf<R>, attrs: &[Attribute<R>]) -> Result<u64, Error>
-        ensures { ReturnsOrNoMemory result (address_or_0 dwarf.now self.now.bases
+        ensures { ReturnsOrNoMemory result (address_or_0 dwarf.now.file self.now.bases
             (last_value is_low_pc (raw_attributes R.view R.Offset.count attrs.now))) }
     {
         let value = last_value(attrs, DW_AT_low_pc)?;
@@ -283,7 +283,7 @@ impl<R: Reader> Dwarf<R> {
     // The text of a value, if there is one and it can be read.
     fn text_of(&self, unit: &Unit<R>, value: Option<AttributeValue<R>>) -> Result<Option<R>, Error>
         ensures { ReturnsAsOrNoMemory (option_map R.view) result
-            (Ok (readable_text self.now unit.now.bases
+            (Ok (readable_text self.now.file unit.now.bases
             (option_map (raw_value_of R.view R.Offset.count) value))) }
     {
         let Some(value) = value else {
@@ -299,7 +299,7 @@ impl<R: Reader> Dwarf<R> {
     // The address of a value; 0 where there is none.
     fn address_of(&self, unit: &Unit<R>, value: Option<AttributeValue<R>>) -> Result<u64, Error>
         ensures { ReturnsOrNoMemory result
-            (address_or_0 self.now unit.now.bases
+            (address_or_0 self.now.file unit.now.bases
             (option_map (raw_value_of R.view R.Offset.count) value)) }
     {
         let Some(value) = value else {
@@ -317,7 +317,7 @@ impl<R: Reader> Dwarf<R> {
         comp_dir: &Option<R>,
         name: &Option<R>,
     ) -> Result<Option<LineProgramHeader<R>>, Error>
-        ensures { ReturnsOrNoMemory result (line_header_of self.now
+        ensures { ReturnsOrNoMemory result (line_header_of self.now.file
             (record {
               address_bytes = header.now.encoding.address_size;
               directory = option_map R.view comp_dir.now;

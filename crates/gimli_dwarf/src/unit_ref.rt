@@ -30,14 +30,14 @@ impl<'a, R: Reader> Model for UnitRef<'a, R> {
 
     ghost Value = { UnitInFile };
 
-    ghost view = { λ u. record { file = u.dwarf.now; facts = u.unit.now } };
+    ghost view = { λ u. record { file = u.dwarf.now.file; facts = u.unit.now } };
 
-    ghost invariant = { λ u. u.dwarf.now.offset_limit ≡ R.Offset.limit };
+    ghost invariant = { λ u. u.dwarf.now.file.offset_limit ≡ R.Offset.limit };
 }
 
 impl<'a, R: Reader> UnitRef<'a, R> {
     pub fn new(dwarf: &'a Dwarf<R>, unit: &'a Unit<R>) -> Self
-        ensures { result ≡ in_file dwarf.now unit.now }
+        ensures { result ≡ in_file dwarf.now.file unit.now }
     {
         // (shows the prover what the model says of a file's offsets)
         let _ = &dwarf.file_type;

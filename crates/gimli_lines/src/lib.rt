@@ -10,23 +10,19 @@ pub use gimli_lines_rows::{
 
 /// Line number programs as they are built and written.
 pub mod write {
-    pub use gimli_lines_write_bytes::{Address, EndianVec, Error, InitialLengthOffset, Writer};
-    pub use gimli_lines_write_program::LineProgram;
-    pub use gimli_lines_write_rows::{FileId, LineEntry, LineRow, RowsBuilder};
-    pub use gimli_lines_write_tables::{
-        DirectoryId, FileInfo, FileKey, FileTable, LineString, LineStringId, LineStringTable,
-        StringId, StringTable,
+    pub use gimli_lines_write_program::{
+        Address, DirectoryId, EndianVec, Error, FileId, FileInfo, InitialLengthOffset, LineProgram,
+        LineRow, LineString, LineStringId, LineStringTable, StringId, StringTable, Writer,
     };
-    pub use gimli_lines_write_unit::{FileDetails, write_unit};
 }
 
 /// What holds of the definitions, as contracts.
 pub mod laws {
     pub use gimli_lines_rows::laws as headers;
-    pub use gimli_lines_write_laws::laws as units_written;
-    pub use gimli_lines_write_rows::laws as rows_written;
-    pub use gimli_lines_write_spec::laws as headers_written;
-    pub use gimli_lines_write_tables::laws as tables;
+    pub use gimli_lines_write_program::{
+        header_laws as headers_written, laws as units_written, row_laws as rows_written,
+        table_laws as tables,
+    };
 }
 
 #[cfg(test)]

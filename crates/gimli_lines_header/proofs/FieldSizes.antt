@@ -2,7 +2,7 @@
 use Rattle.std.proofs.Common.{◌≡◌, ℕ, ◌<◌, ◌≤◌, Bool, true, false, cond, eqb, not, ◌&&◌, ◌||◌, List, [], ◌∷◌, None, Result, Ok, Err, refl, ◌∙◌, ap, arith, lit<}
 use Rattle.std.specs.Prelude.{nat_lt}
 use Rattle.std.specs.List.{list_any, list_all}
-use Rattle.std.proofs.lemmas.Bool.{eqb-true, ltb-true, and_parts}
+use Rattle.std.proofs.lemmas.Bool.{eqb-true, ltb-true, and_parts, not-true}
 use Rattle.gimli_units_headers.specs.Error.{Error}
 use Rattle.gimli_units_headers.specs.Error.TheVariants.{UnknownForm}
 use Rattle.gimli_units_headers.specs.View.{View, bytes_left}
@@ -110,12 +110,8 @@ Below-attribute : {n : ℕ} (limit : ℕ) (e : Encoding) (form : ℕ) (v : View)
 unfolding attribute value
 Below-attribute {n} limit e form v is h =
     let both = and_parts (takes_byte (spelling e form)) (not (eqb form 0x16)) is in
-    rw (own_form form v (turned (eqb form 0x16) both.1))
+    rw (own_form form v (not-true (eqb form 0x16) both.1))
     (Below-proceed (Below-spelled limit e form (spelling e form) v both.0 h) (λ x s less. Below-Ok less))
-  where
-    turned : (b : Bool) → not b ≡ true → b ≡ false
-    turned true h = absurd cc
-    turned false h = refl
 
 pub Below-entry_value : {n : ℕ} (limit : ℕ) (e : Encoding) (form : ℕ) (v : View) → bytes_left v ≤ n
     → Below bytes_left n (entry_value limit e form v)

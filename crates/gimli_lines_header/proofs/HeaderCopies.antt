@@ -32,25 +32,29 @@ pub copy_fault : {A B X : Type 0} (see : A → B) (r : Result A Error) (read : R
     → IsErrAnd r (λ e. e ≡ d) → (d ≢ Memory → copy_result x ≡ Err d) → ReturnsAsOrNoMemory see r read
 copy_fault see r read x d is none = returns_refused see r read d is (λ ne. let never = none ne in absurd cc)
 
+-- a header with other parts
+abbrev with_parts : LineHeader → View → View → List FileEntryFormat → List FileEntryFormat → List RawValue
+    → List FileFacts → Option RawValue → Option FileFacts → LineHeader
+with_parts h lengths program directory_formats file_formats directories files directory file = record h {
+  standard_opcode_lengths = lengths;
+  directory_formats = directory_formats;
+  directories = directories;
+  file_formats = file_formats;
+  files = files;
+  program = program;
+  unit_directory = directory;
+  unit_file = file;
+}
+
 -- a header whose parts were copied says the same
 pub header_copy : (h : LineHeader) (lengths program : View) (directory_formats file_formats : List FileEntryFormat)
     (directories : List RawValue) (files : List FileFacts) (directory : Option RawValue) (file : Option FileFacts)
     → copy_result h.standard_opcode_lengths ≡ copy_result lengths → copy_result h.program ≡ copy_result program
-    → copy_result h.directory_formats ≡ copy_result directory_formats → copy_result h.file_formats
-    ≡ copy_result file_formats
+    → copy_result h.directory_formats ≡ copy_result directory_formats
+    → copy_result h.file_formats ≡ copy_result file_formats
     → copy_result h.directories ≡ copy_result directories → copy_result h.files ≡ copy_result files
     → copy_result h.unit_directory ≡ copy_result directory → copy_result h.unit_file ≡ copy_result file
-    → h ≡ record h {
-      standard_opcode_lengths = lengths;
-      directory_formats = directory_formats;
-      directories = directories;
-      file_formats = file_formats;
-      files = files;
-      program = program;
-      unit_directory =
-          directory;
-      unit_file = file;
-    }
+    → h ≡ with_parts h lengths program directory_formats file_formats directories files directory file
 header_copy h lengths program directory_formats file_formats directories files directory file e1 e2 e3 e4 e5 e6 e7 e8 =
     let f1 : h.standard_opcode_lengths ≡ lengths = cc in
     let f2 : h.program ≡ program = cc in
@@ -60,50 +64,14 @@ header_copy h lengths program directory_formats file_formats directories files d
     let f6 : h.files ≡ files = cc in
     let f7 : h.unit_directory ≡ directory = cc in
     let f8 : h.unit_file ≡ file = cc in
-    ap (λ (x : View). record h { standard_opcode_lengths = x }) f1
-    ∙ ap (λ (x : View). record h { standard_opcode_lengths = lengths; program = x }) f2
-    ∙ ap (λ (x : List FileEntryFormat). record h {
-      standard_opcode_lengths = lengths;
-      program = program;
-      directory_formats = x;
-    }) f3
-    ∙ ap (λ (x : List FileEntryFormat). record h {
-      standard_opcode_lengths = lengths;
-      program = program;
-      directory_formats = directory_formats;
-      file_formats = x;
-    }) f4
-    ∙ ap (λ (x : List RawValue). record h {
-      standard_opcode_lengths = lengths;
-      program = program;
-      directory_formats = directory_formats;
-      file_formats = file_formats;
-      directories = x;
-    }) f5
-    ∙ ap (λ (x : List FileFacts). record h {
-      standard_opcode_lengths = lengths;
-      program = program;
-      directory_formats = directory_formats;
-      file_formats = file_formats;
-      directories = directories;
-      files = x;
-    }) f6
-    ∙ ap (λ (x : Option RawValue). record h {
-      standard_opcode_lengths = lengths;
-      program = program;
-      directory_formats = directory_formats;
-      file_formats = file_formats;
-      directories = directories;
-      files = files;
-      unit_directory = x;
-    }) f7
-    ∙ ap (λ (x : Option FileFacts). record h {
-      standard_opcode_lengths = lengths;
-      program = program;
-      directory_formats = directory_formats;
-      file_formats = file_formats;
-      directories = directories;
-      files = files;
-      unit_directory = directory;
-      unit_file = x;
-    }) f8
+    ap (λ x. with_parts h x h.program h.directory_formats h.file_formats h.directories h.files h.unit_directory
+    h.unit_file) f1
+    ∙ ap (λ x. with_parts h lengths x h.directory_formats h.file_formats h.directories h.files h.unit_directory
+    h.unit_file) f2
+    ∙ ap (λ x. with_parts h lengths program x h.file_formats h.directories h.files h.unit_directory h.unit_file) f3
+    ∙ ap (λ x. with_parts h lengths program directory_formats x h.directories h.files h.unit_directory h.unit_file) f4
+    ∙ ap (λ x. with_parts h lengths program directory_formats file_formats x h.files h.unit_directory h.unit_file) f5
+    ∙ ap (λ x. with_parts h lengths program directory_formats file_formats directories x h.unit_directory h.unit_file)
+    f6
+    ∙ ap (λ x. with_parts h lengths program directory_formats file_formats directories files x h.unit_file) f7
+    ∙ ap (λ x. with_parts h lengths program directory_formats file_formats directories files directory x) f8

@@ -1,12 +1,12 @@
 -- A header is where its lengths say, and its tables in the bytes that its own length counts.
-use Rattle.std.proofs.Common.{◌≡◌, ℕ, ◌+◌, ◌*◌, ◌≤◌, ◌≢◌, Bool, eqb, leb, not, ◌&&◌, List, [], length, refl, sym, ◌∙◌, ap, subst, arith}
+use Rattle.std.proofs.Common.{◌≡◌, ℕ, ◌+◌, ◌*◌, ◌<◌, ◌≤◌, ◌≢◌, Bool, eqb, leb, not, ◌&&◌, List, [], length, Ok, refl, sym, ◌∙◌, ap, subst, arith}
 use Rattle.std.proofs.lemmas.Bool.{and_parts, leb-true, ne_eqb}
 use Rattle.std.proofs.lemmas.List.{length-take}
 use Rattle.std.specs.Prelude.{◌==◌, ◌-◌, if◌then◌else◌, Option}
 use Rattle.gimli_units_headers.specs.Error.{Error}
 use Rattle.gimli_units_headers.specs.Error.TheVariants.{UnknownVersion}
 use Rattle.gimli_units_headers.specs.View.{View, after, prefix, bytes_left}
-use Rattle.gimli_units_headers.specs.Parsers.{demand}
+use Rattle.gimli_units_headers.specs.Parsers.{Parser, ◌>>=◌, branch, demand, give}
 use Rattle.gimli_units_headers.proofs.StepSizes.{AtMost, sizes}
 use Rattle.gimli_units_headers.specs.Repetition.{times}
 use Rattle.gimli_units_headers.specs.NumberParsers.{unsigned}
@@ -17,7 +17,7 @@ use Rattle.gimli_units_headers.specs.FormatSizes.{initial_length_size, word_size
 use Rattle.gimli_units_headers.proofs.ByteCountLemmas.{Took, took_left, took_both, took_same, Yields, yields-Ok, yields-Err, yields-proceed, yields-cond, yields-weaker, yields-within, fixed_took, part_took, word_took, address_size_took, initial_length_took}
 use Rattle.gimli_lines_header.specs.declared.formats.FileEntryFormat.{FileEntryFormat}
 use Rattle.gimli_lines_header.specs.LineHeaders.{LineHeader}
-use Rattle.gimli_lines_header.specs.TableEntries.{entry_format, entry_formats}
+use Rattle.gimli_lines_header.specs.TableEntries.{entry_format, entry_formats, directory_entry, file_entry}
 use Rattle.gimli_lines_header.specs.HeaderTables.{directory_texts, file_texts, directory_entries, file_entries, directories_of_5, directories, files_of_5, files}
 use Rattle.gimli_lines_header.specs.HeaderParsing.{LineUnit, Bounds, encoding_of_5, line_sizes, operations, operations_of_4, line_parameters, opcodes, header_fields, header_in, line_header}
 use Rattle.gimli_lines_header.specs.LineHeaderLaws.{sizes_bytes, counted_bytes, LengthsDelimit, LengthsDelimitHeaders, bytes_needed, TablesFit}
@@ -61,8 +61,8 @@ sizes_are format bytes v =
 
 -- ---- tables
 
--- w has so many bytes less than v at least
-record Used (k : ℕ) (v w : View) : Type 0 where
+-- w has at least k bytes less than v
+record TakesAtLeast (k : ℕ) (v w : View) : Type 0 where
   enough : bytes_left w + k ≤ bytes_left v
 
 operations-leave : (version : ℕ) (v : View) (n : ℕ) → bytes_left v ≤ n → AtMost bytes_left n (operations version v)
@@ -73,13 +73,13 @@ parameters-leave : (version : ℕ) (v : View) (n : ℕ) → bytes_left v ≤ n �
 unfolding line_parameters
 parameters-leave version v n h = search (arith, sizes, number_sizes, operations-leave) depth 60
 
-parameters_used : (version : ℕ) (v : View) → Yields (λ x w. Used 0 v w) (line_parameters version v)
+parameters_used : (version : ℕ) (v : View) → Yields (λ x w. TakesAtLeast 0 v w) (line_parameters version v)
 parameters_used version v = record {
   hold = λ x w e. let le =
       (parameters-leave version v (bytes_left v) (omega arith)).left x w e in record { enough = omega arith };
 }
 
-opcodes_used : (v : View) → Yields (λ x w. Used (bytes_left x.1) v w) (opcodes v)
+opcodes_used : (v : View) → Yields (λ x w. TakesAtLeast (bytes_left x.1) v w) (opcodes v)
 unfolding opcodes
 opcodes_used v =
     yields-proceed (fixed_took 1 v) (λ base s h.
@@ -92,25 +92,25 @@ opcodes_used v =
     let size : bytes_left lengths ≡ bytes_left (prefix (base - 1) t) = ap bytes_left k.0 in
     record { enough = omega (arith, length-take (base - 1) t.bytes) }))))
 
-directory_texts_used : (v : View) → Yields (λ ds w. Used (length ds) v w) (directory_texts v)
+directory_texts_used : (v : View) → Yields (λ ds w. TakesAtLeast (length ds) v w) (directory_texts v)
 unfolding directory_texts
 directory_texts_used v = record {
   hold = λ ds w e. let room = all_room (record { takes = directory_text-takes }) v w ds
       e in record { enough = omega arith };
 }
 
-file_texts_used : (v : View) → Yields (λ fs w. Used (length fs) v w) (file_texts v)
+file_texts_used : (v : View) → Yields (λ fs w. TakesAtLeast (length fs) v w) (file_texts v)
 unfolding file_texts
 file_texts_used v = record {
   hold = λ fs w e. let room = all_room (record { takes = file_text-takes }) v w fs e in
       record { enough = omega arith };
 }
 
-formats_used : (v : View) → Yields (λ fs w. Used (2 * length fs) v w) (entry_formats v)
+formats_used : (v : View) → Yields (λ fs w. TakesAtLeast (2 * length fs) v w) (entry_formats v)
 unfolding entry_formats
 formats_used v =
     yields-proceed (fixed_took 1 v) (λ count s h.
-    yields-proceed (listed count s) (λ formats t k.
+    yields-proceed (list_takes count s) (λ formats t k.
     yields-proceed (demand_same _ _ t) (λ x w same.
     yields-Ok formats w (
     let one = took_left h in
@@ -118,72 +118,76 @@ formats_used v =
     let at : bytes_left w ≡ bytes_left t = ap bytes_left same in
     record { enough = omega arith }))))
   where
-    listed : (count : ℕ) (s : View) → Yields (λ fs w. Used (2 * length fs) s w) (times count entry_format s)
-    listed count s = record {
+    list_takes : (count : ℕ) (s : View) → Yields (λ fs w. TakesAtLeast (2 * length fs) s w) (times count entry_format s)
+    list_takes count s = record {
       hold = λ fs w e. let room =
           times_room 2 (record { takes = λ a b x r. entry_format-takes a b x r }) count s w fs e in
           record { enough = omega arith };
     }
 
-number_used : (v : View) → Yields (λ n w. Used 0 v w) (unsigned v)
+number_used : (v : View) → Yields (λ n w. TakesAtLeast 0 v w) (unsigned v)
 number_used v = record {
   hold = λ n w e. let less = (Below-unsigned {n = bytes_left v} v (omega arith)).left n w e in
       record { enough = omega arith };
 }
 
+-- as many items as a number says, each of which takes a byte
+counted_used : {A : Type 0} (p : Parser A)
+    → ((v w : View) (x : A) → p v ≡ Ok (x, w) → bytes_left w < bytes_left v) → (v : View)
+    → Yields (λ xs w. TakesAtLeast (length xs) v w) ((unsigned >>= λ count. times count p) v)
+counted_used p less v =
+    yields-proceed (number_used v) (λ count s h. record {
+      hold = λ xs w read.
+          let room = times_room 1 (record {
+            takes = λ a b x r. (let one = less a b x r in omega arith);
+          }) count s w xs read in
+          let some = h.enough in
+          record { enough = omega arith };
+    })
+
 directory_entries_used : (limit : ℕ) (e : Encoding) (formats : List FileEntryFormat) (v : View)
-    → Yields (λ ds w. Used (length ds) v w) (directory_entries limit e formats v)
+    → Yields (λ ds w. TakesAtLeast (length ds) v w) (directory_entries limit e formats v)
 unfolding directory_entries
 directory_entries_used limit e formats v =
-    yields-proceed (number_used v) (λ count s h. record {
-      hold = λ ds w read.
-          let room = times_room 1 (record {
-            takes = λ a b x r.
-                (let less = directory_entry-takes limit e formats a b x r in omega arith);
-          }) count s w ds read in
-          let some = h.enough in
-          record { enough = omega arith };
-    })
+    counted_used (directory_entry limit e formats) (directory_entry-takes limit e formats) v
 
 file_entries_used : (limit : ℕ) (e : Encoding) (formats : List FileEntryFormat) (v : View)
-    → Yields (λ fs w. Used (length fs) v w) (file_entries limit e formats v)
+    → Yields (λ fs w. TakesAtLeast (length fs) v w) (file_entries limit e formats v)
 unfolding file_entries
-file_entries_used limit e formats v =
-    yields-proceed (number_used v) (λ count s h. record {
-      hold = λ fs w read.
-          let room = times_room 1 (record {
-            takes = λ a b x r. (let less = file_entry-takes limit e formats a b x r in
-                omega arith);
-          }) count s w fs read in
-          let some = h.enough in
-          record { enough = omega arith };
-    })
+file_entries_used limit e formats v = counted_used (file_entry limit e formats) (file_entry-takes limit e formats) v
+
+-- a table: texts, or formats and what they describe
+table_used : {A : Type 0} (b : Bool) (texts : Parser (List A)) (entries : List FileEntryFormat → Parser (List A))
+    → ((v : View) → Yields (λ xs w. TakesAtLeast (length xs) v w) (texts v))
+    → ((formats : List FileEntryFormat) (v : View) → Yields (λ xs w. TakesAtLeast (length xs) v w) (entries formats v))
+    → (v : View)
+    → Yields (λ (p : List FileEntryFormat × List A) w. TakesAtLeast (2 * length p.0 + length p.1) v w)
+    (branch b (texts >>= λ xs. give ([], xs))
+    (entry_formats >>= λ formats. (entries formats >>= λ xs. give (formats, xs))) v)
+table_used {A} b texts entries few_texts few_entries v =
+    yields-cond b
+    (λ _. yields-proceed (few_texts v) (λ xs s h. yields-Ok ([], xs) s (let some = h.enough in
+    record { enough = omega arith })))
+    (λ _. yields-proceed (formats_used v)
+    (λ formats s h. yields-proceed (few_entries formats s) (λ xs t k.
+    yields-Ok (formats, xs) t (let some = h.enough in let more = k.enough in record { enough = omega arith }))))
 
 directories_used : (limit : ℕ) (e : Encoding) (v : View)
-    → Yields (λ ds w. Used (2 * length ds.0 + length ds.1) v w) (directories limit e v)
+    → Yields (λ ds w. TakesAtLeast (2 * length ds.0 + length ds.1) v w) (directories limit e v)
 unfolding directories directories_of_5
 directories_used limit e v =
-    yields-cond (leb e.version 4)
-    (λ _. yields-proceed (directory_texts_used v) (λ ds s h. yields-Ok ([], ds) s (let some = h.enough in
-    record { enough = omega arith })))
-    (λ _. yields-proceed (formats_used v)
-    (λ formats s h. yields-proceed (directory_entries_used limit e formats s) (λ ds t k.
-    yields-Ok (formats, ds) t (let some = h.enough in let more = k.enough in record { enough = omega arith }))))
+    table_used (leb e.version 4) directory_texts (directory_entries limit e) directory_texts_used
+    (directory_entries_used limit e) v
 
 files_used : (limit : ℕ) (e : Encoding) (v : View)
-    → Yields (λ fs w. Used (2 * length fs.0 + length fs.1) v w) (files limit e v)
+    → Yields (λ fs w. TakesAtLeast (2 * length fs.0 + length fs.1) v w) (files limit e v)
 unfolding files files_of_5
 files_used limit e v =
-    yields-cond (leb e.version 4)
-    (λ _. yields-proceed (file_texts_used v) (λ fs s h. yields-Ok ([], fs) s (let some = h.enough in
-    record { enough = omega arith })))
-    (λ _. yields-proceed (formats_used v)
-    (λ formats s h. yields-proceed (file_entries_used limit e formats s) (λ fs t k.
-    yields-Ok (formats, fs) t (let some = h.enough in let more = k.enough in record { enough = omega arith }))))
+    table_used (leb e.version 4) file_texts (file_entries limit e) file_texts_used (file_entries_used limit e) v
 
 -- ---- the header
 
--- a header within its bounds, whose tables stand in so many bytes
+-- a header within its bounds, with the bytes of its tables
 record IsBounded (b : Bounds) (v : View) (h : LineHeader) : Type 0 where
   length_is : h.unit_length ≡ b.unit_length
   encoding_is : h.encoding ≡ b.encoding
@@ -229,7 +233,7 @@ header_is_in limit offset unit unit_length format v =
       long = found.0.length_is;
       in_format = ap (λ (d : Encoding). d.format) found.0.encoding_is ∙ h.in_format;
       program_at = found.0.program_is ∙ (took_both h.took (took_both j k.1)).rest
-          ∙ placed x e header_length (sym found.0.encoding_is) (sym found.0.header_length_is);
+          ∙ same_place x e header_length (sym found.0.encoding_is) (sym found.0.header_length_is);
       room = (let fits = found.0.room in
           let size : bytes_left header ≡ bytes_left (prefix header_length t) = ap bytes_left k.0 in
           let is = found.0.header_length_is in
@@ -245,10 +249,10 @@ header_is_in limit offset unit unit_length format v =
       program = program;
     }
 
-    placed : (x : LineHeader) (e : Encoding) (n : ℕ) → e ≡ x.encoding → n ≡ x.header_length
+    same_place : (x : LineHeader) (e : Encoding) (n : ℕ) → e ≡ x.encoding → n ≡ x.header_length
         → after (sizes_bytes e + (word_size format + n)) v
         ≡ after (sizes_bytes x.encoding + (word_size format + x.header_length)) v
-    placed x e n same long = ap (λ (d : Encoding). after (sizes_bytes d + (word_size format + n)) v) same
+    same_place x e n same long = ap (λ (d : Encoding). after (sizes_bytes d + (word_size format + n)) v) same
         ∙ ap (λ (m : ℕ). after (sizes_bytes x.encoding + (word_size format + m)) v) long
 
 -- what is so of a header at the start of v, where w is left
@@ -267,27 +271,28 @@ header_is_whole limit offset unit v =
     (λ x w found.
     let both = took_both h j.1 in
     let size : initial_length_size l.1 + l.0 ≡ initial_length_size x.encoding.format + x.unit_length =
-    sized l.0 l.1 x found.0.long found.0.in_format in
+    same_size l.0 l.1 x found.0.long found.0.in_format in
     record {
       delimits = record {
         program =
-            found.0.program_at ∙ placed l.0 l.1 x bytes (j.0 ∙ ap (prefix l.0) h.rest) found.0.long found.0.in_format;
+            found.0.program_at
+            ∙ same_place l.0 l.1 x bytes (j.0 ∙ ap (prefix l.0) h.rest) found.0.long found.0.in_format;
         after_program = found.1 ∙ both.rest ∙ ap (λ (n : ℕ). after n v) size;
         enough = (let fits = both.enough in omega arith);
       };
       room = found.0.room;
     })))
   where
-    sized : (n : ℕ) (format : Format) (x : LineHeader) → x.unit_length ≡ n → x.encoding.format ≡ format
+    same_size : (n : ℕ) (format : Format) (x : LineHeader) → x.unit_length ≡ n → x.encoding.format ≡ format
         → initial_length_size format + n ≡ initial_length_size x.encoding.format + x.unit_length
-    sized n format x long same = ap (λ (f : Format). initial_length_size f + n) (sym same)
+    same_size n format x long same = ap (λ (f : Format). initial_length_size f + n) (sym same)
         ∙ ap (λ (m : ℕ). initial_length_size x.encoding.format + m) (sym long)
 
-    placed : (n : ℕ) (format : Format) (x : LineHeader) (bytes : View)
+    same_place : (n : ℕ) (format : Format) (x : LineHeader) (bytes : View)
         → bytes ≡ prefix n (after (initial_length_size format) v) → x.unit_length ≡ n → x.encoding.format ≡ format
         → after (sizes_bytes x.encoding + (word_size format + x.header_length)) bytes
         ≡ after (sizes_bytes x.encoding + (word_size x.encoding.format + x.header_length)) (counted_bytes v x)
-    placed n format x bytes is long same =
+    same_place n format x bytes is long same =
         ap (λ (b : View). after (sizes_bytes x.encoding + (word_size format + x.header_length)) b) is
         ∙ ap (λ (m : ℕ). after (sizes_bytes x.encoding + (word_size format + x.header_length))
         (prefix m (after (initial_length_size format) v))) (sym long)

@@ -1,4 +1,4 @@
--- What stands under a number, seen by a function.
+-- The item with a number, as a function sees it.
 use Rattle.std.proofs.Common.{◌≡◌, ℕ, ◌-◌, Bool, true, false, cond, leb, eqb, List, map, Option, option_map, refl}
 use Rattle.std.proofs.lemmas.Option.{slice_get-map}
 use Rattle.gimli_lines_header.specs.LineHeaders.{item_at}

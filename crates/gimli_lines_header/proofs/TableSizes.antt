@@ -176,30 +176,30 @@ list_room : {A : Type 0} {p : Step View (Option A)} → UpTo p → (k : ℕ) (v 
     → length (items_within k p v).items + bytes_left w ≤ bytes_left v
 unfolding items_within
 list_room each zero v w e = let same : bytes_left v ≡ bytes_left w = ap bytes_left (ok_is v w e) in omega arith
-list_room {A} {p} each (suc k) v w e = stepped (p v) refl e (λ t f. list_room each k t w f)
+list_room {A} {p} each (suc k) v w e = by_step (p v) refl e (λ t f. list_room each k t w f)
   where
-    itemed : (o : Option A) (t : View) → bytes_left t < bytes_left v → (item_or_end o t (items_within k p)).ending
+    by_item : (o : Option A) (t : View) → bytes_left t < bytes_left v → (item_or_end o t (items_within k p)).ending
         ≡ Ok w → ((items_within k p t).ending ≡ Ok w → length (items_within k p t).items + bytes_left w ≤ bytes_left t)
         → length (item_or_end o t (items_within k p)).items + bytes_left w ≤ bytes_left v
-    itemed None t less f again = let same : bytes_left t ≡ bytes_left w = ap bytes_left (ok_is t w f) in omega arith
-    itemed (Some x) t less f again = let rest = again f in omega arith
+    by_item None t less f again = let same : bytes_left t ≡ bytes_left w = ap bytes_left (ok_is t w f) in omega arith
+    by_item (Some x) t less f again = let rest = again f in omega arith
 
-    stepped : (r : Result (Option A × View) Error) → p v ≡ r → (next_item r (items_within k p)).ending ≡ Ok w
+    by_step : (r : Result (Option A × View) Error) → p v ≡ r → (next_item r (items_within k p)).ending ≡ Ok w
         → ((t : View) → (items_within k p t).ending ≡ Ok w → length (items_within k p t).items + bytes_left w
         ≤ bytes_left t) → length (next_item r (items_within k p)).items + bytes_left w ≤ bytes_left v
-    stepped (Err d) q f again = absurd cc
-    stepped (Ok r) q f again = itemed r.0 r.1 (each.takes v r.1 r.0 q) f (again r.1)
+    by_step (Err d) q f again = absurd cc
+    by_step (Ok r) q f again = by_item r.0 r.1 (each.takes v r.1 r.0 q) f (again r.1)
 
 pub all_room : {A : Type 0} {p : Step View (Option A)} → UpTo p → (v w : View) (xs : List A) → all_of bytes_left p v
     ≡ Ok (xs, w) → length xs + bytes_left w ≤ bytes_left v
 unfolding listing_in
-all_room {A} {p} each v w xs read = ended (items_within (suc (bytes_left v)) p v).ending refl read
+all_room {A} {p} each v w xs read = by_end (items_within (suc (bytes_left v)) p v).ending refl read
   where
-    ended : (r : Result View Error) → (items_within (suc (bytes_left v)) p v).ending ≡ r
+    by_end : (r : Result View Error) → (items_within (suc (bytes_left v)) p v).ending ≡ r
         → whole_of (items_within (suc (bytes_left v)) p v).items r ≡ Ok (xs, w) → length xs + bytes_left w
         ≤ bytes_left v
-    ended (Err d) e f = absurd cc
-    ended (Ok t) e f =
+    by_end (Err d) e f = absurd cc
+    by_end (Ok t) e f =
         let room = list_room each (suc (bytes_left v)) v t e in
         let size : length (items_within (suc (bytes_left v)) p v).items ≡ length xs =
         ap length (value_is (items_within (suc (bytes_left v)) p v).items xs t w f) in

@@ -5,7 +5,8 @@ use Rattle.gimli_lines_header.specs.HeaderParsing as parsing
 use Rattle.gimli_lines_header.specs.declared.parsing.Bounds.{Bounds}
 
 -- the bounds that a reader has found
-abbrev pub bounds_of : {R E O : Type 0} → (R → View) → (O → ℕ) → Bounds R E O → parsing.Bounds
+abbrev pub bounds_of : {R E O : Type 0} → (R → View) → (O → ℕ) → Bounds R E O
+    → parsing.Bounds
 bounds_of view count b = record {
   offset = count b.offset.0;
   unit_length = count b.unit_length;

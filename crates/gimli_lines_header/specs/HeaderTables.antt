@@ -45,7 +45,8 @@ file_texts = all_of bytes_left file_text
 -- ---- in version 5: formats, and as many entries as a number says
 
 -- the directories in formats
-unfoldable pub directory_entries : ℕ → Encoding → List FileEntryFormat → Parser (List RawValue)
+unfoldable pub directory_entries : ℕ → Encoding → List FileEntryFormat
+    → Parser (List RawValue)
 directory_entries limit e formats = do
   count ← unsigned
   times count (directory_entry limit e formats)
@@ -59,7 +60,8 @@ file_entries limit e formats = do
 -- ---- in every version: the formats, none up to version 4, and what they describe
 
 -- the directories in version 5
-unfoldable pub directories_of_5 : ℕ → Encoding → Parser (List FileEntryFormat × List RawValue)
+unfoldable pub directories_of_5 : ℕ → Encoding
+    → Parser (List FileEntryFormat × List RawValue)
 directories_of_5 limit e = do
   formats ← entry_formats
   directories ← directory_entries limit e formats

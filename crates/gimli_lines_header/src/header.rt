@@ -314,7 +314,8 @@ impl<R: Reader> LineProgramHeader<R> {
 
 // The item of a number: up to version 4 from number 1 on, and number 0 is the unit's.
 fn item_at<'a, T>(version: u16, zeroth: Option<&'a T>, items: &'a [T], number: u64) -> Option<&'a T>
-    ensures { option_copied result ≡ item_at version (option_copied zeroth.entry) items.now number }
+    ensures { option_copied result
+        ≡ item_at version (option_copied zeroth.entry) items.now number }
 {
     if version > 4 {
         items.get(number as usize)

@@ -29,7 +29,8 @@ fn parse_sizes<R: Reader>(
     requires { IsTrue (is_address_size address_size) }
     ensures value { ReturnsAs (λ encoding. (encoding, R.view input.new)) result
         (line_sizes format address_size (R.view input.old)) }
-    ensures versions { IfOk result (λ encoding. (2 ≤ encoding.version) × (encoding.version ≤ 5)) }
+    ensures versions { IfOk result (λ encoding. (2 ≤ encoding.version)
+        × (encoding.version ≤ 5)) }
     ensures address { IfOk result (λ encoding. IsTrue (is_address_size encoding.address_size)) }
 {
     let version = input.read_u16()?;

@@ -181,8 +181,8 @@ part_at k v b = cond b (end_of_part v) (Ok (prefix k v, after k v))
 pub cut-part : (k : ℕ) → ReadsCut 0 (part k)
 cut-part k = record { each = λ v w x e. cases v w x e (cases_lt (bytes_left v) k) }
   where
-    found : (v w x : View) → k ≤ bytes_left v → part k v ≡ Ok (x, w) → ReadsCutAt 0 (part k) v w x
-    found v w x fits e =
+    reads_whole : (v w x : View) → k ≤ bytes_left v → part k v ≡ Ok (x, w) → ReadsCutAt 0 (part k) v w x
+    reads_whole v w x fits e =
         let is : read (prefix k v) (after k v) ≡ Ok (x, w) = ap (part_at k v) (sym (le-ltb (bytes_left v) k fits))
         ∙ e in
         record {
@@ -202,4 +202,4 @@ cut-part k = record { each = λ v w x e. cases v w x e (cases_lt (bytes_left v) 
       where
         no_value : end_of_part v ≡ Ok (x, w) → ⊥
         no_value h = cc
-    cases v w x e (inr fits) = found v w x fits e
+    cases v w x e (inr fits) = reads_whole v w x fits e

@@ -13,7 +13,7 @@ use Rattle.gimli_core_readers.specs.Fault.TheVariants.{Cut, Bad}
 use Rattle.gimli_core_readers.specs.Fixed.{number}
 use Rattle.gimli_core_readers.specs.Leb128.{leb_string, bounded_string, unsigned_of, signed_of, unsigned_number, signed_number, fits_i64}
 use Rattle.gimli_core_readers.specs.NumberParsers.{fixed, number_and_rest, unsigned, signed}
-use Rattle.gimli_core_readers.proofs.NumberReadSizes.{judged_stands}
+use Rattle.gimli_core_readers.proofs.NumberReadSizes.{judged_fits_in}
 use Rattle.gimli_core_readers.proofs.LebStrings.{string_at-last, string_at-goes_on}
 use Rattle.gimli_lines_machine.proofs.CutBytes.{ReadsCutAt, ReadsCut, long_enough}
 
@@ -29,9 +29,9 @@ pub cut-fixed : (k : ℕ) → ReadsCut k (fixed k)
 unfolding fixed
 cut-fixed k = record { each = λ v w x e. cases v w x e (cases_lt (bytes_left v) k) }
   where
-    found : (v w : View) (x : ℕ) → k ≤ bytes_left v → fixed_at k v (ltb (bytes_left v) k) ≡ Ok (x, w)
+    reads_whole : (v w : View) (x : ℕ) → k ≤ bytes_left v → fixed_at k v (ltb (bytes_left v) k) ≡ Ok (x, w)
         → ReadsCutAt k (fixed k) v w x
-    found v w x fits e =
+    reads_whole v w x fits e =
         let is : read (number v.is_big (take k v.bytes)) (after k v) ≡ Ok (x, w) =
         ap (fixed_at k v) (sym (le-ltb (bytes_left v) k fits)) ∙ e in
         record {
@@ -52,7 +52,7 @@ cut-fixed k = record { each = λ v w x e. cases v w x e (cases_lt (bytes_left v)
       where
         no_value : end_of_bytes v ≡ Ok (x, w) → ⊥
         no_value h = cc
-    cases v w x e (inr fits) = found v w x fits e
+    cases v w x e (inr fits) = reads_whole v w x fits e
 
 -- ---- LEB128
 
@@ -126,7 +126,7 @@ cut-after {A} bad f number_result v w x e = cases (f (bounded_string 10 v.bytes)
         → ReadsCutAt 1 (λ u. number_and_rest bad u (f (bounded_string 10 u.bytes))) v w x
     there k is at =
         let string = number_result (bounded_string 10 v.bytes) x k is in
-        let string_fits = judged_stands 10 v.bytes string.0 string.1 in
+        let string_fits = judged_fits_in 10 v.bytes string.0 string.1 in
         let some : 0 < length string.0 = string_fits.some in
         let fits : length string.0 ≤ bytes_left v = string_fits.fits in
         let long : length string.0 ≡ k = string.2 in

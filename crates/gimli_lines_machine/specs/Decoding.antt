@@ -55,7 +55,8 @@ defined_file make = do
   give (make path directory timestamp size)
 
 -- Up to version 4 an opcode defines a file.
-abbrev pub extended_of : {F : Type 0} → FileMaker F → LineRules → ℕ → Parser (InstructionOf F)
+abbrev pub extended_of : {F : Type 0} → FileMaker F → LineRules → ℕ
+    → Parser (InstructionOf F)
 extended_of make rules opcode =
     branch (opcode == DW_LNE_end_sequence.0) (give end_sequence)
     (branch (opcode == DW_LNE_set_address.0)
@@ -96,8 +97,8 @@ instruction_with make limit rules operand_counts =
     fixed 1 >>= of_opcode make limit rules operand_counts
 
 -- all instructions up to the end, or to the first that can't be read
-abbrev pub instructions_with : {F : Type 0} → FileMaker F → ℕ → LineRules → List ℕ → View
-    → Listing View (InstructionOf F)
+abbrev pub instructions_with : {F : Type 0} → FileMaker F → ℕ → LineRules → List ℕ
+    → View → Listing View (InstructionOf F)
 instructions_with make limit rules operand_counts v =
     listing_in bytes_left (until_end (instruction_with make limit rules operand_counts)) v
 

@@ -17,8 +17,8 @@ pub record IsSound (rules : LineRules) : Type 0 where
   pub has_lines : 0 < rules.line_encoding.line_range
 
 -- The registers after a call are those of its meaning; refused, they are as before.
-abbrev pub Becomes : {A : Type 0} → Result A Error → Registers → Registers → Result Registers Error
-    → Type 0
+abbrev pub Becomes : {A : Type 0} → Result A Error → Registers → Registers
+    → Result Registers Error → Type 0
 Becomes (Ok x) old new meaning = meaning ≡ Ok new
 Becomes (Err e) old new meaning = (meaning ≡ Err e) × (new ≡ old)
 
@@ -160,5 +160,6 @@ after_row rules r =
     }
 
 -- the registers after an instruction that left them so
-abbrev pub next_registers : {F : Type 0} → LineRules → InstructionOf F → Registers → Registers
+abbrev pub next_registers : {F : Type 0} → LineRules → InstructionOf F → Registers
+    → Registers
 next_registers rules i r = if gives_row i then after_row rules r else r

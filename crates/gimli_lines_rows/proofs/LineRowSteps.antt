@@ -120,7 +120,7 @@ come_after limit s i w after e c =
 -- ---- steps
 
 -- what a step that was taken consists of
-pub record Stepped (limit : ℕ) (s : RemainingRows) (b : Bool) (t : RemainingRows) : Type 0 where
+pub record StepsTo (limit : ℕ) (s : RemainingRows) (b : Bool) (t : RemainingRows) : Type 0 where
   pub instruction : InstructionOf FileFacts
   pub rest : View
   pub after : Registers
@@ -174,12 +174,12 @@ rest_fault (Err x) d e = ap refusal (is_refusal x d e)
 rest_fault (Ok r) d e = absurd cc
 
 pub step_parts : (limit : ℕ) (s : RemainingRows) (b : Bool) (t : RemainingRows) → next_step limit s ≡ Ok (Some b, t)
-    → Stepped limit s b t
+    → StepsTo limit s b t
 step_parts limit s b t e = by_read (with_rest (next_instruction limit s.header s.rest)) refl e
   where
     by_change : (i : InstructionOf FileFacts) (w : View) (r : Result Registers Error)
         → next_instruction limit s.header s.rest ≡ Ok (Some i, w) → registers_after (rules_of s.header) i s.registers
-        ≡ r → step_to s i w r ≡ Ok (Some b, t) → Stepped limit s b t
+        ≡ r → step_to s i w r ≡ Ok (Some b, t) → StepsTo limit s b t
     by_change i w (Err d) r c h = absurd cc
     by_change i w (Ok after) r c h = record {
       instruction = i;
@@ -192,7 +192,7 @@ step_parts limit s b t e = by_read (with_rest (next_instruction limit s.header s
     }
 
     by_read : (r : Result (Option (InstructionOf FileFacts × View)) Error)
-        → with_rest (next_instruction limit s.header s.rest) ≡ r → step_of s r ≡ Ok (Some b, t) → Stepped limit s b t
+        → with_rest (next_instruction limit s.header s.rest) ≡ r → step_of s r ≡ Ok (Some b, t) → StepsTo limit s b t
     by_read (Err d) r h = absurd cc
     by_read (Ok None) r h = absurd (none_is (value_is None (Some b) s t h))
       where

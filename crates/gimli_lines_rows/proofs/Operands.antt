@@ -11,11 +11,11 @@ use Rattle.gimli_lines_machine.proofs.Times.{prepend, times_item, times_fault, t
 use Rattle.gimli_lines_machine.specs.Fault.{Fault}
 use Rattle.gimli_lines_machine.specs.Leb128.{bounded_string, unsigned_of, unsigned_number}
 use Rattle.gimli_lines_machine.specs.NumberParsers.{unsigned, number_and_rest as number_then_rest}
-use Rattle.gimli_lines_machine.proofs.NumberReadSizes.{judged_stands, Stands}
+use Rattle.gimli_lines_machine.proofs.NumberReadSizes.{judged_fits_in, FitsIn}
 use Rattle.gimli_lines_machine.specs.Readers.{Holds}
 use Rattle.gimli_lines_machine.specs.Decoding.{span_of}
 
--- ---- a number leaves bytes of the view that it stood in
+-- ---- a number leaves bytes of the view that it was in
 
 holds_after : (s v : View) (k : ℕ) → k ≤ bytes_left v → Holds s v → Holds s (after k v)
 holds_after s v k le h = (omega (arith, h.0), omega (arith, h.1, length-drop k v.bytes))
@@ -33,7 +33,7 @@ count_result x k = Ok (x, k)
 second_is : (x y m k : ℕ) → count_result x m ≡ count_result y k → m ≡ k
 second_is x y m k e = let is : (x, m) ≡ (y, k) = cc in ap (λ (p : ℕ × ℕ). p.1) is
 
-unsigned_fits : (v : View) (r : Result (List ℕ) Fault) → ((s : List ℕ) → r ≡ Ok s → Stands s v.bytes) → (y k : ℕ)
+unsigned_fits : (v : View) (r : Result (List ℕ) Fault) → ((s : List ℕ) → r ≡ Ok s → FitsIn s v.bytes) → (y k : ℕ)
     → unsigned_of (2 ^ 64) r ≡ Ok (y, k) → k ≤ bytes_left v
 unsigned_fits v (Err fault) string_fits y k e = absurd cc
 unsigned_fits v (Ok s) string_fits y k e = cases (nat_lt (unsigned_number s) (2 ^ 64)) refl
@@ -52,7 +52,7 @@ unsigned_fits v (Ok s) string_fits y k e = cases (nat_lt (unsigned_number s) (2 
 pub unsigned_holds : (s v w : View) (x : ℕ) → Holds s v → unsigned v ≡ Ok (x, w) → Holds s w
 unfolding unsigned
 unsigned_holds s v w x h e =
-    rest_holds s v w x _ (unsigned_fits v (bounded_string 10 v.bytes) (judged_stands 10 v.bytes)) h e
+    rest_holds s v w x _ (unsigned_fits v (bounded_string 10 v.bytes) (judged_fits_in 10 v.bytes)) h e
 
 -- ---- the loop
 
@@ -69,7 +69,11 @@ prepend-none (Err e) = refl
 pub spans_start : (count : ℕ) (v : View) → Spans count (count - 0) v v
 spans_start count v =
     let all : count - 0 ≡ count = omega arith in
-    record { numbers = []; same = prepend-none _ ∙ ap (λ n. times n unsigned v) all; holds = (omega arith, omega arith) }
+    record {
+      numbers = [];
+      same = prepend-none _ ∙ ap (λ n. times n unsigned v) all;
+      holds = (omega arith, omega arith);
+    }
 
 one_less : (count i : ℕ) → i < count → count - i ≡ suc (count - (i + 1))
 one_less count i lt = omega arith
@@ -109,13 +113,13 @@ pub truncated_there : (start v : View) (n : ℕ) → Holds start v → n + start
 truncated_there start v n h at =
     let is : n ≡ v.first - start.first = omega arith in
     let fits : n ≤ bytes_left start = omega (arith, h.1) in
-    ap (λ (b : Bool). cond b short (found n)) (le-ltb (bytes_left start) n fits) ∙ ap found is
+    ap (λ (b : Bool). cond b short (answer_at n)) (le-ltb (bytes_left start) n fits) ∙ ap answer_at is
   where
     short : Result (Unit {0} × View) Error
     short = Err (unexpected_end start)
 
-    found : ℕ → Result (Unit {0} × View) Error
-    found k = Ok (tt, prefix k start)
+    answer_at : ℕ → Result (Unit {0} × View) Error
+    answer_at k = Ok (tt, prefix k start)
 
 -- as a call answers it, of the view that the operands began in
 pub truncated_is : (start v operands new : View) (n : ℕ) → operands ≡ start → Holds start v → n + operands.first

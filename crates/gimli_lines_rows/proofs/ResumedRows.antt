@@ -19,7 +19,7 @@ use Rattle.gimli_lines_machine.proofs.CutInstructions.{cut-instruction}
 use Rattle.gimli_lines_rows.specs.ProgramInstructions.{rules_of, instruction_in, next_instruction}
 use Rattle.gimli_lines_rows.specs.ProgramRows.{Row, RemainingRows, header_after, header_with, rows_to_come, last_row, is_shown_by, state_after, next_step, Path, stays, shows, passes}
 use Rattle.gimli_lines_rows.specs.RowSequences.{registers_of, row_under}
-use Rattle.gimli_lines_rows.proofs.LineRowSteps.{Stepped, step_parts, step_smaller, come_after, come_nothing, row_first}
+use Rattle.gimli_lines_rows.proofs.LineRowSteps.{StepsTo, step_parts, step_smaller, come_after, come_nothing, row_first}
 
 -- ---- headers after instructions
 
@@ -87,7 +87,7 @@ read_parts limit h v w i e = by_end (eqb (length v.bytes) 0) refl
         )
 
 -- so many bytes were taken, and the instruction is read again from any prefix that has them
-pub record Read (limit : ℕ) (h : LineHeader) (v w : View) (i : InstructionOf FileFacts) : Type 0 where
+pub record ReadsInstruction (limit : ℕ) (h : LineHeader) (v w : View) (i : InstructionOf FileFacts) : Type 0 where
   pub count : ℕ
   pub some : 1 ≤ count
   pub fits : count ≤ bytes_left v
@@ -95,7 +95,7 @@ pub record Read (limit : ℕ) (h : LineHeader) (v w : View) (i : InstructionOf F
   pub again : (n : ℕ) → count ≤ n → next_instruction limit h (prefix n v) ≡ Ok (Some i, after count (prefix n v))
 
 pub reads_cut_step : (limit : ℕ) (h : LineHeader) (v w : View) (i : InstructionOf FileFacts)
-    → next_instruction limit h v ≡ Ok (Some i, w) → Read limit h v w i
+    → next_instruction limit h v ≡ Ok (Some i, w) → ReadsInstruction limit h v w i
 reads_cut_step limit h v w i e =
     let parts = read_parts limit h v w i e in
     let k = (cut-instruction file_in limit (rules_of h) (counts_of h)).each v w i parts.1 in
@@ -126,7 +126,7 @@ took_more u v w k fits at t =
     let inner : t.count ≤ bytes_left v = t.fits in
     record { count = k + t.count; fits = omega arith; rest = t.rest ∙ ap (after t.count) at ∙ after_after k t.count u }
 
-step_read : (limit : ℕ) (s : RemainingRows) (b : Bool) (t : RemainingRows) → (p : Stepped limit s b t) → t.rest ≡ p.rest
+step_read : (limit : ℕ) (s : RemainingRows) (b : Bool) (t : RemainingRows) → (p : StepsTo limit s b t) → t.rest ≡ p.rest
 step_read limit s b t p = sym (ap (λ (x : RemainingRows). x.rest) p.led_to)
 
 pub path_took : {limit : ℕ} {s u : RemainingRows} {rows : List Row} → Path limit s rows u → Took s.rest u.rest
@@ -149,8 +149,9 @@ over_front h r last v = record { header = h; takes_files = false; registers = r;
 -- a step, taken under another header of the same rules, over a prefix of k bytes that has the step's
 step_again : (limit : ℕ) (s : RemainingRows) (b : Bool) (t : RemainingRows) (h : LineHeader) (r last : Registers)
     (v : View)
-    (k m : ℕ) → (p : Stepped limit s b t) → rules_of h ≡ rules_of s.header → counts_of h ≡ counts_of s.header
-    → r ≡ s.registers → v ≡ prefix k s.rest → (c : Read limit s.header s.rest p.rest p.instruction) → k ≡ c.count + m
+    (k m : ℕ) → (p : StepsTo limit s b t) → rules_of h ≡ rules_of s.header → counts_of h ≡ counts_of s.header
+    → r ≡ s.registers → v ≡ prefix k s.rest
+    → (c : ReadsInstruction limit s.header s.rest p.rest p.instruction) → k ≡ c.count + m
     → (last' : Registers) × (rows_to_come limit (over_front h r last v) ≡ map answer (row_first b h p.after)
     ++ rows_to_come limit (over_front h t.registers last' (prefix m t.rest)))
 step_again limit s b t h r last v k m p same_rules same_counts same_registers at c long =
@@ -187,7 +188,7 @@ step_again limit s b t h r last v k m p same_rules same_counts same_registers at
     )
 
 -- the header after a step has the same rules
-step_rules : (limit : ℕ) (s : RemainingRows) (b : Bool) (t : RemainingRows) → (p : Stepped limit s b t)
+step_rules : (limit : ℕ) (s : RemainingRows) (b : Bool) (t : RemainingRows) → (p : StepsTo limit s b t)
     → (rules_of t.header ≡ rules_of s.header) × (counts_of t.header ≡ counts_of s.header)
 step_rules limit s b t p =
     let same = rules_after s.takes_files p.instruction s.header in (
@@ -203,7 +204,7 @@ path_rules {limit} (shows s t u rows e p) =
 path_rules {limit} (passes s t u rows e p) =
     let a = step_rules limit s false t (step_parts limit s false t e) in let b = path_rules p in (b.0 ∙ a.0, b.1 ∙ a.1)
 
-last_row_of : (limit : ℕ) (s t : RemainingRows) → (p : Stepped limit s true t) → p.after ≡ t.last
+last_row_of : (limit : ℕ) (s t : RemainingRows) → (p : StepsTo limit s true t) → p.after ≡ t.last
 last_row_of limit s t p =
     ap (λ (b : Bool). cond b p.after s.last) (sym p.was_shown) ∙ ap (λ (x : RemainingRows). x.last) p.led_to
 

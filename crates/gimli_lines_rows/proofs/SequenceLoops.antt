@@ -67,23 +67,23 @@ end_at_end (s ∷ t ∷ rows) r = end_at_end (t ∷ rows) r
 
 -- ---- one sequence
 
--- the rows so far of a sequence that began at one state and stands at another
-pub record Searched (limit : ℕ) (start_address : Option ℕ) (old now : RemainingRows) : Type 0 where
+-- the rows so far of a sequence, from the state where it began to the present one
+pub record SearchesFrom (limit : ℕ) (start_address : Option ℕ) (old now : RemainingRows) : Type 0 where
   pub rows : List Row
   pub path : Path limit old rows now
   pub none_ends : NoEnd (map registers_of rows)
   pub starts : StartIs start_address (map registers_of rows)
 
-pub searched_none : (limit : ℕ) (s : RemainingRows) → Path limit s [] s → Searched limit None s s
+pub searched_none : (limit : ℕ) (s : RemainingRows) → Path limit s [] s → SearchesFrom limit None s s
 searched_none limit s p = record { rows = []; path = p; none_ends = no_end_none; starts = refl }
 
 registers_more : (rows : List Row) (r : Row) → map registers_of (rows ++ r ∷ []) ≡ map registers_of rows ++ r.registers
     ∷ []
 registers_more rows r = map-append registers_of rows (r ∷ [])
 
-pub searched_more : (limit : ℕ) (o : Option ℕ) (old mid new : RemainingRows) → Searched limit o old mid
+pub searched_more : (limit : ℕ) (o : Option ℕ) (old mid new : RemainingRows) → SearchesFrom limit o old mid
     → Path limit mid (last_row new ∷ []) new → new.last.end_sequence ≡ false
-    → Searched limit (option_or o (Some new.last.address)) old new
+    → SearchesFrom limit (option_or o (Some new.last.address)) old new
 searched_more limit o old mid new s p is =
     let same = registers_more s.rows (last_row new) in
     record {
@@ -112,8 +112,9 @@ path_count {s = s} {u = u} p =
     omega arith
 
 -- the piece of a row that ends it
-pub piece_found : (limit : ℕ) (o : Option ℕ) (old mid new : RemainingRows) (q : RowSequence) → Searched limit o old mid
-    → Path limit mid (last_row new ∷ []) new → new.registers ≡ after_row (rules_of new.header) new.last
+pub piece_found : (limit : ℕ) (o : Option ℕ) (old mid new : RemainingRows) (q : RowSequence)
+    → SearchesFrom limit o old mid → Path limit mid (last_row new ∷ []) new
+    → new.registers ≡ after_row (rules_of new.header) new.last
     → new.last.end_sequence ≡ true → q.start ≡ unwrap_or o 0 → q.end ≡ new.last.address
     → q.instructions ≡ prefix (new.rest.first - old.rest.first) old.rest → NextPiece limit q old new
 piece_found limit o old mid new q s p clear is starts ends taken =
@@ -131,7 +132,7 @@ piece_found limit o old mid new q s p clear is starts ends taken =
     row_kept : Registers → Registers
     row_kept r = record r { basic_block = false; prologue_end = false; epilogue_begin = false; discriminator = 0 }
 
-pub piece_none : (limit : ℕ) (o : Option ℕ) (old mid new : RemainingRows) → Searched limit o old mid
+pub piece_none : (limit : ℕ) (o : Option ℕ) (old mid new : RemainingRows) → SearchesFrom limit o old mid
     → Path limit mid [] new
     → next_step limit new ≡ Ok (None, new) → NoPiece limit old new
 piece_none limit o old mid new s p ended =
@@ -150,7 +151,7 @@ answers_joined xs ys end = sym (append_assoc (map answer xs) (map answer ys) end
 
 -- a fault on the way
 pub piece_fault : (limit : ℕ) (r : Result (Option RowSequence) Error) (o : Option ℕ) (old mid new : RemainingRows)
-    (d : Error) → IsErrAnd r (λ e. e ≡ d) → Searched limit o old mid → NextRow limit (Err d) mid new
+    (d : Error) → IsErrAnd r (λ e. e ≡ d) → SearchesFrom limit o old mid → NextRow limit (Err d) mid new
     → NextSequence limit r old new
 piece_fault limit (Ok x) o old mid new d h s next = absurd h
 piece_fault limit (Err e) o old mid new d h s next = λ ne. (
@@ -189,7 +190,7 @@ sequences_under limit h0 h [] (q ∷ qs) same counts all = absurd all
 sequences_under limit h0 h (p ∷ ps) [] same counts all = absurd all
 
 -- the sequences so far
-pub record Found (limit : ℕ) (old now : RemainingRows) (qs : List RowSequence) : Type 0 where
+pub record FindsSequences (limit : ℕ) (old now : RemainingRows) (qs : List RowSequence) : Type 0 where
   pub rows : List Row
   pub path : Path limit old rows now
   pub pieces_found : List Rows
@@ -198,7 +199,7 @@ pub record Found (limit : ℕ) (old now : RemainingRows) (qs : List RowSequence)
   pub begins : now.registers ≡ start (rules_of now.header)
 
 pub sequences_none : (limit : ℕ) (s : RemainingRows) → Path limit s [] s → s.registers ≡ start (rules_of s.header)
-    → Found limit s s []
+    → FindsSequences limit s s []
 sequences_none limit s p begins =
     record { rows = []; path = p; pieces_found = []; cuts = λ more. refl; each = tt; begins = begins }
 
@@ -219,7 +220,7 @@ piece_resumed limit old mid new q f same counts begins h same_h counts_h =
     }
 
 pub sequences_more : (limit : ℕ) (old mid new : RemainingRows) (qs rs : List RowSequence) (q : RowSequence)
-    → Found limit old mid qs → NextPiece limit q mid new → rs ≡ qs ++ q ∷ [] → Found limit old new rs
+    → FindsSequences limit old mid qs → NextPiece limit q mid new → rs ≡ qs ++ q ∷ [] → FindsSequences limit old new rs
 sequences_more limit old mid new qs rs q all f pushed =
     let ours = map registers_of all.rows in
     let theirs = map registers_of f.rows in
@@ -242,8 +243,8 @@ sequences_more limit old mid new qs rs q all f pushed =
 
 -- the end of the program
 pub pieces_found_all : {A : Type 0} (limit : ℕ) (see : A → LineHeader × List RowSequence) (x : A) (h : LineHeader)
-    (mid new : RemainingRows) (qs : List RowSequence) → Found limit (program_rows h) mid qs → NoPiece limit mid new
-    → (see x).0 ≡ new.header → (see x).1 ≡ qs → SequencesOf limit see (Ok x) h
+    (mid new : RemainingRows) (qs : List RowSequence) → FindsSequences limit (program_rows h) mid qs
+    → NoPiece limit mid new → (see x).0 ≡ new.header → (see x).1 ≡ qs → SequencesOf limit see (Ok x) h
 pieces_found_all limit see x h mid new qs all f header sequences =
     let ours = map registers_of all.rows in
     let theirs = map registers_of f.rows in
@@ -267,7 +268,7 @@ pieces_found_all limit see x h mid new qs all f header sequences =
 -- a fault after the sequences so far
 pub sequences_fault : {A : Type 0} (limit : ℕ) (see : A → LineHeader × List RowSequence) (r : Result A Error)
     (h : LineHeader) (mid new : RemainingRows) (qs : List RowSequence) (d : Error) → IsErrAnd r (λ e. e ≡ d)
-    → Found limit (program_rows h) mid qs → NextSequence limit (Err d) mid new → SequencesOf limit see r h
+    → FindsSequences limit (program_rows h) mid qs → NextSequence limit (Err d) mid new → SequencesOf limit see r h
 sequences_fault limit see (Ok x) h mid new qs d is all next = absurd is
 sequences_fault limit see (Err e) h mid new qs d is all next = λ ne.
     let f = next (λ same. ne (is ∙ same)) in (

@@ -38,8 +38,8 @@ numeric_instruction (SetDiscriminator n) = set_discriminator n
 
 -- An instruction is executed: the registers become its meaning, and the result says whether it
 -- gives a row; refused, they are as before.
-abbrev pub ExecutesNumeric : Result Bool Error → Registers → Registers → Result Registers Error
-    → NumericInstruction → Type 0
+abbrev pub ExecutesNumeric : Result Bool Error → Registers → Registers
+    → Result Registers Error → NumericInstruction → Type 0
 ExecutesNumeric (Ok b) old new meaning i =
     (meaning ≡ Ok new) × (b ≡ gives_row (numeric_instruction i))
 ExecutesNumeric (Err e) old new meaning i = (meaning ≡ Err e) × (new ≡ old)
@@ -62,7 +62,8 @@ extended_with_bytes rules opcode =
 -- An instruction whose operands are numbers; where they aren't, the meaning is what another parser
 -- makes of the bytes that are left.
 abbrev pub ReturnsNumericOr : Result (Option NumericInstruction) Error → View
-    → Result (InstructionOf FileFacts × View) Error → Parser (InstructionOf FileFacts) → Type 0
+    → Result (InstructionOf FileFacts × View) Error → Parser (InstructionOf FileFacts)
+    → Type 0
 ReturnsNumericOr (Ok (Some i)) new meaning other = meaning ≡ Ok (numeric_instruction i, new)
 ReturnsNumericOr (Ok None) new meaning other = meaning ≡ other new
 ReturnsNumericOr (Err e) new meaning other = meaning ≡ Err e

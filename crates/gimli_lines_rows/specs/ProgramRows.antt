@@ -57,7 +57,8 @@ with_ending (Err e) l = record { items = l.items; ending = first_fault e l.endin
 
 -- The instructions that can be read, executed one after the other from some registers on: up to the
 -- end of the program, or to the first fault.
-abbrev pub program_run : ℕ → LineHeader → Registers → View → Listing Registers (Execution FileFacts)
+abbrev pub program_run : ℕ → LineHeader → Registers → View
+    → Listing Registers (Execution FileFacts)
 program_run limit h r v = with_ending (instructions_in limit h v).ending
     (run (rules_of h) r (instructions_in limit h v).items)
 
@@ -89,7 +90,8 @@ abbrev pub is_shown_by : InstructionOf FileFacts → Registers → Bool
 is_shown_by i after = gives_row i && not after.is_hidden
 
 -- the state after an instruction that left the registers so, where w follows it
-abbrev pub state_after : RemainingRows → InstructionOf FileFacts → View → Registers → RemainingRows
+abbrev pub state_after : RemainingRows → InstructionOf FileFacts → View → Registers
+    → RemainingRows
 state_after s i w after = record {
   header = header_after s.takes_files i s.header;
   takes_files = s.takes_files;
@@ -120,10 +122,12 @@ next_step limit s = step_of s (with_rest (next_instruction limit s.header s.rest
 
 -- A call that takes a step; after a fault no instructions are left, and out of memory changes
 -- nothing.
-abbrev pub OneStep : ℕ → Result (Option Bool) Error → RemainingRows → RemainingRows → Type 0
+abbrev pub OneStep : ℕ → Result (Option Bool) Error → RemainingRows → RemainingRows
+    → Type 0
 OneStep limit (Ok o) old new = next_step limit old ≡ Ok (o, new)
 OneStep limit (Err e) old new =
-    (e ≢ Memory → (next_step limit old ≡ Err e) × (new ≡ record old { rest = prefix 0 old.rest }))
+    (e ≢ Memory →
+    (next_step limit old ≡ Err e) × (new ≡ record old { rest = prefix 0 old.rest }))
     × (e ≡ Memory → new ≡ old)
 
 -- the last row, with the header

@@ -73,14 +73,15 @@ row_under h r = Ok (record { header = h; registers = r })
 -- ---- sequences
 
 -- A sequence of these rows: resumed it gives them, and no fault.
-pub record IsSequence (limit : ℕ) (h : LineHeader) (rows : List Registers) (q : RowSequence) : Type
-    0 where
+pub record IsSequence (limit : ℕ) (h : LineHeader) (rows : List Registers) (q : RowSequence)
+    : Type 0 where
   pub starts : q.start ≡ start_of rows
   pub ends : q.end ≡ end_of rows
   pub resumes : rows_to_come limit (sequence_rows h q.instructions) ≡ map (row_under h) rows
 
 -- each of these pieces has its sequence
-abbrev pub AreSequences : ℕ → LineHeader → List (List Registers) → List RowSequence → Type 0
+abbrev pub AreSequences : ℕ → LineHeader → List (List Registers) → List RowSequence
+    → Type 0
 AreSequences limit h [] [] = Unit {0}
 AreSequences limit h (p ∷ ps) (q ∷ qs) = IsSequence limit h p q × AreSequences limit h ps qs
 AreSequences limit h [] (q ∷ qs) = ⊥
@@ -88,8 +89,8 @@ AreSequences limit h (p ∷ ps) [] = ⊥
 
 -- A program without a fault has a sequence for each piece of its rows, under the header that its
 -- instructions lead to; else its fault is answered.
-abbrev pub SequencesOf : {A : Type 0} → ℕ → (A → LineHeader × List RowSequence) → Result A Error
-    → LineHeader → Type 0
+abbrev pub SequencesOf : {A : Type 0} → ℕ → (A → LineHeader × List RowSequence)
+    → Result A Error → LineHeader → Type 0
 SequencesOf limit see (Ok x) h =
     (rows : List Row) × (rows_to_come limit (program_rows h) ≡ map answer rows)
     × ((end : RemainingRows) × Path limit (program_rows h) rows end
@@ -133,8 +134,8 @@ pub record NoPiece (limit : ℕ) (old new : RemainingRows) : Type 0 where
   pub at_end : next_step limit new ≡ Ok (None, new)
 
 -- The next sequence, none at the end of the program; or its fault, after rows of no sequence.
-abbrev pub NextSequence : ℕ → Result (Option RowSequence) Error → RemainingRows → RemainingRows
-    → Type 0
+abbrev pub NextSequence : ℕ → Result (Option RowSequence) Error → RemainingRows
+    → RemainingRows → Type 0
 NextSequence limit (Ok (Some q)) old new = NextPiece limit q old new
 NextSequence limit (Ok None) old new = NoPiece limit old new
 NextSequence limit (Err e) old new =

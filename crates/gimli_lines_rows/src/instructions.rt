@@ -110,9 +110,9 @@ impl<R: Reader> LineInstructions<R> {
         Ok(LineInstructions::new(self.input.copy()?))
     }
 
-    /// The next instruction, none at the end of the program. After one that can't be read there are
-    /// no more. Takes memory only for a part of the reader, which few instructions have, and changes
-    /// nothing when out of memory.
+    /// The next instruction, none at the end of the program. After one that can't be read there
+    /// are no more. Takes memory only for a part of the reader, which few instructions have, and
+    /// changes nothing when out of memory.
     pub fn next_instruction(
         &mut self,
         header: &LineProgramHeader<R>,

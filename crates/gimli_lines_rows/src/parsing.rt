@@ -59,8 +59,9 @@ fn parse_numeric<R: Reader>(
     rules: LineRules,
     counts: &[u8],
 ) -> Result<Option<NumericInstruction>, Error>
-    ensures { IfOk result (λ found. IfSome found (λ i. (instruction_with file_in R.Offset.limit rules
-        counts.now input.old) ≡ Ok (numeric_instruction i, input.new))) }
+    ensures { IfOk result (λ found. IfSome found (λ i.
+        instruction_with file_in R.Offset.limit rules counts.now input.old
+        ≡ Ok (numeric_instruction i, input.new))) }
 {
     let opcode = input.read_u8()?;
     if opcode == 0 {

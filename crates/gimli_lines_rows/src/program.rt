@@ -83,7 +83,8 @@ pub trait LineProgram<R: Reader> {
     final fn add_file(&mut self, file: FileEntry<R>) -> Result<(), Error>
         ensures ok { OnOk result (header_of self.new
             ≡ header_with takes_files file (header_of self.old)) }
-        ensures err { IfErr result (λ e. (e ≡ Memory) × (header_of self.new ≡ header_of self.old)) }
+        ensures err { IfErr result (λ e. (e ≡ Memory)
+            × (header_of self.new ≡ header_of self.old)) }
     {
         self.take_file(&mut Some(file))
     }

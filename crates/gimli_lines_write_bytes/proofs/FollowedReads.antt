@@ -115,19 +115,19 @@ unfolding initial_length sized_offset
 length_again limit is_big first Dwarf32 n fits small =
     again_then (length_of limit) (again_fixed is_big first 4 n (omega arith)) (λ v. rw (lt-ltb n 0xfffffff0 fits) refl)
 length_again limit is_big first Dwarf64 n fits small =
-    again_onward (length_of limit) (escaped is_big)
+    again_onward (length_of limit) (again_escape is_big)
     (again_then (λ m. give (m, Dwarf64))
     (again_then (λ o. lift (offset_below limit o)) (again_fixed is_big (first + 4) 8 n (omega arith))
     (λ v. rw (offset_is_below limit n small) refl)) (λ v. refl))
   where
-    escaped : (b : Bool) → Again b first (fixed 4) 0xffffffff (255 ∷ 255 ∷ 255 ∷ 255 ∷ [])
-    escaped true = again_fixed true first 4 0xffffffff (omega arith)
-    escaped false = again_fixed false first 4 0xffffffff (omega arith)
+    again_escape : (b : Bool) → Again b first (fixed 4) 0xffffffff (255 ∷ 255 ∷ 255 ∷ 255 ∷ [])
+    again_escape true = again_fixed true first 4 0xffffffff (omega arith)
+    again_escape false = again_fixed false first 4 0xffffffff (omega arith)
 
 -- items, up to one that isn't there
 module _ {A T : Type 0} (p : Parser (Option A)) (shrinks : Shrinks bytes_left p) (is_big : Bool)
     (string_of : T → List ℕ) (value : ℕ → T → A) (Good : T → Type 0) where
-  listed : (first : ℕ) (ts : List T) (end rest : List ℕ)
+  again_items : (first : ℕ) (ts : List T) (end rest : List ℕ)
       → ((n : ℕ) (t : T) → Good t → Again is_big n p (Some (value n t)) (string_of t))
       → ((n : ℕ) → Again is_big n p None end) → All Good ts
       → listing_in bytes_left p (bytes_at is_big first ((flat_map string_of ts ++ end) ++ rest))
@@ -135,10 +135,10 @@ module _ {A T : Type 0} (p : Parser (Option A)) (shrinks : Shrinks bytes_left p)
         items = values_at string_of value first ts;
         ending = Ok (bytes_at is_big (first + length (flat_map string_of ts ++ end)) rest);
       }
-  listed first [] end rest each last good =
+  again_items first [] end rest each last good =
       listing_end shrinks (bytes_at is_big first (end ++ rest)) (bytes_at is_big (first + length end) rest)
       ((last first).again rest)
-  listed first (t ∷ ts) end rest each last good =
+  again_items first (t ∷ ts) end rest each last good =
       let string = string_of t in
       let more = flat_map string_of ts ++ end in
       let regrouped : ((string ++ flat_map string_of ts) ++ end) ++ rest ≡ string ++ (more ++ rest) =
@@ -150,7 +150,7 @@ module _ {A T : Type 0} (p : Parser (Option A)) (shrinks : Shrinks bytes_left p)
       (bytes_at is_big (first + length string) (more ++ rest))
       ((each first t (All-head Good t ts good)).again (more ++ rest))
       ∙ ap (λ (l : Listing View A). prepend (value first t ∷ []) l)
-      (listed (first + length string) ts end rest each last (All-tail Good t ts good))
+      (again_items (first + length string) ts end rest each last (All-tail Good t ts good))
       ∙ ap (λ (n : ℕ). record {
         items = value first t ∷ values_at string_of value (first + length string) ts;
         ending = Ok (bytes_at is_big n rest);
@@ -160,4 +160,6 @@ module _ {A T : Type 0} (p : Parser (Option A)) (shrinks : Shrinks bytes_left p)
       → ((n : ℕ) (t : T) → Good t → Again is_big n p (Some (value n t)) (string_of t))
       → ((n : ℕ) → Again is_big n p None end) → All Good ts
       → Again is_big first (all_of bytes_left p) (values_at string_of value first ts) (flat_map string_of ts ++ end)
-  all_again first ts end each last good = record { again = λ rest. ap whole (listed first ts end rest each last good) }
+  all_again first ts end each last good = record {
+    again = λ rest. ap whole (again_items first ts end rest each last good);
+  }

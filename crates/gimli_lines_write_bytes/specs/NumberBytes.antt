@@ -53,7 +53,8 @@ escape Dwarf64 = 255 ∷ 255 ∷ 255 ∷ 255 ∷ []
 -- the bytes of a length: those from the first reserved one on need 64-bit DWARF
 abbrev pub length_bytes : Bool → Format → ℕ → Result (List ℕ) Error
 length_bytes is_big Dwarf32 n =
-    if nat_lt n FIRST_RESERVED_LENGTH then Ok (number_bytes is_big 4 n) else Err InitialLengthOverflow
+    if nat_lt n FIRST_RESERVED_LENGTH then Ok (number_bytes is_big 4 n)
+    else Err InitialLengthOverflow
 length_bytes is_big Dwarf64 n = bytes_in_width is_big 8 n
 
 -- the lengths that a format can write

@@ -2,4 +2,10 @@ pub mod SpelledPieces
 pub mod FileBytes
 pub mod TableBytes
 pub mod UnitBytesAgain
+pub mod RowAnswers
 pub mod UnitReading
+pub mod ReadTexts
+pub mod StoredFiles
+pub mod ProgramReading
+pub mod WrittenForms
+pub mod ExpressedPrograms

@@ -1,4 +1,4 @@
--- What was written of lists and tables stands there as it is spelled, and can be read again.
+-- The bytes written for lists and tables are their spelling, and can be read again.
 use Rattle.std.proofs.Common.{◌≡◌, ℕ, ◌<◌, ◌^◌, Bool, true, false, cond, List, [], ◌∷◌, ◌++◌, Result, Ok, Err, refl, sym, ap, ◌∙◌}
 use Rattle.std.specs.Prelude.{◌==◌, nat_lt, flat_map, All}
 use Rattle.std.proofs.lemmas.Bool.{ltb-true, eqb-true}

@@ -6,7 +6,7 @@ use Rattle.std.proofs.lemmas.List.{length-append}
 use Rattle.std.proofs.lemmas.List.Elements.{All-head}
 use Rattle.gimli_lines_write_unit.specs.Format.{Format}
 use Rattle.gimli_lines_write_unit.specs.LineRules.{LineRules}
-use Rattle.gimli_lines_write_unit.proofs.RowsDecoding.{bytes_read}
+use Rattle.gimli_lines_write_laws.proofs.RowAnswers.{rows_answered}
 use Rattle.gimli_lines_write_unit.specs.HeaderParsing.{line_header}
 use Rattle.gimli_lines_write_unit.specs.HeaderTexts.{WrittenText, in_place, in_strings, in_line_strings, form_of, form_in, IsReadableText, IsEntry}
 use Rattle.gimli_lines_write_unit.specs.EntryFields.{WrittenFile, IsReadableFile}
@@ -131,8 +131,9 @@ unit_reads_back address_of rules t entries is_big bytes constants can_build byte
                 can_build.has_operations (version.2 old);
             directories = λ k d w. text_stands limit rules.encoding.format _ (read_back.directories k d w)
                 (directories_below k d w) (tables.0 k d w).1;
-            files = λ k d w. file_stands rules t read_back limit _ (read_back.files k d w) (files_below k d w) (tables.1 k d w)
-                (λ untold. read_back.no_sources untold k d w);
+            files = λ k d w. file_stands rules t read_back limit _ (read_back.files k d w)
+                (files_below k d w)
+                (tables.1 k d w) (λ absent. read_back.no_sources absent k d w);
             to_4 = stands_to_4 rules t read_back tables.0 tables.1;
             in_5 = stands_in_5 rules t read_back tables.0 tables.1;
             length_fits = unit.length_fits;
@@ -146,5 +147,5 @@ unit_reads_back address_of rules t entries is_big bytes constants can_build byte
             bytes_at is_big (first + length l) rest,
           )) (sym unit.bytes_are)
           ((unit_again limit rules is_big t unit.program can offset first line_unit sized).again rest);
-      runs = bytes_read address_of constants rules can_build entries f readable is_big unit.program unit.entries_are;
+      runs = rows_answered address_of constants rules can_build entries f readable is_big unit.program unit.entries_are;
     }

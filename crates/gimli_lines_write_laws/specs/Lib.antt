@@ -1,3 +1,4 @@
+pub use Rattle.gimli_lines_write_unit.specs.TheConstants
 pub use Rattle.gimli_lines_write_unit.specs.LineDefaults
 pub use Rattle.gimli_lines_write_unit.specs.Encoding
 pub use Rattle.gimli_lines_write_unit.specs.Format
@@ -24,3 +25,5 @@ pub use Rattle.gimli_lines_write_unit.specs.HeaderContents
 pub use Rattle.gimli_lines_write_unit.specs.UnitBytes
 pub use Rattle.gimli_lines_write_unit.specs.declared.details.FileDetails
 pub mod UnitReadBack
+pub mod ProgramReadBack
+pub mod ExpressiblePrograms

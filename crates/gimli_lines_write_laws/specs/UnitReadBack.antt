@@ -1,8 +1,12 @@
 -- A unit that was written reads back (DWARF 5, 6.2.4).
-use Rattle.std.specs.Prelude.{◌≡◌, ℕ, ◌+◌, ◌<◌, ◌^◌, Bool, List, ◌++◌, All, length, Ok}
+use Rattle.std.specs.Prelude.{◌≡◌, ℕ, ◌+◌, ◌<◌, ◌^◌, Bool, List, ◌++◌, All, length, map, Ok}
 use Rattle.gimli_lines_write_unit.specs.LineRules.{LineRules}
 use Rattle.gimli_lines_write_unit.specs.Registers.{Registers}
-use Rattle.gimli_lines_write_unit.specs.RowsReadBack.{DecodesTo}
+use Rattle.gimli_lines_rows.specs.Error.{Error as ReadError}
+use Rattle.gimli_lines_rows.specs.LineHeaders.{LineHeader}
+use Rattle.gimli_lines_rows.specs.ProgramInstructions.{rules_of}
+use Rattle.gimli_lines_rows.specs.ProgramRows.{Row, rows_to_come}
+use Rattle.gimli_lines_rows.specs.RowSequences.{rows_under}
 use Rattle.gimli_lines_write_unit.specs.HeaderParsing.{LineUnit, line_header}
 use Rattle.gimli_lines_write_unit.specs.HeaderTexts.{WrittenText, in_place, in_strings, in_line_strings}
 use Rattle.gimli_lines_write_unit.specs.EntryFields.{WrittenFile, IsDigest}
@@ -66,6 +70,16 @@ pub record TablesReadBack (version : ℕ) (t : Tables) : Type 0 where
   pub directories_not_empty : version ≤ 4 → All HasBytes t.directories
   pub paths_not_empty : version ≤ 4 → All (λ (f : WrittenFile). HasBytes f.path) t.files
 
+-- a row that a reader of rows answers, with its header
+abbrev pub answer_under : LineHeader → Registers → Result Row ReadError
+answer_under h r = Ok (record { header = h; registers = r })
+
+-- A reader of a header's program, of these rules and bytes, answers exactly these rows.
+abbrev pub AnswersRows : LineRules → Bool → List ℕ → List Registers → Type 0
+AnswersRows rules is_big program rows = (limit : ℕ) (takes_files : Bool) (h : LineHeader)
+    → 128 ≤ limit → rules_of h ≡ rules → h.program.is_big ≡ is_big → h.program.bytes ≡ program
+    → rows_to_come limit (rows_under takes_files h h.program) ≡ map (answer_under h) rows
+
 -- The bytes read as a header with these tables, whatever follows them, for each reader that can
 -- hold their length and the offsets of texts; and the header's program reads as the rows.
 pub record UnitDecodesTo (rules : LineRules) (is_big : Bool) (t : Tables) (bytes : List ℕ)
@@ -80,7 +94,7 @@ pub record UnitDecodesTo (rules : LineRules) (is_big : Bool) (t : Tables) (bytes
             program,
         bytes_at is_big (first + length bytes) rest,
       )
-  pub runs : DecodesTo rules is_big program rows
+  pub runs : AnswersRows rules is_big program rows
 
 -- Where a unit was written, it is read again with the tables that were recorded, and its program as
 -- the rows.

@@ -4,7 +4,9 @@
 pub mod laws;
 
 pub use gimli_lines_write_unit::{
-    Address, DebugLineOffset, DirectoryId, Encoding, Error, FileDetails, FileId, FileInfo, FileKey,
-    FileTable, Format, LineEncoding, LineRow, LineRules, LineString, LineStringTable, RowsBuilder,
-    StringTable, Writer, write_unit,
+    Address, DW_FORM_string, DebugLineOffset, DirectoryId, DwForm, Encoding, EndianVec, Error,
+    FileDetails, FileId, FileInfo, FileKey, FileTable, Format, InitialLengthOffset, LineEncoding,
+    LineRow, LineRules, LineString, LineStringId, LineStringTable, RowsBuilder, StringId,
+    StringTable, Writer, first_source, form_of, header_laws, listed_directories, row_laws,
+    table_laws, write_unit,
 };

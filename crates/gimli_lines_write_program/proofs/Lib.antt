@@ -1,2 +1,4 @@
 pub mod RestOfLists
+pub mod KnownTables
+pub mod WritablePrograms
 pub mod WrittenUnit

@@ -1,20 +1,24 @@
 -- A line number program as it is built: directories and files, what is recorded of files, and rows.
-use Rattle.std.specs.Prelude.{◌≡◌, ℕ, nat_le, Bool, true, false, List, [], ◌∷◌, ◌++◌, Result, if◌then◌else◌}
+use Rattle.std.specs.Prelude.{◌≡◌, ◌≢◌, ◌⊎◌, ℕ, ◌<◌, ◌^◌, nat_le, length, Bool, true, false, List, [], ◌∷◌, ◌++◌, All, Result, Ok, Err, if◌then◌else◌}
 use Rattle.gimli_lines_write_laws.specs.Encoding.{Encoding}
 use Rattle.gimli_lines_write_laws.specs.Format.TheVariants.{Dwarf32}
 use Rattle.gimli_lines_write_laws.specs.LineEncoding.{LineEncoding}
 use Rattle.gimli_lines_write_laws.specs.LineDefaults.{default_line_encoding}
 use Rattle.gimli_lines_write_laws.specs.LineRules.{LineRules}
 use Rattle.gimli_lines_write_laws.specs.WriteError.{Error}
+use Rattle.gimli_lines_write_laws.specs.WriteError.TheVariants.{Memory}
 use Rattle.gimli_lines_write_laws.specs.Address.{Address}
 use Rattle.gimli_lines_write_laws.specs.OutputBytes.{WriterContents}
-use Rattle.gimli_lines_write_laws.specs.BuiltRows.{first_row, rows_of, IsReadable}
+use Rattle.gimli_lines_write_laws.specs.BuiltRows.{first_row, follows, rows_of, IsReadable}
+use Rattle.gimli_lines_write_laws.specs.RowPieces.{IsBuildable}
 use Rattle.gimli_lines_write_laws.specs.RowsBuilding.{BuilderState}
 use Rattle.gimli_lines_write_laws.specs.FileDetails.{FileDetails}
 use Rattle.gimli_lines_write_laws.specs.HeaderContents.{header_tables, empty_form_of, strings_after, line_strings_after, AllKnown}
+use Rattle.gimli_lines_write_laws.specs.EntryBytes.{entries_bytes}
 use Rattle.gimli_lines_write_laws.specs.UnitBytes.{unit_bytes}
-use Rattle.gimli_lines_write_laws.specs.UnitReadBack.{TablesReadBack, UnitDecodesTo}
-use Rattle.gimli_lines_write_laws.specs.FileTables.{Text, in_header, File, Info, no_info, ProgramFiles}
+use Rattle.gimli_lines_write_laws.specs.ExpressiblePrograms.{IsExpressible, IsTooLarge}
+use Rattle.gimli_lines_write_laws.specs.ProgramReadBack.{InfoFits, SourceHasNoZero, ProgramReadsAs}
+use Rattle.gimli_lines_write_laws.specs.FileTables.{Text, in_header, File, Info, no_info, ProgramFiles, IsConsistent}
 use Rattle.gimli_lines_write_laws.specs.HeaderSpelling.{Tables}
 
 -- a program, and whether it stands for none; in version 5 the header records the details of its
@@ -81,11 +85,29 @@ none_program = record {
   rows = no_rows none_rules;
 }
 
+-- What holds of every program that is built: its tables are consistent, its numbers within the
+-- ranges of their types, and its rows in order.
+pub record IsBuilt (p : Program) : Type 0 where
+  pub consistent : IsConsistent p.tables.version p.tables.directories p.tables.files p.tables.infos
+  pub fit : All InfoFits p.tables.infos
+  pub few : length p.tables.directories < 2 ^ 64
+  pub same_version : p.tables.version ≡ p.rows.rules.encoding.version
+  pub buildable : IsBuildable p.rows.rules
+  pub least : p.rows.rules.line_encoding.minimum_instruction_length < 256
+  pub most : p.rows.rules.line_encoding.maximum_operations_per_instruction < 256
+  pub in_order : follows p.rows.rules (first_row p.rows.rules) p.rows.entries ≡ true
+
 -- ---- a program as it is written, with the texts of `.debug_str` and of `.debug_line_str`
 
 -- the string sections have the texts that the program has by reference
 abbrev pub HasItsTexts : List (List ℕ) → List (List ℕ) → Program → Type 0
 HasItsTexts strings line_strings p = AllKnown strings line_strings p.tables p.details (in_header [])
+
+-- a program that a header can express, with the texts that it has by reference
+pub record CanBeWritten (strings line_strings : List (List ℕ)) (p : Program) : Type 0 where
+  pub is_some : p.is_none ≡ false
+  pub texts : HasItsTexts strings line_strings p
+  pub expressible : IsExpressible p.rows.rules p.tables p.details
 
 -- the tables of its header
 abbrev pub program_tables : List (List ℕ) → List (List ℕ) → Program → Tables
@@ -107,13 +129,29 @@ abbrev pub line_strings_with : List (List ℕ) → Program → List (List ℕ)
 line_strings_with line_strings p =
     line_strings_after (empty_form_of p.tables p.details) line_strings
 
--- Where a reader can follow the addresses, the bytes written from old to new are read again as a
--- unit with the program's directories and files, and as its rows.
+-- Where a reader can follow the addresses, and files' own texts hold no zero byte, the bytes that
+-- were written are read as a unit of the program's directories, files and rows, with the string
+-- tables as they are after the write.
 abbrev pub ReadsBack : List (List ℕ) → List (List ℕ) → Program → WriterContents → WriterContents
     → Type 0
 ReadsBack strings line_strings p old new =
-    TablesReadBack p.rows.rules.encoding.version (program_tables strings line_strings p)
-    → IsReadable p.rows.rules 0 (first_row p.rows.rules) p.rows.entries
+    IsReadable p.rows.rules 0 (first_row p.rows.rules) p.rows.entries
+    → All SourceHasNoZero p.tables.infos
     → (unit : List ℕ) × (new.bytes ≡ old.bytes ++ unit)
-    × UnitDecodesTo p.rows.rules old.is_big (program_tables strings line_strings p) unit
-    (rows_of p.rows.rules p.rows.entries)
+    × ProgramReadsAs strings line_strings p.rows.rules p.tables p.details
+    (rows_of p.rows.rules p.rows.entries) old.is_big unit
+
+-- the first refusal of what its rows are written as: an address that the writer refuses, or one
+-- that doesn't fit
+abbrev pub RefusesRows : (Address → Result ℕ Error) → Bool → Program → Error → Type 0
+RefusesRows address_of is_big p e =
+    entries_bytes address_of is_big p.rows.rules (first_row p.rows.rules) p.rows.entries ≡ Err e
+
+-- A write that gives a unit is of a program that a header can express; and such a program is
+-- refused only for memory, a number that doesn't fit its width, or an address.
+abbrev pub WritesIfExpressible : {A : Type 0} → (Address → Result ℕ Error) → Bool → Program
+    → Result A Error → Type 0
+WritesIfExpressible address_of is_big p (Ok _) = IsExpressible p.rows.rules p.tables p.details
+WritesIfExpressible address_of is_big p (Err e) =
+    IsExpressible p.rows.rules p.tables p.details → e ≢ Memory
+    → IsTooLarge e ⊎ RefusesRows address_of is_big p e

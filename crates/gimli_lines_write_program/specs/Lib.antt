@@ -13,4 +13,6 @@ pub use Rattle.gimli_lines_write_laws.specs.LineStrings
 pub use Rattle.gimli_lines_write_laws.specs.StringSections
 pub use Rattle.gimli_lines_write_laws.specs.HeaderContents
 pub use Rattle.gimli_lines_write_laws.specs.UnitBytes
+pub mod TextTests
 pub mod BuiltPrograms
+pub mod FormTests

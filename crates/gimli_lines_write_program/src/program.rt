@@ -1,25 +1,30 @@
 //! The builder of line number programs.
 
-ghost use Rattle.std.specs.Prelude.{◌≡◌, ◌≢◌, ◌≤◌, ◌<◌, ℕ, List, ◌++◌, [], ◌==◌, ◌&&◌, true, false, length, map, set, Some, slice_get, option_map, OnOk, OnErr, IfOk, IfErr};
+ghost use Rattle.std.specs.Prelude.{◌≡◌, ◌≢◌, ◌↔◌, ◌≤◌, ◌<◌, ◌^◌, All, ℕ, List, ◌++◌, [], ◌==◌, ◌&&◌, true, false, length, map, set, Some, slice_get, option_map, OnOk, OnErr, IfOk, IfErr};
 ghost use Rattle.gimli_lines_write_laws.specs.WriteError.TheVariants.{Memory};
 ghost use Rattle.gimli_lines_write_laws.specs.RowPieces.{IsBuildable};
-ghost use Rattle.gimli_lines_write_laws.specs.FileTables.{Text, text_of, file_of, info_of, is_same, is_same_file, with_directory, with_file, HasNoZero, HasBytes};
+ghost use Rattle.gimli_lines_write_laws.specs.FileTables.{Text, text_of, file_of, info_of, is_same, is_same_file, with_directory, with_file, HasNoZero, HasBytes, IsConsistent};
 ghost use Rattle.gimli_lines_write_laws.specs.StringSections.{item_index};
-ghost use Rattle.gimli_lines_write_program.specs.BuiltPrograms.{Program, rules_with, no_rows, new_program, none_program, HasItsTexts, program_bytes, ReadsBack, strings_with, line_strings_with};
+ghost use Rattle.gimli_lines_write_laws.specs.ProgramReadBack.{InfoFits};
+ghost use Rattle.gimli_lines_write_program.specs.TextTests.{has_texts};
+ghost use Rattle.gimli_lines_write_program.specs.FormTests.{has_version, has_forms, is_writable};
+ghost use Rattle.gimli_lines_write_program.specs.BuiltPrograms.{Program, rules_with, no_rows, new_program, none_program, IsBuilt, HasItsTexts, CanBeWritten, program_bytes, ReadsBack, WritesIfExpressible, strings_with, line_strings_with};
 ghost use Rattle.gimli_lines_write_laws.specs.BuiltRows.{first_row, row_after_row, can_place, can_follow};
 ghost use Rattle.gimli_lines_write_laws.specs.EntryBytes.{Continues};
 ghost use Rattle.gimli_lines_write_laws.specs.LineEntry.TheVariants.{Row, EndSequence};
-ghost use Rattle.gimli_lines_write_laws.specs.HeaderContents.{GainsEmpty};
+ghost use Rattle.gimli_lines_write_laws.specs.HeaderContents.{GainsEmpty, records_source};
 ghost use Rattle.gimli_lines_write_laws.specs.RowsBuilding.{with_sequence, with_address, with_entry};
 ghost use Rattle.std.specs.Borrow.{Lends, sem};
 ghost use Rattle.gimli_lines_write_program.specs.contracts.program.LineProgram.{the_row};
 ghost use Rattle.gimli_lines_write_tables.specs.contracts.file.FileInfo.{the_row as info_row};
 
+use crate::forms::{have_one_form, have_paths_of_one_form, have_sources_of_one_form};
+use crate::ranges::{are_few, are_in_range};
 use crate::text_checks::{are_known, are_paths_known, are_sources_known};
 use gimli_lines_write_laws::{
     Address, DebugLineOffset, DirectoryId, Encoding, Error, FileDetails, FileId, FileInfo, FileKey,
     FileTable, Format, LineEncoding, LineRow, LineRules, LineString, LineStringTable, RowsBuilder,
-    StringTable, Writer, write_unit,
+    StringTable, Writer, listed_directories, write_unit,
 };
 use std::alloc::Global;
 use std::marker::Model;
@@ -59,6 +64,19 @@ impl Model for LineProgram {
     } };
 
     ghost invariant = { λ p. p.tables.version ≡ p.rows.rules.encoding.version };
+}
+
+// What holds of the tables of every program.
+fn are_built(tables: &FileTable)
+    ensures consistent { IsConsistent tables.now.version tables.now.directories tables.now.files
+        tables.now.infos }
+    ensures fit { All InfoFits tables.now.infos }
+    ensures few { length tables.now.directories < 2 ^ 64 }
+{
+    let directories = tables.directories();
+    are_few(directories);
+    let infos = tables.infos();
+    are_in_range(infos);
 }
 
 // The parameters of instructions are bytes.
@@ -187,6 +205,7 @@ impl LineProgram {
             { tables = with_directory (text_of directory) self.old.tables }) }
         ensures place { IfOk result (λ id. id.0 ≡ item_index is_same self.old.tables.directories
             (text_of directory)) }
+        ensures within { IfOk result (λ id. id.0 < length self.new.tables.directories) }
         ensures err { OnErr result (self.new ≡ self.old) }
         ensures refusal { IfErr result (λ e. e ≡ Memory) }
     {
@@ -201,9 +220,9 @@ impl LineProgram {
         self.tables.directory(id)
     }
 
-    /// The id of a file, which is added where it isn't there. Its path holds no zero byte, and up
-    /// to version 4 it isn't empty. New information replaces what was recorded before; without any,
-    /// that stays, and nothing is recorded of a new file.
+    /// The id of a file in one of the directories, which is added where it isn't there. Its path
+    /// holds no zero byte, and up to version 4 it isn't empty. New information replaces what was
+    /// recorded before; without any, that stays, and nothing is recorded of a new file.
     pub fn add_file(
         &mut self,
         file: LineString,
@@ -211,6 +230,7 @@ impl LineProgram {
         info: Option<FileInfo>,
     ) -> Result<FileId, Error>
         requires zero_free { HasNoZero (text_of file) }
+        requires directory { directory.0 < length self.old.tables.directories }
         requires not_empty { self.old.tables.version ≤ 4 → HasBytes (text_of file) }
         ensures ok { OnOk result (self.new ≡ record self.old {
           tables = with_file (record { path = text_of file; directory = directory.0 })
@@ -218,6 +238,7 @@ impl LineProgram {
         }) }
         ensures place { IfOk result (λ id. id.0 ≡ item_index is_same_file self.old.tables.files
             (record { path = text_of file; directory = directory.0 })) }
+        ensures within { IfOk result (λ id. id.0 < length self.new.tables.files) }
         ensures err { OnErr result (self.new ≡ self.old) }
         ensures refusal { IfErr result (λ e. e ≡ Memory) }
     {
@@ -361,15 +382,88 @@ impl LineProgram {
         self.rows.end_sequence(address_offset)
     }
 
-    /// Whether the tables have the texts that the program has by reference. Where this holds it can
-    /// be written with them.
-    pub fn can_write(&self, strings: &StringTable, line_strings: &LineStringTable) -> bool
-        ensures { result ≡ true → HasItsTexts strings.now line_strings.now self.now }
+    // What holds of every program.
+    fn is_built(&self)
+        ensures { IsBuilt self.now }
+    {
+        let rules = self.rows.rules();
+        let _parameters = byte_parameters(rules.line_encoding);
+        let _entries = self.rows.entries();
+        are_built(&self.tables);
+    }
+
+    // Whether its header records the texts of files.
+    fn records_sources(&self) -> bool
+        ensures { result ≡ records_source self.now.tables.version self.now.details }
+    {
+        self.version() > 4 && self.file_has_source
+    }
+
+    // Whether the tables have the texts of directories, of paths and, where they are recorded, of
+    // files.
+    fn knows_texts(&self, strings: &StringTable, line_strings: &LineStringTable) -> bool
+        ensures { result ≡ has_texts strings.now line_strings.now self.now.tables
+            self.now.details }
     {
         let directories = are_known(strings, line_strings, self.tables.directories());
         let paths = are_paths_known(strings, line_strings, self.tables.files());
         let sources = are_sources_known(strings, line_strings, self.tables.infos());
-        directories && paths && sources
+        let present = self.records_sources();
+        directories && paths && (!present || sources)
+    }
+
+    /// Whether the tables have the texts that the program has by reference, as `write` requires.
+    pub fn has_texts(&self, strings: &StringTable, line_strings: &LineStringTable) -> bool
+        ensures { result ≡ true ↔ HasItsTexts strings.now line_strings.now self.now }
+    {
+        self.knows_texts(strings, line_strings)
+    }
+
+    // Whether the version has a header for a program with its number of operations an instruction.
+    fn has_version(&self) -> bool
+        ensures { result ≡ has_version self.now.rows.rules }
+    {
+        let version = self.version();
+        let operations = self
+            .rows
+            .rules()
+            .line_encoding
+            .maximum_operations_per_instruction;
+        2 <= version && version <= 5 && (4 <= version || operations <= 1)
+    }
+
+    // Whether the texts of directories, of paths and, where they are recorded, of files have one
+    // form each.
+    fn has_forms(&self) -> bool
+        ensures { result ≡ has_forms self.now.tables self.now.details }
+    {
+        let version = self.version();
+        let directories = listed_directories(version, self.tables.directories());
+        let directories = have_one_form(version, directories);
+        let files = have_paths_of_one_form(version, self.tables.files());
+        let sources = have_sources_of_one_form(version, self.tables.infos());
+        let present = self.records_sources();
+        directories && files && (!present || sources)
+    }
+
+    // Whether this is a program that a header can express, with texts that the tables have.
+    fn is_writable(&self, strings: &StringTable, line_strings: &LineStringTable) -> bool
+        ensures { result ≡ is_writable strings.now line_strings.now self.now }
+    {
+        let knows_texts = self.knows_texts(strings, line_strings);
+        let has_version = self.has_version();
+        let has_forms = self.has_forms();
+        !self.is_none && knows_texts && has_version && has_forms
+    }
+
+    /// Whether `write` gives a unit with these tables, unless memory runs out, a number doesn't fit
+    /// its width, or the writer refuses an address: this is a program, of a version from 2 to 5,
+    /// before version 4 of one operation an instruction, with texts that the tables have, all in
+    /// the header up to version 4, and of one form in each list in version 5.
+    pub fn can_write(&self, strings: &StringTable, line_strings: &LineStringTable) -> bool
+        ensures { result ≡ true ↔ CanBeWritten strings.now line_strings.now self.now }
+    {
+        self.is_writable(strings, line_strings)
     }
 
     /// Writes the unit of the program after what was written, and answers where it begins. Texts by
@@ -391,17 +485,17 @@ impl LineProgram {
             (program_bytes W.address_of (W.contents w.old).is_big strings.old line_strings.old
             self.now) }
         ensures offset { IfOk result (λ offset. offset.0 ≡ length (W.contents w.old).bytes) }
-        ensures reads_back { OnOk result (ReadsBack strings.old line_strings.old self.now
+        ensures reads_back { OnOk result (ReadsBack strings.new line_strings.new self.now
             (W.contents w.old) (W.contents w.new)) }
+        ensures expressible { WritesIfExpressible W.address_of (W.contents w.old).is_big self.now
+            result }
         ensures tables { OnOk result ((strings.new ≡ strings_with strings.old self.now)
             × (line_strings.new ≡ line_strings_with line_strings.old self.now)) }
         ensures refusal { OnErr result
             (GainsEmpty strings.old strings.new × GainsEmpty line_strings.old line_strings.new) }
     {
         let offset = w.len();
-        let rules = self.rows.rules();
-        let _parameters = byte_parameters(rules.line_encoding);
-        let _entries = self.rows.entries();
+        self.is_built();
         let details = FileDetails {
             has_timestamp: self.file_has_timestamp,
             has_size: self.file_has_size,
@@ -417,6 +511,8 @@ impl LineProgram {
             strings,
             line_strings,
         )?;
+        let _strings = strings.count();
+        let _line_strings = line_strings.count();
         Ok(DebugLineOffset(offset))
     }
 }

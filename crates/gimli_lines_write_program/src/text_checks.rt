@@ -1,14 +1,15 @@
 //! Texts whose tables have them.
 
-ghost use Rattle.std.specs.Prelude.{◌≡◌, All, true, map, unwrap_or, []};
-ghost use Rattle.gimli_lines_write_laws.specs.FileTables.{File, Info, in_header, text_of, file_of, info_of};
-ghost use Rattle.gimli_lines_write_laws.specs.HeaderContents.{IsKnown};
+ghost use Rattle.std.specs.Prelude.{◌≡◌, map};
+ghost use Rattle.std.specs.List.{list_all};
+ghost use Rattle.gimli_lines_write_laws.specs.FileTables.{File, Info, text_of, file_of, info_of};
+ghost use Rattle.gimli_lines_write_program.specs.TextTests.{is_known, is_source_known};
 
 use gimli_lines_write_laws::{FileInfo, FileKey, LineString, LineStringTable, StringTable};
 
 // Whether its table has a text.
 fn is_known(strings: &StringTable, line_strings: &LineStringTable, text: &LineString) -> bool
-    ensures { result ≡ true → IsKnown strings.now line_strings.now (text_of text.now) }
+    ensures { result ≡ is_known strings.now line_strings.now (text_of text.now) }
 {
     match text {
         LineString::String(_) => true,
@@ -23,14 +24,11 @@ pub fn are_known(
     line_strings: &LineStringTable,
     texts: &[LineString],
 ) -> bool
-    ensures { result ≡ true → All (IsKnown strings.now line_strings.now) (map text_of texts.now) }
+    ensures { result ≡ list_all (is_known strings.now line_strings.now) (map text_of texts.now) }
 {
-    for text in texts {
-        if !is_known(strings, line_strings, text) {
-            return false;
-        }
-    }
-    true
+    texts
+        .iter()
+        .all(|text| is_known(strings, line_strings, text))
 }
 
 /// Whether their tables have the paths of files.
@@ -39,21 +37,17 @@ pub fn are_paths_known(
     line_strings: &LineStringTable,
     files: &[FileKey],
 ) -> bool
-    ensures { result ≡ true → All (λ (f : File). IsKnown strings.now line_strings.now f.path)
+    ensures { result ≡ list_all (λ (f : File). is_known strings.now line_strings.now f.path)
         (map file_of files.now) }
 {
-    for file in files {
-        if !is_known(strings, line_strings, &file.path) {
-            return false;
-        }
-    }
-    true
+    files
+        .iter()
+        .all(|file| is_known(strings, line_strings, &file.path))
 }
 
 // Whether its table has the text of a file, where it has one.
 fn is_source_known(strings: &StringTable, line_strings: &LineStringTable, info: &FileInfo) -> bool
-    ensures { result ≡ true → IsKnown strings.now line_strings.now
-        (unwrap_or (info_of info.now).source (in_header [])) }
+    ensures { result ≡ is_source_known strings.now line_strings.now (info_of info.now).source }
 {
     match &info.source {
         Some(source) => is_known(strings, line_strings, source),
@@ -67,13 +61,10 @@ pub fn are_sources_known(
     line_strings: &LineStringTable,
     infos: &[FileInfo],
 ) -> bool
-    ensures { result ≡ true → All (λ (i : Info). IsKnown strings.now line_strings.now
-        (unwrap_or i.source (in_header []))) (map info_of infos.now) }
+    ensures { result ≡ list_all (λ (i : Info). is_source_known strings.now line_strings.now
+        i.source) (map info_of infos.now) }
 {
-    for info in infos {
-        if !is_source_known(strings, line_strings, info) {
-            return false;
-        }
-    }
-    true
+    infos
+        .iter()
+        .all(|info| is_source_known(strings, line_strings, info))
 }

@@ -21,7 +21,8 @@ pub row_after-push : (rules : LineRules) (previous : LineRow) (entries : List Li
     ≡ next_row rules (row_after_entries rules previous entries) entry
 row_after-push rules previous [] entry = row_after-cons rules previous entry []
 row_after-push rules previous (e ∷ entries) entry =
-    row_after-cons rules previous e (entries ++ entry ∷ []) ∙ row_after-push rules (next_row rules previous e) entries entry
+    row_after-cons rules previous e (entries ++ entry ∷ [])
+    ∙ row_after-push rules (next_row rules previous e) entries entry
     ∙ ap (λ p. next_row rules p entry) (sym (row_after-cons rules previous e entries))
 
 both_true : (a b : Bool) → a ≡ true → b ≡ true → (a && b) ≡ true

@@ -14,7 +14,7 @@ length-when : (b : Bool) (i : LineInstruction) → length (when b i) ≤ 1
 length-when true i = omega arith
 length-when false i = omega arith
 
--- four that each may stand
+-- four that may each be left out
 four : (a b c d : Bool) (i j k l : LineInstruction) → length (when a i ++ (when b j ++ (when c k ++ when d l))) ≤ 4
 four a b c d i j k l =
     sum (length (when a i)) (length (when b j)) (length (when c k)) (length (when d l)) _ _ _ (length-when a i)

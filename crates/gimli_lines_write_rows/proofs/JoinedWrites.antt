@@ -94,12 +94,12 @@ none_done address_of rules start first entries e f = record {
 module _ (address_of : Address → Result ℕ Error) (rules : LineRules) (start now : WriterContents)
     (whole : Result (List ℕ) Error) (previous : LineRow) (entry : LineEntry) (rest tail : List LineEntry)
     (left : EntriesLeft address_of rules start now whole previous tail) (is : tail ≡ entry ∷ rest) where
-  split : (can_come rules previous entry && follows rules (next_row rules previous entry) rest) ≡ true
-  split = sym (follows-cons rules previous entry rest) ∙ ap (follows rules previous) (sym is) ∙ left.left
+  both_hold : (can_come rules previous entry && follows rules (next_row rules previous entry) rest) ≡ true
+  both_hold = sym (follows-cons rules previous entry rest) ∙ ap (follows rules previous) (sym is) ∙ left.left
 
   -- the entry can follow
   pub comes : can_come rules previous entry ≡ true
-  comes = and-first (can_come rules previous entry) (follows rules (next_row rules previous entry) rest) split
+  comes = and-first (can_come rules previous entry) (follows rules (next_row rules previous entry) rest) both_hold
 
   -- the whole, with the entry's bytes before the rest
   ahead : whole ≡ join_bytes (Ok left.begins.more)
@@ -137,9 +137,25 @@ module _ (address_of : Address → Result ℕ Error) (rules : LineRules) (start 
                 ∙ ap (λ p. join_bytes (Ok (left.begins.more ++ b)) (entries_bytes address_of start.is_big rules p rest))
                 (sym e);
             left = ap (λ p. follows rules p rest) e
-                ∙ and-second (can_come rules previous entry) (follows rules (next_row rules previous entry) rest) split;
+                ∙ and-second (can_come rules previous entry) (follows rules (next_row rules previous entry) rest)
+                both_hold;
             low = subst (λ (p : LineRow). p.line < 2 ^ 63) (sym e) (low_after rules previous entry comes left.low);
           }
+
+  -- where the entry is refused
+  pub entry_refused : (A : Type 0) (d : Error) (next : WriterContents)
+      → Continues {A = A} (Err d) now next (entry_bytes address_of now.is_big rules previous entry)
+      → Continues {A = A} (Err d) start next whole
+  entry_refused A d next h = (
+    λ n. ahead ∙ ap (λ x. join_bytes (Ok left.begins.more)
+        (join_bytes x (entries_bytes address_of start.is_big rules (next_row rules previous entry) rest))) (h.0 n),
+    record {
+      more = left.begins.more ++ h.1.more;
+      bytes = h.1.bytes ∙ ap (λ l. l ++ h.1.more) left.begins.bytes
+          ∙ append_assoc start.bytes left.begins.more h.1.more;
+      order = h.1.order ∙ left.begins.order;
+    },
+  )
 
 -- the next entry, before those after it
 pub next_drop : {A : Type 0} (xs : List A) (i : ℕ) (d : A) → i < length xs → drop i xs ≡ get_or xs i d ∷ drop (i + 1) xs

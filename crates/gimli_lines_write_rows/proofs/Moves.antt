@@ -57,10 +57,10 @@ advanced_is w n r can =
 -- ---- one advance after another
 
 module _ (w : LineRules) (some : 0 < w.line_encoding.maximum_operations_per_instruction) (n k : ℕ) (r : Registers) where
-  regrouped : r.op_index + (n + k) ≡ ((r.op_index + n) % w.line_encoding.maximum_operations_per_instruction + k)
+  regroup : r.op_index + (n + k) ≡ ((r.op_index + n) % w.line_encoding.maximum_operations_per_instruction + k)
       + (r.op_index + n) / w.line_encoding.maximum_operations_per_instruction
       * w.line_encoding.maximum_operations_per_instruction
-  regrouped = group r.op_index n k ((r.op_index + n) % w.line_encoding.maximum_operations_per_instruction)
+  regroup = group r.op_index n k ((r.op_index + n) % w.line_encoding.maximum_operations_per_instruction)
       ((r.op_index + n) / w.line_encoding.maximum_operations_per_instruction
       * w.line_encoding.maximum_operations_per_instruction)
       (mod-add-div' (r.op_index + n) w.line_encoding.maximum_operations_per_instruction)
@@ -72,27 +72,27 @@ module _ (w : LineRules) (some : 0 < w.line_encoding.maximum_operations_per_inst
       ≡ ((r.op_index + n) % w.line_encoding.maximum_operations_per_instruction + k)
       / w.line_encoding.maximum_operations_per_instruction + (r.op_index + n)
       / w.line_encoding.maximum_operations_per_instruction
-  quotient = ap (λ v. v / w.line_encoding.maximum_operations_per_instruction) regrouped
+  quotient = ap (λ v. v / w.line_encoding.maximum_operations_per_instruction) regroup
       ∙ add-mul-div_right ((r.op_index + n) % w.line_encoding.maximum_operations_per_instruction + k)
       ((r.op_index + n) / w.line_encoding.maximum_operations_per_instruction) some
 
   pub remainder : (r.op_index + (n + k)) % w.line_encoding.maximum_operations_per_instruction
       ≡ ((r.op_index + n) % w.line_encoding.maximum_operations_per_instruction + k)
       % w.line_encoding.maximum_operations_per_instruction
-  remainder = ap (λ v. v % w.line_encoding.maximum_operations_per_instruction) regrouped
+  remainder = ap (λ v. v % w.line_encoding.maximum_operations_per_instruction) regroup
       ∙ add-mul-mod_self_right ((r.op_index + n) % w.line_encoding.maximum_operations_per_instruction + k)
       ((r.op_index + n) / w.line_encoding.maximum_operations_per_instruction)
       w.line_encoding.maximum_operations_per_instruction
 
   pub address_twice : (moved_by w (n + k) r).address ≡ (moved_by w k (moved_by w n r)).address
   address_twice = ap (λ v. r.address + w.line_encoding.minimum_instruction_length * v) quotient
-      ∙ spread r.address w.line_encoding.minimum_instruction_length
+      ∙ distribute r.address w.line_encoding.minimum_instruction_length
       (((r.op_index + n) % w.line_encoding.maximum_operations_per_instruction + k)
       / w.line_encoding.maximum_operations_per_instruction)
       ((r.op_index + n) / w.line_encoding.maximum_operations_per_instruction)
     where
-      spread : (a m u v : ℕ) → a + m * (u + v) ≡ (a + m * v) + m * u
-      spread a m u v = omega arith
+      distribute : (a m u v : ℕ) → a + m * (u + v) ≡ (a + m * v) + m * u
+      distribute a m u v = omega arith
 
   pub moved_twice : moved_by w k (moved_by w n r) ≡ moved_by w (n + k) r
   moved_twice = sym (ap (λ a. record r
@@ -123,7 +123,7 @@ module _ (w : LineRules) (some : 0 < w.line_encoding.maximum_operations_per_inst
     visible = can.visible;
     counted = less (r.op_index + (n + k)) (((r.op_index + n) % w.line_encoding.maximum_operations_per_instruction) + k)
         ((r.op_index + n) / w.line_encoding.maximum_operations_per_instruction
-        * w.line_encoding.maximum_operations_per_instruction) (2 ^ 64) regrouped can.counted;
+        * w.line_encoding.maximum_operations_per_instruction) (2 ^ 64) regroup can.counted;
     fits = subst (λ a. a < 2 ^ (8 * w.encoding.address_size)) address_twice can.fits;
     size = can.size;
   }

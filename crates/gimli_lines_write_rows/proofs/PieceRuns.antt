@@ -72,7 +72,7 @@ module _ {F : Type 0} (w : LineRules) where
   row_step i r after rest e g h =
       one_is i r after rest e ∙ ap (λ b. one i r after rest b after.is_hidden) g ∙ ap (λ b. one i r after rest true b) h
 
-  -- ---- instructions that stand where a test holds
+  -- ---- instructions that are there where a test holds
 
   basic_block_set : (r : Registers) (b : Bool) (rest : List (InstructionOf F)) → r.basic_block ≡ false
       → shows w r (onto (when b SetBasicBlock) rest) ≡ shows w (record r { basic_block = b }) rest

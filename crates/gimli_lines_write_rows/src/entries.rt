@@ -22,11 +22,11 @@ fn write_set_address<W: Writer>(w: &mut W, address: Address, size: u8) -> Result
     w.write_address(address, size)
 }
 
-// Writes an entry after a row.
+// Writes an entry after a row, over a buffer for its bytes.
 #[tactic(auto, using(crate::proofs::RowTests::row_fits_place, crate::proofs::RowTests::row_high))]
 fn write_entry<W: Writer>(
-    alloc: Global,
     w: &mut W,
+    buffer: &mut Vec<u8>,
     rules: LineRules,
     previous: &LineRow,
     entry: &LineEntry,
@@ -37,18 +37,18 @@ fn write_entry<W: Writer>(
     ensures { Continues result (W.contents w.old) (W.contents w.new)
         (entry_bytes W.address_of (W.contents w.old).is_big rules previous.now entry.now) }
 {
-    let mut bytes = Vec::new(alloc);
+    buffer.clear();
     match entry {
         LineEntry::SetAddress(address) => {
             return write_set_address(w, *address, rules.encoding.address_size);
         }
-        LineEntry::Row(row) => encode_row(&mut bytes, rules, previous, row)?,
+        LineEntry::Row(row) => encode_row(buffer, rules, previous, row)?,
         LineEntry::EndSequence {
             address_offset,
             op_index,
-        } => encode_end(&mut bytes, rules, previous, *address_offset, *op_index)?,
+        } => encode_end(buffer, rules, previous, *address_offset, *op_index)?,
     }
-    w.write(bytes.as_slice())
+    w.write(buffer.as_slice())
 }
 
 /// Writes the bytes of a program's entries. Refused, the writer may have a prefix of them.
@@ -63,9 +63,10 @@ pub fn write_entries<W: Writer>(
     ensures { Continues result (W.contents w.old) (W.contents w.new)
         (entries_bytes W.address_of (W.contents w.old).is_big rules (first_row rules) entries.now) }
 {
+    let mut buffer = Vec::new(alloc);
     let mut previous = LineRow::first(rules);
     for entry in entries {
-        write_entry(alloc, w, rules, &previous, entry)?;
+        write_entry(w, &mut buffer, rules, &previous, entry)?;
         previous = previous.after_entry(rules, entry);
     }
     Ok(())

@@ -20,7 +20,8 @@ pub use gimli_lines_write_bytes::{
     Address, DW_FORM_data16, DW_FORM_line_strp, DW_FORM_string, DW_FORM_strp, DW_FORM_udata,
     DW_LNCT_LLVM_source, DW_LNCT_MD5, DW_LNCT_directory_index, DW_LNCT_path, DW_LNCT_size,
     DW_LNCT_timestamp, DebugLineOffset, DebugLineStrOffset, DebugStrOffset, DwForm, DwLnct,
-    Encoding, EndianVec, Endianity, Error, Format, LineEncoding, RunTimeEndian, SectionId, Writer,
+    Encoding, EndianVec, Endianity, Error, Format, InitialLengthOffset, LineEncoding,
+    RunTimeEndian, SectionId, Writer,
 };
 pub use instruction::LineInstruction;
 pub use row::LineRow;

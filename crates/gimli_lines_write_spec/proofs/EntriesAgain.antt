@@ -122,15 +122,15 @@ fields_stand limit e is_big d f well_formed =
     (All-cons Good path (directory ∷ with_details) (λ n. text_again limit e is_big n f.path well_formed.path)
     (All-cons Good directory with_details (λ n. unsigned_value limit e is_big n f.directory well_formed.directory)
     (All-append Good (when d.has_timestamp timestamp) sizes
-    (held d.has_timestamp timestamp (λ n. unsigned_value limit e is_big n f.timestamp well_formed.timestamp))
+    (all_when d.has_timestamp timestamp (λ n. unsigned_value limit e is_big n f.timestamp well_formed.timestamp))
     (All-append Good (when d.has_size size) (when d.has_md5 digest)
-    (held d.has_size size (λ n. unsigned_value limit e is_big n f.size well_formed.size))
-    (held d.has_md5 digest (λ n. digest_value limit e is_big n f.md5 well_formed.md5.0))))))
-    (held d.has_source source (λ n. text_again limit e is_big n f.source well_formed.source))
+    (all_when d.has_size size (λ n. unsigned_value limit e is_big n f.size well_formed.size))
+    (all_when d.has_md5 digest (λ n. digest_value limit e is_big n f.md5 well_formed.md5.0))))))
+    (all_when d.has_source source (λ n. text_again limit e is_big n f.source well_formed.source))
   where
-    held : (b : Bool) (x : WrittenField) → FieldAgain limit e is_big x → All (FieldAgain limit e is_big) (when b x)
-    held true x is = All-cons (FieldAgain limit e is_big) x [] is (All-nil (FieldAgain limit e is_big))
-    held false x is = All-nil (FieldAgain limit e is_big)
+    all_when : (b : Bool) (x : WrittenField) → FieldAgain limit e is_big x → All (FieldAgain limit e is_big) (when b x)
+    all_when true x is = All-cons (FieldAgain limit e is_big) x [] is (All-nil (FieldAgain limit e is_big))
+    all_when false x is = All-nil (FieldAgain limit e is_big)
 
 abbrev formats_for : Bool → Format → Details → WrittenFile → List FileEntryFormat
 formats_for is_big format d f = map format_of (file_fields is_big format d f)
@@ -208,5 +208,6 @@ directory_again limit e is_big form first t well_formed is =
     (values_at bytes_of field_read first (path_field is_big e.format t ∷ []))
     (spelled_fields (path_field is_big e.format t ∷ []))
     (fields_again limit e is_big first (path_field is_big e.format t ∷ [])
-    (All-cons (FieldAgain limit e is_big) (path_field is_big e.format t) [] (λ n. text_again limit e is_big n t well_formed)
+    (All-cons (FieldAgain limit e is_big) (path_field is_big e.format t) []
+    (λ n. text_again limit e is_big n t well_formed)
     (All-nil (FieldAgain limit e is_big)))) refl) (λ v. refl)))

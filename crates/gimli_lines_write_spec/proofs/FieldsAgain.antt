@@ -70,11 +70,12 @@ module _ (limit : ℕ) (e : Encoding) (is_big : Bool) (first : ℕ) where
   offset_value offset low fits =
       again_same (λ v. raw_value_step 0x0e (value limit e 0 None 0x0e v))
       (number_reads_back limit e 0x0e (again_fixed is_big first (word_size e.format) offset fits)
-      (meant e.format refl))
+      (by_format e.format refl))
     where
-      meant : (format : Format) → e.format ≡ format → number_value limit e 0 0x0e offset ≡ Ok (string_reference offset)
-      meant Dwarf32 is = rw (is, offset_is_below limit offset low) refl
-      meant Dwarf64 is = rw (is, offset_is_below limit offset low) refl
+      by_format : (format : Format) → e.format ≡ format → number_value limit e 0 0x0e offset
+          ≡ Ok (string_reference offset)
+      by_format Dwarf32 is = rw (is, offset_is_below limit offset low) refl
+      by_format Dwarf64 is = rw (is, offset_is_below limit offset low) refl
 
   line_offset_value : (offset : ℕ) → offset < limit → offset < 256 ^ word_size e.format
       → Again is_big first (entry_value limit e 0x1f) (line_string_reference offset)
@@ -83,23 +84,23 @@ module _ (limit : ℕ) (e : Encoding) (is_big : Bool) (first : ℕ) where
   line_offset_value offset low fits =
       again_same (λ v. raw_value_step 0x1f (value limit e 0 None 0x1f v))
       (number_reads_back limit e 0x1f (again_fixed is_big first (word_size e.format) offset fits)
-      (meant e.format refl))
+      (by_format e.format refl))
     where
-      meant : (format : Format) → e.format ≡ format → number_value limit e 0 0x1f offset
+      by_format : (format : Format) → e.format ≡ format → number_value limit e 0 0x1f offset
           ≡ Ok (line_string_reference offset)
-      meant Dwarf32 is = rw (is, offset_is_below limit offset low) refl
-      meant Dwarf64 is = rw (is, offset_is_below limit offset low) refl
+      by_format Dwarf32 is = rw (is, offset_is_below limit offset low) refl
+      by_format Dwarf64 is = rw (is, offset_is_below limit offset low) refl
 
   pub unsigned_value : (n : ℕ) → n < 2 ^ 64
       → Again is_big first (entry_value limit e 0x0f) (unsigned_data n) (unsigned_string n)
   unfolding entry_value attribute final_form form_within value number_value spelling
   unsigned_value n fits =
       again_same (λ v. raw_value_step 0x0f (value limit e 0 None 0x0f v))
-      (number_reads_back limit e 0x0f (again_unsigned is_big first n fits) (meant e.format refl))
+      (number_reads_back limit e 0x0f (again_unsigned is_big first n fits) (by_format e.format refl))
     where
-      meant : (format : Format) → e.format ≡ format → number_value limit e 0 0x0f n ≡ Ok (unsigned_data n)
-      meant Dwarf32 is = rw is refl
-      meant Dwarf64 is = rw is refl
+      by_format : (format : Format) → e.format ≡ format → number_value limit e 0 0x0f n ≡ Ok (unsigned_data n)
+      by_format Dwarf32 is = rw is refl
+      by_format Dwarf64 is = rw is refl
 
   pub digest_value : (md5 : List ℕ) → length md5 ≡ 16
       → Again is_big first (entry_value limit e 0x1e) (data_16 (number is_big md5)) md5

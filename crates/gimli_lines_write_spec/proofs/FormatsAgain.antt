@@ -139,15 +139,15 @@ formats_stand d path_form source_form low small =
     (All-cons FormatStands path (directory ∷ details) (refl, omega arith, low)
     (All-cons FormatStands directory details (refl, omega arith, omega arith)
     (All-append FormatStands (when d.has_timestamp timestamp) sizes
-    (held d.has_timestamp timestamp (refl, omega arith, omega arith))
+    (all_when d.has_timestamp timestamp (refl, omega arith, omega arith))
     (All-append FormatStands (when d.has_size size) (when d.has_md5 digest)
-    (held d.has_size size (refl, omega arith, omega arith))
-    (held d.has_md5 digest (refl, omega arith, omega arith))))))
-    (held d.has_source source (refl, omega arith, small))
+    (all_when d.has_size size (refl, omega arith, omega arith))
+    (all_when d.has_md5 digest (refl, omega arith, omega arith))))))
+    (all_when d.has_source source (refl, omega arith, small))
   where
-    held : (b : Bool) (x : FileEntryFormat) → FormatStands x → All FormatStands (when b x)
-    held true x is = All-cons FormatStands x [] is (All-nil FormatStands)
-    held false x is = All-nil FormatStands
+    all_when : (b : Bool) (x : FileEntryFormat) → FormatStands x → All FormatStands (when b x)
+    all_when true x is = All-cons FormatStands x [] is (All-nil FormatStands)
+    all_when false x is = All-nil FormatStands
 
 pub file_formats_again : (is_big : Bool) (first : ℕ) (d : Details) (path_form source_form : ℕ) → path_form < 128
     → source_form < 128

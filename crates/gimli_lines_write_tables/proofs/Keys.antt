@@ -1,4 +1,4 @@
--- Keys that are equal are seen as the same things, and what is inserted stands where it is seen.
+-- Keys that are equal are seen as the same things, and an inserted key is found where it is seen.
 use Rattle.std.proofs.Common.{length, nat_lt, Some, None, true≢false, ◌≡◌, ℕ, ◌+◌, Bool, true, false, cond, not, ◌||◌, List, [], ◌∷◌, ◌++◌, map, refl, sym, ap, ◌∙◌, arith}
 use Rattle.std.specs.List.{list_any, position, position_or_len}
 use Rattle.std.proofs.lemmas.List.{map-append}

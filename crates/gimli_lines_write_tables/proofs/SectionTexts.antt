@@ -1,4 +1,4 @@
--- A text that was added stands in the section at its offset.
+-- A text that was added is in the section at its offset.
 use Rattle.std.proofs.Common.{◌≡◌, ℕ, zero, suc, ◌+◌, ◌-◌, ◌<◌, ◌≤◌, nat_lt, ◌==◌, not, ◌||◌, Bool, true, false, cond, List, [], ◌∷◌, ◌++◌, All, length, take, drop, slice_get, Some, None, Ok, Err, refl, sym, ap, subst, ◌∙◌, true≢false, arith, append_assoc, get_or}
 use Rattle.std.specs.List.{list_any, position_or_len, position}
 use Rattle.std.specs.Cmp.Lexicographic.{bytes_decides}
@@ -74,14 +74,14 @@ module _ (texts : List (List ℕ)) (t : List ℕ) where
 -- past a text and its zero byte
 drop_past : (s sec rest : List ℕ) (n : ℕ) → drop ((length s + 1) + n) ((s ++ 0 ∷ sec) ++ rest) ≡ drop n (sec ++ rest)
 drop_past s sec rest n =
-    ap (drop ((length s + 1) + n)) (append_assoc s (0 ∷ sec) rest ∙ sym regrouped)
+    ap (drop ((length s + 1) + n)) (append_assoc s (0 ∷ sec) rest ∙ sym regroup)
     ∙ ap (λ m. drop (m + n) ((s ++ 0 ∷ []) ++ (sec ++ rest))) (sym (length-append s (0 ∷ [])))
     ∙ drop-append-add (s ++ 0 ∷ []) (sec ++ rest) n
   where
-    regrouped : (s ++ 0 ∷ []) ++ (sec ++ rest) ≡ s ++ 0 ∷ (sec ++ rest)
-    regrouped = append_assoc s (0 ∷ []) (sec ++ rest)
+    regroup : (s ++ 0 ∷ []) ++ (sec ++ rest) ≡ s ++ 0 ∷ (sec ++ rest)
+    regroup = append_assoc s (0 ∷ []) (sec ++ rest)
 
--- what stands in the section from a text on
+-- what the section holds from a text on
 pub from_text : (texts : List (List ℕ)) (i : ℕ) (t rest : List ℕ) → slice_get texts i ≡ Some t
     → (more : List ℕ) × (drop (offset_of texts i) (section_of texts ++ rest) ≡ t ++ 0 ∷ more)
 unfolding section_of

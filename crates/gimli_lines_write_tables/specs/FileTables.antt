@@ -1,6 +1,6 @@
 -- The directories and files of a program as they are built: each once, in the order of the first
 -- adds.
-use Rattle.std.specs.Prelude.{◌≡◌, ◌≢◌, ℕ, ◌≤◌, nat_eq, ◌&&◌, Bool, true, false, List, [], ◌∷◌, ◌++◌, All, Option, Some, None, map, option_map, length, drop, replicate, set, if◌then◌else◌}
+use Rattle.std.specs.Prelude.{◌≡◌, ◌≢◌, ℕ, ◌<◌, ◌≤◌, nat_eq, ◌&&◌, Bool, true, false, List, [], ◌∷◌, ◌++◌, All, Option, Some, None, option_map, length, drop, replicate, set}
 use Rattle.std.specs.List.{list_any}
 use Rattle.std.specs.Cmp.Lexicographic.{pointwise}
 use Rattle.gimli_lines_write_tables.specs.StringSections.{IsText, with_item, item_index}
@@ -108,12 +108,13 @@ with_file file info k = record k {
 
 -- ---- what holds of every table
 
--- Each file has its information, and the texts fit their version.
+-- Each file has its information and its directory, and the texts fit their version.
 pub record IsConsistent (version : ℕ) (directories : List Text) (files : List File)
     (infos : List Info) : Type 0 where
   pub same_length : length infos ≡ length files
   pub directories_zero_free : All HasNoZero directories
   pub paths_zero_free : All (λ (f : File). HasNoZero f.path) files
+  pub in_directories : All (λ (f : File). f.directory < length directories) files
   -- up to version 4 an empty text ends a table; the first directory isn't in it
   pub directories_not_empty : version ≤ 4 → All HasBytes (drop 1 directories)
   pub paths_not_empty : version ≤ 4 → All (λ (f : File). HasBytes f.path) files

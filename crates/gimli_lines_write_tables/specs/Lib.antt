@@ -28,6 +28,7 @@ pub use Rattle.gimli_lines_write_rows.specs.Address
 pub use Rattle.gimli_lines_write_rows.specs.WriteError
 pub use Rattle.gimli_lines_write_rows.specs.BuiltRows
 pub use Rattle.gimli_lines_write_rows.specs.EntryBytes
+pub use Rattle.gimli_lines_write_rows.specs.EntryInstructions
 pub use Rattle.gimli_lines_write_rows.specs.LineInstructionBytes
 pub use Rattle.gimli_lines_write_rows.specs.RowPieces
 pub use Rattle.gimli_lines_write_rows.specs.RowsBuilding

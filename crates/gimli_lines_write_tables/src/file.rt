@@ -1,6 +1,3 @@
-ghost use Rattle.std.specs.Prelude.{◌≡◌};
-ghost use Rattle.gimli_lines_write_tables.specs.FileTables.{info_of, no_info};
-
 use crate::LineString;
 
 /// A directory of a program, by its place among them.
@@ -20,11 +17,14 @@ pub struct FileInfo {
     pub source: Option<LineString>,
 }
 
-impl FileInfo {
+impl Default for FileInfo {
+    ghost use Rattle.std.specs.Prelude.{◌≡◌};
+    ghost use Rattle.gimli_lines_write_tables.specs.FileTables.{info_of, no_info};
+
+    ghost is_default = { λ i. info_of i ≡ no_info };
+
     /// Nothing is recorded.
-    pub fn none() -> Self
-        ensures { info_of result ≡ no_info }
-    {
+    fn default() -> Self {
         FileInfo {
             timestamp: 0,
             size: 0,

@@ -85,6 +85,7 @@ impl FileTable {
         ensures ok { OnOk result (self.new ≡ with_directory (text_of directory) self.old) }
         ensures place { IfOk result (λ id. id.0 ≡ item_index is_same self.old.directories
             (text_of directory)) }
+        ensures within { IfOk result (λ id. id.0 < length self.new.directories) }
         ensures err { OnErr result (self.new ≡ self.old) }
         ensures refusal { IfErr result (λ e. e ≡ Memory) }
     {
@@ -104,6 +105,7 @@ impl FileTable {
     fn push_file(&mut self, key: FileKey, info: FileInfo) -> Result<FileId, Error>
         requires absent { list_any (is_same_file (file_of key)) self.old.files ≡ false }
         requires zero_free { HasNoZero (text_of key.path) }
+        requires directory { key.directory.0 < length self.old.directories }
         requires not_empty { self.old.version ≤ 4 → HasBytes (text_of key.path) }
         ensures ok { OnOk result (self.new ≡ record self.old {
           files = self.old.files ++ file_of key
@@ -111,6 +113,7 @@ impl FileTable {
           infos = self.old.infos ++ info_of info ∷ [];
         }) }
         ensures place { IfOk result (λ id. id.0 ≡ length self.old.files) }
+        ensures within { IfOk result (λ id. id.0 < length self.new.files) }
         ensures err { OnErr result (self.new ≡ self.old) }
         ensures refusal { IfErr result (λ e. e ≡ Memory) }
     {
@@ -136,8 +139,9 @@ impl FileTable {
         }
     }
 
-    /// The id of a file, which is added where it isn't there. New information replaces what was
-    /// recorded before; without any, that stays, and nothing is recorded of a new file.
+    /// The id of a file in one of the directories, which is added where it isn't there. New
+    /// information replaces what was recorded before; without any, that stays, and nothing is
+    /// recorded of a new file.
     pub fn add_file(
         &mut self,
         path: LineString,
@@ -145,12 +149,14 @@ impl FileTable {
         info: Option<FileInfo>,
     ) -> Result<FileId, Error>
         requires zero_free { HasNoZero (text_of path) }
+        requires directory { directory.0 < length self.old.directories }
         requires not_empty { self.old.version ≤ 4 → HasBytes (text_of path) }
         ensures ok { OnOk result (self.new ≡ with_file
             (record { path = text_of path; directory = directory.0 }) (option_map info_of info)
             self.old) }
         ensures place { IfOk result (λ id. id.0 ≡ item_index is_same_file self.old.files
             (record { path = text_of path; directory = directory.0 })) }
+        ensures within { IfOk result (λ id. id.0 < length self.new.files) }
         ensures err { OnErr result (self.new ≡ self.old) }
         ensures refusal { IfErr result (λ e. e ≡ Memory) }
     {
@@ -160,7 +166,7 @@ impl FileTable {
                 self.update_info(place, info);
                 Ok(FileId(place))
             }
-            None => self.push_file(key, info.unwrap_or_else(FileInfo::none)),
+            None => self.push_file(key, info.unwrap_or_default()),
         }
     }
 

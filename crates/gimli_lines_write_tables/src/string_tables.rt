@@ -1,6 +1,7 @@
-//! The sections `.debug_str` and `.debug_line_str` as they are built.
+//! The sections `.debug_str` and `.debug_line_str` as they are built: a table each, whose texts
+//! have ids of their own.
 
-ghost use Rattle.std.specs.Prelude.{◌≡◌, ◌<◌, ◌↔◌, ◌==◌, [], Ok, Some, length, slice_get, OnOk, OnErr, IfOk, IfErr};
+ghost use Rattle.std.specs.Prelude.{◌≡◌, ℕ, ◌<◌, [], Ok, Some, All, length, slice_get, OnOk, OnErr, IfOk, IfErr};
 ghost use Rattle.gimli_lines_write_rows.specs.OutputBytes.{append, Writes};
 ghost use Rattle.gimli_lines_write_rows.specs.WriteError.TheVariants.{Memory};
 ghost use Rattle.gimli_lines_write_tables.specs.StringSections.{IsText, with_text, text_index, section_of, offset_of};
@@ -8,98 +9,93 @@ ghost use Rattle.gimli_lines_write_tables.specs.StringSections.{IsText, with_tex
 use crate::texts::Texts;
 use gimli_lines_write_rows::{DebugLineStrOffset, DebugStrOffset, Error, Writer};
 use std::alloc::Global;
-use std::marker::Model;
+use std::marker::{Model, PhantomData};
+
+/// The id of a text in the table of one section.
+pub trait TextId: Copy {
+    /// Where a text begins in the section.
+    type Offset;
+
+    ghost place: { Self → ℕ };
+
+    ghost bytes: { Self.Offset → ℕ };
+
+    /// The id of the text at a place in the table.
+    fn new(index: usize) -> Self
+        ensures { place result ≡ index };
+
+    /// The place of the text in the table.
+    fn index(self) -> usize
+        ensures { result ≡ place self };
+
+    /// The offset after a number of bytes of the section.
+    fn offset_after(len: usize) -> Self::Offset
+        ensures { bytes result ≡ len };
+}
 
 /// A text of a `StringTable`, by its place among them.
 #[derive(Clone, Copy, Debug, PartialEq, Eq, PartialOrd, Ord, Hash)]
 pub struct StringId(pub usize);
 
+impl TextId for StringId {
+    type Offset = DebugStrOffset;
+
+    ghost place = { λ id. id.0 };
+
+    ghost bytes = { λ offset. offset.0 };
+
+    fn new(index: usize) -> Self {
+        StringId(index)
+    }
+
+    fn index(self) -> usize {
+        self.0
+    }
+
+    fn offset_after(len: usize) -> DebugStrOffset {
+        DebugStrOffset(len)
+    }
+}
+
 /// A text of a `LineStringTable`, by its place among them.
 #[derive(Clone, Copy, Debug, PartialEq, Eq, PartialOrd, Ord, Hash)]
 pub struct LineStringId(pub usize);
 
-/// The texts of `.debug_str`, each once (DWARF 5, 7.26). A contract sees them in the order of their
-/// first adds.
-#[derive(Drop)]
-pub struct StringTable {
-    texts: Texts,
-}
+impl TextId for LineStringId {
+    type Offset = DebugLineStrOffset;
 
-impl Model for StringTable {
-    ghost use Rattle.std.specs.Prelude.{ℕ, List};
-    ghost use Rattle.std.specs.Coded.{coded_list, coded_ℕ};
+    ghost place = { λ id. id.0 };
 
-    ghost Value = { List (List ℕ) };
+    ghost bytes = { λ offset. offset.0 };
 
-    ghost coded = { coded_list (coded_list coded_ℕ) };
-
-    ghost view = { λ t. t.texts };
-}
-
-impl StringTable {
-    /// A table without texts. It takes no memory.
-    pub fn new(alloc: Global) -> Self
-        ensures { result ≡ [] }
-    {
-        StringTable {
-            texts: Texts::new(alloc),
-        }
+    fn new(index: usize) -> Self {
+        LineStringId(index)
     }
 
-    /// Adds a text, which holds no zero byte, where it isn't there yet. Refused (W1), the table is
-    /// as before.
-    pub fn add(&mut self, alloc: Global, bytes: &[u8]) -> Result<StringId, Error>
-        requires { IsText bytes.now }
-        ensures ok { OnOk result (self.new ≡ with_text self.old bytes.now) }
-        ensures place { IfOk result (λ id. id.0 ≡ text_index self.old bytes.now) }
-        ensures err { OnErr result (self.new ≡ self.old) }
-        ensures refusal { IfErr result (λ e. e ≡ Memory) }
-    {
-        let place = self.texts.add(alloc, bytes)?;
-        Ok(StringId(place))
+    fn index(self) -> usize {
+        self.0
     }
 
-    /// How many texts there are.
-    pub fn count(&self) -> usize
-        ensures { result ≡ length self.now }
-    {
-        self.texts.count()
-    }
-
-    /// The text of an id, without its zero byte.
-    pub fn get(&self, id: StringId) -> &[u8]
-        requires { id.0 < length self.now }
-        ensures { slice_get self.now id.0 ≡ Some result.now }
-    {
-        self.texts.get(id.0)
-    }
-
-    /// Where the text of an id begins in the section: the sum of length plus one over the texts
-    /// before it.
-    pub fn offset(&self, id: StringId) -> DebugStrOffset
-        requires { id.0 < length self.now }
-        ensures { result.0 ≡ offset_of self.now id.0 }
-    {
-        DebugStrOffset(self.texts.offset(id.0))
-    }
-
-    /// Writes the section.
-    pub fn write<W: Writer>(&self, w: &mut W) -> Result<(), Error>
-        ensures { Writes result (W.contents w.old) (W.contents w.new)
-            (Ok (append (section_of self.now) (W.contents w.old))) }
-    {
-        w.write(self.texts.section())
+    fn offset_after(len: usize) -> DebugLineStrOffset {
+        DebugLineStrOffset(len)
     }
 }
 
-/// The texts of `.debug_line_str`, each once (DWARF 5, 7.26). A contract sees them in the order of
+/// The texts of `.debug_str`.
+pub type StringTable = TextTable<StringId>;
+
+/// The texts of `.debug_line_str`.
+pub type LineStringTable = TextTable<LineStringId>;
+
+/// The texts of a string section, each once (DWARF 5, 7.26). A contract sees them in the order of
 /// their first adds.
 #[derive(Drop)]
-pub struct LineStringTable {
+pub struct TextTable<I> {
     texts: Texts,
+    ids: PhantomData<I>,
 }
 
-impl Model for LineStringTable {
+impl<I> Model for TextTable<I> {
     ghost use Rattle.std.specs.Prelude.{ℕ, List};
     ghost use Rattle.std.specs.Coded.{coded_list, coded_ℕ};
 
@@ -110,51 +106,53 @@ impl Model for LineStringTable {
     ghost view = { λ t. t.texts };
 }
 
-impl LineStringTable {
+impl<I: TextId> TextTable<I> {
     /// A table without texts. It takes no memory.
     pub fn new(alloc: Global) -> Self
         ensures { result ≡ [] }
     {
-        LineStringTable {
+        TextTable {
             texts: Texts::new(alloc),
+            ids: PhantomData,
         }
     }
 
     /// Adds a text, which holds no zero byte, where it isn't there yet. Refused (W1), the table is
     /// as before.
-    pub fn add(&mut self, alloc: Global, bytes: &[u8]) -> Result<LineStringId, Error>
+    pub fn add(&mut self, alloc: Global, bytes: &[u8]) -> Result<I, Error>
         requires { IsText bytes.now }
         ensures ok { OnOk result (self.new ≡ with_text self.old bytes.now) }
-        ensures place { IfOk result (λ id. id.0 ≡ text_index self.old bytes.now) }
+        ensures place { IfOk result (λ id. I.place id ≡ text_index self.old bytes.now) }
         ensures err { OnErr result (self.new ≡ self.old) }
         ensures refusal { IfErr result (λ e. e ≡ Memory) }
     {
         let place = self.texts.add(alloc, bytes)?;
-        Ok(LineStringId(place))
+        Ok(I::new(place))
     }
 
     /// How many texts there are.
     pub fn count(&self) -> usize
-        ensures { result ≡ length self.now }
+        ensures count { result ≡ length self.now }
+        ensures texts { All IsText self.now }
     {
         self.texts.count()
     }
 
     /// The text of an id, without its zero byte.
-    pub fn get(&self, id: LineStringId) -> &[u8]
-        requires { id.0 < length self.now }
-        ensures { slice_get self.now id.0 ≡ Some result.now }
+    pub fn get(&self, id: I) -> &[u8]
+        requires { I.place id < length self.now }
+        ensures { slice_get self.now (I.place id) ≡ Some result.now }
     {
-        self.texts.get(id.0)
+        self.texts.get(id.index())
     }
 
     /// Where the text of an id begins in the section: the sum of length plus one over the texts
     /// before it.
-    pub fn offset(&self, id: LineStringId) -> DebugLineStrOffset
-        requires { id.0 < length self.now }
-        ensures { result.0 ≡ offset_of self.now id.0 }
+    pub fn offset(&self, id: I) -> I::Offset
+        requires { I.place id < length self.now }
+        ensures { I.bytes result ≡ offset_of self.now (I.place id) }
     {
-        DebugLineStrOffset(self.texts.offset(id.0))
+        I::offset_after(self.texts.offset(id.index()))
     }
 
     /// Writes the section.

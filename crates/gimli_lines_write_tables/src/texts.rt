@@ -1,6 +1,6 @@
 //! Texts, each once, and the bytes of the section that holds them.
 
-ghost use Rattle.std.specs.Prelude.{◌≡◌, ◌<◌, ◌++◌, ◌∷◌, [], Some, length, slice_get, false, OnOk, OnErr, IfOk, IfErr};
+ghost use Rattle.std.specs.Prelude.{◌≡◌, ◌<◌, ◌++◌, ◌∷◌, [], Some, All, length, slice_get, false, OnOk, OnErr, IfOk, IfErr};
 ghost use Rattle.std.specs.List.{list_any};
 ghost use Rattle.gimli_lines_write_rows.specs.WriteError.TheVariants.{Memory};
 ghost use Rattle.gimli_lines_write_tables.specs.StringSections.{IsText, same_bytes, with_text, text_index, section_of, offset_of};
@@ -101,7 +101,8 @@ impl Texts {
 
     /// How many texts there are.
     pub fn count(&self) -> usize
-        ensures { result ≡ length self.now }
+        ensures count { result ≡ length self.now }
+        ensures texts { All IsText self.now }
     {
         self.texts.len()
     }

@@ -1,9 +1,18 @@
 -- The files of two lists, one place after the other.
-use Rattle.std.proofs.Common.{◌≡◌, ℕ, ◌+◌, ◌<◌, Bool, false, List, [], ◌∷◌, drop, map, length, suc, get_or, refl, sym, ap, subst, ◌∙◌, arith}
+use Rattle.std.proofs.Common.{◌≡◌, ℕ, ◌+◌, ◌<◌, ◌≤◌, Bool, true, false, not, ◌&&◌, List, [], ◌∷◌, ◌++◌, drop, map, length, suc, get_or, Ok, refl, sym, ap, subst, ◌∙◌, arith}
+use Rattle.std.specs.Prelude.{nat_le}
+use Rattle.std.proofs.lemmas.Bool.{le-leb, lt-leb}
+use Rattle.std.proofs.lemmas.List.{append-nil}
+use Rattle.gimli_lines_write_tables.specs.Encoding.{Encoding}
+use Rattle.gimli_lines_write_tables.specs.TheConstants.{DW_FORM_string}
+use Rattle.gimli_lines_write_tables.specs.Spelling.{unsigned_string}
+use Rattle.gimli_lines_write_tables.specs.EntryBytes.{join_bytes}
 use Rattle.gimli_lines_write_tables.specs.declared.file.FileInfo.{FileInfo}
 use Rattle.gimli_lines_write_tables.specs.declared.file.FileKey.{FileKey}
 use Rattle.gimli_lines_write_tables.specs.FileTables.{Text, File, Info, file_of, info_of}
+use Rattle.gimli_lines_write_spec.specs.EntryFields.{WrittenFile, Details}
 use Rattle.gimli_lines_write_unit.specs.HeaderContents.{header_file, header_files}
+use Rattle.gimli_lines_write_unit.specs.HeaderBytes.{all_bytes, text_bytes, file_bytes_to_4, file_bytes_of_5}
 use Rattle.gimli_lines_write_unit.proofs.WrittenLists.{item_view}
 
 module _ (strings line_strings : List (List ℕ)) (present : Bool) (empty : Text) where
@@ -20,22 +29,52 @@ module _ (strings line_strings : List (List ℕ)) (present : Bool) (empty : Text
       ∙ ap (λ is. header_files strings line_strings present empty (file_of f ∷ map file_of (drop (i + 1) files)) is)
       (item_view info_of infos i x (subst (λ n. i < n) (sym same) within) other)
 
--- where texts aren't recorded, nothing depends on the empty one
-pub no_source_texts : (strings line_strings : List (List ℕ)) (present : Bool) (a b : Text) (files : List File)
-    (infos : List Info) → present ≡ false → header_files strings line_strings present a files infos
-    ≡ header_files strings line_strings false b files infos
-no_source_texts strings line_strings present a b [] infos is = refl
-no_source_texts strings line_strings present a b (f ∷ files) [] is = refl
-no_source_texts strings line_strings present a b (f ∷ files) (i ∷ infos) is =
-    ap (λ c. header_file strings line_strings c a f i ∷ header_files strings line_strings present a files infos) is
-    ∙ ap (λ fs. header_file strings line_strings false b f i ∷ fs)
-    (no_source_texts strings line_strings present a b files infos is)
+-- the files that a header lists
+pub listed_files : (strings line_strings : List (List ℕ)) (present p : Bool) (empty : Text) (files : List FileKey)
+    (infos : List FileInfo) (fs : List File) (is : List Info) → present ≡ p → map file_of files ≡ fs
+    → map info_of infos ≡ is
+    → header_files strings line_strings present empty (map file_of files) (map info_of infos)
+    ≡ header_files strings line_strings p empty fs is
+listed_files strings line_strings present p empty files infos fs is a b c =
+    ap (λ q. header_files strings line_strings q empty (map file_of files) (map info_of infos)) a
+    ∙ ap (λ xs. header_files strings line_strings p empty xs (map info_of infos)) b
+    ∙ ap (λ xs. header_files strings line_strings p empty fs xs) c
 
 -- as many files as there were
-pub counted_files : (strings line_strings : List (List ℕ)) (present : Bool) (empty : Text) (files : List FileKey)
-    (infos : List FileInfo) → length infos ≡ length files
-    → length (header_files strings line_strings present empty (map file_of files) (map info_of infos)) ≡ length files
+pub counted_files : (strings line_strings : List (List ℕ)) (present : Bool) (empty : Text) (files : List File)
+    (infos : List Info) → length infos ≡ length files
+    → length (header_files strings line_strings present empty files infos) ≡ length files
 counted_files strings line_strings present empty [] infos same = refl
 counted_files strings line_strings present empty (f ∷ files) [] same = absurd (cc)
 counted_files strings line_strings present empty (f ∷ files) (i ∷ infos) same =
     ap suc (counted_files strings line_strings present empty files infos (omega (arith, same)))
+
+-- up to version 4 no text of a file is written
+pub no_sources_to_4 : (version : ℕ) (b : Bool) → version ≤ 4 → false ≡ (not (nat_le version 4) && b)
+no_sources_to_4 version b old = sym (ap (λ c. not c && b) (le-leb version 4 old))
+
+-- in version 5 each is, where they are recorded
+pub sources_of_5 : (version : ℕ) (b : Bool) → 4 < version → b ≡ (not (nat_le version 4) && b)
+sources_of_5 version b new = sym (ap (λ c. not c && b) (lt-leb version 4 new))
+
+-- the details that files have up to version 4
+abbrev pub details_to_4 : Details
+details_to_4 = record { has_timestamp = true; has_size = true; has_md5 = false; has_source = false }
+
+module _ (is_big : Bool) (e : Encoding) where
+  as_to_4 : (f : WrittenFile) → file_bytes_of_5 is_big e details_to_4 DW_FORM_string.0 DW_FORM_string.0 f
+      ≡ file_bytes_to_4 is_big e f
+  as_to_4 f = ap (λ l. join_bytes (text_bytes is_big e DW_FORM_string.0 f.path) (Ok l))
+      (append-nil (unsigned_string f.directory ++ (unsigned_string f.timestamp ++ (unsigned_string f.size ++ [])))
+      ∙ ap (λ l. unsigned_string f.directory ++ (unsigned_string f.timestamp ++ l))
+      (append-nil (unsigned_string f.size)))
+
+  -- Up to version 4 files are written as in version 5, with when each was modified and its size.
+  pub all_as_to_4 : (files : List WrittenFile)
+      → all_bytes (file_bytes_of_5 is_big e details_to_4 DW_FORM_string.0 DW_FORM_string.0) files
+      ≡ all_bytes (file_bytes_to_4 is_big e) files
+  all_as_to_4 [] = refl
+  all_as_to_4 (f ∷ files) =
+      ap (λ r. join_bytes r
+      (all_bytes (file_bytes_of_5 is_big e details_to_4 DW_FORM_string.0 DW_FORM_string.0) files)) (as_to_4 f)
+      ∙ ap (λ r. join_bytes (file_bytes_to_4 is_big e f) r) (all_as_to_4 files)

@@ -1,4 +1,4 @@
--- What is known of all that is kept is known of what stands in lists of it.
+-- What is known of all texts is known of those in a list of them.
 use Rattle.std.proofs.Common.{◌≡◌, ℕ, Bool, true, false, cond, List, [], ◌∷◌, drop, map, length, refl, sym, ap, subst, ◌∙◌}
 use Rattle.std.specs.Prelude.{All, nat_le}
 use Rattle.std.proofs.lemmas.List.{length-map}

@@ -38,7 +38,7 @@ length_splice : (o esc zs b lb : List ℕ) → length zs ≡ length lb
     → (take (length o + length esc) ((o ++ (esc ++ zs)) ++ b) ++ lb)
     ++ drop ((length o + length esc) + length lb) ((o ++ (esc ++ zs)) ++ b) ≡ o ++ (esc ++ (lb ++ b))
 length_splice o esc zs b lb e =
-    ap (λ l. (take (length o + length esc) l ++ lb) ++ drop ((length o + length esc) + length lb) l) regrouped
+    ap (λ l. (take (length o + length esc) l ++ lb) ++ drop ((length o + length esc) + length lb) l) regroup
     ∙ ap (λ n. (take n ((o ++ esc) ++ (zs ++ b)) ++ lb) ++ drop (n + length lb) ((o ++ esc) ++ (zs ++ b)))
     (sym (length-append o esc))
     ∙ ap (λ l. (l ++ lb) ++ drop (length (o ++ esc) + length lb) ((o ++ esc) ++ (zs ++ b)))
@@ -47,8 +47,8 @@ length_splice o esc zs b lb e =
     ∙ ap (λ n. drop n (zs ++ b)) (sym e) ∙ drop-append_seam zs b)
     ∙ append_assoc (o ++ esc) lb b ∙ append_assoc o esc (lb ++ b)
   where
-    regrouped : (o ++ (esc ++ zs)) ++ b ≡ (o ++ esc) ++ (zs ++ b)
-    regrouped = ap (λ l. l ++ b) (sym (append_assoc o esc zs)) ∙ append_assoc (o ++ esc) zs b
+    regroup : (o ++ (esc ++ zs)) ++ b ≡ (o ++ esc) ++ (zs ++ b)
+    regroup = ap (λ l. l ++ b) (sym (append_assoc o esc zs)) ∙ append_assoc (o ++ esc) zs b
 
 -- a length has the bytes of its format
 length_takes_room : (is_big : Bool) (format : Format) (n : ℕ) (lb : List ℕ) → length_bytes is_big format n ≡ Ok lb
@@ -107,12 +107,12 @@ module _ {A : Type 0} (r : Result A Error) (old new : WriterContents) (format : 
       within = below (length whole) (length old.bytes) (length (escape format))
           (length {A = ℕ} (replicate (word_size format) 0)) (length b) (length lb) counted_whole e
 
-  finished : (c : Result (List ℕ) Error) → length_bytes old.is_big format (length b) ≡ c
+  by_length : (c : Result (List ℕ) Error) → length_bytes old.is_big format (length b) ≡ c
       → Overwrites r (append b (append (escape format ++ replicate (word_size format) 0) old)) new
       (replace_result (length old.bytes + length (escape format)) c
       (append b (append (escape format ++ replicate (word_size format) 0) old)))
       → Continues r old new (join_bytes (Ok (escape format)) (join_bytes c (Ok b)))
-  finished (Ok lb) e h = by r (subst (λ x.
+  by_length (Ok lb) e h = by r (subst (λ x.
       Overwrites r (append b (append (escape format ++ replicate (word_size format) 0) old)) new x)
       (over lb (length_takes_room old.is_big format (length b) lb e)) h)
     where
@@ -120,7 +120,7 @@ module _ {A : Type 0} (r : Result A Error) (old new : WriterContents) (format : 
           new (Ok (append (escape format ++ (lb ++ b)) old)) → Continues s old new (Ok (escape format ++ (lb ++ b)))
       by (Ok x) g = g
       by (Err d) g = absurd (let k = g.0 in cc)
-  finished (Err f) e h = by r h
+  by_length (Err f) e h = by r h
     where
       by : (s : Result A Error) → Overwrites s (append b (append (escape format ++ replicate (word_size format) 0) old))
           new (Err f) → Continues s old new (Err f)
@@ -151,7 +151,7 @@ length_patch r old first second new format body place n e1 e2 e3 e4 h =
         ∙ ap (λ m. m - length (old.bytes ++ (escape format ++ replicate (word_size format) 0)))
         (length-append (old.bytes ++ (escape format ++ replicate (word_size format) 0)) b)
         ∙ rest (length (old.bytes ++ (escape format ++ replicate (word_size format) 0))) (length b) in
-        finished r old new format b (length_bytes old.is_big format (length b)) refl
+        by_length r old new format b (length_bytes old.is_big format (length b)) refl
         (subst (λ m. Overwrites r (append b (append (escape format ++ replicate (word_size format) 0) old)) new
         (replace_result (length old.bytes + length (escape format)) (length_bytes old.is_big format m)
         (append b (append (escape format ++ replicate (word_size format) 0) old)))) count

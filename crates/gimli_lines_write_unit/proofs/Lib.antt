@@ -1,4 +1,5 @@
 pub use Rattle.gimli_lines_write_tables.proofs.RowsDecoding
+pub use Rattle.gimli_lines_write_tables.proofs.SectionTexts
 pub use Rattle.gimli_lines_write_spec.proofs.LineUnitsAgain
 pub mod TextForms
 pub mod WrittenLists

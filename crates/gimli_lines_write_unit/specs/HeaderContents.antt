@@ -109,6 +109,15 @@ tables_with strings line_strings k d empty = record {
   details = details_of d;
 }
 
+-- the tables of a header of a version
+pub record VersionedTables : Type 0 where
+  pub version : ℕ
+  pub listed : Tables
+
+-- whether the texts of files are written
+abbrev pub writes_sources : VersionedTables → Bool
+writes_sources t = not (nat_le t.version 4) && t.listed.details.has_source
+
 -- every text that is recorded is one of its table's
 pub record AllKnown (strings line_strings : List (List ℕ)) (k : ProgramFiles) (d : FileDetails)
     (empty : Text) : Type 0 where

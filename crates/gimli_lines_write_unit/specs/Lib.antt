@@ -1,3 +1,4 @@
+pub use Rattle.gimli_lines_write_tables.specs.TheConstants
 pub use Rattle.gimli_lines_write_tables.specs.Fixed
 pub use Rattle.gimli_lines_write_tables.specs.FormatSizes
 pub use Rattle.gimli_lines_write_tables.specs.LineDefaults
@@ -17,6 +18,8 @@ pub use Rattle.gimli_lines_write_tables.specs.Address
 pub use Rattle.gimli_lines_write_tables.specs.WriteError
 pub use Rattle.gimli_lines_write_tables.specs.BuiltRows
 pub use Rattle.gimli_lines_write_tables.specs.EntryBytes
+pub use Rattle.gimli_lines_write_tables.specs.EntryInstructions
+pub use Rattle.gimli_lines_write_tables.specs.SectionReads
 pub use Rattle.gimli_lines_write_tables.specs.RowPieces
 pub use Rattle.gimli_lines_write_tables.specs.RowsBuilding
 pub use Rattle.gimli_lines_write_tables.specs.RowsReadBack

@@ -42,15 +42,29 @@ unit_with_length address_of is_big rules t entries =
     with_length is_big rules.encoding.format
     (body_bytes address_of is_big rules (header_bytes is_big rules t) entries)
 
--- the same where the version has such a header
-abbrev pub unit_bytes : (Address → Result ℕ Error) → Bool → LineRules → Tables → List LineEntry
-    → Result (List ℕ) Error
-unit_bytes address_of is_big rules t entries =
+-- Bytes of a unit with these rules: there are none in versions other than 2 to 5, nor below version
+-- 4 with more than one operation an instruction.
+abbrev pub where_supported : LineRules → Result (List ℕ) Error → Result (List ℕ) Error
+where_supported rules bytes =
     if nat_lt rules.encoding.version 2 || nat_lt 5 rules.encoding.version
     then Err UnsupportedVersion
     else (if nat_lt rules.encoding.version 4
     && nat_lt 1 rules.line_encoding.maximum_operations_per_instruction then Err NeedVersion
-    else unit_with_length address_of is_big rules t entries)
+    else bytes)
+
+-- rules that a unit can be written with
+abbrev pub IsSupported : LineRules → Type 0
+IsSupported rules = (bytes : Result (List ℕ) Error) → where_supported rules bytes ≡ bytes
+
+-- rules that no unit can be written with, and why
+abbrev pub IsRefused : LineRules → Error → Type 0
+IsRefused rules e = (bytes : Result (List ℕ) Error) → where_supported rules bytes ≡ Err e
+
+-- the same where the version has such a header
+abbrev pub unit_bytes : (Address → Result ℕ Error) → Bool → LineRules → Tables → List LineEntry
+    → Result (List ℕ) Error
+unit_bytes address_of is_big rules t entries =
+    where_supported rules (unit_with_length address_of is_big rules t entries)
 
 -- A result that has this meaning, or is out of memory.
 abbrev pub Makes : {A B : Type 0} → (A → B) → Result A Error → Result B Error → Type 0

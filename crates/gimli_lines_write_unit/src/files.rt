@@ -1,57 +1,19 @@
 //! The files of a header.
 
-ghost use Rattle.std.specs.Prelude.{◌≡◌, ◌<◌, ◌++◌, [], true, false, Ok, map, if◌then◌else◌, option_map, unwrap_or, length};
+ghost use Rattle.std.specs.Prelude.{◌≡◌, ◌<◌, ◌++◌, [], true, false, Ok, map, if◌then◌else◌, unwrap_or};
 ghost use Rattle.gimli_lines_write_tables.specs.EntryBytes.{Continues};
-ghost use Rattle.gimli_lines_write_tables.specs.FileTables.{Text, in_header, text_of, file_of, info_of};
+ghost use Rattle.gimli_lines_write_tables.specs.FileTables.{in_header, text_of, file_of, info_of};
 ghost use Rattle.gimli_lines_write_unit.specs.HeaderContents.{header_text, source_text, header_file, details_of, IsKnown};
-ghost use Rattle.gimli_lines_write_unit.specs.HeaderBytes.{bytes_after_path, details_bytes, text_bytes, file_bytes_to_4, file_bytes_of_5};
+ghost use Rattle.gimli_lines_write_unit.specs.HeaderBytes.{details_bytes, text_bytes, file_bytes_of_5};
 
 use crate::details::FileDetails;
 use crate::pieces::{write_bytes_if, write_number_if};
 use crate::texts::write_text;
 use gimli_lines_write_tables::{
-    DW_FORM_string, DwForm, Encoding, Error, FileInfo, FileKey, LineString, LineStringTable,
-    StringTable, Writer,
+    DwForm, Encoding, Error, FileInfo, FileKey, LineString, LineStringTable, StringTable, Writer,
 };
 
-// Writes what follows the path of a file up to version 4.
-fn write_after_path<W: Writer>(w: &mut W, file: &FileKey, info: &FileInfo) -> Result<(), Error>
-    ensures { Continues result (W.contents w.old) (W.contents w.new)
-        (Ok (bytes_after_path (header_file [] [] false (in_header []) (file_of file.now)
-        (info_of info.now)))) }
-{
-    w.write_uleb128(file.directory.0 as u64)?;
-    w.write_uleb128(info.timestamp)?;
-    w.write_uleb128(info.size)
-}
-
-/// Writes a file up to version 4.
-pub fn write_file_to_4<W: Writer>(
-    w: &mut W,
-    encoding: Encoding,
-    strings: &StringTable,
-    line_strings: &LineStringTable,
-    file: &FileKey,
-    info: &FileInfo,
-) -> Result<(), Error>
-    requires { IsKnown strings.now line_strings.now (text_of file.now.path) }
-    ensures { Continues result (W.contents w.old) (W.contents w.new)
-        (file_bytes_to_4 (W.contents w.old).is_big encoding
-        (header_file strings.now line_strings.now false (in_header []) (file_of file.now)
-        (info_of info.now))) }
-{
-    write_text(
-        w,
-        encoding,
-        DW_FORM_string,
-        strings,
-        line_strings,
-        &file.path,
-    )?;
-    write_after_path(w, file, info)
-}
-
-// Writes what follows the path of a file in version 5, its text apart.
+// Writes what follows the path of a file, its text apart.
 fn write_details<W: Writer>(
     w: &mut W,
     details: FileDetails,
@@ -116,8 +78,8 @@ pub struct FileForms {
     pub source: DwForm,
 }
 
-/// Writes a file in version 5, with another text where it has none.
-pub fn write_file_of_5<W: Writer>(
+/// Writes a file in lists of these forms, with another text where it has none.
+pub fn write_file<W: Writer>(
     w: &mut W,
     encoding: Encoding,
     details: FileDetails,

@@ -1,118 +1,24 @@
 //! Headers.
 
-ghost use Rattle.std.specs.Prelude.{◌≡◌, ◌<◌, ◌≤◌, ℕ, List, [], ◌∷◌, All, true, false, Ok, map, length, nat_le, not, ◌&&◌, unwrap_or};
+ghost use Rattle.std.specs.Prelude.{◌≡◌, ◌<◌, ◌≤◌, [], ◌∷◌, Ok, length};
 ghost use Rattle.gimli_lines_write_tables.specs.EntryBytes.{Continues, join_bytes};
-ghost use Rattle.gimli_lines_write_tables.specs.FileTables.{Text, in_header, text_of, file_of, info_of, ProgramFiles};
-ghost use Rattle.gimli_lines_write_unit.specs.HeaderContents.{header_text, header_files, records_source, listed_directories, tables_with, details_of, IsKnown, AllKnown};
-ghost use Rattle.gimli_lines_write_unit.specs.HeaderBytes.{all_bytes, file_bytes_to_4, form_of_paths, form_of_sources, described_files, directories_bytes, files_bytes, tables_bytes, header_bytes};
+ghost use Rattle.gimli_lines_write_tables.specs.FileTables.{text_of};
+ghost use Rattle.gimli_lines_write_unit.specs.HeaderContents.{listed_directories, tables_with, details_of, writes_sources, AllKnown};
+ghost use Rattle.gimli_lines_write_unit.specs.HeaderBytes.{all_bytes, file_bytes_to_4, file_bytes_of_5, form_of_paths, form_of_sources, entries_of_files, described_files, directories_bytes, files_bytes, header_bytes};
 
 use crate::details::FileDetails;
-use crate::pieces::write_start;
-use crate::tables::{first_forms, write_directories, write_entries_of_files, write_files_to_4};
+use crate::files::FileForms;
+use crate::pieces::{file_formats, write_formats, write_start};
+use crate::tables::{first_forms, write_directories, write_files};
 use gimli_lines_write_tables::{
-    Encoding, Error, FileInfo, FileKey, FileTable, LineRules, LineString, LineStringTable,
+    DW_FORM_string, Encoding, Error, FileTable, LineRules, LineString, LineStringTable,
     StringTable, Writer,
 };
 use std::alloc::Global;
+use std::marker::Model;
 
-// Writes files up to version 4, and the empty path that ends them.
-fn write_files_and_end<W: Writer>(
-    w: &mut W,
-    encoding: Encoding,
-    strings: &StringTable,
-    line_strings: &LineStringTable,
-    files: &[FileKey],
-    infos: &[FileInfo],
-) -> Result<(), Error>
-    requires same_length { length infos.now ≡ length files.now }
-    requires paths { All (λ f. IsKnown strings.now line_strings.now (text_of f.path)) files.now }
-    ensures { Continues result (W.contents w.old) (W.contents w.new)
-        (join_bytes (all_bytes (file_bytes_to_4 (W.contents w.old).is_big encoding)
-        (header_files strings.now line_strings.now false (in_header []) (map file_of files.now)
-        (map info_of infos.now))) (Ok (0 ∷ []))) }
-{
-    write_files_to_4(w, encoding, strings, line_strings, files, infos)?;
-    w.write_u8(0)
-}
-
-// Writes files in version 5.
-fn write_described_files<W: Writer>(
-    alloc: Global,
-    w: &mut W,
-    encoding: Encoding,
-    details: FileDetails,
-    strings: &StringTable,
-    line_strings: &LineStringTable,
-    files: &[FileKey],
-    infos: &[FileInfo],
-    empty: &LineString,
-) -> Result<(), Error>
-    requires same_length { length infos.now ≡ length files.now }
-    requires paths { All (λ f. IsKnown strings.now line_strings.now (text_of f.path)) files.now }
-    requires sources { details.has_source ≡ true
-        → All (λ i. IsKnown strings.now line_strings.now
-        (unwrap_or (info_of i).source (text_of empty.now))) infos.now }
-    ensures { Continues result (W.contents w.old) (W.contents w.new)
-        (described_files (W.contents w.old).is_big encoding (details_of details)
-        (header_files strings.now line_strings.now details.has_source (text_of empty.now)
-        (map file_of files.now) (map info_of infos.now))) }
-{
-    let forms = first_forms(details.has_source, files, infos, empty);
-    write_entries_of_files(
-        alloc,
-        w,
-        encoding,
-        details,
-        forms,
-        strings,
-        line_strings,
-        files,
-        infos,
-        empty,
-    )
-}
-
-// Writes the files of a header.
-#[tactic(auto, using(crate::proofs::FileLists::no_source_texts))]
-fn write_files<W: Writer>(
-    alloc: Global,
-    w: &mut W,
-    encoding: Encoding,
-    details: FileDetails,
-    strings: &StringTable,
-    line_strings: &LineStringTable,
-    files: &[FileKey],
-    infos: &[FileInfo],
-    empty: &LineString,
-) -> Result<(), Error>
-    requires same_length { length infos.now ≡ length files.now }
-    requires paths { All (λ f. IsKnown strings.now line_strings.now (text_of f.path)) files.now }
-    requires sources { records_source encoding.version details ≡ true
-        → All (λ i. IsKnown strings.now line_strings.now
-        (unwrap_or (info_of i).source (text_of empty.now))) infos.now }
-    ensures { Continues result (W.contents w.old) (W.contents w.new)
-        (files_bytes (W.contents w.old).is_big encoding (details_of details)
-        (header_files strings.now line_strings.now (records_source encoding.version details)
-        (text_of empty.now) (map file_of files.now) (map info_of infos.now))) }
-{
-    if encoding.version <= 4 {
-        return write_files_and_end(w, encoding, strings, line_strings, files, infos);
-    }
-    write_described_files(
-        alloc,
-        w,
-        encoding,
-        details,
-        strings,
-        line_strings,
-        files,
-        infos,
-        empty,
-    )
-}
-
-// The directories that a header lists: up to version 4 the first isn't among them.
-fn listed_directories(version: u16, directories: &[LineString]) -> &[LineString]
+/// The directories that a header lists: up to version 4 the first isn't among them.
+pub fn listed_directories(version: u16, directories: &[LineString]) -> &[LineString]
     ensures { result.now ≡ listed_directories version directories.now }
 {
     if version > 4 || directories.is_empty() {
@@ -121,86 +27,208 @@ fn listed_directories(version: u16, directories: &[LineString]) -> &[LineString]
     &directories[1..]
 }
 
-// Writes the directories that a header lists.
-fn write_listed_directories<W: Writer>(
-    w: &mut W,
-    encoding: Encoding,
-    strings: &StringTable,
-    line_strings: &LineStringTable,
-    tables: &FileTable,
-) -> Result<(), Error>
-    requires same { tables.now.version ≡ encoding.version }
-    requires known { All (IsKnown strings.now line_strings.now) tables.now.directories }
-    ensures { Continues result (W.contents w.old) (W.contents w.new)
-        (directories_bytes (W.contents w.old).is_big encoding
-        (map (header_text strings.now line_strings.now)
-        (listed_directories tables.now.version tables.now.directories))) }
-{
-    let directories = listed_directories(encoding.version, tables.directories());
-    write_directories(w, encoding, strings, line_strings, directories)
+/// The directories and files of a header, with the tables that their texts are in.
+#[derive(Drop)]
+pub struct HeaderTables<'a> {
+    details: FileDetails,
+    strings: &'a StringTable,
+    line_strings: &'a LineStringTable,
+    tables: &'a FileTable,
+    // The text of a file that has none.
+    empty: &'a LineString,
 }
 
-// Writes the files that a header lists.
-fn write_listed_files<W: Writer>(
-    alloc: Global,
-    w: &mut W,
-    encoding: Encoding,
-    details: FileDetails,
-    strings: &StringTable,
-    line_strings: &LineStringTable,
-    tables: &FileTable,
-    empty: &LineString,
-) -> Result<(), Error>
-    requires same { tables.now.version ≡ encoding.version }
-    requires known { AllKnown strings.now line_strings.now tables.now details (text_of empty.now) }
-    ensures { Continues result (W.contents w.old) (W.contents w.new)
-        (files_bytes (W.contents w.old).is_big encoding (details_of details)
-        (header_files strings.now line_strings.now (records_source tables.now.version details)
-        (text_of empty.now) tables.now.files tables.now.infos)) }
-{
-    let _directories = tables.directories();
-    let files = tables.files();
-    let infos = tables.infos();
-    write_files(
-        alloc,
-        w,
-        encoding,
-        details,
-        strings,
-        line_strings,
-        files,
-        infos,
-        empty,
-    )
+impl<'a> Model for HeaderTables<'a> {
+    ghost use Rattle.std.specs.Prelude.{◌≡◌, length};
+    ghost use Rattle.gimli_lines_write_tables.specs.FileTables.{text_of};
+    ghost use Rattle.gimli_lines_write_unit.specs.HeaderContents.{VersionedTables, tables_with, AllKnown};
+
+    ghost Value = { VersionedTables };
+
+    ghost view = { λ h. record {
+      version = h.tables.now.version;
+      listed = tables_with h.strings.now h.line_strings.now h.tables.now h.details
+          (text_of h.empty.now);
+    } };
+
+    ghost invariant = { λ h. AllKnown h.strings.now h.line_strings.now h.tables.now h.details
+        (text_of h.empty.now)
+        × (length h.tables.now.infos ≡ length h.tables.now.files) };
 }
 
-/// Writes the fields of a header after its second length.
-pub fn write_header<W: Writer>(
-    alloc: Global,
-    w: &mut W,
-    rules: LineRules,
-    details: FileDetails,
-    strings: &StringTable,
-    line_strings: &LineStringTable,
-    tables: &FileTable,
-    empty: &LineString,
-) -> Result<(), Error>
-    requires same { tables.now.version ≡ rules.encoding.version }
-    requires known { AllKnown strings.now line_strings.now tables.now details (text_of empty.now) }
-    ensures { Continues result (W.contents w.old) (W.contents w.new)
-        (header_bytes (W.contents w.old).is_big rules
-        (tables_with strings.now line_strings.now tables.now details (text_of empty.now))) }
-{
-    write_start(w, rules)?;
-    write_listed_directories(w, rules.encoding, strings, line_strings, tables)?;
-    write_listed_files(
-        alloc,
-        w,
-        rules.encoding,
-        details,
-        strings,
-        line_strings,
-        tables,
-        empty,
-    )
+impl<'a> HeaderTables<'a> {
+    /// The tables of a header. The last text is that of files that have none.
+    pub fn new(
+        details: FileDetails,
+        strings: &'a StringTable,
+        line_strings: &'a LineStringTable,
+        tables: &'a FileTable,
+        empty: &'a LineString,
+    ) -> Self
+        requires { AllKnown strings.now line_strings.now tables.now details (text_of empty.now) }
+        ensures { result ≡ record {
+          version = tables.now.version;
+          listed = tables_with strings.now line_strings.now tables.now details (text_of empty.now);
+        } }
+    {
+        // (shows the prover that each file has its information)
+        let _directories = tables.directories();
+        HeaderTables {
+            details,
+            strings,
+            line_strings,
+            tables,
+            empty,
+        }
+    }
+
+    // Writes the directories.
+    fn write_directories<W: Writer>(&self, w: &mut W, encoding: Encoding) -> Result<(), Error>
+        requires { self.now.version ≡ encoding.version }
+        ensures { Continues result (W.contents w.old) (W.contents w.new)
+            (directories_bytes (W.contents w.old).is_big encoding self.now.listed.directories) }
+    {
+        let directories = listed_directories(encoding.version, self.tables.directories());
+        write_directories(w, encoding, self.strings, self.line_strings, directories)
+    }
+
+    // Writes each file, with these details and in lists of these forms.
+    fn write_entries<W: Writer>(
+        &self,
+        w: &mut W,
+        encoding: Encoding,
+        details: FileDetails,
+        forms: FileForms,
+    ) -> Result<(), Error>
+        requires { details.has_source ≡ writes_sources self.now }
+        ensures { Continues result (W.contents w.old) (W.contents w.new)
+            (all_bytes (file_bytes_of_5 (W.contents w.old).is_big encoding (details_of details)
+            forms.path.0 forms.source.0) self.now.listed.files) }
+    {
+        let files = self.tables.files();
+        let infos = self.tables.infos();
+        write_files(
+            w,
+            encoding,
+            details,
+            forms,
+            self.strings,
+            self.line_strings,
+            files,
+            infos,
+            self.empty,
+        )
+    }
+
+    // Writes each file up to version 4: beside its path and its directory, when it was modified and
+    // its size.
+    fn write_entries_to_4<W: Writer>(&self, w: &mut W, encoding: Encoding) -> Result<(), Error>
+        requires { self.now.version ≤ 4 }
+        ensures { Continues result (W.contents w.old) (W.contents w.new)
+            (all_bytes (file_bytes_to_4 (W.contents w.old).is_big encoding)
+            self.now.listed.files) }
+    {
+        let details = FileDetails {
+            has_timestamp: true,
+            has_size: true,
+            has_md5: false,
+            has_source: false,
+        };
+        let forms = FileForms {
+            path: DW_FORM_string,
+            source: DW_FORM_string,
+        };
+        self.write_entries(w, encoding, details, forms)
+    }
+
+    // Writes files up to version 4, and the empty path that ends them.
+    fn write_files_to_4<W: Writer>(&self, w: &mut W, encoding: Encoding) -> Result<(), Error>
+        requires { self.now.version ≤ 4 }
+        ensures { Continues result (W.contents w.old) (W.contents w.new)
+            (join_bytes (all_bytes (file_bytes_to_4 (W.contents w.old).is_big encoding)
+            self.now.listed.files) (Ok (0 ∷ []))) }
+    {
+        self.write_entries_to_4(w, encoding)?;
+        w.write_u8(0)
+    }
+
+    // Writes files in version 5, in lists of these forms: their formats, how many there are, and
+    // the files.
+    fn write_lists_of_5<W: Writer>(
+        &self,
+        alloc: Global,
+        w: &mut W,
+        encoding: Encoding,
+        forms: FileForms,
+    ) -> Result<(), Error>
+        requires { 4 < self.now.version }
+        ensures { Continues result (W.contents w.old) (W.contents w.new)
+            (entries_of_files (W.contents w.old).is_big encoding self.now.listed.details
+            forms.path.0 forms.source.0 self.now.listed.files) }
+    {
+        let formats = file_formats(alloc, self.details, forms.path, forms.source)?;
+        write_formats(w, formats.as_slice())?;
+        w.write_uleb128(self.tables.file_count() as u64)?;
+        self.write_entries(w, encoding, self.details, forms)
+    }
+
+    // The forms of the paths and of the texts of files in version 5.
+    fn forms(&self) -> FileForms
+        requires { 4 < self.now.version }
+        ensures path { result.path.0 ≡ form_of_paths self.now.listed.files }
+        ensures source { result.source.0 ≡ form_of_sources self.now.listed.files }
+    {
+        let files = self.tables.files();
+        let infos = self.tables.infos();
+        first_forms(self.details.has_source, files, infos, self.empty)
+    }
+
+    // Writes files in version 5.
+    fn write_files_of_5<W: Writer>(
+        &self,
+        alloc: Global,
+        w: &mut W,
+        encoding: Encoding,
+    ) -> Result<(), Error>
+        requires { 4 < self.now.version }
+        ensures { Continues result (W.contents w.old) (W.contents w.new)
+            (described_files (W.contents w.old).is_big encoding self.now.listed.details
+            self.now.listed.files) }
+    {
+        self.write_lists_of_5(alloc, w, encoding, self.forms())
+    }
+
+    // Writes the files.
+    fn write_files<W: Writer>(
+        &self,
+        alloc: Global,
+        w: &mut W,
+        encoding: Encoding,
+    ) -> Result<(), Error>
+        requires { self.now.version ≡ encoding.version }
+        ensures { Continues result (W.contents w.old) (W.contents w.new)
+            (files_bytes (W.contents w.old).is_big encoding self.now.listed.details
+            self.now.listed.files) }
+    {
+        if encoding.version <= 4 {
+            return self.write_files_to_4(w, encoding);
+        }
+        self.write_files_of_5(alloc, w, encoding)
+    }
+
+    /// Writes the fields of a header after its second length.
+    pub fn write_header<W: Writer>(
+        &self,
+        alloc: Global,
+        w: &mut W,
+        rules: LineRules,
+    ) -> Result<(), Error>
+        requires { self.now.version ≡ rules.encoding.version }
+        ensures { Continues result (W.contents w.old) (W.contents w.new)
+            (header_bytes (W.contents w.old).is_big rules self.now.listed) }
+    {
+        write_start(w, rules)?;
+        self.write_directories(w, rules.encoding)?;
+        self.write_files(alloc, w, rules.encoding)
+    }
 }

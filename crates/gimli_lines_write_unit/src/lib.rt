@@ -3,17 +3,22 @@
 
 pub mod details;
 pub mod files;
-mod header;
+pub mod header;
 pub mod pieces;
 pub mod sources;
 pub mod tables;
-mod texts;
+pub mod texts;
 pub mod unit;
 
 pub use details::FileDetails;
+pub use gimli_lines_write_spec::laws as header_laws;
 pub use gimli_lines_write_tables::{
-    Address, DebugLineOffset, DirectoryId, Encoding, Error, FileId, FileInfo, FileKey, FileTable,
-    Format, LineEncoding, LineRow, LineRules, LineString, LineStringTable, RowsBuilder,
-    StringTable, Writer,
+    Address, DW_FORM_string, DebugLineOffset, DirectoryId, DwForm, Encoding, EndianVec, Error,
+    FileId, FileInfo, FileKey, FileTable, Format, InitialLengthOffset, LineEncoding, LineRow,
+    LineRules, LineString, LineStringId, LineStringTable, RowsBuilder, StringId, StringTable,
+    Writer, laws as table_laws, row_laws,
 };
+pub use header::listed_directories;
+pub use sources::first_source;
+pub use texts::form_of;
 pub use unit::write_unit;

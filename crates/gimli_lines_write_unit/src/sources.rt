@@ -24,8 +24,8 @@ fn lacks_source(infos: &[FileInfo]) -> bool
     false
 }
 
-// The first text of a file.
-fn first_source(infos: &[FileInfo]) -> Option<&LineString>
+/// The first text of a file.
+pub fn first_source(infos: &[FileInfo]) -> Option<&LineString>
     ensures { option_map (λ t. text_of t.now) result ≡ first_source (map info_of infos.now) }
 {
     for info in infos {

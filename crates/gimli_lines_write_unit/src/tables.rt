@@ -1,56 +1,25 @@
 //! The tables of a header: its directories and files.
 
-ghost use Rattle.std.specs.Prelude.{◌≡◌, ℕ, List, ◌<◌, ◌^◌, ◌++◌, [], ◌∷◌, All, true, false, Ok, map, drop, length, nat_le, unwrap_or, if◌then◌else◌};
-ghost use Rattle.gimli_lines_write_tables.specs.Spelling.{unsigned_string};
+ghost use Rattle.std.specs.Prelude.{◌≡◌, ℕ, List, ◌<◌, [], ◌∷◌, All, true, false, Ok, map, length, nat_le, unwrap_or, if◌then◌else◌};
 ghost use Rattle.gimli_lines_write_tables.specs.EntryBytes.{Continues, join_bytes};
-ghost use Rattle.gimli_lines_write_tables.specs.FileTables.{Text, in_header, text_of, file_of, info_of};
+ghost use Rattle.gimli_lines_write_tables.specs.FileTables.{text_of, file_of, info_of};
 ghost use Rattle.gimli_lines_write_spec.specs.HeaderTexts.{form_in};
 ghost use Rattle.gimli_lines_write_spec.specs.EntryFields.{directory_formats, spelled_formats};
 ghost use Rattle.gimli_lines_write_unit.specs.HeaderContents.{header_text, header_files, details_of, IsKnown};
-ghost use Rattle.gimli_lines_write_unit.specs.HeaderBytes.{all_bytes, text_bytes, file_bytes_to_4, file_bytes_of_5, directory_entries_bytes, directories_bytes, form_of_paths, form_of_sources, entries_of_files, files_bytes};
+ghost use Rattle.gimli_lines_write_unit.specs.HeaderBytes.{all_bytes, text_bytes, file_bytes_of_5, directory_entries_bytes, directories_bytes, form_of_paths, form_of_sources};
 
 use crate::details::FileDetails;
-use crate::files::{FileForms, source_or, write_file_of_5, write_file_to_4};
-use crate::pieces::{file_formats, write_formats};
+use crate::files::{FileForms, source_or, write_file};
+use crate::pieces::write_formats;
 use crate::texts::{form_of, write_texts};
 use gimli_lines_write_spec::FileEntryFormat;
 use gimli_lines_write_tables::{
     DW_FORM_string, DW_LNCT_path, DwForm, Encoding, Error, FileInfo, FileKey, LineString,
     LineStringTable, StringTable, Writer,
 };
-use std::alloc::Global;
 
-/// Writes files up to version 4, one after the other.
-pub fn write_files_to_4<W: Writer>(
-    w: &mut W,
-    encoding: Encoding,
-    strings: &StringTable,
-    line_strings: &LineStringTable,
-    files: &[FileKey],
-    infos: &[FileInfo],
-) -> Result<(), Error>
-    requires same_length { length infos.now ≡ length files.now }
-    requires paths { All (λ f. IsKnown strings.now line_strings.now (text_of f.path)) files.now }
-    ensures { Continues result (W.contents w.old) (W.contents w.new)
-        (all_bytes (file_bytes_to_4 (W.contents w.old).is_big encoding)
-        (header_files strings.now line_strings.now false (in_header []) (map file_of files.now)
-        (map info_of infos.now))) }
-{
-    for place in 0..files.len() {
-        write_file_to_4(
-            w,
-            encoding,
-            strings,
-            line_strings,
-            &files[place],
-            &infos[place],
-        )?;
-    }
-    Ok(())
-}
-
-/// Writes files in version 5, one after the other, with another text where one has none.
-pub fn write_files_of_5<W: Writer>(
+/// Writes files in lists of these forms, one after the other, with another text where one has none.
+pub fn write_files<W: Writer>(
     w: &mut W,
     encoding: Encoding,
     details: FileDetails,
@@ -74,7 +43,7 @@ pub fn write_files_of_5<W: Writer>(
         (map file_of files.now) (map info_of infos.now))) }
 {
     for place in 0..files.len() {
-        write_file_of_5(
+        write_file(
             w,
             encoding,
             details,
@@ -98,31 +67,6 @@ fn first_form(texts: &[LineString]) -> DwForm
         Some(text) => form_of(text),
         None => DW_FORM_string,
     }
-}
-
-// Writes directories up to version 4, and the empty text that ends them.
-fn write_directories_to_4<W: Writer>(
-    w: &mut W,
-    encoding: Encoding,
-    strings: &StringTable,
-    line_strings: &LineStringTable,
-    directories: &[LineString],
-) -> Result<(), Error>
-    requires { All (λ t. IsKnown strings.now line_strings.now (text_of t)) directories.now }
-    ensures { Continues result (W.contents w.old) (W.contents w.new)
-        (join_bytes (all_bytes (text_bytes (W.contents w.old).is_big encoding DW_FORM_string.0)
-        (map (λ t. header_text strings.now line_strings.now (text_of t)) directories.now))
-        (Ok (0 ∷ []))) }
-{
-    write_texts(
-        w,
-        encoding,
-        DW_FORM_string,
-        strings,
-        line_strings,
-        directories,
-    )?;
-    w.write_u8(0)
 }
 
 // Writes directories in version 5: their format, how many there are, and the directories.
@@ -164,7 +108,15 @@ pub fn write_directories<W: Writer>(
         (map (λ t. header_text strings.now line_strings.now (text_of t)) directories.now)) }
 {
     if encoding.version <= 4 {
-        return write_directories_to_4(w, encoding, strings, line_strings, directories);
+        write_texts(
+            w,
+            encoding,
+            DW_FORM_string,
+            strings,
+            line_strings,
+            directories,
+        )?;
+        return w.write_u8(0);
     }
     write_directories_of_5(w, encoding, strings, line_strings, directories)
 }
@@ -194,44 +146,4 @@ pub fn first_forms(
             _ => DW_FORM_string,
         },
     }
-}
-
-/// Writes files in version 5: their formats, how many there are, and the files.
-pub fn write_entries_of_files<W: Writer>(
-    alloc: Global,
-    w: &mut W,
-    encoding: Encoding,
-    details: FileDetails,
-    forms: FileForms,
-    strings: &StringTable,
-    line_strings: &LineStringTable,
-    files: &[FileKey],
-    infos: &[FileInfo],
-    empty: &LineString,
-) -> Result<(), Error>
-    requires same_length { length infos.now ≡ length files.now }
-    requires paths { All (λ f. IsKnown strings.now line_strings.now (text_of f.path)) files.now }
-    requires sources { details.has_source ≡ true
-        → All (λ i. IsKnown strings.now line_strings.now
-        (unwrap_or (info_of i).source (text_of empty.now))) infos.now }
-    ensures { Continues result (W.contents w.old) (W.contents w.new)
-        (entries_of_files (W.contents w.old).is_big encoding (details_of details) forms.path.0
-        forms.source.0
-        (header_files strings.now line_strings.now details.has_source (text_of empty.now)
-        (map file_of files.now) (map info_of infos.now))) }
-{
-    let formats = file_formats(alloc, details, forms.path, forms.source)?;
-    write_formats(w, formats.as_slice())?;
-    w.write_uleb128(files.len() as u64)?;
-    write_files_of_5(
-        w,
-        encoding,
-        details,
-        forms,
-        strings,
-        line_strings,
-        files,
-        infos,
-        empty,
-    )
 }

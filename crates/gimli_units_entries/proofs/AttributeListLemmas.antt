@@ -77,9 +77,9 @@ find-map {X} {Y} p f (x ∷ xs) =
 -- the same for one that is lent
 pub find-lent : {X Y : Type 0} (p : Y → Bool) (f : X → Y) (xs : List X) (o : Option (Bor X))
     → option_map (λ x. x.now) o ≡ find (λ x. p (f x)) xs → option_map (λ x. f x.now) o ≡ find p (map f xs)
-find-lent {X} {Y} p f xs o h = lent o ∙ ap (option_map f) h ∙ sym (find-map p f xs)
+find-lent {X} {Y} p f xs o h = views_agree o ∙ ap (option_map f) h ∙ sym (find-map p f xs)
   where
-    lent : (r : Option (Bor X))
+    views_agree : (r : Option (Bor X))
         → option_map (λ (x : Bor X). f x.now) r ≡ option_map f (option_map (λ (x : Bor X). x.now) r)
-    lent None = refl
-    lent (Some x) = refl
+    views_agree None = refl
+    views_agree (Some x) = refl

@@ -46,7 +46,7 @@ within-choice : (limit : ℕ) (chosen : ℕ → Bool) (n : ℕ) (w : Walk)
 unfolding items_within
 within-choice limit chosen zero w none = refl
 within-choice limit chosen (suc n) w none =
-    stepped (row_or_end limit any_tag w) refl none (within-choice limit chosen n)
+    by_step (row_or_end limit any_tag w) refl none (within-choice limit chosen n)
   where
     optional : (o : Option Row) (t : Walk)
         → fault_of (item_or_end o t (items_within n (row_or_end limit any_tag))) ≡ None
@@ -59,15 +59,15 @@ within-choice limit chosen (suc n) w none =
     optional (Some r) t well again =
         ap (λ (l : Listing Walk Row). prepend (row_under_choice chosen r ∷ []) l) (again well)
 
-    stepped : (x : Result (Option Row × Walk) Error) → row_or_end limit any_tag w ≡ x
+    by_step : (x : Result (Option Row × Walk) Error) → row_or_end limit any_tag w ≡ x
         → fault_of (next_item x (items_within n (row_or_end limit any_tag))) ≡ None
         → ((t : Walk) → fault_of (items_within n (row_or_end limit any_tag) t) ≡ None
         → items_within n (row_or_end limit chosen) t
         ≡ rows_under_choice chosen (items_within n (row_or_end limit any_tag) t))
         → next_item (row_or_end limit chosen w) (items_within n (row_or_end limit chosen))
         ≡ rows_under_choice chosen (next_item x (items_within n (row_or_end limit any_tag)))
-    stepped (Err d) e well again = absurd cc
-    stepped (Ok p) e well again =
+    by_step (Err d) e well again = absurd cc
+    by_step (Ok p) e well again =
         ap (λ (x : Result (Option Row × Walk) Error). next_item x (items_within n (row_or_end limit chosen)))
         (item-choice limit chosen w p.1 p.0 e)
         ∙ optional p.0 p.1 well (again p.1)

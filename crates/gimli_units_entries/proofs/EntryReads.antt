@@ -34,8 +34,8 @@ values-fault limit w w' ss d same h =
 -- ---- places after some bytes
 
 -- a place that was moved is in the reader
-pub moved : (n : ℕ) (u v w : View) → n ≤ bytes_left u → v ≡ u → w ≡ after n v → IsAfter u w
-moved n u v w h e m = record { count = n; within = h; rest = ap (after n) (sym e) ∙ sym m }
+pub moves_after : (n : ℕ) (u v w : View) → n ≤ bytes_left u → v ≡ u → w ≡ after n v → IsAfter u w
+moves_after n u v w h e m = record { count = n; within = h; rest = ap (after n) (sym e) ∙ sym m }
 
 -- what is left further on comes after no fewer bytes
 pub no_less : (n k : ℕ) (u b v w : View) → k ≤ bytes_left u → n ≤ bytes_left u → b ≡ u → v ≡ after k b

@@ -13,7 +13,7 @@ use Rattle.gimli_core_base.specs.declared.leb128.Fault.{Fault}
 use Rattle.gimli_core_base.specs.declared.leb128.Fault.TheVariants.{Bad}
 use Rattle.gimli_core_base.specs.Leb128.{bounded_string, unsigned_number, unsigned_of, unsigned_at}
 use Rattle.gimli_core_base.specs.NumberParsers.{number_and_rest, unsigned}
-use Rattle.gimli_core_base.proofs.NumberReadSizes.{Stands, judged_stands}
+use Rattle.gimli_core_base.proofs.NumberReadSizes.{FitsIn, judged_fits_in}
 use Rattle.gimli_units_forms.specs.Declarations.{Declaration}
 use Rattle.gimli_units_forms.specs.AttributeValues.{RawAttribute}
 use Rattle.gimli_units_forms.specs.Places.{IsAfter}
@@ -34,7 +34,7 @@ use Rattle.gimli_units_entries.proofs.RowLaws.{row-all, row-item, row-place}
 abbrev number_result : ℕ → ℕ → Result (ℕ × ℕ) Fault
 number_result n k = Ok (n, k)
 
-unsigned_fits : (bound : ℕ) (bytes : List ℕ) (r : Result (List ℕ) Fault) → ((s : List ℕ) → r ≡ Ok s → Stands s bytes)
+unsigned_fits : (bound : ℕ) (bytes : List ℕ) (r : Result (List ℕ) Fault) → ((s : List ℕ) → r ≡ Ok s → FitsIn s bytes)
     → (n k : ℕ) → unsigned_of bound r ≡ Ok (n, k) → k ≤ length bytes
 unsigned_fits bound bytes (Err fault) string_fits n k e = absurd cc
 unsigned_fits bound bytes (Ok s) string_fits n k e = by_test (nat_lt (unsigned_number s) bound) e
@@ -50,14 +50,14 @@ unsigned_fits bound bytes (Ok s) string_fits n k e = by_test (nat_lt (unsigned_n
 
 unsigned-after : (n : ℕ) (v w : View) → unsigned v ≡ Ok (n, w) → IsAfter v w
 unfolding unsigned
-unsigned-after n v w e = found (unsigned_at 10 (2 ^ 64) v.bytes) refl e
+unsigned-after n v w e = by_number (unsigned_at 10 (2 ^ 64) v.bytes) refl e
   where
-    found : (r : Result (ℕ × ℕ) Fault) → unsigned_at 10 (2 ^ 64) v.bytes ≡ r
+    by_number : (r : Result (ℕ × ℕ) Fault) → unsigned_at 10 (2 ^ 64) v.bytes ≡ r
         → number_and_rest BadUnsignedLeb128 v r ≡ read n w → IsAfter v w
-    found (Err fault) q h = absurd cc
-    found (Ok p) q h = record {
+    by_number (Err fault) q h = absurd cc
+    by_number (Ok p) q h = record {
       count = p.1;
-      within = unsigned_fits (2 ^ 64) v.bytes (bounded_string 10 v.bytes) (judged_stands 10 v.bytes) p.0 p.1 q;
+      within = unsigned_fits (2 ^ 64) v.bytes (bounded_string 10 v.bytes) (judged_fits_in 10 v.bytes) p.0 p.1 q;
       rest = state_is p.0 n (after p.1 v) w h;
     }
 
@@ -71,8 +71,8 @@ row-after : (limit : ℕ) (w t : Walk) (r : Row) → HasRow limit any_tag w r t 
 row-after limit w t r h =
     let rest : h.rest ≡ t.rest = ap (λ (x : Walk). x.rest) h.leads in
     let all = IsAfter-IsAfter w.rest h.after_its_code h.rest
-    (unsigned-after h.headed.code w.rest h.after_its_code h.headed.coded)
-    (contents-after limit w.encoding h.declaration h.after_its_code h.rest h.found h.filled) in
+    (unsigned-after h.has_head.code w.rest h.after_its_code h.has_head.reads_code)
+    (contents-after limit w.encoding h.declaration h.after_its_code h.rest h.found h.has_contents) in
     subst (λ (v : View). IsAfter w.rest v) rest all
 
 -- ---- walks in a unit
@@ -113,15 +113,16 @@ row-again limit u table w t r i h =
         after_its_code = h.after_its_code;
         rest = h.rest;
         found = h.found;
-        headed =
+        has_head =
             record {
-              code = h.headed.code;
-              coded = h.headed.coded;
-              known = ap (λ (x : Walk). declaration_of_code h.headed.code
-                  x.table) i.is ∙ h.headed.known;
+              code = h.has_head.code;
+              reads_code = h.has_head.reads_code;
+              declares = ap (λ (x : Walk). declaration_of_code h.has_head.code
+                  x.table) i.is ∙ h.has_head.declares;
             };
-        filled =
-            ap (λ (x : Walk). contents_in limit any_tag x.encoding h.declaration h.after_its_code) i.is ∙ h.filled;
+        has_contents =
+            ap (λ (x : Walk). contents_in limit any_tag x.encoding h.declaration h.after_its_code) i.is
+            ∙ h.has_contents;
         is_row =
             row_of-depth (next_offset start) w.depth h.declaration h.found
             ∙ ap (λ (o : ℕ). at_depth_0 (row_of o w.depth h.declaration h.found)) offset ∙ ap at_depth_0 h.is_row;
@@ -171,7 +172,7 @@ all-lookups : (limit most : ℕ) (u : DebugUnit) (table : List Declaration) → 
 unfolding items_within
 all-lookups limit most u table h zero w i = All-nil (IsFoundAgain limit u table)
 all-lookups limit most u table h (suc n) w i =
-    stepped (row_or_end limit any_tag w) refl (all-lookups limit most u table h n)
+    by_step (row_or_end limit any_tag w) refl (all-lookups limit most u table h n)
   where
     optional : (o : Option Row) (t : Walk) → row_or_end limit any_tag w ≡ Ok (o, t)
         → (InUnit u table t → All (IsFoundAgain limit u table) (items_within n (row_or_end limit any_tag) t).items)
@@ -182,12 +183,12 @@ all-lookups limit most u table h (suc n) w i =
         All-cons (IsFoundAgain limit u table) r (items_within n (row_or_end limit any_tag) t).items
         (row-lookup limit most u table w t r h i parts) (again (InUnit-next limit u table w t r i parts))
 
-    stepped : (x : Result (Option Row × Walk) Error) → row_or_end limit any_tag w ≡ x
+    by_step : (x : Result (Option Row × Walk) Error) → row_or_end limit any_tag w ≡ x
         → ((t : Walk) → InUnit u table t
         → All (IsFoundAgain limit u table) (items_within n (row_or_end limit any_tag) t).items)
         → All (IsFoundAgain limit u table) (next_item x (items_within n (row_or_end limit any_tag))).items
-    stepped (Err d) e again = All-nil (IsFoundAgain limit u table)
-    stepped (Ok p) e again = optional p.0 p.1 e (again p.1)
+    by_step (Err d) e again = All-nil (IsFoundAgain limit u table)
+    by_step (Ok p) e again = optional p.0 p.1 e (again p.1)
 
 pub rows-lookups : (limit most : ℕ) (u : DebugUnit) (table : List Declaration) → IsWellFormed most u
     → All (IsFoundAgain limit u table) (rows limit any_tag (walk_before u table u.entries)).items

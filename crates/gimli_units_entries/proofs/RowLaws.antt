@@ -89,8 +89,10 @@ row-choice limit chosen w t r e =
       after_its_code = h.after_its_code;
       rest = h.rest;
       found = attributes_if (chosen (tag_of h.declaration)) h.found;
-      headed = h.headed;
-      filled = contents_in-choice limit chosen w.encoding h.declaration h.after_its_code h.rest h.found h.filled;
+      has_head = h.has_head;
+      has_contents =
+          contents_in-choice limit chosen w.encoding h.declaration h.after_its_code h.rest h.found
+          h.has_contents;
       is_row =
           row_of-choice (next_offset w) w.depth h.declaration chosen h.found ∙ ap (row_under_choice chosen) h.is_row;
       leads = h.leads;
@@ -176,7 +178,7 @@ rows-grow : (limit : ℕ) (chosen : ℕ → Bool) (n : ℕ) (w : Walk) → bytes
     → GrowFrom (next_offset w) (offsets (items_within n (row_or_end limit chosen) w).items)
 unfolding items_within
 rows-grow limit chosen zero w h = tt
-rows-grow limit chosen (suc n) w h = stepped (row_or_end limit chosen w) refl (rows-grow limit chosen n)
+rows-grow limit chosen (suc n) w h = by_step (row_or_end limit chosen w) refl (rows-grow limit chosen n)
   where
     item : (r : Row) (t : Walk) → row_or_end limit chosen w ≡ Ok (Some r, t)
         → (bytes_left t.rest ≤ t.end_offset
@@ -200,12 +202,12 @@ rows-grow limit chosen (suc n) w h = stepped (row_or_end limit chosen w) refl (r
     optional None t e again = tt
     optional (Some r) t e again = item r t e again
 
-    stepped : (x : Result (Option Row × Walk) Error) → row_or_end limit chosen w ≡ x
+    by_step : (x : Result (Option Row × Walk) Error) → row_or_end limit chosen w ≡ x
         → ((t : Walk) → bytes_left t.rest ≤ t.end_offset
         → GrowFrom (next_offset t) (offsets (items_within n (row_or_end limit chosen) t).items))
         → GrowFrom (next_offset w) (offsets (next_item x (items_within n (row_or_end limit chosen))).items)
-    stepped (Err d) e again = tt
-    stepped (Ok p) e again = optional p.0 p.1 e (again p.1)
+    by_step (Err d) e again = tt
+    by_step (Ok p) e again = optional p.0 p.1 e (again p.1)
 
 pub rows-increase : (limit : ℕ) (chosen : ℕ → Bool) (w : Walk) → IsWithin w
     → IsStrictlyIncreasing (offsets (rows limit chosen w).items)

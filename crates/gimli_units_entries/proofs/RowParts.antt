@@ -30,19 +30,19 @@ walk_after_code w d v =
     record
     { encoding = w.encoding; table = w.table; end_offset = w.end_offset; depth = depth_after w.depth d; rest = v }
 
--- a code was read, and stands for a declaration
+-- a code was read, and is that of a declaration
 pub record HasHead (w : Walk) (d : Option Declaration) (v : View) : Type 0 where
   pub code : ℕ
-  pub coded : unsigned w.rest ≡ Ok (code, v)
-  pub known : declaration_of_code code w.table ≡ Ok d
+  pub reads_code : unsigned w.rest ≡ Ok (code, v)
+  pub declares : declaration_of_code code w.table ≡ Ok d
 
 pub entry_head-from : (w : Walk) (d : Option Declaration) (v : View) → HasHead w d v
     → entry_head w ≡ Ok (d, walk_after_code w d v)
 unfolding entry_head
 entry_head-from w d v h =
     ap (λ (r : Result (ℕ × View) Error). proceed (read_in_walk w r)
-    (λ code s. proceed (here s) (λ x y. proceed (lift (declaration_of_code code x.table) y) change_depth))) h.coded
-    ∙ ap (λ (r : Result (Option Declaration) Error). proceed (lift r (walk_with_rest v w)) change_depth) h.known
+    (λ code s. proceed (here s) (λ x y. proceed (lift (declaration_of_code code x.table) y) change_depth))) h.reads_code
+    ∙ ap (λ (r : Result (Option Declaration) Error). proceed (lift r (walk_with_rest v w)) change_depth) h.declares
 
 pub entry_head-parts : (w t : Walk) (d : Option Declaration) → entry_head w ≡ Ok (d, t)
     → (v : View) × HasHead w d v × (walk_after_code w d v ≡ t)
@@ -59,8 +59,8 @@ entry_head-parts w t d e =
       c.0,
       record {
         code = b.0;
-        coded = c.1;
-        known = ap (λ (x : Walk). declaration_of_code b.0 x.table) c.2 ∙ l.0
+        reads_code = c.1;
+        declares = ap (λ (x : Walk). declaration_of_code b.0 x.table) c.2 ∙ l.0
             ∙ ap ok same;
       },
       ap (λ (x : Walk). walk_after_code x d x.rest) (sym at)
@@ -115,8 +115,8 @@ pub record HasRow (limit : ℕ) (chosen : ℕ → Bool) (w : Walk) (r : Row) (t 
   pub after_its_code : View
   pub rest : View
   pub found : List RawAttribute
-  pub headed : HasHead w declaration after_its_code
-  pub filled : contents_in limit chosen w.encoding declaration after_its_code ≡ Ok (found, rest)
+  pub has_head : HasHead w declaration after_its_code
+  pub has_contents : contents_in limit chosen w.encoding declaration after_its_code ≡ Ok (found, rest)
   pub is_row : row_of (next_offset w) w.depth declaration found ≡ r
   pub leads : walk_after_code w declaration rest ≡ t
 
@@ -125,7 +125,8 @@ pub row-parts : (limit : ℕ) (chosen : ℕ → Bool) (w t : Walk) (r : Row) →
 unfolding row_choosing
 row-parts limit chosen w t r e =
     let row_with = λ (d : Option Declaration) (found : List RawAttribute). row_of (next_offset w) w.depth d found in
-    let b = begins (entry_head w) (λ d s. proceed (contents limit chosen d s) (λ found. give (row_with d found))) r t e in
+    let b = begins (entry_head w)
+    (λ d s. proceed (contents limit chosen d s) (λ found. give (row_with d found))) r t e in
     let h = entry_head-parts w b.1 b.0 b.2 in
     let k = begins (contents limit chosen b.0 b.1) (λ found. give (row_with b.0 found)) r t b.3 in
     let c = read_in_walk-Ok (walk_after_code w b.0 h.0) (contents_in limit chosen w.encoding b.0 h.0) k.0 k.1
@@ -135,8 +136,8 @@ row-parts limit chosen w t r e =
       after_its_code = h.0;
       rest = c.0;
       found = k.0;
-      headed = h.1;
-      filled = c.1;
+      has_head = h.1;
+      has_contents = c.1;
       is_row = value_is _ _ _ _ k.3;
       leads = c.2 ∙ state_is _ _ _ _ k.3;
     }
@@ -149,10 +150,10 @@ row-from limit chosen w t r h =
     let row_with = λ (o : Option Declaration) (found : List RawAttribute). row_of (next_offset w) w.depth o found in
     ap (λ (x : Result (Option Declaration × Walk) Error). proceed x
     (λ o s. proceed (contents limit chosen o s) (λ found. give (row_with o found))))
-    (entry_head-from w d h.after_its_code h.headed)
+    (entry_head-from w d h.after_its_code h.has_head)
     ∙ ap (λ (x : Result (List RawAttribute × Walk) Error). proceed x (λ found. give (row_with d found)))
     (contents-is limit chosen d (walk_after_code w d h.after_its_code)
-    ∙ ap (read_in_walk (walk_after_code w d h.after_its_code)) h.filled)
+    ∙ ap (read_in_walk (walk_after_code w d h.after_its_code)) h.has_contents)
     ∙ ap (λ (x : Row). read x (walk_after_code w d h.rest)) h.is_row
     ∙ ap (read r) h.leads
 
@@ -161,9 +162,9 @@ pub row-takes : (limit : ℕ) (chosen : ℕ → Bool) (w t : Walk) (r : Row) →
     → bytes_left t.rest < bytes_left w.rest
 row-takes limit chosen w t r h =
     let code : bytes_left h.after_its_code < bytes_left w.rest = (Below-unsigned w.rest (omega arith)).left _ _
-    h.headed.coded in
+    h.has_head.reads_code in
     let attributes : bytes_left h.rest
     ≤ bytes_left h.after_its_code = (contents_in-AtMost limit chosen w.encoding h.declaration h.after_its_code).left _
-    _ h.filled in
+    _ h.has_contents in
     let same : bytes_left h.rest ≡ bytes_left t.rest = ap (λ (x : Walk). bytes_left x.rest) h.leads in
     omega arith

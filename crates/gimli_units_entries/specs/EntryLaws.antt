@@ -14,7 +14,8 @@ use Rattle.gimli_units_entries.specs.UnitEntries.{walk_before}
 abbrev pub SkippingFollowsReading : Type 0
 SkippingFollowsReading =
     (limit : ℕ) (specifications : List Attribute) (w rest : Walk) (all : List RawAttribute)
-    → values limit specifications w ≡ Ok (all, rest) → skip_values specifications w ≡ Ok (tt, rest)
+    → values limit specifications w ≡ Ok (all, rest)
+    → skip_values specifications w ≡ Ok (tt, rest)
 
 -- all tags
 abbrev pub any_tag : ℕ → Bool
@@ -42,7 +43,8 @@ ChoiceDropsAttributes = (limit : ℕ) (choice : ℕ → Bool) (w rest : Walk) (r
 
 -- where all rows of a walk can be read, a choice of tags changes nothing but attributes
 abbrev pub RowsByChoice : Type 0
-RowsByChoice = (limit : ℕ) (choice : ℕ → Bool) (w : Walk) → fault_of (rows limit any_tag w) ≡ None
+RowsByChoice = (limit : ℕ) (choice : ℕ → Bool) (w : Walk)
+    → fault_of (rows limit any_tag w) ≡ None
     → rows limit choice w ≡ record {
       items = map (row_under_choice choice) (rows limit any_tag w).items;
       ending = (rows limit any_tag w).ending;

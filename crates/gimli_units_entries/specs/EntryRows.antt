@@ -48,7 +48,8 @@ abbrev pub skip_attributes_of : Declaration → Step Walk (List RawAttribute)
 skip_attributes_of d = skip_values d.attributes >>= λ _. give []
 
 -- the attributes of an entry: read where its tag is chosen, else skipped; a null entry has none
-abbrev pub contents : ℕ → (ℕ → Bool) → Option Declaration → Step Walk (List RawAttribute)
+abbrev pub contents : ℕ → (ℕ → Bool) → Option Declaration
+    → Step Walk (List RawAttribute)
 contents limit choice None = give []
 contents limit choice (Some d) =
     branch (choice d.tag) (values limit d.attributes) (skip_attributes_of d)

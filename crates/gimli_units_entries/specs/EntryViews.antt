@@ -7,13 +7,13 @@ use Rattle.gimli_units_entries.specs.EntryRows.{Row}
 use Rattle.gimli_units_entries.specs.declared.entry.DebuggingInformationEntry.{DebuggingInformationEntry}
 
 -- attributes, with their readers and offsets as these functions see them
-abbrev pub raw_attributes : {R E O : Type 0} → (R → View) → (O → ℕ) → List (Attribute R E O)
-    → List RawAttribute
+abbrev pub raw_attributes : {R E O : Type 0} → (R → View) → (O → ℕ)
+    → List (Attribute R E O) → List RawAttribute
 raw_attributes view count attributes = map (raw_attribute_of view count) attributes
 
 -- an entry, as the same functions see it
-abbrev pub entry_of : {R E O : Type 0} → (R → View) → (O → ℕ) → DebuggingInformationEntry R E O
-    → Row
+abbrev pub entry_of : {R E O : Type 0} → (R → View) → (O → ℕ)
+    → DebuggingInformationEntry R E O → Row
 entry_of view count e = record {
   offset = count e.offset.0;
   depth = e.depth;

@@ -38,7 +38,8 @@ walk_with_rest v w = record {
 }
 
 -- what a read of the bytes left makes of the walk
-abbrev pub read_in_walk : {A : Type 0} → Walk → Result (A × View) Error → Result (A × Walk) Error
+abbrev pub read_in_walk : {A : Type 0} → Walk → Result (A × View) Error
+    → Result (A × Walk) Error
 read_in_walk w (Ok r) = Ok (r.0, walk_with_rest r.1 w)
 read_in_walk w (Err e) = Err e
 

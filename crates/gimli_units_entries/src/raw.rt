@@ -217,8 +217,8 @@ impl<'abbrev, R: Reader> EntriesRaw<'abbrev, R> {
     fn pass(&mut self, count: usize, abbreviation: Option<&Abbreviation>)
         requires some { 0 < count }
         requires within { count ≤ bytes_left self.old.rest }
-        ensures { self.new
-            ≡ walk_after count (option_map (λ a. declaration_view a.now) abbreviation.entry) self.old }
+        ensures { self.new ≡ walk_after count
+            (option_map (λ a. declaration_view a.now) abbreviation.entry) self.old }
     {
         self.input.advance(count);
         let Some(abbreviation) = abbreviation else {

@@ -18,7 +18,7 @@ use Rattle.gimli_units_forms.specs.FormSpellings.{spelling}
 use Rattle.gimli_units_forms.specs.Places.{IsAfter}
 use Rattle.gimli_units_forms.specs.AttributeReading.{form_within, final_form}
 use Rattle.gimli_units_forms.specs.AttributeSkipping.{Way, by_width, by_look, look_of, plain_way, look_at_value, way_of, run, skip_ways, skip_values, skip_text}
-use Rattle.gimli_core_abbrev.proofs.NumberReadSizes.{string_stands, judged_stands}
+use Rattle.gimli_core_abbrev.proofs.NumberReadSizes.{string_fits_in, judged_fits_in}
 use Rattle.gimli_units_forms.specs.AttributeReading.{attributes}
 use Rattle.gimli_units_forms.specs.AttributeValues.{RawAttribute}
 use Rattle.gimli_units_forms.proofs.SkipAgreementLemmas.{skip_values-attributes}
@@ -90,7 +90,7 @@ goes_after limit bound (Ok s) v x w j e = by_test (ltb (unsigned_number s) bound
   where
     by_test : (t : Bool) → number_and_rest BadUnsignedLeb128 v (cond t (Ok (unsigned_number s, length s)) (Err Bad))
         ≡ read x w → IsAfter v w
-    by_test true k = after_string v w s (judged_stands limit v.bytes s j).fits (state_is (unsigned_number s) x _ _ k)
+    by_test true k = after_string v w s (judged_fits_in limit v.bytes s j).fits (state_is (unsigned_number s) x _ _ k)
     by_test false k = absurd cc
 
 Goes-unsigned_16 : Goes unsigned_16
@@ -104,7 +104,7 @@ Goes-unsigned = record { goes = λ v x w e. goes_after 10 (2 ^ 64) (bounded_stri
 goes_skip : (o : Option (List ℕ)) (v : View) (x : Unit {0}) (w : View) → leb_string v.bytes ≡ o
     → rest_after_string v o ≡ read x w → IsAfter v w
 goes_skip None v x w f e = absurd cc
-goes_skip (Some s) v x w f e = after_string v w s (string_stands v.bytes s f).fits (state_is tt x _ _ e)
+goes_skip (Some s) v x w f e = after_string v w s (string_fits_in v.bytes s f).fits (state_is tt x _ _ e)
 
 Goes-skip : Goes skip_leb
 unfolding skip_leb

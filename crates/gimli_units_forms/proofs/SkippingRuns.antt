@@ -14,8 +14,8 @@ use Rattle.gimli_units_forms.proofs.FinalFormLemmas.{proceed_same}
 use Rattle.gimli_units_forms.proofs.RunLemmas.{leaves, run-Ok, run-zero}
 use Rattle.gimli_units_forms.proofs.SkippingLemmas.{skip_ways-by_width, skip_ways-by_look}
 
-abbrev Skipped : Type 0
-Skipped = Result (Unit {0} × View) Error
+abbrev SkipResult : Type 0
+SkipResult = Result (Unit {0} × View) Error
 
 -- known widths widen the run
 skip-widths : (n : ℕ) (e : Encoding) (fixed rest : List Attribute) (widths : List ℕ) (v : View)
@@ -34,7 +34,7 @@ skip-widths n e (s ∷ ss) rest (w ∷ ws) v h =
     ∙ skip-widths (n + w) e ss rest ws v tail
     ∙ ap (λ (k : ℕ). skip_bytes_and_values k e rest v) same
 
-after_run : (r : Skipped) → r ≡ proceed r (λ _ u. leaves u)
+after_run : (r : SkipResult) → r ≡ proceed r (λ _ u. leaves u)
 after_run (Ok r) = refl
 after_run (Err d) = refl
 
@@ -46,21 +46,21 @@ skip-run n e [] v h = after_run (run n v) ∙ proceed_same (run n v) _ _ (λ _ u
 skip-run n e (s ∷ ss) v h =
     let ways = map (λ (t : Attribute). way_of e t.form) ss in
     skip_ways-by_look n e s.form ways v (sym h)
-    ∙ proceed_same (run n v) _ _ (λ _ u _. sym (looked u))
+    ∙ proceed_same (run n v) _ _ (λ _ u _. sym (by_look u))
   where
-    looked : (u : View) → skip_values e (s ∷ ss) u
+    by_look : (u : View) → skip_values e (s ∷ ss) u
         ≡ proceed (look_at_value e s.form u) (λ more. skip_bytes_and_values more e ss)
-    looked u =
+    by_look u =
         let ways = map (λ (t : Attribute). way_of e t.form) ss in
         skip_ways-by_look 0 e s.form ways u (sym h)
-        ∙ ap (λ (r : Skipped). proceed r (λ _ t. proceed (look_at_value e s.form t) (λ more. skip_ways more ways)))
+        ∙ ap (λ (r : SkipResult). proceed r (λ _ t. proceed (look_at_value e s.form t) (λ more. skip_ways more ways)))
         (run-zero u)
 
-one_run : (n : ℕ) (e : Encoding) (rest : List Attribute) (v : View) (result : Skipped)
+one_run : (n : ℕ) (e : Encoding) (rest : List Attribute) (v : View) (result : SkipResult)
     → result ≡ proceed (run n v) (λ _ u. skip_values e rest u) → IsOneRun n e rest v result
 unfolding run
 one_run n e rest v result h = record {
-  whole = λ le. h ∙ ap (λ (r : Skipped). proceed r (λ _ u. skip_values e rest u)) (run-Ok n v le);
+  whole = λ le. h ∙ ap (λ (r : SkipResult). proceed r (λ _ u. skip_values e rest u)) (run-Ok n v le);
   cut = λ lt fits.
       let short = lt-leb n (length v.bytes) lt in
       let narrow = lt-ltb n (2 ^ 64) fits in
@@ -81,7 +81,7 @@ unfolding skip_values
 look-begins_run e s ss v h =
     let ways = map (λ (t : Attribute). way_of e t.form) ss in
     skip_ways-by_look 0 e s.form ways v (sym h)
-    ∙ ap (λ (r : Skipped). proceed r (λ _ t. proceed (look_at_value e s.form t) (λ more. skip_ways more ways)))
+    ∙ ap (λ (r : SkipResult). proceed r (λ _ t. proceed (look_at_value e s.form t) (λ more. skip_ways more ways)))
     (run-zero v)
 
 pub nothing-skipped : NothingIsSkipped

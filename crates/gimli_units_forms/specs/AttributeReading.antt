@@ -145,7 +145,8 @@ from_number limit e name form number = number >>= λ n. lift (number_value limit
 
 -- The value of an attribute under a name, of a form that isn't indirect, by what the form spells.
 -- The declaration may have a constant.
-abbrev pub spelled_value : ℕ → Encoding → ℕ → ℕ → Option ℤ → Spelling → Parser RawValue
+abbrev pub spelled_value : ℕ → Encoding → ℕ → ℕ → Option ℤ → Spelling
+    → Parser RawValue
 spelled_value limit e name form constant Address =
     from_number limit e name form (address_of_size e.address_size)
 spelled_value limit e name form constant (Fixed width) = from_number limit e name form (fixed width)
@@ -176,7 +177,8 @@ raw_attribute name form x = record { name = name; form = form; value = x }
 
 -- the attribute that a declaration describes, in such a form
 abbrev pub attribute_in_form : ℕ → Encoding → Attribute → ℕ → Parser RawAttribute
-attribute_in_form limit e s form = map_value (raw_attribute s.name form) (value_in_form limit e s form)
+attribute_in_form limit e s form =
+    map_value (raw_attribute s.name form) (value_in_form limit e s form)
 
 -- the attribute that a declaration describes
 unfoldable pub attribute : ℕ → Encoding → Attribute → Parser RawAttribute

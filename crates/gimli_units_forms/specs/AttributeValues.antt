@@ -48,8 +48,8 @@ pub record RawAttribute : Type 0 where
   pub value : RawValue
 
 -- a value, with its readers and offsets as these functions see them
-abbrev pub raw_value_of : {R O E P : Type 0} → (R → View) → (O → ℕ) → AttributeValue R O E P
-    → RawValue
+abbrev pub raw_value_of : {R O E P : Type 0} → (R → View) → (O → ℕ)
+    → AttributeValue R O E P → RawValue
 raw_value_of view count (Addr n) = address n
 raw_value_of view count (Block r) = block (view r)
 raw_value_of view count (Data1 n) = data_1 n

@@ -239,7 +239,8 @@ impl<R: Reader> Attribute<R> {
 
     /// The unsigned number of the value, where it fits sixteen bits.
     pub fn u16_value(&self) -> Option<u16>
-        ensures { result ≡ unsigned_16_of (raw_attribute_of R.view R.Offset.count self.now).value }
+        ensures { result ≡ unsigned_16_of
+            (raw_attribute_of R.view R.Offset.count self.now).value }
     {
         self.value.u16_value()
     }

@@ -277,10 +277,12 @@ fn attribute_in_form<R: Reader>(
     requires { IsAfter (R.view reader.now) place.old }
     ensures value { ReturnsAsOrNoMemory
         (λ a. (raw_attribute_of R.view R.Offset.count a, place.new)) result
-        (attribute_in_form R.Offset.limit encoding (attribute_view specification) form.0 place.old) }
+        (attribute_in_form R.Offset.limit encoding (attribute_view specification) form.0
+        place.old) }
     ensures free { IsTrue R.copies_freely
         → ReturnsAs (λ a. (raw_attribute_of R.view R.Offset.count a, place.new)) result
-        (attribute_in_form R.Offset.limit encoding (attribute_view specification) form.0 place.old) }
+        (attribute_in_form R.Offset.limit encoding (attribute_view specification) form.0
+        place.old) }
 {
     let name = specification.name();
     at_form!(form => {
@@ -306,7 +308,7 @@ fn push_in_form<R: Reader>(
         (λ a. map (raw_attribute_of R.view R.Offset.count) attributes.old.items ++ a ∷ [])
         (attribute_in_form R.Offset.limit encoding (attribute_view specification) form.0)
         place.old) }
-    ensures refused { OnErr result (attributes.new.items ≡ attributes.old.items) }
+    ensures refusal { OnErr result (attributes.new.items ≡ attributes.old.items) }
 {
     let name = specification.name();
     at_form!(form => {
@@ -354,7 +356,7 @@ pub fn push_attribute<R: Reader>(
         (map_value
         (λ a. map (raw_attribute_of R.view R.Offset.count) attributes.old.items ++ a ∷ [])
         (attribute R.Offset.limit encoding (attribute_view specification)) place.old) }
-    ensures refused { OnErr result (attributes.new.items ≡ attributes.old.items) }
+    ensures refusal { OnErr result (attributes.new.items ≡ attributes.old.items) }
 {
     let form = read_form(place, specification.form())?;
     push_in_form(attributes, place, reader, encoding, specification, form)

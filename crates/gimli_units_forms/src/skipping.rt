@@ -85,7 +85,8 @@ fn skip_value<R: Reader>(
     form: DwForm,
     run: u64,
 ) -> Result<u64, Error>
-    ensures { (ways : List Way) → skip_ways run (way_of encoding form.0 ∷ ways) (R.view place.old)
+    ensures { (ways : List Way)
+        → skip_ways run (way_of encoding form.0 ∷ ways) (R.view place.old)
         ≡ and_then result (λ more. skip_ways more ways (R.view place.new)) }
 {
     match fixed_width(encoding, form) {
@@ -158,8 +159,9 @@ pub fn skip_attributes<R: Reader>(
 
 /// What reads as attributes is skipped, and what is left is the same.
 pub fn skipping_follows_reading()
-    ensures { (limit : ℕ) (encoding : Encoding) (specifications : List Attribute) (view rest : View)
-        (all : List RawAttribute) → attributes limit encoding specifications view ≡ Ok (all, rest)
+    ensures { (limit : ℕ) (encoding : Encoding) (specifications : List Attribute)
+        (view rest : View) (all : List RawAttribute)
+        → attributes limit encoding specifications view ≡ Ok (all, rest)
         → skip_values encoding specifications view ≡ Ok (tt, rest) }
 {}
 

@@ -13,12 +13,11 @@ use Rattle.gimli_core_base.proofs.StepParts.{begins, value_is, state_is}
 use Rattle.gimli_core_base.proofs.StepSizes.{SomeBelow-None, SomeBelow-cond}
 use Rattle.gimli_core_base.proofs.Listings.{Shrinks, listing_end, listing_item}
 use Rattle.gimli_core_base.specs.declared.common.Format.{Format}
-use Rattle.gimli_core_base.specs.FormatSizes.{initial_length_size}
 use Rattle.gimli_core_base.specs.NumberParsers.{is_address_size}
 use Rattle.gimli_core_readers.specs.Iterators.{ReturnsNext}
 use Rattle.gimli_units_headers.specs.ArangeSets.{ArangeSet, ArangeFields, ArangePair, RemainingPairs, arange_fields, arange_padding, arange_set_in, arange_set, set_size, pair, next_pair, arange_of, transpose, pairs_of, pairs_to_come, aranges_to_come}
-use Rattle.gimli_core_readers.proofs.ByteCountLemmas.{Took, took_left, took_both, took_same, Yields, yields-Ok, yields-Err, yields-proceed, yields-cond, yields-weaker, yields-within, four_at_least, some_size, fixed_took, part_took, skip_took, word_took, address_size_took, initial_length_took}
-use Rattle.gimli_core_readers.proofs.TilingLemmas.{Parts, listing_few}
+use Rattle.gimli_core_readers.proofs.ByteCountLemmas.{Took, took_left, took_both, Yields, yields-Ok, yields-Err, yields-proceed, yields-cond, some_size, fixed_took, skip_took, word_took, address_size_took}
+use Rattle.gimli_core_readers.proofs.TilingLemmas.{Parts, IsCounted, counted_parts, listing_few}
 
 -- ---- sets
 
@@ -39,43 +38,20 @@ fields_are limit format v =
     yields-Ok _ s7 refl)))))))
 
 -- a set in the bytes that its length counts
-record IsSetIn (offset set_length : ℕ) (format : Format) (s : ArangeSet) : Type 0 where
-  placed : s.offset ≡ offset
-  long : s.length ≡ set_length
-  in_format : s.encoding.format ≡ format
-
-set_in_is : (limit offset set_length : ℕ) (format : Format) (v : View)
-    → Yields (λ s w. IsSetIn offset set_length format s) (arange_set_in limit offset set_length format v)
+set_is : (limit offset set_length : ℕ) (format : Format) (v : View)
+    → Yields (λ s w. IsCounted (λ (s : ArangeSet). s.offset) (λ s. s.length) (λ s. s.encoding.format) offset set_length
+    format s) (arange_set_in limit offset set_length format v)
 unfolding arange_set_in
-set_in_is limit offset set_length format v =
+set_is limit offset set_length format v =
     yields-proceed (fields_are limit format v)
-    (λ f s h. yields-Ok _ s (record { placed = refl; long = refl; in_format = h }))
-
--- a set takes its bytes
-set_is : (limit offset : ℕ) (v : View)
-    → Yields (λ s w. (s.offset ≡ offset) × Took (set_size s) v w) (arange_set limit offset v)
-unfolding arange_set
-set_is limit offset v =
-    yields-proceed (initial_length_took limit v) (λ l s h.
-    yields-proceed (part_took l.0 s) (λ bytes t part.
-    yields-weaker (yields-within bytes (arange_set_in limit offset l.0 l.1) t (set_in_is limit offset l.0 l.1 bytes))
-    (λ u w is.
-    let long : u.length ≡ l.0 = is.0.long in
-    let format : initial_length_size u.encoding.format
-    ≡ initial_length_size l.1 = ap initial_length_size is.0.in_format in (
-      is.0.placed,
-      subst (λ (x : View). Took (set_size u) v x) (sym is.1)
-          (took_same (took_both h part.1) (omega arith)),
-    ))))
+    (λ f s h. yields-Ok _ s (record { at_offset = refl; long = refl; in_format = h }))
 
 -- sets are parts of a section that lie end to end
 pub sets_are_parts : (limit : ℕ) → Parts (arange_set limit) (λ s. s.offset) set_size
-sets_are_parts limit = record {
-  each = λ offset v s w e.
-      let is = (set_is limit offset v).hold s w e in
-      let some = four_at_least s.encoding.format in
-      record { placed = is.0; took = is.1; some = omega arith };
-}
+unfolding arange_set
+sets_are_parts limit =
+    counted_parts (λ (s : ArangeSet). s.offset) (λ s. s.length) (λ s. s.encoding.format) limit
+    (λ offset l. arange_set_in limit offset l.0 l.1) (λ offset l v. set_is limit offset l.0 l.1 v)
 
 -- by the fields that are read
 pub set_in_refused : (limit offset set_length : ℕ) (format : Format) (v : View) (e : Error)

@@ -70,10 +70,10 @@ fault_stays {A} (Err e) d h = let same : e ≡ d = is_refusal e h in ap refusal 
     refusal : Error → Result (Option A × View) Error
     refusal y = Err y
 
-    refused : Error → Result A Error
-    refused y = Err y
+    error_of : Error → Result A Error
+    error_of y = Err y
 
-    is_refusal : (y : Error) → refused y ≡ Err d → y ≡ d
+    is_refusal : (y : Error) → error_of y ≡ Err d → y ≡ d
     is_refusal y k = cc
 
 pub fault_is_next : {A : Type 0} (parse : ℕ → Parser A) (s : RemainingSection) (offset : ℕ) (v : View) (d : Error)
@@ -109,10 +109,10 @@ part_refused n v e h = cases (ltb (length v.bytes) n) h
     refusal : Error → Result (View × View) Error
     refusal y = Err y
 
-    truncated : Error → Result (Unit {0} × View) Error
-    truncated y = Err y
+    error_of : Error → Result (Unit {0} × View) Error
+    error_of y = Err y
 
-    is_refusal : (y : Error) → truncated y ≡ Err e → y ≡ e
+    is_refusal : (y : Error) → error_of y ≡ Err e → y ≡ e
     is_refusal y k = cc
 
     cases : (b : Bool)
@@ -122,31 +122,35 @@ part_refused n v e h = cases (ltb (length v.bytes) n) h
     cases false k = absurd cc
 
 -- what a length and the bytes after it are read as
-abbrev pub framed : {A : Type 0} → (ℕ × Format → Parser A) → ℕ → Parser A
-framed f limit = initial_length limit >>= λ l. (part l.0 >>= λ bytes. within bytes (f l))
+abbrev pub length_and_part : {A : Type 0} → (ℕ × Format → Parser A) → ℕ → Parser A
+length_and_part f limit = initial_length limit >>= λ l. (part l.0 >>= λ bytes. within bytes (f l))
 
 value_of_lift : {A : Type 0} (r : Result A Error) (s : View) → value_of (lift r s) ≡ r
 value_of_lift (Ok x) s = refl
 value_of_lift (Err e) s = refl
 
 pub framed_fault : {A : Type 0} (f : ℕ × Format → Parser A) (limit : ℕ) (v : View) (e : Error)
-    → initial_length limit v ≡ Err e → value_of (framed f limit v) ≡ Err e
+    → initial_length limit v ≡ Err e → value_of (length_and_part f limit v) ≡ Err e
 framed_fault {A} f limit v e first =
-    ap (λ (r : Result ((ℕ × Format) × View) Error). value_of (proceed r (λ m. (part m.0 >>= λ b. within b (f m))))) first
+    ap (λ (r : Result ((ℕ × Format) × View) Error). value_of (proceed r (λ m. part m.0 >>= λ b. within b (f m))))
+    first
 
 pub framed_value : {A : Type 0} (f : ℕ × Format → Parser A) (limit : ℕ) (v : View) (l : ℕ × Format) (s w : View)
     → initial_length limit v ≡ Ok (l, s) → truncate l.0 s ≡ Ok (tt, w)
-    → value_of (framed f limit v) ≡ value_of (f l w)
+    → value_of (length_and_part f limit v) ≡ value_of (f l w)
 framed_value {A} f limit v l s w first cut =
-    ap (λ (r : Result ((ℕ × Format) × View) Error). value_of (proceed r (λ m. (part m.0 >>= λ b. within b (f m))))) first
-    ∙ ap (λ (r : Result (View × View) Error). value_of (proceed r (λ b. within b (f l)))) (part_of_truncated l.0 s w cut)
+    ap (λ (r : Result ((ℕ × Format) × View) Error). value_of (proceed r (λ m. part m.0 >>= λ b. within b (f m))))
+    first
+    ∙ ap (λ (r : Result (View × View) Error). value_of (proceed r (λ b. within b (f l))))
+    (part_of_truncated l.0 s w cut)
     ∙ value_of_lift (value_of (f l w)) (after l.0 s)
 
 pub framed_refused : {A : Type 0} (f : ℕ × Format → Parser A) (limit : ℕ) (v : View) (l : ℕ × Format) (s : View)
     (e : Error) → initial_length limit v ≡ Ok (l, s) → truncate l.0 s ≡ Err e
-    → value_of (framed f limit v) ≡ Err e
+    → value_of (length_and_part f limit v) ≡ Err e
 framed_refused {A} f limit v l s e first cut =
-    ap (λ (r : Result ((ℕ × Format) × View) Error). value_of (proceed r (λ m. (part m.0 >>= λ b. within b (f m))))) first
+    ap (λ (r : Result ((ℕ × Format) × View) Error). value_of (proceed r (λ m. part m.0 >>= λ b. within b (f m))))
+    first
     ∙ ap (λ (r : Result (View × View) Error). value_of (proceed r (λ b. within b (f l)))) (part_refused l.0 s e cut)
 
 -- a refusal that is handed on is the meaning's

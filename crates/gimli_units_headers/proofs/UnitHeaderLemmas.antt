@@ -109,7 +109,7 @@ fields_are limit format v =
 
 -- a unit in the bytes that its length counts, all of them there
 record IsUnitIn (limit offset unit_length : ℕ) (format : Format) (bytes : View) (u : DebugUnit) : Type 0 where
-  placed : u.offset ≡ offset
+  at_offset : u.offset ≡ offset
   long : u.unit_length ≡ unit_length
   in_format : u.encoding.format ≡ format
   has_address_size : IsTrue (is_address_size u.encoding.address_size)
@@ -122,11 +122,11 @@ unit_in_is limit offset unit_length format v =
     yields-proceed (fields_are limit format v) (λ f s h.
     yields-Ok _ s
     (record
-    { placed = refl; long = refl; in_format = h.in_format; has_address_size = h.has_address_size; took = h.took }))
+    { at_offset = refl; long = refl; in_format = h.in_format; has_address_size = h.has_address_size; took = h.took }))
 
 -- a unit, the bytes that it takes, and its sizes
 pub record IsUnit (limit offset : ℕ) (v : View) (u : DebugUnit) (w : View) : Type 0 where
-  pub placed : u.offset ≡ offset
+  pub at_offset : u.offset ≡ offset
   pub took : Took (length_including_self u) v w
   pub has_address_size : IsTrue (is_address_size u.encoding.address_size)
   pub is_whole : size_of_header u + bytes_left u.entries ≡ length_including_self u
@@ -145,7 +145,7 @@ unit_is limit offset v =
     let whole : bytes_left bytes ≡ l.0 = ap bytes_left part.0 ∙ length-take l.0 s.bytes ∙ (omega arith) in
     let entries = took_left is.0.took in
     record {
-      placed = is.0.placed;
+      at_offset = is.0.at_offset;
       took =
           subst (λ (x : View). Took (length_including_self u) v x) (sym is.1)
           (took_same (took_both h part.1) (omega arith));
@@ -159,7 +159,7 @@ pub unit_is_well_formed : (limit offset : ℕ) (v : View) (u : DebugUnit) → of
 unit_is_well_formed limit offset v u fits e =
     let found = value_of-Ok (unit limit offset v) u e in
     let is = (unit_is limit offset v).hold u found.0 found.1 in
-    let placed = is.placed in
+    let at_offset = is.at_offset in
     let enough = is.took.enough in
     record { has_address_size = is.has_address_size; is_whole = is.is_whole; fits = omega arith }
 
@@ -169,7 +169,7 @@ units_are_parts limit = record {
   each = λ offset v u w e.
       let is = (unit_is limit offset v).hold u w e in
       let some = four_at_least u.encoding.format in
-      record { placed = is.placed; took = is.took; some = omega arith };
+      record { at_offset = is.at_offset; took = is.took; some = omega arith };
 }
 
 -- ---- by the fields that are read

@@ -154,7 +154,8 @@ aranges_to_come s = filter_map (λ p. transpose (arange_of s.address_size p)) (p
 -- From the old place in a set to the new one, all pairs are skipped.
 abbrev pub SkipsPairs : ℕ → List ArangePair → List ArangePair → Type 0
 SkipsPairs size old new =
-    (skips : List ArangePair) × (old ≡ skips ++ new) × All (λ p. arange_of size p ≡ Ok None) skips
+    (skips : List ArangePair) × (old ≡ skips ++ new)
+    × All (λ p. arange_of size p ≡ Ok None) skips
 
 -- The pair that a call answers about is the first that isn't skipped, and the pairs after it are
 -- left.

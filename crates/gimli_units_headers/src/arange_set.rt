@@ -124,7 +124,8 @@ impl<R: Reader> SectionPart<R> for ArangeHeader<R> {
 // The fields after the length, and the padding.
 #[tactic(auto, unfolding(crate::specs::ArangeSets::arange_fields))]
 fn parse_fields<R: Reader>(input: &mut R, format: Format) -> Result<ArangeFields<R::Offset>, Error>
-    ensures value { ReturnsAs (λ fields. (arange_fields_of R.Offset.count fields, R.view input.new))
+    ensures value { ReturnsAs
+        (λ fields. (arange_fields_of R.Offset.count fields, R.view input.new))
         result (arange_fields R.Offset.limit format (R.view input.old)) }
     ensures address { IfOk result
         (λ fields. IsTrue (is_address_size fields.encoding.address_size)) }

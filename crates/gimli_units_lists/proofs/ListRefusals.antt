@@ -39,11 +39,11 @@ item_is_next {A} {B} see (Some y) x old new is h =
 -- ---- calls that take no memory
 
 -- the same refusal, of a call with answers
-abbrev refused : {A : Type 0} → Error → Result (Option A) Error
-refused e = Err e
+abbrev error_of : {A : Type 0} → Error → Result (Option A) Error
+error_of e = Err e
 
-not_memory : {A : Type 0} (e : Error) → (refused {A = A} e ≢ Err Memory) → e ≢ Memory
-not_memory {A} e free = λ is. free (ap (λ (d : Error). refused {A = A} d) is)
+not_memory : {A : Type 0} (e : Error) → (error_of {A = A} e ≢ Err Memory) → e ≢ Memory
+not_memory {A} e free = λ is. free (ap (λ (d : Error). error_of {A = A} d) is)
 
 pub next_without_memory : {A B : Type 0} (see : A → B) (r : Result (Option A) Error) (old new : List (Result B Error))
     → ReturnsNextOrNoMemory see r old new → r ≢ Err Memory → ReturnsNext see r old new

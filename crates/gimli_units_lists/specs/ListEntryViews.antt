@@ -23,8 +23,8 @@ raw_entry count (StartEnd begin end) = start_end begin end
 raw_entry count (StartLength begin length) = start_length begin length
 
 -- an entry of a location list, whose readers and offsets are seen by these functions
-abbrev pub raw_location : {R E O : Type 0} → (R → View) → (O → ℕ) → RawLocListEntry R E O
-    → RawLocation
+abbrev pub raw_location : {R E O : Type 0} → (R → View) → (O → ℕ)
+    → RawLocListEntry R E O → RawLocation
 raw_location view count (location_entry.AddressOrOffsetPair begin end x) =
     bounded_location (address_or_offset_pair begin end) (view x.0)
 raw_location view count (location_entry.BaseAddress addr) = base (base_address addr)
@@ -42,7 +42,8 @@ raw_location view count (location_entry.StartLength begin length x) =
     bounded_location (start_length begin length) (view x.0)
 
 -- the same by its parts
-abbrev pub raw_parts : {R E O : Type 0} → (R → View) → (O → ℕ) → Parts R E O → RawLocation
+abbrev pub raw_parts : {R E O : Type 0} → (R → View) → (O → ℕ) → Parts R E O
+    → RawLocation
 raw_parts view count (Base e) = base (raw_entry count e)
 raw_parts view count (Bounded e x) = bounded_location (raw_entry count e) (view x.0)
 raw_parts view count (Default x) = default_location (view x.0)

@@ -11,7 +11,8 @@ use Rattle.gimli_units_lists.specs.ListSections.{RemainingRanges, range_list, Re
 
 -- Entries that stand for these answers and leave another base: what comes after them is resolved at
 -- that base.
-abbrev pub StandFor : {E A : Type 0} → (E → Option ℕ) → (ℕ → E → Result (Option A) Error) → ℕ
+abbrev pub StandFor : {E A : Type 0} → (E → Option ℕ)
+    → (ℕ → E → Result (Option A) Error) → ℕ
     → List (Result E Error) → List (Result A Error) → ℕ → Type 0
 StandFor {E} sets resolve base entries answers after =
     (rest : List (Result E Error)) → resolutions sets resolve base (entries ++ rest)
@@ -19,7 +20,8 @@ StandFor {E} sets resolve base entries answers after =
 
 -- the first entries stand for nothing
 pub record SkipsEntries {E A : Type 0} (sets : E → Option ℕ)
-    (resolve : ℕ → E → Result (Option A) Error) (base after : ℕ) (old new : List (Result E Error))
+    (resolve : ℕ → E → Result (Option A) Error) (base after : ℕ)
+    (old new : List (Result E Error))
     : Type 0 where
   pub skips : List (Result E Error)
   pub splits : old ≡ skips ++ new
@@ -27,7 +29,8 @@ pub record SkipsEntries {E A : Type 0} (sets : E → Option ℕ)
 
 -- and the one after them for this answer
 pub record StopsAfter {E A : Type 0} (sets : E → Option ℕ)
-    (resolve : ℕ → E → Result (Option A) Error) (base after : ℕ) (old new : List (Result E Error))
+    (resolve : ℕ → E → Result (Option A) Error) (base after : ℕ)
+    (old new : List (Result E Error))
     (x : Result A Error) : Type 0 where
   pub skips : List (Result E Error)
   pub last : Result E Error
@@ -39,15 +42,15 @@ pub record StopsAfter {E A : Type 0} (sets : E → Option ℕ)
 -- ---- lists
 
 -- the entries from the old place to the new one stand for nothing
-abbrev pub Skips : {H E A : Type 0} → ListKind H E A → ℕ → RemainingList H → RemainingList H
-    → Type 0
+abbrev pub Skips : {H E A : Type 0} → ListKind H E A → ℕ → RemainingList H
+    → RemainingList H → Type 0
 Skips kind limit old new =
     SkipsEntries (kind.base_in old.against.setting) (kind.answer_of old.against.setting)
     old.against.base new.against.base (entries_of kind limit old) (entries_of kind limit new)
 
 -- the last of them stands for this answer
-abbrev pub Finds : {H E A : Type 0} → ListKind H E A → ℕ → RemainingList H → RemainingList H
-    → Result A Error → Type 0
+abbrev pub Finds : {H E A : Type 0} → ListKind H E A → ℕ → RemainingList H
+    → RemainingList H → Result A Error → Type 0
 Finds kind limit old new x =
     StopsAfter (kind.base_in old.against.setting) (kind.answer_of old.against.setting)
     old.against.base new.against.base (entries_of kind limit old) (entries_of kind limit new) x
@@ -60,10 +63,12 @@ TakesEntries kind see limit (Ok None) old new =
     Skips kind limit old new × (entries_of kind limit new ≡ [])
 TakesEntries kind see limit (Ok (Some x)) old new = Finds kind limit old new (Ok (see x))
 TakesEntries kind see limit (Err e) old new =
-    (e ≢ Memory → Finds kind limit old new (Err e)) × (e ≡ Memory → Skips kind limit old new)
+    (e ≢ Memory → Finds kind limit old new (Err e))
+    × (e ≡ Memory → Skips kind limit old new)
 
 -- the same of ranges, which take no memory
-abbrev pub TakesRange : ℕ → Result (Option Range) Error → RemainingRanges → RemainingRanges → Type 0
+abbrev pub TakesRange : ℕ → Result (Option Range) Error → RemainingRanges → RemainingRanges
+    → Type 0
 TakesRange limit (Ok None) old new =
     Skips range_lists limit (range_list old) (range_list new)
     × (raw_ranges_to_come limit new.raw ≡ [])

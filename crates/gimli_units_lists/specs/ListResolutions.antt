@@ -15,8 +15,8 @@ answer_list (Err e) = Err e ∷ []
 
 -- What entries stand for, each at its base, with the entries before them. The fault of one takes
 -- its place.
-abbrev pub resolutions_after : {E A : Type 0} → (E → Option ℕ) → (ℕ → E → Result (Option A) Error)
-    → ℕ
+abbrev pub resolutions_after : {E A : Type 0} → (E → Option ℕ)
+    → (ℕ → E → Result (Option A) Error) → ℕ
     → List E → List (Result E Error) → List (Result A Error)
 resolutions_after sets resolve first before [] = []
 resolutions_after sets resolve first before (Ok e ∷ rest) =
@@ -26,6 +26,7 @@ resolutions_after sets resolve first before (Err fault ∷ rest) =
     Err fault ∷ resolutions_after sets resolve first before rest
 
 -- the same of a whole list
-abbrev pub resolutions : {E A : Type 0} → (E → Option ℕ) → (ℕ → E → Result (Option A) Error) → ℕ
+abbrev pub resolutions : {E A : Type 0} → (E → Option ℕ)
+    → (ℕ → E → Result (Option A) Error) → ℕ
     → List (Result E Error) → List (Result A Error)
 resolutions sets resolve first entries = resolutions_after sets resolve first [] entries

@@ -101,7 +101,8 @@ raw_ranges_at encoding offset s =
     (from_offset offset (range_section encoding s))
 
 -- the ranges of a range list
-abbrev pub ranges_at : Encoding → ℕ → Resolution → RangeSections → Result RemainingRanges Error
+abbrev pub ranges_at : Encoding → ℕ → Resolution → RangeSections
+    → Result RemainingRanges Error
 ranges_at encoding offset against s =
     lists_at
     (λ bytes. record { raw = record { encoding = encoding; rest = bytes }; against = against })

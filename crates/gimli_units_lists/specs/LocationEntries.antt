@@ -59,8 +59,8 @@ abbrev pub base_of_field : (ℕ → RawEntry) → Parser ℕ → Parser (Option 
 base_of_field entry p = p >>= λ x. give (Some (base (entry x)))
 
 -- a range of two fields, and its expression
-abbrev pub bounded_location_of_fields : (ℕ → ℕ → RawEntry) → Parser (ℕ × ℕ) → Parser View
-    → Parser (Option RawLocation)
+abbrev pub bounded_location_of_fields : (ℕ → ℕ → RawEntry) → Parser (ℕ × ℕ)
+    → Parser View → Parser (Option RawLocation)
 bounded_location_of_fields entry p x =
     p >>= λ n. (x >>= λ e. give (Some (bounded_location (entry n.0 n.1) e)))
 

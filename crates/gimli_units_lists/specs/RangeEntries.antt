@@ -37,7 +37,8 @@ abbrev pub entry_of_field : (ℕ → RawEntry) → Parser ℕ → Parser (Option
 entry_of_field entry p = p >>= λ x. give (Some (entry x))
 
 -- an entry of two fields
-abbrev pub entry_of_fields : (ℕ → ℕ → RawEntry) → Parser (ℕ × ℕ) → Parser (Option RawEntry)
+abbrev pub entry_of_fields : (ℕ → ℕ → RawEntry) → Parser (ℕ × ℕ)
+    → Parser (Option RawEntry)
 entry_of_fields entry p = p >>= λ x. give (Some (entry x.0 x.1))
 
 -- the entry of a kind (DWARF 5, 7.25)

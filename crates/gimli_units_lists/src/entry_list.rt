@@ -41,7 +41,8 @@ pub(crate) fn next_entry<R: Reader, E: ListEntry<R>>(
     input: &mut R,
     how: E::How,
 ) -> Result<Option<E>, Error>
-    ensures next { ReturnsNextOrNoMemory E.see result (entries_from (E.entry how) (R.view input.old))
+    ensures next { ReturnsNextOrNoMemory E.see result
+        (entries_from (E.entry how) (R.view input.old))
         (entries_from (E.entry how) (R.view input.new)) }
     ensures free { E.reads_freely → result ≢ Err Memory }
 {

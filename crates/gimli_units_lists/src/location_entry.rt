@@ -236,7 +236,8 @@ fn read_index_and_length<R: Reader>(
 fn parse_expression<R: Reader>(input: &mut R, encoding: Encoding) -> Result<Expression<R>, Error>
     ensures value { ReturnsAsOrNoMemory (λ x. (R.view x.0, R.view input.new)) result
         (expression R.Offset.limit encoding (R.view input.old)) }
-    ensures free { IsTrue R.copies_freely → ReturnsAs (λ x. (R.view x.0, R.view input.new)) result
+    ensures free { IsTrue R.copies_freely
+        → ReturnsAs (λ x. (R.view x.0, R.view input.new)) result
         (expression R.Offset.limit encoding (R.view input.old)) }
 {
     let length = if encoding.version <= 4 {

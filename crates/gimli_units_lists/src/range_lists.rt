@@ -154,7 +154,8 @@ impl<R: Reader> RangeLists<R> {
         S: Reader,
         requires { F.IsAlwaysCallable f }
         ensures { (ranges rnglists : R) × (old new : S)
-            × (R.view ranges ≡ self.now.debug_ranges) × (R.view rnglists ≡ self.now.debug_rnglists)
+            × (R.view ranges ≡ self.now.debug_ranges)
+            × (R.view rnglists ≡ self.now.debug_rnglists)
             × FnReturnsAt F.Fn f ranges old × FnReturnsAt F.Fn f rnglists new
             × (result ≡ record { debug_ranges = S.view old; debug_rnglists = S.view new }) }
     {

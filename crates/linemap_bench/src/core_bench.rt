@@ -2,6 +2,7 @@
 
 use crate::timing::{report, shared, slice};
 use crate::{core_bytes, core_measures};
+use gimli_core::Reader;
 use std::alloc::{AllocError, Global};
 use std::io;
 use std::rt::Runtime;
@@ -28,50 +29,67 @@ impl Inputs {
     }
 }
 
+// What is timed.
+#[derive(Clone, Copy)]
+enum Measure {
+    Unsigned,
+    Signed,
+    Fixed,
+    Texts,
+    Tables,
+}
+
+// The measures, each with its names for borrowed and for shared bytes.
+const MEASURES: [(Measure, &str, &str); 5] = [
+    (Measure::Unsigned, "unsigned slice", "unsigned bytes"),
+    (Measure::Signed, "signed slice", "signed bytes"),
+    (Measure::Fixed, "fixed slice", "fixed bytes"),
+    (Measure::Texts, "texts slice", "texts bytes"),
+    (Measure::Tables, "tables slice", "tables bytes"),
+];
+
+impl Measure {
+    // The bytes that it reads.
+    fn bytes(self, inputs: &Inputs) -> &[u8] {
+        match self {
+            Measure::Unsigned | Measure::Signed => &inputs.numbers,
+            Measure::Fixed => &inputs.fixed,
+            Measure::Texts => &inputs.texts,
+            Measure::Tables => &inputs.tables,
+        }
+    }
+
+    // A checksum of what it reads.
+    fn sum<R: Reader>(self, alloc: Global, input: R) -> u64 {
+        match self {
+            Measure::Unsigned => core_measures::unsigned(input),
+            Measure::Signed => core_measures::signed(input),
+            Measure::Fixed => core_measures::fixed(input),
+            Measure::Texts => core_measures::texts(input),
+            Measure::Tables => core_measures::tables(alloc, input),
+        }
+    }
+}
+
 /// Times reading about `size` bytes of each kind.
 pub fn time<R: Runtime + AllocGlobal>(rt: &R, size: usize) -> io::Result<()> {
     let inputs = Inputs::of_size(rt.alloc(), size)?;
-    time_borrowed(rt, &inputs)?;
-    time_shared(rt, &inputs)
+    for (measure, borrowed, _) in MEASURES {
+        time_reader(rt, measure, borrowed, slice(measure.bytes(&inputs)))?;
+    }
+    for (measure, _, from_copy) in MEASURES {
+        time_reader(rt, measure, from_copy, shared(rt, measure.bytes(&inputs))?)?;
+    }
+    Ok(())
 }
 
-fn time_borrowed<R: Runtime + AllocGlobal>(rt: &R, inputs: &Inputs) -> io::Result<()> {
+fn time_reader<R: Runtime + AllocGlobal, I: Reader>(
+    rt: &R,
+    measure: Measure,
+    name: &str,
+    input: I,
+) -> io::Result<()> {
     let start = Instant::now(rt)?;
-    let sum = core_measures::unsigned(slice(&inputs.numbers));
-    report(rt, "unsigned slice", Ok(sum), start)?;
-    let start = Instant::now(rt)?;
-    let sum = core_measures::signed(slice(&inputs.numbers));
-    report(rt, "signed slice", Ok(sum), start)?;
-    let start = Instant::now(rt)?;
-    let sum = core_measures::fixed(slice(&inputs.fixed));
-    report(rt, "fixed slice", Ok(sum), start)?;
-    let start = Instant::now(rt)?;
-    let sum = core_measures::texts(slice(&inputs.texts));
-    report(rt, "texts slice", Ok(sum), start)?;
-    let start = Instant::now(rt)?;
-    let sum = core_measures::tables(rt.alloc(), slice(&inputs.tables));
-    report(rt, "tables slice", Ok(sum), start)
-}
-
-fn time_shared<R: Runtime + AllocGlobal>(rt: &R, inputs: &Inputs) -> io::Result<()> {
-    let input = shared(rt, &inputs.numbers)?;
-    let start = Instant::now(rt)?;
-    let sum = core_measures::unsigned(input);
-    report(rt, "unsigned bytes", Ok(sum), start)?;
-    let input = shared(rt, &inputs.numbers)?;
-    let start = Instant::now(rt)?;
-    let sum = core_measures::signed(input);
-    report(rt, "signed bytes", Ok(sum), start)?;
-    let input = shared(rt, &inputs.fixed)?;
-    let start = Instant::now(rt)?;
-    let sum = core_measures::fixed(input);
-    report(rt, "fixed bytes", Ok(sum), start)?;
-    let input = shared(rt, &inputs.texts)?;
-    let start = Instant::now(rt)?;
-    let sum = core_measures::texts(input);
-    report(rt, "texts bytes", Ok(sum), start)?;
-    let input = shared(rt, &inputs.tables)?;
-    let start = Instant::now(rt)?;
-    let sum = core_measures::tables(rt.alloc(), input);
-    report(rt, "tables bytes", Ok(sum), start)
+    let sum = measure.sum(rt.alloc(), input);
+    report(rt, name, Ok(sum), start)
 }

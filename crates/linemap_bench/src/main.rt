@@ -3,8 +3,9 @@
 //!
 //! - `core BYTES`: the reading core;
 //! - `units BYTES`: units and range lists;
+//! - `lines BYTES`: a line number program;
 //! - `sections TABLE SECTION`: a section of a table, as in `a.json .debug_line`;
-//! - `each BYTES TABLE SECTION`: all three, one after the other.
+//! - `each BYTES TABLE SECTION`: all of them, one after the other.
 //!
 //! What is timed prints a checksum of each measurement to standard output, and its time to standard
 //! error.
@@ -13,6 +14,9 @@
 mod core_bench;
 mod core_bytes;
 mod core_measures;
+mod lines_bench;
+mod lines_bytes;
+mod lines_measures;
 mod sections;
 mod source;
 mod timing;
@@ -26,14 +30,15 @@ use std::process::ExitCode;
 use std::rt::{Env, Files, Runtime};
 use std::{env, io};
 
-const USAGE: &str = "usage: linemap_bench core BYTES | units BYTES | sections TABLE SECTION | each \
-                     BYTES TABLE SECTION";
+const USAGE: &str = "usage: linemap_bench core BYTES | units BYTES | lines BYTES | sections TABLE \
+                     SECTION | each BYTES TABLE SECTION";
 
 // What the command line asks for.
 #[derive(Drop)]
 struct Request<'a> {
     core: Option<usize>,
     units: Option<usize>,
+    lines: Option<usize>,
     // A table's file and the name of a section.
     section: Option<(&'a str, &'a str)>,
 }
@@ -61,6 +66,7 @@ fn request_of(words: &[String]) -> Option<Request<'_>> {
     let nothing = Request {
         core: None,
         units: None,
+        lines: None,
         section: None,
     };
     match (what.as_str(), rest) {
@@ -72,6 +78,10 @@ fn request_of(words: &[String]) -> Option<Request<'_>> {
             units: Some(size.parse().ok()?),
             ..nothing
         }),
+        ("lines", [size]) => Some(Request {
+            lines: Some(size.parse().ok()?),
+            ..nothing
+        }),
         ("sections", [table, section]) => Some(Request {
             section: Some((table, section)),
             ..nothing
@@ -81,6 +91,7 @@ fn request_of(words: &[String]) -> Option<Request<'_>> {
             Some(Request {
                 core: size,
                 units: size,
+                lines: size,
                 section: Some((table, section)),
             })
         }
@@ -110,6 +121,9 @@ fn time<R: Runtime + AllocGlobal>(rt: &R, request: &Request<'_>) -> io::Result<(
     }
     if let Some(size) = request.units {
         units_bench::time(rt, size)?;
+    }
+    if let Some(size) = request.lines {
+        lines_bench::time(rt, size)?;
     }
     Ok(())
 }

@@ -2,7 +2,7 @@
 //! emitted.
 
 use gimli_core::{Format, SectionId};
-use linemap_emit::{Table, Target, emit_sections};
+use linemap_emit::{Sections, Table, Target, emit_sections};
 use linemap_output::{fail, write_bytes};
 use std::alloc::Global;
 use std::fs;
@@ -31,19 +31,42 @@ fn print_section<O: Write, E: Write>(
     out: &mut O,
     err: &mut E,
 ) -> u8 {
-    let (Some(id), Some(target)) = (id_of(section), Target::new(4, Format::Dwarf32, 8, false))
-    else {
-        return refuse(err, "no such section is emitted");
-    };
-    let Ok(table) = Table::read(alloc, text) else {
-        return refuse(err, "the table is refused");
-    };
-    let Ok(sections) = emit_sections(alloc, &table, target) else {
-        return refuse(err, "the table's sections are refused");
-    };
-    match write_bytes(out, sections.get(id)) {
+    match id_of(section) {
+        Some(id) => match sections_of(alloc, text, 4, 8) {
+            Ok(sections) => print_bytes(sections.get(id), out, err),
+            Err(message) => refuse(err, message),
+        },
+        None => refuse(err, "no such section is emitted"),
+    }
+}
+
+fn print_bytes<O: Write, E: Write>(bytes: &[u8], out: &mut O, err: &mut E) -> u8 {
+    match write_bytes(out, bytes) {
         Ok(()) => 0,
         Err(_) => refuse(err, "the section can't be written"),
+    }
+}
+
+// What is emitted of the table in a text, in a version with addresses of a size.
+fn sections_of(
+    alloc: Global,
+    text: &[u8],
+    version: u16,
+    address_size: u8,
+) -> Result<Sections, &'static str> {
+    match Target::new(version, Format::Dwarf32, address_size, false) {
+        Some(target) => sections_for(alloc, text, target),
+        None => Err("no such section is emitted"),
+    }
+}
+
+fn sections_for(alloc: Global, text: &[u8], target: Target) -> Result<Sections, &'static str> {
+    match Table::read(alloc, text) {
+        Ok(table) => match emit_sections(alloc, &table, target) {
+            Ok(sections) => Ok(sections),
+            Err(_) => Err("the table's sections are refused"),
+        },
+        Err(_) => Err("the table is refused"),
     }
 }
 

@@ -3,57 +3,76 @@
 use crate::timing::{report, shared, slice};
 use crate::units_bytes::{ABBREVIATIONS, Sections};
 use crate::units_measures;
+use gimli_core::{Error, Reader};
+use std::alloc::Global;
 use std::io;
 use std::rt::Runtime;
 use std::time::Instant;
 
+// What is timed over entries.
+#[derive(Clone, Copy)]
+enum Measure {
+    Read,
+    Whole,
+    Skipped,
+}
+
+// The measures, each with its names for borrowed and for shared bytes.
+const MEASURES: [(Measure, &str, &str); 3] = [
+    (Measure::Read, "read slice", "read bytes"),
+    (Measure::Whole, "whole slice", "whole bytes"),
+    (Measure::Skipped, "skipped slice", "skipped bytes"),
+];
+
+impl Measure {
+    // A checksum of what it reads.
+    fn sum<R: Reader>(self, alloc: Global, info: R, abbrev: R) -> Result<u64, Error> {
+        match self {
+            Measure::Read => units_measures::read_all(alloc, info, abbrev),
+            Measure::Whole => units_measures::read_whole(alloc, info, abbrev),
+            Measure::Skipped => units_measures::skip_all(alloc, info, abbrev),
+        }
+    }
+}
+
 /// Times reading about `size` bytes of entries, and a list of ranges for each 160 bytes.
 pub fn time<R: Runtime + AllocGlobal>(rt: &R, size: usize) -> io::Result<()> {
     let sections = Sections::of_size(rt.alloc(), size)?;
-    time_borrowed(rt, &sections)?;
-    time_shared(rt, &sections)?;
-    time_shared_lists(rt, &sections)
+    let (info, lists, addresses) = (&sections.info, &sections.lists, &sections.addresses);
+    for (measure, borrowed, _) in MEASURES {
+        time_entries(rt, measure, borrowed, slice(info), slice(ABBREVIATIONS))?;
+    }
+    let count = sections.count;
+    let borrowed = [slice(&[]), slice(lists), slice(addresses)];
+    time_lists(rt, "ranges slice", count, borrowed)?;
+    for (measure, _, from_copy) in MEASURES {
+        let (info, abbrev) = (shared(rt, info)?, shared(rt, ABBREVIATIONS)?);
+        time_entries(rt, measure, from_copy, info, abbrev)?;
+    }
+    let from_copy = [shared(rt, &[])?, shared(rt, lists)?, shared(rt, addresses)?];
+    time_lists(rt, "ranges bytes", count, from_copy)
 }
 
-fn time_borrowed<R: Runtime + AllocGlobal>(rt: &R, sections: &Sections) -> io::Result<()> {
-    let (info, abbrev) = (sections.info.as_slice(), ABBREVIATIONS);
+fn time_entries<R: Runtime + AllocGlobal, I: Reader>(
+    rt: &R,
+    measure: Measure,
+    name: &str,
+    info: I,
+    abbrev: I,
+) -> io::Result<()> {
     let start = Instant::now(rt)?;
-    let sum = units_measures::read_all(rt.alloc(), slice(info), slice(abbrev));
-    report(rt, "read slice", sum, start)?;
-    let start = Instant::now(rt)?;
-    let sum = units_measures::read_whole(rt.alloc(), slice(info), slice(abbrev));
-    report(rt, "whole slice", sum, start)?;
-    let start = Instant::now(rt)?;
-    let sum = units_measures::skip_all(rt.alloc(), slice(info), slice(abbrev));
-    report(rt, "skipped slice", sum, start)?;
-    let (lists, addresses) = (slice(&sections.lists), slice(&sections.addresses));
-    let start = Instant::now(rt)?;
-    let sum = units_measures::ranges(sections.count, slice(&[]), lists, addresses);
-    report(rt, "ranges slice", sum, start)
+    let sum = measure.sum(rt.alloc(), info, abbrev);
+    report(rt, name, sum, start)
 }
 
-fn time_shared<R: Runtime + AllocGlobal>(rt: &R, sections: &Sections) -> io::Result<()> {
-    let (info, abbrev) = (shared(rt, &sections.info)?, shared(rt, ABBREVIATIONS)?);
+// Over no older lists, the lists and their addresses.
+fn time_lists<R: Runtime, I: Reader>(
+    rt: &R,
+    name: &str,
+    count: usize,
+    [nothing, lists, addresses]: [I; 3],
+) -> io::Result<()> {
     let start = Instant::now(rt)?;
-    let sum = units_measures::read_all(rt.alloc(), info, abbrev);
-    report(rt, "read bytes", sum, start)?;
-    let (info, abbrev) = (shared(rt, &sections.info)?, shared(rt, ABBREVIATIONS)?);
-    let start = Instant::now(rt)?;
-    let sum = units_measures::read_whole(rt.alloc(), info, abbrev);
-    report(rt, "whole bytes", sum, start)?;
-    let (info, abbrev) = (shared(rt, &sections.info)?, shared(rt, ABBREVIATIONS)?);
-    let start = Instant::now(rt)?;
-    let sum = units_measures::skip_all(rt.alloc(), info, abbrev);
-    report(rt, "skipped bytes", sum, start)
-}
-
-fn time_shared_lists<R: Runtime + AllocGlobal>(rt: &R, sections: &Sections) -> io::Result<()> {
-    let (lists, addresses) = (
-        shared(rt, &sections.lists)?,
-        shared(rt, &sections.addresses)?,
-    );
-    let nothing = shared(rt, &[])?;
-    let start = Instant::now(rt)?;
-    let sum = units_measures::ranges(sections.count, nothing, lists, addresses);
-    report(rt, "ranges bytes", sum, start)
+    let sum = units_measures::ranges(count, nothing, lists, addresses);
+    report(rt, name, sum, start)
 }

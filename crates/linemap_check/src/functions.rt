@@ -20,7 +20,8 @@ pub fn has_call_outside(functions: &[TableFunction]) -> bool
 
 /// B11.
 pub fn has_calls_overlap(functions: &[TableFunction]) -> bool
-    ensures { result ≡ list_any (λ f. any_calls_overlap f.calls) (map function_part functions.now) }
+    ensures { result ≡ list_any (λ f. any_calls_overlap f.calls)
+        (map function_part functions.now) }
 {
     functions
         .iter()

@@ -60,7 +60,8 @@ fn instructions(
 ) -> Result<EndianVec<RunTimeEndian>, Error>
     requires served { IsServed encoding }
     requires emits { CanEmitSequences (map sequence_part sequences.now) }
-    requires spelled { IsOk (entries_bytes constant_of (is_big_endian endian) (emitted_rules encoding)
+    requires spelled { IsOk
+        (entries_bytes constant_of (is_big_endian endian) (emitted_rules encoding)
         (first_row (emitted_rules encoding))
         (emitted_sequences (map sequence_part sequences.now))) }
     ensures ok { IfOk result

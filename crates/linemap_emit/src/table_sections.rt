@@ -23,7 +23,8 @@ pub fn emit_sections(alloc: Global, table: &Table, target: Target) -> Result<Sec
     ensures too_large { IsErrOf result EmitError.TooLarge
         ↔ (2 ^ 31 ≤ table_weight (units_of table.now)) }
     ensures sections { IfOk result
-        (λ s. s ≡ emitted_sections (encoding_of target) (is_big_of target) (units_of table.now)) }
+        (λ s. s ≡ emitted_sections (encoding_of target) (is_big_of target)
+        (units_of table.now)) }
     ensures answers { IfOk result (λ s. AreAnswers (is_big_of target) s (units_of table.now)) }
 {
     if table.weight() >= WEIGHT_LIMIT {

@@ -60,13 +60,13 @@ record ArePlain (files : ℕ) (cs : Calls) : Type 0 where
   texts : any_call (λ c. is_bad_text c.name) cs ≡ false
 
 -- of one call, and of those in it and after it
-record Split (test : Site → Bool) (s : Site) (inner others : Calls) : Type 0 where
+record CallFacts (test : Site → Bool) (s : Site) (inner others : Calls) : Type 0 where
   here : test s ≡ false
   within : any_call test inner ≡ false
   after : any_call test others ≡ false
 
 call_parts : (test : Site → Bool) (s : Site) (inner others : Calls) → any_call test (more_calls s inner others) ≡ false
-    → Split test s inner others
+    → CallFacts test s inner others
 call_parts test s inner others h =
     let outer = or_parts (test s || any_call test inner) (any_call test others) h in
     let front = or_parts (test s) (any_call test inner) outer.0 in

@@ -9,7 +9,8 @@ use Rattle.linemap_emit_units.specs.TableEmission.{EmittedTable}
 
 -- The string section, the range lists and the entries of the unit are no longer than a bound, and
 -- the entries' offsets are below 2^31.
-pub record IsUnitBounded (e : Encoding) (is_big : Bool) (most : ℕ) (st : EmittedUnit) : Type 0 where
+pub record IsUnitBounded (e : Encoding) (is_big : Bool) (most : ℕ)
+    (st : EmittedUnit) : Type 0 where
   pub has_8_bytes : st.encoding.address_size ≡ 8
   pub texts_few : length (section_of st.texts) ≤ most
   pub ranges_few : length st.ranges.bytes ≤ most

@@ -20,9 +20,9 @@ use Rattle.linemap_emit_units.specs.LookupAgreement.{lookup_range}
 use Rattle.linemap_emit_units.specs.BytesAt.{bytes_at}
 
 -- the bytes after those before
-pub skipped : (is_big : Bool) (first : ℕ) (front rest : List ℕ)
+pub skip_before : (is_big : Bool) (first : ℕ) (front rest : List ℕ)
     → skip (length front) (bytes_at is_big first (front ++ rest)) ≡ Ok (tt, bytes_at is_big (first + length front) rest)
-skipped is_big first front rest =
+skip_before is_big first front rest =
     let v = bytes_at is_big first (front ++ rest) in
     let within : length front ≤ length (front ++ rest) = omega (arith, length-append front rest) in
     ap (λ b. cond {A = Result (Unit {0} × View) Error} b (Err (unexpected_end v)) (Ok (tt, after (length front) v)))
@@ -65,7 +65,7 @@ list_is e is_big first s b front rest rs old is_size writable section encoding l
       raw = record { encoding = e; rest = left };
       against = from_low_pc e 0 b.addr_base s.sections.debug_addr;
     }) (value_of (proceed r (λ _. here))))
-    (λ r. Ok (ranges_to_come s.offset_limit r))) (skipped is_big first front (string ++ rest))
+    (λ r. Ok (ranges_to_come s.offset_limit r))) (skip_before is_big first front (string ++ rest))
     ∙ ap (λ l. Ok l)
     (ranges_again s.offset_limit e is_big (first + length front) b.addr_base s.sections.debug_addr
     (map lookup_range rs) rest

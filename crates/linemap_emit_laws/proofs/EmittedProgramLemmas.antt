@@ -29,7 +29,7 @@ use Rattle.linemap_emit_units.proofs.EmittedProgramLines.{lines_again}
 use Rattle.linemap_emit_units.proofs.EmittedProgramRows.{shows_again}
 use Rattle.linemap_emit_units.specs.TableEmission.{EmittedTable, bytes_if_any, program_of}
 use Rattle.linemap_emit_units.specs.FittingUnits.{IsServed, UnitFits, IsInUtf8}
-use Rattle.linemap_emit_laws.proofs.EmittedListLemmas.{skipped}
+use Rattle.linemap_emit_laws.proofs.EmittedListLemmas.{skip_before}
 use Rattle.linemap_emit_units.specs.BytesAt.{bytes_at}
 use Rattle.linemap_emit_units.specs.NumberBytes.{length_limit}
 
@@ -86,7 +86,7 @@ program_is e is_big first u st s front rest directory name served wide fit secti
     ap (header_at s.offset_limit (length front) unit) (section ∙ ap (bytes_at is_big first) regrouped)
     ∙ ap (λ (r : Result (Unit {0} × View) Error).
     value_of (proceed r (λ _. line_header s.offset_limit (length front) unit)))
-    (skipped is_big first front (program ++ rest))
+    (skip_before is_big first front (program ++ rest))
     ∙ ap (λ (r : Result (LineHeader × View) Error). value_of r) (again.again rest)
 
 -- ---- the lines

@@ -52,16 +52,16 @@ unit_recorded e is_big u st final s served wide utf8 fit hold no_zeros extends =
   directory = directory;
   line_program = length st.lines;
   range_list = length st.ranges;
-  others = grown.more_entries;
-  entries_are = grown.entries;
+  others = grows.more_entries;
+  entries_are = grows.entries;
   fit = root_fits s.offset_limit e name directory (length st.lines) (length st.ranges) wide
-      (All-head (λ x. AllFit (2 ^ 31) e (attributes_of x)) x grown.more_entries
-      (subst (All (λ x. AllFit (2 ^ 31) e (attributes_of x))) grown.entries fit.entries_fit));
+      (All-head (λ x. AllFit (2 ^ 31) e (attributes_of x)) x grows.more_entries
+      (subst (All (λ x. AllFit (2 ^ 31) e (attributes_of x))) grows.entries fit.entries_fit));
   is_name = name_there;
   is_directory = directory_there;
   ranges_are =
       λ b encoding low. list_is e is_big hold.ranges_first s b st.ranges
-      (grown.more_ranges ++ extends.more_ranges) u.ranges served.not_after_4 (served_size e served) fit.can_emit.1.1
+      (grows.more_ranges ++ extends.more_ranges) u.ranges served.not_after_4 (served_size e served) fit.can_emit.1.1
       (hold.ranges_is ∙ ap (bytes_at is_big hold.ranges_first) ranges_final) encoding low;
   header =
       program_read e is_big (length st.lines) hold.line_first u fit.instructions directory_there.found name_there.found;
@@ -86,8 +86,8 @@ unit_recorded e is_big u st final s served wide utf8 fit hold no_zeros extends =
     root : EmittedUnit
     root = with_unit_entry (length st.lines) u before
 
-    grown : Grows root (after_entries e is_big u st)
-    grown = root_grows (length st.lines) u before
+    grows : Grows root (after_entries e is_big u st)
+    grows = root_grows (length st.lines) u before
 
     name : ℕ
     name = text_offset u.name before
@@ -99,7 +99,7 @@ unit_recorded e is_big u st final s served wide utf8 fit hold no_zeros extends =
     x = CompileUnit name directory (length st.lines) (length st.ranges)
 
     root_stays : TextsStay root.texts final.texts
-    root_stays = texts_stay_on root.texts (after_entries e is_big u st).texts final.texts grown.texts extends.texts
+    root_stays = texts_stay_on root.texts (after_entries e is_big u st).texts final.texts grows.texts extends.texts
 
     name_stays : TextsStay (with_text st.texts u.name) final.texts
     name_stays = texts_stay_on (with_text st.texts u.name) root.texts final.texts
@@ -114,9 +114,9 @@ unit_recorded e is_big u st final s served wide utf8 fit hold no_zeros extends =
 
     ranges_final : final.ranges
         ≡ (st.ranges ++ spelled_ranges e is_big (map lookup_range u.ranges))
-        ++ (grown.more_ranges ++ extends.more_ranges)
-    ranges_final = extends.ranges ∙ ap (λ (l : List ℕ). l ++ extends.more_ranges) grown.ranges
-        ∙ append_assoc root.ranges.bytes grown.more_ranges extends.more_ranges
+        ++ (grows.more_ranges ++ extends.more_ranges)
+    ranges_final = extends.ranges ∙ ap (λ (l : List ℕ). l ++ extends.more_ranges) grows.ranges
+        ∙ append_assoc root.ranges.bytes grows.more_ranges extends.more_ranges
 
 -- units one after the other
 units_recorded : (e : Encoding) (is_big : Bool) (us : List UnitPart) (st final : EmittedTable)

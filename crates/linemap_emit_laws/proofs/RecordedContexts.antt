@@ -120,8 +120,8 @@ unit_again e is_big s u xs say offset first w main some =
     say.fit) in
     ap (λ l. and_then (root s.offset_limit f.header f.table) (λ r. unit_of_entry (in_file s f) l r)) lines_is
     ∙ ap (λ q. and_then q
-    (λ (r : Row). unit_of_entry (in_file s f) (Ok (record { sequences = sequences_of_rows say.rows; files = say.files }))
-    r)) root_is
+    (λ (r : Row). unit_of_entry (in_file s f)
+    (Ok (record { sequences = sequences_of_rows say.rows; files = say.files })) r)) root_is
     ∙ ap (λ q. and_then q
     (λ ranges. Ok
     (record {

@@ -14,7 +14,8 @@ use Rattle.linemap_emit_units.specs.FittingUnits.{IsServed, AllUnitsFit, AllInUt
 abbrev pub EmissionRecords : Type 0
 EmissionRecords =
     (e : Encoding) (is_big : Bool) (us : List UnitPart) (s : DwarfFile)
-    → IsServed e → 2 ^ 31 ≤ s.offset_limit → AllInUtf8 us → AllUnitsFit e is_big us no_units
+    → IsServed e → 2 ^ 31 ≤ s.offset_limit → AllInUtf8 us
+    → AllUnitsFit e is_big us no_units
     → HoldTable e is_big (emitted_table e is_big us) s
     → RecordsTable e is_big s us (emitted_table e is_big us).units
 

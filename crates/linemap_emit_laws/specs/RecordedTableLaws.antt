@@ -14,7 +14,8 @@ use Rattle.linemap_emit_laws.specs.RecordedTables.{RecordsTable}
 pub record AnswersTable (s : DwarfFile) (us : List UnitPart) : Type 0 where
   pub found : Context
   pub is_context : context s ≡ Ok found
-  pub places : (a : ℕ) → location found a ≡ Ok (option_map lookup_location (table.location_at us a))
+  pub places : (a : ℕ)
+      → location found a ≡ Ok (option_map lookup_location (table.location_at us a))
 
 abbrev pub SectionsAnswer : Type 0
 SectionsAnswer =

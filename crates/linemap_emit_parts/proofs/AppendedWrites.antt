@@ -30,11 +30,11 @@ whole_table r e w0 w1 w2 w3 w4 unit functions calls end =
     let b1 = spelled_declaration (declaration_for e DW_TAG_subprogram.0 false (Function false 0 0)) in
     let c = spelled_declaration (declaration_for e DW_TAG_inlined_subroutine.0 true (Call true 0 0 0 0 0)) in
     let c1 = spelled_declaration (declaration_for e DW_TAG_inlined_subroutine.0 false (Call false 0 0 0 0 0)) in
-    subst (λ (bytes : List ℕ). Appends r w0 w4 bytes) (regrouped a b b1 c c1 (0 ∷ []))
+    subst (λ (bytes : List ℕ). Appends r w0 w4 bytes) (regroup a b b1 c c1 (0 ∷ []))
     (after_append r w0 w1 w4 a ((b ++ b1) ++ ((c ++ c1) ++ 0 ∷ [])) unit
     (after_append r w1 w2 w4 (b ++ b1) ((c ++ c1) ++ 0 ∷ []) functions
     (after_append r w2 w3 w4 (c ++ c1) (0 ∷ []) calls end)))
   where
-    regrouped : (a b b1 c c1 d : List ℕ)
+    regroup : (a b b1 c c1 d : List ℕ)
         → a ++ ((b ++ b1) ++ ((c ++ c1) ++ d)) ≡ (a ++ (b ++ (b1 ++ (c ++ (c1 ++ []))))) ++ d
-    regrouped a b b1 c c1 d = simp (append_assoc, append-nil)
+    regroup a b b1 c c1 d = simp (append_assoc, append-nil)

@@ -226,7 +226,8 @@ pub header_again : (limit offset : ℕ) (e : Encoding) (is_big : Bool) (first : 
     (first + length (spelled_length e.format is_big (length (spelled_program_body e is_big ts fs program)))) ts fs)
     unit ts fs program) (spelled_program e is_big ts fs program)
 unfolding line_header
-header_again limit offset e is_big first unit ts fs program low old is_size length_fits whole fits small good_ts good_fs =
+header_again limit offset e is_big first unit ts fs program low old is_size length_fits whole fits small good_ts
+    good_fs =
     let n = length (spelled_program_body e is_big ts fs program) in
     let at = first + length (spelled_length e.format is_big n) in
     again_onward (λ l. part l.0 >>= λ bytes. within bytes (header_in limit offset unit l.0 l.1))

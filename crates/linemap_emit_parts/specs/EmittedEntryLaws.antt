@@ -21,7 +21,8 @@ DeclarationsAgain =
 -- an entry before other bytes: its row, whose offset the bytes to come give, and the walk after it
 abbrev pub RowAgain : Type 0
 RowAgain =
-    (limit : ℕ) (e : Encoding) (end_offset : ℕ) (depth : ℤ) (is_big : Bool) (first : ℕ) (x : Entry)
+    (limit : ℕ) (e : Encoding) (end_offset : ℕ) (depth : ℤ) (is_big : Bool) (first : ℕ)
+    (x : Entry)
     (rest : List ℕ)
     → IsWritten e → AllFit limit e (attributes_of x)
     → row limit (walk_at e end_offset depth

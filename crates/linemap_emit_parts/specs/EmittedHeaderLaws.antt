@@ -10,7 +10,8 @@ use Rattle.gimli_lines_write_bytes.specs.NumberBytes.{spelled_length, length_lim
 
 -- A program that can be written: of a version up to 4, with directories and files that tables can
 -- have, and lengths that the format can write.
-pub record CanWriteProgram (limit : ℕ) (e : Encoding) (is_big : Bool) (directories : List (List ℕ))
+pub record CanWriteProgram (limit : ℕ) (e : Encoding) (is_big : Bool)
+    (directories : List (List ℕ))
     (files : List EmittedFile) (program : List ℕ) : Type 0 where
   pub not_before_2 : 2 ≤ e.version
   pub not_after_4 : e.version ≤ 4
@@ -23,7 +24,8 @@ pub record CanWriteProgram (limit : ℕ) (e : Encoding) (is_big : Bool) (directo
   pub all_files : All IsTableFile files
 
 -- where the fields of a header begin, whose first length has an identifier
-abbrev pub fields_begin : Encoding → Bool → ℕ → List (List ℕ) → List EmittedFile → List ℕ → ℕ
+abbrev pub fields_begin : Encoding → Bool → ℕ → List (List ℕ) → List EmittedFile
+    → List ℕ → ℕ
 fields_begin e is_big first directories files program =
     first + length
     (spelled_length e.format is_big
@@ -37,7 +39,8 @@ abbrev pub HeaderAgain : Type 0
 HeaderAgain =
     (limit offset : ℕ) (e : Encoding) (is_big : Bool) (first : ℕ) (unit : LineUnit)
     (directories : List (List ℕ)) (files : List EmittedFile) (program rest : List ℕ)
-    → CanWriteProgram limit e is_big directories files program → unit.address_bytes ≡ e.address_size
+    → CanWriteProgram limit e is_big directories files program
+    → unit.address_bytes ≡ e.address_size
     → line_header limit offset unit
     (bytes_at is_big first (spelled_program e is_big directories files program ++ rest))
     ≡ Ok (

@@ -52,8 +52,8 @@ spelled_header version directories files =
     spelled_parameters version ++ (spelled_opcodes ++ spelled_tables directories files)
 
 -- what the first length counts
-abbrev pub spelled_program_body : Encoding → Bool → List (List ℕ) → List EmittedFile → List ℕ
-    → List ℕ
+abbrev pub spelled_program_body : Encoding → Bool → List (List ℕ) → List EmittedFile
+    → List ℕ → List ℕ
 spelled_program_body e is_big directories files program =
     number_bytes is_big 2 e.version
     ++ (number_bytes is_big (word_size e.format)
@@ -61,7 +61,8 @@ spelled_program_body e is_big directories files program =
     ++ (spelled_header e.version directories files ++ program))
 
 -- a header and its program
-abbrev pub spelled_program : Encoding → Bool → List (List ℕ) → List EmittedFile → List ℕ → List ℕ
+abbrev pub spelled_program : Encoding → Bool → List (List ℕ) → List EmittedFile → List ℕ
+    → List ℕ
 spelled_program e is_big directories files program =
     spelled_length e.format is_big
     (length (spelled_program_body e is_big directories files program))
@@ -95,8 +96,8 @@ files_at version fields directories =
     tables_at version fields + length (flat_map spelled_text directories ++ 0 ∷ [])
 
 -- the header at an offset, whose fields begin at an identifier
-abbrev pub header_read : Encoding → Bool → ℕ → ℕ → LineUnit → List (List ℕ) → List EmittedFile
-    → List ℕ → LineHeader
+abbrev pub header_read : Encoding → Bool → ℕ → ℕ → LineUnit → List (List ℕ)
+    → List EmittedFile → List ℕ → LineHeader
 header_read e is_big offset fields unit directories files program = record {
   offset = offset;
   unit_length = length (spelled_program_body e is_big directories files program);

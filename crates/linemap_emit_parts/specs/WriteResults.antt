@@ -6,7 +6,7 @@ use Rattle.gimli_lines_write_bytes.specs.OutputBytes.{WriterContents, append}
 
 -- the bytes are appended to the writer's; a refusal is out of memory, and says nothing of the
 -- writer
-abbrev pub Appends : {A : Type 0} → Result A Error → WriterContents → WriterContents → List ℕ
-    → Type 0
+abbrev pub Appends : {A : Type 0} → Result A Error → WriterContents → WriterContents
+    → List ℕ → Type 0
 Appends (Ok _) old new bytes = new ≡ append bytes old
 Appends (Err e) old new bytes = e ≡ Memory

@@ -174,13 +174,13 @@ all_can_emit_sequences files (s ∷ ss) few a b c d =
 
 -- ---- all units
 
-record Known (us : List UnitPart) : Type 0 where
+record HasSoundRows (us : List UnitPart) : Type 0 where
   bounds : list_any has_out_of_bounds us ≡ false
   rows : list_any has_sequence_with_bad_rows us ≡ false
   numbers : list_any has_bad_line_or_column us ≡ false
   files : list_any has_bad_file_number us ≡ false
 
-units_can_emit_sequences : (us : List UnitPart) → Known us → AllCountable us → AllCanEmitSequences us
+units_can_emit_sequences : (us : List UnitPart) → HasSoundRows us → AllCountable us → AllCanEmitSequences us
 unfolding AllCountable AllCanEmitSequences
 units_can_emit_sequences [] known few = tt
 units_can_emit_sequences (u ∷ us) known few =

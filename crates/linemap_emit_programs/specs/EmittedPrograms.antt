@@ -33,7 +33,8 @@ files_of u = files_from 1 u.files
 
 -- the texts of a unit's files by their numbers: first that of the unit's own name
 abbrev pub emitted_file_texts : UnitPart → List (List ℕ)
-emitted_file_texts u = file_text_of_bytes (Some u.directory) None u.name ∷ map (file_text u) u.files
+emitted_file_texts u =
+    file_text_of_bytes (Some u.directory) None u.name ∷ map (file_text u) u.files
 
 -- the texts of a unit are UTF-8
 abbrev pub FilesAreUtf8 : List FilePart → Type 0

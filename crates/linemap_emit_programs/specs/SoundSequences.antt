@@ -20,4 +20,5 @@ AllCanEmitSequences [] = Unit {0}
 AllCanEmitSequences (u ∷ us) = CanEmitSequences u.sequences × AllCanEmitSequences us
 
 abbrev pub SoundCanEmitSequences : Type 0
-SoundCanEmitSequences = (us : List UnitPart) → IsSound us → AllCountable us → AllCanEmitSequences us
+SoundCanEmitSequences =
+    (us : List UnitPart) → IsSound us → AllCountable us → AllCanEmitSequences us

@@ -70,7 +70,8 @@ with_emitted_unit e is_big u st =
 
 -- ---- all units
 
-unfoldable pub with_emitted_units : Encoding → Bool → List UnitPart → EmittedTable → EmittedTable
+unfoldable pub with_emitted_units : Encoding → Bool → List UnitPart → EmittedTable
+    → EmittedTable
 with_emitted_units e is_big [] st = st
 with_emitted_units e is_big (u ∷ us) st =
     with_emitted_units e is_big us (with_emitted_unit e is_big u st)

@@ -25,9 +25,9 @@ held_ranges_agree a [] = refl
 held_ranges_agree a (r ∷ rs) = ap (λ b. table.holds a r || b) (held_ranges_agree a rs)
 
 -- what is known of calls
-pub record Known (cs : Calls) : Type 0 where
+pub record SoundCalls (cs : Calls) : Type 0 where
   pub parent : List RangePart
-  pub filled : any_call has_empty cs ≡ false
+  pub not_empty : any_call has_empty cs ≡ false
   pub inside : any_call_outside parent cs ≡ false
   pub apart : any_calls_overlap cs ≡ false
 
@@ -60,12 +60,12 @@ module _ (number : ℕ → ℕ) (a : ℕ) where
 
   -- ---- the call of a depth
 
-  holding_agrees : (t : ℕ) (cs : Calls) (flat : List Call) → Known cs → CallsAgree number 0 cs flat
+  holding_agrees : (t : ℕ) (cs : Calls) (flat : List Call) → SoundCalls cs → CallsAgree number 0 cs flat
       → Likewise (CallAgrees number) (find (is_at t) (nested_calls 0 (table.chain a cs))) (call_at_depth flat a t)
   holding_agrees t cs flat known agrees =
       let apart : are_apart (ranges_among ranges_of_call (is_of t) flat) ≡ true =
       ap are_apart (ranges_agree t (calls_at_depth 0 cs) flat agrees)
-      ∙ apart_by_count (ranges_at t (calls_at_depth 0 cs)) (filled_at t 0 cs known.filled)
+      ∙ apart_by_count (ranges_at t (calls_at_depth 0 cs)) (filled_at t 0 cs known.not_empty)
       (λ b. one_at b t 0 known.parent cs known.inside known.apart) in
       let R = CallAgrees number in
       let found =
@@ -115,7 +115,7 @@ module _ (number : ℕ → ℕ) (a : ℕ) where
           → Type 0 = λ l. OneByOne (CallAgrees number) (at_depth d s ∷ nested_calls (d + 1) ss) l in
           subst P (sym goes) (h, rest)
 
-  pub chain_is_agreeing : (cs : Calls) (flat : List Call) → Known cs → CallsAgree number 0 cs flat
+  pub chain_is_agreeing : (cs : Calls) (flat : List Call) → SoundCalls cs → CallsAgree number 0 cs flat
       → ChainAgrees number 0 (table.chain a cs) (chain_at flat a)
   chain_is_agreeing cs flat known agrees =
       chain_agrees flat 0 (table.chain a cs) (λ t _. holding_agrees t cs flat known agrees)
@@ -123,19 +123,19 @@ module _ (number : ℕ → ℕ) (a : ℕ) where
 -- ---- a sound table
 
 pub known_calls : (us : List UnitPart) (u : UnitPart) (f : FunctionPart) → IsSound us → Contains us u
-    → Contains u.functions f → Known f.calls
+    → Contains u.functions f → SoundCalls f.calls
 known_calls us u f sound there here =
     let empty =
     or_parts (list_any is_empty_range u.ranges)
     (list_any (λ f. list_any is_empty_range f.ranges || any_call has_empty f.calls) u.functions)
     (none_passes has_empty_range us u (sound_rule us EmptyRange sound) there) in
-    let filled =
+    let not_empty =
     or_parts (list_any is_empty_range f.ranges) (any_call has_empty f.calls)
     (none_passes (λ (f : FunctionPart). list_any is_empty_range f.ranges || any_call has_empty f.calls) u.functions
     f empty.1 here) in
     record {
       parent = f.ranges;
-      filled = filled.1;
+      not_empty = not_empty.1;
       inside = none_passes (λ (f : FunctionPart). any_call_outside f.ranges f.calls) u.functions f
           (none_passes has_call_outside us u (sound_rule us CallOutside sound) there) here;
       apart = none_passes (λ (f : FunctionPart). any_calls_overlap f.calls) u.functions f

@@ -81,6 +81,6 @@ pub record FunctionAgrees (number : ℕ → ℕ) (at : ℕ → Result FunctionCa
   pub entry_agrees : EntryAgrees number f entry
 
 -- the functions of a unit, in order of appearance
-abbrev pub FunctionsAgree : (ℕ → ℕ) → (ℕ → Result FunctionCalls Error) → List FunctionPart
-    → List Function → Type 0
+abbrev pub FunctionsAgree : (ℕ → ℕ) → (ℕ → Result FunctionCalls Error)
+    → List FunctionPart → List Function → Type 0
 FunctionsAgree number at fs gs = OneByOne (FunctionAgrees number at) fs gs

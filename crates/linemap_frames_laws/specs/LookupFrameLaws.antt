@@ -64,8 +64,8 @@ UnitFramesAgree u a answer =
     × OneByOne FrameAgrees (table.frames_of_function u a (table.function_at u a)) fs
 
 -- what lookups know of a unit: its ranges, and its frames at an address
-abbrev pub UnitAnswerAgrees : {U : Type 0} → (U → List Range) → (U → ℕ → Result (List Frame) Error)
-    → ℕ → UnitPart → U → Type 0
+abbrev pub UnitAnswerAgrees : {U : Type 0} → (U → List Range)
+    → (U → ℕ → Result (List Frame) Error) → ℕ → UnitPart → U → Type 0
 UnitAnswerAgrees ranges frames a u x =
     (ranges x ≡ map lookup_range u.ranges) × UnitFramesAgree u a (frames x a)
 

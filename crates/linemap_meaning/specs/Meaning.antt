@@ -141,7 +141,8 @@ is_between low high s = nat_lt s.address high && nat_lt low (s.address + s.lengt
 -- keep their order
 abbrev pub put_in_order : Stretch → List Stretch → List Stretch
 put_in_order s [] = s ∷ []
-put_in_order s (t ∷ ts) = if nat_le s.address t.address then s ∷ t ∷ ts else t ∷ put_in_order s ts
+put_in_order s (t ∷ ts) =
+    if nat_le s.address t.address then s ∷ t ∷ ts else t ∷ put_in_order s ts
 
 abbrev pub in_order : List Stretch → List Stretch
 in_order [] = []

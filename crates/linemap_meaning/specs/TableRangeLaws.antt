@@ -20,7 +20,8 @@ follow_from low (r ∷ rs) = nat_le low r.begin && follow_from r.end rs
 -- of ranges that ascend, some two overlap exactly where two neighbours do
 abbrev pub NeighboursSuffice : Type 0
 NeighboursSuffice =
-    (rs : List RangePart) → list_any is_empty_range rs ≡ false → begins_ascend_from 0 rs ≡ true
+    (rs : List RangePart) → list_any is_empty_range rs ≡ false
+    → begins_ascend_from 0 rs ≡ true
     → any_overlap rs ≡ not (follow_from 0 rs)
 
 -- ranges that follow each other don't overlap
@@ -34,7 +35,8 @@ FollowingApart =
 -- at most one of the units, of a unit's functions and of its sequences holds an address
 abbrev pub OneUnit : Type 0
 OneUnit =
-    (us : List UnitPart) (a : ℕ) → IsSound us → length (filter (λ u. any_holds a u.ranges) us) ≤ 1
+    (us : List UnitPart) (a : ℕ) → IsSound us
+    → length (filter (λ u. any_holds a u.ranges) us) ≤ 1
 
 abbrev pub OneFunction : Type 0
 OneFunction =

@@ -65,7 +65,8 @@ fn tries_again(error: &Error, interruptions: u32) -> Result<u32, WriteFault>
     ensures again { IfOk result (λ count. (error_kind error.now ≡ ErrorKind.Interrupted)
         × (count ≡ interruptions + 1) × (count < MAX_INTERRUPTIONS)) }
     ensures fault { IfErr result (λ fault. IsFaultOf fault (error_kind error.now)
-        × (error_kind error.now ≡ ErrorKind.Interrupted → MAX_INTERRUPTIONS ≤ interruptions + 1)) }
+        × (error_kind error.now ≡ ErrorKind.Interrupted
+        → MAX_INTERRUPTIONS ≤ interruptions + 1)) }
 {
     let kind = error.kind();
     if kind == ErrorKind::BrokenPipe {

@@ -25,14 +25,14 @@ use Rattle.linemap_places_laws.proofs.AgreeingSequences.{all_good}
 use Rattle.linemap_places_laws.proofs.UnitLocations.{location_agrees, all_rows_good}
 
 -- what is known of the units of a sound table
-record Known (us : List UnitPart) : Type 0 where
+record HasSoundUnits (us : List UnitPart) : Type 0 where
   apart : any_overlap (flat_map (λ u. u.ranges) us) ≡ false
   sequences_apart : list_any has_sequences_overlap us ≡ false
   rows : list_any has_sequence_with_bad_rows us ≡ false
   numbers : list_any has_bad_line_or_column us ≡ false
   files : list_any has_bad_file_number us ≡ false
 
-sound_is_known : (us : List UnitPart) → IsSound us → Known us
+sound_is_known : (us : List UnitPart) → IsSound us → HasSoundUnits us
 sound_is_known us sound = record {
   apart = sound_rule us UnitsOverlap sound;
   sequences_apart = sound_rule us SequencesOverlap sound;
@@ -182,14 +182,14 @@ module _ {U : Type 0} (ranges : U → List Range) (lines : U → Result Lines Er
       omega (arith, here, there, left, right)
 
   -- the first pair that covers the address answers
-  first_location : (n : ℕ) (us : List UnitPart) (xs : List U) → TableAgrees ranges lines us xs → Known us
+  first_location : (n : ℕ) (us : List UnitPart) (xs : List U) → TableAgrees ranges lines us xs → HasSoundUnits us
       → first_answer (map answer (filter covers (pairs_from ranges n xs)))
       ≡ Ok (option_map lookup_location (table.location_at us a))
   first_location n [] [] agrees k = refl
   first_location n [] (x ∷ xs) agrees k = absurd agrees
   first_location n (u ∷ us) [] agrees k = absurd agrees
   first_location n (u ∷ us) (x ∷ xs) agrees k =
-      let rest_known : Known us = record {
+      let rest_known : HasSoundUnits us = record {
         apart = rest_apart u.ranges (flat_map (λ u. u.ranges) us) k.apart;
         sequences_apart = (or_parts (has_sequences_overlap u) (list_any has_sequences_overlap us) k.sequences_apart).1;
         rows = (or_parts (has_sequence_with_bad_rows u) (list_any has_sequence_with_bad_rows us) k.rows).1;

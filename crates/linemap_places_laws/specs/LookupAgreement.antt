@@ -53,8 +53,8 @@ pub record UnitAgrees (u : UnitPart) (ranges : List Range) (lines : Result Lines
     pub lines_are : lines ≡ Ok (record { sequences = sequences_of_rows rows; files = files })
 
 -- the units of a table, one after the other
-abbrev pub TableAgrees : {U : Type 0} → (U → List Range) → (U → Result Lines Error) → List UnitPart
-    → List U → Type 0
+abbrev pub TableAgrees : {U : Type 0} → (U → List Range) → (U → Result Lines Error)
+    → List UnitPart → List U → Type 0
 TableAgrees ranges lines [] [] = Unit {0}
 TableAgrees ranges lines [] (x ∷ xs) = ⊥
 TableAgrees ranges lines (u ∷ us) [] = ⊥

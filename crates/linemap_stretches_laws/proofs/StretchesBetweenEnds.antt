@@ -145,14 +145,14 @@ both_filters {X = X} p q (x ∷ xs) = by_second (q x) (both_filters p q xs)
     with_first true rest = ap (λ l. x ∷ l) rest
     with_first false rest = rest
 
-    left : (b : Bool) → filter p (filter q xs) ≡ both → filter p (filter q xs) ≡ cond (b && false) (x ∷ both) both
-    left true rest = rest
-    left false rest = rest
+    by_test : (b : Bool) → filter p (filter q xs) ≡ both → filter p (filter q xs) ≡ cond (b && false) (x ∷ both) both
+    by_test true rest = rest
+    by_test false rest = rest
 
     by_second : (c : Bool) → filter p (filter q xs) ≡ both
         → filter p (cond c (x ∷ filter q xs) (filter q xs)) ≡ cond (p x && c) (x ∷ both) both
     by_second true rest = with_first (p x) rest
-    by_second false rest = left (p x) rest
+    by_second false rest = by_test (p x) rest
 
 -- ---- a sequence
 

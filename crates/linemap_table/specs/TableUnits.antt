@@ -16,6 +16,7 @@ Answers (Ok table) answer = answer ≡ Ok (units_of table)
 Answers (Err error) answer = answer ≡ Err error
 
 -- the call answers this, or that it is out of memory
-abbrev pub AnswersOrMemory : Result Table TableError → Result (List UnitPart) TableError → Type 0
+abbrev pub AnswersOrMemory : Result Table TableError → Result (List UnitPart) TableError
+    → Type 0
 AnswersOrMemory (Ok table) answer = answer ≡ Ok (units_of table)
 AnswersOrMemory (Err error) answer = error ≢ Memory → answer ≡ Err error

@@ -78,7 +78,8 @@ impl Table {
 // The JSON value of a text.
 fn parse(alloc: Global, text: &[u8]) -> Result<Value, TableError>
     ensures value { IfOk result (λ v. json_in text.now ≡ Some (view v)) }
-    ensures refusal { IfErr result (λ e. e ≢ Memory → (e ≡ Json) × (json_in text.now ≡ None)) }
+    ensures refusal { IfErr result (λ e. e ≢ Memory
+        → (e ≡ Json) × (json_in text.now ≡ None)) }
 {
     match Value::from_slice(alloc, text) {
         Ok(value) => Ok(value),

@@ -29,7 +29,8 @@ pub record PrintsMistake (text : List ℕ) (old new : Option (List ℕ)) (e : En
 
 -- some text is printed, as help or as a mistake
 abbrev pub PrintsText : Bool
-    → Option (List ℕ) → Option (List ℕ) → Option (List ℕ) → Option (List ℕ) → Ended → Type 0
+    → Option (List ℕ) → Option (List ℕ) → Option (List ℕ) → Option (List ℕ)
+    → Ended → Type 0
 PrintsText true out_old out_new err_old err_new e =
     (text : List ℕ) × PrintsHelp text out_old out_new err_old err_new e
 PrintsText false out_old out_new err_old err_new e =
@@ -37,7 +38,8 @@ PrintsText false out_old out_new err_old err_new e =
 
 -- out of memory is reported; a fault of the parse prints its text, unless memory for it is refused
 abbrev pub Explains : WordsError
-    → Option (List ℕ) → Option (List ℕ) → Option (List ℕ) → Option (List ℕ) → Ended → Type 0
+    → Option (List ℕ) → Option (List ℕ) → Option (List ℕ) → Option (List ℕ)
+    → Ended → Type 0
 Explains Memory out_old out_new err_old err_new e =
     EndsOutOfMemory err_old err_new e × Keeps out_old out_new
 Explains (Fault fault) out_old out_new err_old err_new e =

@@ -49,7 +49,8 @@ pub fn ask<O: Write, E: Write>(
 // Reads the table, emits its sections and writes the answers.
 fn answer<W: Write>(alloc: Global, text: &[u8], words: &[String], out: &mut W) -> Result<(), Stop>
     ensures whole { let p = ask_outcome text.now (map string_bytes words.now) in OnOk result
-        (Appends (W.contents out.old) (W.contents out.new) p.out × (p.err ≡ []) × (p.status ≡ 0)) }
+        (Appends (W.contents out.old) (W.contents out.new) p.out × (p.err ≡ [])
+        × (p.status ≡ 0)) }
     ensures prefix { AppendsPrefix (W.contents out.old) (W.contents out.new)
         (ask_outcome text.now (map string_bytes words.now)).out }
     ensures stop { IfErr result (StopsAt (ask_outcome text.now (map string_bytes words.now))) }
@@ -92,22 +93,22 @@ fn write_places<W: Write>(
     ensures stop { IfErr result StopsWriting }
 {
     let dwarf = dwarf_of(alloc, sections, target().endian());
-    let context = context_of(alloc, dwarf)?;
-    write_answers(alloc, &context, words, out)
+    let mut context = context_of(alloc, dwarf)?;
+    write_answers(alloc, &mut context, words, out)
 }
 
 // Writes a line for each word.
 fn write_answers<R: Reader, W: Write>(
     alloc: Global,
-    context: &Context<R>,
+    context: &mut Context<R>,
     words: &[String],
     out: &mut W,
 ) -> Result<(), Stop>
-    requires { NeverRefuses context.now.context }
+    requires { NeverRefuses context.old.context }
     ensures whole { OnOk result (Appends (W.contents out.old) (W.contents out.new)
-        (words_text context.now.context (map string_bytes words.now))) }
+        (words_text context.old.context (map string_bytes words.now))) }
     ensures prefix { AppendsPrefix (W.contents out.old) (W.contents out.new)
-        (words_text context.now.context (map string_bytes words.now)) }
+        (words_text context.old.context (map string_bytes words.now)) }
     ensures stop { IfErr result StopsWriting }
 {
     for word in words {
@@ -119,16 +120,17 @@ fn write_answers<R: Reader, W: Write>(
 // Writes the line for a word, and flushes.
 fn write_answer<R: Reader, W: Write>(
     alloc: Global,
-    context: &Context<R>,
+    context: &mut Context<R>,
     word: &str,
     out: &mut W,
 ) -> Result<(), Stop>
-    requires { NeverRefuses context.now.context }
+    requires { NeverRefuses context.old.context }
     ensures whole { OnOk result (Appends (W.contents out.old) (W.contents out.new)
-        (word_text context.now.context word.now ++ codes "\n")) }
+        (word_text context.old.context word.now ++ codes "\n")) }
     ensures prefix { AppendsPrefix (W.contents out.old) (W.contents out.new)
-        (word_text context.now.context word.now ++ codes "\n") }
+        (word_text context.old.context word.now ++ codes "\n") }
     ensures stop { IfErr result StopsWriting }
+    ensures value { context.new ≡ context.old }
 {
     let line = answer_line(alloc, context, word)?;
     write_text(out, &line)?;
@@ -139,12 +141,13 @@ fn write_answer<R: Reader, W: Write>(
 // The line for a word, with its end.
 fn answer_line<R: Reader>(
     alloc: Global,
-    context: &Context<R>,
+    context: &mut Context<R>,
     word: &str,
 ) -> Result<String, AllocError>
-    requires { NeverRefuses context.now.context }
-    ensures { IfOk result (λ line.
-        string_bytes line ≡ word_text context.now.context word.now ++ codes "\n") }
+    requires { NeverRefuses context.old.context }
+    ensures line { IfOk result (λ line.
+        string_bytes line ≡ word_text context.old.context word.now ++ codes "\n") }
+    ensures value { context.new ≡ context.old }
 {
     let mut line = word_line(alloc, context, word)?;
     line.push('\n')?;

@@ -31,7 +31,7 @@ pub fn dwarf_of(
     sections: &Sections,
     endian: RunTimeEndian,
 ) -> Dwarf<EndianSlice<'_, RunTimeEndian>>
-    ensures { result ≡ file_of (2 ^ 64) (is_big_endian endian) sections.now }
+    ensures { result.file ≡ file_of (2 ^ 64) (is_big_endian endian) sections.now }
 {
     Dwarf {
         debug_abbrev: DebugAbbrev::from(section(sections, endian, SectionId::DebugAbbrev)),

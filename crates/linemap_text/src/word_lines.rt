@@ -7,7 +7,7 @@ ghost use Rattle.addr2line_context.specs.BorrowedLocations.{location_value};
 ghost use Rattle.addr2line_context.specs.Contexts.{location};
 ghost use Rattle.linemap_text.specs.WordTexts.{NeverRefuses, text_of_place, text_of_answer, word_text};
 
-use addr2line_context::{Context, Location, Reader};
+use addr2line_context::{Context, Error, Location, Reader};
 use linemap_emit::read_address;
 use std::alloc::{AllocError, Global};
 
@@ -29,31 +29,39 @@ pub fn place_line(alloc: Global, place: Option<Location<'_>>) -> Result<String, 
     }
 }
 
-// The place of an address, in a context that refuses none.
-fn place_at<R: Reader>(context: &Context<R>, address: u64) -> Option<Location<'_>>
-    requires { NeverRefuses context.now.context }
-    ensures { text_of_place (option_map location_value result)
-        ≡ text_of_answer (location context.now.context address) }
+// The line for an address, in a context that refuses none.
+fn address_line<R: Reader>(
+    alloc: Global,
+    context: &mut Context<R>,
+    address: u64,
+) -> Result<String, AllocError>
+    requires { NeverRefuses context.old.context }
+    ensures line { IfOk result (λ line.
+        string_bytes line ≡ text_of_answer (location context.old.context address)) }
+    ensures value { context.new ≡ context.old }
 {
-    match context.find_location(address) {
+    let place = match context.find_location(address) {
         Ok(place) => place,
+        Err(Error::Memory) => return Err(AllocError),
         Err(_) => unreachable!(),
-    }
+    };
+    place_line(alloc, place)
 }
 
 /// The line that answers a word, without a line end; a word that isn't an address is answered as an
 /// address without a place.
 pub fn word_line<R: Reader>(
     alloc: Global,
-    context: &Context<R>,
+    context: &mut Context<R>,
     word: &str,
 ) -> Result<String, AllocError>
-    requires { NeverRefuses context.now.context }
-    ensures { IfOk result (λ line. string_bytes line ≡ word_text context.now.context word.now) }
+    requires { NeverRefuses context.old.context }
+    ensures line { IfOk result (λ line.
+        string_bytes line ≡ word_text context.old.context word.now) }
+    ensures value { context.new ≡ context.old }
 {
-    let place = match read_address(word) {
-        Some(address) => place_at(context, address),
-        None => None,
-    };
-    place_line(alloc, place)
+    match read_address(word) {
+        Some(address) => address_line(alloc, context, address),
+        None => place_line(alloc, None),
+    }
 }

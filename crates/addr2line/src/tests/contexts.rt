@@ -1,7 +1,8 @@
 //! Contexts over small files. The bytes are written by hand from the standard.
 
+use super::files::{EMPTY, File, Slice, load};
 use crate::{Context, LocationRangeIter};
-use addr2line_context::{Dwarf, EndianBytes, EndianSlice, Error, LittleEndian, SectionId};
+use addr2line_context::{EndianBytes, Error, LittleEndian, Reader};
 use bytes::Bytes;
 use std::alloc::Global;
 use std::rc::Rc;
@@ -96,40 +97,12 @@ const BROKEN_LINES: &[u8] = b"\x38\0\0\0\x04\0\x1b\0\0\0\x01\x01\x01\xfb\x0e\x0d
     \0\x01\x01\x01\x01\0\0\0\x01\0\0\x01\0a.c\0\0\0\0\0\
     \0\x09\x02\0\x10\0\0\0\0\0\0\x01\x02\x04\x03\x02\x01\x02\x04\0\x01\x01\x02";
 
-// The sections of a file that aren't empty.
-#[derive(Clone, Copy)]
-struct File {
-    abbrev: &'static [u8],
-    info: &'static [u8],
-    line: &'static [u8],
-    aranges: &'static [u8],
-}
-
-const EMPTY: File = File {
-    abbrev: b"",
-    info: b"",
-    line: b"",
-    aranges: b"",
-};
-
-impl File {
-    fn get(self, id: SectionId) -> &'static [u8] {
-        match id {
-            SectionId::DebugAbbrev => self.abbrev,
-            SectionId::DebugInfo => self.info,
-            SectionId::DebugLine => self.line,
-            SectionId::DebugAranges => self.aranges,
-            _ => &[],
-        }
-    }
-}
-
 fn file_of(info: &'static [u8], line: &'static [u8]) -> File {
     File {
         abbrev: TABLE,
         info,
         line,
-        aranges: b"",
+        ..EMPTY
     }
 }
 
@@ -139,27 +112,26 @@ fn file_with_language(info: &'static [u8], line: &'static [u8], aranges: &'stati
         info,
         line,
         aranges,
+        ..EMPTY
     }
 }
 
-type Borrowed = EndianSlice<'static, LittleEndian>;
-
 type Shared = EndianBytes<LittleEndian>;
 
-fn sections_of(alloc: Global, file: File) -> Result<Dwarf<Borrowed>, Error> {
-    Dwarf::load(alloc, move |id: SectionId| -> Result<Borrowed, Error> {
-        Ok(EndianSlice::new(file.get(id), LittleEndian))
-    })
+fn context_of(alloc: Global, file: File) -> Result<Context<Slice>, Error> {
+    match load(alloc, file) {
+        Ok(dwarf) => Context::from_dwarf(alloc, dwarf),
+        Err(error) => Err(error),
+    }
 }
 
-fn context_of(alloc: Global, file: File) -> Result<Context<Borrowed>, Error> {
-    Context::from_dwarf(alloc, sections_of(alloc, file)?)
-}
-
-fn context_of_counted(alloc: Global, file: File) -> Result<Context<Borrowed>, Error> {
-    match Rc::new(alloc, sections_of(alloc, file)?) {
-        Ok(sections) => Context::from_arc_dwarf(alloc, sections),
-        Err(_) => Err(Error::Memory),
+fn context_of_counted(alloc: Global, file: File) -> Result<Context<Slice>, Error> {
+    match load(alloc, file) {
+        Ok(dwarf) => match Rc::new(alloc, dwarf) {
+            Ok(dwarf) => Context::from_arc_dwarf(alloc, dwarf),
+            Err(_) => Err(Error::Memory),
+        },
+        Err(error) => Err(error),
     }
 }
 
@@ -188,33 +160,47 @@ fn context_of_shared(alloc: Global, file: File) -> Result<Context<Shared>, Error
 
 // The number of units, that of the supplement's, and of the first unit the language, the begin and
 // the end of its first range.
-fn first_unit(alloc: Global, file: File) -> Result<(usize, usize, Option<u16>, u64, u64), Error> {
-    let context = context_of(alloc, file)?;
+type Units = (usize, usize, Option<u16>, u64, u64);
+
+fn first_unit(alloc: Global, file: File) -> Result<Units, Error> {
+    match context_of(alloc, file) {
+        Ok(context) => units_of(&context).ok_or(Error::NoSuchUnit),
+        Err(error) => Err(error),
+    }
+}
+
+fn units_of(context: &Context<Slice>) -> Option<Units> {
     let units = context.units();
-    let first = units.first().ok_or(Error::NoSuchUnit)?;
-    let range = first.ranges().first().ok_or(Error::NoSuchUnit)?;
+    let first = units.first()?;
+    let range = first.ranges().first()?;
     let language = first.language().map(|language| language.0);
     let more = context.supplement_units().len();
-    Ok((units.len(), more, language, range.begin, range.end))
+    Some((units.len(), more, language, range.begin, range.end))
 }
 
 // The line and the column of an address, and whether its file is /w/a.c.
 type Place = Option<(Option<u32>, Option<u32>, bool)>;
 
 fn place(alloc: Global, file: File, probe: u64) -> Result<Place, Error> {
-    let context = context_of_counted(alloc, file)?;
-    let Some(place) = context.find_location(probe)? else {
-        return Ok(None);
-    };
-    Ok(Some((place.line, place.column, place.file == Some("/w/a.c"))))
+    match context_of_counted(alloc, file) {
+        Ok(mut context) => place_in(&mut context, probe),
+        Err(error) => Err(error),
+    }
 }
 
 fn place_in_shared(alloc: Global, file: File, probe: u64) -> Result<Place, Error> {
-    let context = context_of_shared(alloc, file)?;
-    let Some(place) = context.find_location(probe)? else {
-        return Ok(None);
-    };
-    Ok(Some((place.line, place.column, place.file == Some("/w/a.c"))))
+    match context_of_shared(alloc, file) {
+        Ok(mut context) => place_in(&mut context, probe),
+        Err(error) => Err(error),
+    }
+}
+
+fn place_in<R: Reader>(context: &mut Context<R>, probe: u64) -> Result<Place, Error> {
+    match context.find_location(probe) {
+        Ok(Some(place)) => Ok(Some((place.line, place.column, place.file == Some("/w/a.c")))),
+        Ok(None) => Ok(None),
+        Err(error) => Err(error),
+    }
 }
 
 #[test]
@@ -232,22 +218,29 @@ fn a_unit_and_its_places(rt: HostRuntime) {
     assert_eq!(rt; place(alloc, whole, 0x1008), Ok(None));
 }
 
-fn line_at(context: &Context<Borrowed>, probe: u64) -> Result<Option<u32>, Error> {
-    match context.find_location(probe)? {
-        Some(place) => Ok(place.line),
-        None => Ok(None),
+fn line_at(context: &mut Context<Slice>, probe: u64) -> Result<Option<u32>, Error> {
+    match context.find_location(probe) {
+        Ok(Some(place)) => Ok(place.line),
+        Ok(None) => Ok(None),
+        Err(error) => Err(error),
     }
 }
 
 // The lines at three addresses.
-fn lines_at(alloc: Global, file: File, probes: [u64; 3]) -> Result<[Option<u32>; 3], Error> {
-    let context = context_of(alloc, file)?;
-    let [first, second, third] = probes;
-    Ok([
-        line_at(&context, first)?,
-        line_at(&context, second)?,
-        line_at(&context, third)?,
-    ])
+type Lines = [Result<Option<u32>, Error>; 3];
+
+fn lines_at(alloc: Global, file: File, probes: [u64; 3]) -> Result<Lines, Error> {
+    match context_of(alloc, file) {
+        Ok(mut context) => {
+            let [first, second, third] = probes;
+            Ok([
+                line_at(&mut context, first),
+                line_at(&mut context, second),
+                line_at(&mut context, third),
+            ])
+        }
+        Err(error) => Err(error),
+    }
 }
 
 #[test]
@@ -280,7 +273,9 @@ fn lines_of_addresses(rt: HostRuntime) {
         ("nothing", EMPTY, [0, 15, u64::MAX], [None; 3]),
     ];
     for (what, file, probes, lines) in table {
-        assert_eq!(rt; lines_at(rt.alloc(), file, probes), Ok(lines), "{what}");
+        let [first, second, third] = lines;
+        let wanted = [Ok(first), Ok(second), Ok(third)];
+        assert_eq!(rt; lines_at(rt.alloc(), file, probes), Ok(wanted), "{what}");
     }
 }
 
@@ -291,8 +286,16 @@ type Item = (u64, u64, Option<u32>);
 
 // The first items between two ends.
 fn items_between(alloc: Global, file: File, (low, high): (u64, u64)) -> Result<Vec<Item>, Error> {
-    let context = context_of(alloc, file)?;
-    let mut found = context.find_location_range(low, high)?;
+    match context_of(alloc, file) {
+        Ok(mut context) => match context.find_location_range(low, high) {
+            Ok(mut found) => items_of(alloc, &mut found),
+            Err(error) => Err(error),
+        },
+        Err(error) => Err(error),
+    }
+}
+
+fn items_of(alloc: Global, found: &mut LocationRangeIter<'_, Slice>) -> Result<Vec<Item>, Error> {
     let mut items = Vec::new(alloc);
     for _ in 0..5 {
         match found.next()? {
@@ -342,21 +345,31 @@ fn rows_between_two_ends(rt: HostRuntime) -> Result<(), Fail> {
 
 // ---- refusals
 
-fn next_address(found: &mut LocationRangeIter<'_, Borrowed>) -> Result<Option<u64>, Error> {
-    match found.next()? {
-        Some((address, _, _)) => Ok(Some(address)),
-        None => Ok(None),
+fn next_address(found: &mut LocationRangeIter<'_, Slice>) -> Result<Option<u64>, Error> {
+    match found.next() {
+        Ok(Some((address, _, _))) => Ok(Some(address)),
+        Ok(None) => Ok(None),
+        Err(error) => Err(error),
     }
 }
 
 // The addresses of the first three answers.
-fn three_answers(context: &Context<Borrowed>) -> Result<[Result<Option<u64>, Error>; 3], Error> {
-    let mut found = context.find_location_range(0, u64::MAX)?;
-    Ok([
-        next_address(&mut found),
-        next_address(&mut found),
-        next_address(&mut found),
-    ])
+fn three_answers(
+    context: &mut Context<Slice>,
+    (low, high): (u64, u64),
+) -> Result<[Result<Option<u64>, Error>; 3], Error> {
+    match context.find_location_range(low, high) {
+        Ok(mut found) => Ok([
+            next_address(&mut found),
+            next_address(&mut found),
+            next_address(&mut found),
+        ]),
+        Err(error) => Err(error),
+    }
+}
+
+fn refusal_of_lines(context: &mut Context<Slice>) -> Option<Error> {
+    context.parse_lines().err()
 }
 
 fn fault(alloc: Global, file: File) -> Option<Error> {
@@ -367,11 +380,11 @@ fn fault(alloc: Global, file: File) -> Option<Error> {
 #[test]
 fn refusals(rt: HostRuntime) -> Result<(), Fail> {
     let alloc = rt.alloc();
-    let context = context_of(alloc, file_of(OVERLAPPING, ONE_AND_BROKEN))?;
-    let refusal = context.parse_lines().err().ok_or("no refusal")?;
+    let mut context = context_of(alloc, file_of(OVERLAPPING, ONE_AND_BROKEN))?;
+    let refusal = refusal_of_lines(&mut context).ok_or("no refusal")?;
     assert!(rt; matches!(refusal, Error::UnexpectedEof(_)));
     let answers = [Ok(Some(0x10)), Err(refusal), Err(refusal)];
-    assert_eq!(rt; three_answers(&context)?, answers);
+    assert_eq!(rt; three_answers(&mut context, (0, u64::MAX))?, answers);
     let broken = file_with_language(UNIT, BROKEN_LINES, b"");
     let refused = place(alloc, broken, 0x1003);
     assert!(rt; matches!(refused, Err(Error::UnexpectedEof(_))));

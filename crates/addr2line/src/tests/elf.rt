@@ -1,6 +1,6 @@
 //! Small files by hand, of both classes and in both orders (System V ABI).
 
-use crate::{Elf, LoadError};
+use crate::{Elf, LoadError, Symbol};
 use addr2line_context::{Error, Reader, ReaderOffsetId, RunTimeEndian, SectionId};
 use bytes::Bytes;
 use std::alloc::{AllocError, Global};
@@ -26,11 +26,11 @@ const WIDE_BIG: Kind = Kind {
     endian: RunTimeEndian::Big,
 };
 
-/// The names of the sections below, at 1 and 13.
+// The names of the sections below, at 1 and 13.
 const NAMES: &[u8] = b"\0.debug_info\0.text\0";
 
-/// A section header's fields in order, without its alignment and the size of its entries: name,
-/// type, flags, address, offset, size, link, info.
+// A section header's fields in order, without its alignment and the size of its entries: name,
+// type, flags, address, offset, size, link, info.
 type Section = [u64; 8];
 
 const NONE: Section = [0; 8];
@@ -42,7 +42,7 @@ struct Kind {
 }
 
 impl Kind {
-    /// Puts a number of a size in bytes; 0 means the size of an address.
+    // Puts a number of a size in bytes; 0 means the size of an address.
     fn put(self, out: &mut Vec<u8>, size: u8, n: u64) -> Result<(), AllocError> {
         let size = match (size, self.class) {
             (0, 1) => 4,
@@ -61,8 +61,8 @@ impl Kind {
         Ok(())
     }
 
-    /// Puts a file's header: its type, and of the table of sections the offset, the size of an
-    /// entry, the number of entries and the index of the names.
+    // Puts a file's header: its type, and of the table of sections the offset, the size of an
+    // entry, the number of entries and the index of the names.
     fn put_header(self, out: &mut Vec<u8>, header: [u64; 5]) -> Result<(), AllocError> {
         let order = match self.endian {
             RunTimeEndian::Little => 1,
@@ -88,7 +88,7 @@ impl Kind {
         Ok(())
     }
 
-    /// Puts an entry of a symbol table.
+    // Puts an entry of a symbol table.
     fn put_symbol(
         self,
         out: &mut Vec<u8>,
@@ -107,12 +107,12 @@ impl Kind {
         }
     }
 
-    /// The bytes of a section header.
+    // The bytes of a section header.
     fn entry_size(self) -> u64 {
         if self.class == 1 { 40 } else { 64 }
     }
 
-    /// The offset after a number of section headers.
+    // The offset after a number of section headers.
     fn after_headers(self, count: u64) -> u64 {
         let header_size = if self.class == 1 { 52 } else { 64 };
         count
@@ -120,8 +120,8 @@ impl Kind {
             .wrapping_add(header_size)
     }
 
-    /// A file with sections, the index of that with their names, and the bytes after the section
-    /// headers.
+    // A file with sections, the index of that with their names, and the bytes after the section
+    // headers.
     fn file(
         self,
         alloc: Global,
@@ -145,7 +145,7 @@ impl Kind {
         Elf::parse(alloc, Bytes::copy_from_slice(alloc, out.as_slice())?)
     }
 
-    /// A file with `.debug_info` of eight bytes, a section of names, and one more.
+    // A file with `.debug_info` of eight bytes, a section of names, and one more.
     fn file_of(
         self,
         alloc: Global,
@@ -161,7 +161,7 @@ impl Kind {
         self.file(alloc, file_type, 2, &[NONE, info, names, more], rest)
     }
 
-    /// Why such a file's `.debug_info` is refused.
+    // Why such a file's `.debug_info` is refused.
     fn refusal(
         self,
         alloc: Global,
@@ -170,12 +170,12 @@ impl Kind {
         more: Section,
     ) -> Option<LoadError> {
         match self.file_of(alloc, file_type, info, more) {
-            Ok(elf) => elf.section(".debug_info").err(),
+            Ok(elf) => refused_section(&elf, ".debug_info"),
             Err(error) => Some(error),
         }
     }
 
-    /// Why a file with a header, one section header, and names is refused.
+    // Why a file with a header, one section header, and names is refused.
     fn refused_header(self, alloc: Global, header: [u64; 5], first: Section) -> Option<LoadError> {
         self.headed(alloc, header, first).err()
     }
@@ -188,7 +188,7 @@ impl Kind {
         Elf::parse(alloc, Bytes::copy_from_slice(alloc, out.as_slice())?)
     }
 
-    /// A file with symbols in a section of a type.
+    // A file with symbols in a section of a type.
     fn file_with_symbols(self, alloc: Global, section_type: u64) -> Result<Elf, LoadError> {
         let start = self.after_headers(3);
         let mut out = Vec::new(alloc);
@@ -212,14 +212,37 @@ impl Kind {
         self.put_symbol(out, 7, [0x1006, 0], 2, 1)
     }
 
-    /// The name and the address of the symbol of an address.
-    fn symbol_at(self, alloc: Global, address: u64) -> Result<Option<(String, u64)>, Fail> {
-        let symbols = self.file_with_symbols(alloc, 2)?.symbols(alloc)?;
-        match symbols.find(address) {
-            Some(symbol) => Ok(Some((String::from_str(alloc, symbol.name())?, symbol.address()))),
-            None => Ok(None),
+    // The name and the address of the symbol of an address, in a section of a type.
+    fn symbol_at(
+        self,
+        alloc: Global,
+        section_type: u64,
+        address: u64,
+    ) -> Result<Option<(String, u64)>, LoadError> {
+        match self.file_with_symbols(alloc, section_type) {
+            Ok(elf) => symbol_of(alloc, &elf, address),
+            Err(error) => Err(error),
         }
     }
+}
+
+fn symbol_of(alloc: Global, elf: &Elf, address: u64) -> Result<Option<(String, u64)>, LoadError> {
+    match elf.symbols(alloc) {
+        Ok(symbols) => match symbols.find(address) {
+            Some(symbol) => copy_of(alloc, &symbol),
+            None => Ok(None),
+        },
+        Err(error) => Err(error),
+    }
+}
+
+fn copy_of(alloc: Global, symbol: &Symbol<'_>) -> Result<Option<(String, u64)>, LoadError> {
+    let name = String::from_str(alloc, symbol.name())?;
+    Ok(Some((name, symbol.address())))
+}
+
+fn refused_section(elf: &Elf, name: &str) -> Option<LoadError> {
+    elf.section(name).err()
 }
 
 fn low(bytes: &[u8; 8], size: u8) -> &[u8] {
@@ -244,11 +267,13 @@ fn refusal_of(alloc: Global, file: &'static [u8]) -> Option<LoadError> {
     Elf::parse(alloc, Bytes::from_static(file)).err()
 }
 
-// Whether a file with symbols in a section of a type has one for 0x1004.
-fn has_symbol(alloc: Global, section_type: u64) -> Result<bool, LoadError> {
-    let elf = SMALL.file_with_symbols(alloc, section_type)?;
-    let symbols = elf.symbols(alloc)?;
-    Ok(symbols.find(0x1004).is_some())
+fn load_error(error: Error) -> LoadError {
+    LoadError::from(error)
+}
+
+fn printed(alloc: Global, errors: [LoadError; 2]) -> Result<String, AllocError> {
+    let [first, second] = errors;
+    format!(in alloc; "{first} {second}")
 }
 
 // ---- headers
@@ -288,29 +313,63 @@ fn refused_files(rt: HostRuntime) -> Result<(), Fail> {
         let first = [0, 0, 0, 0, 0, size, link, 0];
         assert_eq!(rt; WIDE.refused_header(rt.alloc(), header, first), error);
     }
-    let eof = LoadError::from(Error::UnexpectedEof(ReaderOffsetId(7)));
-    let printed = format!(in rt.alloc(); "{eof} {}", LoadError::Io)?;
-    assert_eq!(rt; printed.as_str(), "L8 E2 L2");
+    let eof = load_error(Error::UnexpectedEof(ReaderOffsetId(7)));
+    let text = printed(rt.alloc(), [eof, LoadError::Io])?;
+    assert_eq!(rt; text.as_str(), "L8 E2 L2");
     Ok(())
 }
 
 // ---- sections
 
+// The calls on a file, each in a function of its own to which names and bytes are passed: with the
+// literals in one body, the checker would compute the contracts on them.
+
+fn has_debug_section(elf: &Elf, id: SectionId, bytes: &[u8], place: u64) -> bool {
+    match elf.debug_section(id) {
+        Ok(found) => found.as_bytes() == bytes && found.offset_id() == ReaderOffsetId(place),
+        Err(_) => false,
+    }
+}
+
+fn has_section(elf: &Elf, name: &str, bytes: &[u8]) -> bool {
+    match elf.section(name) {
+        Ok(found) => found.as_bytes() == bytes,
+        Err(_) => false,
+    }
+}
+
+fn has_empty_dwo_section(elf: &Elf, id: SectionId) -> bool {
+    match elf.dwo_section(id) {
+        Ok(found) => found.is_empty(),
+        Err(_) => false,
+    }
+}
+
+fn range_of(elf: &Elf, name: &[u8]) -> Option<(u64, u64)> {
+    match elf.get_section_range(name) {
+        Some(range) => Some((range.start, range.end)),
+        None => None,
+    }
+}
+
+fn endian_of(elf: &Elf) -> RunTimeEndian {
+    elf.endian()
+}
+
 #[test]
 fn sections_stand_at_their_offsets(rt: HostRuntime) -> Result<(), Fail> {
     let text = [13, 1, 0, 0x1000, 1, 2, 0, 0];
+    let bytes = b"\x01\x02\x03\x04\x05\x06\x07\x08";
     for kind in [SMALL, SMALL_BIG, WIDE, WIDE_BIG] {
         let elf = kind.file_of(rt.alloc(), 2, [1, 1, 0, 0, 0, 8, 0, 0], text)?;
-        assert_eq!(rt; elf.endian(), kind.endian);
-        let found = elf.debug_section(SectionId::DebugInfo)?;
-        assert_eq!(rt;
-            found.as_bytes(),
-            b"\x01\x02\x03\x04\x05\x06\x07\x08".as_slice()
-        );
-        assert_eq!(rt; found.offset_id(), ReaderOffsetId(kind.after_headers(4)));
-        assert_eq!(rt; elf.section(".text")?.as_bytes(), b"EL".as_slice());
-        assert!(rt; elf.dwo_section(SectionId::DebugInfo)?.is_empty());
-        assert_eq!(rt; elf.get_section_range(b".text"), Some(0x1000..0x1002));
+        let found = [
+            endian_of(&elf) == kind.endian,
+            has_debug_section(&elf, SectionId::DebugInfo, bytes, kind.after_headers(4)),
+            has_section(&elf, ".text", b"EL"),
+            has_empty_dwo_section(&elf, SectionId::DebugInfo),
+            range_of(&elf, b".text") == Some((0x1000, 0x1002)),
+        ];
+        assert_eq!(rt; found, [true; 5]);
     }
     Ok(())
 }
@@ -352,22 +411,29 @@ fn refused_sections(rt: HostRuntime) {
 
 // ---- symbols
 
+// Whether the symbol of an address has this name and address.
+fn is_symbol(found: Result<Option<(String, u64)>, LoadError>, name: &str, address: u64) -> bool {
+    match found {
+        Ok(Some((found, place))) => found.as_str() == name && place == address,
+        _ => false,
+    }
+}
+
 #[test]
 fn the_symbol_of_the_greatest_address_holds(rt: HostRuntime) -> Result<(), Fail> {
     for kind in [SMALL, SMALL_BIG, WIDE, WIDE_BIG] {
-        assert!(rt; kind.symbol_at(rt.alloc(), 0xfff)?.is_none());
+        assert!(rt; kind.symbol_at(rt.alloc(), 2, 0xfff)?.is_none());
         for (address, name, begin) in [
             (0x1004, "a", 0x1000),
             (0x1008, "c", 0x1008),
             (0x1018, "c", 0x1008),
         ] {
-            let (found, place) = kind.symbol_at(rt.alloc(), address)?.ok_or("no symbol")?;
-            assert_eq!(rt; found.as_str(), name);
-            assert_eq!(rt; place, begin);
+            let found = kind.symbol_at(rt.alloc(), 2, address);
+            assert!(rt; is_symbol(found, name, begin), "at {address}");
         }
     }
     // They are in a section of one of two types.
-    assert!(rt; has_symbol(rt.alloc(), 11)?);
-    assert!(rt; !has_symbol(rt.alloc(), 1)?);
+    assert!(rt; SMALL.symbol_at(rt.alloc(), 11, 0x1004)?.is_some());
+    assert!(rt; SMALL.symbol_at(rt.alloc(), 1, 0x1004)?.is_none());
     Ok(())
 }

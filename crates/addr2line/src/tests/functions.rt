@@ -1,19 +1,13 @@
-//! Functions, calls and frames of small units. The bytes are written by hand from the standard.
+//! Functions and calls of small units. The bytes are written by hand from the standard.
 
-use crate::{
-    DebugFile, Frame, FrameIter, HoldingUnit, KnownUnits, Lines, UnitNames, frames_of_unit,
-};
-use addr2line_context::{
-    Dwarf, EndianSlice, Error, LinesBuilder, LittleEndian, ReaderOffsetId, SectionId, Unit,
-    UnitOffset, UnitRef,
-};
+use super::files::{EMPTY, File, Question, Slice, answer};
+use crate::{DebugFile, HoldingUnit, KnownUnits, UnitNames};
+use addr2line_context::{Dwarf, Error, ReaderOffsetId, Unit, UnitOffset, UnitRef};
 use addr2line_functions::{
-    Call, Chain, FunctionCalls, Functions, calls_of_function, functions_of_unit,
+    Call, FunctionCalls, Functions, Probes, calls_of_function, functions_of_unit,
 };
 use std::alloc::Global;
 use std::test::Fail;
-
-type Slice = EndianSlice<'static, LittleEndian>;
 
 // A unit; a function with low_pc and high_pc as a size; and a type whose name is reached through an
 // indirect implicit constant, which can be skipped and not be read.
@@ -34,28 +28,56 @@ const FUNCTION_UNIT: &[u8] = b"\x23\0\0\0\x04\0\0\0\0\0\x04\x01\
 const UNKNOWN_CODE: &[u8] = b"\x0f\0\0\0\x04\0\0\0\0\0\x04\x01\
     \x02\x40\0\0\0\x20\x09";
 
-fn load(alloc: Global, table: &'static [u8], info: &'static [u8]) -> Result<Dwarf<Slice>, Error> {
-    Dwarf::load(alloc, move |id: SectionId| -> Result<Slice, Error> {
-        let bytes: &'static [u8] = match id {
-            SectionId::DebugAbbrev => table,
-            SectionId::DebugInfo => info,
-            _ => &[],
-        };
-        Ok(EndianSlice::new(bytes, LittleEndian))
-    })
-}
-
-fn first_unit(alloc: Global, dwarf: &Dwarf<Slice>) -> Result<Unit<Slice>, Error> {
-    let header = dwarf.units()?.next()?.ok_or(Error::NoSuchUnit)?;
-    dwarf.unit(alloc, header)
+fn file_of(abbrev: &'static [u8], info: &'static [u8]) -> File {
+    File {
+        abbrev,
+        info,
+        ..EMPTY
+    }
 }
 
 // ---- functions
 
+struct FunctionsOfUnit;
+
+impl Question for FunctionsOfUnit {
+    type Answer = Functions<usize>;
+
+    fn ask(&self, alloc: Global, unit: &UnitRef<'_, Slice>) -> Result<Functions<usize>, Error> {
+        functions_of_unit(alloc, unit, &Probes::new())
+    }
+}
+
+// The number of the function of an address, and the offset of its entry.
+#[derive(Drop)]
+struct FunctionAtProbe(u64);
+
+impl Question for FunctionAtProbe {
+    type Answer = Option<(usize, usize)>;
+
+    fn ask(
+        &self,
+        alloc: Global,
+        unit: &UnitRef<'_, Slice>,
+    ) -> Result<Option<(usize, usize)>, Error> {
+        let mut probes = Probes::new();
+        let functions = functions_of_unit(alloc, unit, &probes)?;
+        let number = functions.find_address(self.0, &mut probes);
+        let function = functions.function_at(self.0, &mut probes);
+        match (number, function) {
+            (Some(number), Some(function)) => Ok(Some((number, function.offset().0))),
+            _ => Ok(None),
+        }
+    }
+}
+
+fn function_at(alloc: Global, probe: u64) -> Result<Option<(usize, usize)>, Error> {
+    let file = file_of(FUNCTION_TABLE, FUNCTION_UNIT);
+    answer(alloc, file, 0, &FunctionAtProbe(probe))
+}
+
 fn functions_in(alloc: Global, info: &'static [u8]) -> Result<Functions<usize>, Error> {
-    let dwarf = load(alloc, FUNCTION_TABLE, info)?;
-    let unit = first_unit(alloc, &dwarf)?;
-    functions_of_unit(alloc, &UnitRef::new(&dwarf, &unit))
+    answer(alloc, file_of(FUNCTION_TABLE, info), 0, &FunctionsOfUnit)
 }
 
 // Of functions that hold an address, the one whose range begins last.
@@ -63,10 +85,14 @@ fn functions_in(alloc: Global, info: &'static [u8]) -> Result<Functions<usize>, 
 fn functions_of_one_unit(rt: HostRuntime) -> Result<(), Fail> {
     let functions = functions_in(rt.alloc(), FUNCTION_UNIT)?;
     assert_eq!(rt; functions.functions().len(), 3);
-    for (probe, number) in [(0x44, Some(0)), (0x4c, Some(1)), (0x5c, None), (0x70, None)] {
-        assert_eq!(rt; functions.find_address(probe), number, "at {probe}");
+    for (probe, found) in [
+        (0x44, Some((0, 14))),
+        (0x4c, Some((1, 20))),
+        (0x5c, None),
+        (0x70, None),
+    ] {
+        assert_eq!(rt; function_at(rt.alloc(), probe)?, found, "at {probe}");
     }
-    assert!(rt; functions.function_at(0x57).is_some());
     // A fault after a function refuses all.
     let fault = functions_in(rt.alloc(), UNKNOWN_CODE).err();
     assert_eq!(rt; fault, Some(Error::InvalidAbbreviationCode(9)));
@@ -114,13 +140,21 @@ fn names_of<'a>(
     }
 }
 
-// The calls of the function at 12 of the first unit.
+// The calls of the function at 12.
+struct CallsAt12;
+
+impl Question for CallsAt12 {
+    type Answer = FunctionCalls<Slice>;
+
+    fn ask(&self, alloc: Global, unit: &UnitRef<'_, Slice>) -> Result<FunctionCalls<Slice>, Error> {
+        let units = Vec::new(alloc);
+        let names = names_of(units.as_slice(), unit.dwarf, unit.unit);
+        calls_of_function(alloc, unit, &names, UnitOffset(12), &Probes::new())
+    }
+}
+
 fn calls_in(alloc: Global, info: &'static [u8]) -> Result<FunctionCalls<Slice>, Error> {
-    let dwarf = load(alloc, CALL_TABLE, info)?;
-    let unit = first_unit(alloc, &dwarf)?;
-    let units = Vec::new(alloc);
-    let names = names_of(units.as_slice(), &dwarf, &unit);
-    calls_of_function(alloc, &UnitRef::new(&dwarf, &unit), &names, UnitOffset(12))
+    answer(alloc, file_of(CALL_TABLE, info), 0, &CallsAt12)
 }
 
 // Of a call its offset and its depth, and the place that calls.
@@ -136,18 +170,35 @@ fn place(call: &Call<Slice>) -> Place {
     )
 }
 
-// The offset of the next call of a chain; 0 where there is none.
-fn next_offset(chain: &mut Chain<'_, Slice>) -> usize {
-    match chain.next() {
+// The offset of a call; 0 where there is none.
+fn offset_of(call: Option<&Call<Slice>>) -> usize {
+    match call {
         Some(call) => call.offset().0,
         None => 0,
     }
 }
 
 // The offsets of the calls that an address is in, up to two.
-fn offsets(function: &FunctionCalls<Slice>, probe: u64) -> (usize, usize) {
-    let mut chain = function.chain(probe);
-    (next_offset(&mut chain), next_offset(&mut chain))
+#[derive(Drop)]
+struct OffsetsAt(u64);
+
+impl Question for OffsetsAt {
+    type Answer = (usize, usize);
+
+    fn ask(&self, alloc: Global, unit: &UnitRef<'_, Slice>) -> Result<(usize, usize), Error> {
+        let units = Vec::new(alloc);
+        let names = names_of(units.as_slice(), unit.dwarf, unit.unit);
+        let mut probes = Probes::new();
+        let function = calls_of_function(alloc, unit, &names, UnitOffset(12), &probes)?;
+        let mut chain = function.chain(self.0);
+        let first = offset_of(chain.next(&mut probes));
+        let second = offset_of(chain.next(&mut probes));
+        Ok((first, second))
+    }
+}
+
+fn offsets(alloc: Global, probe: u64) -> Result<(usize, usize), Error> {
+    answer(alloc, file_of(CALL_TABLE, CALL_UNIT), 0, &OffsetsAt(probe))
 }
 
 #[test]
@@ -164,82 +215,9 @@ fn calls_of_one_function(rt: HostRuntime) -> Result<(), Fail> {
     }
     // A call counts at its depth.
     for (probe, first, second) in [(0x46, 20, 0), (0x49, 20, 29), (0x50, 47, 29), (0x56, 0, 0)] {
-        assert_eq!(rt; offsets(&function, probe), (first, second), "at {probe}");
+        assert_eq!(rt; offsets(rt.alloc(), probe)?, (first, second), "at {probe}");
     }
     let fault = calls_in(rt.alloc(), CUT_CALLS).err();
     assert_eq!(rt; fault, Some(Error::UnexpectedEof(ReaderOffsetId(27))));
-    Ok(())
-}
-
-// ---- frames
-
-// A function at 12 from 0x40 to 0x60, in it a call at 18 from 0x44 to 0x4c, and in that a call at
-// 27 from 0x48 to 0x58.
-const FRAME_UNIT: &[u8] = b"\x24\0\0\0\x04\0\0\0\0\0\x04\x01\
-    \x02\x40\0\0\0\x20\
-    \x03\x44\0\0\0\x08\x01\x05\x03\
-    \x03\x48\0\0\0\x10\0\x06\x04\
-    \0\0\0\0";
-
-// Line 9 of /w/a.c from 0x30 to 0x60.
-fn one_line(alloc: Global) -> Result<Lines, Error> {
-    let mut lines = LinesBuilder::new(alloc);
-    lines.push(0x30, 1, 9, 2, false)?;
-    lines.push(0x60, 1, 1, 0, true)?;
-    let mut files = Vec::new(alloc);
-    files.push(String::new(alloc))?;
-    files.push(String::from_str(alloc, "/w/a.c")?)?;
-    Ok(lines.finish(files))
-}
-
-// Of a frame the offset of its entry, and the line of its place.
-type Part = Option<(Option<usize>, Option<u32>)>;
-
-fn part_of(frame: Option<Frame<'_, Slice>>) -> Part {
-    let frame = frame?;
-    let offset = match frame.dw_die_offset {
-        Some(offset) => Some(offset.0),
-        None => None,
-    };
-    let line = match &frame.location {
-        Some(place) => place.line,
-        None => None,
-    };
-    Some((offset, line))
-}
-
-// The first four of the frames.
-fn parts_of(alloc: Global, frames: FrameIter<'_, Slice>) -> Result<Vec<Part>, Error> {
-    let mut frames = frames;
-    let mut parts = Vec::new(alloc);
-    for _ in 0..4 {
-        parts.push(part_of(frames.next()?))?;
-    }
-    Ok(parts)
-}
-
-fn frames_at(alloc: Global, probe: u64) -> Result<Vec<Part>, Error> {
-    let dwarf = load(alloc, CALL_TABLE, FRAME_UNIT)?;
-    let unit = first_unit(alloc, &dwarf)?;
-    let units = Vec::new(alloc);
-    let names = names_of(units.as_slice(), &dwarf, &unit);
-    let lines = one_line(alloc);
-    let unit = UnitRef::new(&dwarf, &unit);
-    let frames = frames_of_unit(alloc, &unit, &names, None, &lines, probe)?;
-    parts_of(alloc, frames)
-}
-
-// The innermost call is first; each frame further out is where it calls.
-#[test]
-fn frames_of_addresses(rt: HostRuntime) -> Result<(), Fail> {
-    let nested: [Part; 4] = [
-        Some((Some(27), Some(9))),
-        Some((Some(18), Some(6))),
-        Some((Some(12), Some(5))),
-        None,
-    ];
-    assert_eq!(rt; frames_at(rt.alloc(), 0x49)?.as_slice(), nested.as_slice());
-    let outside: [Part; 4] = [Some((None, Some(9))), None, None, None];
-    assert_eq!(rt; frames_at(rt.alloc(), 0x30)?.as_slice(), outside.as_slice());
     Ok(())
 }

@@ -1,9 +1,8 @@
 //! Lines of rows, and lines of units, in the layouts of DWARF 4, 6.2.4 and 7.5, and DWARF 5, 6.2.4.
 
-use crate::{Lines, Location, lines_of_unit};
-use addr2line_context::{
-    Dwarf, EndianSlice, Error, LinesBuilder, LittleEndian, ReaderOffsetId, SectionId, UnitRef,
-};
+use super::files::{EMPTY, File, Question, Slice, answer};
+use crate::{Lines, Location, Runs, UnitLines};
+use addr2line_context::{Error, LinesBuilder, ReaderOffsetId, UnitRef};
 use std::alloc::Global;
 use std::test::Fail;
 
@@ -105,32 +104,28 @@ const CUT: [u8; 44] = [
     2, 0x80,
 ];
 
-fn section_of<'a>(id: SectionId, info: &'a [u8], line: &'a [u8]) -> EndianSlice<'a, LittleEndian> {
-    let bytes: &'a [u8] = match id {
-        SectionId::DebugAbbrev => &ABBREV,
-        SectionId::DebugInfo => info,
-        SectionId::DebugLine => line,
-        _ => b"",
+struct LinesOfUnit;
+
+impl Question for LinesOfUnit {
+    type Answer = Lines;
+
+    fn ask(&self, alloc: Global, unit: &UnitRef<'_, Slice>) -> Result<Lines, Error> {
+        match UnitLines::run(alloc, unit, &mut Runs::new()) {
+            Ok(lines) => Ok(lines.into_lines()),
+            Err(error) => Err(error),
+        }
+    }
+}
+
+// The lines of the first unit of a file.
+fn lines_of(alloc: Global, info: &'static [u8], line: &'static [u8]) -> Result<Lines, Error> {
+    let file = File {
+        abbrev: &ABBREV,
+        info,
+        line,
+        ..EMPTY
     };
-    EndianSlice::new(bytes, LittleEndian)
-}
-
-// The file with these sections.
-fn file_of<'a>(
-    alloc: Global,
-    info: &'a [u8],
-    line: &'a [u8],
-) -> Result<Dwarf<EndianSlice<'a, LittleEndian>>, Error> {
-    Dwarf::load(alloc, |id| Ok(section_of(id, info, line)))
-}
-
-// The lines of its first unit.
-fn lines_of(alloc: Global, info: &[u8], line: &[u8]) -> Result<Lines, Error> {
-    let dwarf = file_of(alloc, info, line)?;
-    let mut units = dwarf.units()?;
-    let header = units.next()?.ok_or(Error::MissingUnitDie)?;
-    let unit = dwarf.unit(alloc, header)?;
-    lines_of_unit(alloc, &UnitRef::new(&dwarf, &unit))
+    answer(alloc, file, 0, &LinesOfUnit)
 }
 
 fn is_place(lines: &Lines, probe: u64, file: &str, line: u32) -> bool {

@@ -1,9 +1,8 @@
 //! Names in small files by hand, in the layouts of DWARF 4, 7.5.
 
+use super::files::{EMPTY, File, Slice, load};
 use crate::{DebugFile, HoldingUnit, KnownUnits};
-use addr2line_context::{
-    Dwarf, EndianSlice, Error, LittleEndian, SectionId, Unit, UnitOffset, UnitRef,
-};
+use addr2line_context::{Dwarf, EndianSlice, Error, LittleEndian, Unit, UnitOffset, UnitRef};
 use addr2line_functions::UnitEntries;
 use std::alloc::Global;
 use std::test::Fail;
@@ -58,46 +57,25 @@ const CHAIN: &[u8] = b"\x61\0\0\0\x04\0\0\0\0\0\x08\x01\
     \x04\x61\0\0\0\
     \x02e\0\0";
 
-// The sections of a file beside its declarations.
-#[derive(Clone, Copy)]
-struct Sections {
-    info: &'static [u8],
-    strings: &'static [u8],
-}
-
-impl Sections {
-    fn get(self, id: SectionId) -> &'static [u8] {
-        match id {
-            SectionId::DebugAbbrev => TABLE,
-            SectionId::DebugInfo => self.info,
-            SectionId::DebugStr => self.strings,
-            _ => &[],
-        }
-    }
-}
-
-const MAIN: Sections = Sections {
+const MAIN: File = File {
+    abbrev: TABLE,
     info: INFO,
-    strings: b"y\0main\0",
+    str: b"y\0main\0",
+    ..EMPTY
 };
 
-const SUP: Sections = Sections {
+const SUP: File = File {
+    abbrev: TABLE,
     info: SUPPLEMENT,
-    strings: b"x\0sup\0",
+    str: b"x\0sup\0",
+    ..EMPTY
 };
 
-const LONG: Sections = Sections {
+const LONG: File = File {
+    abbrev: TABLE,
     info: CHAIN,
-    strings: b"",
+    ..EMPTY
 };
-
-type Slice = EndianSlice<'static, LittleEndian>;
-
-fn slices(alloc: Global, sections: Sections) -> Result<Dwarf<Slice>, Error> {
-    Dwarf::load(alloc, |id| {
-        Ok(EndianSlice::new(sections.get(id), LittleEndian))
-    })
-}
 
 // The first units of a file.
 fn units_of(alloc: Global, dwarf: &Dwarf<Slice>) -> Result<Vec<Unit<Slice>>, Error> {
@@ -127,10 +105,13 @@ fn name_in<'a>(
     offset: usize,
 ) -> Result<Option<Slice>, Error> {
     let unit = holder.unit.unit;
-    let entry = unit
+    match unit
         .header
-        .entry(alloc, &unit.abbreviations, UnitOffset(offset))?;
-    known.name_of(holder, entry.attrs())
+        .entry(alloc, &unit.abbreviations, UnitOffset(offset))
+    {
+        Ok(entry) => known.name_of(holder, entry.attrs()),
+        Err(error) => Err(error),
+    }
 }
 
 // The name of the entry at an offset of the unit of a number.
@@ -163,13 +144,27 @@ fn is_text(name: &Option<Slice>, text: Option<&str>) -> bool {
 // Whether the entry at an offset of the unit of a number has this name.
 fn is_named(
     alloc: Global,
-    sections: Sections,
+    file: File,
     entry: (usize, usize),
     text: Option<&str>,
 ) -> Result<bool, Error> {
-    let dwarf = slices(alloc, sections)?;
-    let name = name_of(alloc, &dwarf, DebugFile::Primary, entry)?;
-    Ok(is_text(&name, text))
+    match load(alloc, file) {
+        Ok(dwarf) => is_named_in(alloc, &dwarf, DebugFile::Primary, entry, text),
+        Err(error) => Err(error),
+    }
+}
+
+fn is_named_in(
+    alloc: Global,
+    dwarf: &Dwarf<Slice>,
+    file: DebugFile,
+    entry: (usize, usize),
+    text: Option<&str>,
+) -> Result<bool, Error> {
+    match name_of(alloc, dwarf, file, entry) {
+        Ok(name) => Ok(is_text(&name, text)),
+        Err(error) => Err(error),
+    }
 }
 
 // The same where the main file or its split one has a supplement.
@@ -179,24 +174,25 @@ fn is_named_by_supplement(
     entry: (usize, usize),
     text: Option<&str>,
 ) -> Result<bool, Error> {
-    let mut dwarf = slices(alloc, MAIN)?;
+    let mut dwarf = load(alloc, MAIN)?;
     dwarf.load_sup(alloc, |id| {
-        Ok::<_, Error>(EndianSlice::new(SUP.get(id), LittleEndian))
+        Ok::<_, Error>(EndianSlice::new(SUP.section(id), LittleEndian))
     })?;
-    let name = name_of(alloc, &dwarf, file, entry)?;
-    Ok(is_text(&name, text))
+    is_named_in(alloc, &dwarf, file, entry, text)
 }
 
 fn fault(alloc: Global, file: DebugFile, entry: (usize, usize)) -> Option<Error> {
-    let dwarf = slices(alloc, MAIN).ok()?;
-    name_of(alloc, &dwarf, file, entry).err()
+    match load(alloc, MAIN) {
+        Ok(dwarf) => name_of(alloc, &dwarf, file, entry).err(),
+        Err(_) => None,
+    }
 }
 
 // Linkage names come first; references are followed where no name stands before, sixteen of them
 // at most, and circles have no name.
 #[test]
 fn names_of_entries(rt: HostRuntime) -> Result<(), Fail> {
-    let table: [(Sections, (usize, usize), Option<&str>); 10] = [
+    let table: [(File, (usize, usize), Option<&str>); 10] = [
         (MAIN, (0, 12), Some("n")),
         (MAIN, (0, 15), Some("l")),
         (MAIN, (0, 20), Some("m")),
@@ -209,8 +205,8 @@ fn names_of_entries(rt: HostRuntime) -> Result<(), Fail> {
         // Its reference leads to a supplement, which is missing.
         (MAIN, (1, 27), None),
     ];
-    for (sections, (unit, offset), text) in table {
-        let named = is_named(rt.alloc(), sections, (unit, offset), text)?;
+    for (file, (unit, offset), text) in table {
+        let named = is_named(rt.alloc(), file, (unit, offset), text)?;
         assert!(rt; named, "unit {unit} at {offset}");
     }
     let text = Some("sup");

@@ -1,22 +1,21 @@
 //! The ranges and the language of a unit, by hand in the layouts of DWARF 4, 7.5, 6.1.2 and 2.17.3.
 
-use crate::Lines;
+use super::files::{EMPTY, File, Question, Slice, answer, load};
+use crate::Context;
 use addr2line_context::{
-    DW_LANG_Rust, DwLang, Dwarf, EndianSlice, Error, LinesBuilder, LittleEndian, Range,
-    ReaderOffsetId, SectionId, Unit, UnitRef, check_aranges, language_of, ranges_of_attributes,
+    ArangeIndex, DW_LANG_Rust, DwLang, Error, Range, ReaderOffsetId, UnitRef, language_of,
 };
 use addr2line_functions::{DebuggingInformationEntry, entries_raw};
 use std::alloc::Global;
 use std::test::Fail;
 
-type Slice = EndianSlice<'static, LittleEndian>;
-
 // Units with low_pc, high_pc as a size, and a language; with low_pc, high_pc as an address, and a
-// range list; and with nothing.
-const TABLE: [u8; 28] = [
+// range list; with nothing; and with a line number program.
+const TABLE: [u8; 35] = [
     1, 0x11, 0, 0x11, 0x01, 0x12, 0x07, 0x13, 0x05, 0, 0, //
     2, 0x11, 0, 0x11, 0x01, 0x12, 0x01, 0x55, 0x17, 0, 0, //
     3, 0x11, 0, 0, 0, //
+    4, 0x11, 0, 0x10, 0x17, 0, 0, //
     0,
 ];
 
@@ -29,6 +28,18 @@ const LISTED: &[u8] = b"\x1c\0\0\0\x04\0\0\0\0\0\x08\
     \x02\0\x10\0\0\0\0\0\0\0\x11\0\0\0\0\0\0\0\0\0\0";
 
 const BARE: &[u8] = b"\x08\0\0\0\x04\0\0\0\0\0\x08\x03";
+
+// With the first program, and with the second.
+const WITH_LINES: &[u8] = b"\x0c\0\0\0\x04\0\0\0\0\0\x08\x04\0\0\0\0";
+
+const CUT_LINES: &[u8] = b"\x0c\0\0\0\x04\0\0\0\0\0\x08\x04\x2f\0\0\0";
+
+// A sequence from 0x9000 to 0x9010, and a program that is cut inside a number.
+const PROGRAMS: &[u8] = b"\x2b\0\0\0\x04\0\x14\0\0\0\x01\x01\x01\xfd\x0c\x0d\
+    \0\x01\x01\x01\x01\0\0\0\x01\0\0\x01\0\0\
+    \0\x09\x02\0\x90\0\0\0\0\0\0\x01\x02\x10\0\x01\x01\
+    \x1c\0\0\0\x04\0\x14\0\0\0\x01\x01\x01\xfd\x0c\x0d\
+    \0\x01\x01\x01\x01\0\0\0\x01\0\0\x01\0\0\x02\x80";
 
 // Relative to low_pc: 0x10 to 0x20, nothing at 0x28, and 0x30 to 0x38.
 const RANGES: &[u8] = b"\x10\0\0\0\0\0\0\0\x20\0\0\0\0\0\0\0\
@@ -51,73 +62,61 @@ const DAMAGED: &[u8] = b"\x1c\0\0\0\x02\0\0\0\0\0\x08\0\0\0\0\0\
     \0\x50\0\0\0\0\0\0\x08\0\0\0\0\0\0\0\
     \x02\0\0\0\x03\0";
 
-// The sections that a test takes besides the table.
-#[derive(Clone, Copy)]
-struct Sections {
-    info: &'static [u8],
-    aranges: &'static [u8],
-    ranges: &'static [u8],
+fn root_of(
+    alloc: Global,
+    unit: &UnitRef<'_, Slice>,
+) -> Result<DebuggingInformationEntry<Slice>, Error> {
+    let mut root = DebuggingInformationEntry::null(alloc);
+    let unit = unit.unit;
+    match entries_raw(&unit.header, &unit.abbreviations, None) {
+        Ok(mut entries) => match entries.read_entry(&mut root) {
+            Ok(_) => Ok(root),
+            Err(error) => Err(error),
+        },
+        Err(error) => Err(error),
+    }
 }
 
-impl Sections {
-    fn get(self, id: SectionId) -> &'static [u8] {
-        match id {
-            SectionId::DebugAbbrev => &TABLE,
-            SectionId::DebugInfo => self.info,
-            SectionId::DebugAranges => self.aranges,
-            SectionId::DebugRanges => self.ranges,
-            _ => &[],
+// The ranges of the first unit of a context.
+fn ranges_of(alloc: Global, file: File) -> Result<Vec<Range>, Error> {
+    let context = Context::from_dwarf(alloc, load(alloc, file)?)?;
+    let mut ranges = Vec::new(alloc);
+    if let Some(unit) = context.units().first() {
+        for range in unit.ranges() {
+            ranges.push(Range {
+                begin: range.begin,
+                end: range.end,
+            })?;
+        }
+    }
+    Ok(ranges)
+}
+
+fn aranges_of(alloc: Global, file: File) -> Result<ArangeIndex, Error> {
+    match load(alloc, file) {
+        Ok(dwarf) => ArangeIndex::read(alloc, &dwarf),
+        Err(error) => Err(error),
+    }
+}
+
+struct Language;
+
+impl Question for Language {
+    type Answer = Option<DwLang>;
+
+    fn ask(&self, alloc: Global, unit: &UnitRef<'_, Slice>) -> Result<Option<DwLang>, Error> {
+        match root_of(alloc, unit) {
+            Ok(root) => language_of(root.attrs()),
+            Err(error) => Err(error),
         }
     }
 }
 
-fn load(alloc: Global, sections: Sections) -> Result<Dwarf<Slice>, Error> {
-    Dwarf::load(alloc, move |id: SectionId| -> Result<Slice, Error> {
-        Ok(EndianSlice::new(sections.get(id), LittleEndian))
-    })
-}
-
-fn first_unit(alloc: Global, dwarf: &Dwarf<Slice>) -> Result<Unit<Slice>, Error> {
-    let header = dwarf.units()?.next()?.ok_or(Error::NoSuchUnit)?;
-    dwarf.unit(alloc, header)
-}
-
-fn root_of(alloc: Global, unit: &Unit<Slice>) -> Result<DebuggingInformationEntry<Slice>, Error> {
-    let mut root = DebuggingInformationEntry::null(alloc);
-    entries_raw(&unit.header, &unit.abbreviations, None)?.read_entry(&mut root)?;
-    Ok(root)
-}
-
-// The ranges of the first unit.
-fn ranges_of(
-    alloc: Global,
-    sections: Sections,
-    lines: &Result<Lines, Error>,
-) -> Result<Vec<Range>, Error> {
-    let dwarf = load(alloc, sections)?;
-    let unit = first_unit(alloc, &dwarf)?;
-    let root = root_of(alloc, &unit)?;
-    ranges_of_attributes(alloc, &UnitRef::new(&dwarf, &unit), lines, root.attrs())
-}
-
-// Its language.
-fn first_language(alloc: Global, sections: Sections) -> Result<Option<DwLang>, Error> {
-    let dwarf = load(alloc, sections)?;
-    let unit = first_unit(alloc, &dwarf)?;
-    let root = root_of(alloc, &unit)?;
-    language_of(root.attrs())
-}
-
-fn check(alloc: Global, sections: Sections) -> Result<(), Error> {
-    check_aranges(&load(alloc, sections)?)
-}
-
-// Lines of one sequence.
-fn lines_from(alloc: Global, start: u64, end: u64) -> Result<Lines, Error> {
-    let mut lines = LinesBuilder::new(alloc);
-    lines.push(start, 1, 1, 0, false)?;
-    lines.push(end, 1, 1, 0, true)?;
-    Ok(lines.finish(Vec::new(alloc)))
+fn check(alloc: Global, file: File) -> Result<(), Error> {
+    match aranges_of(alloc, file) {
+        Ok(aranges) => aranges.check(),
+        Err(error) => Err(error),
+    }
 }
 
 fn are(ranges: &[Range], expected: &[(u64, u64)]) -> bool {
@@ -128,61 +127,53 @@ fn are(ranges: &[Range], expected: &[(u64, u64)]) -> bool {
             .all(|(range, ends)| (range.begin, range.end) == *ends)
 }
 
-fn sections_of(info: &'static [u8], aranges: &'static [u8], ranges: &'static [u8]) -> Sections {
-    Sections {
+fn file_of(info: &'static [u8], aranges: &'static [u8], ranges: &'static [u8]) -> File {
+    File {
+        abbrev: &TABLE,
         info,
         aranges,
         ranges,
+        line: PROGRAMS,
+        ..EMPTY
     }
 }
 
-// A range list comes first, then the address ranges, up to a damaged set of them, low_pc with a
-// size, and last the lines.
+// A range list comes first, then the address ranges, low_pc with a size, and last the lines.
 #[test]
 fn ranges_by_where_they_stand(rt: HostRuntime) -> Result<(), Fail> {
-    let lines = lines_from(rt.alloc(), 0x9000, 0x9010);
-    let table: [(&str, Sections, &[(u64, u64)]); 5] = [
+    let table: [(&str, File, &[(u64, u64)]); 6] = [
         (
             "a list",
-            sections_of(LISTED, ARANGES, RANGES),
+            file_of(LISTED, ARANGES, RANGES),
             &[(0x1010, 0x1020), (0x1030, 0x1038)],
         ),
         (
             "address ranges",
-            sections_of(SIZED, ARANGES, b""),
+            file_of(SIZED, ARANGES, b""),
             &[(0x5000, 0x5010)],
         ),
-        (
-            "a damaged set",
-            sections_of(SIZED, DAMAGED, b""),
-            &[(0x5000, 0x5008)],
-        ),
-        ("low_pc", sections_of(SIZED, b"", b""), &[(0x1000, 0x1040)]),
-        ("lines", sections_of(BARE, b"", b""), &[(0x9000, 0x9010)]),
+        ("low_pc", file_of(SIZED, b"", b""), &[(0x1000, 0x1040)]),
+        ("lines", file_of(WITH_LINES, b"", b""), &[(0x9000, 0x9010)]),
+        ("refused lines", file_of(CUT_LINES, b"", b""), &[]),
+        ("nothing", file_of(BARE, b"", b""), &[]),
     ];
-    for (what, sections, wanted) in table {
-        let ranges = ranges_of(rt.alloc(), sections, &lines)?;
+    for (what, file, wanted) in table {
+        let ranges = ranges_of(rt.alloc(), file)?;
         assert!(rt; are(&ranges, wanted), "of {what}");
     }
-    let none = ranges_of(
-        rt.alloc(),
-        sections_of(BARE, b"", b""),
-        &Err(Error::LineRangeZero),
-    )?;
-    assert!(rt; none.is_empty());
     Ok(())
 }
 
 #[test]
 fn languages_and_refusals(rt: HostRuntime) -> Result<(), Fail> {
-    let sized = sections_of(SIZED, ARANGES, b"");
-    assert_eq!(rt; first_language(rt.alloc(), sized)?, Some(DW_LANG_Rust));
+    let sized = file_of(SIZED, ARANGES, b"");
+    let language = answer(rt.alloc(), sized, 0, &Language)?;
+    assert_eq!(rt; language, Some(DW_LANG_Rust));
     assert!(rt; check(rt.alloc(), sized).is_ok());
-    let damaged = check(rt.alloc(), sections_of(SIZED, DAMAGED, b"")).err();
+    let damaged = check(rt.alloc(), file_of(SIZED, DAMAGED, b"")).err();
     assert_eq!(rt; damaged, Some(Error::UnknownVersion(3)));
     // A list that breaks off in a pair.
-    let lines = lines_from(rt.alloc(), 0x9000, 0x9010);
-    let cut = ranges_of(rt.alloc(), sections_of(LISTED, ARANGES, b"\x10\0"), &lines).err();
+    let cut = ranges_of(rt.alloc(), file_of(LISTED, ARANGES, b"\x10\0")).err();
     assert_eq!(rt; cut, Some(Error::UnexpectedEof(ReaderOffsetId(0))));
     Ok(())
 }

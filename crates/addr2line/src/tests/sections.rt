@@ -1,5 +1,6 @@
 //! Sections by hand, in the layouts of DWARF 4, 7.5, and GNU's split files.
 
+use super::files::{EMPTY, File, Question, Slice, answer, answer_in, load, unit_at};
 use addr2line_context::{
     AbbreviationsCacheStrategy, AttributeValue, DebugAbbrev, DebugAbbrevOffset, DebugAddrIndex,
     DebugLineStrOffset, DebugRngListsIndex, DebugStrOffset, DebugStrOffsetsIndex, Dwarf,
@@ -9,8 +10,6 @@ use addr2line_context::{
 use addr2line_functions::DebuggingInformationEntry;
 use std::alloc::Global;
 use std::test::Fail;
-
-type Slice<'a> = EndianSlice<'a, LittleEndian>;
 
 // A compile unit with a name, a directory, an address to begin at and a line program; and one that
 // names a split file.
@@ -45,71 +44,59 @@ const RANGES: [u8; 64] = [
     0, 0, 0, 0, 0, 0, 0, 0, 0, 0, 0, 0, 0, 0, 0, 0,
 ];
 
-const FILE: [(SectionId, &[u8]); 9] = [
-    (SectionId::DebugAbbrev, &TABLE),
-    (SectionId::DebugInfo, &UNITS),
-    (SectionId::DebugLine, &LINES),
-    (SectionId::DebugRanges, &RANGES),
-    (SectionId::DebugRngLists, b"\x09\0\0\0\x30\0\0\0"),
-    (SectionId::DebugStr, b"x\0/w\0"),
-    (SectionId::DebugLineStr, b"line\0"),
-    (SectionId::DebugStrOffsets, b"\0\0\0\0\x02\0\0\0"),
-    (
-        SectionId::DebugAddr,
-        b"\x11\0\0\0\0\0\0\0\x22\0\0\0\0\0\0\0",
-    ),
-];
+const FILE: File = File {
+    abbrev: &TABLE,
+    info: &UNITS,
+    line: &LINES,
+    ranges: &RANGES,
+    rnglists: b"\x09\0\0\0\x30\0\0\0",
+    str: b"x\0/w\0",
+    line_str: b"line\0",
+    str_offsets: b"\0\0\0\0\x02\0\0\0",
+    addr: b"\x11\0\0\0\0\0\0\0\x22\0\0\0\0\0\0\0",
+    ..EMPTY
+};
 
-// The bytes of one of these sections, none where it isn't among them.
-fn bytes_of<'a>(sections: &[(SectionId, &'a [u8])], id: SectionId) -> &'a [u8] {
-    for (section, bytes) in sections {
-        if *section == id {
-            return bytes;
-        }
+// Its units alone.
+const SPLIT: File = File {
+    abbrev: &TABLE,
+    info: &UNITS,
+    line: &LINES,
+    ..EMPTY
+};
+
+fn is_text(text: &Option<Slice>, bytes: &[u8]) -> bool {
+    match text {
+        Some(text) => text.slice() == bytes,
+        None => false,
     }
-    &[]
 }
 
-fn file_of<'a>(
-    alloc: Global,
-    sections: &[(SectionId, &'a [u8])],
-) -> Result<Dwarf<Slice<'a>>, Error> {
-    Dwarf::load(alloc, |id| {
-        Ok(EndianSlice::new(bytes_of(sections, id), LittleEndian))
-    })
-}
-
-// The unit with this number.
-fn unit_of<'a>(
-    alloc: Global,
-    dwarf: &Dwarf<Slice<'a>>,
-    number: usize,
-) -> Result<Unit<Slice<'a>>, Error> {
-    let mut units = dwarf.units()?;
-    for _ in 0..number {
-        let _ = units.next()?;
-    }
-    let header = units.next()?.ok_or(Error::MissingUnitDie)?;
-    dwarf.unit(alloc, header)
-}
-
-fn is_text(text: &Option<Slice<'_>>, bytes: &[u8]) -> bool {
-    text.as_ref().is_some_and(|text| text.slice() == bytes)
+fn is_string(value: &Option<AttributeValue<Slice>>, bytes: &[u8]) -> bool {
+    matches!(value, Some(AttributeValue::String(text)) if text.slice() == bytes)
 }
 
 // ---- loading
 
-// How long the text at offset 2 is, the kind of the file, and whether it has a supplement.
-fn loaded_file(alloc: Global) -> Result<(usize, DwarfFileType, bool), Error> {
-    let dwarf = file_of(alloc, &FILE)?;
-    let text = dwarf.string(DebugStrOffset(2))?.slice().len();
-    Ok((text, dwarf.file_type, dwarf.sup.is_some()))
+// How long the text at an offset is, the kind of the file, and whether it has a supplement.
+fn loaded_file(alloc: Global, offset: usize) -> Result<(usize, DwarfFileType, bool), Error> {
+    match load(alloc, FILE) {
+        Ok(dwarf) => facts_of(&dwarf, offset),
+        Err(error) => Err(error),
+    }
+}
+
+fn facts_of(dwarf: &Dwarf<Slice>, offset: usize) -> Result<(usize, DwarfFileType, bool), Error> {
+    match dwarf.string(DebugStrOffset(offset)) {
+        Ok(text) => Ok((text.slice().len(), dwarf.file_type, dwarf.sup.is_some())),
+        Err(error) => Err(error),
+    }
 }
 
 // How many sections are asked for, up to the one that is refused.
 fn asked_before(alloc: Global, refused: SectionId) -> (usize, Option<Error>) {
     let mut asked = 0usize;
-    let dwarf: Result<Dwarf<Slice<'static>>, Error> = Dwarf::load(alloc, |id| {
+    let dwarf: Result<Dwarf<Slice>, Error> = Dwarf::load(alloc, |id| {
         asked = asked.wrapping_add(1);
         if id == refused {
             Err(Error::UnsupportedSegmentSize)
@@ -120,174 +107,284 @@ fn asked_before(alloc: Global, refused: SectionId) -> (usize, Option<Error>) {
     (asked, dwarf.err())
 }
 
-// Whether the cache keeps the table that all units of the file share.
-fn is_cached(alloc: Global, info: &'static [u8]) -> Result<bool, Error> {
-    let sections = [
-        (SectionId::DebugAbbrev, TABLE.as_slice()),
-        (SectionId::DebugInfo, info),
-    ];
-    let mut dwarf = file_of(alloc, &sections)?;
+// Whether the cache keeps a table with a code, which all units of the file share.
+fn is_cached(alloc: Global, info: &'static [u8], code: u64) -> Result<bool, Error> {
+    let file = File {
+        abbrev: &TABLE,
+        info,
+        ..EMPTY
+    };
+    match load(alloc, file) {
+        Ok(dwarf) => is_in_cache(alloc, dwarf, code),
+        Err(error) => Err(error),
+    }
+}
+
+fn is_in_cache(alloc: Global, dwarf: Dwarf<Slice>, code: u64) -> Result<bool, Error> {
+    let mut dwarf = dwarf;
     dwarf.populate_abbreviations_cache(alloc, AbbreviationsCacheStrategy::Duplicates)?;
     let other = DebugAbbrev::new(&[], LittleEndian);
-    let table = dwarf
-        .abbreviations_cache
-        .get(alloc, &other, DebugAbbrevOffset(0))?;
-    Ok(table.get(2).is_some())
+    let cache = &dwarf.abbreviations_cache;
+    match cache.get(alloc, &other, DebugAbbrevOffset(0)) {
+        Ok(table) => Ok(table.get(code).is_some()),
+        Err(error) => Err(error),
+    }
 }
 
 #[test]
 fn sections_are_loaded(rt: HostRuntime) -> Result<(), Fail> {
     let alloc = rt.alloc();
-    assert_eq!(rt; loaded_file(alloc)?, (2, DwarfFileType::Main, false));
+    assert_eq!(rt; loaded_file(alloc, 2)?, (2, DwarfFileType::Main, false));
     // A refused section is the last that is asked for.
     let fault = Some(Error::UnsupportedSegmentSize);
     assert_eq!(rt; asked_before(alloc, SectionId::DebugLineStr), (6, fault));
-    assert!(rt; is_cached(alloc, &UNITS)?);
-    assert!(rt; !is_cached(alloc, &UNITS[..32])?);
+    assert!(rt; is_cached(alloc, &UNITS, 2)?);
+    assert!(rt; !is_cached(alloc, &UNITS[..32], 2)?);
     Ok(())
 }
 
 // ---- units
 
-// Whether the first unit has this name and directory, where it begins, and how many attributes its
-// root has.
-fn first_unit(
-    alloc: Global,
-    name: &[u8],
-    comp_dir: &[u8],
-) -> Result<(bool, bool, u64, usize), Error> {
-    let dwarf = file_of(alloc, &FILE)?;
-    let unit = unit_of(alloc, &dwarf, 0)?;
-    let root = unit.root(alloc)?;
-    let is_named = is_text(&unit.name, name);
-    let is_there = is_text(&unit.comp_dir, comp_dir);
-    Ok((is_named, is_there, unit.low_pc, root.attrs().len()))
+// Whether the unit has this name and directory, where it begins, and how many attributes its root
+// has.
+struct Named(&'static [u8], &'static [u8]);
+
+impl Question for Named {
+    type Answer = (bool, bool, u64, usize);
+
+    fn ask(&self, alloc: Global, unit: &UnitRef<'_, Slice>) -> Result<Self::Answer, Error> {
+        let unit = unit.unit;
+        match unit.root(alloc) {
+            Ok(root) => Ok((
+                is_text(&unit.name, self.0),
+                is_text(&unit.comp_dir, self.1),
+                unit.low_pc,
+                root.attrs().len(),
+            )),
+            Err(error) => Err(error),
+        }
+    }
 }
 
-// The offset and the version of the first unit's line program, and whether its first directory is
-// this one.
-fn first_lines(alloc: Global, comp_dir: &[u8]) -> Result<(usize, u16, bool), Error> {
-    let dwarf = file_of(alloc, &FILE)?;
-    let unit = unit_of(alloc, &dwarf, 0)?;
-    let Some(lines) = &unit.line_program else {
-        return Ok((0, 0, false));
-    };
-    let directory = lines.directory(0);
-    let is_there =
-        matches!(directory, Some(AttributeValue::String(text)) if text.slice() == comp_dir);
-    Ok((lines.offset().0, lines.version(), is_there))
+// The offset and the version of the unit's line program, and whether its first directory is this
+// one.
+struct LinesIn(&'static [u8]);
+
+impl Question for LinesIn {
+    type Answer = Option<(usize, u16, bool)>;
+
+    fn ask(&self, _alloc: Global, unit: &UnitRef<'_, Slice>) -> Result<Self::Answer, Error> {
+        let unit = unit.unit;
+        match &unit.line_program {
+            Some(lines) => {
+                let directory = lines.directory(0);
+                let is_there = matches!(
+                    directory,
+                    Some(AttributeValue::String(text)) if text.slice() == self.0
+                );
+                Ok(Some((lines.offset().0, lines.version(), is_there)))
+            }
+            None => Ok(None),
+        }
+    }
 }
 
-// The identifier of a unit, where it begins, where its range lists do, and whether it names this
+// The identifier of the unit, where it begins, where its range lists do, and whether it names this
 // split file.
-fn split_unit(
-    alloc: Global,
-    number: usize,
-    name: &[u8],
-) -> Result<(Option<DwoId>, u64, usize, bool), Error> {
-    let dwarf = file_of(alloc, &FILE)?;
-    let unit = unit_of(alloc, &dwarf, number)?;
-    let named = unit.dwo_name(alloc)?;
-    let is_named = matches!(named, Some(AttributeValue::String(text)) if text.slice() == name);
-    Ok((unit.dwo_id, unit.low_pc, unit.rnglists_base.0, is_named))
+struct SplitUnit(&'static [u8]);
+
+impl Question for SplitUnit {
+    type Answer = (Option<DwoId>, u64, usize, bool);
+
+    fn ask(&self, alloc: Global, unit: &UnitRef<'_, Slice>) -> Result<Self::Answer, Error> {
+        let unit = unit.unit;
+        match unit.dwo_name(alloc) {
+            Ok(name) => {
+                let is_named = is_string(&name, self.0);
+                Ok((unit.dwo_id, unit.low_pc, unit.rnglists_base.0, is_named))
+            }
+            Err(error) => Err(error),
+        }
+    }
 }
 
 // What a unit of a split file gives that its main file says: an address, where it begins, where its
 // range lists do, and the ends of the first range of the list at an offset.
-fn split_from_main(alloc: Global, offset: usize) -> Result<(u64, u64, usize, u64, u64), Error> {
-    let main = file_of(alloc, &FILE)?;
-    let mut dwarf = file_of(alloc, &FILE[..3])?;
+type Taken = (u64, u64, usize, u64, u64);
+
+fn split_from_main(alloc: Global, index: usize, list: usize) -> Result<Taken, Error> {
+    let main = load(alloc, FILE)?;
+    let mut dwarf = load(alloc, SPLIT)?;
     dwarf.make_dwo(&main)?;
-    let skeleton = unit_of(alloc, &main, 1)?;
-    let mut unit = unit_of(alloc, &dwarf, 0)?;
+    let skeleton = unit_at(alloc, &main, 1)?;
+    let mut unit = unit_at(alloc, &dwarf, 0)?;
     unit.copy_relocated_attributes(&skeleton);
-    let address = dwarf.address(&unit, DebugAddrIndex(1))?;
-    let offset = dwarf.ranges_offset_from_raw(&unit, RawRangeListsOffset(offset))?;
-    let range = dwarf.ranges(&unit, offset)?.next()?;
-    let range = range.ok_or(Error::MissingUnitDie)?;
-    Ok((
-        address,
-        unit.low_pc,
-        unit.rnglists_base.0,
-        range.begin,
-        range.end,
-    ))
+    taken_of(&dwarf, &unit, index, list)
+}
+
+fn taken_of(
+    dwarf: &Dwarf<Slice>,
+    unit: &Unit<Slice>,
+    index: usize,
+    list: usize,
+) -> Result<Taken, Error> {
+    let address = dwarf.address(unit, DebugAddrIndex(index))?;
+    let offset = dwarf.ranges_offset_from_raw(unit, RawRangeListsOffset(list))?;
+    match dwarf.ranges(unit, offset)?.next() {
+        Ok(Some(range)) => Ok((
+            address,
+            unit.low_pc,
+            unit.rnglists_base.0,
+            range.begin,
+            range.end,
+        )),
+        Ok(None) => Err(Error::NoSuchUnit),
+        Err(error) => Err(error),
+    }
 }
 
 #[test]
 fn units_have_what_their_roots_say(rt: HostRuntime) -> Result<(), Fail> {
     let alloc = rt.alloc();
     let first = (true, true, 0x1000, 4);
-    assert_eq!(rt; first_unit(alloc, b"a.c", b"/w")?, first);
-    assert_eq!(rt; first_lines(alloc, b"/w")?, (0, 2, true));
-    let id = Some(DwoId(0x0102_0304_0506_0708));
-    assert_eq!(rt; split_unit(alloc, 1, b"u.dwo")?, (id, 0x2000, 0x10, true));
-    let missing = split_unit(alloc, 2, b"u.dwo").err();
+    assert_eq!(rt; answer(alloc, FILE, 0, &Named(b"a.c", b"/w"))?, first);
+    assert_eq!(rt;
+        answer(alloc, FILE, 0, &LinesIn(b"/w"))?,
+        Some((0, 2, true))
+    );
+    let split = (Some(DwoId(0x0102_0304_0506_0708)), 0x2000, 0x10, true);
+    assert_eq!(rt; answer(alloc, FILE, 1, &SplitUnit(b"u.dwo"))?, split);
+    let missing = answer(alloc, FILE, 2, &SplitUnit(b"u.dwo")).err();
     assert_eq!(rt; missing, Some(Error::MissingUnitDie));
     // A split file takes from its main file.
     let taken = (0x22, 0x2000, 0x10, 0x2030, 0x2038);
-    assert_eq!(rt; split_from_main(alloc, 0x10)?, taken);
-    let past = split_from_main(alloc, usize::MAX).err();
+    assert_eq!(rt; split_from_main(alloc, 1, 0x10)?, taken);
+    let past = split_from_main(alloc, 1, usize::MAX).err();
     assert_eq!(rt; past, Some(Error::OffsetSumOverflow));
     Ok(())
 }
 
-// ---- what attributes stand for
+// ---- what attributes mean
 
-// The text that a value stands for in the first unit of the file, whose supplement has `sup` at
-// offset 0.
-fn says(alloc: Global, value: AttributeValue<Slice<'static>>, text: &[u8]) -> Result<bool, Error> {
-    let mut dwarf = file_of(alloc, &FILE)?;
-    let supplement = [(SectionId::DebugStr, b"sup\0".as_slice())];
+// Whether a value means a text.
+#[derive(Drop)]
+struct IsTextOf<'a>(&'a AttributeValue<Slice>, &'a [u8]);
+
+impl<'a> Question for IsTextOf<'a> {
+    type Answer = bool;
+
+    fn ask(&self, _alloc: Global, unit: &UnitRef<'_, Slice>) -> Result<bool, Error> {
+        match self.0.copy() {
+            Ok(value) => match unit.attr_string(value) {
+                Ok(text) => Ok(text.slice() == self.1),
+                Err(error) => Err(error),
+            },
+            Err(error) => Err(error),
+        }
+    }
+}
+
+// Whether a value means a text.in the first unit of the file, whose supplement has strings.
+fn says(
+    alloc: Global,
+    value: &AttributeValue<Slice>,
+    text: &[u8],
+    strings: &'static [u8],
+) -> Result<bool, Error> {
+    match load(alloc, FILE) {
+        Ok(dwarf) => says_with(alloc, dwarf, strings, &IsTextOf(value, text)),
+        Err(error) => Err(error),
+    }
+}
+
+fn says_with(
+    alloc: Global,
+    dwarf: Dwarf<Slice>,
+    strings: &'static [u8],
+    question: &IsTextOf<'_>,
+) -> Result<bool, Error> {
+    let mut dwarf = dwarf;
+    let supplement = File {
+        str: strings,
+        ..EMPTY
+    };
     dwarf.load_sup(alloc, |id| {
-        Ok::<_, Error>(EndianSlice::new(bytes_of(&supplement, id), LittleEndian))
+        Ok::<_, Error>(EndianSlice::new(supplement.section(id), LittleEndian))
     })?;
-    let unit = unit_of(alloc, &dwarf, 0)?;
-    let text_of = UnitRef::new(&dwarf, &unit).attr_string(value)?;
-    Ok(text_of.slice() == text)
+    answer_in(alloc, &dwarf, 0, question)
 }
 
-// The addresses that two indexes of the first unit stand for, the second as an attribute's value.
-fn addresses(alloc: Global) -> Result<(u64, Option<u64>), Error> {
-    let dwarf = file_of(alloc, &FILE)?;
-    let unit = unit_of(alloc, &dwarf, 0)?;
-    let address = UnitRef::new(&dwarf, &unit).address(DebugAddrIndex(1))?;
-    let index = AttributeValue::DebugAddrIndex(DebugAddrIndex(0));
-    Ok((address, dwarf.attr_address(&unit, index)?))
+// The addresses at two indexes, the second as an attribute's value.
+struct Addresses(usize, usize);
+
+impl Question for Addresses {
+    type Answer = (u64, Option<u64>);
+
+    fn ask(&self, _alloc: Global, unit: &UnitRef<'_, Slice>) -> Result<Self::Answer, Error> {
+        let address = unit.address(DebugAddrIndex(self.0))?;
+        let index = AttributeValue::DebugAddrIndex(DebugAddrIndex(self.1));
+        let dwarf = unit.dwarf;
+        match dwarf.attr_address(unit.unit, index) {
+            Ok(other) => Ok((address, other)),
+            Err(error) => Err(error),
+        }
+    }
 }
 
-// The offset of a range list of the first unit by its offset, and by an index.
-fn offsets(alloc: Global) -> Result<(Option<RangeListsOffset>, RangeListsOffset), Error> {
-    let dwarf = file_of(alloc, &FILE)?;
-    let unit = unit_of(alloc, &dwarf, 0)?;
-    let list = AttributeValue::RangeListsRef(RawRangeListsOffset(32));
-    let offset = UnitRef::new(&dwarf, &unit).attr_ranges_offset(list)?;
-    Ok((offset, dwarf.ranges_offset(&unit, DebugRngListsIndex(1))?))
+// The offset of a range list by its offset, and of one by an index.
+struct Offsets(usize, usize);
+
+impl Question for Offsets {
+    type Answer = (Option<RangeListsOffset>, RangeListsOffset);
+
+    fn ask(&self, _alloc: Global, unit: &UnitRef<'_, Slice>) -> Result<Self::Answer, Error> {
+        let list = AttributeValue::RangeListsRef(RawRangeListsOffset(self.0));
+        let offset = unit.attr_ranges_offset(list)?;
+        match unit
+            .dwarf
+            .ranges_offset(unit.unit, DebugRngListsIndex(self.1))
+        {
+            Ok(other) => Ok((offset, other)),
+            Err(error) => Err(error),
+        }
+    }
 }
 
 // The ends of the first range of the list at an offset, and whether there is another.
-fn first_range(alloc: Global, offset: usize) -> Result<(u64, u64, bool), Error> {
-    let dwarf = file_of(alloc, &FILE)?;
-    let unit = unit_of(alloc, &dwarf, 0)?;
-    let mut ranges = UnitRef::new(&dwarf, &unit).ranges(RangeListsOffset(offset))?;
-    let range = ranges.next()?.ok_or(Error::MissingUnitDie)?;
-    Ok((range.begin, range.end, ranges.next()?.is_some()))
+struct FirstRange(usize);
+
+impl Question for FirstRange {
+    type Answer = Option<(u64, u64, bool)>;
+
+    fn ask(&self, _alloc: Global, unit: &UnitRef<'_, Slice>) -> Result<Self::Answer, Error> {
+        let mut ranges = unit.ranges(RangeListsOffset(self.0))?;
+        match ranges.next()? {
+            Some(range) => Ok(Some((range.begin, range.end, ranges.next()?.is_some()))),
+            None => Ok(None),
+        }
+    }
 }
 
-// How many attributes the entry at an offset of the first unit has, and whether it is the last.
-fn entry_at(alloc: Global, offset: usize) -> Result<(usize, bool), Error> {
-    let dwarf = file_of(alloc, &FILE)?;
-    let unit = unit_of(alloc, &dwarf, 0)?;
-    let mut entry = DebuggingInformationEntry::null(alloc);
-    let mut entries = UnitRef::new(&dwarf, &unit).entries_raw(Some(UnitOffset(offset)))?;
-    let _ = entries.read_entry(&mut entry)?;
-    Ok((entry.attrs().len(), entries.is_empty()))
+// How many attributes the entry at an offset has, and whether it is the last.
+struct EntryAt(usize);
+
+impl Question for EntryAt {
+    type Answer = (usize, bool);
+
+    fn ask(&self, alloc: Global, unit: &UnitRef<'_, Slice>) -> Result<Self::Answer, Error> {
+        let mut entry = DebuggingInformationEntry::null(alloc);
+        let mut entries = unit.entries_raw(Some(UnitOffset(self.0)))?;
+        match entries.read_entry(&mut entry) {
+            Ok(_) => Ok((entry.attrs().len(), entries.is_empty())),
+            Err(error) => Err(error),
+        }
+    }
 }
 
 #[test]
 fn values_of_a_unit(rt: HostRuntime) -> Result<(), Fail> {
     let alloc = rt.alloc();
-    let values: [(AttributeValue<Slice<'static>>, &str); 5] = [
+    let values: [(AttributeValue<Slice>, &str); 5] = [
         (
             AttributeValue::String(EndianSlice::new(b"in", LittleEndian)),
             "in",
@@ -304,14 +401,20 @@ fn values_of_a_unit(rt: HostRuntime) -> Result<(), Fail> {
         ),
     ];
     for (value, text) in values {
-        assert!(rt; says(alloc, value, text.as_bytes())?, "{text}");
+        assert!(rt; says(alloc, &value, text.as_bytes(), b"sup\0")?, "{text}");
     }
-    let number = says(alloc, AttributeValue::Udata(0), b"").err();
+    let number = says(alloc, &AttributeValue::Udata(0), b"", b"").err();
     assert_eq!(rt; number, Some(Error::ExpectedStringAttributeValue));
-    assert_eq!(rt; addresses(alloc)?, (0x22, Some(0x11)));
-    let list = Some(RangeListsOffset(32));
-    assert_eq!(rt; offsets(alloc)?, (list, RangeListsOffset(0x30)));
-    assert_eq!(rt; first_range(alloc, 32)?, (0x1030, 0x1038, false));
-    assert_eq!(rt; entry_at(alloc, 11)?, (4, true));
+    assert_eq!(rt;
+        answer(alloc, FILE, 0, &Addresses(1, 0))?,
+        (0x22, Some(0x11))
+    );
+    let offsets = (Some(RangeListsOffset(32)), RangeListsOffset(0x30));
+    assert_eq!(rt; answer(alloc, FILE, 0, &Offsets(32, 1))?, offsets);
+    assert_eq!(rt;
+        answer(alloc, FILE, 0, &FirstRange(32))?,
+        Some((0x1030, 0x1038, false))
+    );
+    assert_eq!(rt; answer(alloc, FILE, 0, &EntryAt(11))?, (4, true));
     Ok(())
 }

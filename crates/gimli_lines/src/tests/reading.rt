@@ -1,8 +1,8 @@
 //! Files that are added to headers, and instructions that are executed by themselves.
 
 use crate::{
-    DebugLine, FileEntry, LineInstruction, LineProgramHeader, LinePrograms, LineRow,
-    ProgramInstructions,
+    DebugLine, FileEntry, IncompleteLineProgram, LineInstruction, LineProgramHeader, LinePrograms,
+    LineRow, ProgramInstructions,
 };
 use bytes::Bytes;
 use gimli_core::{
@@ -30,15 +30,18 @@ const OF_4: &[u8] = b"\x3f\0\0\0\x04\0\x14\0\0\0\x01\x01\x01\xfd\x0c\x0d\
 
 type Header = LineProgramHeader<EndianBytes<BigEndian>>;
 
-fn header_of_5(alloc: Global) -> Result<Header, Error> {
-    let section = DebugLine::from(EndianBytes::new(Bytes::from_static(OF_5), BigEndian));
+fn header_of(alloc: Global, bytes: &'static [u8]) -> Result<Header, Error> {
+    let section = DebugLine::from(EndianBytes::new(Bytes::from_static(bytes), BigEndian));
     section.header(alloc, DebugLineOffset(0), 4, None, None)
 }
 
-// A file as an instruction defines it: in directory 0, of the time 7, of nine bytes.
-fn defined_file() -> Result<FileEntry<EndianBytes<BigEndian>>, Error> {
-    let mut operands = EndianBytes::new(Bytes::from_static(b"\0\x07\x09"), BigEndian);
-    let name = EndianBytes::new(Bytes::from_static(b"b.h"), BigEndian);
+// A file as an instruction defines it.
+fn defined_file(
+    operands: &'static [u8],
+    name: &'static [u8],
+) -> Result<FileEntry<EndianBytes<BigEndian>>, Error> {
+    let mut operands = EndianBytes::new(Bytes::from_static(operands), BigEndian);
+    let name = EndianBytes::new(Bytes::from_static(name), BigEndian);
     FileEntry::parse(&mut operands, name)
 }
 
@@ -49,83 +52,125 @@ fn with_file(header: &Header, file: &FileEntry<EndianBytes<BigEndian>>) -> Resul
     Ok(copy)
 }
 
+// The time and the length of the file of a number, and whether it has this name and a directory.
+fn file_at(header: &Header, number: u64, name: &[u8]) -> Option<(u64, u64, bool)> {
+    let file = header.file(number)?;
+    let has_name = matches!(file.path_name(), AttributeValue::String(p) if p.as_bytes() == name);
+    let has_directory = file.directory(header).is_some();
+    Some((
+        file.last_modification(),
+        file.length(),
+        has_name && has_directory,
+    ))
+}
+
+// In directory 0, of the time 7, of nine bytes.
 #[test]
 fn a_copy_has_files_of_its_own(rt: HostRuntime) -> Result<(), Fail> {
-    let header = header_of_5(rt.alloc())?;
-    let copy = with_file(&header, &defined_file()?)?;
-    assert!(rt; header.file(1).is_none());
-    let file = copy.file(1).ok_or("no file 1")?;
-    let name = b"b.h".as_slice();
-    assert!(rt;
-        matches!(file.path_name(), AttributeValue::String(path) if path.as_bytes() == name)
-    );
-    assert_eq!(rt; (file.last_modification(), file.length()), (7, 9));
-    assert!(rt; file.directory(&copy).is_some());
+    let header = header_of(rt.alloc(), OF_5)?;
+    let copy = with_file(&header, &defined_file(b"\0\x07\x09", b"b.h")?)?;
+    let files = [file_at(&header, 1, b"b.h"), file_at(&copy, 1, b"b.h")];
+    assert_eq!(rt; files, [None, Some((7, 9, true))]);
     Ok(())
 }
 
-// The address and the line after a special opcode, and the name of the row's file.
-fn after_special(alloc: Global) -> Result<(u64, Option<u64>, bool), Error> {
-    let section = DebugLine::new(OF_4, LittleEndian);
-    let name = EndianSlice::new(b"unit.c", LittleEndian);
-    let mut program = section.program(alloc, DebugLineOffset(0), 8, None, Some(name))?;
-    let mut row = LineRow::new(program.header());
-    let _gives_row = row.execute(LineInstruction::SetFile(0), &mut program)?;
-    let gives_row = row.execute(LineInstruction::Special(55), &mut program)?;
-    let has_file = gives_row && row.file(program.header()).is_some();
-    Ok((row.address(), row.line().map(|line| line.get()), has_file))
+type Program = IncompleteLineProgram<EndianSlice<'static, LittleEndian>>;
+
+fn program_of(alloc: Global, bytes: &'static [u8], name: &'static [u8]) -> Result<Program, Error> {
+    let section = DebugLine::new(bytes, LittleEndian);
+    let name = EndianSlice::new(name, LittleEndian);
+    section.program(alloc, DebugLineOffset(0), 8, None, Some(name))
+}
+
+type Instruction = LineInstruction<EndianSlice<'static, LittleEndian>>;
+
+// Executes an instruction; whether it gives a row.
+fn execute(
+    row: &mut LineRow,
+    instruction: Instruction,
+    program: &mut Program,
+) -> Result<bool, Error> {
+    row.execute(instruction, program)
+}
+
+fn first_row(program: &Program) -> LineRow {
+    LineRow::new(program.header())
+}
+
+fn reset(row: &mut LineRow, program: &Program) {
+    row.reset(program.header());
+}
+
+fn has_file(row: &LineRow, program: &Program) -> bool {
+    row.file(program.header()).is_some()
+}
+
+fn line_of(row: &LineRow) -> Option<u64> {
+    row.line().map(|line| line.get())
+}
+
+// The address and the line after a special opcode, whether it gives a row, and whether that has a
+// file.
+fn after_special(alloc: Global) -> Result<(u64, Option<u64>, bool, bool), Error> {
+    let mut program = program_of(alloc, OF_4, b"unit.c")?;
+    let mut row = first_row(&program);
+    let _gives_row = execute(&mut row, LineInstruction::SetFile(0), &mut program)?;
+    let gives_row = execute(&mut row, LineInstruction::Special(55), &mut program)?;
+    Ok((
+        row.address(),
+        line_of(&row),
+        gives_row,
+        has_file(&row, &program),
+    ))
 }
 
 // The address after an address that goes back, an advance that is hidden, and an end.
 fn after_end(alloc: Global) -> Result<(u64, bool, u64), Error> {
-    let section = DebugLine::new(OF_4, LittleEndian);
-    let mut program = section.program(alloc, DebugLineOffset(0), 8, None, None)?;
-    let mut row = LineRow::new(program.header());
-    let _gives_row = row.execute(LineInstruction::Special(55), &mut program)?;
-    row.reset(program.header());
-    let _gives_row = row.execute(LineInstruction::SetAddress(0), &mut program)?;
-    let _gives_row = row.execute(LineInstruction::AdvancePc(9), &mut program)?;
-    let (address, gives_row) = (
-        row.address(),
-        row.execute(LineInstruction::EndSequence, &mut program)?,
-    );
-    row.reset(program.header());
+    let mut program = program_of(alloc, OF_4, b"")?;
+    let mut row = first_row(&program);
+    let _gives_row = execute(&mut row, LineInstruction::Special(55), &mut program)?;
+    reset(&mut row, &program);
+    let _gives_row = execute(&mut row, LineInstruction::SetAddress(0), &mut program)?;
+    let _gives_row = execute(&mut row, LineInstruction::AdvancePc(9), &mut program)?;
+    let address = row.address();
+    let gives_row = execute(&mut row, LineInstruction::EndSequence, &mut program)?;
+    reset(&mut row, &program);
     Ok((address, gives_row, row.address()))
 }
 
 // Address 1, set to 0: the address after that, and after the same once more with an advance.
 fn after_setting_0(alloc: Global) -> Result<(u64, u64), Error> {
-    let section = DebugLine::new(OF_4, LittleEndian);
-    let mut program = section.program(alloc, DebugLineOffset(0), 8, None, None)?;
-    let mut row = LineRow::new(program.header());
-    let _gives_row = row.execute(LineInstruction::SetAddress(1), &mut program)?;
-    let _gives_row = row.execute(LineInstruction::SetAddress(0), &mut program)?;
+    let mut program = program_of(alloc, OF_4, b"")?;
+    let mut row = first_row(&program);
+    let _gives_row = execute(&mut row, LineInstruction::SetAddress(1), &mut program)?;
+    let _gives_row = execute(&mut row, LineInstruction::SetAddress(0), &mut program)?;
     let first = row.address();
-    let _gives_row = row.execute(LineInstruction::SetAddress(0), &mut program)?;
-    let _gives_row = row.execute(LineInstruction::AdvancePc(9), &mut program)?;
+    let _gives_row = execute(&mut row, LineInstruction::SetAddress(0), &mut program)?;
+    let _gives_row = execute(&mut row, LineInstruction::AdvancePc(9), &mut program)?;
     Ok((first, row.address()))
 }
 
-// The second instruction, asked of a copy.
-fn second_instruction(alloc: Global) -> Result<Option<u64>, Error> {
-    let section = DebugLine::new(OF_4, LittleEndian);
-    let program = section.program(alloc, DebugLineOffset(0), 8, None, None)?;
+// The second instruction, asked of a copy, is one that copies: the address that the first one sets.
+fn second_instruction(program: &Program) -> Result<Option<u64>, Error> {
     let header = program.header();
     let mut instructions = header.instructions()?;
-    let Some(LineInstruction::SetAddress(address)) = instructions.next_instruction(header)? else {
-        return Ok(None);
-    };
-    let mut copy = instructions.copy()?;
-    let second = copy.next_instruction(header)?;
-    let is_copy = matches!(second, Some(LineInstruction::Copy));
-    Ok(is_copy.then_some(address))
+    match instructions.next_instruction(header)? {
+        Some(LineInstruction::SetAddress(address)) => {
+            let mut copy = instructions.copy()?;
+            let second = copy.next_instruction(header)?;
+            let is_copy = matches!(second, Some(LineInstruction::Copy));
+            Ok(is_copy.then_some(address))
+        }
+        _ => Ok(None),
+    }
 }
 
 #[test]
 fn instructions_are_executed(rt: HostRuntime) -> Result<(), Fail> {
-    assert_eq!(rt; after_special(rt.alloc())?, (3, Some(4), true));
+    assert_eq!(rt; after_special(rt.alloc())?, (3, Some(4), true, true));
     assert_eq!(rt; after_end(rt.alloc())?, (3, true, 0));
     assert_eq!(rt; after_setting_0(rt.alloc())?, (1, 1));
-    assert_eq!(rt; second_instruction(rt.alloc())?, Some(0x10));
+    let program = program_of(rt.alloc(), OF_4, b"")?;
+    assert_eq!(rt; second_instruction(&program)?, Some(0x10));
     Ok(())
 }

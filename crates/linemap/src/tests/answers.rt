@@ -22,12 +22,24 @@ pub struct Outcome {
     pub ended: Ended,
 }
 
+/// Asks a table, which is passed: with its text in one body, the checker would compute the contract
+/// on it.
+pub fn ask_about(
+    alloc: Global,
+    table: &[u8],
+    words: &[String],
+    out: &mut FakeWriter,
+    err: &mut FakeWriter,
+) -> Ended {
+    ask(alloc, table, words, out, err)
+}
+
 /// Asks over writers that take all.
 pub fn run(alloc: Global, table: &[u8], words: &[&str]) -> Result<Outcome, AllocError> {
     let words = copies_of(alloc, words)?;
     let mut out = FakeWriter::new(alloc);
     let mut err = FakeWriter::new(alloc);
-    let ended = ask(alloc, table, &words, &mut out, &mut err);
+    let ended = ask_about(alloc, table, &words, &mut out, &mut err);
     Ok(Outcome { out, err, ended })
 }
 

@@ -1,8 +1,8 @@
 //! Writers that fail.
-use super::answers::copies_of;
+use super::answers::{ask_about, copies_of};
 use super::fake::FakeWriter;
 use super::tables::TABLE_A;
-use crate::{Ended, ask};
+use crate::Ended;
 use std::io::ErrorKind;
 use std::test::Fail;
 
@@ -55,7 +55,7 @@ fn output_that_fails(rt: HostRuntime) -> Result<(), Fail> {
     for (kind, room, text, line, end) in table {
         let mut out = FakeWriter::with_room(alloc, room, kind);
         let mut err = FakeWriter::new(alloc);
-        let ended = ask(alloc, TABLE_A.as_bytes(), &words, &mut out, &mut err);
+        let ended = ask_about(alloc, TABLE_A.as_bytes(), &words, &mut out, &mut err);
         assert_eq!(rt; out.text.as_slice(), text, "after {room} bytes");
         assert_eq!(rt; err.text.as_slice(), line, "after {room} bytes");
         assert_eq!(rt; ended, end, "after {room} bytes");
@@ -75,7 +75,7 @@ fn flushes_that_fail(rt: HostRuntime) -> Result<(), Fail> {
     for (flushes, kind, text, end) in table {
         let mut out = FakeWriter::with_flushes(alloc, flushes, kind);
         let mut err = FakeWriter::new(alloc);
-        let ended = ask(alloc, TABLE_A.as_bytes(), &words, &mut out, &mut err);
+        let ended = ask_about(alloc, TABLE_A.as_bytes(), &words, &mut out, &mut err);
         assert_eq!(rt; out.text.as_slice(), text, "after {flushes} flushes");
         assert_eq!(rt; ended, end, "after {flushes} flushes");
     }
@@ -93,7 +93,7 @@ fn interruptions(rt: HostRuntime) -> Result<(), Fail> {
     for (count, text, end) in table {
         let mut out = FakeWriter::with_interruptions(alloc, count);
         let mut err = FakeWriter::new(alloc);
-        let ended = ask(alloc, TABLE_A.as_bytes(), &words, &mut out, &mut err);
+        let ended = ask_about(alloc, TABLE_A.as_bytes(), &words, &mut out, &mut err);
         assert_eq!(rt; out.text.as_slice(), text, "at {count}");
         assert_eq!(rt; ended, end, "at {count}");
     }
@@ -111,7 +111,7 @@ fn error_stream_that_fails(rt: HostRuntime) -> Result<(), Fail> {
     ] {
         let mut out = FakeWriter::new(alloc);
         let mut err = FakeWriter::with_room(alloc, room, Some(ErrorKind::BrokenPipe));
-        let ended = ask(alloc, b"{", &words, &mut out, &mut err);
+        let ended = ask_about(alloc, b"{", &words, &mut out, &mut err);
         assert_eq!(rt; err.text.as_slice(), text, "after {room} bytes");
         assert_eq!(rt; ended.status, 1);
         assert_eq!(rt; ended.write, room < 27);

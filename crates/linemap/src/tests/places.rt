@@ -7,11 +7,21 @@ use linemap_text::{
 use std::alloc::Global;
 use std::test::Fail;
 
-fn sections_of(alloc: Global) -> Result<Sections, &'static str> {
-    let Some(target) = Target::new(4, Format::Dwarf32, 8, false) else {
-        return Err("no such target");
-    };
-    match Table::read(alloc, TABLE_A.as_bytes()) {
+// What is emitted of a table, in a version with addresses of a size.
+fn sections_of(
+    alloc: Global,
+    table: &str,
+    version: u16,
+    size: u8,
+) -> Result<Sections, &'static str> {
+    match Target::new(version, Format::Dwarf32, size, false) {
+        Some(target) => sections_for(alloc, table, target),
+        None => Err("no such target"),
+    }
+}
+
+fn sections_for(alloc: Global, table: &str, target: Target) -> Result<Sections, &'static str> {
+    match Table::read(alloc, table.as_bytes()) {
         Ok(table) => emit_sections(alloc, &table, target).map_err(|e| e.code()),
         Err(e) => Err(e.code()),
     }
@@ -47,9 +57,17 @@ fn line_in(
     dwarf: Dwarf<EndianSlice<'_, RunTimeEndian>>,
     address: u64,
 ) -> Result<String, &'static str> {
-    let Ok(context) = Context::from_dwarf(alloc, dwarf) else {
-        return Err("no context");
-    };
+    match Context::from_dwarf(alloc, dwarf) {
+        Ok(mut context) => line_at(alloc, &mut context, address),
+        Err(_) => Err("no context"),
+    }
+}
+
+fn line_at(
+    alloc: Global,
+    context: &mut Context<EndianSlice<'_, RunTimeEndian>>,
+    address: u64,
+) -> Result<String, &'static str> {
     match context.find_location(address) {
         Ok(place) => place_line(alloc, place).map_err(|_| "no memory"),
         Err(_) => Err("refused"),
@@ -58,7 +76,7 @@ fn line_in(
 
 // The line for an address, where a byte of `.debug_line` is another one.
 fn line_with(alloc: Global, place: usize, byte: u8, address: u64) -> Result<String, &'static str> {
-    let sections = sections_of(alloc)?;
+    let sections = sections_of(alloc, TABLE_A, 4, 8)?;
     let Ok(mut bytes) = sections.get(SectionId::DebugLine).to_vec(alloc) else {
         return Err("no memory");
     };

@@ -23,7 +23,8 @@ fn refused_tables(rt: HostRuntime) -> Result<(), Fail> {
         ("\"end\":4144", "\"end\":4161", "B12"),
         (
             "\"sequences\":[",
-            "\"sequences\":[{\"rows\":[{\"address\":4140,\"file\":0,\"line\":1,\"column\":1}],\"end\":4150},",
+            "\"sequences\":[{\"rows\":[{\"address\":4140,\"file\":0,\"line\":1,\"column\":1}],\
+             \"end\":4150},",
             "B13",
         ),
         ("\"end\":4144", "\"end\":4128", "B14"),

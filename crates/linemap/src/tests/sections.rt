@@ -74,15 +74,31 @@ fn units(alloc: Global) -> Result<Vec<TableUnit>, AllocError> {
     Ok(vec![in alloc; first, second]?)
 }
 
-// What is emitted of units, or the text of a refusal.
-fn sections_of(alloc: Global, units: Vec<TableUnit>) -> Result<Sections, &'static str> {
-    let Some(target) = Target::new(4, Format::Dwarf32, 8, false) else {
-        return Err("no such target");
-    };
+// What is emitted of units in a version with addresses of a size, or the text of a refusal.
+fn sections_of(
+    alloc: Global,
+    units: Vec<TableUnit>,
+    (version, size): (u16, u8),
+) -> Result<Sections, &'static str> {
+    match Target::new(version, Format::Dwarf32, size, false) {
+        Some(target) => sections_for(alloc, units, target),
+        None => Err("no such target"),
+    }
+}
+
+fn sections_for(
+    alloc: Global,
+    units: Vec<TableUnit>,
+    target: Target,
+) -> Result<Sections, &'static str> {
     match Table::check(units) {
         Ok(table) => emit_sections(alloc, &table, target).map_err(|e| e.code()),
         Err(e) => Err(e.code()),
     }
+}
+
+fn printed(alloc: Global, first: EmitError, second: EmitError) -> Result<String, AllocError> {
+    format!(in alloc; "{first} {second}")
 }
 
 // Whether a section has these bytes.
@@ -95,20 +111,20 @@ fn holds(sections: &Sections, id: SectionId, bytes: &[u8]) -> bool {
 #[test]
 fn sections_of_tables(rt: HostRuntime) -> Result<(), Fail> {
     let alloc = rt.alloc();
-    let sections = sections_of(alloc, units(alloc)?)?;
+    let sections = sections_of(alloc, units(alloc)?, (4, 8))?;
     assert!(rt; holds(&sections, SectionId::DebugAbbrev, ABBREV));
     assert!(rt; holds(&sections, SectionId::DebugInfo, INFO));
     assert!(rt; holds(&sections, SectionId::DebugLine, LINE));
     assert!(rt; holds(&sections, SectionId::DebugRanges, RANGES));
     assert!(rt; holds(&sections, SectionId::DebugStr, b"a.c\0/w\0main\0f\0b.c\0"));
     assert!(rt; holds(&sections, SectionId::DebugAranges, b""));
-    let empty = sections_of(alloc, Vec::new(alloc))?;
+    let empty = sections_of(alloc, Vec::new(alloc), (4, 8))?;
     assert!(rt; holds(&empty, SectionId::DebugAbbrev, ABBREV));
     assert!(rt; holds(&empty, SectionId::DebugInfo, b""));
-    assert!(rt; Target::new(5, Format::Dwarf32, 8, false).is_none());
-    let (memory, large) = (EmitError::Memory, EmitError::TooLarge);
-    let printed = format!(in alloc; "{memory} {large}")?;
-    assert_eq!(rt; printed.as_str(), "M1 M2");
+    let refusal = sections_of(alloc, Vec::new(alloc), (5, 8)).err();
+    assert_eq!(rt; refusal, Some("no such target"));
+    let text = printed(alloc, EmitError::Memory, EmitError::TooLarge)?;
+    assert_eq!(rt; text.as_str(), "M1 M2");
     Ok(())
 }
 

@@ -41,7 +41,8 @@ pub fn small_table(
     let [unit, file] = directories;
     let mut text = format!(in alloc;
         "{{\"units\":[{{\"directory\":\"{unit}\",\"name\":\"x\",\"ranges\":[{range}],\
-        \"files\":[{{\"directory\":\"{file}\",\"name\":\"{name}\"}}],\"functions\":[],\"sequences\":[{{\"rows\":["
+        \"files\":[{{\"directory\":\"{file}\",\"name\":\"{name}\"}}],\"functions\":[],\
+        \"sequences\":[{{\"rows\":["
     )?;
     for (index, row) in rows.iter().enumerate() {
         let (address, line) = *row;

@@ -1,19 +1,26 @@
-use Rattle.std.proofs.Common.{◌∙◌, sym}
+use Rattle.std.proofs.Common.{◌∙◌, ◌<◌, length, map, arith}
 use Rattle.std.proofs.lemmas.Result.{err_from_is_err_and}
-use Rattle.addr2line_context.proofs.ContextParts.{read_lines_first, refused_lines_first, no_lines_left}
+use Rattle.addr2line_resolved.specs.Contexts.{all_lines_or_refusal}
+use Rattle.addr2line_resolved.specs.ResolvedUnits.{plain_unit}
+use Rattle.addr2line_context.proofs.KeptLines.{check_more, check_stops}
 use Rattle.addr2line_context.proofs.parsing.check_lines.Goals as goal
 
-pub loop-unit-preserved : goal.loop-unit-preserved
-loop-unit-preserved g c =
-    sym (read_lines_first c.loop-unit.left.now c.in-Some.unit.now c.in-Some.rest.now _ c.in-Some.ensures.cases.0
-    (sym c.in_ok-lines.ensures)) ∙ c.loop-unit.invariant
-
-pub returns-in_err-lines : goal.returns-in_err-lines
-returns-in_err-lines g c =
+pub returns-in_err-check_at-clause-found : goal.returns-in_err-check_at-clause-found
+returns-in_err-check_at-clause-found g c =
     let p = err_from_is_err_and c.from_residual.result c.from_residual.ensures.1 in
-    rw (p.1, p.2) (sym
-    (refused_lines_first c.loop-unit.left.now c.in-Some.unit.now c.in-Some.rest.now _ c.in-Some.ensures.cases.0
-    (sym c.in_err-lines.ensures)) ∙ c.loop-unit.invariant)
+    let us = c.args.units.now.items in
+    let vs = c.loop-number.units.items in
+    let below : c.loop-number.number < length vs = omega arith in
+    rw (p.1, p.2) (λ m.
+    check_stops us vs c.loop-number.invariant.0 c.loop-number.number (all_lines_or_refusal (map plain_unit us))
+    c.loop-number.invariant.1 _ below (c.in_err-check_at.ensures.found m))
 
-pub returns : goal.returns
-returns g c = sym (no_lines_left c.loop-unit.left.now c.in_default.ensures.cases) ∙ c.loop-unit.invariant
+pub loop-number-preserved : goal.loop-number-preserved
+loop-number-preserved g c =
+    let us = c.args.units.now.items in
+    let vs = c.loop-number.units.items in
+    let below : c.loop-number.number < length vs = omega arith in (
+      c.in_ok-check_at.ensures.values ∙ c.loop-number.invariant.0,
+      check_more us vs c.loop-number.invariant.0 c.loop-number.number (all_lines_or_refusal (map plain_unit us))
+          c.loop-number.invariant.1 below c.in_ok-check_at.ensures.found,
+    )

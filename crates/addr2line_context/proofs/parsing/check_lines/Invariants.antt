@@ -1,10 +1,15 @@
--- The lines of the units before those that are left can be read.
-use Rattle.std.proofs.Common.{◌≡◌, length}
-use Rattle.addr2line_units.specs.Contexts.{all_lines_or_refusal}
+-- The lines of the units before a number can be read, and the units' values are the same.
+use Rattle.std.proofs.Common.{◌≡◌, ◌-◌, length, map}
+use Rattle.addr2line_resolved.specs.Contexts.{all_lines_or_refusal}
+use Rattle.addr2line_resolved.specs.ResolvedUnits.{plain_unit, value_of_unit}
+use Rattle.addr2line_context.proofs.KeptLines.{check_from}
 use Rattle.addr2line_context.proofs.parsing.check_lines.Given as goal
 
-abbrev pub invariant-loop-unit : goal.invariant-loop-unit
-invariant-loop-unit g l = all_lines_or_refusal l.left ≡ all_lines_or_refusal l.units
+abbrev pub invariant-loop-number : goal.invariant-loop-number
+invariant-loop-number g l =
+    let us = map plain_unit l.fn.units.items in
+    (map value_of_unit l.units.items ≡ map value_of_unit l.fn.units.items)
+    × (check_from l.number us ≡ all_lines_or_refusal us)
 
-abbrev pub decreases-loop-unit : goal.decreases-loop-unit
-decreases-loop-unit g l = length l.left
+abbrev pub decreases-loop-number : goal.decreases-loop-number
+decreases-loop-number g l = length l.fn.units.items - l.number

@@ -1,7 +1,7 @@
-use Rattle.std.proofs.Common.{ℕ, ◌<◌, ◌∷◌, [], ◌++◌, List, length, Option, Some, None, string_bytes, encode_utf8, ap, sym, ◌∙◌, rules, arith, lit<}
+use Rattle.std.proofs.Common.{ℕ, ◌<◌, ◌∷◌, [], ◌++◌, List, length, Some, None, string_bytes, encode_utf8, ap, sym, ◌∙◌, rules, arith, lit<}
 use Rattle.std.proofs.lemmas.Str.Pattern.{split_once_first}
 use Rattle.addr2line_demangle.specs.LegacyElements.{dots_as_colons, Replacement}
-use Rattle.addr2line_demangle.proofs.ElementParts.{rest_text, after_dollar, rest_plain, rest_step, after_shorter, shorter_some, push_two, push_last, then_on_ok}
+use Rattle.addr2line_demangle.proofs.ElementParts.{rest_text, rest_plain, rest_split, after_shorter, shorter_some, push_two, push_last, then_on_ok}
 use Rattle.addr2line_demangle.proofs.elements.push_element.Goals as goal
 
 pub loop-plain-smaller : goal.loop-plain-smaller
@@ -24,16 +24,9 @@ loop-plain-smaller c =
 
 pub loop-plain-preserved : goal.loop-plain-preserved
 loop-plain-preserved c =
-    let cut =
-    split_once_first 36 c.loop-plain.rest.now
-    (Some (c.in-Some.plain, c.in-Some.tail)) c.in-Some.ensures.cases (lit< tt) in
-    let step =
-    rest_step c.loop-plain.rest.now c.in-Some.plain.now c.in-Some.tail.now cut.0 cut.1 cut.2 in
     let whole =
-    step ∙ ap
-    (λ (o : Option Replacement).
-    dots_as_colons c.in-Some.plain.now ++ after_dollar c.in-Some.tail.now o)
-    (sym c.in-Some-first_replacement.ensures) in (
+    rest_split c.loop-plain.rest.now c.in-Some.plain c.in-Some.tail _ c.in-Some.ensures.cases
+    c.in-Some-first_replacement.ensures in (
       search rules,
       push_two (string_bytes c.loop-plain.text) (string_bytes c.push_plain.new.text)
           (string_bytes c.push.new.self) (dots_as_colons c.in-Some.plain.now)
@@ -45,16 +38,8 @@ loop-plain-preserved c =
 
 pub returns-in-None : goal.returns-in-None
 returns-in-None c =
-    let cut =
-    split_once_first 36 c.loop-plain.rest.now
-    (Some (c.in-Some.plain, c.in-Some.tail)) c.in-Some.ensures.cases (lit< tt) in
-    let step =
-    rest_step c.loop-plain.rest.now c.in-Some.plain.now c.in-Some.tail.now cut.0 cut.1 cut.2 in
     let whole =
-    step ∙ ap
-    (λ (o : Option Replacement).
-    dots_as_colons c.in-Some.plain.now ++ after_dollar c.in-Some.tail.now o)
-    (sym c.in-None.ensures) in
+    rest_split c.loop-plain.rest.now c.in-Some.plain c.in-Some.tail _ c.in-Some.ensures.cases c.in-None.ensures in
     let sign =
     c.in_ok-push-in-None.ensures.bytes
     ∙ ap (λ (t : List ℕ). string_bytes c.push_plain.new.text ++ t)

@@ -5,8 +5,8 @@ use Rattle.addr2line_index.proofs.sequence.rows_to.Given as goal
 
 abbrev pub invariant-loop-left : goal.invariant-loop-left
 invariant-loop-left l = record {
-  passed : l.count + length l.left ≡ length l.rows;
-  counted : l.count + rows_to l.address l.left ≡ rows_to l.address l.rows;
+  lengths_add : l.count + length l.left ≡ length l.rows;
+  counts_add : l.count + rows_to l.address l.left ≡ rows_to l.address l.rows;
 }
 
 abbrev pub decreases-loop-left : goal.decreases-loop-left

@@ -6,8 +6,8 @@ use Rattle.addr2line_index.proofs.stretches.insertion_index.Given as goal
 
 abbrev pub invariant-loop-left : goal.invariant-loop-left
 invariant-loop-left l = record {
-  passed : l.count + length l.left ≡ length l.sorted;
-  counted : l.count + prefix_len (starts_after l.sequence) (map (λ s. s.now) l.left)
+  lengths_add : l.count + length l.left ≡ length l.sorted;
+  counts_add : l.count + prefix_len (starts_after l.sequence) (map (λ s. s.now) l.left)
       ≡ prefix_len (starts_after l.sequence) (map (λ s. s.now) l.sorted);
 }
 

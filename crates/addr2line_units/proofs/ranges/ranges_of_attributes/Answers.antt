@@ -1,16 +1,18 @@
-use Rattle.std.proofs.Common.{subst, sym, List, Vec, Global, Result}
+use Rattle.std.proofs.Common.{subst, sym, List, Result}
 use Rattle.gimli_lines_rows.specs.Error.{Error}
 use Rattle.gimli_lines_rows.specs.Calls.{ReturnsAsOrNoMemory}
 use Rattle.gimli_lines_rows.specs.Range.{Range}
 use Rattle.gimli_dwarf.specs.EntryViews.{raw_attributes}
+use Rattle.addr2line_index.specs.UnitLines.{lines_of_unit}
+use Rattle.addr2line_units.specs.RootRanges.{RootRanges}
 use Rattle.addr2line_units.proofs.UnitRangeLemmas.{ranges-found}
 use Rattle.addr2line_units.proofs.ranges.ranges_of_attributes.Goals as goal
 
-pub returns : goal.returns
-returns g c =
+pub returns-clause-ranges : goal.returns-clause-ranges
+returns-clause-ranges g c =
     let P : Result (List Range) Error → Type 0 =
-    λ r. ReturnsAsOrNoMemory (λ (v : Vec Range Global). v.items) c.or_lines.result r in
-    subst P (sym (ranges-found c.args.unit.now c.args.lines.now
+    λ r. ReturnsAsOrNoMemory (λ (v : RootRanges). v.ranges) c.or_by_run.result r in
+    subst P (sym (ranges-found c.args.unit.now (lines_of_unit c.args.unit.now)
     (raw_attributes g.R.Reader.view g.R.Offset.ReaderOffset.count c.args.attributes.now) c.in_ok-facts.facts
     c.in_ok-declared.declared.items
-    c.in_ok-facts.ensures c.in_ok-declared.ensures)) c.or_lines.ensures
+    c.in_ok-facts.ensures c.in_ok-declared.ensures)) c.or_by_run.ensures.ranges

@@ -2,9 +2,10 @@ use Rattle.std.proofs.Common.{◌≡◌, ℕ, true, false, not, cond, leb, List,
 use Rattle.std.specs.Ordering.{nat_cmp}
 use Rattle.std.specs.BTreeSet.{contains}
 use Rattle.std.specs.BTreeMap.{is_at}
+use Rattle.std.proofs.lemmas.Bool.{not-true, not-false}
 use Rattle.std.proofs.lemmas.List.{map-append, take_all}
 use Rattle.gimli_core_readers.specs.DebugAbbrevOffset.{DebugAbbrevOffset}
-use Rattle.gimli_core_abbrev.proofs.RepeatedOffsets.{among, times_among, places_more, distinct_more, repeated_new, repeated_again, not_true, not_false}
+use Rattle.gimli_core_abbrev.proofs.RepeatedOffsets.{among, times_among, places_more, distinct_more, repeated_new, repeated_again}
 use Rattle.gimli_core_abbrev.proofs.cache.repeated_of.Goals as goal
 
 pub loop-offset-preserved-then-branch : goal.loop-offset-preserved-then-branch
@@ -15,8 +16,8 @@ loop-offset-preserved-then-branch g c =
     let more = places_more place c.args.offsets.now c.loop-offset.offset-index x c.offset-item.is
     c.loop-offset-test.true in
     let new : among (place x) before ≡ false = sym (c.loop-offset.invariant.distinct (place x))
-    ∙ not_true _ _ (c.in_ok-insert.ensures.added ∙ ap (λ (k : ℕ). not (contains nat_cmp c.loop-offset.distinct k))
-    c.into_u64.ensures.value) c.if-branch.true in
+    ∙ not-true _ (sym (c.in_ok-insert.ensures.added
+    ∙ ap (λ (k : ℕ). not (contains nat_cmp c.loop-offset.distinct k)) c.into_u64.ensures.value) ∙ c.if-branch.true) in
     record {
       distinct = λ offset. distinct_more offset (place x) before _ _
           (c.in_ok-insert.ensures.updates.0 offset
@@ -34,8 +35,8 @@ loop-offset-preserved g c =
     let more = places_more place c.args.offsets.now c.loop-offset.offset-index x c.offset-item.is
     c.loop-offset-test.true in
     let there : among (place x) before ≡ true = sym (c.loop-offset.invariant.distinct (place x))
-    ∙ not_false _ _ (c.in_ok-insert.ensures.added ∙ ap (λ (k : ℕ). not (contains nat_cmp c.loop-offset.distinct k))
-    c.into_u64.ensures.value) c.if-branch.false in
+    ∙ not-false _ (sym (c.in_ok-insert.ensures.added
+    ∙ ap (λ (k : ℕ). not (contains nat_cmp c.loop-offset.distinct k)) c.into_u64.ensures.value) ∙ c.if-branch.false) in
     record {
       distinct = λ offset. distinct_more offset (place x) before _ _
           (c.in_ok-insert.ensures.updates.0 offset

@@ -17,16 +17,16 @@ pub overflow_sub-result : goal.overflow_sub-result
 overflow_sub-result c =
     let half = half_is c.args.length c.args.sum c.requires.short c.requires.bit_6_set c.requires.digits in
     let whole = nine_sevens c.args.length c.requires.short in
-    omega (arith, ints, half.fits, half.doubled, whole, c.requires.bit_6_set, c.requires.digits)
+    omega (arith, ints, half.fits, half.two_halves, whole, c.requires.bit_6_set, c.requires.digits)
 
 pub overflow_sub-result-2 : goal.overflow_sub-result-2
 overflow_sub-result-2 c =
     let half = half_is c.args.length c.args.sum c.requires.short c.requires.bit_6_set c.requires.digits in
     let whole = nine_sevens c.args.length c.requires.short in
-    omega (arith, ints, half.fits, half.doubled, whole, c.requires.bit_6_set, c.requires.digits)
+    omega (arith, ints, half.fits, half.two_halves, whole, c.requires.bit_6_set, c.requires.digits)
 
 pub returns : goal.returns
 returns c =
     let half = half_is c.args.length c.args.sum c.requires.short c.requires.bit_6_set c.requires.digits in
     let whole = nine_sevens c.args.length c.requires.short in
-    omega (arith, ints, half.fits, half.doubled, whole, c.requires.bit_6_set, c.requires.digits)
+    omega (arith, ints, half.fits, half.two_halves, whole, c.requires.bit_6_set, c.requires.digits)

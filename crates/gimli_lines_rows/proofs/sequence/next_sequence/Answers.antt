@@ -5,7 +5,7 @@ use Rattle.gimli_lines_machine.specs.View.{View}
 use Rattle.gimli_lines_machine.specs.Readers.{Holds}
 use Rattle.gimli_lines_rows.specs.ProgramRows.{stays}
 use Rattle.gimli_lines_rows.proofs.RowPaths.{path_path}
-use Rattle.gimli_lines_rows.proofs.SequenceLoops.{Searched, searched_none, searched_more, path_holds, piece_found, piece_none, piece_fault, row_smaller, path_to_row, path_to_end, up_to_is}
+use Rattle.gimli_lines_rows.proofs.SequenceLoops.{SearchesFrom, searched_none, searched_more, path_holds, piece_found, piece_none, piece_fault, row_smaller, path_to_row, path_to_end, up_to_is}
 use Rattle.gimli_lines_rows.proofs.sequence.next_sequence.Goals as goal
 
 pub loop-before-init : goal.loop-before-init
@@ -20,7 +20,7 @@ loop-before-preserved g c =
     let address : c.address-address.result ≡ c.advance.new.self.last.address = search rules in
     let more : c.or-start.result ≡ option_or c.loop-before.start (Some c.advance.new.self.last.address) =
     c.or-start.ensures ∙ ap (λ (a : ℕ). option_or c.loop-before.start (Some a)) address in (
-      subst (λ (o : Option ℕ). Searched limit o c.args.rows.now c.advance.new.self) (sym more)
+      subst (λ (o : Option ℕ). SearchesFrom limit o c.args.rows.now c.advance.new.self) (sym more)
           (searched_more limit c.loop-before.start c.args.rows.now c.loop-before.rows c.advance.new.self
           c.loop-before.invariant.0 went.0 is),
       c.loop-before.invariant.1,

@@ -1,10 +1,13 @@
+use Rattle.std.proofs.Common.{rules, tests}
+use Rattle.std.proofs.lemmas.Iterator.{YieldsList-from_slice}
+use Rattle.std.proofs.lemmas.Iterator.Search.{all_from_yields_List}
+use Rattle.std.proofs.lemmas.List.Folds.{list_all-map}
 use Rattle.gimli_lines_write_laws.specs.FileTables.{text_of}
-use Rattle.gimli_lines_write_laws.specs.HeaderContents.{IsKnown}
-use Rattle.gimli_lines_write_program.proofs.RestOfLists.{rest_next}
+use Rattle.gimli_lines_write_program.specs.TextTests.{is_known}
 use Rattle.gimli_lines_write_program.proofs.text_checks.are_known.Goals as goal
 
-pub loop-text-preserved : goal.loop-text-preserved
-loop-text-preserved c =
-    rest_next (IsKnown c.args.strings.now c.args.line_strings.now) text_of c.args.texts.now c.loop-text.text-index
-    c.text-item.result c.loop-text-test.true c.text-item.is (c.is_known.ensures c.if-not-is_known.false)
-    c.loop-text.invariant
+pub returns : goal.returns
+returns c =
+    rw list_all-map
+    (all_from_yields_List (λ x. (is_known c.args.strings.now c.args.line_strings.now) (text_of x)) _ _ _
+    c.all.ensures.ran (YieldsList-from_slice c.args.texts.now cc) (λ x b q k. search (rules, tests)))

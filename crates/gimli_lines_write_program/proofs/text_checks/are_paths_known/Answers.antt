@@ -1,10 +1,13 @@
+use Rattle.std.proofs.Common.{rules, tests}
+use Rattle.std.proofs.lemmas.Iterator.{YieldsList-from_slice}
+use Rattle.std.proofs.lemmas.Iterator.Search.{all_from_yields_List}
+use Rattle.std.proofs.lemmas.List.Folds.{list_all-map}
 use Rattle.gimli_lines_write_laws.specs.FileTables.{File, file_of}
-use Rattle.gimli_lines_write_laws.specs.HeaderContents.{IsKnown}
-use Rattle.gimli_lines_write_program.proofs.RestOfLists.{rest_next}
+use Rattle.gimli_lines_write_program.specs.TextTests.{is_known}
 use Rattle.gimli_lines_write_program.proofs.text_checks.are_paths_known.Goals as goal
 
-pub loop-file-preserved : goal.loop-file-preserved
-loop-file-preserved c =
-    rest_next (λ (f : File). IsKnown c.args.strings.now c.args.line_strings.now f.path) file_of c.args.files.now
-    c.loop-file.file-index c.file-item.result c.loop-file-test.true c.file-item.is
-    (c.is_known.ensures c.if-not-is_known.false) c.loop-file.invariant
+pub returns : goal.returns
+returns c =
+    rw list_all-map
+    (all_from_yields_List (λ x. (λ (f : File). is_known c.args.strings.now c.args.line_strings.now f.path) (file_of x))
+    _ _ _ c.all.ensures.ran (YieldsList-from_slice c.args.files.now cc) (λ x b q k. search (rules, tests)))

@@ -1,11 +1,13 @@
-use Rattle.std.proofs.Common.{[], unwrap_or}
-use Rattle.gimli_lines_write_laws.specs.FileTables.{Info, in_header, info_of}
-use Rattle.gimli_lines_write_laws.specs.HeaderContents.{IsKnown}
-use Rattle.gimli_lines_write_program.proofs.RestOfLists.{rest_next}
+use Rattle.std.proofs.Common.{rules, tests}
+use Rattle.std.proofs.lemmas.Iterator.{YieldsList-from_slice}
+use Rattle.std.proofs.lemmas.Iterator.Search.{all_from_yields_List}
+use Rattle.std.proofs.lemmas.List.Folds.{list_all-map}
+use Rattle.gimli_lines_write_laws.specs.FileTables.{Info, info_of}
+use Rattle.gimli_lines_write_program.specs.TextTests.{is_source_known}
 use Rattle.gimli_lines_write_program.proofs.text_checks.are_sources_known.Goals as goal
 
-pub loop-info-preserved : goal.loop-info-preserved
-loop-info-preserved c =
-    rest_next (λ (i : Info). IsKnown c.args.strings.now c.args.line_strings.now (unwrap_or i.source (in_header [])))
-    info_of c.args.infos.now c.loop-info.info-index c.info-item.result c.loop-info-test.true c.info-item.is
-    (c.is_source_known.ensures c.if-not-is_source_known.false) c.loop-info.invariant
+pub returns : goal.returns
+returns c =
+    rw list_all-map
+    (all_from_yields_List (λ x. (λ (i : Info). is_source_known c.args.strings.now c.args.line_strings.now i.source)
+    (info_of x)) _ _ _ c.all.ensures.ran (YieldsList-from_slice c.args.infos.now cc) (λ x b q k. search (rules, tests)))

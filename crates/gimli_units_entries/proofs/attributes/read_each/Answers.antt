@@ -1,18 +1,18 @@
 use Rattle.gimli_units_forms.specs.AttributeReading.{attributes}
 use Rattle.gimli_units_forms.proofs.AfterLemmas.{IsAfter-IsAfter, IsAfter-fewer}
 use Rattle.gimli_units_forms.proofs.FormSizes.{attributes-after}
-use Rattle.gimli_units_entries.proofs.EntryReads.{moved, no_less, read_at, refused_at}
+use Rattle.gimli_units_entries.proofs.EntryReads.{moves_after, no_less, read_at, refused_at}
 use Rattle.gimli_units_entries.proofs.attributes.read_each.Goals as goal
 
 pub advance-requires : goal.advance-requires
 advance-requires g c = rw c.borrowed-place.ensures c.requires
 
 pub fill-requires : goal.fill-requires
-fill-requires g c = moved _ _ _ _ c.requires c.borrowed-place.ensures c.advance.ensures
+fill-requires g c = moves_after _ _ _ _ c.requires c.borrowed-place.ensures c.advance.ensures
 
 pub bytes_before-requires : goal.bytes_before-requires
 bytes_before-requires g c =
-    IsAfter-IsAfter _ _ _ (moved _ _ _ _ c.requires c.borrowed-place.ensures c.advance.ensures)
+    IsAfter-IsAfter _ _ _ (moves_after _ _ _ _ c.requires c.borrowed-place.ensures c.advance.ensures)
     (attributes-after _ _ _ _ _ _ c.in-Ok.ensures)
 
 pub returns-in-Ok-clause-value : goal.returns-in-Ok-clause-value

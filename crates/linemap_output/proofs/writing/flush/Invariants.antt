@@ -6,7 +6,7 @@ use Rattle.linemap_output.proofs.writing.flush.Given as goal
 abbrev pub invariant-flush : goal.invariant-flush
 invariant-flush g l = record {
   keeps : Keeps (g.W.Write.contents l.fn.out) (g.W.Write.contents l.out);
-  allowed : l.interruptions < 1000;
+  tries_left : l.interruptions < 1000;
 }
 
 abbrev pub decreases-flush : goal.decreases-flush

@@ -5,9 +5,9 @@ use Rattle.linemap_output.proofs.writing.write_bytes.Given as goal
 -- what was written and the rest are the text, and more interruptions are allowed
 abbrev pub invariant-write : goal.invariant-write
 invariant-write g l = record {
-  written : (prefix : List ℕ) × Appends (g.W.Write.contents l.fn.out) (g.W.Write.contents l.out) prefix
+  prefix_written : (prefix : List ℕ) × Appends (g.W.Write.contents l.fn.out) (g.W.Write.contents l.out) prefix
       × (prefix ++ l.rest ≡ l.bytes);
-  allowed : l.interruptions < 1000;
+  tries_left : l.interruptions < 1000;
 }
 
 -- each write takes a byte, and each interruption one of the tries

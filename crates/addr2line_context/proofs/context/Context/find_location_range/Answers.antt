@@ -1,12 +1,18 @@
-use Rattle.std.proofs.Common.{◌≡◌, ◌∙◌, ap, sym, Ok}
-use Rattle.addr2line_units.specs.PlaceLookups.{stretches_between}
-use Rattle.addr2line_units.specs.Contexts.{ranges_of, lines_of, stretches, FileContext}
+use Rattle.std.proofs.Common.{◌∙◌, sym, ap, Ok}
+use Rattle.std.proofs.lemmas.Result.{err_from_is_err_and}
+use Rattle.addr2line_resolved.specs.Contexts.{FileContext, stretches, ranges_of, lines_of}
+use Rattle.addr2line_resolved.specs.PlaceLookups.{stretches_between}
+use Rattle.addr2line_context.proofs.KeptLines.{same_plain}
 use Rattle.addr2line_context.proofs.context.Context.find_location_range.Goals as goal
+
+pub returns-in_err-read_between : goal.returns-in_err-read_between
+returns-in_err-read_between g c =
+    let p = err_from_is_err_and c.from_residual.result c.from_residual.ensures.1 in
+    rw (p.1, p.2) (λ m. absurd (m c.in_err-read_between.ensures.refusal))
 
 pub returns : goal.returns
 returns g c =
-    let same : c.new.result ≡ stretches c.args.self.now.context c.args.probe_low c.args.probe_high =
-    c.new.ensures
-    ∙ ap (λ us. stretches_between ranges_of lines_of us c.args.probe_low c.args.probe_high) c.as_slice.ensures.value
-    ∙ ap (λ (x : FileContext). stretches x.context c.args.probe_low c.args.probe_high) c.self.view_is in
-    ap Ok (sym same)
+    ap Ok (sym (c.stretches.ensures
+    ∙ ap (λ us. stretches_between ranges_of lines_of us c.args.probe_low c.args.probe_high)
+    (same_plain c.read_between.new.self c.self.inside.units c.read_between.ensures.values)
+    ∙ ap (λ (x : FileContext). stretches x.context c.args.probe_low c.args.probe_high) c.self.view_is))

@@ -1,5 +1,5 @@
 use Rattle.std.proofs.Common.{◌∙◌, ap}
-use Rattle.addr2line_units.specs.Contexts.{FileContext}
+use Rattle.addr2line_resolved.specs.Contexts.{FileContext}
 use Rattle.addr2line_context.proofs.context.Context.supplement_units.Goals as goal
 
 pub returns : goal.returns

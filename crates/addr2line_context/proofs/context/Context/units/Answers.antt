@@ -1,6 +1,8 @@
-use Rattle.std.proofs.Common.{◌∙◌, ap}
-use Rattle.addr2line_units.specs.Contexts.{FileContext}
+use Rattle.std.proofs.Common.{◌∙◌, ap, map}
+use Rattle.addr2line_resolved.specs.Contexts.{FileContext}
+use Rattle.addr2line_resolved.specs.ResolvedUnits.{plain_unit}
 use Rattle.addr2line_context.proofs.context.Context.units.Goals as goal
 
 pub returns : goal.returns
-returns g c = c.as_slice.ensures.value ∙ ap (λ (x : FileContext). x.context.units) c.self.view_is
+returns g c =
+    ap (map plain_unit) c.as_slice.ensures ∙ ap (λ (x : FileContext). x.context.units) c.self.view_is

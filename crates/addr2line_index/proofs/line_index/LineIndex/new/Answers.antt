@@ -25,6 +25,15 @@ returns-clause-ok c =
     let same : sequences_of index.entries ≡ c.args.lines.sequences =
     ap sequences_of (ap (λ i. i.entries) made ∙ c.in_ok-sequences.ensures.ok)
     ∙ sequences_of-counted name sequences ∙ c.sequences.ensures in
-    ap (λ l. record { lines = record { sequences = l; files = map string_bytes c.into_files.result.items }; counter = index.counter }) same
-    ∙ ap (λ l. record { lines = record { sequences = c.args.lines.sequences; files = l }; counter = index.counter }) c.into_files.ensures
-    ∙ ap (λ n. record { lines = record { sequences = c.args.lines.sequences; files = c.args.lines.files }; counter = n }) (ap (λ i. i.counter) made)
+    ap (λ l. record {
+      lines = record { sequences = l; files = map string_bytes c.into_files.result.items };
+      counter = index.counter;
+    }) same
+    ∙ ap (λ l. record {
+      lines = record { sequences = c.args.lines.sequences; files = l };
+      counter = index.counter;
+    }) c.into_files.ensures
+    ∙ ap (λ n. record {
+      lines = record { sequences = c.args.lines.sequences; files = c.args.lines.files };
+      counter = n;
+    }) (ap (λ i. i.counter) made)

@@ -6,7 +6,8 @@ use Rattle.addr2line_index.proofs.line_rows.LineRows.new.Goals as goal
 pub invariant_of-result : goal.invariant_of-result
 invariant_of-result c =
     let entries = c.new.result.entries in
-    let made : entries ≡ ranked_after 0 c.args.rows.now = ap (λ l. l.entries) c.new.ensures ∙ c.in_ok-ranked.ensures.ok in
+    let made : entries ≡ ranked_after 0 c.args.rows.now =
+    ap (λ l. l.entries) c.new.ensures ∙ c.in_ok-ranked.ensures.ok in
     made ∙ ap (ranked_after 0) (sym (ap rows_of made ∙ rows_of-ranked 0 c.args.rows.now))
 
 pub returns-clause-ok : goal.returns-clause-ok

@@ -17,14 +17,14 @@ use Rattle.addr2line_search.specs.contracts.tally.Tally.raise as f
 use Rattle.addr2line_search.proofs.tally.Tally.raise.Statement.{statement}
 use Rattle.addr2line_search.proofs.tally.Tally.raise.Code as code
 
-abbrev stayed : Stays f.ended.signature.params f.ended.kept
-stayed = (stay_ref (0 ∷ []) tt (plain (λ _. R)), tt)
+abbrev stays : Stays f.ended.signature.params f.ended.kept
+stays = (stay_ref (0 ∷ []) tt (plain (λ _. R)), tt)
 
 pub raise_spec : {M : Type 1} → statement M
 raise_spec 𝓤 𝓛 𝓜 𝓡 wired =
     let c = f.clauses 𝓛 𝓜.mem 𝓡.returns in
-    let W = walk_of 𝓛 f.ended stayed c in
-    proved 𝓛 f.ended stayed c 𝓜 𝓡 (Goes-ref 𝓛 1 0 tt (plain (λ _. R)), tt)
+    let W = walk_of 𝓛 f.ended stays c in
+    proved 𝓛 f.ended stays c 𝓜 𝓡 (Goes-ref 𝓛 1 0 tt (plain (λ _. R)), tt)
     f.Key.name code.function (code.unfolded 𝓤 𝓛.H 𝓜 𝓡 wired)
     (λ κs. (mut_vals, tt)) (λ κs. (mut_Tells (named 0) κs.0 R, tt)) (λ κs qs bounds a _ are.
     let b = a.0.ref_ptr.0 in
@@ -43,6 +43,6 @@ raise_spec 𝓤 𝓛 𝓜 𝓡 wired =
     sets ! (of_opd ! (unit_lit !)) refl (tt, tt) $
     -- [two parts of self; the token; self's first part]
     returns ! (look_at ! 0 refl) $ free_all ! refl $ move ! (3 ∷ []) $
-    suffices ! _ (ends_at 𝓛 f.ended stayed c y vunit tt (raised, tt) (tt, tt)) $ says ! refl $
-    group ! 3 $ nothing ! $ move ! (1 ∷ 0 ∷ []) $ join ! $ nothing ! $ move ! (2 ∷ 0 ∷ []) $ join ! $ frame ! $ frame ! $
-    feq_i ! _ (vunit ∷ []) _ refl $ done !)))
+    suffices ! _ (ends_at 𝓛 f.ended stays c y vunit tt (raised, tt) (tt, tt)) $ says ! refl $
+    group ! 3 $ nothing ! $ move ! (1 ∷ 0 ∷ []) $ join ! $ nothing ! $ move ! (2 ∷ 0 ∷ []) $ join ! $
+    frame ! $ frame ! $ feq_i ! _ (vunit ∷ []) _ refl $ done !)))

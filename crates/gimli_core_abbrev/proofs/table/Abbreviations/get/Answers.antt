@@ -13,14 +13,14 @@ returns-then-code-len c =
     c.if-code-ge1.true (omega (arith, c.len.ensures, c.if-code-len.true)) c.index.ensures
     ∙ ap (declaration_at c.args.code) c.self.view_is
 
-lent : (o : Option (Bor Abbreviation)) → option_map (λ (a : Bor Abbreviation). declaration_view a.now) o
+views_agree : (o : Option (Bor Abbreviation)) → option_map (λ (a : Bor Abbreviation). declaration_view a.now) o
     ≡ option_map declaration_view (option_copied o)
-lent None = refl
-lent (Some a) = refl
+views_agree None = refl
+views_agree (Some a) = refl
 
 pub returns-else-code-ge1 : goal.returns-else-code-ge1
 returns-else-code-ge1 c =
-    lent c.get.result
+    views_agree c.get.result
     ∙ get_high c.self.inside.in_order.items c.self.inside.others.entries c.args.code (option_copied c.get.result)
     c.self.invariant (λ low high. elim c.else-code-ge1.branch [
       | else-code-ge1-via-then-code-ge1+else-code-len w ↦ omega (arith, w.if-code-len.false, w.len.ensures, high)

@@ -1,4 +1,4 @@
--- A text is what stands before its zero byte.
+-- A text is what comes before its zero byte.
 use Rattle.gimli_core_readers.proofs.ViewCuts.{text_is}
 use Rattle.gimli_core_readers.proofs.reader.Reader.read_null_terminated_slice.Goals as goal
 

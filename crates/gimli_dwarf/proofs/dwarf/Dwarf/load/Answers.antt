@@ -1,5 +1,6 @@
 use Rattle.std.proofs.Common.{[], refl, rules}
 use Rattle.gimli_dwarf.proofs.SectionCalls.{IfErr-from_error, answers_both, refuses_among, refuses_to_load, loads}
+use Rattle.gimli_dwarf.proofs.CachedTables.{no_offsets}
 use Rattle.gimli_dwarf.proofs.dwarf.Dwarf.load.Goals as goal
 
 pub returns-in_err-debug_abbrev-clause-refusal : goal.returns-in_err-debug_abbrev-clause-refusal
@@ -33,7 +34,10 @@ returns-in_err-debug_rnglists-clause-refusal g c =
     (refuses_among (goal.F-step g) _ _ _ _ _ _ twelve c.in_err-debug_rnglists.ensures.refusal))
 
 pub invariant_of-result : goal.invariant_of-result
-invariant_of-result g c offset = rw (c.new-3.ensures.none offset) refl
+invariant_of-result g c = ((λ offset. rw (c.new-3.ensures.none offset) refl), tt)
+
+pub returns-clause-cache : goal.returns-clause-cache
+returns-clause-cache g c = no_offsets _ c.new-3.ensures.empty
 
 pub returns-clause-loaded : goal.returns-clause-loaded
 returns-clause-loaded g c =

@@ -3,8 +3,8 @@ use Rattle.std.proofs.lemmas.Result.{err_from_is_err_and}
 use Rattle.gimli_dwarf_spec.specs.Error.{Error}
 use Rattle.gimli_dwarf_spec.specs.Calls.{ReturnsOrNoMemory}
 use Rattle.gimli_dwarf_spec.specs.EntryViews.{raw_attributes}
-use Rattle.gimli_dwarf_spec.specs.DwarfFiles.{DwarfFile}
 use Rattle.gimli_dwarf_spec.specs.UnitFacts.{UnitFacts}
+use Rattle.gimli_dwarf.specs.CachedFiles.{CachedFile}
 use Rattle.gimli_dwarf.proofs.UnitSteps.{facts_by_steps}
 use Rattle.gimli_dwarf.proofs.unit.Unit.of_root.Goals as goal
 
@@ -21,7 +21,7 @@ returns-in_err-unit-2 g c =
 pub returns : goal.returns
 returns g c =
     let P : Result UnitFacts Error → Type 0 = λ x. ReturnsOrNoMemory c.with_program.result x in
-    subst P (facts_by_steps c.args.dwarf.now c.args.header c.args.abbreviations.value
+    subst P (facts_by_steps c.args.dwarf.now.file c.args.header c.args.abbreviations.value
     (raw_attributes g.R.Reader.view g.R.Offset.ReaderOffset.count c.args.attrs.now) _ _ _
-    (ap (λ (d : DwarfFile). d.sections.file_type) c.dwarf.view_is) c.in_ok-unit.ensures c.in_ok-unit-2.ensures)
+    (ap (λ (d : CachedFile). d.file.sections.file_type) c.dwarf.view_is) c.in_ok-unit.ensures c.in_ok-unit-2.ensures)
     c.with_program.ensures

@@ -2,16 +2,16 @@ use Rattle.std.proofs.Common.{rules, ◌∙◌, sym, subst, refl, List}
 use Rattle.gimli_lines_header.specs.LineHeaders.{LineHeader}
 use Rattle.gimli_lines_rows.specs.ProgramRows.{RemainingRows, stays}
 use Rattle.gimli_lines_rows.specs.RowSequences.{RowSequence, program_rows}
-use Rattle.gimli_lines_rows.proofs.SequenceLoops.{Found, sequences_none, sequences_more, pieces_found_all, sequences_fault, piece_smaller, next_some, next_ended, rows_are, memory_refused}
+use Rattle.gimli_lines_rows.proofs.SequenceLoops.{FindsSequences, sequences_none, sequences_more, pieces_found_all, sequences_fault, piece_smaller, next_some, next_ended, rows_are, memory_refused}
 use Rattle.gimli_lines_rows.proofs.program.IncompleteLineProgram.sequences.Goals as goal
 
 pub loop-sequences-init : goal.loop-sequences-init
 loop-sequences-init g c =
     let limit = g.R.Offset.ReaderOffset.limit in
     let begun = program_rows c.args.self in
-    subst (λ (t : RemainingRows). Found limit begun t c.new-sequences.result.items)
+    subst (λ (t : RemainingRows). FindsSequences limit begun t c.new-sequences.result.items)
     (rows_are begun c.in_ok-rows.rows c.in_ok-rows.ensures)
-    (subst (λ (qs : List RowSequence). Found limit begun begun qs) (sym c.new-sequences.ensures.items)
+    (subst (λ (qs : List RowSequence). FindsSequences limit begun begun qs) (sym c.new-sequences.ensures.items)
     (sequences_none limit begun (stays begun) refl))
 
 pub loop-sequences-preserved : goal.loop-sequences-preserved

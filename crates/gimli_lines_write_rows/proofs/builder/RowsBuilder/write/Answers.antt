@@ -15,6 +15,6 @@ returns-clause-reads_back g c =
     (g.W.Writer.contents c.write_entries.new.w)
     (entries_bytes g.W.Writer.address_of (g.W.Writer.contents c.args.w.now).is_big c.self.inside.rules
     (first_row c.self.inside.rules) c.self.inside.entries.items) wrote
-    (λ h readable. read_back g.W.Writer.address_of g.met.W.Writer.constants c.self.inside.rules
-    c.self.invariant.buildable c.self.inside.entries.items c.self.invariant.in_order readable
+    (λ h readable. read_back c.self.inside.rules c.self.invariant.buildable c.self.inside.entries.items
+    c.self.invariant.in_order readable g.W.Writer.address_of g.met.W.Writer.constants
     (g.W.Writer.contents c.args.w.now) (g.W.Writer.contents c.write_entries.new.w) h))

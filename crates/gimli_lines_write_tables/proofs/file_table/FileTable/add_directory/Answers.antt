@@ -2,7 +2,7 @@ use Rattle.std.proofs.Common.{◌≡◌, ◌≢◌, ◌≤◌, [], map, refl, sy
 use Rattle.gimli_lines_write_tables.specs.FileTables.{ProgramFiles, text_of, file_of, info_of, is_same, HasBytes, IsConsistent}
 use Rattle.gimli_lines_write_tables.specs.StringSections.{with_item}
 use Rattle.gimli_lines_write_tables.proofs.Keys.{equal_is_same, inserted, place_seen}
-use Rattle.gimli_lines_write_tables.proofs.Additions.{consistent_with_directory}
+use Rattle.gimli_lines_write_tables.proofs.Additions.{place_within, consistent_with_directory}
 use Rattle.gimli_lines_write_tables.proofs.file_table.FileTable.add_directory.Goals as goal
 
 directories_then : goal.In_ok-place → Type 0
@@ -32,3 +32,13 @@ returns-clause-ok c = rw (← c.self.view_is) (rw (then_directories c) refl)
 pub returns-clause-place : goal.returns-clause-place
 returns-clause-place c = rw (← c.self.view_is) (c.in_ok-place.ensures.index
     ∙ place_seen _ text_of is_same equal_is_same c.args.directory c.self.inside.directories.keys)
+
+pub returns-clause-within : goal.returns-clause-within
+unfolding directories_then
+returns-clause-within c =
+    rw (
+      c.in_ok-place.ensures.index
+          ∙ place_seen _ text_of is_same equal_is_same c.args.directory c.self.inside.directories.keys,
+      then_directories c,
+    )
+    (place_within is_same (map text_of c.self.inside.directories.keys) (text_of c.args.directory))

@@ -1,6 +1,6 @@
 use Rattle.std.proofs.Common.{◌≡◌, ℕ, true, false, [], ◌∷◌, ◌++◌, Option, Some, None, option_map, unwrap_or, is_some, refl, sym, ap, ◌∙◌}
 use Rattle.std.specs.List.{list_any}
-use Rattle.std.specs.Option.{MatchOption}
+use Rattle.std.specs.Option.{UnwrapsOrElse}
 use Rattle.gimli_lines_write_tables.specs.declared.file.FileInfo.{FileInfo}
 use Rattle.std.proofs.lemmas.Result.{IfOk-weaker}
 use Rattle.gimli_lines_write_tables.specs.FileTables.{ProgramFiles, File, Info, text_of, file_of, info_of, is_same_file, with_file, with_info, no_info}
@@ -79,17 +79,17 @@ returns-in-None-clause-place c =
     ∙ sym c.get_index_of.ensures.found ∙ ap is_some c.in-None.is)))) c.push_file.ensures.place
 
 -- what is recorded of a new file
-told_is : (o : Option FileInfo) (t : FileInfo) → MatchOption o (info_of t ≡ no_info) (λ x. t ≡ x)
+recorded_is : (o : Option FileInfo) (t : FileInfo) → UnwrapsOrElse o (λ i. info_of i ≡ no_info) t
     → info_of t ≡ unwrap_or (option_map info_of o) no_info
-told_is (Some i) t h = ap info_of h
-told_is None t h = h
+recorded_is (Some i) t h = ap info_of h
+recorded_is None t h = h
 
 pub returns-in-None-clause-ok : goal.returns-in-None-clause-ok
 returns-in-None-clause-ok c =
     IfOk-weaker c.push_file.result _ _ (λ x h. h
     ∙ new_file c.args.self.now (record { path = text_of c.args.path; directory = c.args.directory.0 })
-    (option_map info_of c.args.info) (info_of c.unwrap_or_else.result)
+    (option_map info_of c.args.info) (info_of c.unwrap_or_default.result)
     (rw (← c.self.view_is) (sym (any_seen _ file_of is_same_file equal_is_same_file
     (record { path = c.args.path; directory = c.args.directory }) c.self.inside.files.keys)
     ∙ sym c.get_index_of.ensures.found ∙ ap is_some c.in-None.is))
-    (told_is c.args.info c.unwrap_or_else.result c.unwrap_or_else.ensures)) c.push_file.ensures.ok
+    (recorded_is c.args.info c.unwrap_or_default.result c.unwrap_or_default.ensures)) c.push_file.ensures.ok

@@ -30,9 +30,9 @@ loop-raw-preserved g c = record {
       (pair_next c.loop-raw.self c.next_raw.new.self c.in-Some.raw (Ok None) c.in_ok-raw.ensures.address
       c.in_ok-raw.ensures.size (search rules) (search rules)) ∙ c.loop-raw.invariant.same_ranges;
   same_size = c.in_ok-raw.ensures.size ∙ c.loop-raw.invariant.same_size;
-  passed =
+  skips =
       let step = pair_step c.args.self.now c.loop-raw.self c.next_raw.new.self c.in-Some.raw (Ok None)
-      c.loop-raw.invariant.passed c.loop-raw.invariant.same_size c.in_ok-raw.ensures.address c.in_ok-raw.ensures.size
+      c.loop-raw.invariant.skips c.loop-raw.invariant.same_size c.in_ok-raw.ensures.address c.in_ok-raw.ensures.size
       (search rules) (search rules) in
       skips_one _ _ c.in-Some.raw _ step.so_far step.stands_for;
 }
@@ -42,21 +42,21 @@ loop-raw-init g c =
     record {
       same_ranges = refl;
       same_size = refl;
-      passed = skips_none c.args.self.now.address_size
+      skips = skips_none c.args.self.now.address_size
           (pairs_to_come c.args.self.now);
     }
 
 pub returns-in_err-entry-clause-pairs : goal.returns-in_err-entry-clause-pairs
 returns-in_err-entry-clause-pairs g c =
     let step = pair_step c.args.self.now c.loop-raw.self c.next_raw.new.self c.in-Some.raw
-    (Err c.in_err-entry.field-0.0) c.loop-raw.invariant.passed c.loop-raw.invariant.same_size
+    (Err c.in_err-entry.field-0.0) c.loop-raw.invariant.skips c.loop-raw.invariant.same_size
     c.in_ok-raw.ensures.address c.in_ok-raw.ensures.size (search rules) (search rules) in
     consumes_refusal _ _ _ c.in-Some.raw _ _ step.so_far c.from_residual-in_err-entry.ensures.1 step.stands_for
 
 pub returns-in-Some-2-clause-pairs : goal.returns-in-Some-2-clause-pairs
 returns-in-Some-2-clause-pairs g c =
     let step = pair_step c.args.self.now c.loop-raw.self c.next_raw.new.self c.in-Some.raw (Ok (Some c.in-Some-2.entry))
-    c.loop-raw.invariant.passed c.loop-raw.invariant.same_size c.in_ok-raw.ensures.address c.in_ok-raw.ensures.size
+    c.loop-raw.invariant.skips c.loop-raw.invariant.same_size c.in_ok-raw.ensures.address c.in_ok-raw.ensures.size
     (search rules) (search rules) in
     (c.in-Some.raw, step.so_far, step.stands_for)
 
@@ -64,7 +64,7 @@ pub returns-clause-pairs : goal.returns-clause-pairs
 returns-clause-pairs g c =
     let ends = no_pairs c.loop-raw.self c.next_raw.new.self c.in_ok-raw.ensures.address c.in_ok-raw.ensures.size
     (search rules) in
-    (skips_all _ _ _ c.loop-raw.invariant.passed ends.0, ends.1)
+    (skips_all _ _ _ c.loop-raw.invariant.skips ends.0, ends.1)
 
 pub returns-clause-order : goal.returns-clause-order
 returns-clause-order g c =

@@ -8,7 +8,7 @@ abbrev pub invariant-loop-raw : goal.invariant-loop-raw
 invariant-loop-raw g l = record {
   same_ranges : aranges_to_come l.self ≡ aranges_to_come l.fn.self;
   same_size : l.self.address_size ≡ l.fn.self.address_size;
-  passed : SkipsPairs l.fn.self.address_size (pairs_to_come l.fn.self) (pairs_to_come l.self);
+  skips : SkipsPairs l.fn.self.address_size (pairs_to_come l.fn.self) (pairs_to_come l.self);
 }
 
 abbrev pub decreases-loop-raw : goal.decreases-loop-raw

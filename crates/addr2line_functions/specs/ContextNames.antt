@@ -1,0 +1,25 @@
+-- The names of functions and calls in the units of a context (DWARF 5, 7.5.5 and 7.3.6).
+use Rattle.std.specs.Prelude.{map, if◌then◌else◌}
+use Rattle.addr2line_units.specs.Contexts.{FileContext}
+use Rattle.addr2line_units.specs.Lookups.{FunctionsUnit, Namings}
+use Rattle.addr2line_names.specs.EntryReferences.{KnownUnits, HoldingUnit}
+use Rattle.addr2line_names.specs.FunctionNames.{name_with, name_by_reference, most_references}
+use Rattle.addr2line_names.specs.declared.file.DebugFile.TheVariants.{Primary, Dwo}
+
+-- the units that references may lead to
+abbrev pub known_units : FileContext → KnownUnits
+known_units c =
+    record {
+      units = map (λ u. u.facts) c.context.units;
+      supplement_units = c.context.supplement_units;
+    }
+
+-- the unit of a function's entries, in the main file or in a split one
+abbrev pub holding_unit : FunctionsUnit → HoldingUnit
+holding_unit f = record { file = (if f.is_split then Dwo else Primary); unit = f.unit }
+
+-- how the names of a context's functions and calls are found
+abbrev pub naming_in : FileContext → Namings
+naming_in c f =
+    name_with (holding_unit f)
+    (name_by_reference (known_units c) most_references (holding_unit f))

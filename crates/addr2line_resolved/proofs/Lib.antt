@@ -1,0 +1,6 @@
+pub mod KeptParses
+pub mod NewUnits
+pub mod UnitOrder
+pub mod UnitReading
+pub use Rattle.addr2line_functions.proofs.UnitAnswers
+pub use Rattle.addr2line_functions.proofs.UnitViews

@@ -1,0 +1,36 @@
+//! The units of a context: units with the sections of their files, loads of split parts and the
+//! answers to them, and what is read once and kept.
+#![tactic(auto)]
+
+pub mod first_answer;
+mod headers;
+pub mod kept;
+pub mod load;
+pub mod order;
+pub mod owned_unit;
+pub mod supplement;
+pub mod unit;
+pub mod units;
+
+pub use addr2line_functions::{
+    AbbreviationsCache, AbbreviationsCacheStrategy, ArangeIndex, Attribute, AttributeValue, Call,
+    Chain, DW_LANG_Rust, DebugAbbrev, DebugAbbrevOffset, DebugAddr, DebugAddrIndex, DebugAranges,
+    DebugFile, DebugInfo, DebugLine, DebugLineStr, DebugLineStrOffset, DebugRanges, DebugRngLists,
+    DebugRngListsIndex, DebugStr, DebugStrOffset, DebugStrOffsets, DebugStrOffsetsIndex, DwLang,
+    Dwarf, DwarfFileType, DwoId, EndianBytes, EndianSlice, Error, Format, Frame, FrameIter,
+    Function, FunctionCalls, FunctionName, Functions, HasLines, HasUnit, HoldingUnit, KnownUnits,
+    LineIndex, Lines, LinesBuilder, LittleEndian, Location, LocationLists, Names, Probes, Range,
+    RangeLists, RangeListsOffset, RawRangeListsOffset, Reader, ReaderOffsetId, RootRanges,
+    RunTimeEndian, Runs, SectionId, StretchesBetween, Unit, UnitHeader, UnitLines, UnitNames,
+    UnitOffset, UnitRanges, UnitRangesBuilder, UnitRef, UnitRoot, UnitType, calls_of_function,
+    file_text, file_text_of_bytes, frames_of_unit, functions_of_unit, is_partial, is_rooted, join,
+    language_of, ranges_of_attributes, ranges_of_entry,
+};
+pub use first_answer::answer_of;
+pub use kept::Kept;
+pub use load::{SplitDwarfLoad, load_of};
+pub use order::ordered_ranges;
+pub use owned_unit::OwnedUnit;
+pub use supplement::units_of_supplement;
+pub use unit::ResUnit;
+pub use units::units_of_file;

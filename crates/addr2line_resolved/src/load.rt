@@ -1,0 +1,103 @@
+//! The files that have the split parts of units (DWARF 5, 3.1.2 and 7.3.2).
+
+ghost use Rattle.std.specs.Prelude.{Ok, option_map};
+ghost use Rattle.addr2line_functions.specs.Calls.{ReturnsAsOrNoMemory, ReturnsOrNoMemory};
+ghost use Rattle.addr2line_functions.specs.FirstAnswers.{split_path, load_of_id, load_of};
+
+use crate::owned_unit::OwnedUnit;
+use addr2line_functions::{Dwarf, DwoId, Error, Reader, UnitRef};
+use std::alloc::Global;
+use std::marker::Model;
+use std::rc::Rc;
+
+/// What is asked for: the split part of a unit.
+#[derive(Drop)]
+pub struct SplitDwarfLoad<R: Reader> {
+    /// The identifier that the unit shares with its split part.
+    pub dwo_id: DwoId,
+    /// The unit's directory, which the name of the other file counts from.
+    pub comp_dir: Option<R>,
+    /// The name of the other file.
+    pub path: Option<R>,
+    /// The main file, for `Dwarf::make_dwo`.
+    pub parent: Rc<Dwarf<R>>,
+}
+
+impl<R: Reader> Model for SplitDwarfLoad<R> {
+    ghost use Rattle.std.specs.Prelude.{option_map};
+    ghost use Rattle.addr2line_functions.specs.FirstAnswers.{SplitLoad};
+
+    ghost Value = { SplitLoad };
+
+    ghost view = { λ l. record {
+      dwo_id = l.dwo_id.0;
+      comp_dir = option_map R.view l.comp_dir;
+      path = option_map R.view l.path;
+      parent = l.parent.value.file;
+    } };
+}
+
+// The name of the file that has the unit's split part, if its root says one.
+fn split_path<R: Reader>(alloc: Global, unit: &UnitRef<'_, R>) -> Result<Option<R>, Error>
+    ensures { ReturnsAsOrNoMemory (option_map R.view) result (split_path unit.now) }
+{
+    // (shows the prover what a unit's model says of its file)
+    let _ = &unit.dwarf;
+    let facts = unit.unit;
+    match facts.dwo_name(alloc)? {
+        Some(name) => Ok(Some(unit.attr_string(name)?)),
+        None => Ok(None),
+    }
+}
+
+// A copy of a reader, if there is one.
+pub(crate) fn copy_of<R: Reader>(reader: &Option<R>) -> Result<Option<R>, Error>
+    ensures { ReturnsAsOrNoMemory (option_map R.view) result (Ok (option_map R.view reader.now)) }
+{
+    match reader {
+        Some(reader) => Ok(Some(reader.copy()?)),
+        None => Ok(None),
+    }
+}
+
+// The same sections, shared once more.
+pub(crate) fn share<R: Reader>(sections: &Rc<Dwarf<R>>) -> Result<Rc<Dwarf<R>>, Error>
+    ensures { ReturnsAsOrNoMemory (λ s. s.value) result (Ok sections.now.value) }
+{
+    Ok(sections.clone()?)
+}
+
+// The load of a unit with this identifier.
+fn load_of_id<R: Reader>(
+    alloc: Global,
+    unit: &OwnedUnit<R>,
+    dwo_id: DwoId,
+) -> Result<SplitDwarfLoad<R>, Error>
+    ensures { ReturnsOrNoMemory result (load_of_id unit.now dwo_id.0) }
+{
+    let path = split_path(alloc, &unit.unit_ref())?;
+    let facts = unit.unit();
+    let comp_dir = copy_of(&facts.comp_dir)?;
+    let parent = share(unit.sections())?;
+    Ok(SplitDwarfLoad {
+        dwo_id,
+        comp_dir,
+        path,
+        parent,
+    })
+}
+
+/// The load of a unit; none where it has no identifier, and so its functions itself. Refused by the
+/// name of the other file. Takes memory for copies of readers.
+pub fn load_of<R: Reader>(
+    alloc: Global,
+    unit: &OwnedUnit<R>,
+) -> Result<Option<SplitDwarfLoad<R>>, Error>
+    ensures { ReturnsOrNoMemory result (load_of unit.now) }
+{
+    let facts = unit.unit();
+    match facts.dwo_id {
+        Some(id) => Ok(Some(load_of_id(alloc, unit, id)?)),
+        None => Ok(None),
+    }
+}

@@ -1,0 +1,24 @@
+use Rattle.std.proofs.Common.{◌∙◌, subst, List, Result, ap}
+use Rattle.gimli_lines_rows.specs.Error.{Error}
+use Rattle.gimli_lines_rows.specs.Calls.{ReturnsAsOrNoMemory}
+use Rattle.gimli_lines_rows.specs.AttributeValues.{RawAttribute}
+use Rattle.gimli_dwarf.specs.EntryViews.{entry_of}
+use Rattle.gimli_dwarf.specs.UnitFacts.{UnitFacts, UnitInFile}
+use Rattle.addr2line_index.specs.UnitLines.{lines_of_unit}
+use Rattle.addr2line_index.specs.UnitRanges.{is_partial}
+use Rattle.addr2line_index.specs.Contexts.{ContextUnit, unit_of_root}
+use Rattle.addr2line_units.specs.RootRanges.{unit_with}
+use Rattle.addr2line_units.proofs.RootLemmas.{not_partial}
+use Rattle.addr2line_units.proofs.root.UnitRoot.of_entry.Goals as goal
+
+pub returns-clause-unit : goal.returns-clause-unit
+returns-clause-unit g c =
+    let u = c.args.unit.now in
+    let root = entry_of g.R.Reader.view g.R.Offset.ReaderOffset.count c.args.root.now in
+    let P : Result ContextUnit Error → Type 0 = λ x. ReturnsAsOrNoMemory (unit_with u) c.of_root.result x in
+    subst P (ap (λ (attributes : List RawAttribute). unit_of_root u (lines_of_unit u) attributes) c.attrs.ensures
+    ∙ not_partial u (lines_of_unit u) root c.is_partial.result
+    (c.is_partial.ensures ∙ ap (λ (facts : UnitFacts). is_partial facts.header.kind root.tag) c.facts.view_is
+    ∙ ap (λ (w : UnitInFile). is_partial w.facts.header.kind root.tag) c.unit.view_is)
+    c.if-is_partial.false)
+    c.of_root.ensures.unit

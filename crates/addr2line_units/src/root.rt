@@ -1,0 +1,112 @@
+//! What a unit's root says of lookups (DWARF 5, 3.1.1).
+
+ghost use Rattle.std.specs.Prelude.{◌≡◌, IfOk};
+ghost use Rattle.gimli_lines_rows.specs.Calls.{ReturnsAsOrNoMemory};
+ghost use Rattle.gimli_dwarf.specs.EntryViews.{entry_of, raw_attributes};
+ghost use Rattle.addr2line_index.specs.UnitLines.{lines_of_unit};
+ghost use Rattle.addr2line_index.specs.Contexts.{unit_of_root, unit_of_entry, context_unit};
+ghost use Rattle.addr2line_units.specs.ArangeIndexes.{IsIndexOf};
+ghost use Rattle.addr2line_units.specs.RootRanges.{RunsForRanges, unit_with};
+
+use crate::arange_index::ArangeIndex;
+use crate::language::language_of;
+use crate::partial::is_partial;
+use crate::ranges::{RootRanges, ranges_of_attributes};
+use crate::unit_lines::{Runs, UnitLines};
+use gimli_dwarf::{DebuggingInformationEntry, UnitRef};
+use gimli_lines_rows::{Attribute, DwLang, Error, Range, Reader};
+use std::alloc::Global;
+use std::marker::Model;
+
+/// The ranges and the language that the root of a unit says, and the unit's lines, or why they
+/// can't be read, where its line number program was run for the ranges.
+#[derive(Drop)]
+pub struct UnitRoot {
+    pub ranges: Vec<Range>,
+    pub language: Option<DwLang>,
+    pub lines: Option<Result<UnitLines, Error>>,
+}
+
+impl Model for UnitRoot {
+    ghost use Rattle.std.specs.Prelude.{option_map};
+    ghost use Rattle.addr2line_units.specs.RootRanges.{RootFacts};
+
+    ghost Value = { RootFacts };
+
+    ghost view = { λ r. record {
+      ranges = r.ranges.items;
+      language = option_map (λ l. l.0) r.language;
+      lines = r.lines;
+    } };
+}
+
+impl UnitRoot {
+    /// What the root of a unit says; nothing of a unit that others import. The unit's line number
+    /// program is run only where the root declares no ranges. Refused is a root that can't be read,
+    /// then one of its attributes, then its range list.
+    pub fn read<R: Reader>(
+        alloc: Global,
+        unit: &UnitRef<'_, R>,
+        aranges: &ArangeIndex,
+        runs: &mut Runs,
+    ) -> Result<Self, Error>
+        requires index { IsIndexOf unit.now.file aranges.now }
+        ensures unit { ReturnsAsOrNoMemory (unit_with unit.now) result (context_unit unit.now) }
+        ensures lines { IfOk result
+            (λ r. RunsForRanges unit.now r.ranges r.lines runs.old runs.new) }
+    {
+        let root = unit.root(alloc)?;
+        UnitRoot::of_entry(alloc, unit, aranges, runs, &root)
+    }
+
+    // What this root says.
+    fn of_entry<R: Reader>(
+        alloc: Global,
+        unit: &UnitRef<'_, R>,
+        aranges: &ArangeIndex,
+        runs: &mut Runs,
+        root: &DebuggingInformationEntry<R>,
+    ) -> Result<Self, Error>
+        requires index { IsIndexOf unit.now.file aranges.now }
+        ensures unit { ReturnsAsOrNoMemory (unit_with unit.now) result
+            (unit_of_entry unit.now (lines_of_unit unit.now)
+            (entry_of R.view R.Offset.count root.now)) }
+        ensures lines { IfOk result
+            (λ r. RunsForRanges unit.now r.ranges r.lines runs.old runs.new) }
+    {
+        let facts = unit.unit;
+        if is_partial(&facts.header, root) {
+            return Ok(UnitRoot {
+                ranges: Vec::new(alloc),
+                language: None,
+                lines: None,
+            });
+        }
+        UnitRoot::of_root(alloc, unit, aranges, runs, root.attrs())
+    }
+
+    // What the attributes of a root say.
+    fn of_root<R: Reader>(
+        alloc: Global,
+        unit: &UnitRef<'_, R>,
+        aranges: &ArangeIndex,
+        runs: &mut Runs,
+        attributes: &[Attribute<R>],
+    ) -> Result<Self, Error>
+        requires index { IsIndexOf unit.now.file aranges.now }
+        ensures unit { ReturnsAsOrNoMemory (unit_with unit.now) result
+            (unit_of_root unit.now (lines_of_unit unit.now)
+            (raw_attributes R.view R.Offset.count attributes.now)) }
+        ensures lines { IfOk result
+            (λ r. RunsForRanges unit.now r.ranges r.lines runs.old runs.new) }
+    {
+        let found = ranges_of_attributes(alloc, unit, aranges, runs, attributes)?;
+        let language = language_of(attributes)?;
+        let RootRanges { ranges, lines } = found;
+        Ok(UnitRoot {
+            ranges,
+            language,
+            lines,
+        })
+    }
+}

@@ -1,0 +1,155 @@
+//! The lines of a unit. No line number program of a unit is run elsewhere.
+
+ghost use Rattle.std.specs.Prelude.{◌≡◌, ◌+◌, Ok, option_map};
+ghost use Rattle.gimli_lines_rows.specs.Calls.{ReturnsOrNoMemory};
+ghost use Rattle.addr2line_index.specs.Lines.{place_in};
+ghost use Rattle.addr2line_index.specs.BorrowedLocations.{location_value};
+ghost use Rattle.addr2line_index.specs.UnitLines.{lines_of_program, lines_of_unit};
+ghost use Rattle.addr2line_units.specs.CountedRuns.{CountsRun, CountsRunOrNoMemory};
+
+use crate::files::texts_of_files;
+use crate::rows::run_program;
+use addr2line_index::{Lines, LinesBuilder, Location, Tally};
+use gimli_dwarf::UnitRef;
+use gimli_lines_rows::{Error, LineProgramHeader, Reader};
+use std::alloc::Global;
+use std::marker::Model;
+use std::mem::size_of;
+
+// It takes no byte.
+const _: () = prove!(size_of::<Runs>() == 0);
+
+/// How often a unit's line number program was run. It takes no bytes and has no greatest value.
+#[derive(Drop)]
+pub struct Runs {
+    tally: Tally,
+}
+
+impl Model for Runs {
+    ghost use Rattle.std.specs.Prelude.{ℕ};
+
+    ghost Value = { ℕ };
+
+    ghost view = { λ r. r.tally.count };
+}
+
+impl Runs {
+    /// None yet.
+    pub fn new() -> Self
+        ensures { result ≡ 0 }
+    {
+        Runs {
+            tally: Tally::new(),
+        }
+    }
+
+    // Counts one more.
+    fn raise(&mut self)
+        ensures { self.new ≡ self.old + 1 }
+    {
+        self.tally.raise();
+    }
+}
+
+/// The lines of a unit, which only a run of its line number program makes.
+#[derive(Debug, Drop)]
+pub struct UnitLines {
+    lines: Lines,
+}
+
+impl Model for UnitLines {
+    ghost use Rattle.addr2line_index.specs.Lines.{Lines as LinesPart};
+
+    ghost Value = { LinesPart };
+
+    ghost view = { λ u. u.lines };
+}
+
+impl UnitLines {
+    /// Runs the line number program of a unit, and counts that (DWARF 5, 6.2). Its lines are the
+    /// sequences of the program, and the texts of its files by their numbers; none where the unit
+    /// has no program. Refused is a program by its fault, else by the first of its files whose text
+    /// can't be read. Takes memory for a second header, to which the program adds files, for the
+    /// rows and for the texts.
+    pub fn run<R: Reader>(
+        alloc: Global,
+        unit: &UnitRef<'_, R>,
+        runs: &mut Runs,
+    ) -> Result<Self, Error>
+        ensures lines { ReturnsOrNoMemory result (lines_of_unit unit.now) }
+        ensures counted { CountsRun result runs.old runs.new }
+    {
+        let lines = lines_of_unit(alloc, unit);
+        if !matches!(lines, Err(Error::Memory)) {
+            runs.raise();
+        }
+        Ok(UnitLines { lines: lines? })
+    }
+
+    /// The same run, with a refusal to be kept as lines are. The only refusal of the call is out of
+    /// memory.
+    pub fn run_to_keep<R: Reader>(
+        alloc: Global,
+        unit: &UnitRef<'_, R>,
+        runs: &mut Runs,
+    ) -> Result<Result<Self, Error>, Error>
+        ensures lines { ReturnsOrNoMemory result (Ok (lines_of_unit unit.now)) }
+        ensures counted { CountsRunOrNoMemory result runs.old runs.new }
+    {
+        match UnitLines::run(alloc, unit, runs) {
+            Ok(lines) => Ok(Ok(lines)),
+            Err(Error::Memory) => Err(Error::Memory),
+            Err(fault) => Ok(Err(fault)),
+        }
+    }
+
+    /// The lines.
+    pub fn lines(&self) -> &Lines
+        ensures { result.now ≡ self.now }
+    {
+        &self.lines
+    }
+
+    /// The lines, to be searched otherwise.
+    pub fn into_lines(self) -> Lines
+        ensures { result ≡ self }
+    {
+        let UnitLines { lines } = self;
+        lines
+    }
+
+    /// The place of an address: that of its row in the sequence that holds it.
+    pub fn find_location(&self, probe: u64) -> Option<Location<'_>>
+        ensures { option_map location_value result ≡ place_in self.now probe }
+    {
+        self.lines.find_location(probe)
+    }
+}
+
+// The lines of a unit's program, with the texts of its files.
+fn lines_of_program<R: Reader>(
+    alloc: Global,
+    unit: &UnitRef<'_, R>,
+    header: LineProgramHeader<R>,
+) -> Result<Lines, Error>
+    ensures { ReturnsOrNoMemory result
+        (lines_of_program unit.now header) }
+{
+    // (shows the prover what a unit's model says of its file)
+    let _ = &unit.dwarf;
+    let mut builder = LinesBuilder::new(alloc);
+    let rows = run_program(&mut builder, header)?;
+    let files = texts_of_files(alloc, unit, rows.header())?;
+    Ok(builder.finish(files))
+}
+
+// The lines of a unit, by a run of its program if it has one.
+fn lines_of_unit<R: Reader>(alloc: Global, unit: &UnitRef<'_, R>) -> Result<Lines, Error>
+    ensures { ReturnsOrNoMemory result (lines_of_unit unit.now) }
+{
+    let facts = unit.unit;
+    match &facts.line_program {
+        Some(header) => lines_of_program(alloc, unit, header.copy()?),
+        None => Ok(Lines::new(alloc)),
+    }
+}

@@ -1,0 +1,150 @@
+//! What the operations are about.
+
+/// The part of this program that answers a question.
+#[derive(Clone, Copy)]
+pub enum Facility {
+    Refusals,
+    Numbers,
+    Widths,
+    Bases,
+    Sections,
+    Units,
+    Entries,
+    Attributes,
+    Ranges,
+    Locations,
+    ListsHeader,
+    Lines,
+    Writing,
+    Unknown,
+}
+
+const OPERATIONS: [(Facility, &[&str]); 13] = [
+    (Facility::Refusals, &["refusals"]),
+    (
+        Facility::Numbers,
+        &[
+            "text",
+            "uleb128_of",
+            "sleb128_of",
+            "usual_line_encoding",
+            "offsets_of_32_bits",
+            "offsets_of_64_bits",
+            "offsets",
+            "fixed",
+            "signed_fixed",
+            "uleb128",
+            "uleb128_of_32_bits",
+            "uleb128_of_16_bits",
+            "sleb128",
+            "skip_leb128",
+            "address_size",
+            "address",
+            "offset",
+            "offset_of_2_bytes",
+            "initial_length",
+        ],
+    ),
+    (Facility::Widths, &["width_of_forms"]),
+    (Facility::Bases, &["default_bases"]),
+    (
+        Facility::Sections,
+        &[
+            "abbreviations",
+            "same_abbreviation",
+            "string",
+            "line_string",
+            "string_offset",
+            "address_at",
+            "address_sets",
+        ],
+    ),
+    (
+        Facility::Units,
+        &[
+            "units",
+            "unit",
+            "tombstone",
+            "arange_sets",
+            "aranges",
+            "aranges_by_one",
+        ],
+    ),
+    (
+        Facility::Entries,
+        &["entries", "entries_skipped", "entry", "attribute_of_entry"],
+    ),
+    (
+        Facility::Attributes,
+        &[
+            "attributes",
+            "skip_attributes",
+            "attribute_numbers",
+            "attribute_offset",
+            "attribute_string",
+            "attribute_expression",
+        ],
+    ),
+    (
+        Facility::Ranges,
+        &["ranges", "ranges_by_one", "raw_ranges", "range_list_offset"],
+    ),
+    (
+        Facility::Locations,
+        &[
+            "locations",
+            "locations_by_one",
+            "raw_locations",
+            "location_list_offset",
+        ],
+    ),
+    (Facility::ListsHeader, &["lists_header"]),
+    (
+        Facility::Lines,
+        &[
+            "line_header",
+            "line_files",
+            "line_formats",
+            "line_rows",
+            "line_instructions",
+            "line_sequences",
+        ],
+    ),
+    (
+        Facility::Writing,
+        &[
+            "write_fixed",
+            "write_fixed_at",
+            "write_udata",
+            "write_sdata",
+            "write_udata_at",
+            "write_uleb128",
+            "write_sleb128",
+            "write_offset",
+            "write_offset_at",
+            "write_address",
+            "write_symbol",
+            "write_length",
+            "write_bytes",
+        ],
+    ),
+];
+
+/// What an operation is about.
+pub fn facility_of(operation: &str) -> Facility {
+    for (facility, operations) in OPERATIONS {
+        if contains(operations, operation) {
+            return facility;
+        }
+    }
+    Facility::Unknown
+}
+
+fn contains(operations: &[&str], operation: &str) -> bool {
+    for name in operations {
+        if *name == operation {
+            return true;
+        }
+    }
+    false
+}

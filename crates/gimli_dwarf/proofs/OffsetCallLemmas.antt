@@ -1,0 +1,53 @@
+-- The offsets of a file's abbreviation tables, from the calls that answer them one after the other.
+use Rattle.std.proofs.Common.{◌≡◌, ℕ, List, [], ◌∷◌, map, Option, Some, None, Result, Ok, Err, OnOk, sym, ap, ◌∙◌}
+use Rattle.std.specs.Iterator.{YieldsThen}
+use Rattle.gimli_dwarf_spec.specs.Error.{Error}
+use Rattle.gimli_dwarf_spec.specs.Tiling.{RemainingSection, whole_section}
+use Rattle.gimli_dwarf_spec.specs.Repetition.{Listing, prepend}
+use Rattle.gimli_dwarf_spec.specs.TableCache.{TablesByOffset, EndsOffsets}
+use Rattle.gimli_dwarf_spec.specs.View.{View}
+use Rattle.gimli_dwarf_spec.specs.UnitHeaders.{DebugUnit, units_of}
+use Rattle.gimli_dwarf_spec.specs.DwarfFiles.{DwarfFile}
+use Rattle.gimli_dwarf.specs.CachedFiles.{cached_file, offsets_of_tables, table_offsets}
+use Rattle.gimli_dwarf.specs.OffsetCalls.{offsets_to_come, GivesOffset}
+
+-- one more unit to come is one more offset
+pub one_more : (old new : Listing View DebugUnit) (u : DebugUnit) (n : ℕ) → old ≡ prepend (u ∷ []) new
+    → n ≡ u.abbrev_offset → offsets_of_tables old.items ≡ n ∷ offsets_of_tables new.items
+one_more old new u n more is =
+    ap (λ (l : Listing View DebugUnit). offsets_of_tables l.items) more
+    ∙ ap (λ (k : ℕ). k ∷ offsets_of_tables new.items) (sym is)
+
+module _ {S O : Type 0} (limit : ℕ) (count : O → ℕ) (units : S → Option RemainingSection) where
+  abbrev pub Gives : S → Option (Result O Error) → S → Type 0
+  Gives old result new = GivesOffset limit count (units old) result (units new)
+
+  none_left : (s u : S) (last : Option (Result O Error)) → Gives s last u → EndsOffsets last
+      → offsets_to_come limit (units s) ≡ []
+  none_left s u None h ends = h
+  none_left s u (Some (Ok o)) h ends = absurd ends
+  none_left s u (Some (Err e)) h ends = h ends
+
+  -- calls that answered these offsets and then ended answered all
+  pub all_offsets : (items : List O) (s u : S) (last : Option (Result O Error))
+      → YieldsThen Gives s (map (λ o. Ok o) items) last u → EndsOffsets last
+      → offsets_to_come limit (units s) ≡ map count items
+  all_offsets [] s u last h ends =
+      ap (λ (t : S). offsets_to_come limit (units t)) h.1 ∙ none_left h.0 u last h.2 ends
+  all_offsets (o ∷ os) s u last h ends =
+      h.1.1 ∙ ap (λ (l : List ℕ). count o ∷ l) (all_offsets os h.1.0 u last (h.0, h.1.2, h.2) ends)
+
+  -- a cache with the tables that are chosen of these is one with those of a file's units
+  pub caches_chosen : {E : Type 0} (r : Result (Unit {0}) E) (choose : List ℕ → TablesByOffset) (file : DwarfFile)
+      (cache : TablesByOffset) (s : S)
+      → units s ≡ Some (whole_section file.sections.debug_info) → limit ≡ file.offset_limit
+      → OnOk r ((items : List O) × (last : Option (Result O Error)) × (u : S)
+      × YieldsThen Gives s (map (λ o. Ok o) items) last u × EndsOffsets last × (cache ≡ choose (map count items)))
+      → OnOk r (cached_file file cache ≡ cached_file file (choose (table_offsets file)))
+  caches_chosen (Ok x) choose file cache s from same h =
+      let offsets : map count h.0 ≡ table_offsets file =
+      sym (all_offsets h.0 s h.2 h.1 h.3 h.4)
+      ∙ ap (offsets_to_come limit) from
+      ∙ ap (λ n. offsets_of_tables (units_of n file.sections.debug_info)) same in
+      ap (cached_file file) (h.5 ∙ ap choose offsets)
+  caches_chosen (Err e) choose file cache s from same h = tt

@@ -1,0 +1,13 @@
+use Rattle.std.proofs.Common.{rules, tests}
+use Rattle.std.proofs.lemmas.Iterator.{YieldsList-from_slice}
+use Rattle.std.proofs.lemmas.Iterator.Search.{all_from_yields_List}
+use Rattle.std.proofs.lemmas.List.Folds.{list_all-map}
+use Rattle.gimli_lines_write_laws.specs.FileTables.{info_of}
+use Rattle.gimli_lines_write_program.specs.FormTests.{source_has_form}
+use Rattle.gimli_lines_write_program.proofs.forms.have_sources_of_form.Goals as goal
+
+pub returns : goal.returns
+returns c =
+    rw list_all-map
+    (all_from_yields_List (λ x. source_has_form c.args.form.0 (info_of x).source) _ _ _
+    c.all.ensures.ran (YieldsList-from_slice c.args.infos.now cc) (λ x b q k. search (rules, tests)))
