@@ -17,6 +17,10 @@ pub use Rattle.addr2line_context.specs.Stretches
 pub use Rattle.addr2line_context.specs.UnitPlaces
 pub use Rattle.addr2line_context.specs.StretchesLeft
 pub use Rattle.addr2line_context.specs.MainFiles
+pub use Rattle.addr2line_context.specs.AnsweredContexts
+pub use Rattle.addr2line_context.specs.LoadAnswers
+pub use Rattle.addr2line_context.specs.Preloads
+pub use Rattle.addr2line_context.specs.Suspended
 pub use Rattle.addr2line_context.specs.RangeItems
 pub use Rattle.addr2line_context.specs.EntryRanges
 pub use Rattle.addr2line_context.specs.Functions
@@ -29,3 +33,7 @@ pub use Rattle.addr2line_functions.specs.FunctionNames
 pub use Rattle.addr2line_demangle.specs.LegacyNames as RustNames
 pub use Rattle.addr2line_elf.specs.ElfImages
 pub use Rattle.addr2line_elf.specs.ElfSymbols
+pub use Rattle.addr2line_split.specs.NamedFiles
+pub use Rattle.addr2line_split.specs.FileReads
+pub use Rattle.addr2line_split.specs.ImageFiles
+pub use Rattle.addr2line_split.specs.SplitLoading

@@ -11,4 +11,6 @@ mod lines;
 mod names;
 mod ranges;
 mod sections;
+mod sources;
+mod split_units;
 mod texts;

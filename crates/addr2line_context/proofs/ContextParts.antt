@@ -1,5 +1,5 @@
 -- A context from its parts.
-use Rattle.std.proofs.Common.{◌≡◌, List, map, Option, None, Some, Result, Ok, Err, sym, ap, ◌∙◌}
+use Rattle.std.proofs.Common.{◌≡◌, List, map, Option, None, Some, Result, Ok, Err, sym, ap, ◌∙◌, subst}
 use Rattle.std.proofs.lemmas.Simd.{map-map}
 use Rattle.addr2line_resolved.specs.Error.{Error}
 use Rattle.addr2line_resolved.specs.Repetition.{fault_of}
@@ -8,9 +8,11 @@ use Rattle.addr2line_resolved.specs.Tiling.{whole_section}
 use Rattle.addr2line_resolved.specs.Results.{and_then, unless}
 use Rattle.addr2line_resolved.specs.DwarfFiles.{DwarfFile, supplement}
 use Rattle.addr2line_resolved.specs.UnitFacts.{UnitFacts}
+use Rattle.addr2line_resolved.specs.FirstAnswers.{FirstAnswers}
 use Rattle.addr2line_resolved.specs.Contexts.{ContextUnit, Context, units_of_file, units_of_supplement, context, FileContext, file_context}
 use Rattle.addr2line_resolved.specs.ResolvedUnits.{ResolvedUnit, value_of_unit, plain_unit, new_units}
 use Rattle.addr2line_resolved.proofs.NewUnits.{unit_of, units_alone, units_of_new}
+use Rattle.addr2line_context.specs.AnsweredContexts.{AnsweredContext, AreOfFile, answers_of}
 use Rattle.addr2line_context.proofs.KeptLines.{same_plain}
 
 -- ---- units
@@ -83,13 +85,30 @@ abbrev pub context_of_units : DwarfFile → List ContextUnit → List UnitFacts 
 context_of_units file units supplement_units =
     record { file = file; context = record { units = units; supplement_units = supplement_units } }
 
-abbrev pub context_with : DwarfFile → List ResolvedUnit → List UnitFacts → FileContext
-context_with file us supplement_units =
+abbrev pub file_context_with : DwarfFile → List ResolvedUnit → List UnitFacts → FileContext
+file_context_with file us supplement_units =
     context_of_units file (map plain_unit us) supplement_units
 
+-- with its answers
+abbrev pub context_with : DwarfFile → List ResolvedUnit → List UnitFacts → AnsweredContext
+context_with file us supplement_units = record {
+  plain = file_context_with file us supplement_units;
+  answers = answers_of (map value_of_unit us);
+}
+
+abbrev context_from : DwarfFile → List UnitFacts → List ContextUnit → FirstAnswers → AnsweredContext
+context_from file supplement_units units answers =
+    record { plain = context_of_units file units supplement_units; answers = answers }
+
 -- it is the same where the units' values are
-pub same_context : (file : DwarfFile) (us vs : List ResolvedUnit) (supplement_units : List UnitFacts) (c : FileContext)
-    → map value_of_unit vs ≡ map value_of_unit us → context_with file us supplement_units ≡ c
+pub same_context : (file : DwarfFile) (us vs : List ResolvedUnit) (supplement_units : List UnitFacts)
+    (c : AnsweredContext) → map value_of_unit vs ≡ map value_of_unit us → context_with file us supplement_units ≡ c
     → context_with file vs supplement_units ≡ c
 same_context file us vs supplement_units c same is =
-    ap (λ units. context_of_units file units supplement_units) (same_plain vs us same) ∙ is
+    ap (λ units. context_from file supplement_units units (answers_of (map value_of_unit vs))) (same_plain vs us same)
+    ∙ ap (λ values. context_from file supplement_units (map plain_unit us) (answers_of values)) same ∙ is
+
+-- and its units stay in their file
+pub same_files : (file : DwarfFile) (us vs : List ResolvedUnit) → map value_of_unit vs ≡ map value_of_unit us
+    → AreOfFile file (map value_of_unit us) → AreOfFile file (map value_of_unit vs)
+same_files file us vs same of_file = subst (AreOfFile file) (sym same) of_file

@@ -1,11 +1,11 @@
 -- What the unit of a number answers.
-use Rattle.std.proofs.Common.{◌≡◌, ℕ, true, false, List, [], ◌∷◌, Option, Some, None, Result, Ok, Err, refl, sym, ap, ◌∙◌, subst, slice_get, get_or, set, map, option_map, length, ◌<◌, ◌≤◌}
+use Rattle.std.proofs.Common.{◌≡◌, ℕ, List, [], ◌∷◌, Option, Some, None, Result, Ok, Err, refl, sym, ap, ◌∙◌, subst, slice_get, get_or, set, map, option_map, length, ◌<◌, ◌≤◌}
+use Rattle.std.specs.Prelude.{option_and_then}
 use Rattle.std.proofs.lemmas.Option.{slice_get-map, slice_get-get_or, slice_get_past}
 use Rattle.std.proofs.Math.Seq.{map-set_same}
 use Rattle.addr2line_resolved.specs.Error.{Error}
-use Rattle.addr2line_resolved.specs.Calls.{ReturnsAs, ReturnsAsOrNoMemory, ReturnsOrNoMemory}
 use Rattle.addr2line_resolved.specs.Results.{and_then}
-use Rattle.addr2line_resolved.specs.Lines.{Location}
+use Rattle.addr2line_resolved.specs.Lines.{Lines, LineRow, Location, row_at, row_location}
 use Rattle.addr2line_resolved.specs.PlaceLookups.{first_answer, place_or_refusal, location_at}
 use Rattle.addr2line_resolved.specs.Contexts.{ContextUnit, ranges_of, lines_of}
 use Rattle.addr2line_resolved.specs.UnitRange.{UnitRange}
@@ -15,31 +15,38 @@ use Rattle.addr2line_resolved.specs.UnitPlaces.{answer_of, answer_at}
 use Rattle.addr2line_resolved.proofs.UnitAnswers.{location_by_numbers}
 use Rattle.addr2line_resolved.proofs.UnitViews.{places_of_views}
 use Rattle.addr2line_resolved.specs.ContextUnits.{unit_places, ordered_ranges}
-use Rattle.addr2line_resolved.specs.ResolvedUnits.{ResolvedUnit, value_of_unit, plain_unit, has_place}
-use Rattle.addr2line_context.specs.KeptUnits.{FindsUnit, place_at, check_of, check_at}
+use Rattle.addr2line_resolved.specs.ResolvedUnits.{ResolvedUnit, value_of_unit, plain_unit, row_or_refusal, location_of_row}
+use Rattle.addr2line_context.specs.declared.settle.UnitRow.{UnitRow}
+use Rattle.addr2line_context.specs.KeptUnits.{FindsRow, row_of_unit, row_at_number, location_of_unit_row, check_of, check_at}
 use Rattle.addr2line_context.proofs.KeptLines.{same_plain}
 
 -- ---- by its number
 
-pub place_of_unit : (us : List ResolvedUnit) (a n : ℕ) (o : Option ResolvedUnit) → o ≡ slice_get us n
-    → place_at (map plain_unit us) a n ≡ answer_of a (option_map unit_places (option_map plain_unit o))
-place_of_unit us a n o found =
-    ap (answer_of a) (slice_get-map unit_places (map plain_unit us) n)
-    ∙ ap (λ x. answer_of a (option_map unit_places x)) (slice_get-map plain_unit us n)
-    ∙ ap (λ x. answer_of a (option_map unit_places (option_map plain_unit x))) (sym found)
+row_by_number : (us : List ResolvedUnit) (a n : ℕ) (o : Option ResolvedUnit) → o ≡ slice_get us n
+    → row_at_number (map plain_unit us) a n ≡ row_of_unit a (option_map plain_unit o)
+row_by_number us a n o found =
+    ap (row_of_unit a) (slice_get-map plain_unit us n ∙ ap (option_map plain_unit) (sym found))
+
+-- the place that a row stands for in the lines of the unit of a number
+pub location_by_number : (us : List ResolvedUnit) (r : UnitRow) (o : Option ResolvedUnit) → o ≡ slice_get us r.unit
+    → location_of_unit_row (map plain_unit us) r
+    ≡ option_and_then (λ (u : ContextUnit). location_of_row r.row u.lines) (option_map plain_unit o)
+location_by_number us r o found =
+    ap (option_and_then (λ (u : ContextUnit). location_of_row r.row u.lines))
+    (slice_get-map plain_unit us r.unit ∙ ap (option_map plain_unit) (sym found))
 
 module _ (us : List ResolvedUnit) (n : ℕ) where
   found_unit : (u : ResolvedUnit) → n < length us → u ≡ get_or us n u → Some u ≡ slice_get us n
   found_unit u below is = ap Some is ∙ sym (slice_get-get_or us n u below)
 
   -- of a unit that is there
-  pub place_here : (a : ℕ) (u : ResolvedUnit) → n < length us → u ≡ get_or us n u
-      → place_at (map plain_unit us) a n ≡ place_or_refusal a u.value.unit.lines
-  place_here a u below is = place_of_unit us a n (Some u) (found_unit u below is)
+  pub row_here : (a : ℕ) (u : ResolvedUnit) → n < length us → u ≡ get_or us n u
+      → row_at_number (map plain_unit us) a n ≡ row_or_refusal a u.value.unit.lines
+  row_here a u below is = row_by_number us a n (Some u) (found_unit u below is)
 
   -- of none
-  pub no_place_past : (a : ℕ) → length us ≤ n → place_at (map plain_unit us) a n ≡ Ok None
-  no_place_past a past = place_of_unit us a n None (sym (slice_get_past us n past))
+  pub no_row_past : (a : ℕ) → length us ≤ n → row_at_number (map plain_unit us) a n ≡ Ok None
+  no_row_past a past = row_by_number us a n None (sym (slice_get_past us n past))
 
   check_of_unit : (o : Option ResolvedUnit) → o ≡ slice_get us n
       → check_at (map plain_unit us) n ≡ check_of (option_map plain_unit o)
@@ -68,25 +75,53 @@ answers_start us a all rs ordered covering =
     sym (places_of_views unit_places us a)
     ∙ location_by_numbers (map unit_places us) a rs (covering ∙ ap (covering_ranges a) ordered)
 
--- a unit that has a place answers
-pub has_the_place : (r : Result (Option Location) Error) (rest : List (Result (Option Location) Error))
-    → ReturnsOrNoMemory (Ok true) (has_place r) → first_answer (r ∷ rest) ≡ r
-has_the_place (Ok None) rest h = cc
-has_the_place (Ok (Some l)) rest h = refl
-has_the_place (Err e) rest h = refl
+-- ---- by rows
+
+abbrev answer_of_unit : ℕ → Option ContextUnit → Result (Option Location) Error
+answer_of_unit a o = answer_of a (option_map unit_places o)
+
+-- a row that was found, if one was
+abbrev pub ok_row : Option LineRow → Result (Option LineRow) Error
+ok_row o = Ok o
+
+lines_with_row : (a : ℕ) (r : LineRow) (l : Result Lines Error) (rest : List (Result (Option Location) Error))
+    → row_or_refusal a l ≡ Ok (Some r) → first_answer (place_or_refusal a l ∷ rest) ≡ Ok (location_of_row r l)
+lines_with_row a r (Ok l) rest h =
+    let row : row_at l a ≡ Some r = cc in
+    ap (λ o. first_answer (Ok (option_map (row_location l.files) o) ∷ rest)) row
+lines_with_row a r (Err e) rest h = absurd cc
+
+lines_without_row : (a : ℕ) (l : Result Lines Error) (rest : List (Result (Option Location) Error))
+    → row_or_refusal a l ≡ Ok None → first_answer (place_or_refusal a l ∷ rest) ≡ first_answer rest
+lines_without_row a (Ok l) rest h =
+    let row : row_at l a ≡ None = cc in
+    ap (λ o. first_answer (Ok (option_map (row_location l.files) o) ∷ rest)) row
+lines_without_row a (Err e) rest h = absurd cc
+
+refused_lines : (a : ℕ) (l : Result Lines Error) (rest : List (Result (Option Location) Error)) (e : Error)
+    → row_or_refusal a l ≡ Err e → first_answer (place_or_refusal a l ∷ rest) ≡ Err e
+refused_lines a (Ok l) rest e h = absurd cc
+refused_lines a (Err d) rest e h = let same : d ≡ e = cc in ap Err same
+
+-- a unit that has a row answers
+unit_with_row : (a : ℕ) (r : LineRow) (o : Option ContextUnit) (rest : List (Result (Option Location) Error))
+    → row_of_unit a o ≡ Ok (Some r)
+    → first_answer (answer_of_unit a o ∷ rest)
+    ≡ Ok (option_and_then (λ (u : ContextUnit). location_of_row r u.lines) o)
+unit_with_row a r None rest h = absurd cc
+unit_with_row a r (Some u) rest h = lines_with_row a r u.lines rest h
 
 -- one that has none doesn't
-pub has_no_place : (r : Result (Option Location) Error) (rest : List (Result (Option Location) Error))
-    → ReturnsOrNoMemory (Ok false) (has_place r) → first_answer (r ∷ rest) ≡ first_answer rest
-has_no_place (Ok None) rest h = refl
-has_no_place (Ok (Some l)) rest h = cc
-has_no_place (Err e) rest h = cc
+unit_without_row : (a : ℕ) (o : Option ContextUnit) (rest : List (Result (Option Location) Error))
+    → row_of_unit a o ≡ Ok None → first_answer (answer_of_unit a o ∷ rest) ≡ first_answer rest
+unit_without_row a None rest h = refl
+unit_without_row a (Some u) rest h = lines_without_row a u.lines rest h
 
 -- a refusal is the answer
-pub is_refused : (r : Result (Option Location) Error) (rest : List (Result (Option Location) Error)) (e : Error)
-    → has_place r ≡ Err e → first_answer (r ∷ rest) ≡ Err e
-is_refused (Ok place) rest e h = cc
-is_refused (Err d) rest e h = let same : d ≡ e = cc in ap Err same
+refused_unit : (a : ℕ) (o : Option ContextUnit) (rest : List (Result (Option Location) Error)) (e : Error)
+    → row_of_unit a o ≡ Err e → first_answer (answer_of_unit a o ∷ rest) ≡ Err e
+refused_unit a None rest e h = absurd cc
+refused_unit a (Some u) rest e h = refused_lines a u.lines rest e h
 
 -- ---- units with the same values
 
@@ -96,41 +131,38 @@ module _ (us vs : List ResolvedUnit) (same : map value_of_unit vs ≡ map value_
   abbrev answers_of_rest : List (Result (Option Location) Error)
   answers_of_rest = map (λ q. answer_at (map unit_places (map plain_unit us)) a q.unit) rest
 
-  first_and_rest : whole ≡ first_answer (place_at (map plain_unit vs) a r.unit ∷ answers_of_rest)
+  first_and_rest : whole ≡ first_answer (answer_of_unit a (slice_get (map plain_unit vs) r.unit) ∷ answers_of_rest)
   first_and_rest =
       before ∙ ap (answer_from (map unit_places (map plain_unit us)) a) is
-      ∙ ap (λ xs. first_answer (place_at xs a r.unit ∷ answers_of_rest)) (sym (same_plain vs us same))
+      ∙ ap (λ o. first_answer (answer_of a o ∷ answers_of_rest)) (slice_get-map unit_places (map plain_unit us) r.unit)
+      ∙ ap (λ xs. first_answer (answer_of_unit a (slice_get xs r.unit) ∷ answers_of_rest))
+      (sym (same_plain vs us same))
 
-  pub answer_found : ReturnsOrNoMemory (Ok true) (has_place (place_at (map plain_unit vs) a r.unit))
-      → whole ≡ place_at (map plain_unit us) a r.unit
-  answer_found h =
-      first_and_rest ∙ has_the_place (place_at (map plain_unit vs) a r.unit) answers_of_rest h
-      ∙ ap (λ xs. place_at xs a r.unit) (same_plain vs us same)
+  pub row_found : (q : LineRow) → row_at_number (map plain_unit vs) a r.unit ≡ Ok (Some q)
+      → whole ≡ Ok (location_of_unit_row (map plain_unit us) (record { unit = r.unit; row = q }))
+  row_found q h =
+      first_and_rest ∙ unit_with_row a q (slice_get (map plain_unit vs) r.unit) answers_of_rest h
+      ∙ ap (λ xs. Ok (location_of_unit_row xs (record { unit = r.unit; row = q }))) (same_plain vs us same)
 
-  pub none_found : ReturnsOrNoMemory (Ok false) (has_place (place_at (map plain_unit vs) a r.unit))
+  pub none_found : row_at_number (map plain_unit vs) a r.unit ≡ Ok None
       → whole ≡ answer_from (map unit_places (map plain_unit us)) a rest
-  none_found h = first_and_rest ∙ has_no_place (place_at (map plain_unit vs) a r.unit) answers_of_rest h
+  none_found h = first_and_rest ∙ unit_without_row a (slice_get (map plain_unit vs) r.unit) answers_of_rest h
 
-  pub refusal_found : (e : Error) → has_place (place_at (map plain_unit vs) a r.unit) ≡ Err e → whole ≡ Err e
-  refusal_found e h = first_and_rest ∙ is_refused (place_at (map plain_unit vs) a r.unit) answers_of_rest e h
+  pub refusal_found : (e : Error) → row_at_number (map plain_unit vs) a r.unit ≡ Err e → whole ≡ Err e
+  refusal_found e h = first_and_rest ∙ refused_unit a (slice_get (map plain_unit vs) r.unit) answers_of_rest e h
 
 -- after the last
 pub none_left : (us : List ResolvedUnit) (a : ℕ) (old : List UnitRange) (whole : Result (Option Location) Error)
     → old ≡ [] → whole ≡ answer_from (map unit_places (map plain_unit us)) a old → whole ≡ Ok None
 none_left us a old whole is before = before ∙ ap (answer_from (map unit_places (map plain_unit us)) a) is
 
--- ---- the unit that was found
+-- ---- the row that was found
 
--- what it answers is the place of the address
-pub place_found : (us vs : List ResolvedUnit) (a n : ℕ) (o : Option ℕ) → o ≡ Some n
-    → FindsUnit (map plain_unit us) a (Ok o) → map value_of_unit vs ≡ map value_of_unit us
-    → place_at (map plain_unit vs) a n ≡ location_at ranges_of lines_of (map plain_unit us) a
-place_found us vs a n o is found same =
-    ap (λ xs. place_at xs a n) (same_plain vs us same)
-    ∙ sym (subst (λ x. FindsUnit (map plain_unit us) a (Ok x)) is found)
-
--- a result without the answer of memory is one with it
-pub or_no_memory : {A B : Type 0} (see : A → B) (r : Result A Error) (meaning : Result B Error)
-    → ReturnsAs see r meaning → ReturnsAsOrNoMemory see r meaning
-or_no_memory see (Ok x) meaning h = h
-or_no_memory see (Err e) meaning h = λ not. h
+-- its place is that of the address
+pub place_found : (us vs : List ResolvedUnit) (a : ℕ) (r : UnitRow) (o : Option UnitRow) (place : Option Location)
+    → o ≡ Some r → FindsRow (map plain_unit us) a (Ok o) → map value_of_unit vs ≡ map value_of_unit us
+    → place ≡ location_of_unit_row (map plain_unit vs) r
+    → location_at ranges_of lines_of (map plain_unit us) a ≡ Ok place
+place_found us vs a r o place is found same here =
+    subst (λ x. FindsRow (map plain_unit us) a (Ok x)) is found
+    ∙ ap (λ xs. Ok (location_of_unit_row xs r)) (sym (same_plain vs us same)) ∙ ap Ok (sym here)

@@ -1,16 +1,16 @@
 -- Which units' lines are kept, and what lookups find of the unit of a number.
-use Rattle.std.specs.Prelude.{◌≡◌, ◌≢◌, ℕ, List, [], ◌∷◌, map, slice_get, Option, Some, None, IfSome, Result, Ok, Err}
+use Rattle.std.specs.Prelude.{◌≡◌, ◌≢◌, ℕ, List, [], ◌∷◌, map, slice_get, Option, Some, None, IfSome, option_and_then, Result, Ok, Err}
 use Rattle.addr2line_resolved.specs.Error.{Error}
 use Rattle.addr2line_resolved.specs.Error.TheVariants.{Memory}
 use Rattle.addr2line_resolved.specs.Results.{and_then}
-use Rattle.addr2line_resolved.specs.Lines.{Location}
+use Rattle.addr2line_resolved.specs.Lines.{LineRow, Location}
 use Rattle.addr2line_resolved.specs.Contexts.{ContextUnit, ranges_of, lines_of}
 use Rattle.addr2line_resolved.specs.PlaceLookups.{location_at}
 use Rattle.addr2line_resolved.specs.UnitRange.{UnitRange}
 use Rattle.addr2line_resolved.specs.NumberedRanges.{overlapping_ranges}
-use Rattle.addr2line_resolved.specs.UnitPlaces.{answer_at}
-use Rattle.addr2line_resolved.specs.ContextUnits.{unit_places, ordered_ranges}
-use Rattle.addr2line_resolved.specs.ResolvedUnits.{ResolvedUnit, plain_unit, KeepsLines}
+use Rattle.addr2line_resolved.specs.ContextUnits.{ordered_ranges}
+use Rattle.addr2line_resolved.specs.ResolvedUnits.{ResolvedUnit, plain_unit, KeepsLines, row_or_refusal, location_of_row}
+use Rattle.addr2line_context.specs.declared.settle.UnitRow.{UnitRow}
 
 -- ---- kept lines
 
@@ -34,21 +34,30 @@ KeepsMore old new = (number : ℕ) → KeepsAt old number → KeepsAt new number
 
 -- ---- places
 
--- what the lines of the unit of a number answer for an address
-abbrev pub place_at : List ContextUnit → ℕ → ℕ → Result (Option Location) Error
-place_at units a number = answer_at (map unit_places units) a number
+-- the row of an address in the lines of a unit, if there is one, or the refusal of the lines
+abbrev pub row_of_unit : ℕ → Option ContextUnit → Result (Option LineRow) Error
+row_of_unit a None = Ok None
+row_of_unit a (Some u) = row_or_refusal a u.lines
 
--- The place of an address is what the unit that was found answers; there is none where none was
--- found.
-abbrev pub FindsUnit : List ContextUnit → ℕ → Result (Option ℕ) Error → Type 0
-FindsUnit units a (Ok None) = location_at ranges_of lines_of units a ≡ Ok None
-FindsUnit units a (Ok (Some number)) =
-    location_at ranges_of lines_of units a ≡ place_at units a number
-FindsUnit units a (Err e) = e ≢ Memory → location_at ranges_of lines_of units a ≡ Err e
+-- that of the unit of a number
+abbrev pub row_at_number : List ContextUnit → ℕ → ℕ → Result (Option LineRow) Error
+row_at_number units a number = row_of_unit a (slice_get units number)
 
--- the lines of the unit that was found are kept
-abbrev pub KeepsFound : List ResolvedUnit → Result (Option ℕ) Error → Type 0
-KeepsFound us (Ok (Some number)) = KeepsAt us number
+-- the place that a row stands for in the lines of its unit
+abbrev pub location_of_unit_row : List ContextUnit → UnitRow → Option Location
+location_of_unit_row units r =
+    option_and_then (λ u. location_of_row r.row u.lines) (slice_get units r.unit)
+
+-- The place of an address is that of the row that was found; there is none where none was found.
+abbrev pub FindsRow : List ContextUnit → ℕ → Result (Option UnitRow) Error → Type 0
+FindsRow units a (Ok None) = location_at ranges_of lines_of units a ≡ Ok None
+FindsRow units a (Ok (Some r)) =
+    location_at ranges_of lines_of units a ≡ Ok (location_of_unit_row units r)
+FindsRow units a (Err e) = e ≢ Memory → location_at ranges_of lines_of units a ≡ Err e
+
+-- the lines of the unit whose row was found are kept
+abbrev pub KeepsFound : List ResolvedUnit → Result (Option UnitRow) Error → Type 0
+KeepsFound us (Ok (Some r)) = KeepsAt us r.unit
 KeepsFound us _ = Unit {0}
 
 -- ---- parsing ahead

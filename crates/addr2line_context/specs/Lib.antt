@@ -32,3 +32,7 @@ pub use Rattle.addr2line_resolved.specs.ContextUnits
 pub use Rattle.addr2line_resolved.specs.ResolvedUnits
 pub mod KeptUnits
 pub mod RangeItems
+pub mod AnsweredContexts
+pub mod LoadAnswers
+pub mod Preloads
+pub mod Suspended

@@ -1,7 +1,9 @@
 //! A context of sections that are handed in one by one.
 
-ghost use Rattle.addr2line_resolved.specs.Calls.{ReturnsOrNoMemory};
+ghost use Rattle.std.specs.Prelude.{IfOk};
+ghost use Rattle.addr2line_resolved.specs.Calls.{ReturnsAsOrNoMemory};
 ghost use Rattle.addr2line_resolved.specs.Contexts.{file_context};
+ghost use Rattle.addr2line_context.specs.AnsweredContexts.{HasNoAnswers};
 ghost use Rattle.addr2line_context.specs.MainFiles.{main_file};
 
 use crate::context::Context;
@@ -29,10 +31,11 @@ impl<R: Reader> Context<R> {
         debug_str_offsets: DebugStrOffsets<R>,
         default_section: R,
     ) -> Result<Self, Error>
-        ensures { ReturnsOrNoMemory result
+        ensures context { ReturnsAsOrNoMemory (λ c. c.plain) result
             (file_context (main_file R.Offset.limit debug_abbrev debug_addr debug_aranges debug_info
             debug_line debug_line_str debug_ranges debug_rnglists debug_str debug_str_offsets
             (R.view default_section))) }
+        ensures answers { IfOk result HasNoAnswers }
     {
         let sections = Dwarf {
             debug_abbrev,

@@ -1,21 +1,28 @@
 //! The lines that a lookup asks for are read and kept before it answers.
 
 ghost use Rattle.std.specs.Prelude.{◌≡◌, map, option_map, slice_get, OnOk, IfErr};
-ghost use Rattle.addr2line_resolved.specs.Calls.{ReturnsAs, ReturnsOrNoMemory};
+ghost use Rattle.addr2line_resolved.specs.Calls.{ReturnsOrNoMemory};
 ghost use Rattle.addr2line_resolved.specs.Error.TheVariants.{Memory};
 ghost use Rattle.addr2line_resolved.specs.BorrowedLocations.{location_value};
 ghost use Rattle.addr2line_resolved.specs.NumberedRanges.{overlapping_ranges};
 ghost use Rattle.addr2line_resolved.specs.ContextUnits.{ordered_ranges};
-ghost use Rattle.addr2line_resolved.specs.ResolvedUnits.{plain_unit, value_of_unit, has_place};
-ghost use Rattle.addr2line_context.specs.KeptUnits.{KeepsAt, KeepsRanges, KeepsMore, place_at, FindsUnit, KeepsFound};
+ghost use Rattle.addr2line_resolved.specs.ResolvedUnits.{plain_unit, value_of_unit};
+ghost use Rattle.addr2line_context.specs.KeptUnits.{KeepsAt, KeepsRanges, KeepsMore, row_at_number, location_of_unit_row, FindsRow, KeepsFound};
 
-use addr2line_resolved::{Error, Location, Reader, ResUnit, UnitRanges};
+use addr2line_resolved::{Error, LineRow, Location, Reader, ResUnit, UnitRanges};
 use std::alloc::Global;
 
 // ---- one address
 
+/// A row of a unit's lines, and the unit's number.
+#[derive(Clone, Copy, Debug)]
+pub(crate) struct UnitRow {
+    pub(crate) unit: usize,
+    pub(crate) row: LineRow,
+}
+
 // The unit of a number, if there is one.
-fn unit_at<R: Reader>(units: &[ResUnit<R>], number: usize) -> Option<&ResUnit<R>>
+pub(crate) fn unit_at<R: Reader>(units: &[ResUnit<R>], number: usize) -> Option<&ResUnit<R>>
     ensures { option_map (λ u. u.now) result ≡ slice_get units.now number }
 {
     match units.get(number) {
@@ -24,57 +31,55 @@ fn unit_at<R: Reader>(units: &[ResUnit<R>], number: usize) -> Option<&ResUnit<R>
     }
 }
 
-// The place of an address in the lines of the unit of a number, which are kept, or their refusal.
-pub(crate) fn place_in<R: Reader>(
-    units: &[ResUnit<R>],
-    number: usize,
-    probe: u64,
-) -> Result<Option<Location<'_>>, Error>
-    ensures { KeepsAt units.now number → ReturnsAs (option_map location_value) result
-        (place_at (map plain_unit units.now) probe number) }
+// The place that a row of a unit stands for, if the unit's lines are kept and not refused. Nothing
+// is searched.
+pub(crate) fn place_in<R: Reader>(units: &[ResUnit<R>], found: UnitRow) -> Option<Location<'_>>
+    ensures { KeepsAt units.now found.unit → option_map location_value result
+        ≡ location_of_unit_row (map plain_unit units.now) found }
 {
-    match unit_at(units, number) {
-        Some(unit) => unit.find_location(probe),
-        None => Ok(None),
+    match unit_at(units, found.unit) {
+        Some(unit) => unit.location_of_row(&found.row),
+        None => None,
     }
 }
 
-// Whether the lines of the unit of a number have a place for an address, or the refusal of them.
-fn has_location_at<R: Reader>(
+// The row of an address in the lines of the unit of a number, or the refusal of them.
+fn find_row_at<R: Reader>(
     alloc: Global,
     units: &mut Vec<ResUnit<R>>,
     number: usize,
     probe: u64,
-) -> Result<bool, Error>
+) -> Result<Option<LineRow>, Error>
     ensures values { map value_of_unit units.new.items ≡ map value_of_unit units.old.items }
     ensures found { ReturnsOrNoMemory result
-        (has_place (place_at (map plain_unit units.old.items) probe number)) }
+        (row_at_number (map plain_unit units.old.items) probe number) }
     ensures kept { OnOk result (KeepsAt units.new.items number) }
 {
     if number >= units.len() {
-        return Ok(false);
+        return Ok(None);
     }
     let unit = &mut units[number];
-    unit.has_location(alloc, probe)
+    unit.find_row(alloc, probe)
 }
 
-// The number of the unit that answers an address: of the units with a range over it, in their
-// order, the first whose lines have a place for it. Lines are read on the way.
-pub(crate) fn place_unit<R: Reader>(
+// The row whose place an address has, with its unit's number: of the units with a range over the
+// address, in their order, the first with a row for it. Lines are read on the way.
+pub(crate) fn find_row<R: Reader>(
     alloc: Global,
     units: &mut Vec<ResUnit<R>>,
     ranges: &UnitRanges,
     probe: u64,
-) -> Result<Option<usize>, Error>
+) -> Result<Option<UnitRow>, Error>
     requires { ranges.now ≡ ordered_ranges (map plain_unit units.old.items) }
     ensures values { map value_of_unit units.new.items ≡ map value_of_unit units.old.items }
-    ensures found { FindsUnit (map plain_unit units.old.items) probe result }
+    ensures found { FindsRow (map plain_unit units.old.items) probe result }
     ensures kept { KeepsFound units.new.items result }
 {
     let mut covering = ranges.covering(probe);
     while let Some(range) = covering.next() {
-        if has_location_at(alloc, units, range.unit, probe)? {
-            return Ok(Some(range.unit));
+        let unit = range.unit;
+        if let Some(row) = find_row_at(alloc, units, unit, probe)? {
+            return Ok(Some(UnitRow { unit, row }));
         }
     }
     Ok(None)

@@ -1,20 +1,31 @@
 //! The units of a context with their ranges, in the order in which lookups ask them.
 
-ghost use Rattle.std.specs.Prelude.{◌≡◌, map, option_map, IfOk, OnOk, IfErr};
-ghost use Rattle.addr2line_resolved.specs.Calls.{ReturnsAs, ReturnsOrNoMemory};
+ghost use Rattle.std.specs.Prelude.{◌≡◌, Ok, map, option_map, IfOk, OnOk, IfErr};
+ghost use Rattle.addr2line_resolved.specs.Calls.{ReturnsAsOrNoMemory, ReturnsOrNoMemory};
 ghost use Rattle.addr2line_resolved.specs.Error.TheVariants.{Memory};
 ghost use Rattle.addr2line_resolved.specs.PlaceLookups.{stretches_between};
 ghost use Rattle.addr2line_resolved.specs.Contexts.{ranges_of, lines_of, all_lines_or_refusal};
 ghost use Rattle.addr2line_resolved.specs.BorrowedLocations.{location_value};
+ghost use Rattle.addr2line_resolved.specs.Lookups.{one_each};
+ghost use Rattle.addr2line_resolved.specs.NumberedRanges.{covering_ranges};
+ghost use Rattle.addr2line_resolved.specs.ContextUnits.{ordered_ranges};
 ghost use Rattle.addr2line_resolved.specs.ResolvedUnits.{plain_unit, value_of_unit};
-ghost use Rattle.addr2line_context.specs.KeptUnits.{KeepsAt, KeepsBetween, KeepsFound, FindsUnit, place_at};
+ghost use Rattle.addr2line_context.specs.LoadAnswers.{AnswersOrNoMemory, answer_at};
+ghost use Rattle.addr2line_context.specs.Preloads.{loads_at, load_of_item};
+ghost use Rattle.addr2line_context.specs.KeptUnits.{KeepsAt, KeepsBetween, KeepsFound, FindsRow, location_of_unit_row};
 
+use crate::load_answers::answer_at;
 use crate::location_range::LocationRangeIter;
 use crate::parsing::check_lines;
-use crate::settle::{place_in, place_unit, read_between};
-use addr2line_resolved::{Error, Location, Reader, ResUnit, UnitRanges, ordered_ranges};
+use crate::preload::pending_loads;
+use crate::settle::{UnitRow, find_row, place_in, read_between};
+use crate::token::UnitToken;
+use addr2line_resolved::{
+    Dwarf, Error, Location, Reader, ResUnit, SplitDwarfLoad, UnitRanges, ordered_ranges,
+};
 use std::alloc::Global;
 use std::marker::Model;
+use std::rc::Rc;
 
 /// Units by their numbers, and the ranges of all of them.
 #[derive(Drop)]
@@ -52,22 +63,22 @@ impl<R: Reader> Units<R> {
         self.units.as_slice()
     }
 
-    // The number of the unit that answers an address. Its lines are kept.
-    pub(crate) fn place_unit(&mut self, probe: u64) -> Result<Option<usize>, Error>
+    // The row whose place an address has, with its unit's number. The unit's lines are kept.
+    pub(crate) fn find_row(&mut self, probe: u64) -> Result<Option<UnitRow>, Error>
         ensures values { map value_of_unit self.new ≡ map value_of_unit self.old }
-        ensures found { FindsUnit (map plain_unit self.old) probe result }
+        ensures found { FindsRow (map plain_unit self.old) probe result }
         ensures kept { KeepsFound self.new result }
     {
         let alloc = *self.units.allocator();
-        place_unit(alloc, &mut self.units, &self.ranges, probe)
+        find_row(alloc, &mut self.units, &self.ranges, probe)
     }
 
-    // The place of an address in the lines of the unit of a number, which are kept.
-    pub(crate) fn place_in(&self, number: usize, probe: u64) -> Result<Option<Location<'_>>, Error>
-        ensures { KeepsAt self.now number → ReturnsAs (option_map location_value) result
-            (place_at (map plain_unit self.now) probe number) }
+    // The place that a row stands for, in the lines of its unit, which are kept.
+    pub(crate) fn place_in(&self, found: UnitRow) -> Option<Location<'_>>
+        ensures { KeepsAt self.now found.unit → option_map location_value result
+            ≡ location_of_unit_row (map plain_unit self.now) found }
     {
-        place_in(self.units.as_slice(), number, probe)
+        place_in(self.units.as_slice(), found)
     }
 
     // Reads the lines of the units with a range between two ends, unless they are kept.
@@ -97,5 +108,33 @@ impl<R: Reader> Units<R> {
     {
         let alloc = *self.units.allocator();
         check_lines(alloc, &mut self.units)
+    }
+
+    // The loads that lookups of an address may wait for, that of each unit once.
+    pub(crate) fn pending_loads(
+        &self,
+        probe: u64,
+    ) -> Result<Vec<(SplitDwarfLoad<R>, UnitToken)>, Error>
+        ensures { ReturnsAsOrNoMemory (λ loads. map load_of_item loads.items) result
+            (Ok (one_each (loads_at (map value_of_unit self.now)
+            (covering_ranges probe (ordered_ranges (map plain_unit self.now)))))) }
+    {
+        let alloc = *self.units.allocator();
+        pending_loads(alloc, self.units.as_slice(), &self.ranges, probe)
+    }
+
+    // Answers the load of the unit of a number.
+    pub(crate) fn answer_at(
+        &mut self,
+        number: usize,
+        file: Option<Rc<Dwarf<R>>>,
+    ) -> Result<(), Error>
+        ensures { AnswersOrNoMemory result (map value_of_unit self.old)
+            (map value_of_unit self.new)
+            (answer_at (map value_of_unit self.old) number
+            (option_map (λ f. f.value.file) file)) }
+    {
+        let alloc = *self.units.allocator();
+        answer_at(alloc, &mut self.units, number, file)
     }
 }

@@ -1,18 +1,34 @@
 -- How many looks at entries the calls of an address take.
-use Rattle.std.proofs.Common.{◌≡◌, ℕ, ◌+◌, ◌*◌, ◌≤◌, List, ◌∷◌, length, ap, ◌∙◌, arith}
+use Rattle.std.proofs.Common.{◌≡◌, ℕ, ◌+◌, ◌*◌, ◌≤◌, List, length, ap, ◌∙◌, arith}
+use Rattle.std.proofs.lemmas.List.{length-map}
 use Rattle.addr2line_units.specs.ProbedLists.{ProbeCount}
 use Rattle.addr2line_units.specs.Searches.{AtMostProbes}
+use Rattle.addr2line_units.specs.Pairs.{pairs_from}
+use Rattle.addr2line_units.specs.InlinedCalls.{Call, ranges_of_call}
+use Rattle.addr2line_functions.specs.CountedFunctions.{depth_of_call, search_probes, call_probes}
+use Rattle.addr2line_functions.specs.RangesByNumber.{numbered_range, numbered_ranges}
+use Rattle.addr2line_functions.specs.declared.numbered_range.NumberedRange.{NumberedRange}
+
+-- one search among the ranges of calls
+pub probes_of_search : (cs : List Call) (rs : List NumberedRange) → rs ≡ numbered_ranges depth_of_call ranges_of_call cs
+    → search_probes (length rs) ≡ call_probes cs
+probes_of_search cs rs is =
+    ap (λ l. search_probes (length l)) is
+    ∙ ap search_probes (length-map (pairs_from ranges_of_call 0 cs) (numbered_range depth_of_call))
 
 -- one call further, what is left is enough for the others
-pub looks-next : {X : Type 0} (old new bound p : ℕ) (x : X) (xs ys : List X) → ys ≡ x ∷ xs → new ≤ old + p
-    → old + (length ys + 1) * p ≤ bound → new + (length xs + 1) * p ≤ bound
-looks-next old new bound p x xs ys is more enough =
-    let same : (length ys + 1) * p ≡ (length (x ∷ xs) + 1) * p = ap (λ l. (length l + 1) * p) is in
-    omega (arith, same, more, enough)
+pub looks-next : (old new bound p q n m : ℕ) → n ≡ m + 1 → q ≡ p → new ≤ old + q → old + (n + 1) * p ≤ bound
+    → new + (m + 1) * p ≤ bound
+looks-next old new bound p q n m is each more enough =
+    let same : (n + 1) * p ≡ (m + 1 + 1) * p = ap (λ k. (k + 1) * p) is in
+    omega (arith, each, same, more, enough)
 
--- The looks for a place, then those at the calls before, and those at one more call.
-pub looks-whole : (old found before new : ProbeCount) (place calls n m p q : ℕ) → AtMostProbes place old found
-    → before.name ≡ found.name → before.count + (n + 1) * p ≤ found.count + (m + 1) * p → (m + 1) * p ≡ calls
-    → q ≡ p → AtMostProbes q before new → AtMostProbes (place + calls) old new
-looks-whole old found before new place calls n m p q here same enough all each last =
-    (last.0 ∙ same ∙ here.0, omega (arith, here.1, enough, all, each, last.1))
+-- and at the last for one more search
+pub looks-last : (old new bound p q n : ℕ) → q ≡ p → new ≤ old + q → old + (n + 1) * p ≤ bound → new ≤ bound
+looks-last old new bound p q n each more enough = omega (arith, each, more, enough)
+
+-- the looks for a place, then those for the calls
+pub looks-both : (old found new : ProbeCount) (place calls : ℕ) → AtMostProbes place old found
+    → AtMostProbes calls found new → AtMostProbes (place + calls) old new
+looks-both old found new place calls first second =
+    (second.0 ∙ first.0, omega (arith, first.1, second.1))

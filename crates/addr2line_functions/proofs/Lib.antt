@@ -7,7 +7,6 @@ pub mod NestingLemmas
 pub mod CallEntrySteps
 pub mod NameFolds
 pub mod CallFactSteps
-pub mod CallCounts
 pub mod ChainSteps
 pub mod UnsignedValues
 pub mod FunctionRowSteps

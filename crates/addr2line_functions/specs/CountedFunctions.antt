@@ -29,12 +29,6 @@ abbrev pub IsCountedBy : ℕ → Option CountedFunctionAt → Type 0
 IsCountedBy n None = Unit {0}
 IsCountedBy n (Some f) = n ≡ f.counter
 
--- the calls that are left of a chain, how many looks each takes, and the name of their counter
-pub record CountedChain : Type 0 where
-  pub calls : List Call
-  pub probes : ℕ
-  pub counter : ℕ
-
 -- the lines of an index, or the refusal of them
 abbrev pub lines_or_refusal : Result CountedLines Error → Result Lines Error
 lines_or_refusal (Ok l) = Ok l.lines

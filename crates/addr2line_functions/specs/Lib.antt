@@ -2,7 +2,6 @@ pub use Rattle.addr2line_names.specs.EntryNamings
 pub use Rattle.addr2line_names.specs.EntryReferences
 pub use Rattle.addr2line_names.specs.FunctionNames
 pub use Rattle.addr2line_units.specs.BorrowedLocations
-pub use Rattle.addr2line_units.specs.ChoiceSteps
 pub use Rattle.addr2line_units.specs.NumberedRanges
 pub use Rattle.addr2line_units.specs.RangeIndexLaws
 pub use Rattle.addr2line_units.specs.Stretches
@@ -51,7 +50,7 @@ pub use Rattle.addr2line_units.specs.UnitHeaders
 pub mod EntryRowViews
 pub mod RangesByNumber
 pub mod CountedFunctions
-pub mod CallIndexes
+pub mod CallNumbers
 pub mod NextFunctions
 pub mod LastCallFacts
 pub mod CallNesting

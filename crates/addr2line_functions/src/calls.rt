@@ -1,15 +1,16 @@
 //! A function with the calls that are inlined into it.
 
-ghost use Rattle.std.specs.Prelude.{◌≡◌, ◌≤◌, length, option_map, Ok, IfOk};
+ghost use Rattle.std.specs.Prelude.{◌≡◌, option_map, Ok, IfOk};
 ghost use Rattle.gimli_units_entries.specs.Calls.{ReturnsAsOrNoMemory, ReturnsOrNoMemory};
 ghost use Rattle.gimli_units_entries.specs.EntryViews.{entry_of};
-ghost use Rattle.addr2line_units.specs.InlinedCalls.{calls_of_function, function_calls, chain_at, depth_count};
-ghost use Rattle.addr2line_functions.specs.CountedFunctions.{call_probes};
+ghost use Rattle.addr2line_units.specs.InlinedCalls.{calls_of_function, function_calls, chain_at};
+ghost use Rattle.addr2line_units.specs.Searches.{AtMostProbes};
+ghost use Rattle.addr2line_functions.specs.CallNumbers.{calls_of_numbers};
+ghost use Rattle.addr2line_functions.specs.CountedFunctions.{chain_probes};
 
 use crate::call::Call;
-use crate::chain::Chain;
 use crate::naming::{Names, name_by};
-use crate::numbered_range::{NumberedRange, range_index};
+use crate::numbered_range::{NumberedRange, number_at, range_index};
 use crate::walk::calls_below;
 use addr2line_units::{Probes, RangeIndex, UnitRef};
 use gimli_units_entries::{
@@ -28,9 +29,10 @@ pub struct FunctionCalls<R: Reader> {
 }
 
 impl<R: Reader> Model for FunctionCalls<R> {
-    ghost use Rattle.std.specs.Prelude.{option_map};
-    ghost use Rattle.addr2line_functions.specs.CallIndexes.{IsCallIndex};
-    ghost use Rattle.addr2line_functions.specs.CountedFunctions.{CountedCalls};
+    ghost use Rattle.std.specs.Prelude.{◌≡◌, option_map};
+    ghost use Rattle.addr2line_units.specs.InlinedCalls.{ranges_of_call};
+    ghost use Rattle.addr2line_functions.specs.CountedFunctions.{CountedCalls, depth_of_call};
+    ghost use Rattle.addr2line_functions.specs.RangesByNumber.{numbered_ranges};
 
     ghost Value = { CountedCalls };
 
@@ -39,7 +41,8 @@ impl<R: Reader> Model for FunctionCalls<R> {
       counter = f.ranges.counter;
     } };
 
-    ghost invariant = { λ f. IsCallIndex f.calls.items f.ranges.entries };
+    ghost invariant = { λ f.
+        f.ranges.entries ≡ numbered_ranges depth_of_call ranges_of_call f.calls.items };
 }
 
 impl<R: Reader> FunctionCalls<R> {
@@ -50,7 +53,6 @@ impl<R: Reader> FunctionCalls<R> {
         calls: Vec<Call<R>>,
         probes: &Probes,
     ) -> Result<Self, Error>
-        requires { depth_count calls.items ≤ length calls.items }
         ensures { ReturnsOrNoMemory result (Ok (record {
           function = record { name = option_map R.view name; calls = calls.items };
           counter = probes.now.name;
@@ -78,18 +80,29 @@ impl<R: Reader> FunctionCalls<R> {
         self.calls.as_slice()
     }
 
-    /// The calls that an address is in, the outermost first: that of depth 0 that holds it, that of
-    /// depth 1, and so on, as long as there is one, whatever each is in. Where several of a depth
-    /// hold it, it is that whose range begins last, of these that whose range ends last, of these
-    /// the last. It takes no memory.
-    pub fn chain(&self, probe: u64) -> Chain<'_, R>
-        ensures { result ≡ record {
-          calls = chain_at self.now.function.calls probe;
-          probes = call_probes self.now.function.calls;
-          counter = self.now.counter;
-        } }
+    /// The numbers of the calls that an address is in, the outermost first: that of depth 0 that
+    /// holds it, that of depth 1, and so on, as long as there is one, whatever each is in. A call's
+    /// number is its index among the calls. Where several of a depth hold the address, it is that
+    /// whose range begins last, of these that whose range ends last, of these the last. One
+    /// bisection of the ranges finds each. The only error is out of memory.
+    pub fn find_chain(
+        &self,
+        alloc: Global,
+        probe: u64,
+        probes: &mut Probes,
+    ) -> Result<Vec<usize>, Error>
+        requires counter { probes.old.name ≡ self.now.counter }
+        ensures chain { ReturnsAsOrNoMemory
+            (λ numbers. calls_of_numbers self.now.function.calls numbers.items) result
+            (Ok (chain_at self.now.function.calls probe)) }
+        ensures cost { AtMostProbes (chain_probes self.now.function.calls probe)
+            probes.old probes.new }
     {
-        Chain::new(self.calls.as_slice(), &self.ranges, probe)
+        let mut numbers = Vec::new(alloc);
+        while let Some(number) = number_at(&self.ranges, numbers.len(), probe, probes) {
+            numbers.push(number)?;
+        }
+        Ok(numbers)
     }
 }
 

@@ -1,15 +1,17 @@
 //! The frames of an address, one after the other.
 
-ghost use Rattle.std.specs.Prelude.{◌≡◌, ◌+◌, ◌++◌, ◌∷◌, [], Ok, Some, option_map, IfOk};
+ghost use Rattle.std.specs.Prelude.{◌≡◌, ◌+◌, ◌++◌, ◌∷◌, [], Ok, Some, option_map, slice_get, IfOk};
 ghost use Rattle.gimli_units_entries.specs.Calls.{ReturnsAsOrNoMemory, ReturnsOrNoMemory};
 ghost use Rattle.addr2line_units.specs.BorrowedLocations.{location_value};
 ghost use Rattle.addr2line_units.specs.LineIndexes.{place_probes};
 ghost use Rattle.addr2line_units.specs.Searches.{AtMostProbes};
 ghost use Rattle.addr2line_units.specs.Frames.{function_name, frame, frames_in, frame_without_function, frames_of, frames_of_unit};
+ghost use Rattle.addr2line_functions.specs.CallNumbers.{calls_of_numbers};
 ghost use Rattle.addr2line_functions.specs.CountedFunctions.{IsCountedBy, chain_probes, frame_probes, lines_or_refusal};
 ghost use Rattle.addr2line_functions.specs.NextFrames.{NextOf};
 
 use crate::Names;
+use crate::call::Call;
 use crate::frame::{Frame, FunctionName};
 use crate::function_at::{FunctionAt, borrowed, function_with_calls};
 use crate::site::call_site;
@@ -85,6 +87,48 @@ fn push_frame<'ctx, R: Reader>(
     Ok(())
 }
 
+// The call of a number.
+fn call_of_number<R: Reader>(calls: &[Call<R>], number: usize) -> Option<&Call<R>>
+    ensures { option_map (λ c. c.now) result ≡ slice_get calls.now number }
+{
+    calls.get(number)
+}
+
+/// The frames of a function and of the calls of these numbers in it, the outermost first, each in
+/// the one before, at the place of an address with these lines and this language. Nothing is
+/// searched. The only error is out of memory.
+pub fn frames_by_numbers<'ctx, R: Reader>(
+    alloc: Global,
+    language: Option<DwLang>,
+    lines: &'ctx LineIndex,
+    place: Option<Location<'ctx>>,
+    function: &FunctionAt<'_, R>,
+    numbers: &[usize],
+) -> Result<FrameIter<'ctx, R>, Error>
+    ensures { ReturnsOrNoMemory result
+        (Ok (frames_in (option_map (λ l. l.0) language) lines.now.lines.files
+        (option_map location_value place.entry) function.now.function.offset
+        function.now.function.calls.name
+        (calls_of_numbers function.now.function.calls.calls numbers.now))) }
+{
+    let calls = function.calls.calls();
+    let mut frames = Vec::new(alloc);
+    let mut offset = function.offset;
+    let mut name = function.calls.name();
+    let mut inside = numbers;
+    while let [number, rest @ ..] = inside {
+        if let Some(call) = call_of_number(calls, *number) {
+            let site = call_site(lines, call);
+            push_frame(&mut frames, language, offset, name, Some(site))?;
+            offset = call.offset();
+            name = call.name();
+        }
+        inside = rest;
+    }
+    push_frame(&mut frames, language, offset, name, place)?;
+    Ok(FrameIter { frames })
+}
+
 // The frames of a function and of its calls at an address.
 fn frames_in<'ctx, R: Reader>(
     alloc: Global,
@@ -103,22 +147,12 @@ fn frames_in<'ctx, R: Reader>(
         + chain_probes function.now.function.calls.calls probe) probes.old probes.new }
 {
     let place = lines.find_location(probe, probes);
-    let mut frames = Vec::new(alloc);
-    let mut offset = function.offset;
-    let mut name = function.calls.name();
-    let mut chain = function.calls.chain(probe);
-    while let Some(call) = chain.next(probes) {
-        let site = call_site(lines, call);
-        push_frame(&mut frames, language, offset, name, Some(site))?;
-        offset = call.offset();
-        name = call.name();
-    }
-    push_frame(&mut frames, language, offset, name, place)?;
-    Ok(FrameIter { frames })
+    let chain = function.calls.find_chain(alloc, probe, probes)?;
+    frames_by_numbers(alloc, language, lines, place, function, chain.as_slice())
 }
 
-// The frame of a place in no function, if there is a place.
-fn frame_without_function<'ctx, R: Reader>(
+/// The frame of a place in no function, if there is a place. The only error is out of memory.
+pub fn frame_without_function<'ctx, R: Reader>(
     alloc: Global,
     location: Option<Location<'ctx>>,
 ) -> Result<FrameIter<'ctx, R>, Error>

@@ -4,7 +4,6 @@
 pub mod call;
 mod call_facts;
 pub mod calls;
-pub mod chain;
 pub mod frame;
 pub mod frames;
 pub mod function;
@@ -35,13 +34,12 @@ pub use addr2line_units::{
 };
 pub use call::Call;
 pub use calls::{FunctionCalls, calls_of_function};
-pub use chain::Chain;
 pub use frame::{Frame, FunctionName};
-pub use frames::{FrameIter, frames_at, frames_of_unit};
+pub use frames::{FrameIter, frame_without_function, frames_at, frames_by_numbers, frames_of_unit};
 pub use function::Function;
 pub use function_at::FunctionAt;
 pub use functions::{Functions, functions_of_unit};
-pub use gimli_units_entries::{DebuggingInformationEntry, UnitEntries, entries_raw};
+pub use gimli_units_entries::{DebuggingInformationEntry, ReaderOffset, UnitEntries, entries_raw};
 pub use naming::Names;
 pub use numbered_range::NumberedRange;
 pub use row::{EntryRow, next_row};

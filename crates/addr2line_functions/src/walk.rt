@@ -1,9 +1,9 @@
 //! The calls of a function, read from the entries below its own.
 
-ghost use Rattle.std.specs.Prelude.{◌≡◌, ◌≤◌, ◌++◌, length, option_to_list, IfOk, Ok};
+ghost use Rattle.std.specs.Prelude.{◌≡◌, ◌++◌, option_to_list, Ok};
 ghost use Rattle.gimli_units_entries.specs.Calls.{ReturnsAsOrNoMemory, ReturnsOrNoMemory};
 ghost use Rattle.addr2line_functions.specs.EntryRowViews.{row_view};
-ghost use Rattle.addr2line_units.specs.InlinedCalls.{call_at, calls_among, depth_count, entries_of};
+ghost use Rattle.addr2line_units.specs.InlinedCalls.{call_at, calls_among, entries_of};
 ghost use Rattle.addr2line_functions.specs.CallNesting.{call_if, next_call};
 
 use crate::call::Call;
@@ -106,11 +106,9 @@ pub(crate) fn calls_below<R: Reader, N: Names<R>>(
     names: &N,
     mut entries: EntriesRaw<'_, R>,
 ) -> Result<Vec<Call<R>>, Error>
-    ensures value { ReturnsAsOrNoMemory (λ v. v.items) result
+    ensures { ReturnsAsOrNoMemory (λ v. v.items) result
         (calls_among unit.now (N.naming names.now)
         (entries_of R.Offset.limit entries.entry)) }
-    // Each depth has a call.
-    ensures few { IfOk result (λ v. depth_count v.items ≤ length v.items) }
 {
     let mut nesting = Nesting::new(alloc);
     let mut attributes = Vec::new(alloc);

@@ -12,7 +12,7 @@ use Rattle.addr2line_index.specs.declared.unit_range.UnitRange.{UnitRange}
 use Rattle.addr2line_index.specs.declared.bounded_range.BoundedRange.{BoundedRange}
 use Rattle.addr2line_index.specs.NumberedRanges.{covering_ranges, overlapping_ranges}
 use Rattle.addr2line_index.proofs.NumberedRangeLemmas.{end_of as end_of_range}
-use Rattle.addr2line_index.specs.BoundedRanges.{greatest_begin, least_begin, with_least_begins, ranges_in, IsBounded, end_of, ends_by, IsInOrder}
+use Rattle.addr2line_index.specs.BoundedRanges.{greatest_begin, least_begin, with_least_begins, ranges_in, IsBounded, ends_by, IsInOrder}
 
 -- ---- made from the last on
 

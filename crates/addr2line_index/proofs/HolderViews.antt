@@ -1,12 +1,15 @@
 -- What holds an address among items seen through a function.
-use Rattle.std.proofs.Common.{◌≡◌, ℕ, Bool, true, false, cond, nat_lt, nat_le, List, [], ◌∷◌, suc, length, map, filter, Option, Some, None, option_map, refl, ap, sym, ◌∙◌}
+use Rattle.std.proofs.Common.{◌≡◌, ℕ, ◌+◌, Bool, true, false, cond, nat_lt, nat_le, List, [], ◌∷◌, ◌++◌, suc, length, map, filter, slice_get, Option, Some, None, option_map, refl, ap, sym, subst, ◌∙◌, arith, append_assoc, length-append}
 use Rattle.std.specs.Prelude.{option_and_then, MatchOption}
 use Rattle.std.specs.Borrow.{Bor}
+use Rattle.std.specs.List.{AllByRecursion}
 use Rattle.addr2line_spec.specs.Range.{Range}
 use Rattle.addr2line_spec.specs.Choice.{is_later, later_of, latest, only_if, holder}
-use Rattle.addr2line_spec.specs.Lines.{Sequence, range_of}
+use Rattle.addr2line_spec.specs.Lines.{Sequence, range_of, rows_to, row_of}
+use Rattle.addr2line_spec.proofs.RangeHolders.{holder_is}
 use Rattle.addr2line_index.specs.RangeLevels.{at_level}
-use Rattle.addr2line_index.specs.LineIndexes.{CountedSequence, with_counter, counted_range, sequences_of}
+use Rattle.addr2line_index.specs.LineIndexes.{NumberedSequence, numbered_from, range_of_numbered, sequences_of, place_of_row, row_at_place}
+use Rattle.addr2line_index.proofs.RowIndexLemmas.{last_place-row, rows_to-within}
 
 module _ {X Y : Type 0} (f : X → Y) (range : Y → Range) where
   abbrev inner : X → Range
@@ -53,42 +56,91 @@ all_at_level : {X : Type 0} (xs : List X) → at_level (λ _. 0) 0 xs ≡ xs
 all_at_level [] = refl
 all_at_level (x ∷ xs) = ap (λ l. x ∷ l) (all_at_level xs)
 
--- what holds an address among sequences that one counter counts
-pub counted_holder : (a n : ℕ) (all : List CountedSequence) → all ≡ map (with_counter n) (sequences_of all)
-    → holder counted_range a (at_level (λ _. 0) 0 all)
-    ≡ option_map (with_counter n) (holder range_of a (sequences_of all))
-counted_holder a n all counted =
-    ap (holder counted_range a) (all_at_level all ∙ counted)
-    ∙ holder-view (with_counter n) counted_range a (sequences_of all)
+-- ---- sequences with their numbers
 
--- such a sequence has that counter
-pub counter_of_found : (name n : ℕ) (o : Option (Bor CountedSequence)) (h : Option Sequence)
-    → option_map (λ (s : Bor CountedSequence). s.now) o ≡ option_map (with_counter n) h → name ≡ n
-    → MatchOption o (Unit {0}) (λ s. name ≡ s.now.counter)
-counter_of_found name n None h same is = tt
-counter_of_found name n (Some s) None same is = let wrong = same in absurd (cc)
-counter_of_found name n (Some s) (Some t) same is =
-    let one : s.now ≡ with_counter n t = cc in is ∙ sym (ap (λ x. x.counter) one)
+-- a sequence has this counter, and is at its number
+abbrev pub IsNumbered : ℕ → List Sequence → NumberedSequence → Type 0
+IsNumbered counter ss s = (s.counter ≡ counter) × (slice_get ss s.number ≡ Some s.sequence)
 
--- and is that sequence
-pub sequence_of_found : (n : ℕ) (o : Option (Bor CountedSequence)) (h : Option Sequence)
-    → option_map (λ (s : Bor CountedSequence). s.now) o ≡ option_map (with_counter n) h
-    → option_map (λ (s : Bor CountedSequence). s.now.sequence) o ≡ h
-sequence_of_found n None None same = refl
-sequence_of_found n None (Some t) same = absurd (cc)
-sequence_of_found n (Some s) None same = absurd (cc)
-sequence_of_found n (Some s) (Some t) same =
-    let one : s.now ≡ with_counter n t = cc in ap (λ x. Some x.sequence) one
+at_place : (before : List Sequence) (s : Sequence) (ss : List Sequence)
+    → slice_get (before ++ s ∷ ss) (length before) ≡ Some s
+at_place [] s ss = refl
+at_place (b ∷ before) s ss = at_place before s ss
 
--- the sequences are those that were counted
-pub sequences_of-counted : (n : ℕ) (ss : List Sequence) → sequences_of (map (with_counter n) ss) ≡ ss
-sequences_of-counted n [] = refl
-sequences_of-counted n (s ∷ ss) = ap (λ l. s ∷ l) (sequences_of-counted n ss)
+all_numbered : (counter n : ℕ) (before ss : List Sequence) → n ≡ length before
+    → AllByRecursion (IsNumbered counter (before ++ ss)) (numbered_from counter n ss)
+all_numbered counter n before [] h = tt
+all_numbered counter n before (s ∷ ss) h =
+    let more : n + 1 ≡ length (before ++ s ∷ []) = omega (arith, length-append before (s ∷ [])) in
+    let rest = numbered_from counter (n + 1) ss in
+    let P : List Sequence → Type 0 = λ all. AllByRecursion (IsNumbered counter all) rest in (
+      (refl, ap (slice_get (before ++ s ∷ ss)) h ∙ at_place before s ss),
+      subst P (append_assoc before (s ∷ []) ss) (all_numbered counter (n + 1) (before ++ s ∷ []) ss more),
+    )
+
+-- the one that holds an address, of those that one counter counts
+abbrev pub numbered_holder : ℕ → List NumberedSequence → Option NumberedSequence
+numbered_holder a all = holder range_of_numbered a (at_level (λ _. 0) 0 all)
+
+module _ (a n : ℕ) (all : List NumberedSequence) (numbered : all ≡ numbered_from n 0 (sequences_of all)) where
+  -- is the sequence that holds it
+  pub sequence_of_holder : option_map (λ (s : NumberedSequence). s.sequence) (numbered_holder a all)
+      ≡ holder range_of a (sequences_of all)
+  sequence_of_holder =
+      ap (λ l. option_map (λ (s : NumberedSequence). s.sequence) (holder range_of_numbered a l)) (all_at_level all)
+      ∙ sym (holder-view (λ (s : NumberedSequence). s.sequence) range_of a all)
+
+  -- and has that counter, and its number
+  pub holder_is_numbered : (s : NumberedSequence) → numbered_holder a all ≡ Some s → IsNumbered n (sequences_of all) s
+  holder_is_numbered s e =
+      holder_is range_of_numbered (IsNumbered n (sequences_of all)) a all s
+      (subst (AllByRecursion (IsNumbered n (sequences_of all))) (sym numbered)
+      (all_numbered n 0 [] (sequences_of all) refl))
+      (ap (holder range_of_numbered a) (sym (all_at_level all)) ∙ e)
+
+  -- the same behind a reference
+  pub counter_of_found : (name : ℕ) (o : Option (Bor NumberedSequence))
+      → option_map (λ (s : Bor NumberedSequence). s.now) o ≡ numbered_holder a all → name ≡ n
+      → MatchOption o (Unit {0}) (λ s. name ≡ s.now.counter)
+  counter_of_found name None same is = tt
+  counter_of_found name (Some s) same is = is ∙ sym (holder_is_numbered s.now (sym same)).0
+
+  row_of_numbered : (o : Option NumberedSequence) → numbered_holder a all ≡ o
+      → option_and_then (row_at_place (sequences_of all)) (option_and_then (place_of_row a) o)
+      ≡ option_and_then (λ (s : Sequence). row_of s.rows a) (option_map (λ (s : NumberedSequence). s.sequence) o)
+  row_of_numbered None e = refl
+  row_of_numbered (Some s) e =
+      last_place-row (sequences_of all) s.number s.sequence (rows_to a s.sequence.rows) (holder_is_numbered s e).1
+      (rows_to-within a s.sequence.rows)
+
+  -- the row at the place that is found
+  pub row_of_holder : option_and_then (row_at_place (sequences_of all))
+      (option_and_then (place_of_row a) (numbered_holder a all))
+      ≡ option_and_then (λ (s : Sequence). row_of s.rows a) (holder range_of a (sequences_of all))
+  row_of_holder =
+      row_of_numbered (numbered_holder a all) refl
+      ∙ ap (option_and_then (λ (s : Sequence). row_of s.rows a)) sequence_of_holder
+
+-- the sequences are those that were numbered
+pub sequences_of-numbered : (counter n : ℕ) (ss : List Sequence) → sequences_of (numbered_from counter n ss) ≡ ss
+sequences_of-numbered counter n [] = refl
+sequences_of-numbered counter n (s ∷ ss) = ap (λ l. s ∷ l) (sequences_of-numbered counter (n + 1) ss)
 
 -- as many of them
-pub length-sequences_of : (ss : List CountedSequence) → length (sequences_of ss) ≡ length ss
+pub length-sequences_of : (ss : List NumberedSequence) → length (sequences_of ss) ≡ length ss
 length-sequences_of [] = refl
 length-sequences_of (s ∷ ss) = ap suc (length-sequences_of ss)
+
+-- one more
+pub numbered-more : (counter : ℕ) (all more : List NumberedSequence) (s : Sequence) (ss : List Sequence)
+    → more ≡ all ++ record { number = length all; sequence = s; counter = counter } ∷ []
+    → more ++ numbered_from counter (length more) ss ≡ all ++ numbered_from counter (length all) (s ∷ ss)
+numbered-more counter all more s ss e =
+    let one : NumberedSequence = record { number = length all; sequence = s; counter = counter } in
+    let many : length more ≡ length all + 1 = ap length e ∙ length-append all (one ∷ []) in
+    ap (λ l. l ++ numbered_from counter (length more) ss) e
+    ∙ ap (λ m. (all ++ one ∷ []) ++ numbered_from counter m ss) many
+    ∙ append_assoc all (one ∷ []) (numbered_from counter (length all + 1) ss)
 
 -- ---- what is behind a reference
 
@@ -97,8 +149,7 @@ pub map-now : {A B : Type 0} (g : A → B) (o : Option (Bor A))
 map-now g None = refl
 map-now g (Some r) = refl
 
-pub then-sequence : {B : Type 0} (g : Sequence → Option B) (o : Option (Bor CountedSequence))
-    → option_and_then (λ (s : Bor CountedSequence). g s.now.sequence) o
-    ≡ option_and_then g (option_map (λ (s : Bor CountedSequence). s.now.sequence) o)
-then-sequence g None = refl
-then-sequence g (Some s) = refl
+pub then-now : {A B : Type 0} (g : A → Option B) (o : Option (Bor A))
+    → option_and_then (λ (r : Bor A). g r.now) o ≡ option_and_then g (option_map (λ (r : Bor A). r.now) o)
+then-now g None = refl
+then-now g (Some r) = refl

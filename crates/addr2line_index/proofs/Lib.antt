@@ -1,10 +1,8 @@
 pub use Rattle.addr2line_spec.proofs.CallChains
 pub use Rattle.addr2line_spec.proofs.EntryLevels
-pub use Rattle.addr2line_spec.proofs.LatestFromLeft
 pub use Rattle.addr2line_spec.proofs.RangeHolders
 pub mod UnitAnswers
 pub mod PartialLineRows
-pub mod ChoiceStepLemmas
 pub mod StableOrder
 pub mod NumberedRangeLemmas
 pub mod UnitViews
@@ -13,6 +11,6 @@ pub mod StretchesLeftLemmas
 pub mod SortedOrder
 pub mod SortedLast
 pub mod RangeLevelLemmas
-pub mod RankedRowLemmas
+pub mod RowIndexLemmas
 pub mod HolderViews
 pub mod BoundedRangeLemmas

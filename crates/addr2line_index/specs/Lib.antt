@@ -21,14 +21,13 @@ pub use Rattle.addr2line_spec.specs.UnitRanges
 pub use Rattle.addr2line_search.specs.ProbedLists
 pub use Rattle.addr2line_search.specs.Searches
 pub mod PartialLines
-pub mod ChoiceSteps
 pub mod RangeIndexLaws
 pub mod BorrowedLocations
 pub mod NumberedRanges
 pub mod Stretches
 pub mod UnitPlaces
 pub mod RangeLevels
-pub mod RankedRows
+pub mod RowIndexes
 pub mod LineIndexes
 pub mod NextStretches
 pub mod StretchesLeft

@@ -1,13 +1,13 @@
-//! The lines of a unit, and places looked up in them.
+//! The lines of a unit.
 
 ghost use Rattle.std.specs.Prelude.{◌≡◌, slice_get, option_map, map};
 ghost use Rattle.std.specs.String.{string_bytes};
-ghost use Rattle.addr2line_spec.specs.Choice.{holder, later_of};
-ghost use Rattle.addr2line_spec.specs.Lines.{range_of, row_location, place_in, no_lines};
-ghost use Rattle.addr2line_index.specs.ChoiceSteps.{latest_with_next};
+ghost use Rattle.addr2line_spec.specs.Lines.{row_location, no_lines};
 ghost use Rattle.addr2line_index.specs.BorrowedLocations.{location_value};
+ghost use Rattle.addr2line_index.specs.LineIndexes.{row_at_place};
 
 use crate::location::Location;
+use crate::row_place::RowPlace;
 use crate::sequence::{LineRow, LineSequence};
 use std::alloc::Global;
 use std::marker::Model;
@@ -70,36 +70,34 @@ impl Lines {
         row_location(self.files.as_slice(), row)
     }
 
-    // The texts of its files.
-    pub(crate) fn into_files(self) -> Vec<String>
-        ensures { map string_bytes result.items ≡ self.files }
+    // The row at a place, if there is one.
+    pub(crate) fn row_at(&self, place: RowPlace) -> Option<LineRow>
+        ensures { result ≡ row_at_place self.now.sequences place }
     {
-        let Lines {
-            sequences: _,
-            files,
-        } = self;
-        files
+        let sequence = sequence_at(self.sequences.as_slice(), place.sequence)?;
+        sequence.row_at(place.row)
     }
+}
 
-    /// The place of an address: that of its row in the sequence that holds it.
-    pub fn find_location(&self, probe: u64) -> Option<Location<'_>>
-        ensures { option_map location_value result ≡ place_in self.now probe }
-    {
-        let sequence = holder(self.sequences.as_slice(), probe)?;
-        let row = sequence.row(probe)?;
-        Some(self.row_location(row))
+// The sequence of a number, if there is one.
+fn sequence_at(sequences: &[LineSequence], number: usize) -> Option<&LineSequence>
+    ensures { option_map (λ s. s.now) result ≡ slice_get sequences.now number }
+{
+    match sequences.get(number) {
+        Some(sequence) => Some(sequence),
+        None => None,
     }
 }
 
 // The text of a file by its number.
-pub(crate) fn file_text(files: &[String], index: usize) -> Option<&str>
+fn file_text(files: &[String], index: usize) -> Option<&str>
     ensures { option_map (λ t. t.now) result ≡ slice_get (map string_bytes files.now) index }
 {
     files.get(index).map(|text| text.as_str())
 }
 
 // The place that a row stands for, by the texts of files.
-pub(crate) fn row_location<'a>(files: &'a [String], row: &LineRow) -> Location<'a>
+fn row_location<'a>(files: &'a [String], row: &LineRow) -> Location<'a>
     ensures { location_value result ≡ row_location (map string_bytes files.now) row.now }
 {
     let known = row.line != 0;
@@ -108,45 +106,4 @@ pub(crate) fn row_location<'a>(files: &'a [String], row: &LineRow) -> Location<'
         line: if known { Some(row.line) } else { None },
         column: if known { Some(row.column) } else { None },
     }
-}
-
-// Of two sequences the later one, the second where neither is.
-fn later_of<'a>(first: &'a LineSequence, second: &'a LineSequence) -> &'a LineSequence
-    ensures { result.now ≡ later_of range_of first.now (Some second.now) }
-{
-    if second.start < first.start || (first.start == second.start && second.end < first.end) {
-        first
-    } else {
-        second
-    }
-}
-
-// The latest sequence so far, and one more: the latest of both that starts at or below an address.
-fn latest_with_next<'a>(
-    latest: Option<&'a LineSequence>,
-    next: &'a LineSequence,
-    address: u64,
-) -> Option<&'a LineSequence>
-    ensures { option_map (λ s. s.now) result
-        ≡ latest_with_next range_of address (option_map (λ s. s.now) latest.entry) next.now }
-{
-    if next.start > address {
-        return latest;
-    }
-    match latest {
-        Some(before) => Some(later_of(before, next)),
-        None => Some(next),
-    }
-}
-
-// The sequence that holds an address: of those that start at or below it the latest, if it ends
-// above it.
-fn holder(sequences: &[LineSequence], address: u64) -> Option<&LineSequence>
-    ensures { option_map (λ s. s.now) result ≡ holder range_of address sequences.now }
-{
-    let mut latest: Option<&LineSequence> = None;
-    for sequence in sequences {
-        latest = latest_with_next(latest, sequence, address);
-    }
-    latest.filter(|sequence| address < sequence.end)
 }

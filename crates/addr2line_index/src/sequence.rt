@@ -1,7 +1,7 @@
 //! Rows of line number programs, and sequences of them.
 
-ghost use Rattle.std.specs.Prelude.{◌≡◌, ◌≤◌, length, option_map};
-ghost use Rattle.addr2line_spec.specs.Lines.{range_of, rows_to, row_of};
+ghost use Rattle.std.specs.Prelude.{◌≡◌, ◌≤◌, length, slice_get};
+ghost use Rattle.addr2line_spec.specs.Lines.{range_of, rows_to};
 
 use addr2line_spec::Range;
 use std::marker::Model;
@@ -78,11 +78,10 @@ impl LineSequence {
         self.rows.as_slice()
     }
 
-    /// The row of an address: the one before the first that is above it.
-    pub fn row(&self, address: u64) -> Option<&LineRow>
-        ensures { option_map (λ r. r.now) result ≡ row_of self.now.rows address }
+    // The row of a number, if there is one.
+    pub(crate) fn row_at(&self, number: usize) -> Option<LineRow>
+        ensures { result ≡ slice_get self.now.rows number }
     {
-        let rows = self.rows.as_slice();
-        rows[..rows_to(rows, address)].last()
+        self.rows.get(number).copied()
     }
 }

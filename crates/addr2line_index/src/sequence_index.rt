@@ -1,49 +1,77 @@
 //! A sequence whose rows are searched by one bisection.
 
-ghost use Rattle.std.specs.Prelude.{◌≡◌, ◌+◌, length, option_map, option_and_then, MatchOption, IfOk, IfErr};
+ghost use Rattle.std.specs.Prelude.{◌≡◌, length, option_map, option_and_then, MatchOption, IfOk, IfErr};
 ghost use Rattle.addr2line_spec.specs.Error.TheVariants.{Memory};
-ghost use Rattle.addr2line_spec.specs.Lines.{row_of};
-ghost use Rattle.addr2line_search.specs.Searches.{AtMostProbes};
-ghost use Rattle.addr2line_index.specs.LineIndexes.{with_counter, counted_range, row_probes};
+ghost use Rattle.addr2line_search.specs.Searches.{digit_count, AtMostProbes};
+ghost use Rattle.addr2line_index.specs.LineIndexes.{range_of_numbered, place_of_row, row_probes};
 
-use crate::line_rows::LineRows;
 use crate::range_index::Ranged;
-use crate::sequence::{LineRow, LineSequence};
+use crate::row_index::RowIndex;
+use crate::row_place::RowPlace;
+use crate::sequence::LineSequence;
 use addr2line_search::Probes;
 use addr2line_spec::{Error, Range};
 use std::alloc::Global;
 use std::marker::Model;
 
-/// A sequence of rows.
+/// A sequence by its number and its range, and its rows.
 #[derive(Drop)]
 pub struct SequenceIndex {
-    start: u64,
-    end: u64,
-    rows: LineRows,
+    number: usize,
+    range: Range,
+    rows: RowIndex,
 }
 
 impl Model for SequenceIndex {
-    ghost use Rattle.addr2line_index.specs.LineIndexes.{CountedSequence};
+    ghost use Rattle.addr2line_index.specs.LineIndexes.{NumberedSequence};
 
-    ghost Value = { CountedSequence };
+    ghost Value = { NumberedSequence };
 
     ghost view = { λ s. record {
-      sequence = record { start = s.start; end = s.end; rows = s.rows.entries };
+      number = s.number;
+      sequence = record { start = s.range.begin; end = s.range.end; rows = s.rows.entries };
       counter = s.rows.counter;
     } };
 }
 
 impl SequenceIndex {
-    /// A sequence, looks at whose rows this counter counts. The only refusal is out of memory.
-    pub fn new(alloc: Global, sequence: &LineSequence, probes: &Probes) -> Result<Self, Error>
-        ensures ok { IfOk result (λ s. s ≡ with_counter probes.now.name sequence.now) }
+    /// The sequence of a number. This counter counts looks at its rows' addresses. The only refusal
+    /// is out of memory.
+    pub(crate) fn new(
+        alloc: Global,
+        number: usize,
+        sequence: &LineSequence,
+        probes: &Probes,
+    ) -> Result<Self, Error>
+        ensures ok { IfOk result (λ s. s ≡ record {
+          number = number;
+          sequence = sequence.now;
+          counter = probes.now.name;
+        }) }
         ensures refusal { IfErr result (λ e. e ≡ Memory) }
     {
-        let rows = LineRows::new(alloc, sequence.rows(), probes)?;
+        let rows = RowIndex::new(alloc, sequence, probes)?;
         Ok(SequenceIndex {
-            start: sequence.start,
-            end: sequence.end,
+            number,
+            range: sequence.range(),
             rows,
+        })
+    }
+
+    // The place of the row of an address: that before the first which is above it.
+    fn place_of_row(&self, address: u64, probes: &mut Probes) -> Option<RowPlace>
+        requires counter { probes.old.name ≡ self.now.counter }
+        ensures place { result ≡ place_of_row address self.now }
+        ensures cost { AtMostProbes (digit_count (length self.now.sequence.rows))
+            probes.old probes.new }
+    {
+        let count = self.rows.count_to(address, probes);
+        if count == 0 {
+            return None;
+        }
+        Some(RowPlace {
+            sequence: self.number,
+            row: count - 1,
         })
     }
 }
@@ -51,34 +79,30 @@ impl SequenceIndex {
 impl Ranged for SequenceIndex {
     ghost level = { λ _. 0 };
 
-    ghost range = { counted_range };
+    ghost range = { range_of_numbered };
 
     fn level(&self) -> usize {
         0
     }
 
     fn range(&self) -> Range {
-        Range {
-            begin: self.start,
-            end: self.end,
-        }
+        self.range
     }
 }
 
-// The row of an address in a sequence, if there is one.
-pub(crate) fn row_in<'a>(
-    sequence: Option<&'a SequenceIndex>,
+// The place of the row of an address in a sequence, if there is one.
+pub(crate) fn place_in_sequence(
+    sequence: Option<&SequenceIndex>,
     address: u64,
     probes: &mut Probes,
-) -> Option<&'a LineRow>
+) -> Option<RowPlace>
     requires { MatchOption sequence (Unit {0}) (λ s. probes.old.name ≡ s.now.counter) }
-    ensures row { option_map (λ r. r.now) result
-        ≡ option_and_then (λ s. row_of s.now.sequence.rows address) sequence.entry }
+    ensures place { result ≡ option_and_then (λ s. place_of_row address s.now) sequence.entry }
     ensures cost { AtMostProbes (row_probes (option_map (λ s. s.now.sequence) sequence.entry))
         probes.old probes.new }
 {
     match sequence {
-        Some(found) => found.rows.find(address, probes),
+        Some(found) => found.place_of_row(address, probes),
         None => None,
     }
 }

@@ -1,9 +1,19 @@
 -- What is kept of a unit is what the definitions say.
-use Rattle.std.proofs.Common.{◌≡◌, Option, Some, None, is_some, Result, refl, sym, ap, ◌∙◌}
+use Rattle.std.proofs.Common.{◌≡◌, ◌≢◌, ℕ, ◌+◌, List, true, false, Option, Some, None, is_some, option_map, Result, Ok, Err, refl, sym, ap, subst, ◌∙◌}
+use Rattle.std.specs.Prelude.{OnOk, OnErr}
 use Rattle.addr2line_functions.specs.Error.{Error}
+use Rattle.addr2line_functions.specs.Error.TheVariants.{Memory}
 use Rattle.addr2line_functions.specs.UnitFacts.{UnitInFile}
+use Rattle.addr2line_functions.specs.Range.{Range}
+use Rattle.addr2line_functions.specs.Lines.{Lines}
+use Rattle.addr2line_functions.specs.UnitLines.{lines_of_unit}
+use Rattle.addr2line_functions.specs.UnitRanges.{ranges_of_lines}
+use Rattle.addr2line_units.specs.LineIndexes.{CountedLines, counted_lines}
+use Rattle.addr2line_units.specs.RootRanges.{RunsForRanges}
 use Rattle.addr2line_functions.specs.FirstAnswers.{SplitLoad, FirstAnswer, load_of}
-use Rattle.addr2line_resolved.specs.ResolvedUnits.{ResolvedUnit, main_unit, decided, first_answer, unit_of_functions, IsKeptOf, if_kept}
+use Rattle.addr2line_resolved.specs.KeptFunctions.{KeptFunctions, nothing_kept}
+use Rattle.addr2line_resolved.specs.ResolvedUnits.{ResolvedUnit, main_unit, decided, first_answer, unit_of_functions, IsKeptOf, if_kept, runs_if_kept, undecided, KeepsFunctions, KeepsParses}
+use Rattle.addr2line_resolved.proofs.FunctionParses.{keeps_nothing, keeps_answer}
 
 -- what is kept is there, or isn't
 pub kept_is : {A : Type 0} (x : A) (k : Option A) → IsKeptOf x k → k ≡ if_kept (is_some k) x
@@ -18,3 +28,126 @@ pub unit_by_load : (v : ResolvedUnit) (u : UnitInFile) (load : Result (Option Sp
     → unit_of_functions (main_unit v.value) (first_answer v.value) ≡ unit_of_functions u d
 unit_by_load v u load first d view is h =
     sym view ∙ ap (λ l. unit_of_functions u (decided l first)) (sym is) ∙ ap (unit_of_functions u) h
+
+-- another count of the same counter
+pub keeps_counter : (u : UnitInFile) (load : Result (Option SplitLoad) Error) (first : Option FirstAnswer)
+    (lines : Option (Result CountedLines Error)) (runs : ℕ) (k : KeptFunctions) (old new : ℕ) → new ≡ old
+    → KeepsParses u load first lines runs k old → KeepsParses u load first lines runs k new
+keeps_counter u load first lines runs k old new is keeps =
+    let P : ℕ → Type 0 = λ n. KeepsParses u load first lines runs k n in subst P (sym is) keeps
+
+-- other functions
+pub keeps_functions : (u : UnitInFile) (load : Result (Option SplitLoad) Error) (first : Option FirstAnswer)
+    (lines : Option (Result CountedLines Error)) (runs : ℕ) (old new : KeptFunctions) (counter : ℕ)
+    → KeepsParses u load first lines runs old counter → KeepsFunctions u load first new counter
+    → KeepsParses u load first lines runs new counter
+keeps_functions u load first lines runs old new counter keeps functions = record {
+  load_is = keeps.load_is;
+  lines_are = keeps.lines_are;
+  runs_are = keeps.runs_are;
+  functions_are = functions;
+}
+
+-- an answer to the load
+pub keeps_first : (u : UnitInFile) (load : Result (Option SplitLoad) Error) (old new : Option FirstAnswer)
+    (lines : Option (Result CountedLines Error)) (runs : ℕ) (k : KeptFunctions) (counter : ℕ) (later : FirstAnswer)
+    → new ≡ Some later → is_some (undecided load old) ≡ true → KeepsParses u load old lines runs k counter
+    → KeepsParses u load new lines runs k counter
+keeps_first u load old new lines runs k counter later is waits keeps =
+    let P : Option FirstAnswer → Type 0 = λ x. KeepsParses u load x lines runs k counter in
+    subst P (sym is) (record {
+      load_is = keeps.load_is;
+      lines_are = keeps.lines_are;
+      runs_are = keeps.runs_are;
+      functions_are = keeps_answer u load old later k counter waits keeps.functions_are;
+    })
+
+-- the load is pending where it is shown
+pub is_pending : {A B : Type 0} (see : A → B) (o : Option A) (p q : Option B) → option_map see o ≡ p → p ≡ q
+    → is_some o ≡ true → is_some q ≡ true
+is_pending see None p q h k there = absurd cc
+is_pending see (Some x) p q h k there = sym (ap is_some (h ∙ k))
+
+-- ---- a unit that was made just now
+
+-- a result that is a load
+abbrev made : Result (Option SplitLoad) Error → Result (Result (Option SplitLoad) Error) Error
+made load = Ok load
+
+pub load_made : (load meaning : Result (Option SplitLoad) Error) → made meaning ≡ made load → load ≡ meaning
+load_made load meaning h = cc
+
+-- lines with a counter, if there are some
+abbrev pub with_counter_if_any : ℕ → Option (Result Lines Error) → Option (Result CountedLines Error)
+with_counter_if_any counter read = option_map (counted_lines counter) read
+
+is_any : (counter : ℕ) (read : Option (Result Lines Error)) → is_some (with_counter_if_any counter read) ≡ is_some read
+is_any counter None = refl
+is_any counter (Some l) = refl
+
+module _ (u : UnitInFile) (ranges : List Range) (runs : ℕ) where
+  keeps_root : (load : Result (Option SplitLoad) Error) (read : Option (Result Lines Error)) (k : KeptFunctions)
+      (counter : ℕ) → RunsForRanges u ranges read 0 runs → load ≡ load_of u → k ≡ nothing_kept
+      → KeepsParses u load None (with_counter_if_any counter read) runs k counter
+  keeps_root load None k counter run is none = record {
+    load_is = is;
+    lines_are = tt;
+    runs_are = run;
+    functions_are = keeps_nothing u load None k counter none;
+  }
+  keeps_root load (Some l) k counter run is none = record {
+    load_is = is;
+    lines_are = ap (counted_lines counter) run.0;
+    runs_are = run.2;
+    functions_are = keeps_nothing u load None k counter none;
+  }
+
+  pub keeps_new : (load : Result (Option SplitLoad) Error) (read : Option (Result Lines Error))
+      (lines : Option (Result CountedLines Error)) (k : KeptFunctions) (counter : ℕ)
+      → lines ≡ with_counter_if_any counter read → RunsForRanges u ranges read 0 runs → load ≡ load_of u
+      → k ≡ nothing_kept → KeepsParses u load None lines runs k counter
+  keeps_new load read lines k counter same run is none =
+      let P : Option (Result CountedLines Error) → Type 0 = λ l. KeepsParses u load None l runs k counter in
+      subst P (sym same) (keeps_root load read k counter run is none)
+
+  ranges_run : (read : Option (Result Lines Error)) → RunsForRanges u ranges read 0 runs → is_some read ≡ true
+      → ranges ≡ ranges_of_lines (lines_of_unit u)
+  ranges_run None run kept = absurd cc
+  ranges_run (Some l) run kept = run.1 ∙ ap ranges_of_lines run.0
+
+  -- its ranges are those of its lines where these are kept
+  pub ranges_new : (read : Option (Result Lines Error)) (lines : Option (Result CountedLines Error)) (counter : ℕ)
+      → lines ≡ with_counter_if_any counter read → RunsForRanges u ranges read 0 runs
+      → is_some lines ≡ true → ranges ≡ ranges_of_lines (lines_of_unit u)
+  ranges_new read lines counter same run kept =
+      ranges_run read run (sym (is_any counter read) ∙ sym (ap is_some same) ∙ kept)
+
+-- ---- lines that were run for just now
+
+-- an answer that isn't out of memory is kept
+kept_answer : {A : Type 0} (result : Result (Unit {0}) Error) (read : Result A Error) (new : Option (Result A Error))
+    → OnOk result (new ≡ Some read) → OnErr result (read ≡ Err Memory) → read ≢ Err Memory → new ≡ Some read
+kept_answer (Ok x) read new ok err not = ok
+kept_answer (Err e) read new ok err not = absurd (not err)
+
+abbrev pub ok_lines : Result CountedLines Error → Result (Result CountedLines Error) Error
+ok_lines r = Ok r
+
+-- what is kept after a run
+pub keeps_run : (u : UnitInFile) (load : Result (Option SplitLoad) Error) (first : Option FirstAnswer)
+    (old new : Option (Result CountedLines Error)) (runs later : ℕ) (k : KeptFunctions) (counter : ℕ)
+    (result : Result (Unit {0}) Error) (read : Result CountedLines Error)
+    → KeepsParses u load first old runs k counter → is_some old ≡ false
+    → ok_lines (counted_lines counter (lines_of_unit u)) ≡ ok_lines read → later ≡ runs + 1
+    → OnOk result (new ≡ Some read) → OnErr result (read ≡ Err Memory) → read ≢ Err Memory
+    → KeepsParses u load first new later k counter
+keeps_run u load first old new runs later k counter result read before nothing found counted ok err not =
+    let lines : read ≡ counted_lines counter (lines_of_unit u) = cc in
+    let kept : new ≡ Some read = kept_answer result read new ok err not in
+    let none : runs ≡ 0 = before.runs_are ∙ ap runs_if_kept nothing in
+    record {
+      load_is = before.load_is;
+      lines_are = subst (IsKeptOf (counted_lines counter (lines_of_unit u))) (sym kept) lines;
+      runs_are = counted ∙ ap (λ n. n + 1) none ∙ sym (ap (λ o. runs_if_kept (is_some o)) kept);
+      functions_are = before.functions_are;
+    }

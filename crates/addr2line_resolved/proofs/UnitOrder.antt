@@ -1,5 +1,5 @@
 -- The ranges of a context's units.
-use Rattle.std.proofs.Common.{◌≡◌, ℕ, ◌+◌, ◌<◌, ◌≤◌, List, [], ◌∷◌, ◌++◌, length, get_or, take, map, sym, ap, ◌∙◌, add-one}
+use Rattle.std.proofs.Common.{◌≡◌, ℕ, ◌+◌, ◌<◌, ◌≤◌, List, [], ◌∷◌, ◌++◌, length, get_or, take, map, sym, ap, ◌∙◌, add-one, arith}
 use Rattle.std.proofs.lemmas.List.{map-append, length-map, length-take-le, take_all}
 use Rattle.std.proofs.lemmas.Simd.{map-map}
 use Rattle.std.proofs.Math.Seq.{take-suc}
@@ -23,6 +23,9 @@ ranges_to-more n us u below here =
     ∙ ap (map resolved_ranges) (take-suc us n u below)
     ∙ map-append resolved_ranges (take n us) (get_or us n u ∷ [])
     ∙ ap (λ x. ranges_to n us ++ x.value.unit.ranges ∷ []) (sym here)
+
+pub at_most : (n m : ℕ) → n < m → n ≤ m
+at_most n m below = omega arith
 
 pub ranges_to-length : (n : ℕ) (us : List ResolvedUnit) → n ≤ length us → length (ranges_to n us) ≡ n
 ranges_to-length n us within = length-map (take n us) resolved_ranges ∙ length-take-le n us within

@@ -1,8 +1,10 @@
 pub use Rattle.addr2line_functions.specs.EntryNamings
 pub use Rattle.addr2line_functions.specs.EntryReferences
 pub use Rattle.addr2line_functions.specs.FunctionNames
+pub use Rattle.addr2line_functions.specs.CallNumbers
+pub use Rattle.addr2line_functions.specs.ContextNames
+pub use Rattle.addr2line_functions.specs.CountedFunctions
 pub use Rattle.addr2line_functions.specs.BorrowedLocations
-pub use Rattle.addr2line_functions.specs.ChoiceSteps
 pub use Rattle.addr2line_functions.specs.NumberedRanges
 pub use Rattle.addr2line_functions.specs.RangeIndexLaws
 pub use Rattle.addr2line_functions.specs.Stretches
@@ -52,5 +54,9 @@ pub use Rattle.addr2line_units.specs.ArangeIndexes
 pub use Rattle.addr2line_units.specs.CachedFiles
 pub use Rattle.addr2line_units.specs.CountedRuns
 pub use Rattle.addr2line_units.specs.RootRanges
+pub use Rattle.addr2line_units.specs.LineIndexes
+pub use Rattle.addr2line_units.specs.ProbedLists
+pub use Rattle.addr2line_units.specs.Searches
 pub mod ContextUnits
+pub mod KeptFunctions
 pub mod ResolvedUnits

@@ -1,19 +1,26 @@
 -- The units of a context with the first answers to their loads, and what of them is kept.
-use Rattle.std.specs.Prelude.{◌≡◌, ℕ, Bool, true, List, Option, Some, None, is_some, Result, Ok, Err, if◌then◌else◌}
-use Rattle.std.specs.List.{filter_map}
+use Rattle.std.specs.Prelude.{◌≡◌, ℕ, Bool, true, false, List, [], length, set, slice_get, Option, Some, None, is_some, option_map, Result, Ok, Err, if◌then◌else◌}
+use Rattle.std.specs.List.{filter_map, AllByRecursion}
 use Rattle.addr2line_functions.specs.Error.{Error}
-use Rattle.addr2line_functions.specs.Error.TheVariants.{Memory}
+use Rattle.addr2line_functions.specs.Error.TheVariants.{Memory, NoSuchUnit}
 use Rattle.addr2line_functions.specs.UnitPlaces.{UnitPlaces}
 use Rattle.addr2line_functions.specs.Repetition.{fault_of}
-use Rattle.addr2line_functions.specs.Results.{and_then, unless, each, ◌>>=◌}
+use Rattle.addr2line_functions.specs.Results.{unless, each, ◌>>=◌}
 use Rattle.addr2line_functions.specs.DwarfFiles.{DwarfFile}
 use Rattle.addr2line_functions.specs.UnitFacts.{UnitInFile, in_file}
-use Rattle.addr2line_functions.specs.Lines.{Lines, Location}
+use Rattle.addr2line_functions.specs.Lines.{Lines, LineRow, Location, row_at, row_location}
 use Rattle.addr2line_functions.specs.UnitLines.{lines_of_unit}
 use Rattle.addr2line_functions.specs.UnitRanges.{ranges_of_lines}
+use Rattle.addr2line_functions.specs.Functions.{Function, functions_of_unit}
+use Rattle.addr2line_functions.specs.InlinedCalls.{FunctionCalls, Naming, calls_of_function}
 use Rattle.addr2line_functions.specs.FirstAnswers.{SplitLoad, FirstAnswer, load_of}
 use Rattle.addr2line_functions.specs.Contexts.{ContextUnit, context_unit, facts_of_code_unit, headers_of}
 use Rattle.addr2line_functions.specs.Lookups.{split_or_itself}
+use Rattle.addr2line_functions.specs.EntryReferences.{HoldingUnit}
+use Rattle.addr2line_functions.specs.ContextNames.{holding_unit}
+use Rattle.addr2line_units.specs.LineIndexes.{CountedLines, counted_lines, place_probes}
+use Rattle.addr2line_units.specs.ProbedLists.{ProbeCount}
+use Rattle.addr2line_resolved.specs.KeptFunctions.{KeptFunctions, AreCountedBy, plain_functions, function_count, count_of_functions, calls_of_none, kept_at}
 
 -- ---- values
 
@@ -23,10 +30,15 @@ pub record AnsweredUnit : Type 0 where
   pub unit : ContextUnit
   pub first : Option FirstAnswer
 
--- the same, and whether its lines were read and are kept
+-- The same, and what was read of it and is kept: whether its lines and its functions are, and the
+-- calls of each function or their refusal, by the functions' numbers, each if it is kept; with the
+-- counter of looks at what is kept.
 pub record ResolvedUnit : Type 0 where
   pub value : AnsweredUnit
   pub keeps_lines : Bool
+  pub keeps_functions : Bool
+  pub calls : List (Option (Result FunctionCalls Error))
+  pub probes : ProbeCount
 
 -- without what is kept
 abbrev pub value_of_unit : ResolvedUnit → AnsweredUnit
@@ -69,11 +81,35 @@ decided (Ok (Some load)) first = answer_or_none first
 abbrev pub first_answer : AnsweredUnit → FirstAnswer
 first_answer v = decided (load_of (main_unit v)) v.first
 
--- the unit that has the functions, under a first answer
-abbrev pub unit_of_functions : UnitInFile → FirstAnswer → Result UnitInFile Error
+-- the unit that has the functions, under a first answer, and the file that it is in
+abbrev pub unit_of_functions : UnitInFile → FirstAnswer → Result HoldingUnit Error
 unit_of_functions u first = do
   split ← first
-  Ok (split_or_itself u split).unit
+  Ok (holding_unit (split_or_itself u split))
+
+-- ---- functions
+
+-- the functions of a unit, under a first answer
+abbrev pub functions_under : UnitInFile → FirstAnswer → Result (List Function) Error
+functions_under u first = do
+  holder ← unit_of_functions u first
+  functions_of_unit holder.unit
+
+-- those of a unit under what decides it
+abbrev pub functions_of : AnsweredUnit → Result (List Function) Error
+functions_of v = functions_under (main_unit v) (first_answer v)
+
+-- the calls of the function of a number
+abbrev pub calls_of : UnitInFile → Naming → Option Function → Result FunctionCalls Error
+calls_of u naming None = Err NoSuchUnit
+calls_of u naming (Some f) = calls_of_function u naming f.offset
+
+-- those of a unit under what decides it
+abbrev pub calls_of_number : AnsweredUnit → Naming → ℕ → Result FunctionCalls Error
+calls_of_number v naming n = do
+  holder ← unit_of_functions (main_unit v) (first_answer v)
+  fs ← functions_of_unit holder.unit
+  calls_of holder.unit naming (slice_get fs n)
 
 -- ---- what is kept
 
@@ -90,18 +126,60 @@ if_kept is_kept x = if is_kept then Some x else None
 abbrev pub runs_if_kept : Bool → ℕ
 runs_if_kept is_kept = if is_kept then 1 else 0
 
--- what is kept of a unit is its load, and its lines, which were run for once
+-- functions are kept of a decided unit alone
+abbrev pub AreFunctionsOf : UnitInFile → Result (Option SplitLoad) Error → Option FirstAnswer
+    → Option (Result (List Function) Error) → Type 0
+AreFunctionsOf u (Ok (Some load)) None functions = functions ≡ None
+AreFunctionsOf u (Ok (Some load)) (Some first) functions =
+    IsKeptOf (functions_under u first) functions
+AreFunctionsOf u (Ok None) first functions = IsKeptOf (functions_under u (Ok None)) functions
+AreFunctionsOf u (Err e) first functions = IsKeptOf (functions_under u (Err e)) functions
+
+-- What is kept of a unit's functions are the functions under the first answer, with a place for the
+-- calls of each, all with one counter.
+pub record KeepsFunctions (u : UnitInFile) (load : Result (Option SplitLoad) Error)
+    (first : Option FirstAnswer) (k : KeptFunctions) (counter : ℕ) : Type 0 where
+  pub functions_are : AreFunctionsOf u load first (option_map plain_functions k.functions)
+  pub count_is : length k.calls ≡ function_count k.functions
+  pub are_counted : AreCountedBy counter k
+
+-- What is kept of a unit is its load, its lines with this counter, which were run for once, and its
+-- functions with the same counter.
 pub record KeepsParses (u : UnitInFile) (load : Result (Option SplitLoad) Error)
-    (lines : Option (Result Lines Error)) (runs : ℕ) : Type 0 where
+    (first : Option FirstAnswer) (lines : Option (Result CountedLines Error)) (runs : ℕ)
+    (functions : KeptFunctions) (counter : ℕ) : Type 0 where
   pub load_is : load ≡ load_of u
-  pub lines_are : IsKeptOf (lines_of_unit u) lines
+  pub lines_are : IsKeptOf (counted_lines counter (lines_of_unit u)) lines
   pub runs_are : runs ≡ runs_if_kept (is_some lines)
+  pub functions_are : KeepsFunctions u load first functions counter
 
 -- ---- places
 
--- whether there is a place, or the refusal of it
-abbrev pub has_place : Result (Option Location) Error → Result Bool Error
-has_place r = and_then r (λ place. Ok (is_some place))
+-- the row of an address in lines, or the refusal of them
+abbrev pub row_or_refusal : ℕ → Result Lines Error → Result (Option LineRow) Error
+row_or_refusal a (Ok l) = Ok (row_at l a)
+row_or_refusal a (Err e) = Err e
+
+-- how many looks at sequences and rows that takes
+abbrev pub lines_probes : ℕ → Result Lines Error → ℕ
+lines_probes a (Ok l) = place_probes l a
+lines_probes a (Err e) = 0
+
+-- the same for lines as they are kept; no row where they aren't
+abbrev pub row_in_kept : ℕ → Option (Result CountedLines Error) → Result (Option LineRow) Error
+row_in_kept a None = Ok None
+row_in_kept a (Some (Ok l)) = Ok (row_at l.lines a)
+row_in_kept a (Some (Err e)) = Err e
+
+abbrev pub kept_probes : ℕ → Option (Result CountedLines Error) → ℕ
+kept_probes a None = 0
+kept_probes a (Some (Ok l)) = place_probes l.lines a
+kept_probes a (Some (Err e)) = 0
+
+-- the place that a row of lines stands for, unless they are refused
+abbrev pub location_of_row : LineRow → Result Lines Error → Option Location
+location_of_row r (Ok l) = Some (row_location l.files r)
+location_of_row r (Err e) = None
 
 -- lines that are kept, and else out of memory
 abbrev pub lines_if_kept : Bool → Result Lines Error → Result Lines Error
@@ -117,6 +195,38 @@ kept_places u = record {
 -- the lines were read and are kept, be it a refusal
 abbrev pub KeepsLines : ResolvedUnit → Type 0
 KeepsLines u = u.keeps_lines ≡ true
+
+-- ---- functions that are kept
+
+-- a unit with its functions, the calls of none of which were read, unless they are kept already
+abbrev pub with_functions : ResolvedUnit → ResolvedUnit
+with_functions u =
+    if u.keeps_functions then u
+    else record u {
+      keeps_functions = true;
+      calls = calls_of_none (count_of_functions (functions_of u.value));
+    }
+
+-- with the calls of the function of a number
+abbrev pub with_calls : ResolvedUnit → ℕ → Result FunctionCalls Error → ResolvedUnit
+with_calls u n r = record u { calls = set u.calls n (Some r) }
+
+-- with looks at what is kept
+abbrev pub with_probes : ResolvedUnit → ProbeCount → ResolvedUnit
+with_probes u p = record u { probes = p }
+
+-- a unit of which no functions are kept
+abbrev pub KeepsNoFunctions : ResolvedUnit → Type 0
+KeepsNoFunctions u = (u.keeps_functions ≡ false) × (u.calls ≡ [])
+
+-- the calls that are kept of a unit's functions, under what decides it, with names found so
+abbrev pub KeepsCallsOf : Naming → ResolvedUnit → Type 0
+KeepsCallsOf naming u =
+    (n : ℕ) → IsKeptOf (calls_of_number u.value naming n) (kept_at u.calls n)
+
+-- units of each of which none are
+abbrev pub KeepNoFunctions : List ResolvedUnit → Type 0
+KeepNoFunctions us = AllByRecursion KeepsNoFunctions us
 
 -- ---- answers
 

@@ -1,12 +1,12 @@
 //! The units of a context, by their headers.
 
-ghost use Rattle.std.specs.Prelude.{◌≡◌, Ok, option_map};
+ghost use Rattle.std.specs.Prelude.{◌≡◌, Ok, IfSome, IfOk, option_map};
 ghost use Rattle.addr2line_functions.specs.Calls.{ReturnsAsOrNoMemory, ReturnsOrNoMemory};
 ghost use Rattle.addr2line_functions.specs.UnitFacts.{in_file, unit_facts};
 ghost use Rattle.addr2line_functions.specs.Contexts.{is_of_types, readable_facts, facts_of_code_unit};
 ghost use Rattle.addr2line_functions.specs.OptionalValues.{if_any};
 ghost use Rattle.addr2line_units.specs.ArangeIndexes.{IsIndexOf};
-ghost use Rattle.addr2line_resolved.specs.ResolvedUnits.{value_of_unit, new_unit};
+ghost use Rattle.addr2line_resolved.specs.ResolvedUnits.{value_of_unit, new_unit, KeepsNoFunctions};
 
 use crate::load::share;
 use crate::owned_unit::OwnedUnit;
@@ -53,9 +53,10 @@ pub(crate) fn context_unit<R: Reader>(
     header: UnitHeader<R>,
 ) -> Result<Option<ResUnit<R>>, Error>
     requires { IsIndexOf sections.now.value.file aranges.now }
-    ensures { ReturnsAsOrNoMemory (option_map value_of_unit) result
+    ensures unit { ReturnsAsOrNoMemory (option_map value_of_unit) result
         (if_any (λ u. new_unit (in_file sections.now.value.file u))
         (facts_of_code_unit sections.now.value.file header)) }
+    ensures functions { IfOk result (λ unit. IfSome unit KeepsNoFunctions) }
 {
     match code_unit(alloc, sections.as_ref(), header)? {
         Some(unit) => Ok(Some(owned_unit(alloc, sections, aranges, unit)?)),
@@ -71,8 +72,9 @@ fn owned_unit<R: Reader>(
     unit: Unit<R>,
 ) -> Result<ResUnit<R>, Error>
     requires { IsIndexOf sections.now.value.file aranges.now }
-    ensures { ReturnsAsOrNoMemory value_of_unit result
+    ensures unit { ReturnsAsOrNoMemory value_of_unit result
         (new_unit (in_file sections.now.value.file unit)) }
+    ensures functions { IfOk result KeepsNoFunctions }
 {
     let sections = share(sections)?;
     ResUnit::read(alloc, OwnedUnit::new(sections, unit), aranges)

@@ -6,15 +6,17 @@ pub mod first_answer;
 mod headers;
 pub mod kept;
 pub mod load;
+mod load_copy;
 pub mod order;
 pub mod owned_unit;
 pub mod supplement;
 pub mod unit;
+mod unit_functions;
 pub mod units;
 
 pub use addr2line_functions::{
     AbbreviationsCache, AbbreviationsCacheStrategy, ArangeIndex, Attribute, AttributeValue, Call,
-    Chain, DW_LANG_Rust, DebugAbbrev, DebugAbbrevOffset, DebugAddr, DebugAddrIndex, DebugAranges,
+    DW_LANG_Rust, DebugAbbrev, DebugAbbrevOffset, DebugAddr, DebugAddrIndex, DebugAranges,
     DebugFile, DebugInfo, DebugLine, DebugLineStr, DebugLineStrOffset, DebugRanges, DebugRngLists,
     DebugRngListsIndex, DebugStr, DebugStrOffset, DebugStrOffsets, DebugStrOffsetsIndex, DwLang,
     Dwarf, DwarfFileType, DwoId, EndianBytes, EndianSlice, Error, Format, Frame, FrameIter,
@@ -26,6 +28,7 @@ pub use addr2line_functions::{
     file_text, file_text_of_bytes, frames_of_unit, functions_of_unit, is_partial, is_rooted, join,
     language_of, ranges_of_attributes, ranges_of_entry,
 };
+pub use addr2line_units::LineRow;
 pub use first_answer::answer_of;
 pub use kept::Kept;
 pub use load::{SplitDwarfLoad, load_of};

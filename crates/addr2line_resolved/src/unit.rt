@@ -1,27 +1,34 @@
 //! A unit of a context, and what was read of it.
 
-ghost use Rattle.std.specs.Prelude.{◌≡◌, true, Some, Ok, IfOk, OnOk, IfErr, option_map};
+ghost use Rattle.std.specs.Prelude.{◌≡◌, ◌≢◌, ◌<◌, true, length, Some, None, Ok, Err, IfSome, IfOk, OnOk, OnErr, IfErr, option_map, option_and_then, is_some};
 ghost use Rattle.addr2line_functions.specs.Calls.{Returns, ReturnsAs, ReturnsAsOrNoMemory, ReturnsOrNoMemory};
 ghost use Rattle.addr2line_functions.specs.Error.TheVariants.{Memory};
 ghost use Rattle.addr2line_functions.specs.Results.{and_then};
-ghost use Rattle.addr2line_functions.specs.PlaceLookups.{place_or_refusal};
 ghost use Rattle.addr2line_functions.specs.FirstAnswers.{load_of};
 ghost use Rattle.addr2line_functions.specs.BorrowedLocations.{location_value};
 ghost use Rattle.addr2line_units.specs.ArangeIndexes.{IsIndexOf};
+ghost use Rattle.addr2line_units.specs.LineIndexes.{counted_lines};
 ghost use Rattle.addr2line_units.specs.RootRanges.{RunsForRanges, unit_with};
-ghost use Rattle.addr2line_resolved.specs.ResolvedUnits.{main_unit, pending_load, decided, first_answer, answer_or_none, unit_of_functions, if_kept, runs_if_kept, has_place, with_unit_answer, without_answer, new_unit, RunsForRangesAlone};
+ghost use Rattle.addr2line_units.specs.Searches.{AtMostProbes};
+ghost use Rattle.addr2line_resolved.specs.KeptFunctions.{kept_at, plain_functions, plain_calls, count_of_functions, number_in, number_probes, function_at_number, FindsChain, kept_chain_probes, frames_by_numbers};
+ghost use Rattle.addr2line_resolved.specs.ResolvedUnits.{main_unit, pending_load, decided, first_answer, answer_or_none, unit_of_functions, functions_of, calls_of_number, if_kept, runs_if_kept, row_or_refusal, row_in_kept, lines_probes, kept_probes, location_of_row, with_functions, with_calls, with_probes, with_unit_answer, without_answer, new_unit, KeepsNoFunctions, RunsForRangesAlone};
 
 use crate::kept::Kept;
 use crate::load::{SplitDwarfLoad, load_of};
 use crate::owned_unit::OwnedUnit;
+use crate::unit_functions::UnitFunctions;
 use addr2line_functions::{
-    ArangeIndex, DwLang, Error, HasLines, Lines, Location, Range, Reader, Runs, UnitLines, UnitRoot,
+    ArangeIndex, DebugFile, DwLang, Error, FrameIter, FunctionCalls, Functions, HasLines, HasUnit,
+    HoldingUnit, LineIndex, Lines, Location, Names, Probes, Range, Reader, Runs, Unit, UnitLines,
+    UnitRoot, calls_of_function, functions_of_unit,
 };
+use addr2line_units::LineRow;
 use std::alloc::Global;
 use std::marker::Model;
 
 /// A unit of a context: the ranges that it covers, its language, the load of its split part and the
-/// first answer to it. Its lines are read when they are asked for, and kept, a refusal too.
+/// first answer to it. Its lines, its functions and their calls are read when they are asked for,
+/// and kept, refusals too.
 #[derive(Drop)]
 pub struct ResUnit<R: Reader> {
     main: OwnedUnit<R>,
@@ -29,14 +36,19 @@ pub struct ResUnit<R: Reader> {
     language: Option<DwLang>,
     load: Result<Option<SplitDwarfLoad<R>>, Error>,
     first: Option<Result<Option<OwnedUnit<R>>, Error>>,
-    lines: Kept<UnitLines>,
+    lines: Kept<LineIndex>,
     /// How often the unit's line number program was run.
     runs: Runs,
+    /// Of the unit that has them under the first answer.
+    functions: UnitFunctions<R>,
+    /// Looks at what is kept.
+    probes: Probes,
 }
 
 impl<R: Reader> Model for ResUnit<R> {
-    ghost use Rattle.std.specs.Prelude.{option_map, is_some};
+    ghost use Rattle.std.specs.Prelude.{map, option_map, is_some};
     ghost use Rattle.addr2line_functions.specs.UnitLines.{lines_of_unit};
+    ghost use Rattle.addr2line_resolved.specs.KeptFunctions.{plain_calls};
     ghost use Rattle.addr2line_resolved.specs.ResolvedUnits.{ResolvedUnit, KeepsParses};
 
     ghost Value = { ResolvedUnit };
@@ -53,9 +65,13 @@ impl<R: Reader> Model for ResUnit<R> {
         first = u.first;
       };
       keeps_lines = is_some u.lines;
+      keeps_functions = is_some u.functions.functions;
+      calls = map (option_map plain_calls) u.functions.calls;
+      probes = u.probes;
     } };
 
-    ghost invariant = { λ u. KeepsParses u.main u.load u.lines u.runs };
+    ghost invariant = { λ u.
+        KeepsParses u.main u.load u.first u.lines u.runs u.functions u.probes.name };
 }
 
 // A load, or why it is refused; refused only when out of memory.
@@ -69,6 +85,42 @@ fn load_or_refusal<R: Reader>(
         Ok(load) => Ok(Ok(load)),
         Err(Error::Memory) => Err(Error::Memory),
         Err(fault) => Ok(Err(fault)),
+    }
+}
+
+// The lines of a run, as lookups search them, or the refusal of them; this counter counts looks at
+// them. Refused only when out of memory.
+fn index_of_run(
+    alloc: Global,
+    lines: Option<Result<UnitLines, Error>>,
+    probes: &Probes,
+) -> Result<Kept<LineIndex>, Error>
+    ensures ok { IfOk result
+        (λ kept. kept ≡ option_map (counted_lines probes.now.name) lines) }
+    ensures refusal { IfErr result (λ e. e ≡ Memory) }
+{
+    let index = match lines {
+        Some(Ok(lines)) => Some(Ok(LineIndex::new(alloc, lines.into_lines(), probes)?)),
+        Some(Err(error)) => Some(Err(error)),
+        None => None,
+    };
+    Kept::of(index)
+}
+
+// The row of an address in lines, or the refusal of them; none where they aren't kept.
+fn row_in_kept(
+    lines: &Kept<LineIndex>,
+    probe: u64,
+    probes: &mut Probes,
+) -> Result<Option<LineRow>, Error>
+    requires counter { IfSome lines.now (λ r. IfOk r (λ l. probes.old.name ≡ l.counter)) }
+    ensures row { Returns result (row_in_kept probe lines.now) }
+    ensures cost { AtMostProbes (kept_probes probe lines.now) probes.old probes.new }
+{
+    match lines.result() {
+        Some(Ok(lines)) => Ok(lines.find_row(probe, probes)),
+        Some(Err(error)) => Err(*error),
+        None => Ok(None),
     }
 }
 
@@ -87,13 +139,13 @@ fn unit_decided<'a, R: Reader>(
     main: &'a OwnedUnit<R>,
     load: &Option<SplitDwarfLoad<R>>,
     first: &'a Option<Result<Option<OwnedUnit<R>>, Error>>,
-) -> Result<&'a OwnedUnit<R>, Error>
-    ensures { ReturnsAs (λ u. u.now) result
+) -> Result<HoldingUnit<'a, R>, Error>
+    ensures { Returns result
         (unit_of_functions main.now (decided (Ok load.now) first.now)) }
 {
     match load {
         Some(_) => unit_under(main, first),
-        None => Ok(main),
+        None => Ok(HoldingUnit::new(DebugFile::Primary, main.unit_ref())),
     }
 }
 
@@ -101,13 +153,12 @@ fn unit_decided<'a, R: Reader>(
 fn unit_under<'a, R: Reader>(
     main: &'a OwnedUnit<R>,
     first: &'a Option<Result<Option<OwnedUnit<R>>, Error>>,
-) -> Result<&'a OwnedUnit<R>, Error>
-    ensures { ReturnsAs (λ u. u.now) result
-        (unit_of_functions main.now (answer_or_none first.now)) }
+) -> Result<HoldingUnit<'a, R>, Error>
+    ensures { Returns result (unit_of_functions main.now (answer_or_none first.now)) }
 {
     match first {
-        Some(Ok(Some(split))) => Ok(split),
-        Some(Ok(None)) | None => Ok(main),
+        Some(Ok(Some(split))) => Ok(HoldingUnit::new(DebugFile::Dwo, split.unit_ref())),
+        Some(Ok(None)) | None => Ok(HoldingUnit::new(DebugFile::Primary, main.unit_ref())),
         Some(Err(error)) => Err(*error),
     }
 }
@@ -119,6 +170,7 @@ impl<R: Reader> ResUnit<R> {
         requires { IsIndexOf main.file aranges.now }
         ensures unit { ReturnsAsOrNoMemory (λ u. u.value) result (new_unit main) }
         ensures lines { IfOk result RunsForRangesAlone }
+        ensures functions { IfOk result KeepsNoFunctions }
     {
         let mut runs = Runs::new();
         let root = UnitRoot::read(alloc, &main.unit_ref(), aranges, &mut runs)?;
@@ -131,6 +183,7 @@ impl<R: Reader> ResUnit<R> {
         ensures unit { ReturnsAsOrNoMemory (λ u. u.value) result
             (Ok (without_answer main.file (unit_with main root))) }
         ensures lines { IfOk result RunsForRangesAlone }
+        ensures functions { IfOk result KeepsNoFunctions }
     {
         let load = load_or_refusal(alloc, &main)?;
         let UnitRoot {
@@ -138,7 +191,8 @@ impl<R: Reader> ResUnit<R> {
             language,
             lines,
         } = root;
-        let lines = Kept::of(lines)?;
+        let probes = Probes::new();
+        let lines = index_of_run(alloc, lines, &probes)?;
         Ok(ResUnit {
             main,
             ranges,
@@ -147,6 +201,8 @@ impl<R: Reader> ResUnit<R> {
             first: None,
             lines,
             runs,
+            functions: UnitFunctions::not_read(alloc),
+            probes,
         })
     }
 
@@ -184,7 +240,7 @@ impl<R: Reader> ResUnit<R> {
     /// Reads the lines, unless they are kept. A refusal is kept too: the only error is out of
     /// memory, after which they are read again.
     pub fn read_lines(&mut self, alloc: Global) -> Result<(), Error>
-        ensures value { self.new.value ≡ self.old.value }
+        ensures unit { self.new ≡ record self.old { keeps_lines = self.new.keeps_lines } }
         ensures kept { OnOk result (self.new.keeps_lines ≡ true) }
         ensures refusal { IfErr result (λ e. e ≡ Memory) }
         ensures free { self.old.keeps_lines ≡ true → result ≡ Ok tt }
@@ -192,42 +248,44 @@ impl<R: Reader> ResUnit<R> {
         if self.lines.is_read() {
             return Ok(());
         }
-        let lines = UnitLines::run(alloc, &self.main.unit_ref(), &mut self.runs);
+        let unit = self.main.unit_ref();
+        let lines = UnitLines::run_to_index(alloc, &unit, &mut self.runs, &self.probes)?;
         self.lines.keep(lines)
     }
 
-    /// The lines or the refusal of them, if they are kept.
-    pub fn kept_lines(&self) -> Option<&Result<UnitLines, Error>>
-        ensures { option_map (λ r. r.now) result
-            ≡ if_kept self.now.keeps_lines self.now.value.unit.lines }
+    /// The lines as lookups search them, or the refusal of them, if they are kept.
+    pub fn kept_lines(&self) -> Option<&Result<LineIndex, Error>>
+        ensures { option_map (λ r. r.now) result ≡ if_kept self.now.keeps_lines
+            (counted_lines self.now.probes.name self.now.value.unit.lines) }
     {
         self.lines.result()
     }
 
-    /// The place of an address in the lines that are kept, or the refusal of them.
-    pub fn find_location(&self, probe: u64) -> Result<Option<Location<'_>>, Error>
-        ensures { self.now.keeps_lines ≡ true → ReturnsAs (option_map location_value) result
-            (place_or_refusal probe self.now.value.unit.lines) }
-    {
-        match self.kept_lines() {
-            Some(Ok(lines)) => Ok(lines.find_location(probe)),
-            Some(Err(error)) => Err(*error),
-            None => Ok(None),
-        }
-    }
-
-    /// Whether the lines have a place for an address, or the refusal of them. They are read before,
-    /// unless they are kept.
-    pub fn has_location(&mut self, alloc: Global, probe: u64) -> Result<bool, Error>
+    /// The row of an address in the lines, or the refusal of them. They are read before, unless
+    /// they are kept. It is found by one search among the sequences and one among the rows of one.
+    pub fn find_row(&mut self, alloc: Global, probe: u64) -> Result<Option<LineRow>, Error>
         ensures value { self.new.value ≡ self.old.value }
-        ensures found { ReturnsOrNoMemory result
-            (has_place (place_or_refusal probe self.old.value.unit.lines)) }
+        ensures row { ReturnsOrNoMemory result (row_or_refusal probe self.old.value.unit.lines) }
         ensures kept { OnOk result (self.new.keeps_lines ≡ true) }
-        ensures free { self.old.keeps_lines ≡ true → Returns result
-            (has_place (place_or_refusal probe self.old.value.unit.lines)) }
+        ensures free { self.old.keeps_lines ≡ true
+            → Returns result (row_or_refusal probe self.old.value.unit.lines) }
+        ensures cost { AtMostProbes (lines_probes probe self.old.value.unit.lines)
+            self.old.probes self.new.probes }
     {
         self.read_lines(alloc)?;
-        Ok(self.find_location(probe)?.is_some())
+        row_in_kept(&self.lines, probe, &mut self.probes)
+    }
+
+    /// The place that a row stands for in the lines that are kept, unless they are refused. Nothing
+    /// is searched.
+    pub fn location_of_row(&self, row: &LineRow) -> Option<Location<'_>>
+        ensures { self.now.keeps_lines ≡ true → option_map location_value result
+            ≡ location_of_row row.now self.now.value.unit.lines }
+    {
+        match self.kept_lines() {
+            Some(Ok(lines)) => Some(lines.location_of_row(row)),
+            _ => None,
+        }
     }
 
     /// Whether the lines can be read, or the refusal of them. They are read before, unless they are
@@ -257,10 +315,13 @@ impl<R: Reader> ResUnit<R> {
         }
     }
 
-    /// Records an answer to the load. A unit that is decided stays as it is.
+    /// Records an answer to the load. A unit that is decided stays as it is; no functions were kept
+    /// of one that is not.
     pub fn record_answer(&mut self, answer: Result<Option<OwnedUnit<R>>, Error>)
         ensures value { self.new.value ≡ with_unit_answer answer self.old.value }
-        ensures lines { self.new.keeps_lines ≡ self.old.keeps_lines }
+        ensures kept { self.new ≡ record self.old { value = self.new.value } }
+        ensures functions { is_some (pending_load self.old.value) ≡ true
+            → KeepsNoFunctions self.new }
     {
         if self.pending_load().is_some() {
             put_answer(&mut self.first, answer);
@@ -269,16 +330,161 @@ impl<R: Reader> ResUnit<R> {
         }
     }
 
-    /// The unit that has the functions: the split unit that the first answer gave, or the unit
-    /// itself, or the refusal of the load or the answer.
-    pub fn functions_unit(&self) -> Result<&OwnedUnit<R>, Error>
-        ensures { ReturnsAs (λ u. u.now) result
+    /// The unit that has the functions, with the file that it is in: the split unit that the first
+    /// answer gave, or the unit itself, or the refusal of the load or the answer.
+    pub fn functions_unit(&self) -> Result<HoldingUnit<'_, R>, Error>
+        ensures { Returns result
             (unit_of_functions (main_unit self.now.value) (first_answer self.now.value)) }
     {
         match &self.load {
             Ok(load) => unit_decided(&self.main, load, &self.first),
             Err(error) => Err(*error),
         }
+    }
+
+    // ---- functions
+
+    // The functions of the unit that has them.
+    fn parse_functions(&self, alloc: Global) -> Result<Functions<R::Offset>, Error>
+        ensures functions { ReturnsAsOrNoMemory (λ f. f.functions) result
+            (functions_of self.now.value) }
+        ensures counter { IfOk result (λ f. f.counter ≡ self.now.probes.name) }
+    {
+        let holder = self.functions_unit()?;
+        functions_of_unit(alloc, &holder.unit, &self.probes)
+    }
+
+    /// Reads the functions of a unit whose load isn't pending, unless they are kept; of none of
+    /// them the calls. A refusal is kept too: the only error is out of memory, after which they are
+    /// read again.
+    pub fn read_functions(&mut self, alloc: Global) -> Result<(), Error>
+        requires { pending_load self.old.value ≡ None }
+        ensures ok { OnOk result (self.new ≡ with_functions self.old) }
+        ensures err { OnErr result (self.new ≡ self.old) }
+        ensures refusal { IfErr result (λ e. e ≡ Memory) }
+        ensures free { self.old.keeps_functions ≡ true → result ≡ Ok tt }
+    {
+        if self.functions.is_read() {
+            return Ok(());
+        }
+        let functions = self.parse_functions(alloc);
+        self.functions.keep(alloc, functions)
+    }
+
+    /// The functions or the refusal of them, if they are kept. A function's number is its index
+    /// among them.
+    pub fn kept_functions(&self) -> Option<&Result<Functions<R::Offset>, Error>>
+        ensures { option_map (λ r. plain_functions r.now) result
+            ≡ if_kept self.now.keeps_functions (functions_of self.now.value) }
+    {
+        self.functions.functions()
+    }
+
+    /// The number of the function that an address is in, or the refusal of the functions, where
+    /// they are kept. One bisection finds it, without memory.
+    pub fn find_function(&mut self, probe: u64) -> Result<Option<usize>, Error>
+        ensures unit { self.new ≡ with_probes self.old self.new.probes }
+        ensures number { self.old.keeps_functions ≡ true
+            → Returns result (number_in (functions_of self.old.value) probe) }
+        ensures below { IfOk result (λ number. IfSome number (λ n. n < length self.new.calls)) }
+        ensures cost { AtMostProbes (number_probes (functions_of self.old.value))
+            self.old.probes self.new.probes }
+    {
+        self.functions.find(probe, &mut self.probes)
+    }
+
+    /// How many functions there are, where they are kept and not refused.
+    pub fn function_count(&self) -> usize
+        ensures calls { result ≡ length self.now.calls }
+        ensures functions { self.now.keeps_functions ≡ true
+            → result ≡ count_of_functions (functions_of self.now.value) }
+    {
+        self.functions.count()
+    }
+
+    // ---- calls
+
+    /// The calls of the function of a number, read from the unit that has the functions. Nothing is
+    /// kept, so that names may be looked for in all units of a context; `keep_calls` does.
+    pub fn read_calls<N: Names<R>>(
+        &self,
+        alloc: Global,
+        names: &N,
+        function: usize,
+    ) -> Result<FunctionCalls<R>, Error>
+        requires { function < length self.now.calls }
+        ensures calls { ReturnsAsOrNoMemory (λ c. c.function) result
+            (calls_of_number self.now.value (N.naming names.now) function) }
+        ensures counter { IfOk result (λ c. c.counter ≡ self.now.probes.name) }
+    {
+        let holder = self.functions_unit()?;
+        match self.functions.offset(function) {
+            Some(offset) => calls_of_function(alloc, &holder.unit, names, offset, &self.probes),
+            None => Err(Error::NoSuchUnit),
+        }
+    }
+
+    /// Keeps the calls of the function of a number, or the refusal of them, as `read_calls` gave
+    /// them. Out of memory is returned, and nothing changes.
+    pub fn keep_calls(
+        &mut self,
+        function: usize,
+        read: Result<FunctionCalls<R>, Error>,
+    ) -> Result<(), Error>
+        requires number { function < length self.old.calls }
+        requires counter { IfOk read (λ c. c.counter ≡ self.old.probes.name) }
+        ensures ok { OnOk result (self.new ≡ with_calls self.old function (plain_calls read)) }
+        ensures answer { OnOk result (read ≢ Err Memory) }
+        ensures err { OnErr result (self.new ≡ self.old) }
+        ensures refusal { IfErr result (λ e. e ≡ Memory) }
+    {
+        self.functions.keep_calls(function, read)
+    }
+
+    /// The calls of the function of a number, or the refusal of them, if they are kept.
+    pub fn kept_calls(&self, function: usize) -> Option<&Result<FunctionCalls<R>, Error>>
+        ensures { option_map (λ r. plain_calls r.now) result ≡ kept_at self.now.calls function }
+    {
+        self.functions.calls(function)
+    }
+
+    /// The numbers of the calls of a function that an address is in, the outermost first, or the
+    /// refusal of the calls, where they are kept. One bisection finds each.
+    pub fn find_chain(
+        &mut self,
+        alloc: Global,
+        function: usize,
+        probe: u64,
+    ) -> Result<Vec<usize>, Error>
+        ensures unit { self.new ≡ with_probes self.old self.new.probes }
+        ensures chain { FindsChain (λ numbers. numbers.items) (kept_at self.old.calls function)
+            probe result }
+        ensures cost { AtMostProbes (kept_chain_probes (kept_at self.old.calls function) probe)
+            self.old.probes self.new.probes }
+    {
+        self.functions
+            .find_chain(alloc, function, probe, &mut self.probes)
+    }
+
+    /// The frames at a place in a function whose calls are kept, by the numbers of the calls that
+    /// `find_chain` gave; without a function that of the place. Nothing is searched. Call sites are
+    /// named by the files of these lines.
+    pub fn frames<'ctx>(
+        &'ctx self,
+        alloc: Global,
+        lines: &'ctx LineIndex,
+        place: Option<Location<'ctx>>,
+        function: Option<usize>,
+        chain: &[usize],
+    ) -> Result<FrameIter<'ctx, R>, Error>
+        ensures { ReturnsOrNoMemory result
+            (frames_by_numbers self.now.value.unit.language lines.now.lines.files
+            (option_map location_value place.entry)
+            (option_and_then (function_at_number (functions_of self.now.value) self.now.calls)
+            function) chain.now) }
+    {
+        self.functions
+            .frames(alloc, self.language, lines, place, function, chain)
     }
 }
 
@@ -294,5 +500,13 @@ impl<R: Reader> HasLines for ResUnit<R> {
             Some(Err(error)) => Err(*error),
             None => Err(Error::Memory),
         }
+    }
+}
+
+impl<R: Reader> HasUnit<R> for ResUnit<R> {
+    ghost facts = { λ u. u.value.unit.facts };
+
+    fn unit(&self) -> &Unit<R> {
+        self.main.unit()
     }
 }

@@ -1,11 +1,11 @@
 //! The units of a context, read one after the other.
 
-ghost use Rattle.std.specs.Prelude.{◌≡◌, ◌++◌, OnOk, IfErr, map, option_map};
+ghost use Rattle.std.specs.Prelude.{◌≡◌, ◌++◌, IfSome, IfOk, OnOk, IfErr, map, option_map};
 ghost use Rattle.std.specs.Option.{option_to_list};
 ghost use Rattle.addr2line_functions.specs.Calls.{ReturnsAsOrNoMemory};
 ghost use Rattle.addr2line_functions.specs.Error.TheVariants.{Memory};
 ghost use Rattle.addr2line_units.specs.ArangeIndexes.{IsIndexOf};
-ghost use Rattle.addr2line_resolved.specs.ResolvedUnits.{value_of_unit, new_units};
+ghost use Rattle.addr2line_resolved.specs.ResolvedUnits.{value_of_unit, new_units, KeepsNoFunctions, KeepNoFunctions};
 
 use crate::headers::context_unit;
 use crate::unit::ResUnit;
@@ -17,6 +17,8 @@ use std::rc::Rc;
 fn push_unit<R: Reader>(units: &mut Vec<ResUnit<R>>, unit: Option<ResUnit<R>>) -> Result<(), Error>
     ensures ok { OnOk result (map value_of_unit units.new.items
         ≡ map value_of_unit units.old.items ++ option_to_list (option_map value_of_unit unit)) }
+    ensures functions { OnOk result (KeepNoFunctions units.old.items
+        → IfSome unit KeepsNoFunctions → KeepNoFunctions units.new.items) }
     ensures refusal { IfErr result (λ e. e ≡ Memory) }
 {
     if let Some(unit) = unit {
@@ -26,15 +28,16 @@ fn push_unit<R: Reader>(units: &mut Vec<ResUnit<R>>, unit: Option<ResUnit<R>>) -
 }
 
 /// A context's units of a file. Refused by the first refusal of such a unit's ranges, or by a
-/// header that can't be read, which ends the units.
+/// header that can't be read, which ends the units. No functions are read.
 pub fn units_of_file<R: Reader>(
     alloc: Global,
     sections: &Rc<Dwarf<R>>,
     aranges: &ArangeIndex,
 ) -> Result<Vec<ResUnit<R>>, Error>
     requires { IsIndexOf sections.now.value.file aranges.now }
-    ensures { ReturnsAsOrNoMemory (λ units. map value_of_unit units.items) result
+    ensures units { ReturnsAsOrNoMemory (λ units. map value_of_unit units.items) result
         (new_units sections.now.value.file) }
+    ensures functions { IfOk result (λ units. KeepNoFunctions units.items) }
 {
     let mut units = Vec::new(alloc);
     let mut headers = sections.as_ref().units()?;

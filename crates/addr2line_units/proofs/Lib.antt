@@ -3,7 +3,6 @@ pub use Rattle.addr2line_index.proofs.UnitViews
 pub use Rattle.addr2line_index.proofs.CallChains
 pub use Rattle.addr2line_index.proofs.EntryLevels
 pub use Rattle.addr2line_index.proofs.HolderViews
-pub use Rattle.addr2line_index.proofs.LatestFromLeft
 pub use Rattle.addr2line_index.proofs.RangeHolders
 pub mod ProgramHeaders
 pub mod LinesOfPrograms

@@ -1,5 +1,5 @@
 -- A unit of a context from what its root says.
-use Rattle.std.proofs.Common.{◌≡◌, ℕ, Bool, false, List, [], Option, Some, None, Result, Ok, Err, refl, sym, ap, ◌∙◌, if◌then◌else◌}
+use Rattle.std.proofs.Common.{◌≡◌, ℕ, Bool, false, List, Option, Some, None, Result, Ok, Err, sym, ap, ◌∙◌, if◌then◌else◌}
 use Rattle.std.specs.Prelude.{IfSome}
 use Rattle.gimli_lines_rows.specs.Error.{Error}
 use Rattle.gimli_lines_rows.specs.Range.{Range}
@@ -10,7 +10,7 @@ use Rattle.gimli_dwarf.specs.UnitFacts.{UnitFacts, UnitInFile, root}
 use Rattle.addr2line_index.specs.Lines.{Lines}
 use Rattle.addr2line_index.specs.UnitLines.{lines_of_unit}
 use Rattle.addr2line_index.specs.UnitRanges.{ranges_of_attributes, language_in, is_partial}
-use Rattle.addr2line_index.specs.Contexts.{ContextUnit, unit_of_root, partial_unit, unit_of_entry, context_unit}
+use Rattle.addr2line_index.specs.Contexts.{ContextUnit, unit_of_root, partial_unit, unit_of_entry}
 use Rattle.addr2line_units.specs.RootRanges.{RunsForRanges}
 
 abbrev with_ranges : UnitFacts → Result Lines Error → List RawAttribute → List Range → Result ContextUnit Error

@@ -1,5 +1,4 @@
 pub use Rattle.addr2line_index.specs.BorrowedLocations
-pub use Rattle.addr2line_index.specs.ChoiceSteps
 pub use Rattle.addr2line_index.specs.LineIndexes
 pub use Rattle.addr2line_index.specs.NumberedRanges
 pub use Rattle.addr2line_index.specs.ProbedLists

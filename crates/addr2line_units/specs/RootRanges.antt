@@ -1,5 +1,5 @@
 -- What a unit's root says of lookups, and the lines that were read for it.
-use Rattle.std.specs.Prelude.{◌≡◌, ℕ, ◌+◌, List, [], Option, Some, None, Result}
+use Rattle.std.specs.Prelude.{◌≡◌, ℕ, ◌+◌, List, Option, Some, None, Result}
 use Rattle.gimli_lines_rows.specs.Error.{Error}
 use Rattle.gimli_lines_rows.specs.Range.{Range}
 use Rattle.gimli_dwarf.specs.UnitFacts.{UnitInFile}

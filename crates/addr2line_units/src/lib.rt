@@ -16,7 +16,7 @@ mod unit_arange;
 pub mod unit_lines;
 
 pub use addr2line_index::{
-    HasLines, LineIndex, Lines, LinesBuilder, Location, Probes, RangeIndex, Ranged,
+    HasLines, LineIndex, LineRow, Lines, LinesBuilder, Location, Probes, RangeIndex, Ranged,
     StretchesBetween, UnitRanges, UnitRangesBuilder, file_text, file_text_of_bytes, is_rooted,
     join,
 };

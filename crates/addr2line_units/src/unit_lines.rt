@@ -1,15 +1,15 @@
 //! The lines of a unit. No line number program of a unit is run elsewhere.
 
-ghost use Rattle.std.specs.Prelude.{◌≡◌, ◌+◌, Ok, option_map};
+ghost use Rattle.std.specs.Prelude.{◌≡◌, ◌≢◌, ◌+◌, Ok, Err, OnOk, IfOk, IfErr};
 ghost use Rattle.gimli_lines_rows.specs.Calls.{ReturnsOrNoMemory};
-ghost use Rattle.addr2line_index.specs.Lines.{place_in};
-ghost use Rattle.addr2line_index.specs.BorrowedLocations.{location_value};
+ghost use Rattle.gimli_lines_rows.specs.Error.TheVariants.{Memory};
+ghost use Rattle.addr2line_index.specs.LineIndexes.{counted_lines};
 ghost use Rattle.addr2line_index.specs.UnitLines.{lines_of_program, lines_of_unit};
 ghost use Rattle.addr2line_units.specs.CountedRuns.{CountsRun, CountsRunOrNoMemory};
 
 use crate::files::texts_of_files;
 use crate::rows::run_program;
-use addr2line_index::{Lines, LinesBuilder, Location, Tally};
+use addr2line_index::{LineIndex, Lines, LinesBuilder, Probes, Tally};
 use gimli_dwarf::UnitRef;
 use gimli_lines_rows::{Error, LineProgramHeader, Reader};
 use std::alloc::Global;
@@ -103,6 +103,26 @@ impl UnitLines {
         }
     }
 
+    /// The same run, with its lines indexed for searches; this counter counts looks at them. A run
+    /// whose index is out of memory isn't counted.
+    pub fn run_to_index<R: Reader>(
+        alloc: Global,
+        unit: &UnitRef<'_, R>,
+        runs: &mut Runs,
+        probes: &Probes,
+    ) -> Result<Result<LineIndex, Error>, Error>
+        ensures lines { ReturnsOrNoMemory result
+            (Ok (counted_lines probes.now.name (lines_of_unit unit.now))) }
+        ensures answer { IfOk result (λ lines. lines ≢ Err Memory) }
+        ensures counted { CountsRunOrNoMemory result runs.old runs.new }
+        ensures refusal { IfErr result (λ e. e ≡ Memory) }
+    {
+        let lines = lines_of_unit(alloc, unit);
+        let index = index_to_keep(alloc, lines, probes)?;
+        runs.raise();
+        Ok(index)
+    }
+
     /// The lines.
     pub fn lines(&self) -> &Lines
         ensures { result.now ≡ self.now }
@@ -110,19 +130,30 @@ impl UnitLines {
         &self.lines
     }
 
-    /// The lines, to be searched otherwise.
+    /// The lines, to be indexed for searches.
     pub fn into_lines(self) -> Lines
         ensures { result ≡ self }
     {
         let UnitLines { lines } = self;
         lines
     }
+}
 
-    /// The place of an address: that of its row in the sequence that holds it.
-    pub fn find_location(&self, probe: u64) -> Option<Location<'_>>
-        ensures { option_map location_value result ≡ place_in self.now probe }
-    {
-        self.lines.find_location(probe)
+// The index of lines, or the refusal of them. The only refusal of the call is out of memory.
+fn index_to_keep(
+    alloc: Global,
+    lines: Result<Lines, Error>,
+    probes: &Probes,
+) -> Result<Result<LineIndex, Error>, Error>
+    ensures index { IfOk result (λ i. i ≡ counted_lines probes.now.name lines) }
+    ensures answer { IfOk result (λ i. i ≢ Err Memory) }
+    ensures lines { OnOk result (lines ≢ Err Memory) }
+    ensures refusal { IfErr result (λ e. e ≡ Memory) }
+{
+    match lines {
+        Ok(lines) => Ok(Ok(LineIndex::new(alloc, lines, probes)?)),
+        Err(Error::Memory) => Err(Error::Memory),
+        Err(fault) => Ok(Err(fault)),
     }
 }
 

@@ -104,11 +104,11 @@ fn write_answers<R: Reader, W: Write>(
     words: &[String],
     out: &mut W,
 ) -> Result<(), Stop>
-    requires { NeverRefuses context.old.context }
+    requires { NeverRefuses context.old.plain.context }
     ensures whole { OnOk result (Appends (W.contents out.old) (W.contents out.new)
-        (words_text context.old.context (map string_bytes words.now))) }
+        (words_text context.old.plain.context (map string_bytes words.now))) }
     ensures prefix { AppendsPrefix (W.contents out.old) (W.contents out.new)
-        (words_text context.old.context (map string_bytes words.now)) }
+        (words_text context.old.plain.context (map string_bytes words.now)) }
     ensures stop { IfErr result StopsWriting }
 {
     for word in words {
@@ -124,11 +124,11 @@ fn write_answer<R: Reader, W: Write>(
     word: &str,
     out: &mut W,
 ) -> Result<(), Stop>
-    requires { NeverRefuses context.old.context }
+    requires { NeverRefuses context.old.plain.context }
     ensures whole { OnOk result (Appends (W.contents out.old) (W.contents out.new)
-        (word_text context.old.context word.now ++ codes "\n")) }
+        (word_text context.old.plain.context word.now ++ codes "\n")) }
     ensures prefix { AppendsPrefix (W.contents out.old) (W.contents out.new)
-        (word_text context.old.context word.now ++ codes "\n") }
+        (word_text context.old.plain.context word.now ++ codes "\n") }
     ensures stop { IfErr result StopsWriting }
     ensures value { context.new ≡ context.old }
 {
@@ -144,9 +144,9 @@ fn answer_line<R: Reader>(
     context: &mut Context<R>,
     word: &str,
 ) -> Result<String, AllocError>
-    requires { NeverRefuses context.old.context }
+    requires { NeverRefuses context.old.plain.context }
     ensures line { IfOk result (λ line.
-        string_bytes line ≡ word_text context.old.context word.now ++ codes "\n") }
+        string_bytes line ≡ word_text context.old.plain.context word.now ++ codes "\n") }
     ensures value { context.new ≡ context.old }
 {
     let mut line = word_line(alloc, context, word)?;

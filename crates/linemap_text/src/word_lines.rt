@@ -35,9 +35,9 @@ fn address_line<R: Reader>(
     context: &mut Context<R>,
     address: u64,
 ) -> Result<String, AllocError>
-    requires { NeverRefuses context.old.context }
+    requires { NeverRefuses context.old.plain.context }
     ensures line { IfOk result (λ line.
-        string_bytes line ≡ text_of_answer (location context.old.context address)) }
+        string_bytes line ≡ text_of_answer (location context.old.plain.context address)) }
     ensures value { context.new ≡ context.old }
 {
     let place = match context.find_location(address) {
@@ -55,9 +55,9 @@ pub fn word_line<R: Reader>(
     context: &mut Context<R>,
     word: &str,
 ) -> Result<String, AllocError>
-    requires { NeverRefuses context.old.context }
+    requires { NeverRefuses context.old.plain.context }
     ensures line { IfOk result (λ line.
-        string_bytes line ≡ word_text context.old.context word.now) }
+        string_bytes line ≡ word_text context.old.plain.context word.now) }
     ensures value { context.new ≡ context.old }
 {
     match read_address(word) {

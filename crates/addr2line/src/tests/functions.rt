@@ -170,9 +170,12 @@ fn place(call: &Call<Slice>) -> Place {
     )
 }
 
-// The offset of a call; 0 where there is none.
-fn offset_of(call: Option<&Call<Slice>>) -> usize {
-    match call {
+// The offset of the call of a number; 0 where there is none.
+fn offset_in(function: &FunctionCalls<Slice>, number: Option<&usize>) -> usize {
+    let Some(number) = number else {
+        return 0;
+    };
+    match function.calls().get(*number) {
         Some(call) => call.offset().0,
         None => 0,
     }
@@ -190,9 +193,9 @@ impl Question for OffsetsAt {
         let names = names_of(units.as_slice(), unit.dwarf, unit.unit);
         let mut probes = Probes::new();
         let function = calls_of_function(alloc, unit, &names, UnitOffset(12), &probes)?;
-        let mut chain = function.chain(self.0);
-        let first = offset_of(chain.next(&mut probes));
-        let second = offset_of(chain.next(&mut probes));
+        let chain = function.find_chain(alloc, self.0, &mut probes)?;
+        let first = offset_in(&function, chain.get(0));
+        let second = offset_in(&function, chain.get(1));
         Ok((first, second))
     }
 }

@@ -3,6 +3,7 @@
 use super::files::{EMPTY, File, Question, Slice, answer};
 use crate::{Lines, Location, Runs, UnitLines};
 use addr2line_context::{Error, LinesBuilder, ReaderOffsetId, UnitRef};
+use addr2line_index::{LineIndex, Probes};
 use std::alloc::Global;
 use std::test::Fail;
 
@@ -23,8 +24,24 @@ fn lines_of_rows(alloc: Global, rows: &[(u64, Option<u64>)]) -> Result<Lines, Er
     Ok(builder.finish(files))
 }
 
-fn line_at(lines: &Lines, probe: u64) -> Option<u32> {
-    lines.find_location(probe)?.line
+// Whether a place has a file, and its line and column.
+type Place = (bool, Option<u32>, Option<u32>);
+
+// What an address in lines has of a place.
+fn place_at(alloc: Global, lines: Lines, probe: u64) -> Result<Option<Place>, Error> {
+    let mut probes = Probes::new();
+    let index = LineIndex::new(alloc, lines, &probes)?;
+    match index.find_location(probe, &mut probes) {
+        Some(place) => Ok(Some((place.file.is_some(), place.line, place.column))),
+        None => Ok(None),
+    }
+}
+
+fn line_at(alloc: Global, lines: Lines, probe: u64) -> Result<Option<u32>, Error> {
+    match place_at(alloc, lines, probe)? {
+        Some((_, line, _)) => Ok(line),
+        None => Ok(None),
+    }
 }
 
 // Of sequences the one that begins last answers, and in it the last of the rows at an address. A
@@ -52,10 +69,13 @@ fn rows_of_sequences(rt: HostRuntime) -> Result<(), Fail> {
         (0x200, Some(7)),
         (0x210, None),
     ] {
-        assert_eq!(rt; line_at(&lines, probe), line, "at {probe}");
+        let lines = lines_of_rows(rt.alloc(), &rows)?;
+        assert_eq!(rt; line_at(rt.alloc(), lines, probe)?, line, "at {probe}");
     }
-    let place = lines.find_location(0x208).ok_or("no place")?;
-    assert!(rt; place.file.is_some() && place.line.is_none() && place.column.is_none());
+    assert_eq!(rt;
+        place_at(rt.alloc(), lines, 0x208)?,
+        Some((true, None, None))
+    );
     Ok(())
 }
 
@@ -128,21 +148,25 @@ fn lines_of(alloc: Global, info: &'static [u8], line: &'static [u8]) -> Result<L
     answer(alloc, file, 0, &LinesOfUnit)
 }
 
-fn is_place(lines: &Lines, probe: u64, file: &str, line: u32) -> bool {
+// Whether an address has this place in the program `OF_4`.
+fn is_place(alloc: Global, probe: u64, file: &str, line: u32) -> Result<bool, Error> {
     let place = Location {
         file: Some(file),
         line: Some(line),
         column: Some(0),
     };
-    lines.find_location(probe) == Some(place)
+    let mut probes = Probes::new();
+    let lines = lines_of(alloc, &WITH_PROGRAM, &OF_4)?;
+    let index = LineIndex::new(alloc, lines, &probes)?;
+    Ok(index.find_location(probe, &mut probes) == Some(place))
 }
 
 #[test]
 fn lines_of_units(rt: HostRuntime) -> Result<(), Fail> {
     let lines = lines_of(rt.alloc(), &WITH_PROGRAM, &OF_4)?;
     assert_eq!(rt; lines.file(0), Some("/w/a.c"));
-    assert!(rt; is_place(&lines, 0x10, "/w/src/b.c", 1));
-    assert!(rt; is_place(&lines, 0x1f, "/w/d.c", 5));
+    assert!(rt; is_place(rt.alloc(), 0x10, "/w/src/b.c", 1)?);
+    assert!(rt; is_place(rt.alloc(), 0x1f, "/w/d.c", 5)?);
     let none = lines_of(rt.alloc(), &WITHOUT_PROGRAM, &OF_4)?;
     assert_eq!(rt; none.sequences().len(), 0);
     // A program is refused before its files.

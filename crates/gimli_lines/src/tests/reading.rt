@@ -1,8 +1,8 @@
 //! Files that are added to headers, and instructions that are executed by themselves.
 
 use crate::{
-    DebugLine, FileEntry, IncompleteLineProgram, LineInstruction, LineProgramHeader, LinePrograms,
-    LineRow, ProgramInstructions,
+    DebugLine, FileEntry, IncompleteLineProgram, LineInstruction, LineInstructions,
+    LineProgramHeader, LinePrograms, LineRow, ProgramInstructions,
 };
 use bytes::Bytes;
 use gimli_core::{
@@ -28,27 +28,37 @@ const OF_4: &[u8] = b"\x3f\0\0\0\x04\0\x14\0\0\0\x01\x01\x01\xfd\x0c\x0d\
     \0\x09\x02\x08\0\0\0\0\0\0\0\x37\0\x01\x01\
     \x01\x01\x06\x01\x01";
 
-type Header = LineProgramHeader<EndianBytes<BigEndian>>;
+type Shared = EndianBytes<BigEndian>;
 
-fn header_of(alloc: Global, bytes: &'static [u8]) -> Result<Header, Error> {
-    let section = DebugLine::from(EndianBytes::new(Bytes::from_static(bytes), BigEndian));
+type Header = LineProgramHeader<Shared>;
+
+fn reader_of(bytes: &'static [u8]) -> Shared {
+    EndianBytes::new(Bytes::from_static(bytes), BigEndian)
+}
+
+// The header that a section begins with.
+fn header_in(alloc: Global, section: &DebugLine<Shared>) -> Result<Header, Error> {
     section.header(alloc, DebugLineOffset(0), 4, None, None)
 }
 
+fn header_of(alloc: Global, bytes: &'static [u8]) -> Result<Header, Error> {
+    header_in(alloc, &DebugLine::from(reader_of(bytes)))
+}
+
 // A file as an instruction defines it.
-fn defined_file(
-    operands: &'static [u8],
-    name: &'static [u8],
-) -> Result<FileEntry<EndianBytes<BigEndian>>, Error> {
-    let mut operands = EndianBytes::new(Bytes::from_static(operands), BigEndian);
-    let name = EndianBytes::new(Bytes::from_static(name), BigEndian);
-    FileEntry::parse(&mut operands, name)
+fn defined_file(operands: &'static [u8], name: &'static [u8]) -> Result<FileEntry<Shared>, Error> {
+    FileEntry::parse(&mut reader_of(operands), reader_of(name))
+}
+
+// Adds a copy of the file after the header's own.
+fn add_copy(header: &mut Header, file: &FileEntry<Shared>) -> Result<(), Error> {
+    header.add_file(file.copy()?)
 }
 
 // A copy of the header with a copy of the file after its own.
-fn with_file(header: &Header, file: &FileEntry<EndianBytes<BigEndian>>) -> Result<Header, Error> {
+fn with_file(header: &Header, file: &FileEntry<Shared>) -> Result<Header, Error> {
     let mut copy = header.copy()?;
-    copy.add_file(file.copy()?)?;
+    add_copy(&mut copy, file)?;
     Ok(copy)
 }
 
@@ -74,15 +84,21 @@ fn a_copy_has_files_of_its_own(rt: HostRuntime) -> Result<(), Fail> {
     Ok(())
 }
 
-type Program = IncompleteLineProgram<EndianSlice<'static, LittleEndian>>;
+type Slice = EndianSlice<'static, LittleEndian>;
 
-fn program_of(alloc: Global, bytes: &'static [u8], name: &'static [u8]) -> Result<Program, Error> {
-    let section = DebugLine::new(bytes, LittleEndian);
-    let name = EndianSlice::new(name, LittleEndian);
+type Program = IncompleteLineProgram<Slice>;
+
+// The program that a section begins with, of a unit of this name.
+fn program_in(alloc: Global, section: &DebugLine<Slice>, name: Slice) -> Result<Program, Error> {
     section.program(alloc, DebugLineOffset(0), 8, None, Some(name))
 }
 
-type Instruction = LineInstruction<EndianSlice<'static, LittleEndian>>;
+fn program_of(alloc: Global, bytes: &'static [u8], name: &'static [u8]) -> Result<Program, Error> {
+    let name = EndianSlice::new(name, LittleEndian);
+    program_in(alloc, &DebugLine::new(bytes, LittleEndian), name)
+}
+
+type Instruction = LineInstruction<Slice>;
 
 // Executes an instruction; whether it gives a row.
 fn execute(
@@ -150,19 +166,29 @@ fn after_setting_0(alloc: Global) -> Result<(u64, u64), Error> {
     Ok((first, row.address()))
 }
 
-// The second instruction, asked of a copy, is one that copies: the address that the first one sets.
-fn second_instruction(program: &Program) -> Result<Option<u64>, Error> {
-    let header = program.header();
-    let mut instructions = header.instructions()?;
-    match instructions.next_instruction(header)? {
-        Some(LineInstruction::SetAddress(address)) => {
-            let mut copy = instructions.copy()?;
-            let second = copy.next_instruction(header)?;
-            let is_copy = matches!(second, Some(LineInstruction::Copy));
-            Ok(is_copy.then_some(address))
-        }
+type Instructions = LineInstructions<Slice>;
+
+// The address that the next instruction sets.
+fn next_address(instructions: &mut Instructions, program: &Program) -> Result<Option<u64>, Error> {
+    match instructions.next_instruction(program.header())? {
+        Some(LineInstruction::SetAddress(address)) => Ok(Some(address)),
         _ => Ok(None),
     }
+}
+
+// Whether the next instruction is one that copies.
+fn next_is_copy(instructions: &mut Instructions, program: &Program) -> Result<bool, Error> {
+    let instruction = instructions.next_instruction(program.header())?;
+    Ok(matches!(instruction, Some(LineInstruction::Copy)))
+}
+
+// The address that the first instruction sets, and whether the second one, asked of a copy, is one
+// that copies.
+fn first_instructions(program: &Program) -> Result<(Option<u64>, bool), Error> {
+    let mut instructions = program.header().instructions()?;
+    let address = next_address(&mut instructions, program)?;
+    let mut copy = instructions.copy()?;
+    Ok((address, next_is_copy(&mut copy, program)?))
 }
 
 #[test]
@@ -171,6 +197,6 @@ fn instructions_are_executed(rt: HostRuntime) -> Result<(), Fail> {
     assert_eq!(rt; after_end(rt.alloc())?, (3, true, 0));
     assert_eq!(rt; after_setting_0(rt.alloc())?, (1, 1));
     let program = program_of(rt.alloc(), OF_4, b"")?;
-    assert_eq!(rt; second_instruction(&program)?, Some(0x10));
+    assert_eq!(rt; first_instructions(&program)?, (Some(0x10), true));
     Ok(())
 }

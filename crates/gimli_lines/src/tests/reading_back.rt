@@ -24,13 +24,20 @@ type Slice<'a> = EndianSlice<'a, RunTimeEndian>;
 // a text.
 type Details = (u64, u64, u8, bool);
 
+// The program that a section begins with.
+fn program_in<'a>(
+    alloc: Global,
+    section: &DebugLine<Slice<'a>>,
+) -> Result<IncompleteLineProgram<Slice<'a>>, ReadError> {
+    section.program(alloc, DebugLineOffset(0), 8, None, None)
+}
+
 fn program_at(
     alloc: Global,
     unit: &[u8],
     endian: RunTimeEndian,
 ) -> Result<IncompleteLineProgram<Slice<'_>>, ReadError> {
-    let section = DebugLine::new(unit, endian);
-    section.program(alloc, DebugLineOffset(0), 8, None, None)
+    program_in(alloc, &DebugLine::new(unit, endian))
 }
 
 fn is_text(value: Option<&AttributeValue<Slice<'_>>>, bytes: &[u8]) -> bool {
@@ -97,12 +104,10 @@ fn add_detailed_file(
     Ok(())
 }
 
-// A program with such a file and with rows.
-fn program_with_rows(alloc: Global, version: u16, format: Format) -> Result<LineProgram, Error> {
-    let mut program = new_program(alloc, version, format)?;
-    add_detailed_file(alloc, &mut program, b"src", b"b.c", b"int")?;
-    let _has_rows = add_rows(&mut program)?;
-    Ok(program)
+// Adds such a file, and the rows.
+fn add_file_and_rows(alloc: Global, program: &mut LineProgram) -> Result<bool, Error> {
+    add_detailed_file(alloc, program, b"src", b"b.c", b"int")?;
+    add_rows(program)
 }
 
 // The details of file 1 and the rows of a program, written and read.
@@ -113,7 +118,8 @@ fn round_trip(
     format: Format,
     endian: RunTimeEndian,
 ) -> Result<(Option<Details>, Vec<RowFacts>), Fail> {
-    let program = program_with_rows(alloc, version, format)?;
+    let mut program = new_program(alloc, version, format)?;
+    assert!(rt; add_file_and_rows(alloc, &mut program)?);
     let unit = written(rt, alloc, &program, endian)?;
     let program = program_at(alloc, unit.as_slice(), endian)?;
     let details = details(program.header());
@@ -166,35 +172,52 @@ fn each_version_reads_back(rt: HostRuntime) -> Result<(), Fail> {
     Ok(())
 }
 
-// A program of version 5 with these flags: times, sizes, digests, texts.
-fn program_with_flags(alloc: Global, flags: [bool; 4]) -> Result<LineProgram, Error> {
-    let mut program = new_program(alloc, 5, Format::Dwarf32)?;
-    let [timestamp, size, md5, source] = flags;
-    program.file_has_timestamp = timestamp;
-    program.file_has_size = size;
-    program.file_has_md5 = md5;
-    program.file_has_source = source;
-    add_detailed_file(alloc, &mut program, b"src", b"b.c", b"int")?;
-    Ok(program)
+// A detail of files that programs of version 5 can record.
+#[derive(Clone, Copy)]
+enum Detail {
+    Timestamp,
+    Size,
+    Md5,
+    Source,
 }
 
-// What is read of file 1 with these flags.
-fn details_with(rt: &impl Abort, alloc: Global, flags: [bool; 4]) -> Result<Option<Details>, Fail> {
-    let program = program_with_flags(alloc, flags)?;
-    let unit = written(rt, alloc, &program, RunTimeEndian::Little)?;
+fn record(program: &mut LineProgram, detail: Detail) {
+    match detail {
+        Detail::Timestamp => program.file_has_timestamp = true,
+        Detail::Size => program.file_has_size = true,
+        Detail::Md5 => program.file_has_md5 = true,
+        Detail::Source => program.file_has_source = true,
+    }
+}
+
+// Adds such a file; the unit of the program then.
+fn unit_with_file(
+    rt: &impl Abort,
+    alloc: Global,
+    program: &mut LineProgram,
+) -> Result<Vec<u8>, Error> {
+    add_detailed_file(alloc, program, b"src", b"b.c", b"int")?;
+    written(rt, alloc, program, RunTimeEndian::Little)
+}
+
+// What is read of file 1 of a program of version 5 that records a detail.
+fn details_with(rt: &impl Abort, alloc: Global, detail: Detail) -> Result<Option<Details>, Fail> {
+    let mut program = new_program(alloc, 5, Format::Dwarf32)?;
+    record(&mut program, detail);
+    let unit = unit_with_file(rt, alloc, &mut program)?;
     let program = program_at(alloc, unit.as_slice(), RunTimeEndian::Little)?;
     Ok(details(program.header()))
 }
 
 #[test]
 fn each_flag_records_its_detail(rt: HostRuntime) -> Result<(), Fail> {
-    for (flags, details) in [
-        ([true, false, false, false], (7, 0, 0, false)),
-        ([false, true, false, false], (0, 9, 0, false)),
-        ([false, false, true, false], (0, 0, 1, false)),
-        ([false, false, false, true], (0, 0, 0, true)),
+    for (detail, details) in [
+        (Detail::Timestamp, (7, 0, 0, false)),
+        (Detail::Size, (0, 9, 0, false)),
+        (Detail::Md5, (0, 0, 1, false)),
+        (Detail::Source, (0, 0, 0, true)),
     ] {
-        assert_eq!(rt; details_with(&rt, rt.alloc(), flags)?, Some(details));
+        assert_eq!(rt; details_with(&rt, rt.alloc(), detail)?, Some(details));
     }
     Ok(())
 }

@@ -23,42 +23,42 @@ fn encoding(version: u16) -> Encoding {
 
 // ---- units
 
-// The program of version 4 of the file `a.c` in the working directory, with the rows.
-fn program_of_4(alloc: Global) -> Result<(LineProgram, FileId, bool), Error> {
-    let mut program = new_program(alloc, 4, Format::Dwarf32)?;
-    let info = Some(FileInfo::default());
-    let file = add_file(alloc, &mut program, b"/w", b"a.c", info)?;
-    let has_rows = add_rows(&mut program)?;
-    Ok((program, file, has_rows))
+// Whether bytes are the wanted ones, which are passed.
+fn are(bytes: &[u8], wanted: &[u8]) -> bool {
+    bytes == wanted
 }
 
-// A unit of version 4 by hand. Its rows: an address, columns, lines, and as few opcodes as will do.
+// Adds the file `a.c` of the working directory, and the rows; the file's number in version 4, and
+// whether the rows were added.
+fn add_file_and_rows(alloc: Global, program: &mut LineProgram) -> Result<(u64, bool), Error> {
+    let info = Some(FileInfo::default());
+    let file = add_file(alloc, program, b"/w", b"a.c", info)?;
+    Ok((file.raw(4), add_rows(program)?))
+}
+
+// The unit of version 4 of the file `a.c` in the working directory. Its rows: an address, columns,
+// lines, and as few opcodes as will do.
+const UNIT_OF_4: &[u8] = &[
+    57, 0, 0, 0, 4, 0, 27, 0, 0, 0, // lengths and the version
+    1, 1, 1, 251, 14, 13, 0, 1, 1, 1, 1, 0, 0, 0, 1, 0, 0, 1, // parameters and opcodes
+    0, b'a', b'.', b'c', 0, 0, 0, 0, 0, // no more directories; a.c
+    0, 9, 2, 0, 0x10, 0, 0, 0, 0, 0, 0, // set_address 0x1000
+    5, 1, 22, // column 1, a special opcode: 4 lines
+    5, 2, 3, 15, 242, // column 2, 15 lines, a special opcode: 16 operations
+    2, 32, 0, 1, 1, // 32 operations, the end
+];
+
 #[test]
 fn version_4_by_hand(rt: HostRuntime) -> Result<(), Fail> {
-    let (program, file, has_rows) = program_of_4(rt.alloc())?;
-    assert!(rt; has_rows && file.raw(4) == 1);
+    let mut program = new_program(rt.alloc(), 4, Format::Dwarf32)?;
+    let added = add_file_and_rows(rt.alloc(), &mut program)?;
+    assert_eq!(rt; added, (1, true));
     let bytes = written(&rt, rt.alloc(), &program, RunTimeEndian::Little)?;
-    let wanted = [
-        57, 0, 0, 0, 4, 0, 27, 0, 0, 0, // lengths and the version
-        1, 1, 1, 251, 14, 13, 0, 1, 1, 1, 1, 0, 0, 0, 1, 0, 0, 1, // parameters and opcodes
-        0, b'a', b'.', b'c', 0, 0, 0, 0, 0, // no more directories; a.c
-        0, 9, 2, 0, 0x10, 0, 0, 0, 0, 0, 0, // set_address 0x1000
-        5, 1, 22, // column 1, a special opcode: 4 lines
-        5, 2, 3, 15, 242, // column 2, 15 lines, a special opcode: 16 operations
-        2, 32, 0, 1, 1, // 32 operations, the end
-    ];
-    assert!(rt; bytes.as_slice() == wanted.as_slice());
+    assert!(rt; are(&bytes, UNIT_OF_4));
     Ok(())
 }
 
-// Where a text is in a table.
-fn id_in(alloc: Global, strings: &mut LineStringTable, text: &[u8]) -> Result<LineStringId, Fail>
-    requires { IsText text.now }
-{
-    Ok(strings.add(alloc, text)?)
-}
-
-// A program of version 5 with no rows.
+// A program of version 5 with no rows, whose texts are in `.debug_line_str`.
 fn program_of_5(
     alloc: Global,
     directory: LineStringId,
@@ -74,33 +74,49 @@ fn program_of_5(
     LineProgram::new(alloc, encoding, LineEncoding::default(), directory, source)
 }
 
+// The unit of such a program.
 fn unit_of_5(
     rt: &impl Abort,
     alloc: Global,
-    program: &LineProgram,
     line_strings: &mut LineStringTable,
+    directory: LineStringId,
+    source: LineStringId,
 ) -> Result<Vec<u8>, Error> {
+    let program = program_of_5(alloc, directory, source)?;
     let mut strings = StringTable::new(alloc);
     let endian = RunTimeEndian::Little;
-    unit(rt, alloc, program, endian, &mut strings, line_strings)
+    unit(rt, alloc, &program, endian, &mut strings, line_strings)
 }
 
-// A header of version 5 by hand: a directory and the source file, by their offsets in
-// `.debug_line_str`.
+// The same, whose texts are added to the table.
+fn unit_with_texts(
+    rt: &impl Abort,
+    alloc: Global,
+    line_strings: &mut LineStringTable,
+    directory: &[u8],
+    source: &[u8],
+) -> Result<Vec<u8>, Error>
+    requires directory { IsText directory.now }
+    requires source { IsText source.now }
+{
+    let directory = line_strings.add(alloc, directory)?;
+    let source = line_strings.add(alloc, source)?;
+    unit_of_5(rt, alloc, line_strings, directory, source)
+}
+
+// A header of version 5: a directory and the source file, by their offsets in `.debug_line_str`.
+const UNIT_OF_5: &[u8] = &[
+    45, 0, 0, 0, 5, 0, 8, 0, 37, 0, 0, 0, // lengths, version and sizes
+    1, 1, 1, 251, 14, 13, 0, 1, 1, 1, 1, 0, 0, 0, 1, 0, 0, 1, // parameters and opcodes
+    1, 1, 0x1f, 1, 0, 0, 0, 0, // directories: a path by line_strp
+    2, 1, 0x1f, 2, 0x0f, 1, 3, 0, 0, 0, 0, // files: path and directory; a.c
+];
+
 #[test]
 fn version_5_by_hand(rt: HostRuntime) -> Result<(), Fail> {
-    let mut strings = LineStringTable::new(rt.alloc());
-    let directory = id_in(rt.alloc(), &mut strings, b"/w")?;
-    let source = id_in(rt.alloc(), &mut strings, b"a.c")?;
-    let program = program_of_5(rt.alloc(), directory, source)?;
-    let bytes = unit_of_5(&rt, rt.alloc(), &program, &mut strings)?;
-    let wanted = [
-        45, 0, 0, 0, 5, 0, 8, 0, 37, 0, 0, 0, // lengths, version and sizes
-        1, 1, 1, 251, 14, 13, 0, 1, 1, 1, 1, 0, 0, 0, 1, 0, 0, 1, // parameters and opcodes
-        1, 1, 0x1f, 1, 0, 0, 0, 0, // directories: a path by line_strp
-        2, 1, 0x1f, 2, 0x0f, 1, 3, 0, 0, 0, 0, // files: path and directory; a.c
-    ];
-    assert!(rt; bytes.as_slice() == wanted.as_slice());
+    let mut line_strings = LineStringTable::new(rt.alloc());
+    let bytes = unit_with_texts(&rt, rt.alloc(), &mut line_strings, b"/w", b"a.c")?;
+    assert!(rt; are(&bytes, UNIT_OF_5));
     Ok(())
 }
 
@@ -120,8 +136,33 @@ fn add_reference(
     Ok(())
 }
 
-// What writing a program is refused with, which has a directory by reference to `.debug_str` or
-// none.
+fn refusal_with(
+    rt: &impl Abort,
+    alloc: Global,
+    program: &LineProgram,
+    strings: &mut StringTable,
+) -> Option<Error> {
+    let mut none = LineStringTable::new(alloc);
+    let endian = RunTimeEndian::Little;
+    unit(rt, alloc, program, endian, strings, &mut none).err()
+}
+
+// What writing a program is refused with, to which a directory by reference to `.debug_str` is
+// added or none.
+fn refusal_after(
+    rt: &impl Abort,
+    alloc: Global,
+    program: &mut LineProgram,
+    reference: bool,
+) -> Result<Option<Error>, Error> {
+    let mut strings = StringTable::new(alloc);
+    if reference {
+        add_reference(alloc, program, &mut strings, b"inc")?;
+    }
+    Ok(refusal_with(rt, alloc, program, &mut strings))
+}
+
+// The same for a program of a version and with a number of operations an instruction.
 fn refusal(
     rt: &impl Abort,
     alloc: Global,
@@ -131,14 +172,8 @@ fn refusal(
 ) -> Result<Option<Error>, Error>
     requires { 0 < operations }
 {
-    let mut strings = StringTable::new(alloc);
     let mut program = program_of(alloc, version, Format::Dwarf32, operations, b"/w", b"a.c")?;
-    if reference {
-        add_reference(alloc, &mut program, &mut strings, b"inc")?;
-    }
-    let mut none = LineStringTable::new(alloc);
-    let endian = RunTimeEndian::Little;
-    Ok(unit(rt, alloc, &program, endian, &mut strings, &mut none).err())
+    refusal_after(rt, alloc, &mut program, reference)
 }
 
 #[test]
@@ -209,6 +244,14 @@ fn layout_of(program: &LineProgram) -> (u16, u8, Format) {
     (program.version(), program.address_size(), program.format())
 }
 
+fn encoding_of(program: &LineProgram) -> Encoding {
+    program.encoding()
+}
+
+fn no_program(alloc: Global) -> LineProgram {
+    LineProgram::none(alloc)
+}
+
 // Whether there is no program, no row and no open sequence.
 fn lacks(program: &LineProgram) -> [bool; 3] {
     [
@@ -236,8 +279,8 @@ fn a_program_has_what_is_added(rt: HostRuntime) -> Result<(), Fail> {
 fn programs_have_their_layout(rt: HostRuntime) -> Result<(), Fail> {
     let program = new_program(rt.alloc(), 4, Format::Dwarf64)?;
     assert!(rt; layout_of(&program) == (4, 8, Format::Dwarf64));
-    let none = LineProgram::none(rt.alloc());
-    assert!(rt; none.encoding() == encoding(2) && lacks(&none) == [true, true, true]);
+    let none = no_program(rt.alloc());
+    assert!(rt; encoding_of(&none) == encoding(2) && lacks(&none) == [true, true, true]);
     Ok(())
 }
 
@@ -274,24 +317,34 @@ fn bytes_of_table(alloc: Global, table: &StringTable) -> Result<(Vec<u8>, usize)
     }
 }
 
+// The outcomes of adding five texts.
+fn add_all(alloc: Global, table: &mut StringTable) -> [Result<(bool, usize), Error>; 5] {
+    [
+        add(alloc, table, b"a.c"),
+        add(alloc, table, b""),
+        add(alloc, table, b"b"),
+        add(alloc, table, b""),
+        add(alloc, table, b"a.c"),
+    ]
+}
+
+// Whether the table has these bytes and so many strings.
+fn holds(alloc: Global, table: &StringTable, wanted: &[u8], count: usize) -> bool {
+    match bytes_of_table(alloc, table) {
+        Ok((bytes, strings)) => bytes.as_slice() == wanted && strings == count,
+        Err(_) => false,
+    }
+}
+
 // Each string once, one after the other.
 #[test]
-fn tables_of_strings(rt: HostRuntime) -> Result<(), Fail> {
+fn tables_of_strings(rt: HostRuntime) {
     let mut table = StringTable::new(rt.alloc());
-    let outcomes = [
-        add(rt.alloc(), &mut table, b"a.c"),
-        add(rt.alloc(), &mut table, b""),
-        add(rt.alloc(), &mut table, b"b"),
-        add(rt.alloc(), &mut table, b""),
-        add(rt.alloc(), &mut table, b"a.c"),
-    ];
-    let wanted = [0, 4, 5, 4, 0];
-    for (outcome, offset) in outcomes.iter().zip(wanted) {
+    let outcomes = add_all(rt.alloc(), &mut table);
+    for (outcome, offset) in outcomes.iter().zip([0, 4, 5, 4, 0]) {
         assert!(rt; *outcome == Ok((true, offset)));
     }
-    let (bytes, count) = bytes_of_table(rt.alloc(), &table)?;
-    assert!(rt; bytes.as_slice() == b"a.c\0\0b\0".as_slice() && count == 3);
-    Ok(())
+    assert!(rt; holds(rt.alloc(), &table, b"a.c\0\0b\0", 3));
 }
 
 // Whether a string of a header is in the header itself, where it is the wanted one.
@@ -310,6 +363,28 @@ fn is_own(
     }
 }
 
+// The same of a string that is made for a version, which is added to the table where it isn't own.
+fn is_own_in(
+    alloc: Global,
+    version: u16,
+    text: &[u8],
+    table: &mut LineStringTable,
+) -> Result<Option<bool>, Error>
+    requires { IsText text.now }
+{
+    let string = LineString::new(alloc, text, encoding(version), table)?;
+    Ok(is_own(&string, table, &StringTable::new(alloc), text))
+}
+
+// How many bytes a table has.
+fn size_of_table(alloc: Global, table: &LineStringTable) -> Result<usize, Error> {
+    let mut w = EndianVec::new(alloc, LittleEndian);
+    match table.write(&mut w) {
+        Ok(()) => Ok(w.into_vec().len()),
+        Err(error) => Err(error),
+    }
+}
+
 // Whether a string of a header of a version is in the header itself, and how many bytes its table
 // has then.
 fn string_of_header(
@@ -320,22 +395,23 @@ fn string_of_header(
     requires { IsText text.now }
 {
     let mut table = LineStringTable::new(alloc);
-    let string = LineString::new(alloc, text, encoding(version), &mut table)?;
-    let is_own = is_own(&string, &table, &StringTable::new(alloc), text);
-    let mut w = EndianVec::new(alloc, LittleEndian);
-    match table.write(&mut w) {
-        Ok(()) => Ok((is_own, w.into_vec().len())),
-        Err(error) => Err(error),
-    }
+    let is_own = is_own_in(alloc, version, text, &mut table)?;
+    Ok((is_own, size_of_table(alloc, &table)?))
+}
+
+// The outcomes of adding two texts.
+fn add_lines(alloc: Global, table: &mut LineStringTable) -> [Result<(bool, usize), Error>; 2] {
+    [
+        add_line(alloc, table, b"/w"),
+        add_line(alloc, table, b"a.c"),
+    ]
 }
 
 // In the header up to version 4, else in `.debug_line_str`.
 #[test]
-fn strings_of_headers(rt: HostRuntime) -> Result<(), Fail> {
+fn strings_of_headers(rt: HostRuntime) {
     let mut table = LineStringTable::new(rt.alloc());
-    assert!(rt; add_line(rt.alloc(), &mut table, b"/w")? == (true, 0));
-    assert!(rt; add_line(rt.alloc(), &mut table, b"a.c")? == (true, 3));
-    assert!(rt; string_of_header(rt.alloc(), 4, b"src")? == (Some(true), 0));
-    assert!(rt; string_of_header(rt.alloc(), 5, b"src")? == (Some(false), 4));
-    Ok(())
+    assert!(rt; add_lines(rt.alloc(), &mut table) == [Ok((true, 0)), Ok((true, 3))]);
+    assert!(rt; string_of_header(rt.alloc(), 4, b"src") == Ok((Some(true), 0)));
+    assert!(rt; string_of_header(rt.alloc(), 5, b"src") == Ok((Some(false), 4)));
 }

@@ -25,7 +25,7 @@ returns-in_err-calls-clause-function g c =
     returns_refused _ _ _ _ c.from_residual-in_err-calls.ensures.1
     (λ m. calls_refused g.R.Offset.ReaderOffset.limit c.args.unit.now limit
     (g.N.Names.naming c.args.names.now) r c.args.entries attributes _ c.in_err-calls.field-0.0
-    c.attrs.ensures c.in_ok-name.ensures (c.in_err-calls.ensures.value m))
+    c.attrs.ensures c.in_ok-name.ensures (c.in_err-calls.ensures m))
 
 pub returns-clause-function : goal.returns-clause-function
 returns-clause-function g c =
@@ -35,7 +35,7 @@ returns-clause-function g c =
     returns_seen (λ (f : CountedCalls). f.function) _ _ _ c.new.ensures
     (calls_read g.R.Offset.ReaderOffset.limit c.args.unit.now limit
     (g.N.Names.naming c.args.names.now) r c.args.entries attributes _ c.in_ok-calls.calls.items
-    c.attrs.ensures c.in_ok-name.ensures c.in_ok-calls.ensures.value)
+    c.attrs.ensures c.in_ok-name.ensures c.in_ok-calls.ensures)
 
 pub returns-clause-counter : goal.returns-clause-counter
 returns-clause-counter g c = ok_seen (λ (f : CountedCalls). f.counter) _ _ c.new.ensures

@@ -1,27 +1,22 @@
-use Rattle.std.proofs.Common.{List, ◌∙◌, ◌++◌, [], ◌∷◌, ap, sym, subst, rules, option_to_list}
+use Rattle.std.proofs.Common.{◌∙◌, ◌++◌, [], ◌∷◌, ap, sym, rules, option_to_list}
 use Rattle.std.proofs.lemmas.Result.{err_from_is_err_and}
-use Rattle.addr2line_units.specs.InlinedCalls.{Call}
 use Rattle.addr2line_functions.specs.CallNesting.{calls_from}
 use Rattle.addr2line_functions.proofs.NestingLemmas.{matches_first}
 use Rattle.addr2line_functions.proofs.CallEntrySteps.{calls_then, entry_parts, calls-more, call-takes, calls-refused, calls-end, calls-start, some_depth, no_depth, never, items_of_ok}
-use Rattle.addr2line_functions.proofs.CallCounts.{AreFew, few_more, few_first}
 use Rattle.addr2line_functions.proofs.walk.calls_below.Goals as goal
 
 pub loop-alloc-init : goal.loop-alloc-init
-loop-alloc-init g c = record {
-  few = few_first c.new-nesting.result c.new-calls.result.items c.new-nesting.ensures c.new-calls.ensures.items;
-  found = (
-    [],
-    matches_first c.args.entries.depth c.new-nesting.result c.new-nesting.ensures,
-    calls-start g.R.Offset.ReaderOffset.limit c.args.unit.now
-        (g.N.Names.naming c.args.names.now) c.new-calls.result.items c.args.entries c.new-calls.ensures.items,
-  );
-}
+loop-alloc-init g c = (
+  [],
+  matches_first c.args.entries.depth c.new-nesting.result c.new-nesting.ensures,
+  calls-start g.R.Offset.ReaderOffset.limit c.args.unit.now
+      (g.N.Names.naming c.args.names.now) c.new-calls.result.items c.args.entries c.new-calls.ensures.items,
+)
 
-pub returns-in_err-next-clause-value : goal.returns-in_err-next-clause-value
-returns-in_err-next-clause-value g c =
+pub returns-in_err-next : goal.returns-in_err-next
+returns-in_err-next g c =
     let p = err_from_is_err_and c.from_residual.result c.from_residual.ensures.1 in
-    let i = c.loop-alloc.invariant.found in
+    let i = c.loop-alloc.invariant in
     let w = c.loop-alloc.entries in
     rw (p.1, p.2)
     (λ m. sym i.2
@@ -52,35 +47,30 @@ loop-alloc-preserved g c =
     let t = c.next_call.new.entries in
     let o = c.loop-alloc.nesting in
     let p = c.next_call.new.nesting in
-    let i = c.loop-alloc.invariant.found in
+    let i = c.loop-alloc.invariant in
     let all = c.push_if_any.new.calls.items in
     let e = entry_parts limit u naming w t o p next c.in_ok-next.ensures in
     let more =
     calls-more limit u naming found i.0 w t o p next
     (some_depth c.next_depth.result w.depth (search rules) c.next_depth.ensures c.loop-alloc-test.true) i.1 e in
-    let same = items_of_ok (found ++ option_to_list next) all c.in_ok-push_if_any.ensures in
-    let P : List Call → Type 0 = AreFew p in
-    record {
-      few = subst P same (few_more limit u naming w t o p next found c.loop-alloc.invariant.few e);
-      found = (
-        e.row ∷ i.0,
-        more.0,
-        ap (λ l. calls_then l (calls_from limit u naming (record { walk = t; before = e.row ∷ i.0 }))) (sym same)
-            ∙ more.1 ∙ i.2,
-      );
-    }
+    let same = items_of_ok (found ++ option_to_list next) all c.in_ok-push_if_any.ensures in (
+      e.row ∷ i.0,
+      more.0,
+      ap (λ l. calls_then l (calls_from limit u naming (record { walk = t; before = e.row ∷ i.0 }))) (sym same)
+          ∙ more.1 ∙ i.2,
+    )
 
-pub returns-in_err-push_if_any-clause-value : goal.returns-in_err-push_if_any-clause-value
-returns-in_err-push_if_any-clause-value g c =
+pub returns-in_err-push_if_any : goal.returns-in_err-push_if_any
+returns-in_err-push_if_any g c =
     let p = err_from_is_err_and c.from_residual-in_err-push_if_any.result
     c.from_residual-in_err-push_if_any.ensures.1 in
     rw (p.1, p.2)
     (λ m. never (c.loop-alloc.calls.items ++ option_to_list c.in_ok-next.next) c.in_err-push_if_any.field-0.0
     (c.in_err-push_if_any.ensures m))
 
-pub returns-clause-value : goal.returns-clause-value
-returns-clause-value g c =
-    let i = c.loop-alloc.invariant.found in
+pub returns : goal.returns
+returns g c =
+    let i = c.loop-alloc.invariant in
     let w = c.loop-alloc.entries in
     sym i.2
     ∙ calls-end g.R.Offset.ReaderOffset.limit c.args.unit.now

@@ -1,16 +1,16 @@
-use Rattle.std.proofs.Common.{◌≡◌, ◌∷◌, [], ◌++◌, sym, ap, ◌∙◌, arith, ◌≤◌, length, map}
+use Rattle.std.proofs.Common.{◌≡◌, ◌∷◌, [], ◌++◌, sym, ap, ◌∙◌, length, map}
 use Rattle.std.proofs.lemmas.Result.{IfOk-weaker}
 use Rattle.addr2line_functions.specs.NumberedRanges.{ranges_of_units}
 use Rattle.addr2line_resolved.specs.ContextUnits.{ordered_ranges}
 use Rattle.addr2line_resolved.specs.ResolvedUnits.{plain_unit}
-use Rattle.addr2line_resolved.proofs.UnitOrder.{ranges_to, ranges_to-more, ranges_to-length, ranges_to-all}
+use Rattle.addr2line_resolved.proofs.UnitOrder.{ranges_to, at_most, ranges_to-more, ranges_to-length, ranges_to-all}
 use Rattle.addr2line_resolved.proofs.order.ordered_ranges.Goals as goal
 
 pub loop-number-preserved : goal.loop-number-preserved
 loop-number-preserved g c =
     let us = c.args.units.now in
     let n = c.loop-number.number in
-    let within : n ≤ length us = omega arith in
+    let within = at_most n (length us) c.loop-number-test.true in
     c.in_ok-add_unit.ensures.ok (ranges_to n us) c.loop-number.invariant (ranges_to-length n us within)
     ∙ ap (λ rs. ranges_of_units (ranges_to n us ++ rs ∷ [])) c.ranges-in-loop-number.ensures
     ∙ ap ranges_of_units

@@ -1,4 +1,4 @@
-use Rattle.std.proofs.Common.{◌≡◌, sym, ap, ◌∙◌, map, option_map}
+use Rattle.std.proofs.Common.{◌≡◌, sym, ap, subst, ◌∙◌, map, option_map}
 use Rattle.std.proofs.lemmas.Result.{err_from_is_err_and}
 use Rattle.addr2line_functions.specs.Tiling.{whole_section}
 use Rattle.addr2line_functions.specs.UnitHeaders.{units_to_come}
@@ -6,7 +6,7 @@ use Rattle.addr2line_functions.specs.UnitFacts.{in_file}
 use Rattle.addr2line_units.specs.CachedFiles.{CachedFile}
 use Rattle.addr2line_functions.specs.DwarfFiles.{DwarfFile}
 use Rattle.addr2line_functions.specs.Contexts.{facts_of_code_unit, headers_of}
-use Rattle.addr2line_resolved.specs.ResolvedUnits.{value_of_unit, new_unit, new_units}
+use Rattle.addr2line_resolved.specs.ResolvedUnits.{value_of_unit, new_unit, new_units, KeepNoFunctions}
 use Rattle.addr2line_resolved.proofs.UnitReading.{read_start, read_more, read_refused}
 use Rattle.addr2line_resolved.proofs.units.units_of_file.Goals as goal
 
@@ -17,16 +17,20 @@ loop-headers-init g c =
     let of_file = c.as_ref.ensures in
     let whole : c.in_ok-headers.headers ≡ whole_section c.as_ref.result.now.file.sections.debug_info =
     cc c.in_ok-headers.ensures.value in
-    read_start (facts_of_code_unit file) (λ u. new_unit (in_file file u))
-    (units_to_come limit c.in_ok-headers.headers) (headers_of file)
-    (map value_of_unit c.new-units.result.items) (ap (map value_of_unit) c.new-units.ensures.items)
-    (ap (units_to_come limit) whole
-    ∙ ap (λ n. units_to_come n (whole_section c.as_ref.result.now.file.sections.debug_info))
-    (sym c.in_ok-headers.ensures.limit)
-    ∙ ap (λ (s : CachedFile). headers_of s.file) of_file)
+    record {
+      units =
+          read_start (facts_of_code_unit file) (λ u. new_unit (in_file file u))
+          (units_to_come limit c.in_ok-headers.headers) (headers_of file)
+          (map value_of_unit c.new-units.result.items) (ap (map value_of_unit) c.new-units.ensures.items)
+          (ap (units_to_come limit) whole
+          ∙ ap (λ n. units_to_come n (whole_section c.as_ref.result.now.file.sections.debug_info))
+          (sym c.in_ok-headers.ensures.limit)
+          ∙ ap (λ (s : CachedFile). headers_of s.file) of_file);
+      functions = subst KeepNoFunctions (sym c.new-units.ensures.items) tt;
+    }
 
-pub returns-in_err-unit : goal.returns-in_err-unit
-returns-in_err-unit g c =
+pub returns-in_err-unit-clause-units : goal.returns-in_err-unit-clause-units
+returns-in_err-unit-clause-units g c =
     let limit = g.R.Offset.ReaderOffset.limit in
     let file : DwarfFile = c.args.sections.now.value.file in
     let p = err_from_is_err_and c.from_residual-in_err-unit.result c.from_residual-in_err-unit.ensures.1 in
@@ -35,16 +39,20 @@ returns-in_err-unit g c =
     (units_to_come limit c.loop-headers.headers) (units_to_come limit c.next.new.self)
     c.in_ok-header.field-0 c.in-Some.header _ (map value_of_unit c.loop-headers.units.items) c.in-Some.is
     c.in_ok-header.ensures.order
-    (c.in_err-unit.ensures m)
-    (new_units file) c.loop-headers.invariant)
+    (c.in_err-unit.ensures.unit m)
+    (new_units file) c.loop-headers.invariant.units)
 
 pub loop-headers-preserved : goal.loop-headers-preserved
 loop-headers-preserved g c =
     let limit = g.R.Offset.ReaderOffset.limit in
     let file : DwarfFile = c.args.sections.now.value.file in
-    read_more (facts_of_code_unit file) (λ u. new_unit (in_file file u))
-    (units_to_come limit c.loop-headers.headers) (units_to_come limit c.next.new.self)
-    c.in_ok-header.field-0 c.in-Some.header (option_map value_of_unit c.in_ok-unit.unit)
-    (map value_of_unit c.loop-headers.units.items) (map value_of_unit c.push_unit.new.units.items)
-    c.in-Some.is c.in_ok-header.ensures.order c.in_ok-unit.ensures c.in_ok-push_unit.ensures.ok
-    (new_units file) c.loop-headers.invariant
+    record {
+      units =
+          read_more (facts_of_code_unit file) (λ u. new_unit (in_file file u))
+          (units_to_come limit c.loop-headers.headers) (units_to_come limit c.next.new.self)
+          c.in_ok-header.field-0 c.in-Some.header (option_map value_of_unit c.in_ok-unit.unit)
+          (map value_of_unit c.loop-headers.units.items) (map value_of_unit c.push_unit.new.units.items)
+          c.in-Some.is c.in_ok-header.ensures.order c.in_ok-unit.ensures.unit c.in_ok-push_unit.ensures.ok
+          (new_units file) c.loop-headers.invariant.units;
+      functions = c.in_ok-push_unit.ensures.functions c.loop-headers.invariant.functions c.in_ok-unit.ensures.functions;
+    }

@@ -1,6 +1,4 @@
-use Rattle.std.proofs.Common.{◌≡◌, ◌∙◌, ◌++◌, ap, sym, List, Result, Ok, append-nil}
-use Rattle.gimli_lines_rows.specs.Error.{Error}
-use Rattle.gimli_lines_rows.specs.Range.{Range}
+use Rattle.std.proofs.Common.{◌∙◌, ◌++◌, ap, sym, append-nil}
 use Rattle.addr2line_units.proofs.ArangeIndexLemmas.{stop_ranges}
 use Rattle.addr2line_units.proofs.UnitRangeLemmas.{ok_ranges}
 use Rattle.addr2line_units.proofs.arange_index.first_ranges.Goals as goal

@@ -8,4 +8,4 @@ abbrev pub invariant-loop-word : goal.invariant-loop-word
 invariant-loop-word g l =
     (l.context ≡ l.fn.context)
     × Appends (g.W.Write.contents l.fn.out) (g.W.Write.contents l.out)
-    (answers_to l.fn.context.context l.words l.word-index)
+    (answers_to l.fn.context.plain.context l.words l.word-index)

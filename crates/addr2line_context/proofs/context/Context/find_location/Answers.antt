@@ -1,23 +1,23 @@
 use Rattle.std.proofs.Common.{◌≡◌, refl, subst, None, Ok, Err, option_map, map}
 use Rattle.std.proofs.lemmas.Result.{err_from_is_err_and}
-use Rattle.addr2line_resolved.specs.Calls.{ReturnsAsOrNoMemory}
-use Rattle.addr2line_resolved.specs.Contexts.{FileContext, location}
+use Rattle.addr2line_resolved.specs.Contexts.{location}
 use Rattle.addr2line_resolved.specs.BorrowedLocations.{location_value}
 use Rattle.addr2line_resolved.specs.ResolvedUnits.{plain_unit}
-use Rattle.addr2line_context.specs.KeptUnits.{FindsUnit, KeepsFound, KeepsAt, place_at}
-use Rattle.addr2line_context.proofs.ContextParts.{same_context}
-use Rattle.addr2line_context.proofs.UnitAnswers.{place_found, or_no_memory}
+use Rattle.addr2line_context.specs.AnsweredContexts.{AnsweredContext}
+use Rattle.addr2line_context.specs.KeptUnits.{FindsRow, KeepsFound, KeepsAt}
+use Rattle.addr2line_context.proofs.ContextParts.{same_context, same_files}
+use Rattle.addr2line_context.proofs.UnitAnswers.{place_found}
 use Rattle.addr2line_context.proofs.context.Context.find_location.Goals as goal
 
-pub returns-in_err-number : goal.returns-in_err-number
-returns-in_err-number g c =
+pub returns-in_err-found : goal.returns-in_err-found
+returns-in_err-found g c =
     let p = err_from_is_err_and c.from_residual.result c.from_residual.ensures.1 in (
-      (refl, λ _. tt, same_context _ _ _ _ _ c.place_unit.ensures.values c.self.view_is),
+      (refl, λ _. tt, same_context _ _ _ _ _ c.find_row.ensures.values c.self.view_is),
       record {
         place =
             rw (p.1, p.2) (λ m.
-            subst (λ (x : FileContext). location x.context c.args.probe ≡ Err c.in_err-number.field-0.0) c.self.view_is
-            (c.in_err-number.ensures.found m));
+            subst (λ (x : AnsweredContext). location x.plain.context c.args.probe ≡ Err c.in_err-found.field-0.0) c.self.view_is
+            (c.in_err-found.ensures.found m));
         after = tt;
       },
     )
@@ -25,31 +25,37 @@ returns-in_err-number g c =
 pub returns-in-Some : goal.returns-in-Some
 returns-in-Some g c =
     let us = c.self.inside.units in
-    let vs = c.place_unit.new.self in
-    let n = c.in-Some.number in
-    let kept : KeepsAt vs n = subst (λ o. KeepsFound vs (Ok o)) c.in-Some.is c.in_ok-number.ensures.kept in (
-      (refl, λ _. tt, same_context _ _ _ _ _ c.place_unit.ensures.values c.self.view_is),
+    let vs = c.find_row.new.self in
+    let found = c.in-Some.found in
+    let kept : KeepsAt vs found.unit = subst (λ o. KeepsFound vs (Ok o)) c.in-Some.is c.in_ok-found.ensures.kept in (
+      (refl, λ _. tt, same_context _ _ _ _ _ c.find_row.ensures.values c.self.view_is),
       record {
         place =
-            subst (λ (x : FileContext). ReturnsAsOrNoMemory (option_map location_value) c.place_in.result
-            (location x.context c.args.probe)) c.self.view_is
-            (subst (ReturnsAsOrNoMemory (option_map location_value) c.place_in.result)
-            (place_found us vs c.args.probe n c.in_ok-number.field-0 c.in-Some.is c.in_ok-number.ensures.found
-            c.place_unit.ensures.values)
-            (or_no_memory (option_map location_value) c.place_in.result
-            (place_at (map plain_unit c.place_unit.new.self) c.args.probe c.in-Some.number) (c.place_in.ensures kept)));
+            subst (λ (x : AnsweredContext). location x.plain.context c.args.probe
+            ≡ Ok (option_map location_value c.place_in.result)) c.self.view_is
+            (place_found us vs c.args.probe found c.in_ok-found.field-0 (option_map location_value c.place_in.result)
+            c.in-Some.is c.in_ok-found.ensures.found c.find_row.ensures.values (c.place_in.ensures kept));
         after = tt;
       },
     )
 
 pub returns-in-None : goal.returns-in-None
 returns-in-None g c = (
-  (refl, λ _. tt, same_context _ _ _ _ _ c.place_unit.ensures.values c.self.view_is),
+  (refl, λ _. tt, same_context _ _ _ _ _ c.find_row.ensures.values c.self.view_is),
   record {
     place =
-        subst (λ (x : FileContext). location x.context c.args.probe ≡ Ok None) c.self.view_is
-        (subst (λ o. FindsUnit (map plain_unit c.self.inside.units) c.args.probe (Ok o)) c.in-None.is
-        c.in_ok-number.ensures.found);
+        subst (λ (x : AnsweredContext). location x.plain.context c.args.probe ≡ Ok None) c.self.view_is
+        (subst (λ o. FindsRow (map plain_unit c.self.inside.units) c.args.probe (Ok o)) c.in-None.is
+        c.in_ok-found.ensures.found);
     after = tt;
   },
 )
+
+pub invariant_of-self : goal.invariant_of-self
+invariant_of-self g c = same_files _ _ _ c.find_row.ensures.values c.self.invariant
+
+pub invariant_of-self-in-Some : goal.invariant_of-self-in-Some
+invariant_of-self-in-Some g c = same_files _ _ _ c.find_row.ensures.values c.self.invariant
+
+pub invariant_of-self-in-None : goal.invariant_of-self-in-None
+invariant_of-self-in-None g c = same_files _ _ _ c.find_row.ensures.values c.self.invariant

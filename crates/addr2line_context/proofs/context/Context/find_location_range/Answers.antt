@@ -1,7 +1,9 @@
 use Rattle.std.proofs.Common.{◌∙◌, sym, ap, Ok}
 use Rattle.std.proofs.lemmas.Result.{err_from_is_err_and}
-use Rattle.addr2line_resolved.specs.Contexts.{FileContext, stretches, ranges_of, lines_of}
+use Rattle.addr2line_resolved.specs.Contexts.{stretches, ranges_of, lines_of}
 use Rattle.addr2line_resolved.specs.PlaceLookups.{stretches_between}
+use Rattle.addr2line_context.specs.AnsweredContexts.{AnsweredContext}
+use Rattle.addr2line_context.proofs.ContextParts.{same_files}
 use Rattle.addr2line_context.proofs.KeptLines.{same_plain}
 use Rattle.addr2line_context.proofs.context.Context.find_location_range.Goals as goal
 
@@ -15,4 +17,10 @@ returns g c =
     ap Ok (sym (c.stretches.ensures
     ∙ ap (λ us. stretches_between ranges_of lines_of us c.args.probe_low c.args.probe_high)
     (same_plain c.read_between.new.self c.self.inside.units c.read_between.ensures.values)
-    ∙ ap (λ (x : FileContext). stretches x.context c.args.probe_low c.args.probe_high) c.self.view_is))
+    ∙ ap (λ (x : AnsweredContext). stretches x.plain.context c.args.probe_low c.args.probe_high) c.self.view_is))
+
+pub invariant_of-self : goal.invariant_of-self
+invariant_of-self g c = same_files _ _ _ c.read_between.ensures.values c.self.invariant
+
+pub invariant_of-self-2 : goal.invariant_of-self-2
+invariant_of-self-2 g c = same_files _ _ _ c.read_between.ensures.values c.self.invariant

@@ -1,6 +1,6 @@
 use Rattle.std.proofs.Common.{◌∙◌, ap}
-use Rattle.addr2line_resolved.specs.Contexts.{FileContext}
+use Rattle.addr2line_context.specs.AnsweredContexts.{AnsweredContext}
 use Rattle.addr2line_context.proofs.context.Context.supplement_units.Goals as goal
 
 pub returns : goal.returns
-returns g c = c.as_slice.ensures.value ∙ ap (λ (x : FileContext). x.context.supplement_units) c.self.view_is
+returns g c = c.as_slice.ensures.value ∙ ap (λ (x : AnsweredContext). x.plain.context.supplement_units) c.self.view_is

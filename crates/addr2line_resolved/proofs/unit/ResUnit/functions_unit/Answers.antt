@@ -1,14 +1,14 @@
 use Rattle.std.proofs.Common.{ap, subst, sym, Ok, Err, Result}
 use Rattle.addr2line_functions.specs.Error.{Error}
-use Rattle.addr2line_functions.specs.Calls.{ReturnsAs}
-use Rattle.addr2line_functions.specs.UnitFacts.{UnitInFile}
+use Rattle.addr2line_functions.specs.Calls.{Returns}
+use Rattle.addr2line_functions.specs.EntryReferences.{HoldingUnit}
 use Rattle.addr2line_resolved.specs.ResolvedUnits.{ResolvedUnit, main_unit, decided, first_answer, unit_of_functions}
 use Rattle.addr2line_resolved.proofs.KeptParses.{unit_by_load}
 use Rattle.addr2line_resolved.proofs.unit.ResUnit.functions_unit.Goals as goal
 
 pub returns-in-Ok : goal.returns-in-Ok
 returns-in-Ok g c =
-    let P : Result UnitInFile Error → Type 0 = λ x. ReturnsAs (λ u. u.now) c.unit_decided.result x in
+    let P : Result HoldingUnit Error → Type 0 = λ x. Returns c.unit_decided.result x in
     subst P
     (sym (unit_by_load c.args.self.now c.self.inside.main c.self.inside.load c.self.inside.first
     (decided (Ok c.in-Ok.load) c.self.inside.first)

@@ -1,7 +1,28 @@
+use Rattle.std.proofs.Common.{sym, subst}
 use Rattle.std.proofs.lemmas.Result.{err_from_is_err_and}
+use Rattle.addr2line_functions.specs.FirstAnswers.{load_of}
+use Rattle.addr2line_units.specs.RootRanges.{RootFacts, RunsForRanges}
+use Rattle.addr2line_resolved.proofs.KeptParses.{load_made, keeps_new, ranges_new}
 use Rattle.addr2line_resolved.proofs.unit.ResUnit.of_root.Goals as goal
 
 pub returns-in_err-load-clause-unit : goal.returns-in_err-load-clause-unit
 returns-in_err-load-clause-unit g c =
     let p = err_from_is_err_and c.from_residual.result c.from_residual.ensures.1 in
     rw (p.1, p.2) (λ m. cc (c.in_err-load.ensures m))
+
+pub invariant_of-result : goal.invariant_of-result
+invariant_of-result g c =
+    let u = c.args.main in
+    let root = c.root.inside in
+    keeps_new u root.ranges.items c.args.runs c.in_ok-load.load root.lines c.in_ok-lines.lines c.not_read.result
+    c.new-probes.result.name c.in_ok-lines.ensures.ok
+    (subst (λ (r : RootFacts). RunsForRanges u r.ranges r.lines 0 c.args.runs) (sym c.root.view_is) c.requires)
+    (load_made c.in_ok-load.load (load_of u) c.in_ok-load.ensures) c.not_read.ensures
+
+pub returns-clause-lines : goal.returns-clause-lines
+returns-clause-lines g c =
+    let u = c.args.main in
+    let root = c.root.inside in
+    ranges_new u root.ranges.items c.args.runs root.lines c.in_ok-lines.lines c.new-probes.result.name
+    c.in_ok-lines.ensures.ok
+    (subst (λ (r : RootFacts). RunsForRanges u r.ranges r.lines 0 c.args.runs) (sym c.root.view_is) c.requires)

@@ -1,4 +1,4 @@
-use Rattle.std.proofs.Common.{◌∙◌, ap, sym, subst, drop, List, Ok, Vec, Global}
+use Rattle.std.proofs.Common.{◌∙◌, ap, sym, subst, drop, Vec, Global}
 use Rattle.std.specs.List.Sorted.{IsNonDecreasingBy}
 use Rattle.gimli_lines_rows.specs.Calls.{ReturnsAsOrNoMemory}
 use Rattle.gimli_lines_rows.specs.Range.{Range}

@@ -1,0 +1,17 @@
+use Rattle.std.proofs.Common.{◌≡◌, ◌∙◌, ap, sym, subst, map, List, Result, Ok}
+use Rattle.addr2line_resolved.specs.Error.{Error}
+use Rattle.addr2line_resolved.specs.Calls.{ReturnsAsOrNoMemory}
+use Rattle.addr2line_resolved.specs.FirstAnswers.{PendingLoad}
+use Rattle.addr2line_resolved.specs.Lookups.{loads}
+use Rattle.addr2line_context.specs.AnsweredContexts.{AnsweredContext}
+use Rattle.addr2line_context.specs.Preloads.{load_of_item}
+use Rattle.addr2line_context.proofs.ContextLoads.{loads_of_context}
+use Rattle.addr2line_context.proofs.context.Context.preload_units.Goals as goal
+
+pub returns-clause-loads : goal.returns-clause-loads
+returns-clause-loads g c =
+    let P : List PendingLoad → Type 0 =
+    λ l. ReturnsAsOrNoMemory (λ found. map load_of_item found.items) c.pending_loads.result (Ok l) in
+    subst P
+    (sym (loads_of_context c.self.inside.sections.value.file c.self.inside.units c.self.inside.supplement_units.items
+    c.self.invariant c.args.probe c.args.self.now c.self.view_is)) c.pending_loads.ensures

@@ -1,0 +1,42 @@
+-- Lookups that wait for loads, and what they find in the end.
+use Rattle.std.specs.Prelude.{◌≡◌, ◌≢◌, ℕ, ◌+◌, Result, Ok, Err}
+use Rattle.std.specs.Borrow.{GName}
+use mathlib.Core.Option as maybe
+use Rattle.addr2line_resolved.specs.Error.{Error}
+use Rattle.addr2line_resolved.specs.Error.TheVariants.{Memory}
+use Rattle.addr2line_resolved.specs.FirstAnswers.{PendingLoad, Lookup, output, pending}
+use Rattle.addr2line_context.specs.declared.lookup.LookupResult.{LookupResult}
+use Rattle.addr2line_context.specs.declared.lookup.LookupResult.TheVariants.{Load, Output}
+
+-- ---- lookups of any kind
+
+-- how many loads a lookup can wait for, that for which it waits now too
+abbrev pub loads_left : {L O B W S E F : Type 0} → (L → ℕ) → LookupResult L O B W S E F → ℕ
+loads_left left (Output found) = 0
+loads_left left (Load wait) = left wait + 1
+
+-- what holds of a lookup that waits
+abbrev pub IfLoad : {L O B W S E F : Type 0} → (L → Type 0) → LookupResult L O B W S E F
+    → Type 0
+IfLoad P (Output found) = Unit {0}
+IfLoad P (Load wait) = P wait
+
+-- the name of the reference that is in a lookup that waits
+abbrev pub waiting_name : {L O B W S E F : Type 0} → (L → GName)
+    → LookupResult L O B W S E F → maybe.Option GName
+waiting_name name (Output found) = maybe.none
+waiting_name name (Load wait) = maybe.some (name wait)
+
+-- ---- their meaning
+
+-- a load needs an answer before something is found
+abbrev pub IsPending : {A : Type 0} → Lookup A → Type 0
+IsPending {A} meaning = (p : PendingLoad) × (meaning ≡ pending p)
+
+-- What is found, as a definition has it, or out of memory. A lookup waits where its definition
+-- does.
+abbrev pub FollowsLookup : {L X B W S E F A : Type 0} → (X → A)
+    → LookupResult L (Result X Error) B W S E F → Lookup (Result A Error) → Type 0
+FollowsLookup see (Output (Ok x)) meaning = meaning ≡ output (Ok (see x))
+FollowsLookup see (Output (Err e)) meaning = e ≢ Memory → meaning ≡ output (Err e)
+FollowsLookup see (Load wait) meaning = IsPending meaning

@@ -1,0 +1,3 @@
+pub mod SectionAnswers
+mod SplitCalls
+mod Texts

@@ -1,0 +1,15 @@
+pub use Rattle.addr2line_resolved.specs.Calls
+pub use Rattle.addr2line_resolved.specs.Error
+pub use Rattle.addr2line_resolved.specs.Results
+pub use Rattle.gimli_dwarf_spec.specs.SectionId
+pub use Rattle.addr2line_resolved.specs.View
+pub use Rattle.addr2line_elf.specs.ElfDebugSections
+pub use Rattle.addr2line_elf.specs.ElfImages
+pub use Rattle.addr2line_elf.specs.ElfSymbols
+pub use Rattle.addr2line_elf.specs.ImageLoading
+pub use Rattle.addr2line_elf.specs.LoadErrors
+pub use Rattle.addr2line_elf.specs.declared.error.LoadError
+pub mod NamedFiles
+pub mod FileReads
+pub mod ImageFiles
+pub mod SplitLoading

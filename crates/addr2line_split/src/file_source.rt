@@ -1,0 +1,70 @@
+//! Split files of the file system.
+
+ghost use Rattle.std.specs.Prelude.{◌≡◌, IfOk, option_map};
+ghost use Rattle.std.specs.Path.{path_buf_bytes};
+ghost use Rattle.addr2line_split.specs.FileReads.{as_text, path_in};
+
+use crate::file_reads::{if_readable, read_file};
+use crate::source::SplitSource;
+use addr2line_resolved::Error;
+use bytes::Bytes;
+use std::alloc::{AllocError, Global};
+use std::path::{Path, PathBuf};
+use std::rt::Files;
+use std::str;
+
+/// Split files of the file system. A file's path is its name joined to its directory, as `Path`
+/// joins them, so that an absolute name stands alone. A path that isn't UTF-8, or can't be read,
+/// gives none.
+#[derive(Drop)]
+pub struct FileSource<R> {
+    rt: R,
+}
+
+impl<R: Files + AllocGlobal> FileSource<R> {
+    /// The files that a runtime opens, also a borrowed one.
+    pub fn new(rt: R) -> Self {
+        FileSource { rt }
+    }
+}
+
+impl<R: Files + AllocGlobal> SplitSource for FileSource<R> {
+    ghost use Rattle.std.specs.Prelude.{◌≡◌, Ok, None};
+    ghost use Rattle.addr2line_resolved.specs.Calls.{ReturnsOrNoMemory};
+    ghost use Rattle.addr2line_split.specs.FileReads.{path_in};
+
+    ghost answers = { λ old directory name result new.
+        path_in directory name ≡ None → ReturnsOrNoMemory result (Ok None) };
+
+    fn get(&mut self, directory: &[u8], name: &[u8]) -> Result<Option<Bytes>, Error> {
+        match path_in(self.rt.alloc(), directory, name)? {
+            Some(path) => if_readable(read_file(&self.rt, path)),
+            None => Ok(None),
+        }
+    }
+}
+
+// The path of a name that counts from a directory, if both are texts.
+fn path_in(alloc: Global, directory: &[u8], name: &[u8]) -> Result<Option<PathBuf>, AllocError>
+    ensures { IfOk result (λ path. option_map path_buf_bytes path
+        ≡ path_in directory.now name.now) }
+{
+    let Some(directory) = as_text(directory) else {
+        return Ok(None);
+    };
+    let Some(name) = as_text(name) else {
+        return Ok(None);
+    };
+    Ok(Some(Path::new(directory).join(alloc, name)?))
+}
+
+// The bytes as a text, if they are UTF-8.
+#[tactic(auto, using(crate::proofs::Texts::text_yes, crate::proofs::Texts::text_no))]
+fn as_text(bytes: &[u8]) -> Option<&str>
+    ensures { option_map (λ text. text.now) result ≡ as_text bytes.now }
+{
+    match str::from_utf8(bytes) {
+        Ok(text) => Some(text),
+        Err(_) => None,
+    }
+}

@@ -1,0 +1,21 @@
+//! Split files (DWARF 5, 7.3.2): where their bytes come from, and what a load gets of them.
+#![tactic(auto)]
+
+pub mod file_reads;
+pub mod file_source;
+pub mod map_source;
+pub mod sections;
+pub mod source;
+pub mod split_file;
+
+pub use addr2line_elf::{Elf, LoadError, Symbol, Symbols};
+use addr2line_resolved::{EndianBytes, RunTimeEndian};
+pub use file_reads::read_file;
+pub use file_source::FileSource;
+pub use map_source::{MapSource, SplitFile};
+pub use sections::dwo_sections;
+pub use source::SplitSource;
+pub use split_file::load_split;
+
+/// A reader of an image's bytes, which it shares, in the order that the image says.
+pub type ImageReader = EndianBytes<RunTimeEndian>;
