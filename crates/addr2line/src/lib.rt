@@ -4,15 +4,13 @@
 #![tactic(auto)]
 
 pub use addr2line_context::{
-    Context, Lines, Location, LocationRangeIter, LookupContinuation, LookupResult, ResUnit, Runs,
-    SplitDwarfLoad, UnitLines, UnitToken,
+    Context, FindFrames, FindUnit, Frame, FrameIter, FunctionName, Lines, Location,
+    LocationRangeIter, LookupContinuation, LookupResult, ResUnit, Runs, SplitDwarfLoad, UnitLines,
+    UnitToken,
 };
 pub use addr2line_demangle::{demangle, demangle_auto};
 pub use addr2line_elf::{Elf, LoadError, Symbol, Symbols};
-pub use addr2line_functions::{
-    DebugFile, Frame, FrameIter, FunctionName, HasUnit, HoldingUnit, KnownUnits, Names, UnitNames,
-    frames_of_unit,
-};
+pub use addr2line_functions::{DebugFile, HasUnit, HoldingUnit, KnownUnits, Names, UnitNames};
 pub use addr2line_split::{FileSource, MapSource, SplitFile, SplitSource, load_split};
 
 /// What holds of the definitions, as contracts.

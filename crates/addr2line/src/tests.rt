@@ -6,6 +6,7 @@
 mod contexts;
 mod elf;
 mod files;
+mod frames;
 mod functions;
 mod lines;
 mod names;

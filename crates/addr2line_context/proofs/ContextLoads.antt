@@ -1,21 +1,23 @@
 -- Loads of a context and answers to them, by its units.
-use Rattle.std.proofs.Common.{◌≡◌, inl, inr, ℕ, List, map, Option, Result, Ok, Err, refl, sym, ap, ◌∙◌, subst}
+use Rattle.std.proofs.Common.{◌≡◌, ℕ, List, map, Option, Result, sym, ap, ◌∙◌, subst}
 use Rattle.std.proofs.lemmas.Simd.{map-map}
-use Rattle.addr2line_resolved.specs.Error.{Error}
-use Rattle.addr2line_resolved.specs.DwarfFiles.{DwarfFile}
-use Rattle.addr2line_resolved.specs.UnitFacts.{UnitFacts}
-use Rattle.addr2line_resolved.specs.FirstAnswers.{FirstAnswers}
-use Rattle.addr2line_resolved.specs.Lookups.{one_each, loads, answer_load}
-use Rattle.addr2line_resolved.specs.NumberedRanges.{covering_ranges}
-use Rattle.addr2line_resolved.specs.ContextUnits.{ordered_ranges}
-use Rattle.addr2line_resolved.specs.ResolvedUnits.{ResolvedUnit, value_of_unit, plain_unit}
-use Rattle.addr2line_resolved.proofs.NewUnits.{unit_of}
-use Rattle.addr2line_context.specs.AnsweredContexts.{AnsweredContext, AreOfFile, answers_of}
-use Rattle.addr2line_context.specs.LoadAnswers.{AnswersOrNoMemory, answer_at}
-use Rattle.addr2line_context.specs.Preloads.{loads_at}
-use Rattle.addr2line_context.proofs.ContextParts.{context_of_units, file_context_with, context_with}
-use Rattle.addr2line_context.proofs.PendingUnits.{loads_of_units}
-use Rattle.addr2line_context.proofs.AnsweredLoads.{answers_of_units, answers_left, plain_left}
+use Rattle.addr2line_lookups.specs.Error.{Error}
+use Rattle.addr2line_lookups.specs.DwarfFiles.{DwarfFile}
+use Rattle.addr2line_lookups.specs.UnitFacts.{UnitFacts}
+use Rattle.addr2line_lookups.specs.FirstAnswers.{FirstAnswers}
+use Rattle.addr2line_lookups.specs.Lookups.{one_each, loads, answer_load}
+use Rattle.addr2line_lookups.specs.NumberedRanges.{covering_ranges}
+use Rattle.addr2line_lookups.specs.ContextUnits.{ordered_ranges}
+use Rattle.addr2line_lookups.specs.ResolvedUnits.{ResolvedUnit, value_of_unit, plain_unit}
+use Rattle.addr2line_lookups.proofs.NewUnits.{unit_of}
+use Rattle.addr2line_context.specs.AnsweredContexts.{AnsweredContext}
+use Rattle.addr2line_lookups.specs.AnsweredUnits.{AreOfFile, answers_of}
+use Rattle.addr2line_lookups.specs.LoadAnswers.{AnswersOrNoMemory, answer_at}
+use Rattle.addr2line_lookups.specs.Preloads.{loads_at}
+use Rattle.addr2line_lookups.proofs.ContextOfUnits.{context_of_units}
+use Rattle.addr2line_context.proofs.ContextParts.{file_context_with, context_with}
+use Rattle.addr2line_lookups.proofs.PendingUnits.{loads_of_units}
+use Rattle.addr2line_lookups.proofs.AnsweredLoads.{answers_of_units, answers_left, plain_left}
 
 module _ (file : DwarfFile) (us : List ResolvedUnit) (s : List UnitFacts)
     (of_file : AreOfFile file (map value_of_unit us)) where

@@ -1,19 +1,21 @@
 -- A context from its parts.
-use Rattle.std.proofs.Common.{◌≡◌, List, map, Option, None, Some, Result, Ok, Err, sym, ap, ◌∙◌, subst}
+use Rattle.std.proofs.Common.{◌≡◌, List, map, Option, None, Some, Result, Ok, Err, sym, ap, ◌∙◌}
 use Rattle.std.proofs.lemmas.Simd.{map-map}
-use Rattle.addr2line_resolved.specs.Error.{Error}
-use Rattle.addr2line_resolved.specs.Repetition.{fault_of}
-use Rattle.addr2line_resolved.specs.ArangeSets.{sets_to_come}
-use Rattle.addr2line_resolved.specs.Tiling.{whole_section}
-use Rattle.addr2line_resolved.specs.Results.{and_then, unless}
-use Rattle.addr2line_resolved.specs.DwarfFiles.{DwarfFile, supplement}
-use Rattle.addr2line_resolved.specs.UnitFacts.{UnitFacts}
-use Rattle.addr2line_resolved.specs.FirstAnswers.{FirstAnswers}
-use Rattle.addr2line_resolved.specs.Contexts.{ContextUnit, Context, units_of_file, units_of_supplement, context, FileContext, file_context}
-use Rattle.addr2line_resolved.specs.ResolvedUnits.{ResolvedUnit, value_of_unit, plain_unit, new_units}
-use Rattle.addr2line_resolved.proofs.NewUnits.{unit_of, units_alone, units_of_new}
-use Rattle.addr2line_context.specs.AnsweredContexts.{AnsweredContext, AreOfFile, answers_of}
-use Rattle.addr2line_context.proofs.KeptLines.{same_plain}
+use Rattle.addr2line_lookups.specs.Error.{Error}
+use Rattle.addr2line_lookups.specs.Repetition.{fault_of}
+use Rattle.addr2line_lookups.specs.ArangeSets.{sets_to_come}
+use Rattle.addr2line_lookups.specs.Tiling.{whole_section}
+use Rattle.addr2line_lookups.specs.Results.{and_then, unless}
+use Rattle.addr2line_lookups.specs.DwarfFiles.{DwarfFile, supplement}
+use Rattle.addr2line_lookups.specs.UnitFacts.{UnitFacts}
+use Rattle.addr2line_lookups.specs.FirstAnswers.{FirstAnswers}
+use Rattle.addr2line_lookups.specs.Contexts.{ContextUnit, Context, units_of_file, units_of_supplement, context, FileContext, file_context}
+use Rattle.addr2line_lookups.specs.ResolvedUnits.{ResolvedUnit, value_of_unit, plain_unit, new_units}
+use Rattle.addr2line_lookups.proofs.NewUnits.{unit_of, units_alone, units_of_new}
+use Rattle.addr2line_lookups.proofs.ContextOfUnits.{context_of_units}
+use Rattle.addr2line_context.specs.AnsweredContexts.{AnsweredContext}
+use Rattle.addr2line_lookups.specs.AnsweredUnits.{answers_of}
+use Rattle.addr2line_lookups.proofs.KeptLines.{same_plain}
 
 -- ---- units
 
@@ -81,10 +83,6 @@ module _ (s : DwarfFile) where
 
 -- ---- a context whose units were read
 
-abbrev pub context_of_units : DwarfFile → List ContextUnit → List UnitFacts → FileContext
-context_of_units file units supplement_units =
-    record { file = file; context = record { units = units; supplement_units = supplement_units } }
-
 abbrev pub file_context_with : DwarfFile → List ResolvedUnit → List UnitFacts → FileContext
 file_context_with file us supplement_units =
     context_of_units file (map plain_unit us) supplement_units
@@ -107,8 +105,3 @@ pub same_context : (file : DwarfFile) (us vs : List ResolvedUnit) (supplement_un
 same_context file us vs supplement_units c same is =
     ap (λ units. context_from file supplement_units units (answers_of (map value_of_unit vs))) (same_plain vs us same)
     ∙ ap (λ values. context_from file supplement_units (map plain_unit us) (answers_of values)) same ∙ is
-
--- and its units stay in their file
-pub same_files : (file : DwarfFile) (us vs : List ResolvedUnit) → map value_of_unit vs ≡ map value_of_unit us
-    → AreOfFile file (map value_of_unit us) → AreOfFile file (map value_of_unit vs)
-same_files file us vs same of_file = subst (AreOfFile file) (sym same) of_file

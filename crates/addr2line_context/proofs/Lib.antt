@@ -1,8 +1,10 @@
 pub mod ContextParts
-pub mod KeptLines
-pub mod UnitAnswers
 pub mod NewContexts
-pub mod PendingUnits
-pub mod ListedLoads
-pub mod AnsweredLoads
 pub mod ContextLoads
+pub mod KeptUnits
+pub mod ContextWalks
+pub mod AskedUnits
+pub mod AnsweredFirst
+pub mod SettledContexts
+pub mod LookupResults
+pub mod ResumedLookups

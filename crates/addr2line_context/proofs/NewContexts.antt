@@ -3,15 +3,15 @@ use Rattle.std.proofs.Common.{◌≡◌, List, [], ◌∷◌, length, map, Optio
 use Rattle.std.specs.List.{filter_map}
 use Rattle.std.proofs.lemmas.List.{length-map}
 use Rattle.std.proofs.lemmas.List.Elements.{All-nil, All-cons}
-use Rattle.addr2line_resolved.specs.Error.{Error}
-use Rattle.addr2line_resolved.specs.Repetition.{fault_of}
-use Rattle.addr2line_resolved.specs.Results.{and_then, unless, each}
-use Rattle.addr2line_resolved.specs.DwarfFiles.{DwarfFile}
-use Rattle.addr2line_resolved.specs.UnitFacts.{UnitFacts, in_file}
-use Rattle.addr2line_resolved.specs.FirstAnswers.{no_answers}
-use Rattle.addr2line_resolved.specs.Contexts.{ContextUnit, context_unit, facts_of_code_unit, headers_of}
-use Rattle.addr2line_resolved.specs.ResolvedUnits.{AnsweredUnit, ResolvedUnit, value_of_unit, plain_unit, without_answer, new_unit, new_units}
-use Rattle.addr2line_context.specs.AnsweredContexts.{answers_of, IsOfFile, AreOfFile}
+use Rattle.addr2line_lookups.specs.Error.{Error}
+use Rattle.addr2line_lookups.specs.Repetition.{fault_of}
+use Rattle.addr2line_lookups.specs.Results.{and_then, unless, each}
+use Rattle.addr2line_lookups.specs.DwarfFiles.{DwarfFile}
+use Rattle.addr2line_lookups.specs.UnitFacts.{UnitFacts, in_file}
+use Rattle.addr2line_lookups.specs.FirstAnswers.{no_answers}
+use Rattle.addr2line_lookups.specs.Contexts.{ContextUnit, context_unit, facts_of_code_unit, headers_of}
+use Rattle.addr2line_lookups.specs.ResolvedUnits.{AnsweredUnit, ResolvedUnit, value_of_unit, plain_unit, without_answer, new_unit, new_units}
+use Rattle.addr2line_lookups.specs.AnsweredUnits.{answers_of, IsOfFile, AreOfFile}
 
 -- ---- units that were made
 

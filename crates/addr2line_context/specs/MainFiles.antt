@@ -1,8 +1,8 @@
 -- A file of sections that are handed in one by one.
 use Rattle.std.specs.Prelude.{ℕ, None}
-use Rattle.addr2line_resolved.specs.View.{View}
-use Rattle.addr2line_resolved.specs.DwarfFileType.TheVariants.{Main}
-use Rattle.addr2line_resolved.specs.DwarfFiles.{DwarfFile, dwarf_file}
+use Rattle.addr2line_lookups.specs.View.{View}
+use Rattle.addr2line_lookups.specs.DwarfFileType.TheVariants.{Main}
+use Rattle.addr2line_lookups.specs.DwarfFiles.{DwarfFile, dwarf_file}
 
 -- a main file without a supplement; its sections that aren't named here are the last
 abbrev pub main_file : (limit : ℕ)

@@ -2,9 +2,10 @@
 use Rattle.std.specs.Prelude.{◌≡◌, ◌≢◌, ℕ, ◌+◌, Result, Ok, Err}
 use Rattle.std.specs.Borrow.{GName}
 use mathlib.Core.Option as maybe
-use Rattle.addr2line_resolved.specs.Error.{Error}
-use Rattle.addr2line_resolved.specs.Error.TheVariants.{Memory}
-use Rattle.addr2line_resolved.specs.FirstAnswers.{PendingLoad, Lookup, output, pending}
+use Rattle.addr2line_lookups.specs.Error.{Error}
+use Rattle.addr2line_lookups.specs.Error.TheVariants.{Memory}
+use Rattle.addr2line_lookups.specs.FirstAnswers.{Lookup, output}
+use Rattle.addr2line_lookups.specs.UnitLookups.{IsPending}
 use Rattle.addr2line_context.specs.declared.lookup.LookupResult.{LookupResult}
 use Rattle.addr2line_context.specs.declared.lookup.LookupResult.TheVariants.{Load, Output}
 
@@ -28,10 +29,6 @@ waiting_name name (Output found) = maybe.none
 waiting_name name (Load wait) = maybe.some (name wait)
 
 -- ---- their meaning
-
--- a load needs an answer before something is found
-abbrev pub IsPending : {A : Type 0} → Lookup A → Type 0
-IsPending {A} meaning = (p : PendingLoad) × (meaning ≡ pending p)
 
 -- What is found, as a definition has it, or out of memory. A lookup waits where its definition
 -- does.

@@ -1,20 +1,29 @@
-//! A context, and the places that it knows.
+//! A context, and what lookups find in it.
 
-ghost use Rattle.std.specs.Prelude.{◌≡◌, Ok, IfOk, map, option_map};
-ghost use Rattle.addr2line_resolved.specs.Calls.{ReturnsAsOrNoMemory, ReturnsOrNoMemory};
-ghost use Rattle.addr2line_resolved.specs.Contexts.{location, stretches, file_context, all_lines_or_refusal};
-ghost use Rattle.addr2line_resolved.specs.Lookups.{loads, answer_load};
-ghost use Rattle.addr2line_resolved.specs.BorrowedLocations.{location_value};
-ghost use Rattle.addr2line_resolved.specs.ResolvedUnits.{plain_unit};
+ghost use Rattle.std.specs.Prelude.{◌≡◌, ◌<◌, ◌≤◌, ◌+◌, Ok, IfOk, IfErr, OnOk, length, map, option_map};
+ghost use Rattle.addr2line_lookups.specs.Calls.{ReturnsAsOrNoMemory, ReturnsOrNoMemory};
+ghost use Rattle.addr2line_lookups.specs.Contexts.{location, stretches, file_context, all_lines_or_refusal};
+ghost use Rattle.addr2line_lookups.specs.Error.TheVariants.{Memory};
+ghost use Rattle.addr2line_lookups.specs.Lookups.{loads, answer_load, map_output};
+ghost use Rattle.addr2line_lookups.specs.BorrowedFrames.{frames_left};
+ghost use Rattle.addr2line_lookups.specs.BorrowedLocations.{location_value};
+ghost use Rattle.addr2line_lookups.specs.ResolvedUnits.{plain_unit};
 ghost use Rattle.addr2line_context.specs.AnsweredContexts.{HasNoAnswers};
-ghost use Rattle.addr2line_context.specs.LoadAnswers.{AnswersOrNoMemory};
-ghost use Rattle.addr2line_context.specs.Preloads.{load_of_item};
+ghost use Rattle.addr2line_lookups.specs.LoadAnswers.{AnswersOrNoMemory};
+ghost use Rattle.addr2line_lookups.specs.Histories.{functions_or_refusal, calls_or_refusal};
+ghost use Rattle.addr2line_lookups.specs.ContextNames.{naming_in};
+ghost use Rattle.addr2line_context.specs.ContextParses.{ParsesOrNoMemory};
+ghost use Rattle.addr2line_context.specs.SettledLookups.{frames_in, unit_in, loads_in, after_answer, IsFor, LoadOf, LeavesAnswer, TellsWaiting};
+ghost use Rattle.addr2line_context.specs.Suspended.{IfLoad, FollowsLookup, waiting_name};
+ghost use Rattle.addr2line_lookups.specs.Preloads.{load_of_item};
 
-use crate::location_range::LocationRangeIter;
-use crate::token::UnitToken;
-use crate::units::Units;
-use addr2line_resolved::{
-    ArangeIndex, Dwarf, Error, Location, Reader, ResUnit, SplitDwarfLoad, Unit, units_of_file,
+use crate::find_frames::FindFrames;
+use crate::find_unit::FindUnit;
+use crate::lookup::LookupResult;
+use crate::outcomes::{is_waiting, memory_alone};
+use addr2line_lookups::{
+    ArangeIndex, Dwarf, Error, Location, LocationRangeIter, Reader, ResUnit, Settled,
+    SplitDwarfLoad, Unit, UnitToken, Units, frame_without_function, units_of_file,
     units_of_supplement,
 };
 use std::alloc::Global;
@@ -27,15 +36,17 @@ use std::rc::Rc;
 /// lines of a unit are read by the first lookup that asks for them, and kept.
 #[derive(Drop)]
 pub struct Context<R: Reader> {
-    sections: Rc<Dwarf<R>>,
-    units: Units<R>,
-    supplement_units: Vec<Unit<R>>,
+    pub(crate) sections: Rc<Dwarf<R>>,
+    pub(crate) units: Units<R>,
+    pub(crate) supplement_units: Vec<Unit<R>>,
 }
 
 impl<R: Reader> Model for Context<R> {
     ghost use Rattle.std.specs.Prelude.{map};
-    ghost use Rattle.addr2line_resolved.specs.ResolvedUnits.{plain_unit, value_of_unit};
-    ghost use Rattle.addr2line_context.specs.AnsweredContexts.{AnsweredContext, AreOfFile, answers_of};
+    ghost use Rattle.addr2line_lookups.specs.ResolvedUnits.{plain_unit, value_of_unit};
+    ghost use Rattle.addr2line_context.specs.AnsweredContexts.{AnsweredContext};
+    ghost use Rattle.addr2line_context.specs.KeptContexts.{HoldsUnits};
+    ghost use Rattle.addr2line_lookups.specs.AnsweredUnits.{answers_of};
 
     ghost Value = { AnsweredContext };
 
@@ -50,11 +61,12 @@ impl<R: Reader> Model for Context<R> {
       answers = answers_of (map value_of_unit c.units);
     } };
 
-    ghost invariant = { λ c. AreOfFile c.sections.value.file (map value_of_unit c.units) };
+    ghost invariant = { λ c.
+        HoldsUnits c.sections.value.file c.supplement_units.items c.units };
 }
 
 impl<R: Reader> Context<R> {
-    ghost use Rattle.std.specs.Borrow.{sem};
+    ghost use Rattle.std.specs.Borrow.{sem, follows_if};
     ghost use Rattle.std.specs.Io.BufRead.{Rests};
     ghost use Rattle.addr2line_context.specs.contracts.context.Context.{the_row};
 
@@ -160,6 +172,30 @@ impl<R: Reader> Context<R> {
         self.units.check_lines()
     }
 
+    /// Reads the functions of all units, unless they are kept, and keeps them, up to the first
+    /// refusal by the units' numbers, which it returns. A load that is pending where the walk comes
+    /// to its unit is answered by no file, so that the unit's own functions count. After out of
+    /// memory what was answered and read before stays so.
+    pub fn parse_functions(&mut self) -> Result<(), Error>
+        ensures functions { ParsesOrNoMemory self.old.plain (functions_or_refusal self.old.plain)
+            result self.old.answers self.new.answers }
+        ensures plain { self.new.plain ≡ self.old.plain }
+    {
+        self.units.check_functions()
+    }
+
+    /// The same, with the calls that are inlined into each function: its name, and of each call the
+    /// name, the ranges and the place. Names are looked for in all units of the context and of the
+    /// supplement. The first function whose calls are refused refuses its unit.
+    pub fn parse_inlined_functions(&mut self) -> Result<(), Error>
+        ensures calls { ParsesOrNoMemory self.old.plain
+            (calls_or_refusal self.old.plain (naming_in self.old.plain))
+            result self.old.answers self.new.answers }
+        ensures plain { self.new.plain ≡ self.old.plain }
+    {
+        self.units.check_calls(self.supplement_units.as_slice())
+    }
+
     // ---- split parts
 
     /// The loads that lookups of this address may wait for, each with the token of its unit: of the
@@ -189,5 +225,161 @@ impl<R: Reader> Context<R> {
         ensures plain { self.new.plain ≡ self.old.plain }
     {
         self.units.answer_at(token.number(), file)
+    }
+
+    // ---- frames and units
+
+    /// The frames of an address, the innermost call first: of the units with a range over it, by
+    /// the ranges' ends, those of the first that has some, unless one is refused before. Where the
+    /// functions of a unit are in another file that wasn't asked for yet (DWARF 5, 3.1.3), the
+    /// lookup waits for that load first. Refused by what decides a unit, by its functions, by the
+    /// function that holds the address, or by its lines, in this order. What is read is kept. The
+    /// frames borrow what is kept; each takes memory only for a copy of its name's reader. The
+    /// context's value stays the same.
+    pub fn find_frames(&mut self, probe: u64) -> LookupResult<FindFrames<'_, R>>
+        ensures found { FollowsLookup frames_left result (frames_in self.old probe) }
+        ensures waits { IfLoad (λ w. IsFor self.old probe w.context.now w.probe) result }
+        ensures* after { sem 𝓛 (follows_if (the_row R.row R.Endian.row R.Offset.row R.Reader
+            R.Endian.Endianity.own (record { debug_output = R.Endian.debug_output })
+            (record { is_default = R.Endian.is_default }) (record { eq = R.Endian.eq })
+            R.Offset.ReaderOffset.own (record { debug_output = R.Offset.debug_output })
+            (record { eq = R.Offset.eq }) (record { cmp = R.Offset.cmp })
+            (record { partial_cmp = R.Offset.partial_cmp })
+            (record { hash_input = R.Offset.hash_input }))
+            (the_row R.row R.Endian.row R.Offset.row R.Reader
+            R.Endian.Endianity.own (record { debug_output = R.Endian.debug_output })
+            (record { is_default = R.Endian.is_default }) (record { eq = R.Endian.eq })
+            R.Offset.ReaderOffset.own (record { debug_output = R.Offset.debug_output })
+            (record { eq = R.Offset.eq }) (record { cmp = R.Offset.cmp })
+            (record { partial_cmp = R.Offset.partial_cmp })
+            (record { hash_input = R.Offset.hash_input }))
+            self.entry.ghost_name (waiting_name (λ w. w.context.ghost_name) result)
+            (λ left. left) self.old) }
+    {
+        match self.frames_wait(probe) {
+            Ok(true) => {
+                return LookupResult::Load(FindFrames {
+                    context: self,
+                    probe,
+                });
+            }
+            Ok(false) => {}
+            Err(error) => return LookupResult::Output(Err(error)),
+        }
+        let supplement_units = self.supplement_units.as_slice();
+        match self.units.settle_frames(supplement_units, probe) {
+            Ok(Settled::Found(place)) => {
+                LookupResult::Output(Ok(self.units.frames_at_place(place)))
+            }
+            Ok(Settled::Nothing) => LookupResult::Output(Ok(frame_without_function(None))),
+            Ok(Settled::Waits) => unreachable!(),
+            Err(error) => LookupResult::Output(Err(error)),
+        }
+    }
+
+    /// The unit of an address, with its file's sections: of the units with a range over it, by the
+    /// ranges' ends, the first that has a function or a place for it, whatever is refused before;
+    /// the split unit where one has its functions. It waits for loads as `find_frames` does. The
+    /// only error is out of memory. What is read is kept. The context's value stays the same.
+    pub fn find_dwarf_and_unit(&mut self, probe: u64) -> LookupResult<FindUnit<'_, R>>
+        ensures found { FollowsLookup (λ u. u) result
+            (map_output (λ u. Ok u) (unit_in self.old probe)) }
+        ensures waits { IfLoad (λ w. IsFor self.old probe w.context.now w.probe) result }
+        ensures* after { sem 𝓛 (follows_if (the_row R.row R.Endian.row R.Offset.row R.Reader
+            R.Endian.Endianity.own (record { debug_output = R.Endian.debug_output })
+            (record { is_default = R.Endian.is_default }) (record { eq = R.Endian.eq })
+            R.Offset.ReaderOffset.own (record { debug_output = R.Offset.debug_output })
+            (record { eq = R.Offset.eq }) (record { cmp = R.Offset.cmp })
+            (record { partial_cmp = R.Offset.partial_cmp })
+            (record { hash_input = R.Offset.hash_input }))
+            (the_row R.row R.Endian.row R.Offset.row R.Reader
+            R.Endian.Endianity.own (record { debug_output = R.Endian.debug_output })
+            (record { is_default = R.Endian.is_default }) (record { eq = R.Endian.eq })
+            R.Offset.ReaderOffset.own (record { debug_output = R.Offset.debug_output })
+            (record { eq = R.Offset.eq }) (record { cmp = R.Offset.cmp })
+            (record { partial_cmp = R.Offset.partial_cmp })
+            (record { hash_input = R.Offset.hash_input }))
+            self.entry.ghost_name (waiting_name (λ w. w.context.ghost_name) result)
+            (λ left. left) self.old) }
+    {
+        match self.unit_waits(probe) {
+            Ok(true) => {
+                return LookupResult::Load(FindUnit {
+                    context: self,
+                    probe,
+                });
+            }
+            Ok(false) => {}
+            Err(error) => return LookupResult::Output(Err(error)),
+        }
+        let supplement_units = self.supplement_units.as_slice();
+        match self.units.settle_unit(supplement_units, probe) {
+            Ok(Settled::Found(number)) => {
+                LookupResult::Output(Ok(self.units.functions_unit_at(number)))
+            }
+            Ok(Settled::Nothing) => LookupResult::Output(Ok(None)),
+            Ok(Settled::Waits) => unreachable!(),
+            Err(error) => LookupResult::Output(Err(error)),
+        }
+    }
+
+    // Whether the frames of an address wait for a load. Nothing is searched where all units with a
+    // range over it are decided. The only error is out of memory.
+    fn frames_wait(&mut self, probe: u64) -> Result<bool, Error>
+        ensures value { self.new ≡ self.old }
+        ensures waits { TellsWaiting (frames_in self.old probe) result }
+    {
+        if self.units.first_waiting(probe).is_none() {
+            return Ok(false);
+        }
+        let supplement_units = self.supplement_units.as_slice();
+        let settled = self.units.settle_frames(supplement_units, probe);
+        is_waiting(settled)
+    }
+
+    // The same of the unit of an address.
+    fn unit_waits(&mut self, probe: u64) -> Result<bool, Error>
+        ensures value { self.new ≡ self.old }
+        ensures waits { TellsWaiting (unit_in self.old probe) result }
+    {
+        if self.units.first_waiting(probe).is_none() {
+            return Ok(false);
+        }
+        let supplement_units = self.supplement_units.as_slice();
+        let settled = self.units.settle_unit(supplement_units, probe);
+        is_waiting(settled)
+    }
+
+    // Answers the first load of an address, if there is one. What the answer makes of its unit, a
+    // refusal too, is recorded: the only error is out of memory.
+    pub(crate) fn answer_first(
+        &mut self,
+        probe: u64,
+        file: Option<Rc<Dwarf<R>>>,
+    ) -> Result<(), Error>
+        ensures ok { OnOk result
+            (self.new ≡ after_answer self.old probe (option_map (λ f. f.value.file) file)) }
+        ensures fewer { OnOk result (0 < length (loads_in self.new probe)
+            → length (loads_in self.new probe) + 1 ≤ length (loads_in self.old probe)) }
+        ensures left { LeavesAnswer self.old probe (option_map (λ f. f.value.file) file) self.new }
+        ensures refusal { IfErr result (λ e. e ≡ Memory) }
+    {
+        let Some(number) = self.units.first_waiting(probe) else {
+            drop(file);
+            return Ok(());
+        };
+        let answered = self.units.answer_at(number, file);
+        memory_alone(answered)
+    }
+
+    // The first load of an address that has one. The only error is out of memory.
+    pub(crate) fn first_load(&self, probe: u64) -> Result<SplitDwarfLoad<R>, Error>
+        requires { 0 < length (loads_in self.now probe) }
+        ensures { LoadOf (loads_in self.now probe) result }
+    {
+        match self.units.first_load(probe)? {
+            Some(load) => Ok(load),
+            None => unreachable!(),
+        }
     }
 }

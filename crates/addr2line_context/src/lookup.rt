@@ -3,9 +3,10 @@
 ghost use Rattle.std.specs.Prelude.{◌≤◌, ℕ};
 ghost use Rattle.addr2line_context.specs.Suspended.{loads_left, IfLoad};
 
-use addr2line_resolved::{Error, Reader};
+use addr2line_lookups::{Error, Reader};
 
 /// What a lookup found, or the lookup itself, where it waits for a load.
+#[derive(Drop)]
 pub enum LookupResult<L: LookupContinuation> {
     /// The lookup waits: it asks for a load by `LookupContinuation::load`, and goes on by
     /// `LookupContinuation::resume`.

@@ -1,13 +1,13 @@
 //! A context of sections that are handed in one by one.
 
 ghost use Rattle.std.specs.Prelude.{IfOk};
-ghost use Rattle.addr2line_resolved.specs.Calls.{ReturnsAsOrNoMemory};
-ghost use Rattle.addr2line_resolved.specs.Contexts.{file_context};
+ghost use Rattle.addr2line_lookups.specs.Calls.{ReturnsAsOrNoMemory};
+ghost use Rattle.addr2line_lookups.specs.Contexts.{file_context};
 ghost use Rattle.addr2line_context.specs.AnsweredContexts.{HasNoAnswers};
 ghost use Rattle.addr2line_context.specs.MainFiles.{main_file};
 
 use crate::context::Context;
-use addr2line_resolved::{
+use addr2line_lookups::{
     AbbreviationsCache, DebugAbbrev, DebugAddr, DebugAranges, DebugInfo, DebugLine, DebugLineStr,
     DebugRanges, DebugRngLists, DebugStr, DebugStrOffsets, Dwarf, DwarfFileType, Error,
     LocationLists, RangeLists, Reader,

@@ -1,8 +1,6 @@
 -- How many looks at entries the calls of an address take.
 use Rattle.std.proofs.Common.{◌≡◌, ℕ, ◌+◌, ◌*◌, ◌≤◌, List, length, ap, ◌∙◌, arith}
 use Rattle.std.proofs.lemmas.List.{length-map}
-use Rattle.addr2line_units.specs.ProbedLists.{ProbeCount}
-use Rattle.addr2line_units.specs.Searches.{AtMostProbes}
 use Rattle.addr2line_units.specs.Pairs.{pairs_from}
 use Rattle.addr2line_units.specs.InlinedCalls.{Call, ranges_of_call}
 use Rattle.addr2line_functions.specs.CountedFunctions.{depth_of_call, search_probes, call_probes}
@@ -26,9 +24,3 @@ looks-next old new bound p q n m is each more enough =
 -- and at the last for one more search
 pub looks-last : (old new bound p q n : ℕ) → q ≡ p → new ≤ old + q → old + (n + 1) * p ≤ bound → new ≤ bound
 looks-last old new bound p q n each more enough = omega (arith, each, more, enough)
-
--- the looks for a place, then those for the calls
-pub looks-both : (old found new : ProbeCount) (place calls : ℕ) → AtMostProbes place old found
-    → AtMostProbes calls found new → AtMostProbes (place + calls) old new
-looks-both old found new place calls first second =
-    (second.0 ∙ first.0, omega (arith, first.1, second.1))

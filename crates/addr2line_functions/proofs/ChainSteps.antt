@@ -1,7 +1,6 @@
 -- The chain of the calls of an address, one depth further, by the calls' numbers.
-use Rattle.std.proofs.Common.{◌≡◌, ℕ, ◌+◌, ◌-◌, ◌≤◌, ◌<◌, ◌==◌, get_or, take, drop, List, [], ◌∷◌, ◌++◌, length, slice_get, Option, Some, None, option_map, MatchOption, refl, sym, ap, subst, ◌∙◌, append_assoc, append-nil, length-append, arith}
+use Rattle.std.proofs.Common.{◌≡◌, ℕ, ◌+◌, ◌==◌, List, [], ◌∷◌, ◌++◌, length, slice_get, Option, Some, None, option_map, MatchOption, refl, sym, ap, subst, ◌∙◌, append_assoc, append-nil, length-append, arith}
 use Rattle.std.specs.List.{cons_option}
-use Rattle.std.proofs.lemmas.List.{take_all}
 use Rattle.std.proofs.lemmas.List.Elements.{filter_map-append}
 use Rattle.addr2line_units.specs.Choice.{holder}
 use Rattle.addr2line_units.specs.Pairs.{Pair}
@@ -13,28 +12,24 @@ use Rattle.addr2line_functions.specs.RangesByNumber.{numbered_ranges, number_at}
 use Rattle.addr2line_functions.proofs.PairNumbers.{item_at, no_item}
 use Rattle.addr2line_functions.proofs.RangeNumbers.{number_at-is}
 
--- ---- calls of numbers
+-- ---- the calls of numbers, by the last number
 
--- the first number and the others
-pub first_number : (ns : List ℕ) → 1 ≤ length ns → ns ≡ get_or ns 0 0 ∷ take (length ns - 1) (drop 1 ns)
-first_number [] h = absurd (omega arith)
-first_number (n ∷ ns) h =
-    let all : length ns ≤ length (n ∷ ns) - 1 = omega arith in
-    ap (λ l. n ∷ l) (sym (take_all (length (n ∷ ns) - 1) ns all))
+module _ (cs : List Call) (ns before : List ℕ) (n : ℕ) (is : ns ≡ before ++ n ∷ []) where
+  numbers_and : (o : Option Call) → slice_get cs n ≡ o
+      → calls_of_numbers cs ns ≡ calls_of_numbers cs before ++ cons_option o []
+  numbers_and o found =
+      ap (calls_of_numbers cs) is
+      ∙ filter_map-append (slice_get cs) before (n ∷ [])
+      ∙ ap (λ x. calls_of_numbers cs before ++ cons_option x []) found
 
-pub no_number : (ns : List ℕ) → length ns < 1 → ns ≡ []
-no_number [] h = refl
-no_number (n ∷ ns) h = absurd (omega arith)
+  -- with the call of the last number
+  pub numbers_more : (c : Call) → slice_get cs n ≡ Some c
+      → calls_of_numbers cs ns ≡ calls_of_numbers cs before ++ c ∷ []
+  numbers_more c found = numbers_and (Some c) found
 
-pub numbers_more : (cs : List Call) (ns rest : List ℕ) (n : ℕ) (c : Call) → ns ≡ n ∷ rest → slice_get cs n ≡ Some c
-    → calls_of_numbers cs ns ≡ c ∷ calls_of_numbers cs rest
-numbers_more cs ns rest n c is found =
-    ap (calls_of_numbers cs) is ∙ ap (λ o. cons_option o (calls_of_numbers cs rest)) found
-
-pub numbers_skip : (cs : List Call) (ns rest : List ℕ) (n : ℕ) → ns ≡ n ∷ rest → slice_get cs n ≡ None
-    → calls_of_numbers cs ns ≡ calls_of_numbers cs rest
-numbers_skip cs ns rest n is none =
-    ap (calls_of_numbers cs) is ∙ ap (λ o. cons_option o (calls_of_numbers cs rest)) none
+  -- which may be that of none
+  pub numbers_skip : slice_get cs n ≡ None → calls_of_numbers cs ns ≡ calls_of_numbers cs before
+  numbers_skip none = numbers_and None none ∙ append-nil (calls_of_numbers cs before)
 
 -- ---- one depth further
 

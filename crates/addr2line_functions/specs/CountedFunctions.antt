@@ -1,12 +1,8 @@
 -- Functions and calls as lookups search them, and how many looks at entries that takes.
-use Rattle.std.specs.Prelude.{◌≡◌, ℕ, ◌+◌, ◌*◌, List, length, Option, Some, None, Result, Ok, Err}
-use Rattle.gimli_units_entries.specs.Error.{Error}
+use Rattle.std.specs.Prelude.{ℕ, ◌+◌, ◌*◌, List, length}
 use Rattle.addr2line_units.specs.Pairs.{pairs_from}
-use Rattle.addr2line_units.specs.Lines.{Lines}
-use Rattle.addr2line_units.specs.LineIndexes.{CountedLines, place_probes}
 use Rattle.addr2line_units.specs.Functions.{Function, function_ranges}
 use Rattle.addr2line_units.specs.InlinedCalls.{Call, FunctionCalls, ranges_of_call, chain_at}
-use Rattle.addr2line_units.specs.Frames.{FunctionAt}
 use Rattle.addr2line_units.specs.Searches.{digit_count}
 
 -- functions, and the name of the counter of their ranges
@@ -18,21 +14,6 @@ pub record CountedFunctions : Type 0 where
 pub record CountedCalls : Type 0 where
   pub function : FunctionCalls
   pub counter : ℕ
-
--- a function that holds an address, and the name of the counter of its calls' ranges
-pub record CountedFunctionAt : Type 0 where
-  pub function : FunctionAt
-  pub counter : ℕ
-
--- the ranges of a function's calls, if there is one, have a counter of this name
-abbrev pub IsCountedBy : ℕ → Option CountedFunctionAt → Type 0
-IsCountedBy n None = Unit {0}
-IsCountedBy n (Some f) = n ≡ f.counter
-
--- the lines of an index, or the refusal of them
-abbrev pub lines_or_refusal : Result CountedLines Error → Result Lines Error
-lines_or_refusal (Ok l) = Ok l.lines
-lines_or_refusal (Err e) = Err e
 
 -- every function and every call has a depth at which its ranges are searched; a function's is 0
 abbrev pub no_depth : Function → ℕ
@@ -56,12 +37,3 @@ call_probes cs = search_probes (length (pairs_from ranges_of_call 0 cs))
 -- one search for each call that holds an address, and one more
 abbrev pub chain_probes : List Call → ℕ → ℕ
 chain_probes cs a = (length (chain_at cs a) + 1) * call_probes cs
-
--- those for the calls of an address, if it is in a function
-abbrev pub calls_probes : ℕ → Option FunctionAt → ℕ
-calls_probes a None = 0
-calls_probes a (Some f) = chain_probes f.calls.calls a
-
--- and those for its place
-abbrev pub frame_probes : Lines → ℕ → Option FunctionAt → ℕ
-frame_probes l a f = place_probes l a + calls_probes a f

@@ -55,6 +55,8 @@ pub mod NextFunctions
 pub mod LastCallFacts
 pub mod CallNesting
 pub mod NextFrames
+pub mod BorrowedLines
+pub mod BorrowedFrames
 pub mod NamingUnits
 pub mod ContextNames
 pub mod NameLaws

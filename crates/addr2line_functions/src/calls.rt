@@ -80,29 +80,30 @@ impl<R: Reader> FunctionCalls<R> {
         self.calls.as_slice()
     }
 
-    /// The numbers of the calls that an address is in, the outermost first: that of depth 0 that
-    /// holds it, that of depth 1, and so on, as long as there is one, whatever each is in. A call's
-    /// number is its index among the calls. Where several of a depth hold the address, it is that
-    /// whose range begins last, of these that whose range ends last, of these the last. One
-    /// bisection of the ranges finds each. The only error is out of memory.
+    /// Fills a buffer with the numbers of the calls that an address is in, the outermost first:
+    /// that of depth 0 that holds it, that of depth 1, and so on, as long as there is one, whatever
+    /// each is in. A call's number is its index among the calls. Where several of a depth hold the
+    /// address, it is that whose range begins last, of these that whose range ends last, of these
+    /// the last. One bisection of the ranges finds each. What was in the buffer is dropped; the
+    /// only error is out of memory, where the buffer has to grow.
     pub fn find_chain(
         &self,
-        alloc: Global,
         probe: u64,
         probes: &mut Probes,
-    ) -> Result<Vec<usize>, Error>
+        numbers: &mut Vec<usize>,
+    ) -> Result<(), Error>
         requires counter { probes.old.name ≡ self.now.counter }
         ensures chain { ReturnsAsOrNoMemory
-            (λ numbers. calls_of_numbers self.now.function.calls numbers.items) result
+            (λ done. calls_of_numbers self.now.function.calls numbers.new.items) result
             (Ok (chain_at self.now.function.calls probe)) }
         ensures cost { AtMostProbes (chain_probes self.now.function.calls probe)
             probes.old probes.new }
     {
-        let mut numbers = Vec::new(alloc);
+        numbers.clear();
         while let Some(number) = number_at(&self.ranges, numbers.len(), probe, probes) {
             numbers.push(number)?;
         }
-        Ok(numbers)
+        Ok(())
     }
 }
 

@@ -1,7 +1,16 @@
 //! Frames, and the names of functions in them.
 
+ghost use Rattle.std.specs.Prelude.{Ok};
+ghost use Rattle.std.specs.Cow.{cow_str_bytes};
+ghost use Rattle.std.specs.Str.Lossy.{utf8_lossy};
+ghost use Rattle.gimli_units_entries.specs.Calls.{ReturnsAsOrNoMemory};
+ghost use Rattle.addr2line_demangle.specs.LegacyNames.{demangle_or_name};
+
+use addr2line_demangle::demangle_auto;
 use addr2line_units::Location;
-use gimli_units_entries::{DwLang, Reader, ReaderOffset, UnitOffset};
+use gimli_units_entries::{DwLang, Error, Reader, ReaderOffset, UnitOffset};
+use std::alloc::Global;
+use std::borrow::CowStr;
 use std::marker::Model;
 
 /// The name of a function, and the language of its unit, where that is known.
@@ -23,6 +32,27 @@ impl<R: Reader> Model for FunctionName<R> {
       name = R.view f.name;
       language = option_map (λ l. l.0) f.language;
     } };
+}
+
+impl<R: Reader> FunctionName<R> {
+    /// The name as the debug information has it, in which each sequence that isn't UTF-8 is U+FFFD.
+    /// It takes memory for such a name alone: UTF-8 is lent. The only error is out of memory.
+    pub fn raw_name(&self, alloc: Global) -> Result<CowStr<'_>, Error>
+        ensures { ReturnsAsOrNoMemory cow_str_bytes result
+            (Ok (utf8_lossy self.now.name.bytes)) }
+    {
+        self.name.to_string_lossy(alloc)
+    }
+
+    /// The text that the name means in the language of its unit, or the name as it is if it means
+    /// no other. Without a language it is read as a name of Rust. The only error is out of memory.
+    pub fn demangle(&self, alloc: Global) -> Result<CowStr<'_>, Error>
+        ensures { ReturnsAsOrNoMemory cow_str_bytes result
+            (Ok (demangle_or_name self.now.language (utf8_lossy self.now.name.bytes))) }
+    {
+        let name = self.raw_name(alloc)?;
+        demangle_auto(alloc, name, self.language)
+    }
 }
 
 /// A function, or a call that is inlined. Of an address in no function only the place is known.

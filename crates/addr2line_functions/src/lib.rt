@@ -35,7 +35,7 @@ pub use addr2line_units::{
 pub use call::Call;
 pub use calls::{FunctionCalls, calls_of_function};
 pub use frame::{Frame, FunctionName};
-pub use frames::{FrameIter, frame_without_function, frames_at, frames_by_numbers, frames_of_unit};
+pub use frames::{FrameIter, frame_without_function, frames_by_numbers};
 pub use function::Function;
 pub use function_at::FunctionAt;
 pub use functions::{Functions, functions_of_unit};

@@ -1,5 +1,6 @@
 pub use Rattle.addr2line_spec.proofs.CallChains
 pub use Rattle.addr2line_spec.proofs.EntryLevels
+pub use Rattle.addr2line_spec.proofs.PendingLoads
 pub use Rattle.addr2line_spec.proofs.RangeHolders
 pub mod UnitAnswers
 pub mod PartialLineRows

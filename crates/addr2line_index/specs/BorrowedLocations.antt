@@ -5,4 +5,10 @@ use Rattle.addr2line_index.specs.declared.location.Location.{Location}
 
 abbrev pub location_value : Location → Place
 location_value l =
-    record { file = option_map (λ t. t.now) l.file; line = l.line; column = l.column }
+    record {
+      file = option_map (λ t. t.now) l.file;
+      line = l.line;
+      column = l.column;
+      statement = l.statement;
+      discriminator = l.discriminator;
+    }

@@ -8,11 +8,6 @@ pub record PartialLines : Type 0 where
   pub sequences : List Sequence
   pub rows : List LineRow
 
--- a row of a program
-abbrev pub row_with : ℕ → ℕ → ℕ → ℕ → Bool → ProgramRow
-row_with address file line column ends =
-    record { address = address; file = file; line = line; column = column; ends = ends }
-
 -- the rows that nothing has ended yet
 abbrev pub rows_left : List ProgramRow → List LineRow
 rows_left [] = []

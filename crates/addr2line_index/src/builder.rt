@@ -3,11 +3,11 @@
 ghost use Rattle.std.specs.Prelude.{◌≡◌, ◌-◌, ◌++◌, ◌∷◌, [], List, length, slice_get, OnOk, OnErr, IfErr, map};
 ghost use Rattle.std.specs.String.{string_bytes};
 ghost use Rattle.addr2line_spec.specs.Error.TheVariants.{Memory};
-ghost use Rattle.addr2line_spec.specs.Lines.{ProgramRow, sequences_of_rows};
-ghost use Rattle.addr2line_index.specs.PartialLines.{partial_lines, row_with, put_row, is_at, with_end, with_row};
+ghost use Rattle.addr2line_spec.specs.Lines.{ProgramRow as Row, line_row, sequences_of_rows};
+ghost use Rattle.addr2line_index.specs.PartialLines.{partial_lines, put_row, is_at, with_end, with_row};
 
 use crate::lines::Lines;
-use crate::sequence::{LineRow, LineSequence};
+use crate::sequence::{LineRow, LineSequence, ProgramRow};
 use addr2line_spec::Error;
 use std::alloc::Global;
 use std::marker::Model;
@@ -39,6 +39,20 @@ fn is_last_at(rows: &[LineRow], address: u64) -> bool
     }
 }
 
+// A row as lookups use it.
+fn line_row(row: ProgramRow) -> LineRow
+    ensures { result ≡ line_row row }
+{
+    LineRow {
+        address: row.address,
+        file: row.file,
+        line: (row.line % (1 << 32)) as u32,
+        column: (row.column % (1 << 32)) as u32,
+        statement: row.statement,
+        discriminator: row.discriminator,
+    }
+}
+
 // Appends a row, in place of the last one where that is at the same address.
 fn put_row(rows: &mut Vec<LineRow>, row: LineRow) -> Result<(), Error>
     ensures ok { OnOk result (rows.new.items ≡ put_row row rows.old.items) }
@@ -65,32 +79,18 @@ impl LinesBuilder {
         }
     }
 
-    /// Takes a row, which ends a sequence or doesn't. Its line and column are taken modulo 2^32.
-    /// Out of memory leaves the builder as it was.
-    pub fn push(
-        &mut self,
-        address: u64,
-        file: u64,
-        line: u64,
-        column: u64,
-        end_sequence: bool,
-    ) -> Result<(), Error>
-        ensures ok { OnOk result ((rows : List ProgramRow) → self.old ≡ partial_lines rows
-            → self.new ≡ partial_lines
-            (rows ++ row_with address file line column end_sequence ∷ [])) }
+    /// Takes the next row. Its line and column are taken modulo 2^32. Out of memory leaves the
+    /// builder as it was.
+    pub fn push(&mut self, row: ProgramRow) -> Result<(), Error>
+        ensures ok { OnOk result ((rows : List Row) → self.old ≡ partial_lines rows
+            → self.new ≡ partial_lines (rows ++ row ∷ [])) }
         ensures err { OnErr result (self.new ≡ self.old) }
         ensures refusal { IfErr result (λ e. e ≡ Memory) }
     {
-        if end_sequence {
-            self.end(address)
+        if row.ends {
+            self.end(row.address)
         } else {
-            let row = LineRow {
-                address,
-                file,
-                line: (line % (1 << 32)) as u32,
-                column: (column % (1 << 32)) as u32,
-            };
-            self.put(row)
+            self.put(line_row(row))
         }
     }
 
@@ -125,7 +125,7 @@ impl LinesBuilder {
     /// The lines that the rows make, with the texts of files by their numbers. Rows that nothing
     /// ended are left out.
     pub fn finish(self, files: Vec<String>) -> Lines
-        ensures { (rows : List ProgramRow) → self ≡ partial_lines rows
+        ensures { (rows : List Row) → self ≡ partial_lines rows
             → result ≡ record {
               sequences = sequences_of_rows rows;
               files = map string_bytes files.items;

@@ -29,7 +29,7 @@ pub use line_index::LineIndex;
 pub use lines::Lines;
 pub use location::{LineStretch, Location};
 pub use range_index::{RangeIndex, Ranged};
-pub use sequence::{LineRow, LineSequence};
+pub use sequence::{LineRow, LineSequence, ProgramRow};
 pub use stretches_between::StretchesBetween;
 pub use unit_range::UnitRange;
 pub use unit_ranges::{CoveringRanges, UnitRanges, UnitRangesBuilder};

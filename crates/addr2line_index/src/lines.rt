@@ -105,5 +105,7 @@ fn row_location<'a>(files: &'a [String], row: &LineRow) -> Location<'a>
         file: file_text(files, row.file as usize),
         line: if known { Some(row.line) } else { None },
         column: if known { Some(row.column) } else { None },
+        statement: Some(row.statement),
+        discriminator: Some(row.discriminator),
     }
 }

@@ -6,6 +6,50 @@ ghost use Rattle.addr2line_spec.specs.Lines.{range_of, rows_to};
 use addr2line_spec::Range;
 use std::marker::Model;
 
+/// A row as a line number program emits it: the registers that lookups use (DWARF 5, 6.2.2).
+#[derive(Clone, Copy, Debug, PartialEq, Eq)]
+pub struct ProgramRow {
+    pub address: u64,
+    /// The number of the file.
+    pub file: u64,
+    /// From 1 on; 0 for an address of no line.
+    pub line: u64,
+    /// From 1 on; 0 for the left edge.
+    pub column: u64,
+    pub statement: bool,
+    pub discriminator: u64,
+    /// Whether the row ends a sequence, of which only its address counts.
+    pub ends: bool,
+}
+
+impl Model for ProgramRow {
+    ghost use Rattle.addr2line_spec.specs.Lines.{ProgramRow as Row};
+
+    ghost Value = { Row };
+
+    ghost view = { λ r.
+        record {
+          address = r.address;
+          file = r.file;
+          line = r.line;
+          column = r.column;
+          statement = r.statement;
+          discriminator = r.discriminator;
+          ends = r.ends;
+        } };
+
+    ghost inverse = { λ r.
+        record {
+          address = r.address;
+          file = r.file;
+          line = r.line;
+          column = r.column;
+          statement = r.statement;
+          discriminator = r.discriminator;
+          ends = r.ends;
+        } };
+}
+
 /// A row of a line number program: from its address on, a place in the source (DWARF 5, 6.2.2).
 #[derive(Clone, Copy, Debug, PartialEq, Eq)]
 pub struct LineRow {
@@ -13,6 +57,8 @@ pub struct LineRow {
     pub(crate) file: u64,
     pub(crate) line: u32,
     pub(crate) column: u32,
+    pub(crate) statement: bool,
+    pub(crate) discriminator: u64,
 }
 
 impl Model for LineRow {
@@ -21,10 +67,24 @@ impl Model for LineRow {
     ghost Value = { Row };
 
     ghost view = { λ r.
-        record { address = r.address; file = r.file; line = r.line; column = r.column } };
+        record {
+          address = r.address;
+          file = r.file;
+          line = r.line;
+          column = r.column;
+          statement = r.statement;
+          discriminator = r.discriminator;
+        } };
 
     ghost inverse = { λ r.
-        record { address = r.address; file = r.file; line = r.line; column = r.column } };
+        record {
+          address = r.address;
+          file = r.file;
+          line = r.line;
+          column = r.column;
+          statement = r.statement;
+          discriminator = r.discriminator;
+        } };
 }
 
 /// Rows of a line number program, up to the address that ended them. The first row is below that.

@@ -5,4 +5,6 @@ pub mod UnitOrder
 pub mod UnitReading
 pub use Rattle.addr2line_functions.proofs.UnitAnswers
 pub use Rattle.addr2line_functions.proofs.UnitViews
+pub use Rattle.addr2line_functions.proofs.PendingLoads
 pub mod ResolvedViews
+pub use Rattle.addr2line_functions.proofs.RangeNumbers

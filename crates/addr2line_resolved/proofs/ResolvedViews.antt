@@ -12,55 +12,58 @@ use Rattle.addr2line_resolved.specs.ResolvedUnits.{AnsweredUnit, ResolvedUnit, f
 use Rattle.addr2line_resolved.proofs.FunctionParses.{functions_are_read, plain_calls_read, plain_calls_of_none}
 
 -- what is seen of a unit
-abbrev pub seen : AnsweredUnit → Bool → KeptFunctions → ProbeCount → ResolvedUnit
-seen v keeps_lines k probes = record {
+abbrev pub seen : AnsweredUnit → Bool → KeptFunctions → ProbeCount → List ℕ → ResolvedUnit
+seen v keeps_lines k probes chain = record {
   value = v;
   keeps_lines = keeps_lines;
   keeps_functions = is_some k.functions;
   calls = map (option_map plain_calls) k.calls;
   probes = probes;
+  chain = chain;
 }
 
 -- with other calls
-abbrev with_all_calls : AnsweredUnit → Bool → Bool → ProbeCount → List (Option (Result FunctionCalls Error))
+abbrev with_all_calls : AnsweredUnit → Bool → Bool → ProbeCount → List ℕ → List (Option (Result FunctionCalls Error))
     → ResolvedUnit
-with_all_calls v keeps_lines keeps_functions probes calls = record {
+with_all_calls v keeps_lines keeps_functions probes chain calls = record {
   value = v;
   keeps_lines = keeps_lines;
   keeps_functions = keeps_functions;
   calls = calls;
   probes = probes;
+  chain = chain;
 }
 
-module _ (v : AnsweredUnit) (keeps_lines : Bool) (k new : KeptFunctions) (probes : ProbeCount) (u : ResolvedUnit) where
+module _ (v : AnsweredUnit) (keeps_lines : Bool) (k new : KeptFunctions) (probes : ProbeCount)
+    (chain : List ℕ) (u : ResolvedUnit) where
   functions_seen : (read : Result CountedFunctions Error) → new ≡ functions_read read
-      → plain_functions read ≡ functions_of v → is_some k.functions ≡ false → seen v keeps_lines k probes ≡ u
-      → seen v keeps_lines new probes ≡ with_functions u
+      → plain_functions read ≡ functions_of v → is_some k.functions ≡ false → seen v keeps_lines k probes chain ≡ u
+      → seen v keeps_lines new probes chain ≡ with_functions u
   functions_seen read is same none view =
-      ap (λ x. seen v keeps_lines x probes) is
-      ∙ ap (with_all_calls v keeps_lines true probes)
+      ap (λ x. seen v keeps_lines x probes chain) is
+      ∙ ap (with_all_calls v keeps_lines true probes chain)
       (plain_calls_of_none (function_count (Some read)) ∙ ap (λ r. calls_of_none (count_of_functions r)) same)
-      ∙ sym (ap (λ b. cond b (seen v keeps_lines k probes)
-      (with_all_calls v keeps_lines true probes (calls_of_none (count_of_functions (functions_of v))))) none)
+      ∙ sym (ap (λ b. cond b (seen v keeps_lines k probes chain)
+      (with_all_calls v keeps_lines true probes chain (calls_of_none (count_of_functions (functions_of v))))) none)
       ∙ ap with_functions view
 
   -- after functions were kept, unless that was out of memory
   pub with_functions_after : (read : Result CountedFunctions Error) (r : Result (Unit {0}) Error)
       → OnOk r (new ≡ functions_read read) → OnOk r (read ≢ Err Memory)
       → ReturnsAsOrNoMemory (λ (f : CountedFunctions). f.functions) read (functions_of v)
-      → is_some k.functions ≡ false → seen v keeps_lines k probes ≡ u
-      → OnOk r (seen v keeps_lines new probes ≡ with_functions u)
+      → is_some k.functions ≡ false → seen v keeps_lines k probes chain ≡ u
+      → OnOk r (seen v keeps_lines new probes chain ≡ with_functions u)
   with_functions_after read (Ok x) is not h none view =
       functions_seen read is (functions_are_read read (functions_of v) h not) none view
   with_functions_after read (Err e) is not h none view = tt
 
   -- after calls were
   pub with_calls_after : (number : ℕ) (read : Result CountedCalls Error) (r : Result (Unit {0}) Error)
-      → OnOk r (new ≡ calls_read k number read) → seen v keeps_lines k probes ≡ u
-      → OnOk r (seen v keeps_lines new probes ≡ with_calls u number (plain_calls read))
+      → OnOk r (new ≡ calls_read k number read) → seen v keeps_lines k probes chain ≡ u
+      → OnOk r (seen v keeps_lines new probes chain ≡ with_calls u number (plain_calls read))
   with_calls_after number read (Ok x) is view =
-      ap (λ y. seen v keeps_lines y probes) is
-      ∙ ap (with_all_calls v keeps_lines (is_some k.functions) probes) (plain_calls_read k number read)
+      ap (λ y. seen v keeps_lines y probes chain) is
+      ∙ ap (with_all_calls v keeps_lines (is_some k.functions) probes chain) (plain_calls_read k number read)
       ∙ ap (λ y. with_calls y number (plain_calls read)) view
   with_calls_after number read (Err e) is view = tt
 

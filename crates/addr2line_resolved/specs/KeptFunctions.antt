@@ -5,12 +5,14 @@ use Rattle.addr2line_functions.specs.Calls.{ReturnsAsOrNoMemory}
 use Rattle.addr2line_functions.specs.Lines.{Location}
 use Rattle.addr2line_functions.specs.Functions.{Function, function_number}
 use Rattle.addr2line_functions.specs.InlinedCalls.{FunctionCalls, chain_at}
-use Rattle.addr2line_functions.specs.Frames.{Frame, FunctionAt, frames_in, frame_without_function}
+use Rattle.addr2line_functions.specs.Frames.{Frame, FunctionAt, frame_without_function}
+use Rattle.addr2line_functions.specs.BorrowedFrames.{function_value, frames_of_calls}
 use Rattle.addr2line_functions.specs.CallNumbers.{calls_of_numbers}
-use Rattle.addr2line_functions.specs.CountedFunctions.{CountedFunctions, CountedCalls, CountedFunctionAt, function_probes, chain_probes}
+use Rattle.addr2line_functions.specs.CountedFunctions.{CountedFunctions, CountedCalls, function_probes, chain_probes}
+use Rattle.addr2line_functions.specs.declared.function_at.FunctionAt.{FunctionAt as BorrowedFunction}
 
--- Functions or their refusal, and by the functions' numbers the calls of each or their refusal, each
--- where it was read; with the names of the counters of their ranges.
+-- Functions or their refusal, and by the functions' numbers the calls of each or their refusal,
+-- each where it was read; with the names of the counters of their ranges.
 pub record KeptFunctions : Type 0 where
   pub functions : Option (Result CountedFunctions Error)
   pub calls : List (Option (Result CountedCalls Error))
@@ -29,8 +31,9 @@ abbrev pub plain_calls : Result CountedCalls Error → Result FunctionCalls Erro
 plain_calls (Ok f) = Ok f.function
 plain_calls (Err e) = Err e
 
-abbrev pub plain_function_at : Result CountedFunctionAt Error → Result FunctionAt Error
-plain_function_at (Ok f) = Ok f.function
+abbrev pub plain_function_at : {R E O : Type 0} → Result (BorrowedFunction R E O) Error
+    → Result FunctionAt Error
+plain_function_at (Ok f) = Ok (function_value f)
 plain_function_at (Err e) = Err e
 
 -- ---- by numbers
@@ -133,8 +136,7 @@ abbrev pub frames_by_numbers : Option ℕ → List (List ℕ) → Option Locatio
 frames_by_numbers language files here None numbers = Ok (frame_without_function here)
 frames_by_numbers language files here (Some (Err e)) numbers = Err e
 frames_by_numbers language files here (Some (Ok f)) numbers =
-    Ok (frames_in language files here f.offset f.calls.name
-    (calls_of_numbers f.calls.calls numbers))
+    Ok (frames_of_calls language files here f numbers)
 
 -- ---- counters
 

@@ -4,6 +4,7 @@ pub use Rattle.addr2line_functions.specs.FunctionNames
 pub use Rattle.addr2line_functions.specs.CallNumbers
 pub use Rattle.addr2line_functions.specs.ContextNames
 pub use Rattle.addr2line_functions.specs.CountedFunctions
+pub use Rattle.addr2line_functions.specs.BorrowedFrames
 pub use Rattle.addr2line_functions.specs.BorrowedLocations
 pub use Rattle.addr2line_functions.specs.NumberedRanges
 pub use Rattle.addr2line_functions.specs.RangeIndexLaws

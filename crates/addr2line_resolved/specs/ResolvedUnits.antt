@@ -32,13 +32,14 @@ pub record AnsweredUnit : Type 0 where
 
 -- The same, and what was read of it and is kept: whether its lines and its functions are, and the
 -- calls of each function or their refusal, by the functions' numbers, each if it is kept; with the
--- counter of looks at what is kept.
+-- counter of looks at what is kept, and the numbers of the calls that were found last.
 pub record ResolvedUnit : Type 0 where
   pub value : AnsweredUnit
   pub keeps_lines : Bool
   pub keeps_functions : Bool
   pub calls : List (Option (Result FunctionCalls Error))
   pub probes : ProbeCount
+  pub chain : List ℕ
 
 -- without what is kept
 abbrev pub value_of_unit : ResolvedUnit → AnsweredUnit
@@ -214,6 +215,10 @@ with_calls u n r = record u { calls = set u.calls n (Some r) }
 -- with looks at what is kept
 abbrev pub with_probes : ResolvedUnit → ProbeCount → ResolvedUnit
 with_probes u p = record u { probes = p }
+
+-- and with the numbers of calls that were found
+abbrev pub with_chain : ResolvedUnit → ProbeCount → List ℕ → ResolvedUnit
+with_chain u p numbers = record u { probes = p; chain = numbers }
 
 -- a unit of which no functions are kept
 abbrev pub KeepsNoFunctions : ResolvedUnit → Type 0

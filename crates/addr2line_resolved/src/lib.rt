@@ -25,8 +25,8 @@ pub use addr2line_functions::{
     RangeLists, RangeListsOffset, RawRangeListsOffset, Reader, ReaderOffsetId, RootRanges,
     RunTimeEndian, Runs, SectionId, StretchesBetween, Unit, UnitHeader, UnitLines, UnitNames,
     UnitOffset, UnitRanges, UnitRangesBuilder, UnitRef, UnitRoot, UnitType, calls_of_function,
-    file_text, file_text_of_bytes, frames_of_unit, functions_of_unit, is_partial, is_rooted, join,
-    language_of, ranges_of_attributes, ranges_of_entry,
+    file_text, file_text_of_bytes, frame_without_function, functions_of_unit, is_partial,
+    is_rooted, join, language_of, ranges_of_attributes, ranges_of_entry,
 };
 pub use addr2line_units::LineRow;
 pub use first_answer::answer_of;

@@ -5,13 +5,14 @@ ghost use Rattle.addr2line_functions.specs.Calls.{Returns, ReturnsAs, ReturnsAsO
 ghost use Rattle.addr2line_functions.specs.Error.TheVariants.{Memory};
 ghost use Rattle.addr2line_functions.specs.Results.{and_then};
 ghost use Rattle.addr2line_functions.specs.FirstAnswers.{load_of};
+ghost use Rattle.addr2line_functions.specs.BorrowedFrames.{frames_left};
 ghost use Rattle.addr2line_functions.specs.BorrowedLocations.{location_value};
 ghost use Rattle.addr2line_units.specs.ArangeIndexes.{IsIndexOf};
 ghost use Rattle.addr2line_units.specs.LineIndexes.{counted_lines};
 ghost use Rattle.addr2line_units.specs.RootRanges.{RunsForRanges, unit_with};
 ghost use Rattle.addr2line_units.specs.Searches.{AtMostProbes};
 ghost use Rattle.addr2line_resolved.specs.KeptFunctions.{kept_at, plain_functions, plain_calls, count_of_functions, number_in, number_probes, function_at_number, FindsChain, kept_chain_probes, frames_by_numbers};
-ghost use Rattle.addr2line_resolved.specs.ResolvedUnits.{main_unit, pending_load, decided, first_answer, answer_or_none, unit_of_functions, functions_of, calls_of_number, if_kept, runs_if_kept, row_or_refusal, row_in_kept, lines_probes, kept_probes, location_of_row, with_functions, with_calls, with_probes, with_unit_answer, without_answer, new_unit, KeepsNoFunctions, RunsForRangesAlone};
+ghost use Rattle.addr2line_resolved.specs.ResolvedUnits.{main_unit, pending_load, decided, first_answer, answer_or_none, unit_of_functions, functions_of, calls_of_number, if_kept, runs_if_kept, row_or_refusal, row_in_kept, lines_probes, kept_probes, location_of_row, with_functions, with_calls, with_probes, with_chain, with_unit_answer, without_answer, new_unit, KeepsNoFunctions, RunsForRangesAlone};
 
 use crate::kept::Kept;
 use crate::load::{SplitDwarfLoad, load_of};
@@ -43,6 +44,8 @@ pub struct ResUnit<R: Reader> {
     functions: UnitFunctions<R>,
     /// Looks at what is kept.
     probes: Probes,
+    /// The numbers of the calls that were found last, the outermost first.
+    chain: Vec<usize>,
 }
 
 impl<R: Reader> Model for ResUnit<R> {
@@ -68,6 +71,7 @@ impl<R: Reader> Model for ResUnit<R> {
       keeps_functions = is_some u.functions.functions;
       calls = map (option_map plain_calls) u.functions.calls;
       probes = u.probes;
+      chain = u.chain.items;
     } };
 
     ghost invariant = { λ u.
@@ -203,6 +207,7 @@ impl<R: Reader> ResUnit<R> {
             runs,
             functions: UnitFunctions::not_read(alloc),
             probes,
+            chain: Vec::new(alloc),
         })
     }
 
@@ -264,7 +269,10 @@ impl<R: Reader> ResUnit<R> {
     /// The row of an address in the lines, or the refusal of them. They are read before, unless
     /// they are kept. It is found by one search among the sequences and one among the rows of one.
     pub fn find_row(&mut self, alloc: Global, probe: u64) -> Result<Option<LineRow>, Error>
-        ensures value { self.new.value ≡ self.old.value }
+        ensures unit { self.new ≡ record self.old {
+          keeps_lines = self.new.keeps_lines;
+          probes = self.new.probes;
+        } }
         ensures row { ReturnsOrNoMemory result (row_or_refusal probe self.old.value.unit.lines) }
         ensures kept { OnOk result (self.new.keeps_lines ≡ true) }
         ensures free { self.old.keeps_lines ≡ true
@@ -291,7 +299,7 @@ impl<R: Reader> ResUnit<R> {
     /// Whether the lines can be read, or the refusal of them. They are read before, unless they are
     /// kept.
     pub fn check_lines(&mut self, alloc: Global) -> Result<(), Error>
-        ensures value { self.new.value ≡ self.old.value }
+        ensures unit { self.new ≡ record self.old { keeps_lines = self.new.keeps_lines } }
         ensures found { ReturnsOrNoMemory result
             (and_then self.old.value.unit.lines (λ lines. Ok tt)) }
         ensures kept { OnOk result (self.new.keeps_lines ≡ true) }
@@ -448,43 +456,39 @@ impl<R: Reader> ResUnit<R> {
         self.functions.calls(function)
     }
 
-    /// The numbers of the calls of a function that an address is in, the outermost first, or the
-    /// refusal of the calls, where they are kept. One bisection finds each.
-    pub fn find_chain(
-        &mut self,
-        alloc: Global,
-        function: usize,
-        probe: u64,
-    ) -> Result<Vec<usize>, Error>
-        ensures unit { self.new ≡ with_probes self.old self.new.probes }
-        ensures chain { FindsChain (λ numbers. numbers.items) (kept_at self.old.calls function)
+    /// Finds the calls of a function that an address is in, and keeps their numbers, the outermost
+    /// first, in place of those that were found last; none where the calls aren't kept. Their
+    /// refusal is the error. One bisection finds each. It takes memory only where there are more of
+    /// them than ever before.
+    pub fn find_chain(&mut self, function: usize, probe: u64) -> Result<(), Error>
+        ensures unit { self.new ≡ with_chain self.old self.new.probes self.new.chain }
+        ensures chain { FindsChain (λ done. self.new.chain) (kept_at self.old.calls function)
             probe result }
         ensures cost { AtMostProbes (kept_chain_probes (kept_at self.old.calls function) probe)
             self.old.probes self.new.probes }
     {
         self.functions
-            .find_chain(alloc, function, probe, &mut self.probes)
+            .find_chain(function, probe, &mut self.probes, &mut self.chain)
     }
 
     /// The frames at a place in a function whose calls are kept, by the numbers of the calls that
-    /// `find_chain` gave; without a function that of the place. Nothing is searched. Call sites are
-    /// named by the files of these lines.
+    /// `find_chain` gave; without a function that of the place. Nothing is searched, and no memory
+    /// is taken. Call sites are named by the files of these lines.
     pub fn frames<'ctx>(
         &'ctx self,
-        alloc: Global,
         lines: &'ctx LineIndex,
         place: Option<Location<'ctx>>,
         function: Option<usize>,
-        chain: &[usize],
     ) -> Result<FrameIter<'ctx, R>, Error>
-        ensures { ReturnsOrNoMemory result
+        ensures { ReturnsAs frames_left result
             (frames_by_numbers self.now.value.unit.language lines.now.lines.files
             (option_map location_value place.entry)
             (option_and_then (function_at_number (functions_of self.now.value) self.now.calls)
-            function) chain.now) }
+            function) self.now.chain) }
     {
+        let chain = self.chain.as_slice();
         self.functions
-            .frames(alloc, self.language, lines, place, function, chain)
+            .frames(self.language, lines, place, function, chain)
     }
 }
 

@@ -1,8 +1,9 @@
 //! The functions of a unit with their calls, read once and kept.
 
 ghost use Rattle.std.specs.Prelude.{◌≡◌, ◌≢◌, ◌<◌, length, option_map, option_and_then, is_some, Some, Ok, Err, OnOk, OnErr, IfErr};
-ghost use Rattle.addr2line_functions.specs.Calls.{Returns, ReturnsAsOrNoMemory, ReturnsOrNoMemory};
+ghost use Rattle.addr2line_functions.specs.Calls.{Returns, ReturnsAs, ReturnsAsOrNoMemory};
 ghost use Rattle.addr2line_functions.specs.Error.TheVariants.{Memory};
+ghost use Rattle.addr2line_functions.specs.BorrowedFrames.{frames_left};
 ghost use Rattle.addr2line_functions.specs.BorrowedLocations.{location_value};
 ghost use Rattle.addr2line_units.specs.Searches.{AtMostProbes};
 ghost use Rattle.addr2line_resolved.specs.KeptFunctions.{IfKept, nothing_kept, kept_at, kept_function_in, plain_calls, plain_function_at, kept_number, kept_number_probes, count_of_functions, plain_functions, functions_read, calls_read, calls_of_none, kept_function, FindsChain, kept_chain_probes, frames_by_numbers};
@@ -175,26 +176,29 @@ impl<R: Reader> UnitFunctions<R> {
         calls.keep(read)
     }
 
-    /// The numbers of the calls of a function that an address is in, the outermost first, or the
-    /// refusal of the calls, where they are kept.
+    /// Fills a buffer with the numbers of the calls of a function that an address is in, the
+    /// outermost first; with none where the calls aren't kept. Their refusal is the error.
     pub(crate) fn find_chain(
         &self,
-        alloc: Global,
         number: usize,
         probe: u64,
         probes: &mut Probes,
-    ) -> Result<Vec<usize>, Error>
+        chain: &mut Vec<usize>,
+    ) -> Result<(), Error>
         requires { IfKept (kept_at self.now.calls number) (λ c. probes.old.name ≡ c.counter) }
-        ensures chain { FindsChain (λ numbers. numbers.items)
+        ensures chain { FindsChain (λ done. chain.new.items)
             (option_map plain_calls (kept_at self.now.calls number)) probe result }
         ensures cost { AtMostProbes
             (kept_chain_probes (option_map plain_calls (kept_at self.now.calls number)) probe)
             probes.old probes.new }
     {
         match self.calls(number) {
-            Some(Ok(calls)) => calls.find_chain(alloc, probe, probes),
+            Some(Ok(calls)) => calls.find_chain(probe, probes, chain),
             Some(Err(error)) => Err(*error),
-            None => Ok(Vec::new(alloc)),
+            None => {
+                chain.clear();
+                Ok(())
+            }
         }
     }
 
@@ -202,9 +206,9 @@ impl<R: Reader> UnitFunctions<R> {
     fn function_at(&self, number: usize) -> Option<Result<FunctionAt<'_, R>, Error>>
         ensures { option_map plain_function_at result ≡ kept_function self.now number }
     {
-        let offset = self.offset(number)?;
+        let function = self.function(number)?;
         match self.calls(number)? {
-            Ok(calls) => Some(Ok(FunctionAt { offset, calls })),
+            Ok(calls) => Some(Ok(FunctionAt { function, calls })),
             Err(error) => Some(Err(*error)),
         }
     }
@@ -220,24 +224,21 @@ impl<R: Reader> UnitFunctions<R> {
     /// The frames at a place in a function, by the numbers of the calls there.
     pub(crate) fn frames<'ctx>(
         &'ctx self,
-        alloc: Global,
         language: Option<DwLang>,
         lines: &'ctx LineIndex,
         place: Option<Location<'ctx>>,
         function: Option<usize>,
-        chain: &[usize],
+        chain: &'ctx [usize],
     ) -> Result<FrameIter<'ctx, R>, Error>
-        ensures { ReturnsOrNoMemory result
+        ensures { ReturnsAs frames_left result
             (frames_by_numbers (option_map (λ l. l.0) language) lines.now.lines.files
             (option_map location_value place.entry)
             (option_and_then (kept_function self.now) function) chain.now) }
     {
         match self.function_at_any(function) {
-            Some(Ok(function)) => {
-                frames_by_numbers(alloc, language, lines, place, &function, chain)
-            }
+            Some(Ok(function)) => Ok(frames_by_numbers(language, lines, place, function, chain)),
             Some(Err(error)) => Err(error),
-            None => frame_without_function(alloc, place),
+            None => Ok(frame_without_function(place)),
         }
     }
 }

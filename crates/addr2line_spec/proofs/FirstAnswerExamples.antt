@@ -1,6 +1,6 @@
 -- Worked values: what the definitions say of two units by hand over one address, whose functions may be in split files,
 -- by computation.
-use Rattle.std.proofs.Common.{◌≡◌, ℕ, false, List, [], ◌∷◌, Option, Some, None, Ok, Err, refl, codes}
+use Rattle.std.proofs.Common.{◌≡◌, ℕ, false, List, [], ◌∷◌, Option, Some, None, Ok, Err, refl, codes, true}
 use Rattle.gimli_lines_machine.specs.Error.TheVariants.{InvalidAbbreviationCode, ExpectedStringAttributeValue, NoSuchUnit}
 use Rattle.gimli_lines_machine.specs.NumberParsers.{unsigned, unsigned_16, signed, fixed, initial_length, sized_offset, word, address_size}
 use Rattle.gimli_lines_machine.specs.Repetition.{items_within, listing_in}
@@ -38,7 +38,14 @@ unit_over begin end facts =
         sequences = record {
           start = begin;
           end = end;
-          rows = record { address = begin; file = 1; line = end; column = 1 } ∷ [];
+          rows = record {
+            address = begin;
+            file = 1;
+            line = end;
+            column = 1;
+            statement = true;
+            discriminator = 0;
+          } ∷ [];
         } ∷ [];
         files = [] ∷ codes "/w/a.c" ∷ [];
       });
@@ -50,7 +57,13 @@ at_line line =
     record {
       offset = None;
       function = None;
-      location = Some (record { file = Some (codes "/w/a.c"); line = Some line; column = Some 1 });
+      location = Some (record {
+        file = Some (codes "/w/a.c");
+        line = Some line;
+        column = Some 1;
+        statement = Some true;
+        discriminator = Some 0;
+      });
     } ∷ []
 
 abbrev nameless : Namings

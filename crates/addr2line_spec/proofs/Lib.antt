@@ -1,5 +1,4 @@
 pub mod SeparateRanges
-pub mod LatestFromLeft
 pub mod PairOrder
 pub mod RowLookup
 mod PlaceExamples

@@ -25,10 +25,28 @@ abbrev between : List Unit_of → ℕ → ℕ → Listing (Unit {0}) Stretch
 between us low high = stretches_between (λ u. u.ranges) (λ u. u.lines) us low high
 
 abbrev row : ℕ → ℕ → ProgramRow
-row address line = record { address = address; file = 1; line = line; column = 1; ends = false }
+row address line =
+    record {
+      address = address;
+      file = 1;
+      line = line;
+      column = 1;
+      statement = true;
+      discriminator = 0;
+      ends = false;
+    }
 
 abbrev end_row : ℕ → ProgramRow
-end_row address = record { address = address; file = 1; line = 1; column = 0; ends = true }
+end_row address =
+    record {
+      address = address;
+      file = 1;
+      line = 1;
+      column = 0;
+      statement = true;
+      discriminator = 0;
+      ends = true;
+    }
 
 -- a unit of one range, whose program shows these rows
 abbrev unit : Range → List ProgramRow → Unit_of
@@ -39,7 +57,14 @@ unit r rows =
     }
 
 abbrev place : ℕ → Location
-place line = record { file = Some (codes "/w/a.c"); line = Some line; column = Some 1 }
+place line =
+    record {
+      file = Some (codes "/w/a.c");
+      line = Some line;
+      column = Some 1;
+      statement = Some true;
+      discriminator = Some 0;
+    }
 
 abbrev stretch : ℕ → ℕ → ℕ → Stretch
 stretch address length line = record { address = address; length = length; location = place line }
@@ -55,6 +80,38 @@ last_of_one_address = refl
 last_of_three : location (unit (range 0x10 0x30) (row 0x10 1 ∷ row 0x10 2 ∷ row 0x10 3 ∷ end_row 0x30 ∷ []) ∷ []) 0x10
     ≡ Ok (Some (place 3))
 last_of_three = refl
+
+-- a row where no statement begins, of the third block of its line
+abbrev row_of_third_block : ℕ → ℕ → ProgramRow
+row_of_third_block address line =
+    record (row address line) { statement = false; discriminator = 3 }
+
+abbrev place_in_third_block : Option ℕ → Option ℕ → Location
+place_in_third_block line column =
+    record {
+      file = Some (codes "/w/a.c");
+      line = line;
+      column = column;
+      statement = Some false;
+      discriminator = Some 3;
+    }
+
+-- of two rows at one address the last one's flag and discriminator count too
+flag_of_the_last : location
+    (unit (range 0x10 0x30) (row 0x10 1 ∷ row_of_third_block 0x10 1 ∷ end_row 0x30 ∷ []) ∷ []) 0x10
+    ≡ Ok (Some (place_in_third_block (Some 1) (Some 1)))
+flag_of_the_last = refl
+
+flag_of_the_first_is_dropped : location
+    (unit (range 0x10 0x30) (row_of_third_block 0x10 1 ∷ row 0x10 1 ∷ end_row 0x30 ∷ []) ∷ []) 0x10
+    ≡ Ok (Some (place 1))
+flag_of_the_first_is_dropped = refl
+
+-- they are known also where the line isn't
+flag_without_line : location
+    (unit (range 0x10 0x30) (row_of_third_block 0x10 0 ∷ end_row 0x30 ∷ []) ∷ []) 0x10
+    ≡ Ok (Some (place_in_third_block None None))
+flag_without_line = refl
 
 last_row : location lines_with_doubled_row 0x2f ≡ Ok (Some (place 3))
 last_row = refl

@@ -34,6 +34,8 @@ call_site files c =
       file = option_and_then (slice_get files) c.file;
       line = nonzero c.line;
       column = nonzero c.column;
+      statement = None;
+      discriminator = None;
     }
 
 abbrev pub function_name : Option ℕ → Option View → Option FunctionName

@@ -14,14 +14,19 @@ pub record ProgramRow : Type 0 where
   pub file : ℕ
   pub line : ℕ
   pub column : ℕ
+  pub statement : Bool
+  pub discriminator : ℕ
   pub ends : Bool
 
--- a row as lookups use it: from its address on, the place in the source
+-- a row as lookups use it: from its address on, the place in the source, whether a statement begins
+-- there, and which of the blocks of its line the code belongs to
 pub record LineRow : Type 0 where
   pub address : ℕ
   pub file : ℕ
   pub line : ℕ
   pub column : ℕ
+  pub statement : Bool
+  pub discriminator : ℕ
 
 -- rows, and where the last of them ends
 pub record Sequence : Type 0 where
@@ -37,6 +42,8 @@ line_row r =
       file = r.file;
       line = r.line % 2 ^ 32;
       column = r.column % 2 ^ 32;
+      statement = r.statement;
+      discriminator = r.discriminator;
     }
 
 -- the rows before an end, and its address
@@ -92,11 +99,14 @@ no_lines = record { sequences = []; files = [] }
 -- ---- places
 
 -- a place in the source: the file's text, the line, and the column, 0 for the left edge; each where
--- it is known
+-- it is known; and where a row gives the place, whether it is the beginning of a statement, and its
+-- discriminator
 pub record Location : Type 0 where
   pub file : Option (List ℕ)
   pub line : Option ℕ
   pub column : Option ℕ
+  pub statement : Option Bool
+  pub discriminator : Option ℕ
 
 -- a number that is known where the row has a line, which 0 is not
 abbrev pub with_line : ℕ → ℕ → Option ℕ
@@ -108,6 +118,8 @@ row_location files r =
       file = slice_get files r.file;
       line = with_line r.line r.line;
       column = with_line r.line r.column;
+      statement = Some r.statement;
+      discriminator = Some r.discriminator;
     }
 
 -- ---- an address

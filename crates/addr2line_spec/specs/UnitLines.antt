@@ -46,6 +46,8 @@ program_row r =
       file = r.file;
       line = r.line;
       column = r.column;
+      statement = r.is_stmt;
+      discriminator = r.discriminator;
       ends = r.end_sequence;
     }
 

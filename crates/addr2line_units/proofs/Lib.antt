@@ -2,6 +2,7 @@ pub use Rattle.addr2line_index.proofs.UnitAnswers
 pub use Rattle.addr2line_index.proofs.UnitViews
 pub use Rattle.addr2line_index.proofs.CallChains
 pub use Rattle.addr2line_index.proofs.EntryLevels
+pub use Rattle.addr2line_index.proofs.PendingLoads
 pub use Rattle.addr2line_index.proofs.HolderViews
 pub use Rattle.addr2line_index.proofs.RangeHolders
 pub mod ProgramHeaders

@@ -5,7 +5,7 @@ ghost use Rattle.gimli_lines_rows.specs.Error.TheVariants.{Memory};
 ghost use Rattle.addr2line_index.specs.UnitLines.{program_row};
 ghost use Rattle.addr2line_units.specs.LineProgramRuns.{Adds, AddsRows, RunsProgram};
 
-use addr2line_index::LinesBuilder;
+use addr2line_index::{LinesBuilder, ProgramRow};
 use gimli_lines_rows::{
     ColumnType, Error, IncompleteLineProgram, LineProgramHeader, LineRow, LineRows, Reader,
 };
@@ -35,13 +35,15 @@ fn push_row(builder: &mut LinesBuilder, row: &LineRow) -> Result<(), Error>
     ensures ok { OnOk result (Adds builder.old builder.new (program_row row.now ∷ [])) }
     ensures refusal { IfErr result (λ e. e ≡ Memory) }
 {
-    builder.push(
-        row.address(),
-        row.file_index(),
-        line_of(row),
-        column_of(row),
-        row.end_sequence(),
-    )
+    builder.push(ProgramRow {
+        address: row.address(),
+        file: row.file_index(),
+        line: line_of(row),
+        column: column_of(row),
+        statement: row.is_stmt(),
+        discriminator: row.discriminator(),
+        ends: row.end_sequence(),
+    })
 }
 
 // Pushes all rows to come to the builder.

@@ -10,6 +10,8 @@ pub mod ListTableMemoryLemmas
 pub mod ListSteps
 pub mod RangeSteps
 pub mod LocationEntrySizes
+mod PlaceLemmas
+mod LocationEntryPlaces
 pub mod ListCounts
 pub mod ListRefusals
 pub mod ProgressLemmas

@@ -5,22 +5,23 @@ use gimli_core_readers::{DebugAddrIndex, Error, Reader, ReaderOffset};
 
 // An index into the addresses.
 #[tactic(auto, unfolding(crate::specs::ListEntryFields::index))]
-pub(crate) fn read_index<R: Reader>(input: &mut R) -> Result<DebugAddrIndex<R::Offset>, Error>
-    ensures { ReturnsAs (λ index. (R.Offset.count index.0, R.view input.new)) result
-        (index R.Offset.limit (R.view input.old)) }
+pub(crate) fn read_index<R: Reader, O: ReaderOffset>(
+    input: &mut R,
+) -> Result<DebugAddrIndex<O>, Error>
+    ensures { ReturnsAs (λ index. (O.count index.0, R.view input.new)) result
+        (index O.limit (R.view input.old)) }
 {
     let index = input.read_uleb128()?;
-    Ok(DebugAddrIndex(R::Offset::from_u64(index)?))
+    Ok(DebugAddrIndex(O::from_u64(index)?))
 }
 
 // The indexes of begin and end.
 #[tactic(auto, unfolding(crate::specs::ListEntryFields::indexes))]
-pub(crate) fn read_indexes<R: Reader>(
+pub(crate) fn read_indexes<R: Reader, O: ReaderOffset>(
     input: &mut R,
-) -> Result<(DebugAddrIndex<R::Offset>, DebugAddrIndex<R::Offset>), Error>
-    ensures { ReturnsAs (λ p. ((R.Offset.count p.0.0, R.Offset.count p.1.0), R.view input.new))
-        result
-        (indexes R.Offset.limit (R.view input.old)) }
+) -> Result<(DebugAddrIndex<O>, DebugAddrIndex<O>), Error>
+    ensures { ReturnsAs (λ p. ((O.count p.0.0, O.count p.1.0), R.view input.new)) result
+        (indexes O.limit (R.view input.old)) }
 {
     let begin = read_index(input)?;
     let end = read_index(input)?;

@@ -1,16 +1,19 @@
 ghost use Rattle.std.specs.Prelude.{option_map, ◌≡◌, ◌≢◌, IsTrue, Err};
 ghost use Rattle.gimli_core_readers.specs.Calls.{ReturnsAs, ReturnsAsOrNoMemory};
 ghost use Rattle.gimli_core_readers.specs.Error.TheVariants.{Memory};
-ghost use Rattle.gimli_units_lists.specs.LocationEntries.{location_pair, location_kind, location_entry, expression, index_and_length};
+ghost use Rattle.gimli_units_lists.specs.LocationEntries.{location_pair, location_kind, location_entry, expression_length, expression, index_and_length};
 ghost use Rattle.gimli_units_lists.specs.ListEntryViews.{raw_location, raw_parts};
+ghost use Rattle.gimli_units_lists.specs.Places.{IsAfter};
 
 use crate::entry_list::ListEntry;
 use crate::fields::{
     read_address_and_length, read_addresses, read_index, read_indexes, read_offsets,
 };
+use crate::place::{borrowed, bytes_before, cut};
 use crate::range_entry::RawRngListEntry;
 use gimli_core_readers::{
-    DebugAddrIndex, DwLle, Encoding, Error, Expression, Reader, ReaderOffset, greatest_address,
+    DebugAddrIndex, DwLle, Encoding, EndianSlice, Error, Expression, Reader, ReaderOffset,
+    greatest_address,
 };
 
 /// An entry of a location list, as its list has it.
@@ -84,9 +87,10 @@ impl<R: Reader> ListEntry<R> for RawLocListEntry<R> {
 
     fn parse(input: &mut R, how: (Encoding, bool)) -> Result<Option<Self>, Error> {
         let (encoding, by_kind) = how;
-        let mut rest = input.copy()?;
-        let entry = parse_entry(&mut rest, encoding, by_kind)?;
-        *input = rest;
+        let mut place = borrowed(input);
+        let entry = parse_entry(&mut place, input, encoding, by_kind)?;
+        let count = bytes_before(&place, input);
+        input.advance(count);
         Ok(entry)
     }
 }
@@ -94,37 +98,41 @@ impl<R: Reader> ListEntry<R> for RawLocListEntry<R> {
 // The next entry of a list, none at its end.
 #[tactic(auto, unfolding(crate::specs::LocationEntries::location_entry))]
 fn parse_entry<R: Reader>(
-    input: &mut R,
+    place: &mut EndianSlice<'_, R::Endian>,
+    reader: &R,
     encoding: Encoding,
     by_kind: bool,
 ) -> Result<Option<RawLocListEntry<R>>, Error>
+    requires { IsAfter (R.view reader.now) place.old }
     ensures value { ReturnsAsOrNoMemory
-        (λ entry. (option_map (raw_location R.view R.Offset.count) entry, R.view input.new)) result
-        (location_entry R.Offset.limit encoding by_kind (R.view input.old)) }
+        (λ entry. (option_map (raw_location R.view R.Offset.count) entry, place.new)) result
+        (location_entry R.Offset.limit encoding by_kind place.old) }
     ensures free { IsTrue R.copies_freely → result ≢ Err Memory }
 {
     if by_kind {
-        parse_kind(input, encoding)
+        parse_kind(place, reader, encoding)
     } else {
-        parse_pair(input, encoding)
+        parse_pair(place, reader, encoding)
     }
 }
 
 // An entry of `.debug_loc`.
 #[tactic(auto, unfolding(crate::specs::LocationEntries::location_pair))]
 fn parse_pair<R: Reader>(
-    input: &mut R,
+    place: &mut EndianSlice<'_, R::Endian>,
+    reader: &R,
     encoding: Encoding,
 ) -> Result<Option<RawLocListEntry<R>>, Error>
+    requires { IsAfter (R.view reader.now) place.old }
     ensures value { ReturnsAsOrNoMemory
-        (λ entry. (option_map (raw_location R.view R.Offset.count) entry, R.view input.new)) result
-        (location_pair R.Offset.limit encoding (R.view input.old)) }
+        (λ entry. (option_map (raw_location R.view R.Offset.count) entry, place.new)) result
+        (location_pair R.Offset.limit encoding place.old) }
     ensures free { IsTrue R.copies_freely
         → ReturnsAs
-        (λ entry. (option_map (raw_location R.view R.Offset.count) entry, R.view input.new))
-        result (location_pair R.Offset.limit encoding (R.view input.old)) }
+        (λ entry. (option_map (raw_location R.view R.Offset.count) entry, place.new))
+        result (location_pair R.Offset.limit encoding place.old) }
 {
-    let (begin, end) = read_addresses(input, encoding.address_size)?;
+    let (begin, end) = read_addresses(place, encoding.address_size)?;
     if begin == 0 && end == 0 {
         return Ok(None);
     }
@@ -134,33 +142,35 @@ fn parse_pair<R: Reader>(
     Ok(Some(RawLocListEntry::AddressOrOffsetPair {
         begin,
         end,
-        expression: parse_expression(input, encoding)?,
+        expression: parse_expression(place, reader, encoding)?,
     }))
 }
 
 // An entry of `.debug_loclists`, or of `.debug_loc` in a split file.
 #[tactic(auto, unfolding(crate::specs::LocationEntries::location_kind))]
 fn parse_kind<R: Reader>(
-    input: &mut R,
+    place: &mut EndianSlice<'_, R::Endian>,
+    reader: &R,
     encoding: Encoding,
 ) -> Result<Option<RawLocListEntry<R>>, Error>
+    requires { IsAfter (R.view reader.now) place.old }
     ensures value { ReturnsAsOrNoMemory
-        (λ entry. (option_map (raw_location R.view R.Offset.count) entry, R.view input.new)) result
-        (location_kind R.Offset.limit encoding (R.view input.old)) }
+        (λ entry. (option_map (raw_location R.view R.Offset.count) entry, place.new)) result
+        (location_kind R.Offset.limit encoding place.old) }
     ensures free { IsTrue R.copies_freely
         → ReturnsAs
-        (λ entry. (option_map (raw_location R.view R.Offset.count) entry, R.view input.new))
-        result (location_kind R.Offset.limit encoding (R.view input.old)) }
+        (λ entry. (option_map (raw_location R.view R.Offset.count) entry, place.new))
+        result (location_kind R.Offset.limit encoding place.old) }
 {
-    let kind = input.read_u8()?;
+    let kind = place.read_u8()?;
     Ok(Some(match kind {
         0 => return Ok(None),
         1 => RawLocListEntry::BaseAddressx {
-            addr: read_index(input)?,
+            addr: read_index(place)?,
         },
         2 => {
-            let (begin, end) = read_indexes(input)?;
-            let expression = parse_expression(input, encoding)?;
+            let (begin, end) = read_indexes(place)?;
+            let expression = parse_expression(place, reader, encoding)?;
             RawLocListEntry::StartxEndx {
                 begin,
                 end,
@@ -168,8 +178,8 @@ fn parse_kind<R: Reader>(
             }
         }
         3 => {
-            let (begin, length) = read_index_and_length(input, encoding)?;
-            let expression = parse_expression(input, encoding)?;
+            let (begin, length) = read_index_and_length(place, encoding)?;
+            let expression = parse_expression(place, reader, encoding)?;
             RawLocListEntry::StartxLength {
                 begin,
                 length,
@@ -177,8 +187,8 @@ fn parse_kind<R: Reader>(
             }
         }
         4 => {
-            let (begin, end) = read_offsets(input)?;
-            let expression = parse_expression(input, encoding)?;
+            let (begin, end) = read_offsets(place)?;
+            let expression = parse_expression(place, reader, encoding)?;
             RawLocListEntry::OffsetPair {
                 begin,
                 end,
@@ -186,14 +196,14 @@ fn parse_kind<R: Reader>(
             }
         }
         5 => RawLocListEntry::DefaultLocation {
-            expression: parse_expression(input, encoding)?,
+            expression: parse_expression(place, reader, encoding)?,
         },
         6 => RawLocListEntry::BaseAddress {
-            addr: input.read_address(encoding.address_size)?,
+            addr: place.read_address(encoding.address_size)?,
         },
         7 => {
-            let (begin, end) = read_addresses(input, encoding.address_size)?;
-            let expression = parse_expression(input, encoding)?;
+            let (begin, end) = read_addresses(place, encoding.address_size)?;
+            let expression = parse_expression(place, reader, encoding)?;
             RawLocListEntry::StartEnd {
                 begin,
                 end,
@@ -201,8 +211,8 @@ fn parse_kind<R: Reader>(
             }
         }
         8 => {
-            let (begin, length) = read_address_and_length(input, encoding.address_size)?;
-            let expression = parse_expression(input, encoding)?;
+            let (begin, length) = read_address_and_length(place, encoding.address_size)?;
+            let expression = parse_expression(place, reader, encoding)?;
             RawLocListEntry::StartLength {
                 begin,
                 length,
@@ -215,12 +225,12 @@ fn parse_kind<R: Reader>(
 
 // An index and a length, whose width depends on the version.
 #[tactic(auto, unfolding(crate::specs::LocationEntries::index_and_length))]
-fn read_index_and_length<R: Reader>(
+fn read_index_and_length<R: Reader, O: ReaderOffset>(
     input: &mut R,
     encoding: Encoding,
-) -> Result<(DebugAddrIndex<R::Offset>, u64), Error>
-    ensures { ReturnsAs (λ p. ((R.Offset.count p.0.0, p.1), R.view input.new)) result
-        (index_and_length R.Offset.limit encoding (R.view input.old)) }
+) -> Result<(DebugAddrIndex<O>, u64), Error>
+    ensures { ReturnsAs (λ p. ((O.count p.0.0, p.1), R.view input.new)) result
+        (index_and_length O.limit encoding (R.view input.old)) }
 {
     let begin = read_index(input)?;
     let length = if encoding.version <= 4 {
@@ -231,21 +241,37 @@ fn read_index_and_length<R: Reader>(
     Ok((begin, length))
 }
 
+// The length of an expression, whose width depends on the version.
+fn read_expression_length<R: Reader, O: ReaderOffset>(
+    input: &mut R,
+    encoding: Encoding,
+) -> Result<O, Error>
+    ensures { ReturnsAs (λ length. (O.count length, R.view input.new)) result
+        (expression_length O.limit encoding (R.view input.old)) }
+{
+    if encoding.version <= 4 {
+        Ok(O::from_u16(input.read_u16()?))
+    } else {
+        O::from_u64(input.read_uleb128()?)
+    }
+}
+
 // The next expression, after its length. Takes memory only where a part of the reader does.
 #[tactic(auto, unfolding(crate::specs::LocationEntries::expression))]
-fn parse_expression<R: Reader>(input: &mut R, encoding: Encoding) -> Result<Expression<R>, Error>
-    ensures value { ReturnsAsOrNoMemory (λ x. (R.view x.0, R.view input.new)) result
-        (expression R.Offset.limit encoding (R.view input.old)) }
+fn parse_expression<R: Reader>(
+    place: &mut EndianSlice<'_, R::Endian>,
+    reader: &R,
+    encoding: Encoding,
+) -> Result<Expression<R>, Error>
+    requires { IsAfter (R.view reader.now) place.old }
+    ensures value { ReturnsAsOrNoMemory (λ x. (R.view x.0, place.new)) result
+        (expression R.Offset.limit encoding place.old) }
     ensures free { IsTrue R.copies_freely
-        → ReturnsAs (λ x. (R.view x.0, R.view input.new)) result
-        (expression R.Offset.limit encoding (R.view input.old)) }
+        → ReturnsAs (λ x. (R.view x.0, place.new)) result
+        (expression R.Offset.limit encoding place.old) }
 {
-    let length = if encoding.version <= 4 {
-        R::Offset::from_u16(input.read_u16()?)
-    } else {
-        R::Offset::from_u64(input.read_uleb128()?)?
-    };
-    Ok(Expression(input.split(length)?))
+    let length = read_expression_length(place, encoding)?;
+    Ok(Expression(cut(place, reader, length)?))
 }
 
 // An entry by what is resolved of it.

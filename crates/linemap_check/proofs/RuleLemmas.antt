@@ -6,7 +6,7 @@ use Rattle.linemap_meaning.specs.TableParts.{RangePart, FunctionPart, UnitPart}
 use Rattle.linemap_meaning.specs.Conditions.{any_outside, is_outside, span, breaks}
 use Rattle.linemap_meaning.specs.TableViews.{range_part, function_part, sequence_part}
 use Rattle.linemap_meaning.specs.declared.rule.Rule.{Rule}
-use Rattle.linemap_meaning.specs.declared.rule.Rule.TheVariants.{EmptyRange, Bounds, NoRange, UnitsOverlap, FunctionOutside, FunctionsOverlap, CallOutside, CallsOverlap, SequenceOutside, SequencesOverlap, Rows, LineOrColumn, FileNumber, Text, NotRooted, Nesting}
+use Rattle.linemap_meaning.specs.declared.rule.Rule.TheVariants.{EmptyRange, Bounds, NoRange, UnitsOverlap, FunctionOutside, FunctionsOverlap, CallOutside, CallsOverlap, SequenceOutside, SequencesOverlap, Rows, LineOrColumn, FileNumber, Text, NotRooted, Nesting, Discriminator}
 use Rattle.linemap_meaning.specs.declared.table.TableFunction.{TableFunction}
 use Rattle.linemap_meaning.specs.declared.table.TableSequence.{TableSequence}
 use Rattle.linemap_check.specs.UnitRules.{unit_breaks}
@@ -48,3 +48,4 @@ breaks_units us FileNumber other = refl
 breaks_units us Text other = refl
 breaks_units us NotRooted other = refl
 breaks_units us Nesting other = refl
+breaks_units us Discriminator other = refl

@@ -1,9 +1,9 @@
 -- The rules, a unit at a time.
 use Rattle.std.specs.Prelude.{Bool, false}
 use Rattle.linemap_meaning.specs.TableParts.{UnitPart}
-use Rattle.linemap_meaning.specs.Conditions.{has_empty_range, has_out_of_bounds, has_no_range, has_function_outside, has_functions_overlap, has_call_outside, has_calls_overlap, has_sequence_outside, has_sequences_overlap, has_sequence_with_bad_rows, has_bad_line_or_column, has_bad_file_number, has_bad_text, is_not_rooted, has_deep_calls}
+use Rattle.linemap_meaning.specs.Conditions.{has_empty_range, has_out_of_bounds, has_no_range, has_function_outside, has_functions_overlap, has_call_outside, has_calls_overlap, has_sequence_outside, has_sequences_overlap, has_sequence_with_bad_rows, has_bad_line_or_column, has_bad_file_number, has_bad_text, is_not_rooted, has_deep_calls, has_bad_discriminator}
 use Rattle.linemap_meaning.specs.declared.rule.Rule.{Rule}
-use Rattle.linemap_meaning.specs.declared.rule.Rule.TheVariants.{EmptyRange, Bounds, NoRange, UnitsOverlap, FunctionOutside, FunctionsOverlap, CallOutside, CallsOverlap, SequenceOutside, SequencesOverlap, Rows, LineOrColumn, FileNumber, Text, NotRooted, Nesting}
+use Rattle.linemap_meaning.specs.declared.rule.Rule.TheVariants.{EmptyRange, Bounds, NoRange, UnitsOverlap, FunctionOutside, FunctionsOverlap, CallOutside, CallsOverlap, SequenceOutside, SequencesOverlap, Rows, LineOrColumn, FileNumber, Text, NotRooted, Nesting, Discriminator}
 
 -- the unit breaks the rule by itself
 abbrev pub unit_breaks : Rule → UnitPart → Bool
@@ -23,3 +23,4 @@ unit_breaks FileNumber u = has_bad_file_number u
 unit_breaks Text u = has_bad_text u
 unit_breaks NotRooted u = is_not_rooted u
 unit_breaks Nesting u = has_deep_calls u
+unit_breaks Discriminator u = has_bad_discriminator u

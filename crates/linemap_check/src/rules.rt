@@ -7,7 +7,7 @@ ghost use Rattle.linemap_meaning.specs.TableViews.{unit_part};
 
 use crate::functions::{has_call_outside, has_calls_overlap, has_deep_calls};
 use crate::overlaps::any_overlap;
-use crate::sequences::any_bad_rows;
+use crate::sequences::{any_bad_discriminator, any_bad_rows};
 use crate::units;
 use crate::units::{EmptyRange, NoRange, any_ranges};
 use linemap_meaning::is_rooted;
@@ -15,7 +15,7 @@ use linemap_meaning::rule::Rule;
 use linemap_meaning::table::TableUnit;
 
 // The rules, lowest number first.
-const RULES: [Rule; 16] = [
+const RULES: [Rule; 17] = [
     Rule::EmptyRange,
     Rule::Bounds,
     Rule::NoRange,
@@ -32,6 +32,7 @@ const RULES: [Rule; 16] = [
     Rule::Text,
     Rule::NotRooted,
     Rule::Nesting,
+    Rule::Discriminator,
 ];
 
 /// The lowest rule that the units break. It takes no memory, and one pass for each rule over units
@@ -85,5 +86,6 @@ fn unit_breaks(unit: &TableUnit, rule: Rule) -> bool
         Rule::Text => units::has_bad_text(unit),
         Rule::NotRooted => !is_rooted(&unit.directory),
         Rule::Nesting => has_deep_calls(&unit.functions),
+        Rule::Discriminator => any_bad_discriminator(&unit.sequences),
     }
 }

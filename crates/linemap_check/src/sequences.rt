@@ -2,7 +2,7 @@
 
 ghost use Rattle.std.specs.Prelude.{◌≡◌, ◌||◌, length, map, nat_le};
 ghost use Rattle.std.specs.List.{list_any};
-ghost use Rattle.linemap_meaning.specs.Conditions.{goes_back, has_bad_rows, is_bad_number, is_out_of_bounds, sequence_out_of_bounds};
+ghost use Rattle.linemap_meaning.specs.Conditions.{goes_back, has_bad_rows, is_bad_discriminator, is_bad_number, is_out_of_bounds, sequence_out_of_bounds};
 ghost use Rattle.linemap_meaning.specs.TableViews.{row_part, sequence_part};
 
 use crate::ranges::is_out_of_bounds;
@@ -95,4 +95,23 @@ fn any_file_past(rows: &[TableRow], files: usize) -> bool
     ensures { result ≡ list_any (λ r. nat_le files r.file) (map row_part rows.now) }
 {
     rows.iter().any(|row| row.file >= files as u64)
+}
+
+/// B20.
+pub fn any_bad_discriminator(sequences: &[TableSequence]) -> bool
+    ensures { result ≡ list_any
+        (λ s. list_any (λ r. is_bad_discriminator r.discriminator) s.rows)
+        (map sequence_part sequences.now) }
+{
+    sequences
+        .iter()
+        .any(|sequence| any_discriminator_past(&sequence.rows))
+}
+
+// Whether a row has a discriminator above 2^32 - 1.
+fn any_discriminator_past(rows: &[TableRow]) -> bool
+    ensures { result ≡ list_any
+        (λ r. is_bad_discriminator r.discriminator) (map row_part rows.now) }
+{
+    rows.iter().any(|row| row.discriminator > u32::MAX as u64)
 }

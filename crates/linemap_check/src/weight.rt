@@ -118,7 +118,7 @@ fn calls_weight(calls: &[TableCall]) -> u64
     let mut sum = 0u64;
     for call in calls {
         sum = sum
-            .saturating_add(128)
+            .saturating_add(192)
             .saturating_add(times(64, call.ranges.len()))
             .saturating_add(text_weight(&call.name))
             .saturating_add(calls_weight(&call.calls));

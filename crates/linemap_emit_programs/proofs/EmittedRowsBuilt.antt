@@ -52,9 +52,9 @@ rows_follow e begin low end previous (r ∷ rs) rest is can below ends small mor
     (and_from _ _ (can_place_at e previous (r.address - begin) is.no_operations (omega arith) (omega arith))
     (and_from _ _ (lt-ltb r.line (2 ^ 63) can.3)
     (and_from _ _ (and_from _ _ (and_from _ _ (lt-ltb r.file (2 ^ 64) can.4) (lt-ltb r.column (2 ^ 64) can.5))
-    (lt-ltb 0 (2 ^ 64) (omega arith))) (lt-ltb 0 (2 ^ 64) (omega arith)))))
+    (lt-ltb 0 (2 ^ 64) (omega arith))) (lt-ltb r.discriminator (2 ^ 64) can.6))))
     (rows_follow e begin r.address end (row_after_row (emitted_row begin r)) rs rest
-    (record { offset = refl; no_operations = refl; after = omega arith }) can.6 below.1 below.0 small more)
+    (record { offset = refl; no_operations = refl; after = omega arith }) can.7 below.1 below.0 small more)
 
 rows_readable : (e : Encoding) (begin low end : ℕ) (previous : LineRow) (rs : List RowPart) (rest : List LineEntry)
     → begin ≤ low → CanBuild e.address_size low rs → AllBelow end rs → low ≤ end → end < 2 ^ (8 * e.address_size)
@@ -68,7 +68,7 @@ rows_readable e begin low end previous (r ∷ rs) rest after can below ends smal
     let first = can.0 in
     let place : begin + (r.address - begin) ≡ r.address = omega arith in (
       subst (λ n. n < 2 ^ (8 * e.address_size)) (sym place) can.1,
-      rows_readable e begin r.address end (row_after_row (emitted_row begin r)) rs rest (omega arith) can.6 below.1
+      rows_readable e begin r.address end (row_after_row (emitted_row begin r)) rs rest (omega arith) can.7 below.1
           below.0
           small more,
     )

@@ -18,7 +18,15 @@ row_shown : (rules : LineRules) (begin : ℕ) (r : RowPart) → nat_le rules.enc
 row_shown rules begin r old can =
     let after = can.not_below in
     let row : ℕ → ℕ → ProgramRow =
-    λ address file. record { address = address; file = file; line = r.line; column = r.column; ends = false } in
+    λ address file. record {
+      address = address;
+      file = file;
+      line = r.line;
+      column = r.column;
+      statement = r.statement;
+      discriminator = r.discriminator;
+      ends = false;
+    } in
     let place : begin + (r.address - begin) ≡ r.address = omega arith in
     ap (λ n. row n (cond (nat_le rules.encoding.version 4) ((r.file + 1) % 2 ^ 64) r.file)) place
     ∙ ap (λ b. row r.address (cond b ((r.file + 1) % 2 ^ 64) r.file)) old

@@ -4,8 +4,8 @@ use Rattle.std.specs.List.{list_any}
 use Rattle.std.proofs.lemmas.Bool.{ltb-false, leb-false, le-ltb, or_parts, or_from, lt-leb}
 use Rattle.gimli_lines_write_rows.specs.Addresses.{least_tombstone}
 use Rattle.linemap_places_laws.specs.TableParts.{RowPart, SequencePart, UnitPart}
-use Rattle.linemap_places_laws.specs.Conditions.{IsSound, any_ranges, any_call, goes_back, goes_back_from, has_bad_rows, has_bad_line_or_column, has_bad_file_number, has_out_of_bounds, has_sequence_with_bad_rows, is_bad_number, is_out_of_bounds, range_out_of_bounds, sequence_out_of_bounds}
-use Rattle.linemap_places_laws.specs.Rule.TheVariants.{Bounds, Rows, LineOrColumn, FileNumber}
+use Rattle.linemap_places_laws.specs.Conditions.{IsSound, any_ranges, any_call, goes_back, goes_back_from, has_bad_rows, has_bad_line_or_column, has_bad_file_number, has_out_of_bounds, has_bad_discriminator, has_sequence_with_bad_rows, is_bad_discriminator, is_bad_number, is_out_of_bounds, range_out_of_bounds, sequence_out_of_bounds}
+use Rattle.linemap_places_laws.specs.Rule.TheVariants.{Bounds, Rows, LineOrColumn, FileNumber, Discriminator}
 use Rattle.linemap_places_laws.proofs.SoundUnits.{sound_rule}
 use Rattle.linemap_emit_programs.specs.EmittedRows.{AllShow, CanShowAll, AllSequences, CanBuild, AllBelow, CanBuildAll, AllCanBuild, AllFrom, IsOrdered, AllOrdered}
 use Rattle.linemap_emit_programs.specs.SoundSequences.{CanEmitSequences, AllCountable, AllCanEmitSequences}
@@ -19,6 +19,7 @@ record IsPlain (files : ℕ) (end : ℕ) (r : RowPart) : Type 0 where
   line : is_bad_number r.line ≡ false
   column : is_bad_number r.column ≡ false
   file : r.file < files
+  discriminator : is_bad_discriminator r.discriminator ≡ false
 
 unfoldable AllPlain : ℕ → ℕ → List RowPart → Type 0
 AllPlain files end [] = Unit {0}
@@ -27,16 +28,20 @@ AllPlain files end (r ∷ rs) = IsPlain files end r × AllPlain files end rs
 abbrev bad_number : RowPart → Bool
 bad_number r = is_bad_number r.line || is_bad_number r.column
 
+abbrev bad_discriminator : RowPart → Bool
+bad_discriminator r = is_bad_discriminator r.discriminator
+
 all_plain : (files end : ℕ) (rs : List RowPart) → list_any (λ r. is_out_of_bounds r.address) rs ≡ false
     → list_any (λ r. nat_le end r.address) rs ≡ false → list_any bad_number rs ≡ false
-    → list_any (λ r. nat_le files r.file) rs ≡ false → AllPlain files end rs
+    → list_any (λ r. nat_le files r.file) rs ≡ false → list_any bad_discriminator rs ≡ false → AllPlain files end rs
 unfolding AllPlain
-all_plain files end [] a b c d = tt
-all_plain files end (r ∷ rs) a b c d =
+all_plain files end [] a b c d e = tt
+all_plain files end (r ∷ rs) a b c d e =
     let pa = or_parts (is_out_of_bounds r.address) (list_any (λ r. is_out_of_bounds r.address) rs) a in
     let pb = or_parts (nat_le end r.address) (list_any (λ r. nat_le end r.address) rs) b in
     let pc = or_parts (bad_number r) (list_any bad_number rs) c in
     let pd = or_parts (nat_le files r.file) (list_any (λ r. nat_le files r.file) rs) d in
+    let pe = or_parts (bad_discriminator r) (list_any bad_discriminator rs) e in
     let numbers = or_parts (is_bad_number r.line) (is_bad_number r.column) pc.0 in (
       record {
         bounds = pa.0;
@@ -44,8 +49,9 @@ all_plain files end (r ∷ rs) a b c d =
         line = numbers.0;
         column = numbers.1;
         file = leb-false files r.file pd.0;
+        discriminator = pe.0;
       },
-      all_plain files end rs pa.1 pb.1 pc.1 pd.1,
+      all_plain files end rs pa.1 pb.1 pc.1 pd.1 pe.1,
     )
 
 in_bounds : (a : ℕ) → is_out_of_bounds a ≡ false → a ≤ 2 ^ 64 - 3
@@ -64,8 +70,10 @@ can_build files end low (r ∷ rs) all few ascend =
     let high = in_bounds r.address all.0.bounds in
     let line = is_small r.line all.0.line in
     let column = is_small r.column all.0.column in
+    let discriminator = ltb-false (2 ^ 32 - 1) r.discriminator all.0.discriminator in
     let file = all.0.file in (
       after,
+      omega arith,
       omega arith,
       omega arith,
       omega arith,
@@ -149,23 +157,25 @@ can_emit_sequence files (r ∷ rs) end few all bounds good =
 all_can_emit_sequences : (files : ℕ) (ss : List SequencePart) → files < 2 ^ 64
     → list_any sequence_out_of_bounds ss ≡ false → list_any has_bad_rows ss ≡ false
     → list_any (λ s. list_any bad_number s.rows) ss ≡ false
-    → list_any (λ s. list_any (λ r. nat_le files r.file) s.rows) ss ≡ false → CanEmitSequences ss
+    → list_any (λ s. list_any (λ r. nat_le files r.file) s.rows) ss ≡ false
+    → list_any (λ s. list_any bad_discriminator s.rows) ss ≡ false → CanEmitSequences ss
 unfolding AllOrdered AllCanBuild AllSequences
-all_can_emit_sequences files [] few a b c d = record { ordered = tt; can_build = tt; can_show = tt }
-all_can_emit_sequences files (s ∷ ss) few a b c d =
+all_can_emit_sequences files [] few a b c d e = record { ordered = tt; can_build = tt; can_show = tt }
+all_can_emit_sequences files (s ∷ ss) few a b c d e =
     let pa = or_parts (sequence_out_of_bounds s) (list_any sequence_out_of_bounds ss) a in
     let pb = or_parts (has_bad_rows s) (list_any has_bad_rows ss) b in
     let pc = or_parts (list_any bad_number s.rows) (list_any (λ s. list_any bad_number s.rows) ss) c in
     let pd =
     or_parts (list_any (λ r. nat_le files r.file) s.rows)
     (list_any (λ s. list_any (λ r. nat_le files r.file) s.rows) ss) d in
+    let pe = or_parts (list_any bad_discriminator s.rows) (list_any (λ s. list_any bad_discriminator s.rows) ss) e in
     let bounds = or_parts (list_any (λ r. is_out_of_bounds r.address) s.rows) (is_out_of_bounds s.end) pa.0 in
     let rows =
     or_parts ((length s.rows == 0) || goes_back s.rows) (list_any (λ r. nat_le s.end r.address) s.rows) pb.0 in
     let one =
-    can_emit_sequence files s.rows s.end few (all_plain files s.end s.rows bounds.0 rows.1 pc.0 pd.0) bounds.1
+    can_emit_sequence files s.rows s.end few (all_plain files s.end s.rows bounds.0 rows.1 pc.0 pd.0 pe.0) bounds.1
     pb.0 in
-    let others = all_can_emit_sequences files ss few pa.1 pb.1 pc.1 pd.1 in
+    let others = all_can_emit_sequences files ss few pa.1 pb.1 pc.1 pd.1 pe.1 in
     record {
       ordered = (one.ordered, others.ordered);
       can_build = (one.can_build, others.can_build);
@@ -179,6 +189,7 @@ record HasSoundRows (us : List UnitPart) : Type 0 where
   rows : list_any has_sequence_with_bad_rows us ≡ false
   numbers : list_any has_bad_line_or_column us ≡ false
   files : list_any has_bad_file_number us ≡ false
+  discriminators : list_any has_bad_discriminator us ≡ false
 
 units_can_emit_sequences : (us : List UnitPart) → HasSoundRows us → AllCountable us → AllCanEmitSequences us
 unfolding AllCountable AllCanEmitSequences
@@ -188,6 +199,8 @@ units_can_emit_sequences (u ∷ us) known few =
     let rows = or_parts (has_sequence_with_bad_rows u) (list_any has_sequence_with_bad_rows us) known.rows in
     let numbers = or_parts (has_bad_line_or_column u) (list_any has_bad_line_or_column us) known.numbers in
     let files = or_parts (has_bad_file_number u) (list_any has_bad_file_number us) known.files in
+    let discriminators =
+    or_parts (has_bad_discriminator u) (list_any has_bad_discriminator us) known.discriminators in
     let bound_parts =
     or_parts (any_ranges (list_any range_out_of_bounds) u) (list_any sequence_out_of_bounds u.sequences) bounds.0 in
     let number_parts =
@@ -197,9 +210,16 @@ units_can_emit_sequences (u ∷ us) known few =
     let file_parts =
     or_parts (list_any (λ s. list_any (λ r. nat_le (length u.files) r.file) s.rows) u.sequences)
     (list_any (λ f. any_call (λ c. nat_le (length u.files) c.file) f.calls) u.functions) files.0 in (
-      all_can_emit_sequences (length u.files) u.sequences few.0 bound_parts.1 rows.0 number_parts.0 file_parts.0,
-      units_can_emit_sequences us (record { bounds = bounds.1; rows = rows.1; numbers = numbers.1; files = files.1 })
-          few.1,
+      all_can_emit_sequences (length u.files) u.sequences few.0 bound_parts.1 rows.0 number_parts.0 file_parts.0
+          discriminators.0,
+      units_can_emit_sequences us
+          (record {
+            bounds = bounds.1;
+            rows = rows.1;
+            numbers = numbers.1;
+            files = files.1;
+            discriminators = discriminators.1;
+          }) few.1,
     )
 
 pub sound_can_emit : (us : List UnitPart) → IsSound us → AllCountable us → AllCanEmitSequences us
@@ -210,4 +230,5 @@ sound_can_emit us sound few =
       rows = sound_rule us Rows sound;
       numbers = sound_rule us LineOrColumn sound;
       files = sound_rule us FileNumber sound;
+      discriminators = sound_rule us Discriminator sound;
     }) few

@@ -21,8 +21,8 @@ emitted_row begin r = record {
   file = record { 0 = r.file };
   line = r.line;
   column = r.column;
-  discriminator = 0;
-  is_statement = true;
+  discriminator = r.discriminator;
+  is_statement = r.statement;
   basic_block = false;
   prologue_end = false;
   epilogue_begin = false;
@@ -89,12 +89,13 @@ emitted_rules e = record {
 }
 
 -- rows that don't go back from an address, each at an address of the size, with a line of 63 bits
--- and a file and a column of 64
+-- and a file, a column and a discriminator of 64
 unfoldable pub CanBuild : ℕ → ℕ → List RowPart → Type 0
 CanBuild size low [] = Unit {0}
 CanBuild size low (r ∷ rs) =
     (low ≤ r.address) × (r.address < 2 ^ (8 * size)) × (r.address < 2 ^ 64) × (r.line < 2 ^ 63)
-    × (r.file < 2 ^ 64) × (r.column < 2 ^ 64) × CanBuild size r.address rs
+    × (r.file < 2 ^ 64) × (r.column < 2 ^ 64) × (r.discriminator < 2 ^ 64)
+    × CanBuild size r.address rs
 
 -- no row is above an address
 unfoldable pub AllBelow : ℕ → List RowPart → Type 0

@@ -1,5 +1,5 @@
 -- What is emitted of a table with one unit, byte by byte (DWARF 4, 7.5, 7.24 and 6.2).
-use Rattle.std.proofs.Common.{◌≡◌, ℕ, false, [], ◌∷◌, refl}
+use Rattle.std.proofs.Common.{◌≡◌, ℕ, true, false, [], ◌∷◌, refl}
 use Rattle.gimli_lines_write_tables.specs.Encoding.{Encoding}
 use Rattle.gimli_lines_write_tables.specs.Format.TheVariants.{Dwarf32}
 use Rattle.gimli_lines_write_tables.specs.StringSections.{section_of}
@@ -18,7 +18,8 @@ abbrev range : ℕ → ℕ → RangePart
 range begin end = record { begin = begin; end = end }
 
 abbrev row : ℕ → ℕ → ℕ → RowPart
-row address line column = record { address = address; file = 0; line = line; column = column }
+row address line column =
+    record { address = address; file = 0; line = line; column = column; statement = true; discriminator = 0 }
 
 -- "/w", "a.c", in it "src" and "a.c", and the function "main"
 abbrev a_unit : UnitPart

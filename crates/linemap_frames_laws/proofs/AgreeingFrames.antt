@@ -70,7 +70,7 @@ module _ (number : ℕ → ℕ) (files : List (List ℕ)) (u : UnitPart) (number
       let n = or_parts (is_bad_number p.site.line) (is_bad_number p.site.column) numbers in
       let there : p.site.file < length u.files = leb-false (length u.files) p.site.file past in
       let place : Option (List ℕ) → Option ℕ → Option ℕ → Location =
-      λ f l c. record { file = f; line = l; column = c } in
+      λ f l c. record { file = f; line = l; column = c; statement = None; discriminator = None } in
       let text : Option (List ℕ) = option_map (file_text u) (slice_get u.files p.site.file) in
       let file : option_and_then (slice_get files) c.file ≡ text =
       ap (λ (o : Option ℕ). option_and_then (slice_get files) o) agrees.file_is ∙ numbered p.site.file there in

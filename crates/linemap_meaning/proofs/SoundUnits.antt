@@ -6,7 +6,7 @@ use Rattle.std.proofs.lemmas.List.Folds.{list_any_at}
 use Rattle.linemap_meaning.specs.TableParts.{UnitPart}
 use Rattle.linemap_meaning.specs.Conditions.{breaks, rules_in_order, IsSound}
 use Rattle.linemap_meaning.specs.declared.rule.Rule.{Rule}
-use Rattle.linemap_meaning.specs.declared.rule.Rule.TheVariants.{EmptyRange, Bounds, NoRange, UnitsOverlap, FunctionOutside, FunctionsOverlap, CallOutside, CallsOverlap, SequenceOutside, SequencesOverlap, Rows, LineOrColumn, FileNumber, Text, NotRooted, Nesting}
+use Rattle.linemap_meaning.specs.declared.rule.Rule.TheVariants.{EmptyRange, Bounds, NoRange, UnitsOverlap, FunctionOutside, FunctionsOverlap, CallOutside, CallsOverlap, SequenceOutside, SequencesOverlap, Rows, LineOrColumn, FileNumber, Text, NotRooted, Nesting, Discriminator}
 
 -- where a search finds nothing, no element passes its test
 AllFalse : {X : Type 0} → (X → Bool) → List X → Type 0
@@ -42,6 +42,7 @@ sound_rule us FileNumber h = (all_fail (breaks us) rules_in_order h).1.1.1.1.1.1
 sound_rule us Text h = (all_fail (breaks us) rules_in_order h).1.1.1.1.1.1.1.1.1.1.1.1.1.0
 sound_rule us NotRooted h = (all_fail (breaks us) rules_in_order h).1.1.1.1.1.1.1.1.1.1.1.1.1.1.0
 sound_rule us Nesting h = (all_fail (breaks us) rules_in_order h).1.1.1.1.1.1.1.1.1.1.1.1.1.1.1.0
+sound_rule us Discriminator h = (all_fail (breaks us) rules_in_order h).1.1.1.1.1.1.1.1.1.1.1.1.1.1.1.1.0
 
 -- where no element passes, a single one doesn't either
 pub none_passes : {X : Type 0} (test : X → Bool) (xs : List X) (x : X) → list_any test xs ≡ false → Contains xs x

@@ -7,7 +7,7 @@ use Rattle.linemap_meaning.specs.TableWeight.{table_weight}
 use Rattle.linemap_meaning.specs.EncodingFits.{fits, is_target}
 use Rattle.linemap_meaning.specs.Meaning.{Location, Frame, Stretch, location_at, frames_at, stretches_between}
 use Rattle.linemap_meaning.specs.AnswerTexts.{word_address, place_text, ask_text}
-use Rattle.linemap_meaning.specs.declared.rule.Rule.TheVariants.{CallOutside, Rows}
+use Rattle.linemap_meaning.specs.declared.rule.Rule.TheVariants.{CallOutside, Rows, Discriminator}
 
 -- ---- the tables
 
@@ -15,7 +15,14 @@ abbrev range : ℕ → ℕ → List RangePart
 range begin end = record { begin = begin; end = end } ∷ []
 
 abbrev row : ℕ → ℕ → ℕ → RowPart
-row address line column = record { address = address; file = 0; line = line; column = column }
+row address line column = record {
+  address = address;
+  file = 0;
+  line = line;
+  column = column;
+  statement = true;
+  discriminator = 0;
+}
 
 -- a unit in /w of one range, one file and one sequence
 abbrev unit_of : List RangePart → List ℕ → List ℕ → List FunctionPart → List RowPart → ℕ → UnitPart
@@ -54,6 +61,19 @@ abbrev doubled_units : List UnitPart
 doubled_units =
     unit_of (range 0x10 0x30) (codes "src") (codes "a.c") [] (row 0x10 1 1 ∷ row 0x10 2 1 ∷ row 0x20 3 1 ∷ []) 0x30 ∷ []
 
+-- the plain table, whose second row is not a statement and has a discriminator
+abbrev with_discriminator : ℕ → List UnitPart
+with_discriminator n =
+    let second : RowPart = record {
+      address = 0x1010;
+      file = 0;
+      line = 20;
+      column = 2;
+      statement = false;
+      discriminator = n;
+    } in
+    main_unit no_calls (row 0x1000 5 1 ∷ second ∷ row 0x1020 7 1 ∷ []) 0x1030 ∷ []
+
 -- a second unit, whose file's directory has a root
 abbrev with_header : List UnitPart
 with_header = main_unit no_calls three_rows 0x1030
@@ -85,8 +105,17 @@ row_at_the_end = refl
 fourth_row_at_the_end : first_broken (main_unit no_calls (three_rows ++ row 0x1030 8 1 ∷ []) 0x1030 ∷ []) ≡ Some Rows
 fourth_row_at_the_end = refl
 
+greatest_discriminator : first_broken (with_discriminator 0xffff_ffff) ≡ None
+greatest_discriminator = refl
+
+discriminator_too_great : first_broken (with_discriminator 0x1_0000_0000) ≡ Some Discriminator
+discriminator_too_great = refl
+
 plain_weight : table_weight plain ≡ 10268
 plain_weight = refl
+
+with_call_weight : table_weight with_call ≡ 10528
+with_call_weight = refl
 
 no_units_weight : table_weight [] ≡ 8192
 no_units_weight = refl
@@ -112,7 +141,19 @@ targets = (refl, refl, refl, refl, refl)
 -- ---- locations
 
 abbrev location_answer : List ℕ → ℕ → ℕ → Option Location
-location_answer file line column = Some (record { file = Some file; line = line; column = column })
+location_answer file line column =
+    Some (record {
+      file = Some file;
+      line = line;
+      column = column;
+      statement = Some true;
+      discriminator = Some 0;
+    })
+
+-- the place of a call
+abbrev call_answer : List ℕ → ℕ → ℕ → Option Location
+call_answer file line column =
+    Some (record { file = Some file; line = line; column = column; statement = None; discriminator = None })
 
 middle_of_first_row : location_at plain 0x100f ≡ location_answer (codes "/w/src/a.c") 5 1
 middle_of_first_row = refl
@@ -138,6 +179,16 @@ end_of_doubled = refl
 nowhere_without_units : location_at [] 0x1000 ≡ None
 nowhere_without_units = refl
 
+registers_of_a_row : location_at (with_discriminator 3) 0x1018
+    ≡ Some (record {
+      file = Some (codes "/w/src/a.c");
+      line = 20;
+      column = 2;
+      statement = Some false;
+      discriminator = Some 3;
+    })
+registers_of_a_row = refl
+
 -- ---- frames
 
 abbrev named_frame : List ℕ → Option Location → Frame
@@ -145,7 +196,7 @@ named_frame name location = record { function = Some name; location = location }
 
 frames_in_the_call : frames_at with_call 0x1018
     ≡ (named_frame (codes "f") (location_answer (codes "/w/src/a.c") 20 2)
-    ∷ named_frame (codes "main") (location_answer (codes "/w/src/a.c") 6 3) ∷ [])
+    ∷ named_frame (codes "main") (call_answer (codes "/w/src/a.c") 6 3) ∷ [])
 frames_in_the_call = refl
 
 frames_before_the_call : frames_at with_call 0x100f
@@ -172,7 +223,14 @@ stretch address length line =
     record {
       address = address;
       length = length;
-      location = record { file = Some (codes "/w/src/a.c"); line = line; column = 1 };
+      location =
+          record {
+            file = Some (codes "/w/src/a.c");
+            line = line;
+            column = 1;
+            statement = Some true;
+            discriminator = Some 0;
+          };
     }
 
 both_stretches : stretches_between doubled_units 0x18 0x21 ≡ (stretch 0x10 0x10 2 ∷ stretch 0x20 0x10 3 ∷ [])
@@ -198,6 +256,11 @@ unreadable_words = (refl, refl, refl, refl, refl, refl, refl)
 lines_of_words : ask_text plain (codes "1000" ∷ codes "0x1030" ∷ codes "zz" ∷ []) ≡ codes "/w/src/a.c:5\n??:0\n??:0\n"
 unfolding digits
 lines_of_words = refl
+
+line_with_a_discriminator : ask_text (with_discriminator 3) (codes "1018" ∷ codes "1000" ∷ [])
+    ≡ codes "/w/src/a.c:20 (discriminator 3)\n/w/src/a.c:5\n"
+unfolding digits
+line_with_a_discriminator = refl
 
 line_unknown : place_text (Some (codes "a.c")) None ≡ codes "a.c:?"
 line_unknown = refl

@@ -1,5 +1,5 @@
 -- The text that answers a word, as `ask` prints it.
-use Rattle.std.specs.Prelude.{ℕ, ◌^◌, Bool, ◌&&◌, ◌==◌, nat_lt, List, ◌++◌, length, drop, slice_index, flat_map, decimal, codes, Option, Some, None, unwrap_or, option_and_then, if◌then◌else◌}
+use Rattle.std.specs.Prelude.{ℕ, ◌^◌, Bool, ◌&&◌, ◌==◌, nat_lt, List, [], ◌++◌, length, drop, slice_index, flat_map, decimal, codes, Option, Some, None, unwrap_or, option_and_then, if◌then◌else◌}
 use Rattle.std.specs.List.{list_all}
 use Rattle.std.specs.Char.{is_digit}
 use Rattle.std.specs.Str.Parse.{without_leading_plus, digits_value}
@@ -52,10 +52,17 @@ number_text (Some n) = decimal n
 abbrev pub place_text : Option (List ℕ) → Option ℕ → List ℕ
 place_text file line = unwrap_or file unknown_text ++ (codes ":" ++ number_text line)
 
--- the text of a location; "??:0" where there is none
+-- a discriminator above 0, in parentheses after a space
+abbrev pub discriminator_text : Option ℕ → List ℕ
+discriminator_text None = []
+discriminator_text (Some n) =
+    if nat_lt 0 n then codes " (discriminator " ++ (decimal n ++ codes ")") else []
+
+-- the text of a location, with its discriminator; "??:0" where there is none
 abbrev pub location_text : Option Location → List ℕ
 location_text None = place_text None (Some 0)
-location_text (Some l) = place_text l.file (Some l.line)
+location_text (Some l) =
+    place_text l.file (Some l.line) ++ discriminator_text l.discriminator
 
 -- the answer to a word; one that can't be read is answered as if there were no location
 abbrev pub word_text : List UnitPart → List ℕ → List ℕ

@@ -4,7 +4,7 @@ use Rattle.std.specs.List.{list_any}
 use Rattle.linemap_meaning.specs.TableParts.{RangePart, RowPart, SequencePart, Site, Calls, no_calls, more_calls, UnitPart}
 use Rattle.addr2line_paths.specs.FilePaths.{is_rooted}
 use Rattle.linemap_meaning.specs.declared.rule.Rule.{Rule}
-use Rattle.linemap_meaning.specs.declared.rule.Rule.TheVariants.{EmptyRange, Bounds, NoRange, UnitsOverlap, FunctionOutside, FunctionsOverlap, CallOutside, CallsOverlap, SequenceOutside, SequencesOverlap, Rows, LineOrColumn, FileNumber, Text, NotRooted, Nesting}
+use Rattle.linemap_meaning.specs.declared.rule.Rule.TheVariants.{EmptyRange, Bounds, NoRange, UnitsOverlap, FunctionOutside, FunctionsOverlap, CallOutside, CallsOverlap, SequenceOutside, SequencesOverlap, Rows, LineOrColumn, FileNumber, Text, NotRooted, Nesting, Discriminator}
 
 -- ---- ranges
 
@@ -195,6 +195,15 @@ is_not_rooted u = not (is_rooted u.directory)
 abbrev pub has_deep_calls : UnitPart → Bool
 has_deep_calls u = list_any (λ f. nat_lt greatest_depth (depth f.calls)) u.functions
 
+-- a discriminator is a number of 32 bits, and 0 is one
+abbrev pub is_bad_discriminator : ℕ → Bool
+is_bad_discriminator n = nat_lt greatest_number n
+
+-- some row has a discriminator above 2^32 - 1
+abbrev pub has_bad_discriminator : UnitPart → Bool
+has_bad_discriminator u =
+    list_any (λ s. list_any (λ r. is_bad_discriminator r.discriminator) s.rows) u.sequences
+
 -- ---- the rules
 
 -- the units break the rule
@@ -215,6 +224,7 @@ breaks us FileNumber = list_any has_bad_file_number us
 breaks us Text = list_any has_bad_text us
 breaks us NotRooted = list_any is_not_rooted us
 breaks us Nesting = list_any has_deep_calls us
+breaks us Discriminator = list_any has_bad_discriminator us
 
 -- the rules, lowest number first
 abbrev pub rules_in_order : List Rule
@@ -222,7 +232,7 @@ rules_in_order =
     EmptyRange ∷ Bounds ∷ NoRange ∷ UnitsOverlap ∷ FunctionOutside ∷ FunctionsOverlap ∷ CallOutside
     ∷ CallsOverlap
     ∷ SequenceOutside ∷ SequencesOverlap ∷ Rows ∷ LineOrColumn ∷ FileNumber ∷ Text ∷ NotRooted
-    ∷ Nesting ∷ []
+    ∷ Nesting ∷ Discriminator ∷ []
 
 -- the lowest rule that the units break
 abbrev pub first_broken : List UnitPart → Option Rule

@@ -6,11 +6,15 @@ use Rattle.linemap_meaning.specs.TableParts.{RangePart, RowPart, SequencePart, S
 use Rattle.linemap_meaning.specs.FileText.{file_text}
 use Rattle.linemap_meaning.specs.Conditions.{span}
 
--- a place in the source: the file's text, if the unit has that file, with line and column
+-- a place in the source: the file's text, if the unit has that file, with line and column. Of an
+-- address it is known whether a statement is recommended to begin there, and which of several
+-- blocks of the place it is; of a call neither is.
 pub record Location : Type 0 where
   pub file : Option (List ℕ)
   pub line : ℕ
   pub column : ℕ
+  pub statement : Option Bool
+  pub discriminator : Option ℕ
 
 -- a function or call that is running: its name and its location, each if known
 pub record Frame : Type 0 where
@@ -61,20 +65,30 @@ row_at u a = option_and_then (λ s. last_row s.rows a) (sequence_at u a)
 
 -- ---- places
 
-abbrev pub location_in : UnitPart → ℕ → ℕ → ℕ → Location
-location_in u file line column =
-    record {
-      file = option_map (file_text u) (slice_get u.files file);
-      line = line;
-      column = column;
-    }
+-- the text of the unit's file of a number
+abbrev pub file_numbered : UnitPart → ℕ → Option (List ℕ)
+file_numbered u n = option_map (file_text u) (slice_get u.files n)
 
 abbrev pub row_location : UnitPart → RowPart → Location
-row_location u r = location_in u r.file r.line r.column
+row_location u r =
+    record {
+      file = file_numbered u r.file;
+      line = r.line;
+      column = r.column;
+      statement = Some r.statement;
+      discriminator = Some r.discriminator;
+    }
 
 -- where a call was written
 abbrev pub call_location : UnitPart → Site → Location
-call_location u s = location_in u s.file s.line s.column
+call_location u s =
+    record {
+      file = file_numbered u s.file;
+      line = s.line;
+      column = s.column;
+      statement = None;
+      discriminator = None;
+    }
 
 -- the place of an address in a unit
 abbrev pub place_in : UnitPart → ℕ → Option Location

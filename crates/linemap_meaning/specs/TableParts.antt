@@ -1,6 +1,6 @@
 -- A table as contracts see it: records over lists of bytes and numbers. A text is the list of its
 -- bytes.
-use Rattle.std.specs.Prelude.{ℕ, List}
+use Rattle.std.specs.Prelude.{ℕ, Bool, List}
 
 -- the addresses from `begin` up to `end`, which is not among them
 pub record RangePart : Type 0 where
@@ -12,12 +12,15 @@ pub record FilePart : Type 0 where
   pub directory : List ℕ
   pub name : List ℕ
 
--- the place in the source that the code from an address on belongs to
+-- the place in the source that the code from an address on belongs to, whether a statement is
+-- recommended to begin there, and which of several blocks of that place it is
 pub record RowPart : Type 0 where
   pub address : ℕ
   pub file : ℕ
   pub line : ℕ
   pub column : ℕ
+  pub statement : Bool
+  pub discriminator : ℕ
 
 -- rows of a line table, and the address at which the last of them ends
 pub record SequencePart : Type 0 where

@@ -18,7 +18,15 @@ abbrev pub file_part : TableFile → FilePart
 file_part f = record { directory = string_bytes f.directory; name = string_bytes f.name }
 
 abbrev pub row_part : TableRow → RowPart
-row_part r = record { address = r.address; file = r.file; line = r.line; column = r.column }
+row_part r =
+    record {
+      address = r.address;
+      file = r.file;
+      line = r.line;
+      column = r.column;
+      statement = r.statement;
+      discriminator = r.discriminator;
+    }
 
 abbrev pub sequence_part : TableSequence → SequencePart
 sequence_part s = record { rows = map row_part s.rows.items; end = s.end }

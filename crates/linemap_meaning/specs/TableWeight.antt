@@ -8,9 +8,9 @@ text_weight text = 4 * length text
 abbrev pub file_weight : FilePart → ℕ
 file_weight f = 256 + text_weight f.directory + text_weight f.name
 
--- one call without the calls in it
+-- one call without the calls in it: its entry, and at most one abstract entry of its name
 abbrev pub site_weight : Site → ℕ
-site_weight s = 128 + 64 * length s.ranges + text_weight s.name
+site_weight s = 192 + 64 * length s.ranges + text_weight s.name
 
 abbrev pub calls_weight : Calls → ℕ
 calls_weight no_calls = 0

@@ -36,4 +36,6 @@ pub enum Rule {
     NotRooted,
     /// B19: calls are nested more than 50 deep.
     Nesting,
+    /// B20: a row's discriminator is above 2^32 - 1.
+    Discriminator,
 }

@@ -53,11 +53,15 @@ pub struct TableSequence {
     pub end: u64,
 }
 
-/// The place in the source that the code from an address on belongs to.
+/// The place in the source that the code from an address on belongs to: its file, line and column,
+/// whether a statement is recommended to begin there, and which of several blocks of that place it
+/// is, or 0 (DWARF 5, 6.2.2).
 #[derive(Debug, PartialEq, Drop)]
 pub struct TableRow {
     pub address: u64,
     pub file: u64,
     pub line: u64,
     pub column: u64,
+    pub statement: bool,
+    pub discriminator: u64,
 }

@@ -39,7 +39,13 @@ row_place number u files r named good =
     let line = small_number r.line numbers.0 in
     let column = small_number r.column numbers.1 in
     let place : Option (List ℕ) → ℕ → ℕ → Location =
-    λ f l c. record { file = f; line = with_line l l; column = with_line l c } in
+    λ f l c. record {
+      file = f;
+      line = with_line l l;
+      column = with_line l c;
+      statement = Some r.statement;
+      discriminator = Some r.discriminator;
+    } in
     ap (λ f. place f (r.line % 2 ^ 32) (r.column % 2 ^ 32)) (named r.file there)
     ∙ ap (λ l. place (option_map (file_text u) (slice_get u.files r.file)) l (r.column % 2 ^ 32)) line.0
     ∙ ap (λ c. place (option_map (file_text u) (slice_get u.files r.file)) r.line c) column.0
@@ -47,6 +53,8 @@ row_place number u files r named good =
       file = option_map (file_text u) (slice_get u.files r.file);
       line = cond b None (Some r.line);
       column = cond b None (Some r.column);
+      statement = Some r.statement;
+      discriminator = Some r.discriminator;
     }) (ne_eqb r.line 0 line.1)
 
 -- what no row passes the last of some doesn't

@@ -19,6 +19,8 @@ lookup_row number r =
       file = number r.file;
       line = r.line;
       column = r.column;
+      statement = r.statement;
+      discriminator = r.discriminator;
       ends = false;
     }
 
@@ -63,4 +65,11 @@ TableAgrees ranges lines (u ∷ us) (x ∷ xs) =
 
 -- a place of a table, as lookups answer it
 abbrev pub lookup_location : table.Location → Location
-lookup_location l = record { file = l.file; line = Some l.line; column = Some l.column }
+lookup_location l =
+    record {
+      file = l.file;
+      line = Some l.line;
+      column = Some l.column;
+      statement = l.statement;
+      discriminator = l.discriminator;
+    }

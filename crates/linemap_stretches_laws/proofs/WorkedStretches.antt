@@ -10,7 +10,8 @@ use Rattle.linemap_places_laws.specs.LookupAgreement.{lookup_range, lookup_row}
 use Rattle.linemap_stretches_laws.specs.LookupStretches.{lookup_stretch}
 
 abbrev row : ℕ → ℕ → RowPart
-row address line = record { address = address; file = 0; line = line; column = 1 }
+row address line =
+    record { address = address; file = 0; line = line; column = 1; statement = true; discriminator = 0 }
 
 abbrev unit_of : List RangePart → List SequencePart → UnitPart
 unit_of ranges sequences = record {
@@ -31,7 +32,15 @@ units =
     ∷ unit_of (record { begin = 0x20; end = 0x28 } ∷ []) (record { rows = row 0x20 4 ∷ []; end = 0x28 } ∷ []) ∷ []
 
 abbrev end_row : ℕ → ProgramRow
-end_row address = record { address = address; file = 0; line = 0; column = 0; ends = true }
+end_row address = record {
+  address = address;
+  file = 0;
+  line = 0;
+  column = 0;
+  statement = true;
+  discriminator = 0;
+  ends = true;
+}
 
 abbrev lines_of : UnitPart → Result Lines Error
 lines_of u =
@@ -46,7 +55,14 @@ stretch address length line =
     record {
       address = address;
       length = length;
-      location = record { file = Some (codes "/a.c"); line = Some line; column = Some 1 };
+      location =
+          record {
+            file = Some (codes "/a.c");
+            line = Some line;
+            column = Some 1;
+            statement = Some true;
+            discriminator = Some 0;
+          };
     }
 
 abbrev four : List Stretch

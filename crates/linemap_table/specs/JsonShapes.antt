@@ -1,12 +1,12 @@
 -- Which part of a table a JSON value holds: each object has exactly the keys that are named here,
--- each with a value of its kind.
-use Rattle.std.specs.Prelude.{ℕ, ◌==◌, List, [], ◌∷◌, codes, Bool, false, Option, Some, None, option_and_then, if◌then◌else◌}
+-- but for those of a row that may be missing, each with a value of its kind.
+use Rattle.std.specs.Prelude.{ℕ, ◌+◌, ◌==◌, List, [], ◌∷◌, codes, Bool, true, false, Option, Some, None, option_and_then, if◌then◌else◌}
 use Rattle.std.specs.Option.{option_map_or}
 use Rattle.std.specs.Ordering.{nat_cmp, match_ordering}
 use Rattle.std.specs.Cmp.Lexicographic.{slice_cmp}
 use Rattle.serde_json.specs.Data.{Data, null, boolean, number, string, array, object, Items, no_items, item, Members, no_members, member}
 use Rattle.serde_json.specs.Events.{members_len}
-use Rattle.serde_json.specs.Find.{get, as_number, as_u64, as_str, as_array, as_object}
+use Rattle.serde_json.specs.Find.{get, as_bool, as_number, as_u64, as_str, as_array, as_object}
 use Rattle.linemap_check.specs.TableParts.{RangePart, FilePart, RowPart, SequencePart, Calls, no_calls, more_calls, CallPart, FunctionPart, UnitPart}
 
 infixl 20 ◌>>=◌
@@ -33,6 +33,14 @@ abbrev pub number_at : List ℕ → Data → Option ℕ
 number_at key d = do
   value ← get key d
   number_in value
+
+-- what the value at a key holds, or `missing` where there is none
+abbrev pub at_or : {A : Type 0} → A → (Data → Option A) → List ℕ → Data → Option A
+at_or missing shape key d = option_map_or shape (get key d) (Some missing)
+
+-- 1 if there is a value at a key, else 0
+abbrev pub count_at : List ℕ → Data → ℕ
+count_at key d = option_map_or (λ value. 1) (get key d) 0
 
 abbrev pub items_at : List ℕ → Data → Option Items
 items_at key d = do
@@ -71,13 +79,26 @@ file_in d = if has_keys 2 d then (do
   name ← text_at (codes "name") d
   Some (record { directory = directory; name = name })) else None
 
+-- the number of keys of a row, of which two may be missing
+abbrev pub row_keys : Data → ℕ
+row_keys d = 4 + count_at (codes "statement") d + count_at (codes "discriminator") d
+
 abbrev pub row_in : Data → Option RowPart
-row_in d = if has_keys 4 d then (do
+row_in d = if has_keys (row_keys d) d then (do
   address ← number_at (codes "address") d
   file ← number_at (codes "file") d
   line ← number_at (codes "line") d
   column ← number_at (codes "column") d
-  Some (record { address = address; file = file; line = line; column = column })) else None
+  statement ← at_or true as_bool (codes "statement") d
+  discriminator ← at_or 0 number_in (codes "discriminator") d
+  Some (record {
+    address = address;
+    file = file;
+    line = line;
+    column = column;
+    statement = statement;
+    discriminator = discriminator;
+  })) else None
 
 abbrev pub sequence_in : Data → Option SequencePart
 sequence_in d = if has_keys 2 d then (do

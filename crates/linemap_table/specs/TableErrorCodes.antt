@@ -3,7 +3,7 @@ use Rattle.std.specs.Prelude.{ℕ, List, codes}
 use Rattle.linemap_check.specs.Rule.{Rule}
 use Rattle.linemap_check.specs.Rule.TheVariants as rule
 use Rattle.linemap_table.specs.declared.error.TableError.{TableError}
-use Rattle.linemap_table.specs.declared.error.TableError.TheVariants.{Memory, Json, Shape, EmptyRange, Bounds, NoRange, UnitsOverlap, FunctionOutside, FunctionsOverlap, CallOutside, CallsOverlap, SequenceOutside, SequencesOverlap, Rows, LineOrColumn, FileNumber, Text, NotRooted, Nesting}
+use Rattle.linemap_table.specs.declared.error.TableError.TheVariants.{Memory, Json, Shape, EmptyRange, Bounds, NoRange, UnitsOverlap, FunctionOutside, FunctionsOverlap, CallOutside, CallsOverlap, SequenceOutside, SequencesOverlap, Rows, LineOrColumn, FileNumber, Text, NotRooted, Nesting, Discriminator}
 
 -- the letter and number of a refusal
 abbrev pub table_error_code : TableError → List ℕ
@@ -26,6 +26,7 @@ table_error_code FileNumber = codes "B16"
 table_error_code Text = codes "B17"
 table_error_code NotRooted = codes "B18"
 table_error_code Nesting = codes "B19"
+table_error_code Discriminator = codes "B20"
 
 -- the refusal of a broken rule
 abbrev pub refusal_of : Rule → TableError
@@ -45,3 +46,4 @@ refusal_of rule.FileNumber = FileNumber
 refusal_of rule.Text = Text
 refusal_of rule.NotRooted = NotRooted
 refusal_of rule.Nesting = Nesting
+refusal_of rule.Discriminator = Discriminator

@@ -2,7 +2,7 @@
 
 ghost use Rattle.std.specs.Prelude.{◌≡◌, ◌==◌, List, Option, map, option_and_then, string_bytes};
 ghost use Rattle.linemap_table.specs.ShapeFaults.{AgreesWithShape};
-ghost use Rattle.linemap_table.specs.JsonShapes.{each, list_at, range_in, file_in, row_in, sequence_in, function_in, unit_in, units_in};
+ghost use Rattle.linemap_table.specs.JsonShapes.{each, list_at, range_in, file_in, row_in, row_keys, sequence_in, function_in, unit_in, units_in};
 ghost use Rattle.serde_json.specs.Data.{Data};
 ghost use Rattle.serde_json.specs.Find.{as_object};
 ghost use Rattle.serde_json.specs.View.{view, items_view};
@@ -11,7 +11,9 @@ ghost use Rattle.linemap_check.specs.TableParts.{RangePart, FilePart, RowPart, S
 
 use crate::calls::calls_of;
 use crate::fault::Fault;
-use crate::fields::{has_keys, items_at, number_at, number_in, text_at};
+use crate::fields::{
+    count_at, has_keys, items_at, number_at, number_at_or, number_in, text_at, truth_at_or,
+};
 use linemap_check::{TableFile, TableFunction, TableRange, TableRow, TableSequence, TableUnit};
 use serde_json::Value;
 use std::alloc::{AllocError, Global};
@@ -91,6 +93,13 @@ impl Element for TableFile {
     }
 }
 
+// The number of keys of a row, of which two may be missing.
+fn row_keys(value: &Value) -> usize
+    ensures { result ≡ row_keys (view value.now) }
+{
+    4 + count_at(value, "statement") + count_at(value, "discriminator")
+}
+
 impl Element for TableRow {
     ghost Part = { RowPart };
 
@@ -99,7 +108,7 @@ impl Element for TableRow {
     ghost shape = { row_in };
 
     fn from_value(_alloc: Global, value: &Value) -> Result<TableRow, Fault> {
-        if !has_keys(value, 4) {
+        if !has_keys(value, row_keys(value)) {
             return Err(Fault::Shape);
         }
         Ok(TableRow {
@@ -107,6 +116,8 @@ impl Element for TableRow {
             file: number_at(value, "file")?,
             line: number_at(value, "line")?,
             column: number_at(value, "column")?,
+            statement: truth_at_or(value, "statement", true)?,
+            discriminator: number_at_or(value, "discriminator", 0)?,
         })
     }
 }

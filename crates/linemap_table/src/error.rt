@@ -49,6 +49,8 @@ pub enum TableError {
     NotRooted,
     /// B19: calls are nested more than 50 deep.
     Nesting,
+    /// B20: a row's discriminator is above 2^32 - 1.
+    Discriminator,
 }
 
 impl TableError {
@@ -79,6 +81,7 @@ impl TableError {
             TableError::Text => "B17",
             TableError::NotRooted => "B18",
             TableError::Nesting => "B19",
+            TableError::Discriminator => "B20",
         }
     }
 }
@@ -120,6 +123,7 @@ impl From<Rule> for TableError {
             Rule::Text => TableError::Text,
             Rule::NotRooted => TableError::NotRooted,
             Rule::Nesting => TableError::Nesting,
+            Rule::Discriminator => TableError::Discriminator,
         }
     }
 }

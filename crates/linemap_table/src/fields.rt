@@ -2,7 +2,8 @@
 
 ghost use Rattle.std.specs.Prelude.{◌≡◌, string_bytes, option_map};
 ghost use Rattle.linemap_table.specs.ShapeFaults.{AgreesWithShape};
-ghost use Rattle.linemap_table.specs.JsonShapes.{has_keys, items_at, number_at, number_in, text_at};
+ghost use Rattle.linemap_table.specs.JsonShapes.{at_or, count_at, has_keys, items_at, number_at, number_in, text_at};
+ghost use Rattle.serde_json.specs.Find.{as_bool};
 ghost use Rattle.serde_json.specs.View.{items_view, view};
 
 use crate::fault::Fault;
@@ -44,6 +45,38 @@ pub fn number_at(value: &Value, key: &str) -> Result<u64, Fault>
         return Err(Fault::Shape);
     };
     number_in(member)
+}
+
+/// The truth value at a key, or `missing` where there is none.
+pub fn truth_at_or(value: &Value, key: &str, missing: bool) -> Result<bool, Fault>
+    ensures { AgreesWithShape (λ b. b)
+        (at_or missing as_bool key.now (view value.now)) result }
+{
+    match value.get(key) {
+        Some(member) => member.as_bool().ok_or(Fault::Shape),
+        None => Ok(missing),
+    }
+}
+
+/// The number at a key, or `missing` where there is none.
+pub fn number_at_or(value: &Value, key: &str, missing: u64) -> Result<u64, Fault>
+    ensures { AgreesWithShape (λ n. n)
+        (at_or missing number_in key.now (view value.now)) result }
+{
+    match value.get(key) {
+        Some(member) => number_in(member),
+        None => Ok(missing),
+    }
+}
+
+/// 1 if there is a value at a key, else 0.
+pub fn count_at(value: &Value, key: &str) -> usize
+    ensures { result ≡ count_at key.now (view value.now) }
+{
+    match value.get(key) {
+        Some(_) => 1,
+        None => 0,
+    }
 }
 
 /// The items of the array at a key.

@@ -3,12 +3,12 @@ use Rattle.std.specs.Prelude.{◌≢◌, ℕ, List, [], ◌++◌, codes, flat_ma
 use Rattle.addr2line_context.specs.Error.{Error}
 use Rattle.addr2line_context.specs.Lines.{Location}
 use Rattle.addr2line_context.specs.Contexts.{Context, location}
-use Rattle.linemap_emit.specs.AnswerTexts.{place_text, word_address}
+use Rattle.linemap_emit.specs.AnswerTexts.{discriminator_text, place_text, word_address}
 
--- the file or "??", and the line or "?"; "??:0" where there is no place
+-- the file or "??", the line or "?", and a discriminator above 0; "??:0" where there is no place
 abbrev pub text_of_place : Option Location → List ℕ
 text_of_place None = place_text None (Some 0)
-text_of_place (Some l) = place_text l.file l.line
+text_of_place (Some l) = place_text l.file l.line ++ discriminator_text l.discriminator
 
 -- a refusal has no text
 abbrev pub text_of_answer : Result (Option Location) Error → List ℕ

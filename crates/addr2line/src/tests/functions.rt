@@ -193,7 +193,8 @@ impl Question for OffsetsAt {
         let names = names_of(units.as_slice(), unit.dwarf, unit.unit);
         let mut probes = Probes::new();
         let function = calls_of_function(alloc, unit, &names, UnitOffset(12), &probes)?;
-        let chain = function.find_chain(alloc, self.0, &mut probes)?;
+        let mut chain = Vec::new(alloc);
+        function.find_chain(self.0, &mut probes, &mut chain)?;
         let first = offset_in(&function, chain.get(0));
         let second = offset_in(&function, chain.get(1));
         Ok((first, second))

@@ -3,19 +3,34 @@
 use super::files::{EMPTY, File, Question, Slice, answer};
 use crate::{Lines, Location, Runs, UnitLines};
 use addr2line_context::{Error, LinesBuilder, ReaderOffsetId, UnitRef};
-use addr2line_index::{LineIndex, Probes};
+use addr2line_index::{LineIndex, Probes, ProgramRow};
 use std::alloc::Global;
 use std::test::Fail;
 
 // ---- rows
+
+fn row(address: u64, line: u64) -> ProgramRow {
+    ProgramRow {
+        address,
+        file: 1,
+        line,
+        column: 1,
+        statement: true,
+        discriminator: 0,
+        ends: false,
+    }
+}
 
 // Lines of one file, made of rows (address, line), and the addresses that end sequences.
 fn lines_of_rows(alloc: Global, rows: &[(u64, Option<u64>)]) -> Result<Lines, Error> {
     let mut builder = LinesBuilder::new(alloc);
     for (address, line) in rows {
         match line {
-            Some(line) => builder.push(*address, 1, *line, 1, false)?,
-            None => builder.push(*address, 1, 1, 0, true)?,
+            Some(line) => builder.push(row(*address, *line))?,
+            None => builder.push(ProgramRow {
+                ends: true,
+                ..row(*address, 1)
+            })?,
         }
     }
     let mut files = Vec::new(alloc);
@@ -154,6 +169,8 @@ fn is_place(alloc: Global, probe: u64, file: &str, line: u32) -> Result<bool, Er
         file: Some(file),
         line: Some(line),
         column: Some(0),
+        statement: Some(true),
+        discriminator: Some(0),
     };
     let mut probes = Probes::new();
     let lines = lines_of(alloc, &WITH_PROGRAM, &OF_4)?;

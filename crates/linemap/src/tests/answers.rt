@@ -1,6 +1,6 @@
 //! Answers of tables, as text.
 use super::fake::FakeWriter;
-use super::tables::{TABLE_A, small_table, table_c};
+use super::tables::{TABLE_A, small_table, table_c, table_with_discriminator};
 use crate::{Ended, ask};
 use std::alloc::{AllocError, Global};
 use std::test::Fail;
@@ -60,6 +60,7 @@ fn lines_for_words(rt: HostRuntime) -> Result<(), Fail> {
 fn answers_of_tables(rt: HostRuntime) -> Result<(), Fail> {
     let alloc = rt.alloc();
     let with_call = table_c(alloc)?;
+    let with_discriminator = table_with_discriminator(alloc)?;
     let rows_at_one_address = small_table(
         alloc,
         "[16,48]",
@@ -77,7 +78,7 @@ fn answers_of_tables(rt: HostRuntime) -> Result<(), Fail> {
         8208,
     )?;
     let backslashes = small_table(alloc, "[16,32]", ["C:\\\\p", "d"], "a.c", &[(16, 4)], 32)?;
-    let table: [(&str, &str, &str); 14] = [
+    let table: [(&str, &str, &str); 16] = [
         (TABLE_A, "0x100f", "/w/src/a.c:5\n"),
         (TABLE_A, "fff", "??:0\n"),
         (TABLE_A, "ffffffffffffffff", "??:0\n"),
@@ -86,6 +87,12 @@ fn answers_of_tables(rt: HostRuntime) -> Result<(), Fail> {
         (TABLE_A, "0x", "??:0\n"),
         (TABLE_A, " 1010", "??:0\n"),
         (&with_call, "0x1018", "/w/src/a.c:20\n"),
+        (
+            &with_discriminator,
+            "0x1018",
+            "/w/src/a.c:20 (discriminator 3)\n",
+        ),
+        (&with_discriminator, "0x1020", "/w/src/a.c:7\n"),
         (&rows_at_one_address, "10", "/q/b.c:2\n"),
         (&rows_at_one_address, "2f", "/q/b.c:3\n"),
         (&rows_at_one_address, "30", "??:0\n"),

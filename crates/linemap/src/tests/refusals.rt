@@ -9,7 +9,7 @@ fn refused_tables(rt: HostRuntime) -> Result<(), Fail> {
     let alloc = rt.alloc();
     let table = table_c(alloc)?;
     // What is written in place of what, and the rule that it breaks.
-    let edits: [(&str, &str, &str); 17] = [
+    let edits: [(&str, &str, &str); 18] = [
         ("4144}]}]}", "4144}]}]", "B2"),
         ("4144}", "4144.0}", "B3"),
         ("[4112,4128]", "[4112,4112]", "B4"),
@@ -32,6 +32,11 @@ fn refused_tables(rt: HostRuntime) -> Result<(), Fail> {
         ("4096,\"file\":0", "4096,\"file\":1", "B16"),
         ("\"main\"", "\"\"", "B17"),
         ("\"/w\"", "\"w\"", "B18"),
+        (
+            "\"column\":2",
+            "\"column\":2,\"discriminator\":4294967296",
+            "B20",
+        ),
     ];
     for (old, new, code) in edits {
         let text = table.replace(alloc, old, new)?;

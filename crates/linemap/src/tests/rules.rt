@@ -35,7 +35,7 @@ fn answer_with(
 fn refusals_by_their_numbers(rt: HostRuntime) -> Result<(), Fail> {
     let text = table_c(rt.alloc())?;
     // The number, and what is written in place of what.
-    let edits: [(&str, &str, &str); 48] = [
+    let edits: [(&str, &str, &str); 61] = [
         ("read", "\"/w\"", "\"/w\""),
         ("B2", "\"units\"", "units"),
         ("B2", "}]}]}", "}]}"),
@@ -52,6 +52,29 @@ fn refusals_by_their_numbers(rt: HostRuntime) -> Result<(), Fail> {
         ("B3", "\"line\":6", "\"line\":18446744073709551616"),
         ("B3", "\"line\":6", "\"line\":6,\"line\":\"six\""),
         ("read", "\"line\":6", "\"line\":\"six\",\"line\":6"),
+        ("read", "\"column\":2", "\"column\":2,\"statement\":false"),
+        ("read", "\"column\":2", "\"column\":2,\"discriminator\":3"),
+        (
+            "read",
+            "\"column\":2",
+            "\"discriminator\":4294967295,\"column\":2,\"statement\":true",
+        ),
+        ("B3", "\"column\":2", "\"discriminator\":3"),
+        ("B3", "\"column\":2", "\"column\":2,\"is_stmt\":false"),
+        ("B3", "\"column\":2", "\"column\":2,\"statement\":1"),
+        ("B3", "\"column\":2", "\"column\":2,\"statement\":null"),
+        ("B3", "\"column\":2", "\"column\":2,\"discriminator\":true"),
+        ("B3", "\"column\":2", "\"column\":2,\"discriminator\":-1"),
+        (
+            "B3",
+            "\"column\":2",
+            "\"column\":2,\"discriminator\":18446744073709551616",
+        ),
+        (
+            "B3",
+            "\"line\":6,\"column\":3",
+            "\"line\":6,\"column\":3,\"discriminator\":1",
+        ),
         ("B4", "[4112,4128]", "[4128,4128]"),
         ("B5", "[4096,4160]", "[0,4160]"),
         ("B5", "[4096,4160]", "[4096,18446744073709551614]"),
@@ -96,6 +119,16 @@ fn refusals_by_their_numbers(rt: HostRuntime) -> Result<(), Fail> {
         ("B17", "\"src\"", "\"\""),
         ("B18", "\"/w\"", "\"w\""),
         ("read", "\"/w\"", "\"C:\\\\w\""),
+        (
+            "B20",
+            "\"column\":2",
+            "\"column\":2,\"discriminator\":4294967296",
+        ),
+        (
+            "B15",
+            "\"column\":2",
+            "\"column\":0,\"discriminator\":4294967296",
+        ),
         (
             "B4",
             "\"directory\":\"/w\",\"name\":\"a.c\",\"ranges\":[[4096,4160]]",
@@ -146,6 +179,8 @@ fn sequence_at(alloc: Global, place: u32) -> Result<TableSequence, AllocError> {
         file: 0,
         line: 1,
         column: 1,
+        statement: true,
+        discriminator: 0,
     };
     Ok(TableSequence {
         rows: vec![in alloc; row]?,

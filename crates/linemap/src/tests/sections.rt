@@ -21,6 +21,20 @@ fn row(address: u64, line: u64, column: u64) -> TableRow {
         file: 0,
         line,
         column,
+        statement: true,
+        discriminator: 0,
+    }
+}
+
+// A row that is not a statement, and has a discriminator.
+fn row_of_block(address: u64, line: u64, column: u64) -> TableRow {
+    TableRow {
+        address,
+        file: 0,
+        line,
+        column,
+        statement: false,
+        discriminator: 3,
     }
 }
 
@@ -67,7 +81,7 @@ fn function(alloc: Global) -> Result<TableFunction, AllocError> {
 // The units of `/w/a.c` and `/w/b.c`.
 fn units(alloc: Global) -> Result<Vec<TableUnit>, AllocError> {
     let functions = vec![in alloc; function(alloc)?]?;
-    let rows = vec![in alloc; row(0x1000, 5, 1), row(0x1004, 6, 2)]?;
+    let rows = vec![in alloc; row(0x1000, 5, 1), row_of_block(0x1004, 6, 2)]?;
     let first = unit(alloc, "a.c", 0x1000, 0x1010, functions, rows)?;
     let rows = vec![in alloc; row(0x2000, 9, 1)]?;
     let second = unit(alloc, "b.c", 0x2000, 0x2004, Vec::new(alloc), rows)?;
@@ -139,7 +153,7 @@ const ABBREV: &[u8] = &[
 ];
 
 // The unit of `a.c`, with `main` and the call in it; that of `b.c`, whose line number program
-// is at 62.
+// is at 67.
 const INFO: &[u8] = &[
     55, 0, 0, 0, 4, 0, 0, 0, 0, 0, 8, //
     1, 0, 0, 0, 0, 4, 0, 0, 0, 0, 0, 0, 0, 0, 0, 0, 0, 0, 0, 0, 0, 0, 0, 0, 0, //
@@ -147,17 +161,17 @@ const INFO: &[u8] = &[
     5, 12, 0, 0, 0, 64, 0, 0, 0, 1, 7, 3, //
     0, 0, //
     33, 0, 0, 0, 4, 0, 0, 0, 0, 0, 8, //
-    1, 14, 0, 0, 0, 4, 0, 0, 0, 62, 0, 0, 0, 0, 0, 0, 0, 0, 0, 0, 0, 96, 0, 0, 0, //
+    1, 14, 0, 0, 0, 4, 0, 0, 0, 67, 0, 0, 0, 0, 0, 0, 0, 0, 0, 0, 0, 96, 0, 0, 0, //
     0,
 ];
 
 // A program for each unit.
 const LINE: &[u8] = &[
-    58, 0, 0, 0, 4, 0, 30, 0, 0, 0, //
+    63, 0, 0, 0, 4, 0, 30, 0, 0, 0, //
     1, 1, 1, 0xfb, 14, 13, 0, 1, 1, 1, 1, 0, 0, 0, 1, 0, 0, 1, //
     b'/', b'w', 0, 0, b'a', b'.', b'c', 0, 1, 0, 0, 0, //
     0, 9, 2, 0, 0x10, 0, 0, 0, 0, 0, 0, //
-    5, 1, 0x16, 5, 2, 0x4b, 2, 12, 0, 1, 1, //
+    5, 1, 0x16, 0, 2, 4, 3, 6, 5, 2, 0x4b, 2, 12, 0, 1, 1, //
     55, 0, 0, 0, 4, 0, 30, 0, 0, 0, //
     1, 1, 1, 0xfb, 14, 13, 0, 1, 1, 1, 1, 0, 0, 0, 1, 0, 0, 1, //
     b'/', b'w', 0, 0, b'b', b'.', b'c', 0, 1, 0, 0, 0, //

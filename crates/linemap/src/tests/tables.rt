@@ -19,6 +19,15 @@ pub fn table_c(alloc: Global) -> Result<String, AllocError> {
     with_calls(alloc, TABLE_A, 1)
 }
 
+/// Table A, whose second row is not a statement and has a discriminator.
+pub fn table_with_discriminator(alloc: Global) -> Result<String, AllocError> {
+    TABLE_A.replace(
+        alloc,
+        "\"column\":2",
+        "\"column\":2,\"statement\":false,\"discriminator\":3",
+    )
+}
+
 /// The table with this many calls in its function, each inside the one before.
 pub fn with_calls(alloc: Global, table: &str, depth: usize) -> Result<String, AllocError> {
     let mut text = String::from_str(alloc, table)?;

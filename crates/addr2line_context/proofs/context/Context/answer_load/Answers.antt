@@ -1,16 +1,21 @@
 use Rattle.std.proofs.Common.{map, option_map, subst}
-use Rattle.addr2line_resolved.specs.Lookups.{answer_load}
-use Rattle.addr2line_resolved.specs.ResolvedUnits.{value_of_unit}
-use Rattle.addr2line_context.specs.AnsweredContexts.{answers_of}
-use Rattle.addr2line_context.specs.LoadAnswers.{AnswersOrNoMemory}
-use Rattle.addr2line_context.proofs.AnsweredLoads.{file_left}
+use Rattle.addr2line_lookups.specs.Lookups.{answer_load}
+use Rattle.addr2line_lookups.specs.ResolvedUnits.{value_of_unit}
+use Rattle.addr2line_lookups.specs.AnsweredUnits.{answers_of}
+use Rattle.addr2line_lookups.specs.LoadAnswers.{AnswersOrNoMemory}
+use Rattle.addr2line_lookups.proofs.AnsweredLoads.{file_left, plain_left}
 use Rattle.addr2line_context.proofs.ContextLoads.{answer_of_context, same_plain_context}
+use Rattle.addr2line_context.proofs.KeptUnits.{holds_after}
 use Rattle.addr2line_context.proofs.context.Context.answer_load.Goals as goal
 
 pub invariant_of-self : goal.invariant_of-self
 invariant_of-self g c =
-    file_left c.self.inside.units c.answer_at.new.self c.answer_at.result _ _ c.answer_at.ensures
-    c.self.inside.sections.value.file c.self.invariant
+    let us = c.self.inside.units in
+    let vs = c.answer_at.new.self in
+    let h = c.answer_at.ensures.answer in
+    holds_after _ _ us vs c.self.invariant (plain_left us vs c.answer_at.result _ _ h)
+    (file_left us vs c.answer_at.result _ _ h c.self.inside.sections.value.file c.self.invariant.are_of_file)
+    c.answer_at.ensures.calls
 
 pub returns-clause-answers : goal.returns-clause-answers
 returns-clause-answers g c =
@@ -19,9 +24,9 @@ returns-clause-answers g c =
     (answer_load c.args.self.now.plain c.args.self.now.answers n (option_map (λ f. f.value.file) c.args.file)))
     c.number.ensures
     (answer_of_context c.self.inside.sections.value.file c.self.inside.units c.self.inside.supplement_units.items
-    c.self.invariant c.answer_at.new.self c.answer_at.result _ _ c.answer_at.ensures c.args.self.now c.self.view_is)
+    c.self.invariant.are_of_file c.answer_at.new.self c.answer_at.result _ _ c.answer_at.ensures.answer c.args.self.now c.self.view_is)
 
 pub returns-clause-plain : goal.returns-clause-plain
 returns-clause-plain g c =
     same_plain_context c.self.inside.sections.value.file c.self.inside.units c.self.inside.supplement_units.items
-    c.self.invariant c.answer_at.new.self c.answer_at.result _ _ c.answer_at.ensures c.args.self.now c.self.view_is
+    c.self.invariant.are_of_file c.answer_at.new.self c.answer_at.result _ _ c.answer_at.ensures.answer c.args.self.now c.self.view_is

@@ -1,12 +1,13 @@
 use Rattle.std.proofs.Common.{◌≡◌, refl, subst, None, Ok, Err, option_map, map}
 use Rattle.std.proofs.lemmas.Result.{err_from_is_err_and}
-use Rattle.addr2line_resolved.specs.Contexts.{location}
-use Rattle.addr2line_resolved.specs.BorrowedLocations.{location_value}
-use Rattle.addr2line_resolved.specs.ResolvedUnits.{plain_unit}
+use Rattle.addr2line_lookups.specs.Contexts.{location}
+use Rattle.addr2line_lookups.specs.BorrowedLocations.{location_value}
+use Rattle.addr2line_lookups.specs.ResolvedUnits.{plain_unit}
 use Rattle.addr2line_context.specs.AnsweredContexts.{AnsweredContext}
-use Rattle.addr2line_context.specs.KeptUnits.{FindsRow, KeepsFound, KeepsAt}
-use Rattle.addr2line_context.proofs.ContextParts.{same_context, same_files}
-use Rattle.addr2line_context.proofs.UnitAnswers.{place_found}
+use Rattle.addr2line_lookups.specs.KeptUnits.{FindsRow, KeepsFound, KeepsAt}
+use Rattle.addr2line_context.proofs.ContextParts.{same_context}
+use Rattle.addr2line_context.proofs.KeptUnits.{holds_same}
+use Rattle.addr2line_lookups.proofs.UnitRows.{place_found}
 use Rattle.addr2line_context.proofs.context.Context.find_location.Goals as goal
 
 pub returns-in_err-found : goal.returns-in_err-found
@@ -52,10 +53,13 @@ returns-in-None g c = (
 )
 
 pub invariant_of-self : goal.invariant_of-self
-invariant_of-self g c = same_files _ _ _ c.find_row.ensures.values c.self.invariant
+invariant_of-self g c =
+    holds_same _ _ _ _ c.self.invariant c.find_row.ensures.values c.find_row.ensures.calls
 
 pub invariant_of-self-in-Some : goal.invariant_of-self-in-Some
-invariant_of-self-in-Some g c = same_files _ _ _ c.find_row.ensures.values c.self.invariant
+invariant_of-self-in-Some g c =
+    holds_same _ _ _ _ c.self.invariant c.find_row.ensures.values c.find_row.ensures.calls
 
 pub invariant_of-self-in-None : goal.invariant_of-self-in-None
-invariant_of-self-in-None g c = same_files _ _ _ c.find_row.ensures.values c.self.invariant
+invariant_of-self-in-None g c =
+    holds_same _ _ _ _ c.self.invariant c.find_row.ensures.values c.find_row.ensures.calls

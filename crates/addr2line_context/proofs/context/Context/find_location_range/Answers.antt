@@ -1,10 +1,10 @@
 use Rattle.std.proofs.Common.{◌∙◌, sym, ap, Ok}
 use Rattle.std.proofs.lemmas.Result.{err_from_is_err_and}
-use Rattle.addr2line_resolved.specs.Contexts.{stretches, ranges_of, lines_of}
-use Rattle.addr2line_resolved.specs.PlaceLookups.{stretches_between}
+use Rattle.addr2line_lookups.specs.Contexts.{stretches, ranges_of, lines_of}
+use Rattle.addr2line_lookups.specs.PlaceLookups.{stretches_between}
 use Rattle.addr2line_context.specs.AnsweredContexts.{AnsweredContext}
-use Rattle.addr2line_context.proofs.ContextParts.{same_files}
-use Rattle.addr2line_context.proofs.KeptLines.{same_plain}
+use Rattle.addr2line_context.proofs.KeptUnits.{holds_same}
+use Rattle.addr2line_lookups.proofs.KeptLines.{same_plain}
 use Rattle.addr2line_context.proofs.context.Context.find_location_range.Goals as goal
 
 pub returns-in_err-read_between : goal.returns-in_err-read_between
@@ -20,7 +20,9 @@ returns g c =
     ∙ ap (λ (x : AnsweredContext). stretches x.plain.context c.args.probe_low c.args.probe_high) c.self.view_is))
 
 pub invariant_of-self : goal.invariant_of-self
-invariant_of-self g c = same_files _ _ _ c.read_between.ensures.values c.self.invariant
+invariant_of-self g c =
+    holds_same _ _ _ _ c.self.invariant c.read_between.ensures.values c.read_between.ensures.calls
 
 pub invariant_of-self-2 : goal.invariant_of-self-2
-invariant_of-self-2 g c = same_files _ _ _ c.read_between.ensures.values c.self.invariant
+invariant_of-self-2 g c =
+    holds_same _ _ _ _ c.self.invariant c.read_between.ensures.values c.read_between.ensures.calls

@@ -1,14 +1,16 @@
 use Rattle.std.proofs.Common.{◌≡◌, ◌∙◌, sym, subst, map, length, List, Ok, Err, None}
 use Rattle.std.proofs.lemmas.Result.{err_from_is_err_and}
-use Rattle.addr2line_resolved.specs.CachedFiles.{CachedFile}
-use Rattle.addr2line_resolved.specs.ArangeIndexes.{IsIndexOf, fault_of_sets}
-use Rattle.addr2line_resolved.specs.DwarfFiles.{supplement}
-use Rattle.addr2line_resolved.specs.Contexts.{units_of_supplement, file_context}
-use Rattle.addr2line_resolved.specs.FirstAnswers.{no_answers}
-use Rattle.addr2line_resolved.specs.ResolvedUnits.{ResolvedUnit, value_of_unit, plain_unit}
+use Rattle.addr2line_lookups.specs.CachedFiles.{CachedFile}
+use Rattle.addr2line_lookups.specs.ArangeIndexes.{IsIndexOf, fault_of_sets}
+use Rattle.addr2line_lookups.specs.DwarfFiles.{supplement}
+use Rattle.addr2line_lookups.specs.Contexts.{units_of_supplement, file_context}
+use Rattle.addr2line_lookups.specs.FirstAnswers.{no_answers}
+use Rattle.addr2line_lookups.specs.ResolvedUnits.{ResolvedUnit, value_of_unit, plain_unit}
 use Rattle.addr2line_context.proofs.ContextParts.{made_units, refused_units, file_context_of_parts, supplement_refused, units_refused, file_context_with}
-use Rattle.addr2line_context.specs.AnsweredContexts.{AreOfFile, answers_of}
-use Rattle.addr2line_context.proofs.NewContexts.{new_of_file, new_without_answers}
+use Rattle.addr2line_lookups.specs.AnsweredUnits.{answers_of}
+use Rattle.addr2line_context.specs.KeptContexts.{HoldsUnits}
+use Rattle.addr2line_context.proofs.KeptUnits.{holds_new}
+use Rattle.addr2line_context.proofs.NewContexts.{new_without_answers}
 use Rattle.addr2line_context.proofs.context.Context.from_arc_dwarf.Goals as goal
 
 pub units_of_file-requires : goal.units_of_file-requires
@@ -60,6 +62,8 @@ returns-clause-answers g c =
 
 pub invariant_of-result : goal.invariant_of-result
 invariant_of-result g c =
-    subst (λ (us : List ResolvedUnit). AreOfFile c.args.sections.value.file (map value_of_unit us))
-    (sym c.in_ok-kept.ensures.ok)
-    (new_of_file c.args.sections.value.file c.in_ok-units.units.items c.in_ok-units.ensures.units)
+    let file = c.args.sections.value.file in
+    let supplement_units = c.in_ok-supplement_units.supplement_units.items in
+    subst (λ (us : List ResolvedUnit). HoldsUnits file supplement_units us) (sym c.in_ok-kept.ensures.ok)
+    (holds_new file supplement_units c.in_ok-units.units.items c.in_ok-units.ensures.units
+    c.in_ok-units.ensures.functions)

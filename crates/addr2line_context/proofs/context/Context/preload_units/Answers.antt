@@ -1,10 +1,7 @@
-use Rattle.std.proofs.Common.{◌≡◌, ◌∙◌, ap, sym, subst, map, List, Result, Ok}
-use Rattle.addr2line_resolved.specs.Error.{Error}
-use Rattle.addr2line_resolved.specs.Calls.{ReturnsAsOrNoMemory}
-use Rattle.addr2line_resolved.specs.FirstAnswers.{PendingLoad}
-use Rattle.addr2line_resolved.specs.Lookups.{loads}
-use Rattle.addr2line_context.specs.AnsweredContexts.{AnsweredContext}
-use Rattle.addr2line_context.specs.Preloads.{load_of_item}
+use Rattle.std.proofs.Common.{sym, subst, map, List, Ok}
+use Rattle.addr2line_lookups.specs.Calls.{ReturnsAsOrNoMemory}
+use Rattle.addr2line_lookups.specs.FirstAnswers.{PendingLoad}
+use Rattle.addr2line_lookups.specs.Preloads.{load_of_item}
 use Rattle.addr2line_context.proofs.ContextLoads.{loads_of_context}
 use Rattle.addr2line_context.proofs.context.Context.preload_units.Goals as goal
 
@@ -14,4 +11,4 @@ returns-clause-loads g c =
     λ l. ReturnsAsOrNoMemory (λ found. map load_of_item found.items) c.pending_loads.result (Ok l) in
     subst P
     (sym (loads_of_context c.self.inside.sections.value.file c.self.inside.units c.self.inside.supplement_units.items
-    c.self.invariant c.args.probe c.args.self.now c.self.view_is)) c.pending_loads.ensures
+    c.self.invariant.are_of_file c.args.probe c.args.self.now c.self.view_is)) c.pending_loads.ensures

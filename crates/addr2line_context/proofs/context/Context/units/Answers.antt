@@ -1,5 +1,5 @@
 use Rattle.std.proofs.Common.{◌∙◌, ap, map}
-use Rattle.addr2line_resolved.specs.ResolvedUnits.{plain_unit}
+use Rattle.addr2line_lookups.specs.ResolvedUnits.{plain_unit}
 use Rattle.addr2line_context.specs.AnsweredContexts.{AnsweredContext}
 use Rattle.addr2line_context.proofs.context.Context.units.Goals as goal
 

@@ -10,9 +10,9 @@ pub loop-number-init : goal.loop-number-init
 loop-number-init g c =
     let cs = c.args.self.now.function.calls in
     let a = c.args.probe in
-    let all = ap (λ ns. (length (chain_from cs a (length ns)) + 1) * call_probes cs) c.new-numbers.ensures.items in
+    let all = ap (λ ns. (length (chain_from cs a (length ns)) + 1) * call_probes cs) c.clear.ensures.items in
     record {
-      chain = ap (chain_with cs a) c.new-numbers.ensures.items;
+      chain = ap (chain_with cs a) c.clear.ensures.items;
       counter = refl;
       looks = omega (arith, all);
     }

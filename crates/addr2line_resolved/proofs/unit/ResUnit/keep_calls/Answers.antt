@@ -7,7 +7,7 @@ use Rattle.addr2line_resolved.proofs.unit.ResUnit.keep_calls.Goals as goal
 
 pub returns-clause-ok : goal.returns-clause-ok
 returns-clause-ok g c =
-    with_calls_after _ _ c.self.inside.functions c.keep_calls.new.self _ c.args.self.now c.args.function
+    with_calls_after _ _ c.self.inside.functions c.keep_calls.new.self _ _ c.args.self.now c.args.function
     c.args.read c.keep_calls.result c.keep_calls.ensures.ok c.self.view_is
 
 pub invariant_of-self : goal.invariant_of-self

@@ -35,7 +35,7 @@ pub returns-clause-ok : goal.returns-clause-ok
 returns-clause-ok g c =
     let P : Result (List Function) Error → Type 0 = λ m.
     ReturnsAsOrNoMemory (λ (f : CountedFunctions). f.functions) c.parse_functions-functions.result m in
-    with_functions_after _ _ c.self.inside.functions c.keep.new.self _ c.args.self.now
+    with_functions_after _ _ c.self.inside.functions c.keep.new.self _ _ c.args.self.now
     c.parse_functions-functions.result c.keep.result c.keep.ensures.ok c.keep.ensures.answer
     (subst P (sym (ap (λ (u : ResolvedUnit). functions_of u.value) c.self.view_is))
     c.parse_functions-functions.ensures.functions)

@@ -1,0 +1,14 @@
+-- A context's units with what is kept of them.
+use Rattle.std.specs.Prelude.{List, map}
+use Rattle.addr2line_lookups.specs.DwarfFiles.{DwarfFile}
+use Rattle.addr2line_lookups.specs.UnitFacts.{UnitFacts}
+use Rattle.addr2line_lookups.specs.ResolvedUnits.{ResolvedUnit, value_of_unit}
+use Rattle.addr2line_lookups.specs.AnsweredUnits.{AreOfFile}
+use Rattle.addr2line_lookups.specs.KeptCalls.{known_among, HoldCalls}
+
+-- The units are those of a file, and the calls that are kept of their functions are the
+-- definition's, with names that are looked for in these units and in those of the supplement.
+pub record HoldsUnits (file : DwarfFile) (supplement_units : List UnitFacts)
+    (us : List ResolvedUnit) : Type 0 where
+  pub are_of_file : AreOfFile file (map value_of_unit us)
+  pub calls_are_kept : HoldCalls (known_among us supplement_units) us

@@ -1,0 +1,78 @@
+use Rattle.std.proofs.Common.{ℕ, List, map, Option, Ok, sym, ap, ◌∙◌, subst}
+use Rattle.std.proofs.lemmas.Result.{err_from_is_err_and}
+use Rattle.addr2line_resolved.specs.Contexts.{ContextUnit}
+use Rattle.addr2line_resolved.specs.ResolvedUnits.{value_of_unit}
+use Rattle.addr2line_lookups.specs.declared.frame_place.FramePlace.{FramePlace}
+use Rattle.addr2line_lookups.specs.KeptUnits.{row_at_number}
+use Rattle.addr2line_lookups.specs.KeptCalls.{known_among}
+use Rattle.addr2line_lookups.specs.FunctionPlaces.{function_with_calls_at, chain_of, FindsFunction}
+use Rattle.addr2line_lookups.specs.FramePlaces.{frames_at_number, FindsFrames}
+use Rattle.addr2line_lookups.proofs.KeptLines.{same_plain}
+use Rattle.addr2line_lookups.proofs.CallsOfUnits.{hold_same}
+use Rattle.addr2line_lookups.proofs.FoundFrames.{function_refuses, found_function, lines_refuse, function_stays, frames_found}
+use Rattle.addr2line_lookups.proofs.frame_place.find_place_at.Goals as goal
+
+pub returns-in_err-function : goal.returns-in_err-function
+returns-in_err-function g c =
+    let p = err_from_is_err_and c.from_residual.result c.from_residual.ensures.1 in
+    let us = c.args.units.now.items in
+    let known = known_among us c.args.supplement_units.now in
+    let refused = c.in_err-function.ensures in
+    record {
+      values = refused.values;
+      calls = refused.calls;
+      found =
+          rw (p.1, p.2) (λ m.
+          function_refuses known c.args.probe c.args.number (map value_of_unit us) _ (refused.found m));
+    }
+
+pub returns-in_err-row : goal.returns-in_err-row
+returns-in_err-row g c =
+    let r = c.from_residual-in_err-row in
+    let p = err_from_is_err_and r.result r.ensures.1 in
+    let us = c.args.units.now.items in
+    let vs = map value_of_unit us in
+    let known = known_among us c.args.supplement_units.now in
+    let n = c.args.number in
+    let a = c.args.probe in
+    let ws = c.find_function_at.new.units.items in
+    let xs = c.find_row_at.new.units.items in
+    let found = c.in_ok-function.ensures in
+    let refused = c.in_err-row.ensures in
+    let f =
+    found_function ws n a (function_with_calls_at known vs a n) c.in_ok-function.function
+    (chain_of ws n) found.found in
+    record {
+      values = refused.values ∙ found.values;
+      calls = hold_same known ws xs refused.values refused.same found.calls;
+      found = rw (p.1, p.2) (λ m. lines_refuse known a n ws vs found.values f.0 _ f.1 (refused.found m));
+    }
+
+pub returns : goal.returns
+returns g c =
+    let us = c.args.units.now.items in
+    let vs = map value_of_unit us in
+    let known = known_among us c.args.supplement_units.now in
+    let n = c.args.number in
+    let a = c.args.probe in
+    let ws = c.find_function_at.new.units.items in
+    let xs = c.find_row_at.new.units.items in
+    let chain = chain_of ws n in
+    let function = c.in_ok-function.function in
+    let row = c.in_ok-row.row in
+    let found = c.in_ok-function.ensures in
+    let rows = c.in_ok-row.ensures in
+    let P : Option FramePlace → Type 0 = λ o. FindsFrames xs (frames_at_number known vs a n) (Ok o) in
+    let Q : List ℕ → Type 0 = λ numbers.
+    FindsFunction xs n a (function_with_calls_at known vs a n) (Ok function) numbers in
+    record {
+      values = rows.values ∙ found.values;
+      calls = hold_same known ws xs rows.values rows.same found.calls;
+      found =
+          subst P (sym c.place_if_any.ensures)
+          (frames_found known a n xs vs (rows.values ∙ found.values) rows.kept function row
+          (subst Q (sym rows.chain)
+          (function_stays ws xs rows.values rows.same n a (function_with_calls_at known vs a n) function chain
+          found.found))
+          (ap (λ (l : List ContextUnit). row_at_number l a n) (same_plain xs ws rows.values) ∙ rows.found));
+    }

@@ -1,0 +1,101 @@
+use Rattle.std.proofs.Common.{◌<◌, ℕ, IfSome, map, Option, Result, sym, ap, ◌∙◌, subst}
+use Rattle.std.proofs.lemmas.Result.{err_from_is_err_and}
+use Rattle.addr2line_resolved.specs.Error.{Error}
+use Rattle.addr2line_resolved.specs.InlinedCalls.{FunctionCalls}
+use Rattle.addr2line_resolved.specs.EntryReferences.{KnownUnits}
+use Rattle.addr2line_resolved.specs.ResolvedUnits.{value_of_unit}
+use Rattle.addr2line_lookups.specs.KeptCalls.{known_among, HoldCalls}
+use Rattle.addr2line_lookups.specs.FunctionPlaces.{HasFunctionAt, HoldsChain, chain_of}
+use Rattle.addr2line_lookups.proofs.KeptLines.{same_length}
+use Rattle.addr2line_lookups.proofs.CallsOfUnits.{same_known}
+use Rattle.addr2line_lookups.proofs.FoundFunctions.{ok_number, refused_functions, none_there, refused_calls, same_function_calls, function_found}
+use Rattle.addr2line_lookups.proofs.function_place.find_function_at.Goals as goal
+
+pub find_calls-requires : goal.find_calls-requires
+find_calls-requires g c =
+    let us = c.args.units.now.items in
+    let s = c.args.supplement_units.now in
+    let n = c.args.number in
+    let ws = c.find_number_at.new.units.items in
+    let found = c.in_ok-function.ensures in
+    let P : Option ℕ → Type 0 = λ o. IfSome o (HasFunctionAt ws n) in
+    let Q : KnownUnits → Type 0 = λ known. HoldCalls known ws in
+    record {
+      unit = subst (λ l. n < l) (sym (same_length ws us found.values)) c.requires.unit;
+      function = subst P c.in-Some.is found.below;
+      calls = subst Q (sym (same_known us ws s found.values)) (found.calls (known_among us s) c.requires.calls);
+    }
+
+pub returns-in_err-function : goal.returns-in_err-function
+returns-in_err-function g c =
+    let p = err_from_is_err_and c.from_residual.result c.from_residual.ensures.1 in
+    let us = c.args.units.now.items in
+    let known = known_among us c.args.supplement_units.now in
+    let refused = c.in_err-function.ensures in
+    record {
+      values = refused.values;
+      calls = refused.calls known c.requires.calls;
+      found =
+          rw (p.1, p.2) (λ m.
+          refused_functions known c.args.probe c.args.number (map value_of_unit us) _ (refused.number m));
+    }
+
+pub returns-in_default : goal.returns-in_default
+returns-in_default g c =
+    let us = c.args.units.now.items in
+    let known = known_among us c.args.supplement_units.now in
+    let found = c.in_ok-function.ensures in
+    record {
+      values = found.values;
+      calls = found.calls known c.requires.calls;
+      found =
+          none_there known c.args.probe c.args.number (map value_of_unit us)
+          (found.number ∙ ap ok_number c.in_default.is);
+    }
+
+pub returns-in_err-find_calls : goal.returns-in_err-find_calls
+returns-in_err-find_calls g c =
+    let r = c.from_residual-in_err-find_calls in
+    let p = err_from_is_err_and r.result r.ensures.1 in
+    let us = c.args.units.now.items in
+    let s = c.args.supplement_units.now in
+    let n = c.args.number in
+    let k = c.in-Some.function in
+    let known = known_among us s in
+    let ws = c.find_number_at.new.units.items in
+    let xs = c.find_calls.new.units.items in
+    let found = c.in_ok-function.ensures in
+    let refused = c.in_err-find_calls.ensures in
+    let P : KnownUnits → Type 0 = λ x. HoldCalls x xs in
+    record {
+      values = refused.values ∙ found.values;
+      calls = subst P (same_known us ws s found.values) refused.calls;
+      found =
+          rw (p.1, p.2) (λ m.
+          refused_calls known c.args.probe n (map value_of_unit us) k _ (found.number ∙ ap ok_number c.in-Some.is)
+          (sym (same_function_calls us ws s found.values k n) ∙ refused.found m));
+    }
+
+pub returns : goal.returns
+returns g c =
+    let us = c.args.units.now.items in
+    let s = c.args.supplement_units.now in
+    let n = c.args.number in
+    let a = c.args.probe in
+    let k = c.in-Some.function in
+    let known = known_among us s in
+    let ws = c.find_number_at.new.units.items in
+    let xs = c.find_calls.new.units.items in
+    let chain = chain_of xs n in
+    let found = c.in_ok-function.ensures in
+    let calls = c.in_ok-find_calls.ensures in
+    let P : KnownUnits → Type 0 = λ x. HoldCalls x xs in
+    let Q : Result FunctionCalls Error → Type 0 = λ m. HoldsChain xs n k a m chain in
+    record {
+      values = calls.values ∙ found.values;
+      calls = subst P (same_known us ws s found.values) calls.calls;
+      found =
+          function_found known a n xs (map value_of_unit us) k chain (calls.values ∙ found.values)
+          (found.number ∙ ap ok_number c.in-Some.is)
+          (subst Q (same_function_calls us ws s found.values k n) calls.found);
+    }

@@ -1,0 +1,18 @@
+use Rattle.std.proofs.Common.{◌<◌, length, arith}
+use Rattle.addr2line_lookups.proofs.CallsLeft.{leaves_set}
+use Rattle.addr2line_lookups.proofs.AnsweredLoads.{answer_there}
+use Rattle.addr2line_lookups.proofs.load_answers.answer_at.Goals as goal
+
+pub returns : goal.returns
+returns g c =
+    let us = c.args.units.now.items in
+    let below : c.args.number < length us = omega arith in
+    let n = c.args.number in
+    let unit = c.index_mut-unit.result.now in
+    let new = c.answer_unit.new.unit in
+    record {
+      answer =
+          answer_there us n _ unit new c.answer_unit.result below c.index_mut-unit.ensures.value
+          c.answer_unit.ensures.answer;
+      calls = leaves_set us n unit new below c.index_mut-unit.ensures.value c.answer_unit.ensures.calls;
+    }

@@ -1,0 +1,105 @@
+use Rattle.std.proofs.Common.{map, refl, ap, sym, ◌∙◌}
+use Rattle.std.proofs.lemmas.Result.{err_from_is_err_and}
+use Rattle.addr2line_resolved.specs.NumberedRanges.{covering_ranges}
+use Rattle.addr2line_resolved.specs.ResolvedUnits.{value_of_unit}
+use Rattle.addr2line_lookups.specs.KeptCalls.{known_among}
+use Rattle.addr2line_lookups.specs.UnitLookups.{frames_among}
+use Rattle.addr2line_lookups.proofs.SettledUnits.{calls_same, calls_back, frames_step_refused, frames_step_waits, frames_step_found, frames_step_further, no_frames_left}
+use Rattle.addr2line_lookups.proofs.lookups.settle_frames.Goals as goal
+
+pub loop-range-init : goal.loop-range-init
+loop-range-init g c =
+    let us = c.args.units.now.items in (
+      refl,
+      c.requires.calls,
+      ap (frames_among (known_among us c.args.supplement_units.now) (map value_of_unit us) c.args.probe)
+          (sym c.covering-covering.ensures),
+    )
+
+pub settle_frames_at-requires : goal.settle_frames_at-requires
+settle_frames_at-requires g c =
+    let vs = c.loop-range.units.items in
+    calls_same c.args.units.now.items vs c.loop-range.invariant.0 c.args.supplement_units.now vs
+    c.loop-range.invariant.1
+
+pub returns-in_err-settle_frames_at : goal.returns-in_err-settle_frames_at
+returns-in_err-settle_frames_at g c =
+    let p = err_from_is_err_and c.from_residual.result c.from_residual.ensures.1 in
+    let us = c.args.units.now.items in
+    let vs = c.loop-range.units.items in
+    let s = c.args.supplement_units.now in
+    let a = c.args.probe in
+    let whole = frames_among (known_among us s) (map value_of_unit us) a (covering_ranges a c.args.ranges.now) in
+    record {
+      values = c.in_err-settle_frames_at.ensures.values ∙ c.loop-range.invariant.0;
+      calls =
+          calls_back us vs c.loop-range.invariant.0 s c.settle_frames_at.new.units.items
+          c.in_err-settle_frames_at.ensures.calls;
+      found =
+          rw (p.1, p.2) (λ m.
+          frames_step_refused us vs c.loop-range.invariant.0 s a c.in-Some.range c.loop-range.covering c.next.new.self
+          c.in-Some.ensures.none whole c.loop-range.invariant.2 _ (c.in_err-settle_frames_at.ensures.found m));
+    }
+
+pub returns-in-Waits : goal.returns-in-Waits
+returns-in-Waits g c =
+    let us = c.args.units.now.items in
+    let vs = c.loop-range.units.items in
+    let s = c.args.supplement_units.now in
+    let a = c.args.probe in
+    let new = c.settle_frames_at.new.units.items in
+    let whole = frames_among (known_among us s) (map value_of_unit us) a (covering_ranges a c.args.ranges.now) in
+    record {
+      values = c.in_ok-settle_frames_at.ensures.values ∙ c.loop-range.invariant.0;
+      calls = calls_back us vs c.loop-range.invariant.0 s new c.in_ok-settle_frames_at.ensures.calls;
+      found =
+          frames_step_waits us vs c.loop-range.invariant.0 s a c.in-Some.range c.loop-range.covering c.next.new.self
+          c.in-Some.ensures.none whole c.loop-range.invariant.2 new
+          c.in_ok-settle_frames_at.field-0 c.in_ok-settle_frames_at.ensures.found c.in-Waits.is;
+    }
+
+pub returns-in-Found : goal.returns-in-Found
+returns-in-Found g c =
+    let us = c.args.units.now.items in
+    let vs = c.loop-range.units.items in
+    let s = c.args.supplement_units.now in
+    let a = c.args.probe in
+    let new = c.settle_frames_at.new.units.items in
+    let whole = frames_among (known_among us s) (map value_of_unit us) a (covering_ranges a c.args.ranges.now) in
+    record {
+      values = c.in_ok-settle_frames_at.ensures.values ∙ c.loop-range.invariant.0;
+      calls = calls_back us vs c.loop-range.invariant.0 s new c.in_ok-settle_frames_at.ensures.calls;
+      found =
+          frames_step_found us vs c.loop-range.invariant.0 s a c.in-Some.range c.loop-range.covering c.next.new.self
+          c.in-Some.ensures.none whole c.loop-range.invariant.2 new
+          c.in_ok-settle_frames_at.field-0 c.in_ok-settle_frames_at.ensures.found c.in-Found.place c.in-Found.is;
+    }
+
+pub loop-range-preserved : goal.loop-range-preserved
+loop-range-preserved g c =
+    let us = c.args.units.now.items in
+    let vs = c.loop-range.units.items in
+    let s = c.args.supplement_units.now in
+    let a = c.args.probe in
+    let new = c.settle_frames_at.new.units.items in
+    let whole = frames_among (known_among us s) (map value_of_unit us) a (covering_ranges a c.args.ranges.now) in (
+      c.in_ok-settle_frames_at.ensures.values ∙ c.loop-range.invariant.0,
+      calls_back us vs c.loop-range.invariant.0 s new c.in_ok-settle_frames_at.ensures.calls,
+      frames_step_further us vs c.loop-range.invariant.0 s a c.in-Some.range c.loop-range.covering c.next.new.self
+          c.in-Some.ensures.none whole c.loop-range.invariant.2 new
+          c.in_ok-settle_frames_at.field-0 c.in_ok-settle_frames_at.ensures.found c.in-Nothing.is,
+    )
+
+pub returns : goal.returns
+returns g c =
+    let us = c.args.units.now.items in
+    let s = c.args.supplement_units.now in
+    let a = c.args.probe in
+    let whole = frames_among (known_among us s) (map value_of_unit us) a (covering_ranges a c.args.ranges.now) in
+    record {
+      values = c.loop-range.invariant.0;
+      calls = c.loop-range.invariant.1;
+      found =
+          no_frames_left (known_among us s) (map value_of_unit us) a whole c.loop-range.covering c.in_default.ensures.none
+          c.loop-range.invariant.2;
+    }

@@ -1,0 +1,18 @@
+-- The answer is that of the ranges that are left, and the units' values are the same.
+use Rattle.std.proofs.Common.{◌≡◌, length, map}
+use Rattle.addr2line_resolved.specs.NumberedRanges.{covering_ranges}
+use Rattle.addr2line_resolved.specs.ResolvedUnits.{value_of_unit}
+use Rattle.addr2line_lookups.specs.KeptCalls.{known_among, HoldCalls}
+use Rattle.addr2line_lookups.specs.UnitLookups.{unit_among}
+use Rattle.addr2line_lookups.proofs.lookups.settle_unit.Given as goal
+
+abbrev pub invariant-loop-range : goal.invariant-loop-range
+invariant-loop-range g l =
+    let known = known_among l.fn.units.items l.supplement_units in
+    let vs = map value_of_unit l.fn.units.items in
+    (map value_of_unit l.units.items ≡ vs)
+    × HoldCalls known l.units.items
+    × (unit_among known vs l.probe (covering_ranges l.probe l.ranges) ≡ unit_among known vs l.probe l.covering)
+
+abbrev pub decreases-loop-range : goal.decreases-loop-range
+decreases-loop-range g l = length l.covering

@@ -1,0 +1,24 @@
+use Rattle.std.proofs.Common.{◌<◌, length, subst, sym, ap, Result, arith}
+use Rattle.addr2line_resolved.specs.Error.{Error}
+use Rattle.addr2line_resolved.specs.Calls.{ReturnsOrNoMemory}
+use Rattle.addr2line_resolved.specs.ResolvedUnits.{ResolvedUnit, value_of_unit}
+use Rattle.addr2line_lookups.proofs.CallsLeft.{leaves_set, leaves_value}
+use Rattle.addr2line_lookups.proofs.UnitRows.{check_here, same_values}
+use Rattle.addr2line_lookups.proofs.parsing.check_at.Goals as goal
+
+pub returns : goal.returns
+returns g c =
+    let us = c.args.units.now.items in
+    let n = c.args.number in
+    let unit = c.index_mut-unit.result.now in
+    let below : n < length us = omega arith in
+    let P : Result (Unit {0}) Error → Type 0 = λ x. ReturnsOrNoMemory c.check_lines.result x in
+    record {
+      values = same_values us n unit c.check_lines.new.self c.index_mut-unit.ensures.value
+          (ap value_of_unit c.check_lines.ensures.unit);
+      found = subst P (sym (check_here us n unit below c.index_mut-unit.ensures.value)) c.check_lines.ensures.found;
+      calls =
+          leaves_set us n unit c.check_lines.new.self below c.index_mut-unit.ensures.value
+          (leaves_value unit c.check_lines.new.self (ap value_of_unit c.check_lines.ensures.unit)
+          (ap (λ (u : ResolvedUnit). u.calls) c.check_lines.ensures.unit));
+    }

@@ -1,0 +1,17 @@
+-- The calls of the functions before a number can be read, and what is kept is the definition's.
+use Rattle.std.proofs.Common.{◌≡◌, ◌-◌, map}
+use Rattle.addr2line_resolved.specs.ResolvedUnits.{value_of_unit}
+use Rattle.addr2line_lookups.specs.KeptCalls.{known_among, HoldCalls}
+use Rattle.addr2line_lookups.specs.UnitParses.{count_at}
+use Rattle.addr2line_lookups.proofs.KeptCallsAt.{PassBelow}
+use Rattle.addr2line_lookups.proofs.parsing_calls.parse_calls_at.Given as goal
+
+abbrev pub invariant-loop-function : goal.invariant-loop-function
+invariant-loop-function g l =
+    (map value_of_unit l.units.items ≡ map value_of_unit l.fn.units.items)
+    × HoldCalls (known_among l.fn.units.items l.supplement_units) l.units.items
+    × (count_at l.units.items l.number ≡ l.count)
+    × PassBelow l.supplement_units l.fn.units.items l.number l.function
+
+abbrev pub decreases-loop-function : goal.decreases-loop-function
+decreases-loop-function g l = l.count - l.function

@@ -1,0 +1,34 @@
+use Rattle.std.proofs.Common.{◌∙◌, ap, sym, inl, inr, Err}
+use Rattle.std.proofs.lemmas.Result.{err_from_is_err_and}
+use Rattle.addr2line_resolved.specs.ResolvedUnits.{ResolvedUnit}
+use Rattle.addr2line_lookups.specs.UnitParses.{check_functions_of}
+use Rattle.addr2line_lookups.proofs.CallsLeft.{leaves_functions, leaves_value}
+use Rattle.addr2line_lookups.proofs.UnitCalls.{keeps_after, value_after, on_ok_always}
+use Rattle.addr2line_lookups.proofs.parsing_functions.check_functions_of.Goals as goal
+
+pub returns-in_err-read_functions : goal.returns-in_err-read_functions
+returns-in_err-read_functions g c =
+    let old = c.args.unit.now in
+    let new = c.read_functions.new.self in
+    let p = err_from_is_err_and c.from_residual.result c.from_residual.ensures.1 in
+    record {
+      value = ap (λ (u : ResolvedUnit). u.value) c.in_err-read_functions.ensures.err;
+      found = inr (p.1 ∙ ap Err (p.2 ∙ c.in_err-read_functions.ensures.refusal));
+      kept = rw p.1 tt;
+      calls =
+          leaves_value old new (ap (λ (u : ResolvedUnit). u.value) c.in_err-read_functions.ensures.err)
+          (ap (λ (u : ResolvedUnit). u.calls) c.in_err-read_functions.ensures.err);
+    }
+
+pub returns : goal.returns
+returns g c =
+    let old = c.args.unit.now in
+    let new = c.read_functions.new.self in
+    let read = c.in_ok-read_functions.ensures.ok in
+    let kept = keeps_after old new read in
+    record {
+      value = value_after old new read;
+      found = inl (ap check_functions_of (sym (value_after old new read)) ∙ c.check_kept.ensures kept);
+      kept = on_ok_always c.check_kept.result kept;
+      calls = leaves_functions old new read;
+    }

@@ -1,0 +1,30 @@
+use Rattle.std.proofs.Common.{◌<◌, ◌∙◌, sym, length, subst, arith}
+use Rattle.std.proofs.lemmas.Result.{on_ok_weaker}
+use Rattle.addr2line_lookups.specs.UnitParses.{check_functions_of, ChecksOrNoMemory}
+use Rattle.addr2line_lookups.proofs.CallsLeft.{leaves_set, leaves_both_of}
+use Rattle.addr2line_lookups.proofs.UnitTurns.{turn_there, check_there, functions_there}
+use Rattle.addr2line_lookups.proofs.parsing_functions.parse_functions_at.Goals as goal
+
+pub returns : goal.returns
+returns g c =
+    let us = c.args.units.now.items in
+    let n = c.args.number in
+    let unit = c.index_mut-unit.result.now in
+    let turned = c.skip_load.new.unit in
+    let new = c.check_functions_of.new.unit in
+    let below : n < length us = omega arith in
+    let is = c.index_mut-unit.ensures.value in
+    let value = c.check_functions_of.ensures.value ∙ c.skip_load.ensures.value in
+    record {
+      values = turn_there us n unit new below is value;
+      found =
+          check_there us n unit new below is check_functions_of c.check_functions_of.result
+          (subst (λ v. ChecksOrNoMemory c.check_functions_of.result (check_functions_of v))
+          (sym c.check_functions_of.ensures.value) c.check_functions_of.ensures.found);
+      kept =
+          on_ok_weaker c.check_functions_of.result (functions_there us n unit new below is)
+          c.check_functions_of.ensures.kept;
+      calls =
+          leaves_set us n unit new below is
+          (leaves_both_of unit turned new c.skip_load.ensures.calls c.check_functions_of.ensures.calls);
+    }

@@ -1,0 +1,20 @@
+-- The answer is that of the ranges that are left, the units' values are the same, and calls that are kept stay the
+-- definition's.
+use Rattle.std.proofs.Common.{◌≡◌, length, map}
+use Rattle.addr2line_resolved.specs.PlaceLookups.{location_at}
+use Rattle.addr2line_resolved.specs.Contexts.{ranges_of, lines_of}
+use Rattle.addr2line_resolved.specs.RangeIndexLaws.{answer_from}
+use Rattle.addr2line_resolved.specs.ContextUnits.{unit_places}
+use Rattle.addr2line_resolved.specs.ResolvedUnits.{plain_unit, value_of_unit}
+use Rattle.addr2line_lookups.specs.KeptCalls.{LeavesCalls}
+use Rattle.addr2line_lookups.proofs.settle.find_row.Given as goal
+
+abbrev pub invariant-loop-range : goal.invariant-loop-range
+invariant-loop-range g l =
+    let us = map plain_unit l.fn.units.items in
+    (map value_of_unit l.units.items ≡ map value_of_unit l.fn.units.items)
+    × (location_at ranges_of lines_of us l.probe ≡ answer_from (map unit_places us) l.probe l.covering)
+    × LeavesCalls l.fn.units.items l.units.items
+
+abbrev pub decreases-loop-range : goal.decreases-loop-range
+decreases-loop-range g l = length l.covering

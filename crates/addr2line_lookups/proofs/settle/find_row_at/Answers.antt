@@ -1,0 +1,36 @@
+use Rattle.std.proofs.Common.{◌<◌, length, subst, sym, ap, Result, Option, arith}
+use Rattle.std.proofs.lemmas.Result.{on_ok_weaker}
+use Rattle.addr2line_resolved.specs.Error.{Error}
+use Rattle.addr2line_resolved.specs.Calls.{ReturnsOrNoMemory}
+use Rattle.addr2line_resolved.specs.Lines.{LineRow}
+use Rattle.addr2line_resolved.specs.ResolvedUnits.{ResolvedUnit, value_of_unit}
+use Rattle.addr2line_lookups.specs.KeptCalls.{kept_calls_of}
+use Rattle.addr2line_lookups.proofs.CallsOfUnits.{same_calls, same_chain}
+use Rattle.addr2line_lookups.proofs.CallsLeft.{leaves_set, leaves_value}
+use Rattle.addr2line_lookups.proofs.KeptLines.{keeps_set}
+use Rattle.addr2line_lookups.proofs.UnitRows.{row_here, same_values}
+use Rattle.addr2line_lookups.proofs.settle.find_row_at.Goals as goal
+
+pub returns : goal.returns
+returns g c =
+    let us = c.args.units.now.items in
+    let n = c.args.number in
+    let unit = c.index_mut-unit.result.now in
+    let new = c.find_row.new.self in
+    let below : n < length us = omega arith in
+    let P : Result (Option LineRow) Error → Type 0 = λ x. ReturnsOrNoMemory c.find_row.result x in
+    record {
+      values = same_values us n unit new c.index_mut-unit.ensures.value
+          (ap value_of_unit c.find_row.ensures.unit);
+      found = subst P (sym (row_here us n c.args.probe unit below c.index_mut-unit.ensures.value))
+          c.find_row.ensures.row;
+      kept = on_ok_weaker c.find_row.result (keeps_set us n new) c.find_row.ensures.kept;
+      calls =
+          leaves_set us n unit new below c.index_mut-unit.ensures.value
+          (leaves_value unit new (ap value_of_unit c.find_row.ensures.unit)
+          (ap (λ (u : ResolvedUnit). u.calls) c.find_row.ensures.unit));
+      same = same_calls us n unit below c.index_mut-unit.ensures.value new (ap kept_calls_of c.find_row.ensures.unit);
+      chain =
+          same_chain us n unit below c.index_mut-unit.ensures.value new
+          (ap (λ (u : ResolvedUnit). u.chain) c.find_row.ensures.unit);
+    }

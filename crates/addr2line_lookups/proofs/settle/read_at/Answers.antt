@@ -1,0 +1,27 @@
+use Rattle.std.proofs.Common.{◌<◌, length, ap, arith}
+use Rattle.std.proofs.lemmas.Result.{on_ok_weaker}
+use Rattle.addr2line_resolved.specs.ResolvedUnits.{ResolvedUnit, value_of_unit}
+use Rattle.addr2line_lookups.proofs.CallsLeft.{leaves_set, leaves_value}
+use Rattle.addr2line_lookups.proofs.KeptLines.{keeps_set, keeps_more_set}
+use Rattle.addr2line_lookups.proofs.UnitRows.{same_values}
+use Rattle.addr2line_lookups.proofs.settle.read_at.Goals as goal
+
+pub returns : goal.returns
+returns g c =
+    let us = c.args.units.now.items in
+    let n = c.args.number in
+    let unit = c.index_mut-unit.result.now in
+    let new = c.read_lines.new.self in
+    let below : n < length us = omega arith in
+    record {
+      values =
+          same_values us n unit new c.index_mut-unit.ensures.value
+          (ap value_of_unit c.read_lines.ensures.unit);
+      kept = on_ok_weaker c.read_lines.result (keeps_set us n new) c.read_lines.ensures.kept;
+      more = on_ok_weaker c.read_lines.result (keeps_more_set us n new) c.read_lines.ensures.kept;
+      refusal = c.read_lines.ensures.refusal;
+      calls =
+          leaves_set us n unit new below c.index_mut-unit.ensures.value
+          (leaves_value unit new (ap value_of_unit c.read_lines.ensures.unit)
+          (ap (λ (u : ResolvedUnit). u.calls) c.read_lines.ensures.unit));
+    }

@@ -1,0 +1,16 @@
+use Rattle.std.proofs.Common.{◌∙◌, List, ap, sym, subst}
+use Rattle.addr2line_resolved.specs.ContextUnits.{ordered_ranges}
+use Rattle.addr2line_resolved.specs.ResolvedUnits.{ResolvedUnit}
+use Rattle.addr2line_lookups.specs.KeptCalls.{LeavesCalls}
+use Rattle.addr2line_lookups.proofs.KeptLines.{same_plain}
+use Rattle.addr2line_lookups.proofs.units.Units.find_row.Goals as goal
+
+pub invariant_of-self : goal.invariant_of-self
+invariant_of-self g c =
+    c.self.invariant
+    ∙ ap ordered_ranges
+    (sym (same_plain c.find_row.new.units.items c.self.inside.units.items c.find_row.ensures.values))
+
+pub returns-clause-calls : goal.returns-clause-calls
+returns-clause-calls g c =
+    subst (λ (us : List ResolvedUnit). LeavesCalls us c.find_row.new.units.items) c.self.view_is c.find_row.ensures.calls

@@ -1,0 +1,20 @@
+use Rattle.std.proofs.Common.{List, map, option_map, ◌∙◌, ap, sym, subst, Ok}
+use Rattle.addr2line_resolved.specs.Calls.{ReturnsAsOrNoMemory}
+use Rattle.addr2line_resolved.specs.NumberedRanges.{covering_ranges}
+use Rattle.addr2line_resolved.specs.UnitRange.{UnitRange}
+use Rattle.addr2line_resolved.specs.ContextUnits.{ordered_ranges}
+use Rattle.addr2line_resolved.specs.ResolvedUnits.{ResolvedUnit, plain_unit, value_of_unit}
+use Rattle.addr2line_lookups.specs.Preloads.{loads_at, first_load}
+use Rattle.addr2line_lookups.proofs.units.Units.first_load.Goals as goal
+
+pub returns : goal.returns
+returns g c =
+    let units = c.as_slice.result.now in
+    subst (λ (us : List ResolvedUnit). ReturnsAsOrNoMemory (option_map (λ l. l)) c.first_load.result
+    (Ok (first_load (loads_at (map value_of_unit us)
+    (covering_ranges c.args.probe (ordered_ranges (map plain_unit us)))))))
+    (c.as_slice.ensures.value ∙ c.self.view_is)
+    (subst (λ (rs : List UnitRange). ReturnsAsOrNoMemory (option_map (λ l. l)) c.first_load.result
+    (Ok (first_load (loads_at (map value_of_unit units) (covering_ranges c.args.probe rs)))))
+    (c.self.invariant ∙ ap (λ (us : List ResolvedUnit). ordered_ranges (map plain_unit us)) (sym c.as_slice.ensures.value))
+    c.first_load.ensures)

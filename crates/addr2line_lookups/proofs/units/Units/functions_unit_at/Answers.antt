@@ -1,0 +1,10 @@
+use Rattle.std.proofs.Common.{◌∙◌, ap, List, map}
+use Rattle.addr2line_resolved.specs.ResolvedUnits.{ResolvedUnit, value_of_unit}
+use Rattle.addr2line_lookups.specs.UnitLookups.{unit_at_number}
+use Rattle.addr2line_lookups.proofs.units.Units.functions_unit_at.Goals as goal
+
+pub returns : goal.returns
+returns g c =
+    c.functions_unit_at.ensures
+    ∙ ap (λ (us : List ResolvedUnit). unit_at_number (map value_of_unit us) c.args.number)
+    (c.as_slice.ensures.value ∙ c.self.view_is)

@@ -1,0 +1,39 @@
+use Rattle.std.proofs.Common.{◌∙◌, ap, sym, subst, map, List}
+use Rattle.addr2line_resolved.specs.UnitRange.{UnitRange}
+use Rattle.addr2line_resolved.specs.NumberedRanges.{covering_ranges}
+use Rattle.addr2line_resolved.specs.ContextUnits.{ordered_ranges}
+use Rattle.addr2line_resolved.specs.ResolvedUnits.{ResolvedUnit, plain_unit, value_of_unit}
+use Rattle.addr2line_lookups.specs.KeptCalls.{known_among, HoldCalls}
+use Rattle.addr2line_lookups.specs.UnitLookups.{frames_among, SettlesFrames}
+use Rattle.addr2line_lookups.proofs.KeptLines.{same_plain}
+use Rattle.addr2line_lookups.proofs.units.Units.settle_frames.Goals as goal
+
+pub settle_frames-requires-clause-calls : goal.settle_frames-requires-clause-calls
+settle_frames-requires-clause-calls g c =
+    let s = c.args.supplement_units.now in
+    subst (λ (us : List ResolvedUnit). HoldCalls (known_among us s) us) (sym c.self.view_is) c.requires
+
+pub invariant_of-self : goal.invariant_of-self
+invariant_of-self g c =
+    c.self.invariant
+    ∙ ap ordered_ranges
+    (sym (same_plain c.settle_frames.new.units.items c.self.inside.units.items c.settle_frames.ensures.values))
+
+pub returns : goal.returns
+returns g c =
+    let s = c.args.supplement_units.now in
+    let a = c.args.probe in
+    let new = c.settle_frames.new.units.items in
+    let us = c.self.inside.units.items in
+    let settles : List ResolvedUnit → List UnitRange → Type 0 =
+    λ us rs. SettlesFrames new (frames_among (known_among us s) (map value_of_unit us) a (covering_ranges a rs))
+    c.settle_frames.result in
+    record {
+      values = c.settle_frames.ensures.values ∙ ap (map value_of_unit) c.self.view_is;
+      calls =
+          subst (λ (us : List ResolvedUnit). HoldCalls (known_among us s) new) c.self.view_is
+          c.settle_frames.ensures.calls;
+      found =
+          subst (λ (us : List ResolvedUnit). settles us (ordered_ranges (map plain_unit us))) c.self.view_is
+          (subst (settles us) c.self.invariant c.settle_frames.ensures.found);
+    }

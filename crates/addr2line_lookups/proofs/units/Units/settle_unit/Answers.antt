@@ -1,0 +1,39 @@
+use Rattle.std.proofs.Common.{◌∙◌, ap, sym, subst, map, List}
+use Rattle.addr2line_resolved.specs.UnitRange.{UnitRange}
+use Rattle.addr2line_resolved.specs.NumberedRanges.{covering_ranges}
+use Rattle.addr2line_resolved.specs.ContextUnits.{ordered_ranges}
+use Rattle.addr2line_resolved.specs.ResolvedUnits.{ResolvedUnit, plain_unit, value_of_unit}
+use Rattle.addr2line_lookups.specs.KeptCalls.{known_among, HoldCalls}
+use Rattle.addr2line_lookups.specs.UnitLookups.{unit_among, SettlesUnit}
+use Rattle.addr2line_lookups.proofs.KeptLines.{same_plain}
+use Rattle.addr2line_lookups.proofs.units.Units.settle_unit.Goals as goal
+
+pub settle_unit-requires-clause-calls : goal.settle_unit-requires-clause-calls
+settle_unit-requires-clause-calls g c =
+    let s = c.args.supplement_units.now in
+    subst (λ (us : List ResolvedUnit). HoldCalls (known_among us s) us) (sym c.self.view_is) c.requires
+
+pub invariant_of-self : goal.invariant_of-self
+invariant_of-self g c =
+    c.self.invariant
+    ∙ ap ordered_ranges
+    (sym (same_plain c.settle_unit.new.units.items c.self.inside.units.items c.settle_unit.ensures.values))
+
+pub returns : goal.returns
+returns g c =
+    let s = c.args.supplement_units.now in
+    let a = c.args.probe in
+    let new = c.settle_unit.new.units.items in
+    let us = c.self.inside.units.items in
+    let settles : List ResolvedUnit → List UnitRange → Type 0 =
+    λ us rs. SettlesUnit (map value_of_unit us) (unit_among (known_among us s) (map value_of_unit us) a (covering_ranges a rs))
+    c.settle_unit.result in
+    record {
+      values = c.settle_unit.ensures.values ∙ ap (map value_of_unit) c.self.view_is;
+      calls =
+          subst (λ (us : List ResolvedUnit). HoldCalls (known_among us s) new) c.self.view_is
+          c.settle_unit.ensures.calls;
+      found =
+          subst (λ (us : List ResolvedUnit). settles us (ordered_ranges (map plain_unit us))) c.self.view_is
+          (subst (settles us) c.self.invariant c.settle_unit.ensures.found);
+    }

@@ -1,0 +1,154 @@
+//! Lookups of frames and of units, settled by the units' numbers.
+
+ghost use Rattle.std.specs.Prelude.{◌≡◌, map, option_map, is_some};
+ghost use Rattle.addr2line_resolved.specs.NumberedRanges.{covering_ranges};
+ghost use Rattle.addr2line_resolved.specs.ContextUnits.{ordered_ranges};
+ghost use Rattle.addr2line_resolved.specs.ResolvedUnits.{plain_unit, value_of_unit};
+ghost use Rattle.addr2line_lookups.specs.KeptCalls.{known_among, HoldCalls};
+ghost use Rattle.addr2line_lookups.specs.Preloads.{load_at};
+ghost use Rattle.addr2line_lookups.specs.UnitLookups.{frames_asked, frames_among, SettlesFrames, unit_asked, unit_among, SettlesUnit, unit_at_number};
+
+use crate::frame_place::{FramePlace, find_frames_at};
+use crate::preload::load_at;
+use crate::settle::unit_at;
+use crate::settled::Settled;
+use addr2line_resolved::{Error, Reader, ResUnit, Unit, UnitRanges, UnitRef};
+use std::alloc::Global;
+
+// Whether the load of the unit of a number needs an answer.
+fn waits_at<R: Reader>(units: &[ResUnit<R>], number: usize) -> bool
+    ensures { result ≡ is_some (load_at (map value_of_unit units.now) number) }
+{
+    load_at(units, number).is_some()
+}
+
+// ---- frames
+
+// Where the frames of an address are in the unit of a number, unless it waits for its load.
+fn settle_frames_at<R: Reader>(
+    alloc: Global,
+    units: &mut Vec<ResUnit<R>>,
+    supplement_units: &[Unit<R>],
+    number: usize,
+    probe: u64,
+) -> Result<Settled<FramePlace>, Error>
+    requires { HoldCalls (known_among units.old.items supplement_units.now) units.old.items }
+    ensures values { map value_of_unit units.new.items ≡ map value_of_unit units.old.items }
+    ensures calls { HoldCalls (known_among units.old.items supplement_units.now) units.new.items }
+    ensures found { SettlesFrames units.new.items
+        (frames_asked (known_among units.old.items supplement_units.now)
+        (map value_of_unit units.old.items) probe number) result }
+{
+    if waits_at(units, number) {
+        return Ok(Settled::Waits);
+    }
+    match find_frames_at(alloc, units, supplement_units, number, probe)? {
+        Some(place) => Ok(Settled::Found(place)),
+        None => Ok(Settled::Nothing),
+    }
+}
+
+// Where the frames of an address are: of the units with a range over it, in their order, in the
+// first that has some, unless one is refused or waits for its load before. What is read is kept.
+pub(crate) fn settle_frames<R: Reader>(
+    alloc: Global,
+    units: &mut Vec<ResUnit<R>>,
+    ranges: &UnitRanges,
+    supplement_units: &[Unit<R>],
+    probe: u64,
+) -> Result<Settled<FramePlace>, Error>
+    requires ranges { ranges.now ≡ ordered_ranges (map plain_unit units.old.items) }
+    requires calls { HoldCalls (known_among units.old.items supplement_units.now) units.old.items }
+    ensures values { map value_of_unit units.new.items ≡ map value_of_unit units.old.items }
+    ensures calls { HoldCalls (known_among units.old.items supplement_units.now) units.new.items }
+    ensures found { SettlesFrames units.new.items
+        (frames_among (known_among units.old.items supplement_units.now)
+        (map value_of_unit units.old.items) probe (covering_ranges probe ranges.now)) result }
+{
+    let mut covering = ranges.covering(probe);
+    while let Some(range) = covering.next() {
+        let unit = range.unit;
+        match settle_frames_at(alloc, units, supplement_units, unit, probe)? {
+            Settled::Waits => return Ok(Settled::Waits),
+            Settled::Found(place) => return Ok(Settled::Found(place)),
+            Settled::Nothing => {}
+        }
+    }
+    Ok(Settled::Nothing)
+}
+
+// ---- units
+
+// Whether the unit of a number has a function or a place for an address, unless it waits for its
+// load. One that is refused has none.
+fn settle_unit_at<R: Reader>(
+    alloc: Global,
+    units: &mut Vec<ResUnit<R>>,
+    supplement_units: &[Unit<R>],
+    number: usize,
+    probe: u64,
+) -> Result<Settled<usize>, Error>
+    requires { HoldCalls (known_among units.old.items supplement_units.now) units.old.items }
+    ensures values { map value_of_unit units.new.items ≡ map value_of_unit units.old.items }
+    ensures calls { HoldCalls (known_among units.old.items supplement_units.now) units.new.items }
+    ensures found { SettlesUnit (map value_of_unit units.old.items)
+        (unit_asked (known_among units.old.items supplement_units.now)
+        (map value_of_unit units.old.items) probe number) result }
+{
+    if waits_at(units, number) {
+        return Ok(Settled::Waits);
+    }
+    match find_frames_at(alloc, units, supplement_units, number, probe) {
+        Ok(Some(_)) => Ok(Settled::Found(number)),
+        Ok(None) => Ok(Settled::Nothing),
+        Err(error) => match error {
+            Error::Memory => Err(Error::Memory),
+            _ => Ok(Settled::Nothing),
+        },
+    }
+}
+
+// The number of the first unit, of those with a range over an address, that has a function or a
+// place for it, unless one waits for its load before. What is read is kept.
+pub(crate) fn settle_unit<R: Reader>(
+    alloc: Global,
+    units: &mut Vec<ResUnit<R>>,
+    ranges: &UnitRanges,
+    supplement_units: &[Unit<R>],
+    probe: u64,
+) -> Result<Settled<usize>, Error>
+    requires ranges { ranges.now ≡ ordered_ranges (map plain_unit units.old.items) }
+    requires calls { HoldCalls (known_among units.old.items supplement_units.now) units.old.items }
+    ensures values { map value_of_unit units.new.items ≡ map value_of_unit units.old.items }
+    ensures calls { HoldCalls (known_among units.old.items supplement_units.now) units.new.items }
+    ensures found { SettlesUnit (map value_of_unit units.old.items)
+        (unit_among (known_among units.old.items supplement_units.now)
+        (map value_of_unit units.old.items) probe (covering_ranges probe ranges.now)) result }
+{
+    let mut covering = ranges.covering(probe);
+    while let Some(range) = covering.next() {
+        let unit = range.unit;
+        match settle_unit_at(alloc, units, supplement_units, unit, probe)? {
+            Settled::Waits => return Ok(Settled::Waits),
+            Settled::Found(number) => return Ok(Settled::Found(number)),
+            Settled::Nothing => {}
+        }
+    }
+    Ok(Settled::Nothing)
+}
+
+// The unit that has the functions of the unit of a number, where nothing refuses it.
+pub(crate) fn functions_unit_at<R: Reader>(
+    units: &[ResUnit<R>],
+    number: usize,
+) -> Option<UnitRef<'_, R>>
+    ensures { result ≡ unit_at_number (map value_of_unit units.now) number }
+{
+    match unit_at(units, number) {
+        Some(unit) => match unit.functions_unit() {
+            Ok(holder) => Some(holder.unit),
+            Err(_) => None,
+        },
+        None => None,
+    }
+}

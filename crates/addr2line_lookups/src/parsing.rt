@@ -1,0 +1,48 @@
+//! The lines of all units.
+
+ghost use Rattle.std.specs.Prelude.{◌≡◌, map};
+ghost use Rattle.addr2line_resolved.specs.Calls.{ReturnsOrNoMemory};
+ghost use Rattle.addr2line_resolved.specs.Contexts.{all_lines_or_refusal};
+ghost use Rattle.addr2line_resolved.specs.ResolvedUnits.{plain_unit, value_of_unit};
+ghost use Rattle.addr2line_lookups.specs.KeptCalls.{LeavesCalls};
+ghost use Rattle.addr2line_lookups.specs.KeptUnits.{check_at};
+
+use addr2line_resolved::{Error, Reader, ResUnit};
+use std::alloc::Global;
+
+// Whether the lines of the unit of a number can be read, or else the refusal; they are read and
+// kept.
+fn check_at<R: Reader>(
+    alloc: Global,
+    units: &mut Vec<ResUnit<R>>,
+    number: usize,
+) -> Result<(), Error>
+    ensures values { map value_of_unit units.new.items ≡ map value_of_unit units.old.items }
+    ensures calls { LeavesCalls units.old.items units.new.items }
+    ensures found { ReturnsOrNoMemory result (check_at (map plain_unit units.old.items) number) }
+{
+    if number >= units.len() {
+        return Ok(());
+    }
+    let unit = &mut units[number];
+    unit.check_lines(alloc)
+}
+
+// Whether the lines of all units can be read, or else the first refusal. They are read and kept, up
+// to that refusal.
+pub(crate) fn check_lines<R: Reader>(
+    alloc: Global,
+    units: &mut Vec<ResUnit<R>>,
+) -> Result<(), Error>
+    ensures values { map value_of_unit units.new.items ≡ map value_of_unit units.old.items }
+    ensures calls { LeavesCalls units.old.items units.new.items }
+    ensures found { ReturnsOrNoMemory result
+        (all_lines_or_refusal (map plain_unit units.old.items)) }
+{
+    let mut number = 0;
+    while number < units.len() {
+        check_at(alloc, units, number)?;
+        number += 1;
+    }
+    Ok(())
+}

@@ -1,0 +1,258 @@
+//! The units of a context with their ranges, in the order in which lookups ask them.
+
+ghost use Rattle.std.specs.Prelude.{◌≡◌, Ok, map, option_map, IfOk, OnOk, IfErr};
+ghost use Rattle.addr2line_resolved.specs.Calls.{ReturnsAsOrNoMemory, ReturnsOrNoMemory};
+ghost use Rattle.addr2line_resolved.specs.Error.TheVariants.{Memory};
+ghost use Rattle.addr2line_resolved.specs.PlaceLookups.{stretches_between};
+ghost use Rattle.addr2line_resolved.specs.Contexts.{ranges_of, lines_of, all_lines_or_refusal};
+ghost use Rattle.addr2line_resolved.specs.BorrowedLocations.{location_value};
+ghost use Rattle.addr2line_resolved.specs.Lookups.{one_each};
+ghost use Rattle.addr2line_resolved.specs.NumberedRanges.{covering_ranges};
+ghost use Rattle.addr2line_resolved.specs.ContextUnits.{ordered_ranges};
+ghost use Rattle.addr2line_resolved.specs.ResolvedUnits.{plain_unit, value_of_unit};
+ghost use Rattle.addr2line_lookups.specs.KeptCalls.{LeavesCalls, HoldCalls, known_among};
+ghost use Rattle.addr2line_lookups.specs.LoadAnswers.{AnswersOrNoMemory, answer_at};
+ghost use Rattle.addr2line_lookups.specs.Preloads.{loads_at, load_of_item, first_number, first_load};
+ghost use Rattle.addr2line_lookups.specs.FramePlaces.{LendsFrames};
+ghost use Rattle.addr2line_lookups.specs.UnitLookups.{frames_among, SettlesFrames, unit_among, SettlesUnit, unit_at_number};
+ghost use Rattle.addr2line_resolved.specs.BorrowedFrames.{frames_left};
+ghost use Rattle.addr2line_lookups.specs.KeptUnits.{KeepsAt, KeepsBetween, KeepsFound, FindsRow, location_of_unit_row};
+ghost use Rattle.addr2line_lookups.specs.UnitParses.{WalksOrNoMemory, check_functions_of, check_calls_of};
+
+use crate::frame_place::{FramePlace, frames_at_place};
+use crate::load_answers::answer_at;
+use crate::location_range::LocationRangeIter;
+use crate::lookups::{functions_unit_at, settle_frames, settle_unit};
+use crate::parsing::check_lines;
+use crate::parsing_calls::check_calls;
+use crate::parsing_functions::check_functions;
+use crate::preload::pending_loads;
+use crate::settle::{UnitRow, find_row, place_in, read_between};
+use crate::settled::Settled;
+use crate::token::UnitToken;
+use crate::waiting::{first_load, first_waiting};
+use addr2line_resolved::{
+    Dwarf, Error, FrameIter, Location, Reader, ResUnit, SplitDwarfLoad, Unit, UnitRanges, UnitRef,
+    frame_without_function, ordered_ranges,
+};
+use std::alloc::Global;
+use std::marker::Model;
+use std::rc::Rc;
+
+/// Units by their numbers, and the ranges of all of them.
+#[derive(Drop)]
+pub struct Units<R: Reader> {
+    units: Vec<ResUnit<R>>,
+    /// In the order in which lookups ask them.
+    ranges: UnitRanges,
+}
+
+impl<R: Reader> Model for Units<R> {
+    ghost use Rattle.std.specs.Prelude.{◌≡◌, List, map};
+    ghost use Rattle.addr2line_resolved.specs.ContextUnits.{ordered_ranges};
+    ghost use Rattle.addr2line_resolved.specs.ResolvedUnits.{ResolvedUnit, plain_unit};
+
+    ghost Value = { List ResolvedUnit };
+
+    ghost view = { λ u. u.units.items };
+
+    ghost invariant = { λ u. u.ranges ≡ ordered_ranges (map plain_unit u.units.items) };
+}
+
+impl<R: Reader> Units<R> {
+    // Refused only when out of memory.
+    pub fn new(alloc: Global, units: Vec<ResUnit<R>>) -> Result<Self, Error>
+        ensures ok { IfOk result (λ kept. kept ≡ units.items) }
+        ensures refusal { IfErr result (λ e. e ≡ Memory) }
+    {
+        let ranges = ordered_ranges(alloc, units.as_slice())?;
+        Ok(Units { units, ranges })
+    }
+
+    pub fn as_slice(&self) -> &[ResUnit<R>]
+        ensures { result.now ≡ self.now }
+    {
+        self.units.as_slice()
+    }
+
+    // The row whose place an address has, with its unit's number. The unit's lines are kept.
+    pub fn find_row(&mut self, probe: u64) -> Result<Option<UnitRow>, Error>
+        ensures values { map value_of_unit self.new ≡ map value_of_unit self.old }
+        ensures calls { LeavesCalls self.old self.new }
+        ensures found { FindsRow (map plain_unit self.old) probe result }
+        ensures kept { KeepsFound self.new result }
+    {
+        let alloc = *self.units.allocator();
+        find_row(alloc, &mut self.units, &self.ranges, probe)
+    }
+
+    // The place that a row stands for, in the lines of its unit, which are kept.
+    pub fn place_in(&self, found: UnitRow) -> Option<Location<'_>>
+        ensures { KeepsAt self.now found.unit → option_map location_value result
+            ≡ location_of_unit_row (map plain_unit self.now) found }
+    {
+        place_in(self.units.as_slice(), found)
+    }
+
+    // Reads the lines of the units with a range between two ends, unless they are kept.
+    pub fn read_between(&mut self, low: u64, high: u64) -> Result<(), Error>
+        ensures values { map value_of_unit self.new ≡ map value_of_unit self.old }
+        ensures calls { LeavesCalls self.old self.new }
+        ensures kept { OnOk result (KeepsBetween low high self.new) }
+        ensures refusal { IfErr result (λ e. e ≡ Memory) }
+    {
+        let alloc = *self.units.allocator();
+        read_between(alloc, &mut self.units, &self.ranges, low, high)
+    }
+
+    // The stretches between two ends, of units whose lines are kept.
+    pub fn stretches(&self, low: u64, high: u64) -> LocationRangeIter<'_, R>
+        requires { KeepsBetween low high self.now }
+        ensures { result
+            ≡ stretches_between ranges_of lines_of (map plain_unit self.now) low high }
+    {
+        let alloc = *self.units.allocator();
+        LocationRangeIter::new(alloc, self.units.as_slice(), &self.ranges, low, high)
+    }
+
+    // Whether the lines of all units can be read, or else the first refusal.
+    pub fn check_lines(&mut self) -> Result<(), Error>
+        ensures values { map value_of_unit self.new ≡ map value_of_unit self.old }
+        ensures calls { LeavesCalls self.old self.new }
+        ensures found { ReturnsOrNoMemory result (all_lines_or_refusal (map plain_unit self.old)) }
+    {
+        let alloc = *self.units.allocator();
+        check_lines(alloc, &mut self.units)
+    }
+
+    // Reads the functions of all units, up to the first refusal. A load that is pending where the
+    // walk comes to its unit is answered by no file.
+    pub fn check_functions(&mut self) -> Result<(), Error>
+        ensures walk { WalksOrNoMemory check_functions_of result (map value_of_unit self.old)
+            (map value_of_unit self.new) }
+        ensures calls { LeavesCalls self.old self.new }
+    {
+        let alloc = *self.units.allocator();
+        check_functions(alloc, &mut self.units)
+    }
+
+    // The same, with the calls of each function. Their names are looked for in these units and in
+    // those of the supplement.
+    pub fn check_calls(&mut self, supplement_units: &[Unit<R>]) -> Result<(), Error>
+        requires { HoldCalls (known_among self.old supplement_units.now) self.old }
+        ensures walk { WalksOrNoMemory
+            (check_calls_of (known_among self.old supplement_units.now)) result
+            (map value_of_unit self.old) (map value_of_unit self.new) }
+        ensures calls { HoldCalls (known_among self.new supplement_units.now) self.new }
+    {
+        let alloc = *self.units.allocator();
+        check_calls(alloc, &mut self.units, supplement_units)
+    }
+
+    // The loads that lookups of an address may wait for, that of each unit once.
+    pub fn pending_loads(&self, probe: u64) -> Result<Vec<(SplitDwarfLoad<R>, UnitToken)>, Error>
+        ensures { ReturnsAsOrNoMemory (λ loads. map load_of_item loads.items) result
+            (Ok (one_each (loads_at (map value_of_unit self.now)
+            (covering_ranges probe (ordered_ranges (map plain_unit self.now)))))) }
+    {
+        let alloc = *self.units.allocator();
+        pending_loads(alloc, self.units.as_slice(), &self.ranges, probe)
+    }
+
+    // Answers the load of the unit of a number.
+    pub fn answer_at(&mut self, number: usize, file: Option<Rc<Dwarf<R>>>) -> Result<(), Error>
+        ensures answer { AnswersOrNoMemory result (map value_of_unit self.old)
+            (map value_of_unit self.new)
+            (answer_at (map value_of_unit self.old) number
+            (option_map (λ f. f.value.file) file)) }
+        ensures calls { LeavesCalls self.old self.new }
+    {
+        let alloc = *self.units.allocator();
+        answer_at(alloc, &mut self.units, number, file)
+    }
+
+    // ---- frames and units
+
+    /// Where the frames of an address are: of the units with a range over it, in their order, in
+    /// the first that has some, unless one is refused or waits for its load before.
+    /// What is read is kept.
+    pub fn settle_frames(
+        &mut self,
+        supplement_units: &[Unit<R>],
+        probe: u64,
+    ) -> Result<Settled<FramePlace>, Error>
+        requires { HoldCalls (known_among self.old supplement_units.now) self.old }
+        ensures values { map value_of_unit self.new ≡ map value_of_unit self.old }
+        ensures calls { HoldCalls (known_among self.old supplement_units.now) self.new }
+        ensures found { SettlesFrames self.new
+            (frames_among (known_among self.old supplement_units.now) (map value_of_unit self.old)
+            probe (covering_ranges probe (ordered_ranges (map plain_unit self.old)))) result }
+    {
+        let alloc = *self.units.allocator();
+        settle_frames(
+            alloc,
+            &mut self.units,
+            &self.ranges,
+            supplement_units,
+            probe,
+        )
+    }
+
+    /// The number of the first unit, of those with a range over an address, that has a function or
+    /// a place for it, unless one waits for its load before. What is read is kept.
+    pub fn settle_unit(
+        &mut self,
+        supplement_units: &[Unit<R>],
+        probe: u64,
+    ) -> Result<Settled<usize>, Error>
+        requires { HoldCalls (known_among self.old supplement_units.now) self.old }
+        ensures values { map value_of_unit self.new ≡ map value_of_unit self.old }
+        ensures calls { HoldCalls (known_among self.old supplement_units.now) self.new }
+        ensures found { SettlesUnit (map value_of_unit self.old)
+            (unit_among (known_among self.old supplement_units.now) (map value_of_unit self.old)
+            probe (covering_ranges probe (ordered_ranges (map plain_unit self.old)))) result }
+    {
+        let alloc = *self.units.allocator();
+        settle_unit(
+            alloc,
+            &mut self.units,
+            &self.ranges,
+            supplement_units,
+            probe,
+        )
+    }
+
+    /// The frames at a place that was found last in its unit. Nothing is searched.
+    pub fn frames_at_place(&self, place: FramePlace) -> FrameIter<'_, R>
+        ensures { LendsFrames self.now place (frames_left result) }
+    {
+        match frames_at_place(self.units.as_slice(), place) {
+            Ok(frames) => frames,
+            Err(_) => frame_without_function(None),
+        }
+    }
+
+    /// The unit that has the functions of the unit of a number, where nothing refuses it.
+    pub fn functions_unit_at(&self, number: usize) -> Option<UnitRef<'_, R>>
+        ensures { result ≡ unit_at_number (map value_of_unit self.now) number }
+    {
+        functions_unit_at(self.units.as_slice(), number)
+    }
+
+    /// The number of the first unit with a range over an address whose load needs an answer.
+    pub fn first_waiting(&self, probe: u64) -> Option<usize>
+        ensures { result ≡ first_number (loads_at (map value_of_unit self.now)
+            (covering_ranges probe (ordered_ranges (map plain_unit self.now)))) }
+    {
+        first_waiting(self.units.as_slice(), &self.ranges, probe)
+    }
+
+    /// A copy of the load of that unit, if there is one. The only error is out of memory.
+    pub fn first_load(&self, probe: u64) -> Result<Option<SplitDwarfLoad<R>>, Error>
+        ensures { ReturnsAsOrNoMemory (option_map (λ l. l)) result
+            (Ok (first_load (loads_at (map value_of_unit self.now)
+            (covering_ranges probe (ordered_ranges (map plain_unit self.now)))))) }
+    {
+        first_load(self.units.as_slice(), &self.ranges, probe)
+    }
+}
