@@ -5,6 +5,7 @@ use crate::{
     TableUnit,
 };
 use std::alloc::{AllocError, Global};
+use std::process::Abort;
 use std::test::Fail;
 
 // The number of the refusal, or `read`.
@@ -31,11 +32,23 @@ fn answer_with(
     }
 }
 
+// The answer for table C after an edit: the number of the refusal, or `read`; and what is written
+// in place of what.
+type Edit = (&'static str, &'static str, &'static str);
+
+fn check_edits(rt: &impl Abort, alloc: Global, edits: &[Edit]) -> Result<(), Fail> {
+    let text = table_c(alloc)?;
+    for edit in edits {
+        let (code, old, new) = *edit;
+        let number = answer_with(alloc, &text, old, new)?;
+        assert_eq!(rt; number, code, "{new}");
+    }
+    Ok(())
+}
+
 #[test]
-fn refusals_by_their_numbers(rt: HostRuntime) -> Result<(), Fail> {
-    let text = table_c(rt.alloc())?;
-    // The number, and what is written in place of what.
-    let edits: [(&str, &str, &str); 61] = [
+fn shapes_of_tables(rt: HostRuntime) -> Result<(), Fail> {
+    let edits: [Edit; 16] = [
         ("read", "\"/w\"", "\"/w\""),
         ("B2", "\"units\"", "units"),
         ("B2", "}]}]}", "}]}"),
@@ -52,6 +65,13 @@ fn refusals_by_their_numbers(rt: HostRuntime) -> Result<(), Fail> {
         ("B3", "\"line\":6", "\"line\":18446744073709551616"),
         ("B3", "\"line\":6", "\"line\":6,\"line\":\"six\""),
         ("read", "\"line\":6", "\"line\":\"six\",\"line\":6"),
+    ];
+    check_edits(&rt, rt.alloc(), &edits)
+}
+
+#[test]
+fn flags_and_discriminators(rt: HostRuntime) -> Result<(), Fail> {
+    let edits: [Edit; 13] = [
         ("read", "\"column\":2", "\"column\":2,\"statement\":false"),
         ("read", "\"column\":2", "\"column\":2,\"discriminator\":3"),
         (
@@ -75,6 +95,23 @@ fn refusals_by_their_numbers(rt: HostRuntime) -> Result<(), Fail> {
             "\"line\":6,\"column\":3",
             "\"line\":6,\"column\":3,\"discriminator\":1",
         ),
+        (
+            "B20",
+            "\"column\":2",
+            "\"column\":2,\"discriminator\":4294967296",
+        ),
+        (
+            "B15",
+            "\"column\":2",
+            "\"column\":0,\"discriminator\":4294967296",
+        ),
+    ];
+    check_edits(&rt, rt.alloc(), &edits)
+}
+
+#[test]
+fn ranges_that_break_rules(rt: HostRuntime) -> Result<(), Fail> {
+    let edits: [Edit; 16] = [
         ("B4", "[4112,4128]", "[4128,4128]"),
         ("B5", "[4096,4160]", "[0,4160]"),
         ("B5", "[4096,4160]", "[4096,18446744073709551614]"),
@@ -90,6 +127,18 @@ fn refusals_by_their_numbers(rt: HostRuntime) -> Result<(), Fail> {
         ("B10", "[4112,4128]", "[4112,4152]"),
         ("B11", "[4112,4128]", "[4112,4128],[4120,4124]"),
         ("B12", "\"end\":4144", "\"end\":4164"),
+        (
+            "B4",
+            "\"directory\":\"/w\",\"name\":\"a.c\",\"ranges\":[[4096,4160]]",
+            "\"directory\":\"w\",\"name\":\"a.c\",\"ranges\":[[4160,4096]]",
+        ),
+    ];
+    check_edits(&rt, rt.alloc(), &edits)
+}
+
+#[test]
+fn rows_and_texts_that_break_rules(rt: HostRuntime) -> Result<(), Fail> {
+    let edits: [Edit; 16] = [
         (
             "B13",
             "\"sequences\":[",
@@ -119,26 +168,12 @@ fn refusals_by_their_numbers(rt: HostRuntime) -> Result<(), Fail> {
         ("B17", "\"src\"", "\"\""),
         ("B18", "\"/w\"", "\"w\""),
         ("read", "\"/w\"", "\"C:\\\\w\""),
-        (
-            "B20",
-            "\"column\":2",
-            "\"column\":2,\"discriminator\":4294967296",
-        ),
-        (
-            "B15",
-            "\"column\":2",
-            "\"column\":0,\"discriminator\":4294967296",
-        ),
-        (
-            "B4",
-            "\"directory\":\"/w\",\"name\":\"a.c\",\"ranges\":[[4096,4160]]",
-            "\"directory\":\"w\",\"name\":\"a.c\",\"ranges\":[[4160,4096]]",
-        ),
     ];
-    for (code, old, new) in edits {
-        let number = answer_with(rt.alloc(), &text, old, new)?;
-        assert_eq!(rt; number, code, "{new}");
-    }
+    check_edits(&rt, rt.alloc(), &edits)
+}
+
+#[test]
+fn texts_that_are_no_tables(rt: HostRuntime) -> Result<(), Fail> {
     assert_eq!(rt; answer(rt.alloc(), b""), "B2");
     assert_eq!(rt; answer(rt.alloc(), b"[]"), "B3");
     assert_eq!(rt; answer(rt.alloc(), &[b'['; 100_000]), "B2");
