@@ -4,7 +4,10 @@
 //! - `core BYTES`: the reading core;
 //! - `units BYTES`: units and range lists;
 //! - `lines BYTES`: a line number program;
-//! - `sections TABLE SECTION`: a section of a table, as in `a.json .debug_line`;
+//! - `sections TABLE SECTION`: a section of a table, as in `a.json .debug_line`, in version 4,
+//!   32-bit DWARF, with addresses of eight bytes, little endian;
+//! - `sections TABLE SECTION VERSION BITS SIZE ORDER`: the same in another encoding, as in `a.json
+//!   .debug_line 3 64 4 big`;
 //! - `each BYTES TABLE SECTION`: all of them, one after the other.
 //!
 //! What is timed prints a checksum of each measurement to standard output, and its time to standard
@@ -24,14 +27,16 @@ mod units_bench;
 mod units_bytes;
 mod units_measures;
 
-use crate::sections::refuse;
+use crate::sections::{SectionOf, refuse};
+use gimli_core::Format;
+use linemap_emit::Target;
 use std::io::Write;
 use std::process::ExitCode;
 use std::rt::{Env, Files, Runtime};
 use std::{env, io};
 
 const USAGE: &str = "usage: linemap_bench core BYTES | units BYTES | lines BYTES | sections TABLE \
-                     SECTION | each BYTES TABLE SECTION";
+                     SECTION [VERSION BITS SIZE ORDER] | each BYTES TABLE SECTION";
 
 // What the command line asks for.
 #[derive(Drop)]
@@ -39,8 +44,7 @@ struct Request<'a> {
     core: Option<usize>,
     units: Option<usize>,
     lines: Option<usize>,
-    // A table's file and the name of a section.
-    section: Option<(&'a str, &'a str)>,
+    section: Option<SectionOf<'a>>,
 }
 
 fn main(rt: HostRuntime) -> ExitCode {
@@ -83,7 +87,11 @@ fn request_of(words: &[String]) -> Option<Request<'_>> {
             ..nothing
         }),
         ("sections", [table, section]) => Some(Request {
-            section: Some((table, section)),
+            section: section_of(table, section, target_of("4", "32", "8", "little")?),
+            ..nothing
+        }),
+        ("sections", [table, section, version, bits, size, order]) => Some(Request {
+            section: section_of(table, section, target_of(version, bits, size, order)?),
             ..nothing
         }),
         ("each", [size, table, section]) => {
@@ -92,11 +100,39 @@ fn request_of(words: &[String]) -> Option<Request<'_>> {
                 core: size,
                 units: size,
                 lines: size,
-                section: Some((table, section)),
+                section: section_of(table, section, target_of("4", "32", "8", "little")?),
             })
         }
         _ => None,
     }
+}
+
+fn section_of<'a>(table: &'a str, section: &'a str, target: Target) -> Option<SectionOf<'a>> {
+    Some(SectionOf {
+        table,
+        section,
+        target,
+    })
+}
+
+// The target of these words, if there is one.
+fn target_of(version: &str, bits: &str, size: &str, order: &str) -> Option<Target> {
+    let format = match bits {
+        "32" => Format::Dwarf32,
+        "64" => Format::Dwarf64,
+        _ => return None,
+    };
+    let big_endian = match order {
+        "little" => false,
+        "big" => true,
+        _ => return None,
+    };
+    Target::new(
+        version.parse().ok()?,
+        format,
+        size.parse().ok()?,
+        big_endian,
+    )
 }
 
 // Does what the request asks for, and returns the exit status.
@@ -109,8 +145,8 @@ fn obey<R: Runtime + Files + AllocGlobal, O: Write, E: Write>(
     if time(rt, request).is_err() {
         return refuse(err, "a measurement failed");
     }
-    match request.section {
-        Some((table, section)) => sections::print(rt, table, section, out, err),
+    match &request.section {
+        Some(section) => sections::print(rt, section, out, err),
         None => 0,
     }
 }

@@ -1,7 +1,7 @@
 //! Prints a section of a table's debug information, so that other tools can read what is
 //! emitted.
 
-use gimli_core::{Format, SectionId};
+use gimli_core::SectionId;
 use linemap_emit::{Sections, Table, Target, emit_sections};
 use linemap_output::{fail, write_bytes};
 use std::alloc::Global;
@@ -9,30 +9,37 @@ use std::fs;
 use std::io::Write;
 use std::rt::Files;
 
-/// Prints the section of the table in a file, and gives the exit status.
+/// A section of a table: the table's file, the name of the section, and the target.
+#[derive(Drop)]
+pub struct SectionOf<'a> {
+    pub table: &'a str,
+    pub section: &'a str,
+    pub target: Target,
+}
+
+/// Prints a section, and gives the exit status.
 pub fn print<R: Files + AllocGlobal, O: Write, E: Write>(
     rt: &R,
-    table: &str,
-    section: &str,
+    section: &SectionOf<'_>,
     out: &mut O,
     err: &mut E,
 ) -> u8 {
-    match fs::read(rt, table) {
+    match fs::read(rt, section.table) {
         Ok(text) => print_section(rt.alloc(), &text, section, out, err),
         Err(_) => refuse(err, "the table can't be read"),
     }
 }
 
-// Prints the section of the table in a text.
+// Prints a section of the table in a text.
 fn print_section<O: Write, E: Write>(
     alloc: Global,
     text: &[u8],
-    section: &str,
+    section: &SectionOf<'_>,
     out: &mut O,
     err: &mut E,
 ) -> u8 {
-    match id_of(section) {
-        Some(id) => match sections_of(alloc, text, 4, 8) {
+    match id_of(section.section) {
+        Some(id) => match sections_of(alloc, text, section.target) {
             Ok(sections) => print_bytes(sections.get(id), out, err),
             Err(message) => refuse(err, message),
         },
@@ -47,21 +54,10 @@ fn print_bytes<O: Write, E: Write>(bytes: &[u8], out: &mut O, err: &mut E) -> u8
     }
 }
 
-// What is emitted of the table in a text, in a version with addresses of a size.
-fn sections_of(
-    alloc: Global,
-    text: &[u8],
-    version: u16,
-    address_size: u8,
-) -> Result<Sections, &'static str> {
-    match Target::new(version, Format::Dwarf32, address_size, false) {
-        Some(target) => sections_for(alloc, text, target),
-        None => Err("no such section is emitted"),
-    }
-}
-
-fn sections_for(alloc: Global, text: &[u8], target: Target) -> Result<Sections, &'static str> {
+// What is emitted of the table in a text.
+fn sections_of(alloc: Global, text: &[u8], target: Target) -> Result<Sections, &'static str> {
     match Table::read(alloc, text) {
+        Ok(table) if !table.fits(&target) => Err("the table doesn't fit the addresses"),
         Ok(table) => match emit_sections(alloc, &table, target) {
             Ok(sections) => Ok(sections),
             Err(_) => Err("the table's sections are refused"),

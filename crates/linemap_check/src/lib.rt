@@ -3,6 +3,7 @@
 #![tactic(auto)]
 
 mod calls;
+pub mod fits;
 mod functions;
 mod outside;
 mod overlaps;

@@ -3,3 +3,4 @@ pub mod InstructionBytes
 pub mod ServedEncodings
 pub mod TableEmitterLemmas
 pub mod UnitTextLemmas
+pub mod FittingTables

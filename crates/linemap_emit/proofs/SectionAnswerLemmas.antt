@@ -1,13 +1,12 @@
 -- What is emitted of a sound table that is light enough answers it.
-use Rattle.std.proofs.Common.{◌<◌, ◌^◌, Bool, List, [], map}
+use Rattle.std.proofs.Common.{◌≡◌, ◌<◌, ◌^◌, Bool, true, List, map}
 use Rattle.linemap_emit_fits.specs.Encoding.{Encoding}
 use Rattle.linemap_table.specs.Conditions.{IsSound}
+use Rattle.linemap_table.specs.EncodingFits.{fits}
 use Rattle.linemap_table.specs.TableViews.{unit_part}
 use Rattle.linemap_table.specs.TableWeight.{table_weight}
-use Rattle.linemap_table.specs.Rule.TheVariants.{NoRange}
 use Rattle.linemap_table.specs.TableUnit.{TableUnit}
-use Rattle.linemap_table.proofs.SoundUnits.{sound_rule}
-use Rattle.linemap_emit_laws.proofs.RecordedContexts.{agreeing_units, context_again, places_again}
+use Rattle.linemap_emit_laws.proofs.RecordedContexts.{answers_again}
 use Rattle.linemap_emit_fits.specs.TableEmission.{no_units, emitted_table}
 use Rattle.linemap_emit_fits.specs.FittingUnits.{IsServed, AllUnitsFit}
 use Rattle.linemap_emit_fits.proofs.EmittedUnitSizes.{tables_fit}
@@ -17,24 +16,17 @@ use Rattle.linemap_emit.specs.SectionAnswers.{AreAnswers}
 use Rattle.linemap_emit.proofs.UnitTextLemmas.{all_countable, all_in_utf8}
 
 pub light_fits : (e : Encoding) (is_big : Bool) (units : List TableUnit) → IsServed e → IsSound (map unit_part units)
-    → table_weight (map unit_part units) < 2 ^ 31 → AllUnitsFit e is_big (map unit_part units) no_units
-light_fits e is_big units served sound light =
-    tables_fit e is_big (map unit_part units) served sound (all_countable units) light
+    → fits e.address_size (map unit_part units) ≡ true → table_weight (map unit_part units) < 2 ^ 31
+    → AllUnitsFit e is_big (map unit_part units) no_units
+light_fits e is_big units served sound fitting light =
+    tables_fit e is_big (map unit_part units) served sound fitting (all_countable units) light
 
 pub light_answers : (e : Encoding) (is_big : Bool) (units : List TableUnit) → IsServed e → IsSound (map unit_part units)
-    → table_weight (map unit_part units) < 2 ^ 31
+    → fits e.address_size (map unit_part units) ≡ true → table_weight (map unit_part units) < 2 ^ 31
     → AreAnswers is_big (emitted_sections e is_big (map unit_part units)) (map unit_part units)
-light_answers e is_big units served sound light = λ s wide h.
+light_answers e is_big units served sound fitting light = λ s wide h.
     let us = map unit_part units in
-    let entries = (emitted_table e is_big us).units in
     let t =
     emission_recorded e is_big us s served wide (all_in_utf8 units)
-    (light_fits e is_big units served sound light) h in
-    record {
-      found = record {
-        units = agreeing_units e is_big s us entries t.units_are_recorded 0 t.info_first;
-        supplement_units = [];
-      };
-      is_context = context_again e is_big s us entries t (sound_rule us NoRange sound);
-      places = λ a. places_again e is_big s us entries t a sound;
-    }
+    (light_fits e is_big units served sound fitting light) h in
+    answers_again e is_big s us (emitted_table e is_big us).units t sound

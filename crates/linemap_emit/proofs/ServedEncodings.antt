@@ -1,24 +1,26 @@
 -- What holds in the encodings that are served.
-use Rattle.std.proofs.Common.{◌≡◌, ℕ, ◌<◌, ◌^◌, true, List, [], ◌∷◌, refl, sym, ap, subst, arith}
-use Rattle.std.specs.Prelude.{All, IsTrue}
+use Rattle.std.proofs.Common.{◌≡◌, ℕ, ◌<◌, ◌≤◌, ◌^◌, Bool, true, not, ◌==◌, ◌&&◌, ◌||◌, nat_le, List, [], ◌∷◌, refl, ap, inl, inr, arith}
+use Rattle.std.specs.Prelude.{All}
+use Rattle.std.proofs.lemmas.Bool.{and_parts, or_cases, eqb-true, leb-true}
 use Rattle.linemap_emit_fits.specs.Encoding.{Encoding}
-use Rattle.linemap_emit_fits.specs.Format.{Format}
 use Rattle.linemap_emit_fits.specs.FormatSizes.{word_size}
 use Rattle.linemap_emit_fits.specs.NumberParsers.{is_address_size}
 use Rattle.linemap_emit_fits.specs.RowPieces.{IsBuildable}
 use Rattle.linemap_emit_fits.specs.BuiltRows.{first_row, follows}
+use Rattle.linemap_table.specs.EncodingFits.{is_target}
+use Rattle.linemap_table.specs.EmissionTargets.{encoding_of}
+use Rattle.linemap_table.specs.TargetEncodings.{is_64_bit}
+use Rattle.linemap_table.specs.declared.target.Target.{Target}
 use Rattle.linemap_table.specs.TableParts.{SequencePart}
 use Rattle.linemap_emit_fits.specs.Entry.{Entry}
 use Rattle.linemap_emit_fits.specs.EmittedEntries.{EmittedValue, strp, sec_offset, addr, udata, EmittedAttribute, Fits, AllFit, attributes_of}
 use Rattle.linemap_emit_fits.specs.EmittedUnits.{IsWritten}
-use Rattle.linemap_emit_fits.specs.EmittedRows.{AllCanBuild, emitted_rules, emitted_sequences}
+use Rattle.linemap_emit_fits.specs.EmittedRows.{emitted_rules, emitted_sequences}
 use Rattle.linemap_emit_fits.specs.SoundSequences.{CanEmitSequences}
 use Rattle.linemap_emit_fits.proofs.EmittedRowsBuilt.{sequences_follow}
 use Rattle.linemap_emit_fits.specs.FittingUnits.{IsServed}
 use Rattle.linemap_emit_fits.specs.NumberBytes.{length_limit}
-
-pub served_address_size : (e : Encoding) → IsServed e → is_address_size e.address_size ≡ true
-served_address_size e served = ap is_address_size served.has_8_bytes
+use Rattle.linemap_emit_laws.proofs.EmittedProgramLemmas.{length_fits, word_is_small}
 
 pub is_written : (e : Encoding) → IsServed e → IsWritten e
 is_written e served =
@@ -26,12 +28,12 @@ is_written e served =
     record {
       not_before_2 = served.not_before_2;
       not_after_5 = omega (arith, low);
-      has_address_size = served_address_size e served;
+      has_address_size = served.has_address_size;
     }
 
 pub is_buildable : (e : Encoding) → IsServed e → IsBuildable (emitted_rules e)
 is_buildable e served = record {
-  has_address_size = subst (λ (n : ℕ). IsTrue (is_address_size n)) (sym served.has_8_bytes) refl;
+  has_address_size = served.has_address_size;
   has_bytes = omega arith;
   has_operations = omega arith;
   base_is_low = search tt;
@@ -40,18 +42,16 @@ is_buildable e served = record {
   first_special = refl;
 }
 
-pub all_follow : (e : Encoding) (ss : List SequencePart) → IsServed e → CanEmitSequences ss
+pub all_follow : (e : Encoding) (ss : List SequencePart) → CanEmitSequences e.address_size ss
     → follows (emitted_rules e) (first_row (emitted_rules e)) (emitted_sequences ss) ≡ true
-all_follow e ss served can =
-    sequences_follow e ss (subst (λ (n : ℕ). AllCanBuild n ss) (sym served.has_8_bytes) can.can_build)
+all_follow e ss can = sequences_follow e ss can.can_build
 
 -- small lengths can be written
-pub below_limit : (e : Encoding) (n : ℕ) → IsServed e → n < 2 ^ 31 → n < length_limit e.format
-below_limit e n served small = subst (λ (f : Format). n < length_limit f) (sym served.is_32_bit) (omega (arith, small))
+pub below_limit : (e : Encoding) (n : ℕ) → n < 2 ^ 31 → n < length_limit e.format
+below_limit e n small = length_fits e.format n small
 
-pub below_word : (e : Encoding) (n : ℕ) → IsServed e → n < 2 ^ 31 → n < 256 ^ word_size e.format
-below_word e n served small =
-    subst (λ (f : Format). n < 256 ^ word_size f) (sym served.is_32_bit) (omega (arith, small))
+pub below_word : (e : Encoding) (n : ℕ) → n < 2 ^ 31 → n < 256 ^ word_size e.format
+below_word e n small = word_is_small e.format n small
 
 -- values that fit below a limit fit below a larger one
 value_fits : (e : Encoding) (name : ℕ) (v : EmittedValue) → Fits (2 ^ 31) e name v → Fits (2 ^ 64) e name v
@@ -67,3 +67,32 @@ values_fit e (s ∷ ss) h = (value_fits e s.name s.value h.0, values_fit e ss h.
 pub entries_fit : (e : Encoding) (xs : List Entry) → All (λ x. AllFit (2 ^ 31) e (attributes_of x)) xs
     → All (λ x. AllFit (2 ^ 64) e (attributes_of x)) xs
 entries_fit e xs h = λ k d below. values_fit e _ (h k d below)
+
+-- ---- the targets that are served
+
+-- the version and the size of addresses
+not_before_2 : (version : ℕ) (b : Bool)
+    → (((version == 2) && b) || (nat_le 3 version && nat_le version 5)) ≡ true → 2 ≤ version
+not_before_2 version b h = elim (or_cases ((version == 2) && b) (nat_le 3 version && nat_le version 5) h) [
+  | inl old ↦ let two = eqb-true version 2 (and_parts (version == 2) b old).0 in omega arith
+  | inr new ↦ let three = leb-true 3 version (and_parts (nat_le 3 version) (nat_le version 5) new).0 in omega arith
+]
+
+is_size : (size : ℕ) → ((size == 4) || (size == 8)) ≡ true → is_address_size size ≡ true
+is_size size h = elim (or_cases (size == 4) (size == 8) h) [
+  | inl four ↦ ap is_address_size (eqb-true size 4 four)
+  | inr eight ↦ ap is_address_size (eqb-true size 8 eight)
+]
+
+pub target_served : (t : Target) → IsServed (encoding_of t)
+target_served t =
+    let e = encoding_of t in
+    let parts = and_parts (is_target e.version (is_64_bit e.format) e.address_size) (nat_le e.version 4) t.served in
+    let target =
+    and_parts (((e.version == 2) && not (is_64_bit e.format)) || (nat_le 3 e.version && nat_le e.version 5))
+    ((e.address_size == 4) || (e.address_size == 8)) parts.0 in
+    record {
+      not_before_2 = not_before_2 e.version (not (is_64_bit e.format)) target.0;
+      not_after_4 = leb-true e.version 4 parts.1;
+      has_address_size = is_size e.address_size target.1;
+    }

@@ -1,18 +1,20 @@
 -- A unit more, and what holds before it.
-use Rattle.std.proofs.Common.{◌≡◌, ℕ, ◌<◌, ◌^◌, Bool, true, false, List, [], ◌∷◌, ◌++◌, length, refl, sym, ap, subst, ◌∙◌, append-nil}
+use Rattle.std.proofs.Common.{◌≡◌, ℕ, ◌+◌, ◌<◌, ◌^◌, arith, Bool, true, false, List, [], ◌∷◌, ◌++◌, length, refl, sym, ap, subst, ◌∙◌, append-nil}
 use Rattle.std.specs.Prelude.{All}
 use Rattle.std.proofs.lemmas.Grind.{flat_map-append}
 use Rattle.linemap_emit_fits.specs.Encoding.{Encoding}
 use Rattle.linemap_emit_fits.specs.OutputBytes.{WriterContents}
 use Rattle.linemap_table.specs.TableParts.{Calls, no_calls, more_calls, FunctionPart, UnitPart}
 use Rattle.linemap_emit_fits.specs.Entry.{Entry}
-use Rattle.linemap_emit_fits.specs.EmittedEntries.{AllFit, attributes_of}
+use Rattle.linemap_emit_fits.specs.EmittedEntries.{AllFit, attributes_of, spelled_declarations}
+use Rattle.linemap_emit_fits.specs.EmittedSections.{sections_of}
+use Rattle.linemap_emit_fits.specs.StringSections.{section_of}
 use Rattle.linemap_emit_fits.specs.EmittedUnits.{spelled_unit_body, spelled_unit, spelled_units}
 use Rattle.linemap_emit_fits.specs.UnitEmission.{EmittedUnit, has_calls, with_end_of_children, with_call, with_calls, with_function_entry, with_function, with_functions, with_unit_entry, with_unit, without_entries}
-use Rattle.linemap_emit_fits.specs.TableEmission.{EmittedTable, before_entries, after_entries, with_emitted_unit, with_emitted_units}
+use Rattle.linemap_emit_fits.specs.TableEmission.{EmittedTable, no_units, emitted_table, before_entries, after_entries, with_emitted_unit, with_emitted_units}
 use Rattle.linemap_emit_fits.specs.FittingUnits.{IsServed, UnitFits, AllUnitsFit}
 use Rattle.linemap_emit.specs.declared.table_emitter.TableEmitter.{TableEmitter}
-use Rattle.linemap_emit.specs.TableEmitterSteps.{bytes_in_order, unit_after_entries, with_unit_added, HoldsTable, CanAddUnit, ProgramFits}
+use Rattle.linemap_emit.specs.TableEmitterSteps.{bytes_in_order, unit_after_entries, with_unit_added, HoldsTable, CanAddUnit, ProgramFits, sections_in}
 
 -- ---- what entries leave as it is
 
@@ -197,3 +199,27 @@ all_later e is_big u us st = refl
 pub none_left : (e : Encoding) (is_big : Bool) (st : EmittedTable) → with_emitted_units e is_big [] st ≡ st
 unfolding with_emitted_units
 none_left e is_big st = refl
+
+-- ---- the sections
+
+-- their lists, with a header
+lists_after : (e : Encoding) (is_big : Bool) (us : List UnitPart) (st : EmittedTable) → AllUnitsFit e is_big us st
+    → 8 + length st.ranges < 2 ^ 31 → 8 + length (with_emitted_units e is_big us st).ranges < 2 ^ 31
+unfolding with_emitted_units AllUnitsFit
+lists_after e is_big [] st fit small = small
+lists_after e is_big (u ∷ us) st fit small =
+    lists_after e is_big us (with_emitted_unit e is_big u st) fit.1 fit.0.lists_small
+
+pub lists_small : (e : Encoding) (is_big : Bool) (us : List UnitPart) (s : TableEmitter)
+    → AllUnitsFit e is_big us no_units → HoldsTable e is_big (emitted_table e is_big us) s
+    → 8 + length s.emitter.ranges.bytes < 2 ^ 31
+lists_small e is_big us s fit h =
+    subst (λ (x : EmittedUnit). 8 + length x.ranges.bytes < 2 ^ 31) (sym h.emitter_is)
+    (lists_after e is_big us no_units fit (omega arith))
+
+-- all of them
+pub sections_held : (e : Encoding) (is_big : Bool) (st : EmittedTable) (s : TableEmitter) → HoldsTable e is_big st s
+    → sections_in s (spelled_declarations s.encoding) (section_of s.emitter.texts) ≡ sections_of e is_big st
+sections_held e is_big st s h =
+    ap (λ (x : TableEmitter). sections_in x (spelled_declarations x.encoding) (section_of x.emitter.texts))
+    (emitter_as e is_big st s h)

@@ -8,6 +8,8 @@ pub use Rattle.linemap_table.specs.AnswerTexts
 pub use Rattle.linemap_table.specs.ChainLaws
 pub use Rattle.linemap_table.specs.Conditions
 pub use Rattle.linemap_table.specs.EncodingFits
+pub use Rattle.linemap_table.specs.EmissionTargets
+pub use Rattle.linemap_table.specs.TargetEncodings
 pub use Rattle.linemap_table.specs.FileText
 pub use Rattle.linemap_table.specs.FrameLaws
 pub use Rattle.linemap_table.specs.Meaning
@@ -23,7 +25,6 @@ pub use Rattle.linemap_table.specs.TableErrorCodes
 pub use Rattle.linemap_table.specs.TableInText
 pub use Rattle.linemap_table.specs.TableUnits
 pub use Rattle.linemap_table.specs.declared.error.TableError
-pub mod EmissionTargets
 pub mod EmitErrorCodes
 pub mod SectionBytesById
 pub mod TableEmitterSteps

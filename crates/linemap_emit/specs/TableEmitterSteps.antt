@@ -1,5 +1,5 @@
 -- The state of the emitter of a table's units, and what a unit adds to it.
-use Rattle.std.specs.Prelude.{◌≡◌, ℕ, ◌<◌, ◌^◌, Bool, List, length, Ok}
+use Rattle.std.specs.Prelude.{◌≡◌, ℕ, ◌<◌, ◌^◌, nat_le, Bool, List, [], length, Ok, if◌then◌else◌}
 use Rattle.linemap_emit_fits.specs.Encoding.{Encoding}
 use Rattle.linemap_emit_fits.specs.OutputBytes.{WriterContents, append}
 use Rattle.linemap_table.specs.TableParts.{UnitPart}
@@ -9,6 +9,8 @@ use Rattle.linemap_emit_fits.specs.EmittedHeaders.{spelled_header, spelled_progr
 use Rattle.linemap_emit_fits.specs.SoundSequences.{CanEmitSequences}
 use Rattle.linemap_emit_fits.specs.EmittedPrograms.{directories_of, files_of}
 use Rattle.linemap_emit_fits.specs.TableEmission.{EmittedTable, instructions_of, program_of, before_entries}
+use Rattle.linemap_emit_fits.specs.EmittedRanges.{spelled_lists}
+use Rattle.linemap_emit_fits.specs.EmittedSections.{SectionBytes}
 use Rattle.linemap_emit_fits.specs.FittingUnits.{IsServed, UnitFits}
 use Rattle.linemap_emit.specs.declared.table_emitter.TableEmitter.{TableEmitter}
 
@@ -38,6 +40,18 @@ pub record HoldsTable (e : Encoding) (is_big : Bool) (st : EmittedTable) (s : Ta
     pub units_are : s.info ≡ bytes_in_order is_big (spelled_units e is_big st.units)
     pub emitter_is : s.emitter ≡ before_entries e is_big st
 
+-- the emitter's sections, with those of declarations and of texts
+abbrev pub sections_in : TableEmitter → List ℕ → List ℕ → SectionBytes
+sections_in s declarations texts = record {
+  debug_abbrev = declarations;
+  debug_info = s.info.bytes;
+  debug_line = s.lines.bytes;
+  debug_ranges = if nat_le s.encoding.version 4 then s.emitter.ranges.bytes else [];
+  debug_rnglists = if nat_le s.encoding.version 4 then []
+      else spelled_lists s.encoding s.emitter.ranges.is_big s.emitter.ranges.bytes;
+  debug_str = texts;
+}
+
 -- A unit can be added after others.
 pub record CanAddUnit (u : UnitPart) (s : TableEmitter) : Type 0 where
   pub before : EmittedTable
@@ -48,7 +62,7 @@ pub record CanAddUnit (u : UnitPart) (s : TableEmitter) : Type 0 where
 
 -- A unit's line number program can be written.
 pub record ProgramFits (e : Encoding) (is_big : Bool) (u : UnitPart) : Type 0 where
-  pub can_emit_sequences : CanEmitSequences u.sequences
+  pub can_emit_sequences : CanEmitSequences e.address_size u.sequences
   pub instructions : List ℕ
   pub instructions_are : instructions_of e is_big u ≡ Ok instructions
   pub header_small : length (spelled_header e.version (directories_of u) (files_of u)) < 2 ^ 31

@@ -5,14 +5,12 @@ mod error;
 mod sections;
 mod table_emitter;
 mod table_sections;
-mod target;
 
 pub use error::EmitError;
 pub use linemap_table::error::TableError;
 pub use linemap_table::{
     Rule, Table, TableCall, TableFile, TableFunction, TableRange, TableRow, TableSequence,
-    TableUnit, read_address,
+    TableUnit, Target, read_address,
 };
 pub use sections::Sections;
 pub use table_sections::emit_sections;
-pub use target::Target;

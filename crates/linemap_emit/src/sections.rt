@@ -12,6 +12,7 @@ pub struct Sections {
     debug_info: Vec<u8>,
     debug_line: Vec<u8>,
     debug_ranges: Vec<u8>,
+    debug_rnglists: Vec<u8>,
     debug_str: Vec<u8>,
 }
 
@@ -25,6 +26,7 @@ impl Model for Sections {
       debug_info = s.debug_info.items;
       debug_line = s.debug_line.items;
       debug_ranges = s.debug_ranges.items;
+      debug_rnglists = s.debug_rnglists.items;
       debug_str = s.debug_str.items;
     } };
 }
@@ -38,6 +40,7 @@ impl Sections {
         debug_info: Vec<u8>,
         debug_line: Vec<u8>,
         debug_ranges: Vec<u8>,
+        debug_rnglists: Vec<u8>,
         debug_str: Vec<u8>,
     ) -> Self
         ensures { result
@@ -46,6 +49,7 @@ impl Sections {
               debug_info = debug_info.items;
               debug_line = debug_line.items;
               debug_ranges = debug_ranges.items;
+              debug_rnglists = debug_rnglists.items;
               debug_str = debug_str.items;
             } }
     {
@@ -54,6 +58,7 @@ impl Sections {
             debug_info,
             debug_line,
             debug_ranges,
+            debug_rnglists,
             debug_str,
         }
     }
@@ -67,6 +72,7 @@ impl Sections {
             SectionId::DebugInfo => &self.debug_info,
             SectionId::DebugLine => &self.debug_line,
             SectionId::DebugRanges => &self.debug_ranges,
+            SectionId::DebugRngLists => &self.debug_rnglists,
             SectionId::DebugStr => &self.debug_str,
             _ => &[],
         }

@@ -1,9 +1,11 @@
 //! A table's units, emitted one after the other.
 
-ghost use Rattle.std.specs.Prelude.{◌≡◌, ◌<◌, ◌^◌, All, map, length, Ok, IfOk, IfErr, IsOk, OnOk};
+ghost use Rattle.std.specs.Prelude.{◌≡◌, ◌<◌, ◌+◌, ◌^◌, nat_le, [], All, map, length, Ok, IfOk, IfErr, IsOk, OnOk, if◌then◌else◌};
 ghost use Rattle.linemap_emit_fits.specs.NumberBytes.{constant_of};
 ghost use Rattle.linemap_emit_fits.specs.WriteError.TheVariants.{Memory};
 ghost use Rattle.linemap_emit_fits.specs.BuiltRows.{first_row};
+ghost use Rattle.linemap_emit_fits.specs.EmittedRanges.{spelled_lists};
+ghost use Rattle.linemap_emit_fits.specs.NumberBytes.{length_limit};
 ghost use Rattle.linemap_emit_fits.specs.EntryBytes.{entries_bytes};
 ghost use Rattle.linemap_emit_fits.specs.StringSections.{section_of};
 ghost use Rattle.linemap_table.specs.TableViews.{sequence_part, unit_part};
@@ -15,18 +17,17 @@ ghost use Rattle.linemap_emit_fits.specs.EmittedRows.{emitted_rules, emitted_seq
 ghost use Rattle.linemap_emit_fits.specs.SoundSequences.{CanEmitSequences};
 ghost use Rattle.linemap_emit_fits.specs.TableEmission.{program_of, no_units, emitted_table};
 ghost use Rattle.linemap_emit_fits.specs.FittingUnits.{IsServed, AllUnitsFit};
-ghost use Rattle.linemap_emit.specs.EmissionTargets.{encoding_of, is_big_of};
+ghost use Rattle.linemap_table.specs.EmissionTargets.{encoding_of, is_big_of};
 ghost use Rattle.linemap_emit_fits.specs.ByteOrders.{is_big_endian};
 ghost use Rattle.linemap_emit_fits.specs.EmittedSections.{emitted_sections};
-ghost use Rattle.linemap_emit.specs.TableEmitterSteps.{CanAddUnit, ProgramFits, HoldsTable, with_unit_added};
+ghost use Rattle.linemap_emit.specs.TableEmitterSteps.{CanAddUnit, ProgramFits, HoldsTable, sections_in, with_unit_added};
 
 use crate::sections::Sections;
-use crate::target::Target;
 use linemap_emit_fits::{
     Encoding, EndianVec, Error, LineEncoding, LineRules, RunTimeEndian, UnitEmitter, Writer,
-    entries_of, write_declarations, write_entries, write_program, write_unit,
+    entries_of, write_declarations, write_entries, write_lists_header, write_program, write_unit,
 };
-use linemap_table::{TableSequence, TableUnit};
+use linemap_table::{TableSequence, TableUnit, Target};
 use std::alloc::Global;
 
 /// What is emitted so far: line number programs, units, and the texts and range lists that their
@@ -59,7 +60,8 @@ fn instructions(
     sequences: &[TableSequence],
 ) -> Result<EndianVec<RunTimeEndian>, Error>
     requires served { IsServed encoding }
-    requires emits { CanEmitSequences (map sequence_part sequences.now) }
+    requires emits { CanEmitSequences encoding.address_size
+        (map sequence_part sequences.now) }
     requires spelled { IsOk
         (entries_bytes constant_of (is_big_endian endian) (emitted_rules encoding)
         (first_row (emitted_rules encoding))
@@ -93,7 +95,7 @@ fn write_lines(
 }
 
 // Writes the entries of a unit whose line number program is at an offset.
-#[tactic(auto, using(crate::proofs::ServedEncodings::is_written, crate::proofs::ServedEncodings::served_address_size, crate::proofs::ServedEncodings::entries_fit, crate::proofs::ServedEncodings::below_limit))]
+#[tactic(auto, using(crate::proofs::ServedEncodings::is_written, crate::proofs::ServedEncodings::entries_fit, crate::proofs::ServedEncodings::below_limit))]
 fn write_info(
     alloc: Global,
     w: &mut EndianVec<RunTimeEndian>,
@@ -176,24 +178,52 @@ impl TableEmitter {
     }
 
     // All sections, with those of the declarations and of the texts.
-    fn into_sections(self, declarations: Vec<u8>, texts: Vec<u8>) -> Sections
-        ensures { result
-            ≡ record {
-              debug_abbrev = declarations.items;
-              debug_info = self.info.bytes;
-              debug_line = self.lines.bytes;
-              debug_ranges = self.emitter.ranges.bytes;
-              debug_str = texts.items;
-            } }
+    #[tactic(auto, using(crate::proofs::ServedEncodings::below_limit))]
+    fn into_sections(
+        self,
+        alloc: Global,
+        declarations: Vec<u8>,
+        texts: Vec<u8>,
+    ) -> Result<Sections, Error>
+        requires { 8 + length self.emitter.ranges.bytes < 2 ^ 31 }
+        ensures ok { IfOk result (λ s. s ≡ sections_in self declarations.items texts.items) }
+        ensures refusal { IfErr result (λ e. e ≡ Memory) }
     {
-        Sections::new(
+        let encoding = self.encoding;
+        let lists = self.emitter.into_ranges();
+        let (ranges, rnglists) = list_sections(alloc, encoding, lists)?;
+        Ok(Sections::new(
             declarations,
             self.info.into_vec(),
             self.lines.into_vec(),
-            self.emitter.into_ranges().into_vec(),
+            ranges,
+            rnglists,
             texts,
-        )
+        ))
     }
+}
+
+// The sections of range lists up to version 4, and from version 5 on.
+fn list_sections(
+    alloc: Global,
+    encoding: Encoding,
+    lists: EndianVec<RunTimeEndian>,
+) -> Result<(Vec<u8>, Vec<u8>), Error>
+    requires { 8 + length lists.bytes < length_limit encoding.format }
+    ensures ranges { IfOk result (λ r. r.0.items
+        ≡ (if nat_le encoding.version 4 then lists.bytes else [])) }
+    ensures rnglists { IfOk result (λ r. r.1.items
+        ≡ (if nat_le encoding.version 4 then []
+        else spelled_lists encoding lists.is_big lists.bytes)) }
+    ensures refusal { IfErr result (λ e. e ≡ Memory) }
+{
+    if encoding.version <= 4 {
+        return Ok((lists.into_vec(), Vec::new(alloc)));
+    }
+    let mut w = EndianVec::new(alloc, lists.endian());
+    write_lists_header(&mut w, encoding, lists.len() as u64)?;
+    w.write(lists.slice())?;
+    Ok((Vec::new(alloc), w.into_vec()))
 }
 
 // Emits the units, one after the other.
@@ -217,6 +247,7 @@ fn emitter_of_units(
 }
 
 // The sections of units that fit. Refused only when out of memory.
+#[tactic(auto, using(crate::proofs::TableEmitterLemmas::lists_small, crate::proofs::TableEmitterLemmas::sections_held))]
 pub(crate) fn emit_units(
     alloc: Global,
     units: &[TableUnit],
@@ -231,5 +262,5 @@ pub(crate) fn emit_units(
     let emitter = emitter_of_units(alloc, target, units)?;
     let declarations = emitter.declarations(alloc)?;
     let texts = emitter.texts(alloc)?;
-    Ok(emitter.into_sections(declarations, texts))
+    emitter.into_sections(alloc, declarations, texts)
 }

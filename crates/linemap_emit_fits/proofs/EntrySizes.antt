@@ -1,5 +1,6 @@
 -- What is emitted of a unit's entries stays within a bound.
-use Rattle.std.proofs.Common.{◌≡◌, ℕ, ◌+◌, ◌*◌, ◌<◌, ◌≤◌, ◌^◌, Bool, true, false, List, [], ◌∷◌, ◌++◌, length, map, sum_by, refl, sym, ap, subst, ◌∙◌, arith}
+use Rattle.std.proofs.Common.{◌≡◌, ℕ, ◌+◌, ◌*◌, ◌<◌, ◌≤◌, ◌^◌, Bool, true, false, List, [], ◌∷◌, ◌++◌, length, map, sum_by, refl, ap, ◌∙◌, arith}
+use Rattle.std.proofs.Math.Nat.{one-le-pow}
 use Rattle.std.proofs.lemmas.List.{length-append, length-map}
 use Rattle.std.proofs.lemmas.List.Elements.{All-push}
 use Rattle.std.proofs.lemmas.List.Concat.{flat_map-append}
@@ -19,7 +20,7 @@ use Rattle.linemap_emit_units.specs.EmittedRanges.{spelled_ranges}
 use Rattle.linemap_emit_units.specs.UnitEmission.{EmittedUnit, text_offset, with_name, with_list, list_offset, with_entry, has_calls, with_end_of_children, with_call, with_calls, with_function_entry, with_function, with_functions, with_unit_entry, with_unit}
 use Rattle.linemap_emit_fits.specs.EmissionBounds.{IsUnitBounded}
 use Rattle.linemap_emit_fits.proofs.StringSectionSizes.{section_grows, offset_within}
-use Rattle.linemap_emit_fits.proofs.EntryListSizes.{ranges_few, entry_few}
+use Rattle.linemap_emit_fits.proofs.EntryListSizes.{start_few, ranges_few, entry_few}
 use Rattle.linemap_emit_units.specs.LookupAgreement.{lookup_range}
 
 -- offsets below 2^31 fit their words
@@ -60,14 +61,14 @@ abbrev pub unit_most : UnitPart → ℕ
 unit_most u =
     200 + 64 * length u.ranges + 4 * length u.directory + 4 * length u.name + sum_by function_weight u.functions
 
-module _ (e : Encoding) (is_big : Bool) (eight : e.address_size ≡ 8) where
+module _ (e : Encoding) (is_big : Bool) (narrow : e.address_size ≤ 8) where
   pub bound_raised : {m n : ℕ} {st : EmittedUnit} → IsUnitBounded e is_big m st → m ≤ n → IsUnitBounded e is_big n st
   bound_raised {m} {n} {st} k h =
       let t = k.texts_few in
       let r = k.ranges_few in
       let b = k.entries_few in
       record {
-        has_8_bytes = k.has_8_bytes;
+        size_few = k.size_few;
         texts_few = omega arith;
         ranges_few = omega arith;
         entries_few = omega arith;
@@ -83,7 +84,7 @@ module _ (e : Encoding) (is_big : Bool) (eight : e.address_size ≡ 8) where
       let r = k.ranges_few in
       let b = k.entries_few in
       record {
-        has_8_bytes = k.has_8_bytes;
+        size_few = k.size_few;
         texts_few = omega arith;
         ranges_few = omega arith;
         entries_few = omega arith;
@@ -99,10 +100,10 @@ module _ (e : Encoding) (is_big : Bool) (eight : e.address_size ≡ 8) where
       let b = k.entries_few in
       let list = spelled_ranges st.encoding st.ranges.is_big (map lookup_range rs) in
       let grown : length (st.ranges.bytes ++ list) ≤ m + (17 * length rs + 16) =
-      sum _ _ _ _ (length rs) m r (ranges_few st.encoding st.ranges.is_big (map lookup_range rs) k.has_8_bytes)
+      sum _ _ _ _ (length rs) m r (ranges_few st.encoding st.ranges.is_big (map lookup_range rs) k.size_few)
       (length-map rs lookup_range) (length-append st.ranges.bytes list) in
       record {
-        has_8_bytes = k.has_8_bytes;
+        size_few = k.size_few;
         texts_few = omega arith;
         ranges_few = grown;
         entries_few = omega arith;
@@ -120,12 +121,12 @@ module _ (e : Encoding) (is_big : Bool) (eight : e.address_size ≡ 8) where
       let t = k.texts_few in
       let r = k.ranges_few in
       let grown : length (spelled_entries e is_big (st.entries ++ x ∷ [])) ≤ m + (10 + 10 * length (attributes_of x)) =
-      sum _ _ _ _ m _ k.entries_few (entry_few e is_big x eight)
+      sum _ _ _ _ m _ k.entries_few (entry_few e is_big x narrow)
       (ap length (flat_map-append (spelled_entry e is_big) st.entries (x ∷ []))
       ∙ length-append (spelled_entries e is_big st.entries) (spelled_entries e is_big (x ∷ [])))
       (length-append (spelled_entry e is_big x) []) in
       record {
-        has_8_bytes = k.has_8_bytes;
+        size_few = k.size_few;
         texts_few = omega arith;
         ranges_few = omega arith;
         entries_few = grown;
@@ -148,6 +149,7 @@ module _ (e : Encoding) (is_big : Bool) (eight : e.address_size ≡ 8) where
       let name_low = text_low s.name st m k.texts_few in
       let name_fits : text_offset s.name st < 2 ^ 31 = omega arith in
       let list_few = k.ranges_few in
+      let start = start_few st.encoding in
       let list_fits : list_offset st < 2 ^ 31 = omega arith in
       bound_raised (entry_bounded (Call b (text_offset s.name st) (list_offset st) (s.file + 1) s.line s.column) (
         (fits_word e.format (text_offset s.name st) name_fits, name_fits),
@@ -175,6 +177,7 @@ module _ (e : Encoding) (is_big : Bool) (eight : e.address_size ≡ 8) where
       let name_low = text_low f.name st m k.texts_few in
       let name_fits : text_offset f.name st < 2 ^ 31 = omega arith in
       let list_few = k.ranges_few in
+      let start = start_few st.encoding in
       let list_fits : list_offset st < 2 ^ 31 = omega arith in
       let head : IsUnitBounded e is_big (m + (54 + 64 * length f.ranges + 4 * length f.name))
       (with_function_entry f st) =
@@ -206,8 +209,10 @@ module _ (e : Encoding) (is_big : Bool) (eight : e.address_size ≡ 8) where
       let directory_low = text_low u.directory (with_name u.name st) (m + (length u.name + 1)) after_name.texts_few in
       let directory_fits : text_offset u.directory (with_name u.name st) < 2 ^ 31 = omega arith in
       let list_few = k.ranges_few in
+      let start = start_few st.encoding in
       let list_fits : list_offset st < 2 ^ 31 = omega arith in
-      let zero_fits : 0 < 256 ^ e.address_size = subst (λ s. 0 < 256 ^ s) (sym eight) (omega arith) in
+      let some = one-le-pow e.address_size 256 (omega arith) in
+      let zero_fits : 0 < 256 ^ e.address_size = omega arith in
       let root : IsUnitBounded e is_big (m + (120 + 64 * length u.ranges + 4 * length u.directory + 4 * length u.name))
       (with_unit_entry line_program u st) =
       bound_raised

@@ -1,13 +1,13 @@
 -- How many bytes the instructions take that show a unit's rows, and that none of them is refused.
-use Rattle.std.proofs.Common.{◌≡◌, ℕ, suc, ◌+◌, ◌*◌, ◌-◌, ◌<◌, ◌≤◌, ◌^◌, ◌==◌, not, Bool, true, false, cond, List, [], ◌∷◌, ◌++◌, length, sum_by, Result, Ok, Err, refl, sym, ap, subst, ◌∙◌, arith, append_assoc}
+use Rattle.std.proofs.Common.{◌≡◌, ℕ, suc, ◌+◌, ◌*◌, ◌-◌, ◌<◌, ◌≤◌, ◌^◌, ◌==◌, not, Bool, true, false, List, [], ◌∷◌, ◌++◌, length, sum_by, Result, Ok, refl, sym, ap, subst, ◌∙◌, arith, append_assoc}
 use Rattle.std.proofs.lemmas.Bool.{lt-ltb}
 use Rattle.std.proofs.lemmas.List.{length-append}
 use Rattle.std.proofs.lemmas.List.Sums.{sum_by-cons}
 use Rattle.linemap_emit_units.specs.Encoding.{Encoding}
 use Rattle.linemap_emit_units.specs.Fixed.{number_bytes}
+use Rattle.linemap_emit_units.specs.NumberParsers.{is_address_size}
 use Rattle.linemap_emit_units.proofs.NumberRoundTrip.{length-spelled}
 use Rattle.linemap_emit_units.specs.WriteError.{Error}
-use Rattle.linemap_emit_units.specs.WriteError.TheVariants.{ValueTooLarge}
 use Rattle.linemap_emit_units.specs.NumberBytes.{constant_of, bytes_in_width}
 use Rattle.linemap_emit_units.specs.LineRules.{LineRules}
 use Rattle.linemap_emit_units.specs.LineRow.{LineRow}
@@ -20,6 +20,8 @@ use Rattle.linemap_emit_units.specs.RowPieces.{when, row_piece, end_piece}
 use Rattle.linemap_emit_units.specs.LineInstructionBytes.{instruction_bytes, instructions_bytes}
 use Rattle.linemap_emit_units.specs.EntryBytes.{join_bytes, entries_bytes, address_entry}
 use Rattle.linemap_emit_units.proofs.FewInstructions.{length-row_piece}
+use Rattle.linemap_emit_units.proofs.EmittedRangesRead.{bytes_bits}
+use Rattle.linemap_emit_units.proofs.Wrapping.{at_most_eight}
 use Rattle.linemap_emit_units.specs.TableParts.{RowPart, SequencePart}
 use Rattle.linemap_emit_units.specs.TableWeight.{sequence_weight}
 use Rattle.linemap_emit_units.specs.EmittedRows.{emitted_row, emitted_rows, emitted_sequence, emitted_sequences, emitted_rules, CanBuild, AllCanBuild}
@@ -91,22 +93,23 @@ joined_within {a} {b} m n limit g h fits = record {
   few = let l = length-append g.bytes h.bytes in let p = g.few in let q = h.few in omega arith;
 }
 
-sized_within : (is_big : Bool) (size n : ℕ) → size ≡ 8 → n < 2 ^ 64 → IsWithin 8 (bytes_in_width is_big size n)
-sized_within is_big size n eight low = subst (λ s. IsWithin 8 (bytes_in_width is_big s n)) (sym eight) of_8
-  where
-    of_8 : IsWithin 8 (bytes_in_width is_big 8 n)
-    of_8 = record {
-      bytes = number_bytes is_big 8 n;
-      are = ap (λ b. cond b (Ok (number_bytes is_big 8 n)) (Err ValueTooLarge)) (lt-ltb n (256 ^ 8) low);
-      few = let l = length-spelled is_big 8 n in omega arith;
-    }
+sized_within : (is_big : Bool) (size n : ℕ) → is_address_size size ≡ true → n < 2 ^ (8 * size)
+    → IsWithin 8 (bytes_in_width is_big size n)
+sized_within is_big size n is_size low = record {
+  bytes = number_bytes is_big size n;
+  are =
+      rw (is_size, lt-ltb n (256 ^ size) (subst (λ (k : ℕ). n < k) (sym (bytes_bits size)) low))
+      refl;
+  few = let l = length-spelled is_big size n in let narrow = at_most_eight size is_size in omega arith;
+}
 
-address_within : (is_big : Bool) (size n : ℕ) → size ≡ 8 → n < 2 ^ 64 → IsWithin 11 (address_entry is_big size (Ok n))
-address_within is_big size n eight low =
-    joined_within 3 8 11 (bytes_within 3 (0 ∷ (1 + size) ∷ 2 ∷ []) (omega arith)) (sized_within is_big size n eight low)
-    (omega arith)
+address_within : (is_big : Bool) (size n : ℕ) → is_address_size size ≡ true → n < 2 ^ (8 * size)
+    → IsWithin 11 (address_entry is_big size (Ok n))
+address_within is_big size n is_size low =
+    joined_within 3 8 11 (bytes_within 3 (0 ∷ (1 + size) ∷ 2 ∷ []) (omega arith))
+    (sized_within is_big size n is_size low) (omega arith)
 
-module _ (e : Encoding) (is_big : Bool) (eight : e.address_size ≡ 8) where
+module _ (e : Encoding) (is_big : Bool) (is_size : is_address_size e.address_size ≡ true) where
   rows_within : (m begin offset : ℕ) (previous : LineRow) (rs : List RowPart) (rest : List LineEntry)
       → IsWithin m (entries_bytes constant_of is_big (emitted_rules e) (first_row (emitted_rules e)) rest)
       → IsWithin (160 * length rs + (26 + m))
@@ -119,10 +122,10 @@ module _ (e : Encoding) (is_big : Bool) (eight : e.address_size ≡ 8) where
       (bytes_within 160 _ (row_few (emitted_rules e) previous (emitted_row begin r)))
       (rows_within m begin offset (row_after_row (emitted_row begin r)) rs rest h) (omega arith)
 
-  -- a first row whose address is one of 64 bits
+  -- a first row whose address is one of the size
   FirstIsLow : List RowPart → Type 0
   FirstIsLow [] = Unit {0}
-  FirstIsLow (r ∷ rs) = r.address < 2 ^ 64
+  FirstIsLow (r ∷ rs) = r.address < 2 ^ (8 * e.address_size)
 
   sequence_within : (m end : ℕ) (rs : List RowPart) (rest : List LineEntry) → FirstIsLow rs
       → IsWithin m (entries_bytes constant_of is_big (emitted_rules e) (first_row (emitted_rules e)) rest)
@@ -136,11 +139,12 @@ module _ (e : Encoding) (is_big : Bool) (eight : e.address_size ≡ 8) where
       (join_bytes (address_entry is_big e.address_size (Ok r.address))
       (entries_bytes constant_of is_big (emitted_rules e) (row_at_address (first_row (emitted_rules e))) es)))
       (sym (append_assoc (emitted_rows r.address (r ∷ rs)) (EndSequence (end - r.address) 0 ∷ []) rest))
-      (joined_within 11 (160 * length (r ∷ rs) + (26 + m)) _ (address_within is_big e.address_size r.address eight low)
+      (joined_within 11 (160 * length (r ∷ rs) + (26 + m)) _
+      (address_within is_big e.address_size r.address is_size low)
       (rows_within m r.address (end - r.address) (row_at_address (first_row (emitted_rules e))) (r ∷ rs) rest h)
       (omega arith))
 
-  pub sequences_within : (ss : List SequencePart) → AllCanBuild 8 ss
+  pub sequences_within : (ss : List SequencePart) → AllCanBuild e.address_size ss
       → IsWithin (sum_by sequence_weight ss)
       (entries_bytes constant_of is_big (emitted_rules e) (first_row (emitted_rules e)) (emitted_sequences ss))
   unfolding AllCanBuild CanBuild FirstIsLow
@@ -151,4 +155,4 @@ module _ (e : Encoding) (is_big : Bool) (eight : e.address_size ≡ 8) where
       (entries_bytes constant_of is_big (emitted_rules e) (first_row (emitted_rules e)) (emitted_sequences (s ∷ ss))))
       (sym (sum_by-cons sequence_weight s ss))
       (sequence_within (sum_by sequence_weight ss) s.end s.rows (emitted_sequences ss)
-      (subst FirstIsLow (sym known.rows) known.ascend.2) (sequences_within ss all.1))
+      (subst FirstIsLow (sym known.rows) known.ascend.1) (sequences_within ss all.1))

@@ -1,5 +1,5 @@
 -- Bounds of what is emitted.
-use Rattle.std.specs.Prelude.{◌≡◌, ℕ, ◌≤◌, ◌^◌, Bool, All, length}
+use Rattle.std.specs.Prelude.{ℕ, ◌≤◌, ◌^◌, Bool, All, length}
 use Rattle.linemap_emit_units.specs.Encoding.{Encoding}
 use Rattle.linemap_emit_units.specs.StringSections.{section_of}
 use Rattle.linemap_emit_units.specs.EmittedEntries.{AllFit, attributes_of}
@@ -11,7 +11,7 @@ use Rattle.linemap_emit_units.specs.TableEmission.{EmittedTable}
 -- the entries' offsets are below 2^31.
 pub record IsUnitBounded (e : Encoding) (is_big : Bool) (most : ℕ)
     (st : EmittedUnit) : Type 0 where
-  pub has_8_bytes : st.encoding.address_size ≡ 8
+  pub size_few : st.encoding.address_size ≤ 8
   pub texts_few : length (section_of st.texts) ≤ most
   pub ranges_few : length st.ranges.bytes ≤ most
   pub entries_few : length (spelled_entries e is_big st.entries) ≤ most

@@ -17,6 +17,7 @@ pub use Rattle.linemap_emit_units.specs.StringSections
 pub use Rattle.linemap_emit_units.specs.EmittedEntries
 pub use Rattle.linemap_emit_units.specs.EmittedEntryLaws
 pub use Rattle.linemap_emit_units.specs.EmittedHeaders
+pub use Rattle.linemap_emit_units.specs.EmittedRanges
 pub use Rattle.linemap_emit_units.specs.EmittedUnits
 pub use Rattle.linemap_emit_units.specs.WriteResults
 pub use Rattle.linemap_emit_units.specs.Entry

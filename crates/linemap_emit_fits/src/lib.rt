@@ -5,5 +5,6 @@ pub mod fit_laws;
 
 pub use linemap_emit_units::{
     Encoding, EndianVec, Error, Format, LineEncoding, LineRules, RunTimeEndian, SectionId,
-    UnitEmitter, Writer, entries_of, write_declarations, write_entries, write_program, write_unit,
+    UnitEmitter, Writer, entries_of, write_declarations, write_entries, write_lists_header,
+    write_program, write_unit,
 };

@@ -1,5 +1,5 @@
 -- The line number program of a unit is read as its rows and its files.
-use Rattle.std.proofs.Common.{◌≡◌, ℕ, ◌+◌, ◌<◌, ◌≤◌, ◌^◌, Bool, true, List, ◌++◌, length, map, Some, Result, Ok, refl, sym, ap, subst, ◌∙◌, arith, append_assoc}
+use Rattle.std.proofs.Common.{◌≡◌, ℕ, ◌+◌, ◌<◌, ◌≤◌, ◌^◌, Bool, List, ◌++◌, length, map, Some, Result, Ok, refl, ap, ◌∙◌, arith, append_assoc}
 use Rattle.std.proofs.lemmas.Bool.{le-leb}
 use Rattle.std.proofs.lemmas.Int.{ints}
 use Rattle.linemap_emit_units.specs.Error.{Error}
@@ -9,7 +9,6 @@ use Rattle.linemap_emit_units.specs.Encoding.{Encoding}
 use Rattle.linemap_emit_units.specs.Format.{Format}
 use Rattle.linemap_emit_units.specs.Format.TheVariants.{Dwarf32, Dwarf64}
 use Rattle.linemap_emit_units.specs.FormatSizes.{word_size}
-use Rattle.linemap_emit_units.specs.NumberParsers.{is_address_size}
 use Rattle.linemap_emit_units.specs.LineHeaders.{LineHeader}
 use Rattle.linemap_emit_units.specs.HeaderParsing.{LineUnit, line_header, header_at}
 use Rattle.linemap_emit_units.specs.RowPieces.{IsBuildable}
@@ -22,7 +21,7 @@ use Rattle.linemap_emit_units.specs.TableParts.{UnitPart}
 use Rattle.linemap_emit_units.specs.EmittedHeaders.{spelled_program, header_read}
 use Rattle.linemap_emit_units.specs.EmittedHeaderLaws.{fields_begin}
 use Rattle.linemap_emit_units.proofs.EmittedHeadersRead.{header_again}
-use Rattle.linemap_emit_units.specs.EmittedRows.{AllCanBuild, emitted_rules, emitted_sequences}
+use Rattle.linemap_emit_units.specs.EmittedRows.{emitted_rules, emitted_sequences}
 use Rattle.linemap_emit_units.proofs.EmittedRowsBuilt.{sequences_follow, sequences_readable}
 use Rattle.linemap_emit_units.specs.EmittedPrograms.{directories_of, files_of, emitted_file_texts}
 use Rattle.linemap_emit_units.proofs.EmittedProgramLines.{lines_again}
@@ -95,14 +94,10 @@ program_is e is_big first u st s front rest directory name served wide fit secti
 abbrev pub rows_shown : Encoding → UnitPart → List ProgramRow
 rows_shown e u = map program_row (rows_of (emitted_rules e) (emitted_sequences u.sequences))
 
--- the address size of a target can be read
-pub served_size : (e : Encoding) → IsServed e → is_address_size e.address_size ≡ true
-served_size e served = ap is_address_size served.has_8_bytes
-
 -- any row can be written with the parameters of programs
 buildable : (e : Encoding) → IsServed e → IsBuildable (emitted_rules e)
 buildable e served = record {
-  has_address_size = served_size e served;
+  has_address_size = served.has_address_size;
   has_bytes = omega arith;
   has_operations = omega arith;
   base_is_low = omega (arith, ints);
@@ -120,8 +115,7 @@ pub lines_are : (e : Encoding) (is_big : Bool) (offset first : ℕ) (u : UnitPar
     ≡ Ok (record { sequences = sequences_of_rows (rows_shown e u); files = emitted_file_texts u })
 lines_are e is_big offset first u st s facts directory name served wide utf8 fit directory_is name_is within =
     let h = program_read e is_big offset first u fit.instructions directory name in
-    let can_build : AllCanBuild e.address_size u.sequences =
-    subst (λ n. AllCanBuild n u.sequences) (sym served.has_8_bytes) fit.can_emit_sequences.can_build in
+    let can_build = fit.can_emit_sequences.can_build in
     let shows =
     shows_again s.offset_limit h is_big (emitted_sequences u.sequences) (omega arith) (buildable e served)
     (sequences_follow e u.sequences can_build) (sequences_readable e u.sequences can_build) refl

@@ -10,7 +10,7 @@ use Rattle.linemap_emit_units.specs.Entry.{Entry}
 use Rattle.linemap_emit_units.specs.Entry.TheVariants.{CompileUnit}
 use Rattle.linemap_emit_units.specs.EmittedEntries.{AllFit, attributes_of}
 use Rattle.linemap_emit_units.specs.EmittedUnits.{AllSmall}
-use Rattle.linemap_emit_units.specs.EmittedRanges.{spelled_ranges}
+use Rattle.linemap_emit_units.specs.EmittedRanges.{lists_start, spelled_ranges}
 use Rattle.linemap_emit_units.proofs.EmittedRowsShown.{sequences_shown}
 use Rattle.linemap_emit_units.specs.EmittedRows.{emitted_rules}
 use Rattle.linemap_emit_units.specs.EmittedPrograms.{emitted_file_texts}
@@ -23,7 +23,7 @@ use Rattle.linemap_emit_units.specs.FittingUnits.{IsServed, UnitFits, AllUnitsFi
 use Rattle.linemap_emit_laws.proofs.EmissionGrowth.{TextsStay, texts_stay_on, Grows, root_grows, Extends, extends_by_nothing, extends_on, all_extend, entries_of_all, units_are}
 use Rattle.linemap_emit_laws.proofs.EmittedStringLemmas.{text_stays, all_hold, text_is}
 use Rattle.linemap_emit_laws.proofs.EmittedListLemmas.{list_is}
-use Rattle.linemap_emit_laws.proofs.EmittedProgramLemmas.{length_fits, below_limit, program_read, program_is, rows_shown, served_size, lines_are}
+use Rattle.linemap_emit_laws.proofs.EmittedProgramLemmas.{length_fits, below_limit, program_read, program_is, rows_shown, lines_are}
 use Rattle.linemap_emit_units.specs.BytesAt.{bytes_at}
 use Rattle.linemap_emit_units.specs.LookupAgreement.{lookup_range}
 
@@ -51,18 +51,18 @@ unit_recorded e is_big u st final s served wide utf8 fit hold no_zeros extends =
   name = name;
   directory = directory;
   line_program = length st.lines;
-  range_list = length st.ranges;
+  range_list = lists_start e + length st.ranges;
   others = grows.more_entries;
   entries_are = grows.entries;
-  fit = root_fits s.offset_limit e name directory (length st.lines) (length st.ranges) wide
+  fit = root_fits s.offset_limit e name directory (length st.lines) (lists_start e + length st.ranges) wide
       (All-head (λ x. AllFit (2 ^ 31) e (attributes_of x)) x grows.more_entries
       (subst (All (λ x. AllFit (2 ^ 31) e (attributes_of x))) grows.entries fit.entries_fit));
   is_name = name_there;
   is_directory = directory_there;
   ranges_are =
-      λ b encoding low. list_is e is_big hold.ranges_first s b st.ranges
-      (grows.more_ranges ++ extends.more_ranges) u.ranges served.not_after_4 (served_size e served) fit.can_emit.1.1
-      (hold.ranges_is ∙ ap (bytes_at is_big hold.ranges_first) ranges_final) encoding low;
+      λ b encoding low. list_is e is_big hold.ranges_first hold.rnglists_first s b st.ranges
+      (grows.more_ranges ++ extends.more_ranges) final.ranges u.ranges served.has_address_size fit.can_emit.1.1
+      hold.ranges_is hold.rnglists_is ranges_final encoding low;
   header =
       program_read e is_big (length st.lines) hold.line_first u fit.instructions directory_there.found name_there.found;
   header_is =
@@ -96,7 +96,7 @@ unit_recorded e is_big u st final s served wide utf8 fit hold no_zeros extends =
     directory = text_offset u.directory (with_name u.name before)
 
     x : Entry
-    x = CompileUnit name directory (length st.lines) (length st.ranges)
+    x = CompileUnit name directory (length st.lines) (lists_start e + length st.ranges)
 
     root_stays : TextsStay root.texts final.texts
     root_stays = texts_stay_on root.texts (after_entries e is_big u st).texts final.texts grows.texts extends.texts
@@ -156,7 +156,7 @@ emission_recorded e is_big us s served wide utf8 fit hold =
       encoding_is_written = record {
         not_before_2 = served.not_before_2;
         not_after_5 = omega arith;
-        has_address_size = served_size e served;
+        has_address_size = served.has_address_size;
       };
       units_are_small =
           subst (AllSmall s.offset_limit e is_big) (sym whole)

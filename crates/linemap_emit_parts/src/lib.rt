@@ -12,5 +12,5 @@ pub mod units;
 
 pub use declarations::write_declarations;
 pub use entries::Entry;
-pub use range_lists::write_ranges;
+pub use range_lists::{lists_start, write_lists_header, write_ranges};
 pub use units::{write_length, write_unit};

@@ -1,10 +1,13 @@
 //! Range lists as they are written.
 
-ghost use Rattle.std.specs.Prelude.{◌≡◌, ◌<◌, ◌^◌, true};
+ghost use Rattle.std.specs.Prelude.{◌≡◌, ◌<◌, ◌≤◌, ◌+◌, ◌^◌, ◌∷◌, ◌++◌, true};
 ghost use Rattle.gimli_lines_write_bytes.specs.NumberParsers.{is_address_size};
+ghost use Rattle.gimli_lines_write_bytes.specs.Fixed.{number_bytes};
+ghost use Rattle.gimli_lines_write_bytes.specs.NumberBytes.{length_limit};
 ghost use Rattle.linemap_emit_parts.specs.WriteResults.{Appends};
-ghost use Rattle.linemap_emit_parts.specs.EmittedRanges.{AllWritable, IsWritable, spelled_pair, spelled_range, spelled_end, spelled_ranges};
+ghost use Rattle.linemap_emit_parts.specs.EmittedRanges.{AllWritable, IsWritable, spelled_pair, spelled_range, spelled_end, spelled_ranges, spelled_lists_header, lists_start};
 
+use crate::units::write_length;
 use gimli_lines_write_bytes::{
     DW_RLE_end_of_list, DW_RLE_start_end, Encoding, EndianVec, Error, RunTimeEndian, Writer,
 };
@@ -63,4 +66,42 @@ pub fn write_ranges(
         write_range(w, encoding, *range)?;
     }
     write_end(w, encoding)
+}
+
+/// Where lists begin in their section: from version 5 on after a header (DWARF 5, 7.28).
+pub fn lists_start(encoding: Encoding) -> u64
+    ensures start { result ≡ lists_start encoding }
+    ensures few { result ≤ 20 }
+{
+    if encoding.version <= 4 {
+        return 0;
+    }
+    encoding.format.initial_length_size() as u64 + 8
+}
+
+// Writes what comes after the length of that header.
+fn write_list_sizes(w: &mut EndianVec<RunTimeEndian>, encoding: Encoding) -> Result<(), Error>
+    ensures { Appends result w.old w.new (number_bytes w.old.is_big 2 encoding.version
+        ++ (encoding.address_size ∷ 0 ∷ number_bytes w.old.is_big 4 0)) }
+{
+    w.write_u16(encoding.version)?;
+    w.write(&[encoding.address_size, 0])?;
+    w.write_u32(0)
+}
+
+/// Writes the header before lists of a size, where the version has one. Refused only when out of
+/// memory.
+pub fn write_lists_header(
+    w: &mut EndianVec<RunTimeEndian>,
+    encoding: Encoding,
+    size: u64,
+) -> Result<(), Error>
+    requires { 8 + size < length_limit encoding.format }
+    ensures { Appends result w.old w.new (spelled_lists_header encoding w.old.is_big size) }
+{
+    if encoding.version <= 4 {
+        return Ok(());
+    }
+    write_length(w, encoding.format, 8 + size)?;
+    write_list_sizes(w, encoding)
 }

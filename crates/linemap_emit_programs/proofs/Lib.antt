@@ -1,3 +1,4 @@
+pub use Rattle.gimli_lines_write_rows.proofs.Wrapping
 pub use Rattle.linemap_emit_parts.proofs.ArangeSetLemmas
 pub use Rattle.linemap_emit_parts.proofs.TilingLemmas
 pub use Rattle.linemap_emit_parts.proofs.DeclarationsRead

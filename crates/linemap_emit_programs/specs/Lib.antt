@@ -28,6 +28,7 @@ pub use Rattle.linemap_emit_parts.specs.EmittedUnits
 pub use Rattle.linemap_emit_parts.specs.WriteResults
 pub use Rattle.linemap_emit_parts.specs.declared.entries.Entry
 pub use Rattle.linemap_places_laws.specs.Conditions
+pub use Rattle.linemap_places_laws.specs.EncodingFits
 pub use Rattle.linemap_places_laws.specs.Meaning
 pub use Rattle.linemap_places_laws.specs.TableParts
 pub use Rattle.linemap_places_laws.specs.TableViews

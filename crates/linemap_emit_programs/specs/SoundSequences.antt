@@ -1,13 +1,14 @@
--- The sequences of a sound table can be written as programs with addresses of 8 bytes.
-use Rattle.std.specs.Prelude.{◌<◌, ◌^◌, List, [], ◌∷◌, length}
+-- The sequences of a sound table can be written as programs with addresses of a size that it fits.
+use Rattle.std.specs.Prelude.{◌≡◌, ℕ, ◌<◌, ◌^◌, true, List, [], ◌∷◌, length}
 use Rattle.linemap_places_laws.specs.TableParts.{SequencePart, UnitPart}
 use Rattle.linemap_places_laws.specs.Conditions.{IsSound}
+use Rattle.linemap_places_laws.specs.EncodingFits.{fits}
 use Rattle.linemap_emit_programs.specs.EmittedRows.{AllSequences, AllCanBuild, AllOrdered}
 
--- sequences that can be written as entries, built of these, and shown
-pub record CanEmitSequences (ss : List SequencePart) : Type 0 where
+-- sequences that can be written as entries, built of these with addresses of a size, and shown
+pub record CanEmitSequences (size : ℕ) (ss : List SequencePart) : Type 0 where
   pub ordered : AllOrdered ss
-  pub can_build : AllCanBuild 8 ss
+  pub can_build : AllCanBuild size ss
   pub can_show : AllSequences ss
 
 -- each unit has fewer files than 2^64
@@ -15,10 +16,12 @@ unfoldable pub AllCountable : List UnitPart → Type 0
 AllCountable [] = Unit {0}
 AllCountable (u ∷ us) = (length u.files < 2 ^ 64) × AllCountable us
 
-unfoldable pub AllCanEmitSequences : List UnitPart → Type 0
-AllCanEmitSequences [] = Unit {0}
-AllCanEmitSequences (u ∷ us) = CanEmitSequences u.sequences × AllCanEmitSequences us
+unfoldable pub AllCanEmitSequences : ℕ → List UnitPart → Type 0
+AllCanEmitSequences size [] = Unit {0}
+AllCanEmitSequences size (u ∷ us) =
+    CanEmitSequences size u.sequences × AllCanEmitSequences size us
 
 abbrev pub SoundCanEmitSequences : Type 0
 SoundCanEmitSequences =
-    (us : List UnitPart) → IsSound us → AllCountable us → AllCanEmitSequences us
+    (size : ℕ) (us : List UnitPart) → IsSound us → fits size us ≡ true → AllCountable us
+    → AllCanEmitSequences size us

@@ -4,6 +4,7 @@ pub use Rattle.gimli_lines_write_tables.proofs.EntryDecoding
 pub use Rattle.gimli_lines_write_tables.proofs.FewInstructions
 pub use Rattle.gimli_lines_write_tables.proofs.SectionTexts
 pub use Rattle.gimli_lines_write_tables.proofs.TextTableLemmas
+pub use Rattle.linemap_emit_programs.proofs.Wrapping
 pub use Rattle.linemap_emit_programs.proofs.ArangeSetLemmas
 pub use Rattle.linemap_emit_programs.proofs.TilingLemmas
 pub use Rattle.linemap_emit_programs.proofs.DeclarationsRead

@@ -1,10 +1,12 @@
--- What is emitted of a table with one unit, byte by byte (DWARF 4, 7.5, 7.24 and 6.2).
+-- What is emitted of a table with one unit, byte by byte (DWARF 4, 7.5, 7.24 and 6.2), and range lists of version 5
+-- (DWARF 5, 7.25 and 7.28).
 use Rattle.std.proofs.Common.{◌≡◌, ℕ, true, false, [], ◌∷◌, refl}
 use Rattle.gimli_lines_write_tables.specs.Encoding.{Encoding}
-use Rattle.gimli_lines_write_tables.specs.Format.TheVariants.{Dwarf32}
+use Rattle.gimli_lines_write_tables.specs.Format.TheVariants.{Dwarf32, Dwarf64}
 use Rattle.gimli_lines_write_tables.specs.StringSections.{section_of}
 use Rattle.linemap_emit_programs.specs.TableParts.{RangePart, RowPart, no_calls, UnitPart}
 use Rattle.linemap_emit_programs.specs.Entry.TheVariants.{CompileUnit, Function, EndOfChildren}
+use Rattle.linemap_emit_programs.specs.EmittedRanges.{lists_start, spelled_lists, spelled_ranges}
 use Rattle.linemap_emit_programs.specs.EmittedUnits.{spelled_units}
 use Rattle.linemap_emit_units.specs.TableEmission.{EmittedTable, emitted_table, with_emitted_units}
 use Rattle.gimli_lines_write_tables.specs.Spelling as spelling
@@ -83,3 +85,23 @@ second_unit_after_the_first : (emitted_table target false (a_unit ∷ b_unit ∷
 unfolding with_emitted_units entries.with_calls spelling.unsigned_within spelling.signed_within pieces.row_piece
     pieces.flags pieces.changes pieces.moves pieces.end_piece
 second_unit_after_the_first = refl
+
+-- a list of version 5 in its section, after the header, in 32-bit DWARF and in 64-bit DWARF with addresses of four bytes
+abbrev later : Encoding
+later = record { address_size = 8; format = Dwarf32; version = 5 }
+
+abbrev wide : Encoding
+wide = record { address_size = 4; format = Dwarf64; version = 5 }
+
+lists_of_version_5 : spelled_lists later false (spelled_ranges later false (record { begin = 4096; end = 4160 } ∷ [])) ≡
+    26 ∷ 0 ∷ 0 ∷ 0 ∷ 5 ∷ 0 ∷ 8 ∷ 0 ∷ 0 ∷ 0 ∷ 0 ∷ 0 ∷ 6 ∷ 0 ∷ 16 ∷ 0 ∷ 0 ∷ 0 ∷ 0 ∷ 0 ∷ 0 ∷ 64 ∷ 16 ∷ 0 ∷ 0 ∷ 0 ∷ 0 ∷ 0 ∷
+    0 ∷ 0 ∷ []
+lists_of_version_5 = refl
+
+lists_of_64_bit_dwarf : spelled_lists wide true (spelled_ranges wide true (record { begin = 4096; end = 4160 } ∷ [])) ≡
+    255 ∷ 255 ∷ 255 ∷ 255 ∷ 0 ∷ 0 ∷ 0 ∷ 0 ∷ 0 ∷ 0 ∷ 0 ∷ 18 ∷ 0 ∷ 5 ∷ 4 ∷ 0 ∷ 0 ∷ 0 ∷ 0 ∷ 0 ∷ 6 ∷ 0 ∷ 0 ∷ 16 ∷ 0 ∷ 0 ∷ 0 ∷
+    16 ∷ 64 ∷ 0 ∷ []
+lists_of_64_bit_dwarf = refl
+
+lists_begin_after_the_header : lists_start wide ≡ 20
+lists_begin_after_the_header = refl

@@ -1,9 +1,10 @@
 -- Units that can be emitted: what is written of each fits.
-use Rattle.std.specs.Prelude.{◌≡◌, ℕ, ◌≤◌, ◌<◌, ◌^◌, Bool, List, [], ◌∷◌, All, length, Ok}
+use Rattle.std.specs.Prelude.{◌≡◌, ℕ, ◌+◌, ◌≤◌, ◌<◌, ◌^◌, Bool, true, List, [], ◌∷◌, All, length, Ok}
 use Rattle.std.specs.Str.{IsUtf8}
 use Rattle.gimli_lines_write_tables.specs.Encoding.{Encoding}
-use Rattle.gimli_lines_write_tables.specs.Format.TheVariants.{Dwarf32}
+use Rattle.gimli_lines_write_tables.specs.NumberParsers.{is_address_size}
 use Rattle.linemap_emit_programs.specs.Conditions.{IsSound}
+use Rattle.linemap_emit_programs.specs.EncodingFits.{fits}
 use Rattle.linemap_emit_programs.specs.TableParts.{UnitPart}
 use Rattle.linemap_emit_programs.specs.TableWeight.{table_weight}
 use Rattle.linemap_emit_programs.specs.EmittedEntries.{AllFit, attributes_of}
@@ -14,18 +15,17 @@ use Rattle.linemap_emit_programs.specs.SoundSequences.{CanEmitSequences, AllCoun
 use Rattle.linemap_emit_programs.specs.EmittedPrograms.{FilesAreUtf8, directories_of, files_of}
 use Rattle.linemap_emit_units.specs.TableEmission.{EmittedTable, no_units, instructions_of, after_entries, with_emitted_unit}
 
--- The encodings of a target up to version 4, in the 32-bit format with addresses of 8 bytes.
+-- The encodings of a target up to version 4.
 pub record IsServed (e : Encoding) : Type 0 where
   pub not_before_2 : 2 ≤ e.version
   pub not_after_4 : e.version ≤ 4
-  pub is_32_bit : e.format ≡ Dwarf32
-  pub has_8_bytes : e.address_size ≡ 8
+  pub has_address_size : is_address_size e.address_size ≡ true
 
 -- A unit after others: its texts, ranges and rows can be written, its entries' offsets and the
--- lengths of its headers are below 2^31.
+-- lengths of its headers are below 2^31, and so are the lists with a header.
 pub record UnitFits (e : Encoding) (is_big : Bool) (u : UnitPart) (st : EmittedTable) : Type 0 where
   pub can_emit : CanEmitUnit e.address_size u
-  pub can_emit_sequences : CanEmitSequences u.sequences
+  pub can_emit_sequences : CanEmitSequences e.address_size u.sequences
   pub all_directories : All IsTableText (directories_of u)
   pub all_files : All IsTableFile (files_of u)
   pub instructions : List ℕ
@@ -35,6 +35,7 @@ pub record UnitFits (e : Encoding) (is_big : Bool) (u : UnitPart) (st : EmittedT
       (spelled_program_body e is_big (directories_of u) (files_of u) instructions) < 2 ^ 31
   pub entries_fit : All (λ x. AllFit (2 ^ 31) e (attributes_of x))
       (after_entries e is_big u st).entries
+  pub lists_small : 8 + length (after_entries e is_big u st).ranges.bytes < 2 ^ 31
   pub entries_small : length (spelled_unit_body e is_big (after_entries e is_big u st).entries)
       < 2 ^ 31
 
@@ -44,12 +45,12 @@ AllUnitsFit e is_big [] st = Unit {0}
 AllUnitsFit e is_big (u ∷ us) st =
     UnitFits e is_big u st × AllUnitsFit e is_big us (with_emitted_unit e is_big u st)
 
--- A sound table can be emitted where its weight is below 2^31.
+-- A sound table that fits the encoding can be emitted where its weight is below 2^31.
 abbrev pub TablesFit : Type 0
 TablesFit =
     (e : Encoding) (is_big : Bool) (us : List UnitPart)
-    → IsServed e → IsSound us → AllCountable us → table_weight us < 2 ^ 31
-    → AllUnitsFit e is_big us no_units
+    → IsServed e → IsSound us → fits e.address_size us ≡ true → AllCountable us
+    → table_weight us < 2 ^ 31 → AllUnitsFit e is_big us no_units
 
 -- the texts of a unit's directory and files are UTF-8
 abbrev pub IsInUtf8 : UnitPart → Type 0

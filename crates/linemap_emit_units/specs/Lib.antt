@@ -61,6 +61,7 @@ pub use Rattle.linemap_emit_programs.specs.EmittedPrograms
 pub use Rattle.linemap_emit_programs.specs.EmittedRows
 pub use Rattle.linemap_emit_programs.specs.SoundSequences
 pub use Rattle.linemap_emit_programs.specs.Conditions
+pub use Rattle.linemap_emit_programs.specs.EncodingFits
 pub use Rattle.linemap_emit_programs.specs.Meaning
 pub use Rattle.linemap_emit_programs.specs.TableParts
 pub use Rattle.linemap_emit_programs.specs.TableWeight

@@ -7,7 +7,7 @@ use Rattle.gimli_lines_write_tables.specs.OutputBytes.{WriterContents, append}
 use Rattle.linemap_emit_programs.specs.TableParts.{RangePart, Site, Calls, no_calls, more_calls, FunctionPart, UnitPart}
 use Rattle.linemap_emit_programs.specs.Entry.{Entry}
 use Rattle.linemap_emit_programs.specs.Entry.TheVariants.{CompileUnit, Function, Call, EndOfChildren}
-use Rattle.linemap_emit_programs.specs.EmittedRanges.{AllWritable, spelled_ranges}
+use Rattle.linemap_emit_programs.specs.EmittedRanges.{AllWritable, lists_start, spelled_ranges}
 use Rattle.linemap_emit_programs.specs.LookupAgreement.{lookup_range}
 
 -- the encoding, the texts of the string section, the range lists, and the entries of the unit
@@ -33,7 +33,7 @@ with_list rs st =
     }
 
 abbrev pub list_offset : EmittedUnit → ℕ
-list_offset st = length st.ranges.bytes
+list_offset st = lists_start st.encoding + length st.ranges.bytes
 
 abbrev pub with_entry : Entry → EmittedUnit → EmittedUnit
 with_entry x st = record st { entries = st.entries ++ x ∷ [] }

@@ -7,5 +7,7 @@ pub use gimli_lines_write_tables::{
     Encoding, EndianVec, Error, Format, LineEncoding, LineRules, RunTimeEndian, SectionId, Writer,
     write_entries,
 };
-pub use linemap_emit_programs::{entries_of, write_declarations, write_program, write_unit};
+pub use linemap_emit_programs::{
+    entries_of, write_declarations, write_lists_header, write_program, write_unit,
+};
 pub use unit_emitter::UnitEmitter;

@@ -13,7 +13,9 @@ ghost use Rattle.linemap_emit_units.specs.UnitEmission.{text_offset, with_name, 
 use gimli_lines_write_tables::{
     Encoding, EndianVec, Error, Range, RunTimeEndian, StringTable, Writer,
 };
-use linemap_emit_programs::{Entry, TableCall, TableFunction, TableRange, TableUnit, write_ranges};
+use linemap_emit_programs::{
+    Entry, TableCall, TableFunction, TableRange, TableUnit, lists_start, write_ranges,
+};
 use std::alloc::Global;
 use std::marker::Model;
 
@@ -75,7 +77,7 @@ impl UnitEmitter {
         ensures offset { IfOk result (λ offset. offset ≡ list_offset self.old) }
         ensures refusal { IfErr result (λ e. e ≡ Memory) }
     {
-        let offset = self.ranges.len() as u64;
+        let offset = lists_start(self.encoding) + self.ranges.len() as u64;
         let list = ranges_of(alloc, ranges)?;
         write_ranges(&mut self.ranges, self.encoding, list.as_slice())?;
         Ok(offset)

@@ -22,6 +22,7 @@ pub use Rattle.addr2line_spec.specs.Attributes
 pub use Rattle.addr2line_spec.specs.DwarfFiles
 pub use Rattle.addr2line_spec.specs.UnitFacts
 pub use Rattle.linemap_meaning.specs.Conditions
+pub use Rattle.linemap_meaning.specs.EncodingFits
 pub use Rattle.linemap_meaning.specs.FileText
 pub use Rattle.linemap_meaning.specs.Meaning
 pub use Rattle.linemap_meaning.specs.StretchLaws

@@ -1,4 +1,6 @@
 pub use Rattle.linemap_check.proofs.SoundUnits
+pub use Rattle.linemap_check.proofs.SoundFits
+mod TargetSizes
 mod JsonLemmas
 mod JsonShapeLemmas
 mod JsonListLemmas

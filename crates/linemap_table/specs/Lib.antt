@@ -13,6 +13,10 @@ pub use Rattle.linemap_check.specs.TableWeight
 pub use Rattle.linemap_check.specs.Rule
 pub use Rattle.linemap_check.specs.TableFile
 pub use Rattle.linemap_check.specs.TableUnit
+pub use Rattle.gimli_core_base.specs.declared.common.Encoding
+pub use Rattle.gimli_core_base.specs.declared.common.Format
+pub mod TargetEncodings
+pub mod EmissionTargets
 pub mod TableInText
 pub mod ShapeFaults
 pub mod TableErrorCodes

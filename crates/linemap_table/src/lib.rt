@@ -13,9 +13,12 @@ mod element;
 pub mod error;
 mod fault;
 mod fields;
+pub mod target;
 
 use crate::element::units_of;
 pub use crate::error::TableError;
+pub use crate::target::Target;
+use linemap_check::fits::are_below;
 use linemap_check::rules::first_broken;
 use linemap_check::weight::weight;
 pub use linemap_check::{
@@ -34,7 +37,9 @@ pub struct Table {
 
 impl Table {
     ghost use Rattle.std.specs.Prelude.{◌-◌, ◌^◌, min};
+    ghost use Rattle.linemap_check.specs.EncodingFits.{fits};
     ghost use Rattle.linemap_check.specs.TableWeight.{table_weight};
+    ghost use Rattle.linemap_table.specs.EmissionTargets.{encoding_of};
     ghost use Rattle.linemap_table.specs.TableInText.{checked_units, table_in};
     ghost use Rattle.linemap_table.specs.TableUnits.{Answers, AnswersOrMemory, units_of};
 
@@ -65,6 +70,13 @@ impl Table {
         ensures sound { IsSound (units_of self.now) }
     {
         &self.units
+    }
+
+    /// Whether every address is below the least tombstone of the target. It takes no memory.
+    pub fn fits(&self, target: &Target) -> bool
+        ensures { result ≡ fits (encoding_of target.now).address_size (units_of self.now) }
+    {
+        are_below(&self.units, target.least_tombstone())
     }
 
     /// A bound on the size of the table's image, `u64::MAX` where it is larger.

@@ -6,7 +6,7 @@ ghost use Rattle.linemap_emit.specs.TableParts.{UnitPart};
 ghost use Rattle.linemap_emit.specs.TableWeight.{table_weight};
 ghost use Rattle.linemap_emit.specs.TableUnits.{units_of};
 ghost use Rattle.linemap_emit.specs.SectionAnswers.{AreAnswers};
-ghost use Rattle.linemap_emit.specs.EmissionTargets.{is_big_of};
+ghost use Rattle.linemap_emit.specs.EmissionTargets.{encoding_of, is_big_of};
 ghost use Rattle.linemap_text.specs.WordTexts.{NeverRefuses, word_text, words_text};
 ghost use Rattle.linemap_output.specs.WriterBytes.{AppendsPrefix};
 ghost use Rattle.linemap_text.specs.Ask.{EmissionStops, FlagsMean, IsClean, StopsAt, StopsWriting, ask_outcome};
@@ -62,12 +62,14 @@ fn answer<W: Write>(alloc: Global, text: &[u8], words: &[String], out: &mut W) -
 
 // The target of the sections: version 4, the least significant byte first.
 fn target() -> Target
-    ensures { is_big_of result ≡ false }
+    ensures order { is_big_of result ≡ false }
+    ensures size { (encoding_of result).address_size ≡ 8 }
 {
     Target::new(4, Format::Dwarf32, 8, false).unwrap()
 }
 
 // The sections of a table.
+#[tactic(auto, using(linemap_emit::proofs::FittingTables::fits_8))]
 fn sections_of(alloc: Global, table: &Table) -> Result<Sections, Stop>
     ensures answers { IfOk result (λ s. AreAnswers false s (units_of table.now)) }
     ensures light { OnOk result (table_weight (units_of table.now) < 2 ^ 31) }
@@ -104,11 +106,11 @@ fn write_answers<R: Reader, W: Write>(
     words: &[String],
     out: &mut W,
 ) -> Result<(), Stop>
-    requires { NeverRefuses context.old.plain.context }
+    requires { NeverRefuses context.old.value.plain.context }
     ensures whole { OnOk result (Appends (W.contents out.old) (W.contents out.new)
-        (words_text context.old.plain.context (map string_bytes words.now))) }
+        (words_text context.old.value.plain.context (map string_bytes words.now))) }
     ensures prefix { AppendsPrefix (W.contents out.old) (W.contents out.new)
-        (words_text context.old.plain.context (map string_bytes words.now)) }
+        (words_text context.old.value.plain.context (map string_bytes words.now)) }
     ensures stop { IfErr result StopsWriting }
 {
     for word in words {
@@ -124,13 +126,13 @@ fn write_answer<R: Reader, W: Write>(
     word: &str,
     out: &mut W,
 ) -> Result<(), Stop>
-    requires { NeverRefuses context.old.plain.context }
+    requires { NeverRefuses context.old.value.plain.context }
     ensures whole { OnOk result (Appends (W.contents out.old) (W.contents out.new)
-        (word_text context.old.plain.context word.now ++ codes "\n")) }
+        (word_text context.old.value.plain.context word.now ++ codes "\n")) }
     ensures prefix { AppendsPrefix (W.contents out.old) (W.contents out.new)
-        (word_text context.old.plain.context word.now ++ codes "\n") }
+        (word_text context.old.value.plain.context word.now ++ codes "\n") }
     ensures stop { IfErr result StopsWriting }
-    ensures value { context.new ≡ context.old }
+    ensures value { context.new.value ≡ context.old.value }
 {
     let line = answer_line(alloc, context, word)?;
     write_text(out, &line)?;
@@ -144,10 +146,10 @@ fn answer_line<R: Reader>(
     context: &mut Context<R>,
     word: &str,
 ) -> Result<String, AllocError>
-    requires { NeverRefuses context.old.plain.context }
+    requires { NeverRefuses context.old.value.plain.context }
     ensures line { IfOk result (λ line.
-        string_bytes line ≡ word_text context.old.plain.context word.now ++ codes "\n") }
-    ensures value { context.new ≡ context.old }
+        string_bytes line ≡ word_text context.old.value.plain.context word.now ++ codes "\n") }
+    ensures value { context.new.value ≡ context.old.value }
 {
     let mut line = word_line(alloc, context, word)?;
     line.push('\n')?;

@@ -22,6 +22,7 @@ fn sections_of(
 
 fn sections_for(alloc: Global, table: &str, target: Target) -> Result<Sections, &'static str> {
     match Table::read(alloc, table.as_bytes()) {
+        Ok(table) if !table.fits(&target) => Err("the table doesn't fit"),
         Ok(table) => emit_sections(alloc, &table, target).map_err(|e| e.code()),
         Err(e) => Err(e.code()),
     }

@@ -88,13 +88,14 @@ fn units(alloc: Global) -> Result<Vec<TableUnit>, AllocError> {
     Ok(vec![in alloc; first, second]?)
 }
 
-// What is emitted of units in a version with addresses of a size, or the text of a refusal.
+// What is emitted of units in a version, format, address size and order of bytes, or the text of a
+// refusal.
 fn sections_of(
     alloc: Global,
     units: Vec<TableUnit>,
-    (version, size): (u16, u8),
+    (version, format, size, big_endian): (u16, Format, u8, bool),
 ) -> Result<Sections, &'static str> {
-    match Target::new(version, Format::Dwarf32, size, false) {
+    match Target::new(version, format, size, big_endian) {
         Some(target) => sections_for(alloc, units, target),
         None => Err("no such target"),
     }
@@ -106,6 +107,7 @@ fn sections_for(
     target: Target,
 ) -> Result<Sections, &'static str> {
     match Table::check(units) {
+        Ok(table) if !table.fits(&target) => Err("the table doesn't fit"),
         Ok(table) => emit_sections(alloc, &table, target).map_err(|e| e.code()),
         Err(e) => Err(e.code()),
     }
@@ -125,20 +127,68 @@ fn holds(sections: &Sections, id: SectionId, bytes: &[u8]) -> bool {
 #[test]
 fn sections_of_tables(rt: HostRuntime) -> Result<(), Fail> {
     let alloc = rt.alloc();
-    let sections = sections_of(alloc, units(alloc)?, (4, 8))?;
+    let sections = sections_of(alloc, units(alloc)?, (4, Format::Dwarf32, 8, false))?;
     assert!(rt; holds(&sections, SectionId::DebugAbbrev, ABBREV));
     assert!(rt; holds(&sections, SectionId::DebugInfo, INFO));
     assert!(rt; holds(&sections, SectionId::DebugLine, LINE));
     assert!(rt; holds(&sections, SectionId::DebugRanges, RANGES));
     assert!(rt; holds(&sections, SectionId::DebugStr, b"a.c\0/w\0main\0f\0b.c\0"));
     assert!(rt; holds(&sections, SectionId::DebugAranges, b""));
-    let empty = sections_of(alloc, Vec::new(alloc), (4, 8))?;
+    let empty = sections_of(alloc, Vec::new(alloc), (4, Format::Dwarf32, 8, false))?;
     assert!(rt; holds(&empty, SectionId::DebugAbbrev, ABBREV));
     assert!(rt; holds(&empty, SectionId::DebugInfo, b""));
-    let refusal = sections_of(alloc, Vec::new(alloc), (5, 8)).err();
-    assert_eq!(rt; refusal, Some("no such target"));
     let text = printed(alloc, EmitError::Memory, EmitError::TooLarge)?;
     assert_eq!(rt; text.as_str(), "M1 M2");
+    Ok(())
+}
+
+// Version 3, 64-bit, addresses of four bytes, big endian. The bytes are worked out from DWARF 3,
+// 7.4, 7.5, 7.23 and 6.2.
+#[test]
+fn sections_in_64_bit_dwarf(rt: HostRuntime) -> Result<(), Fail> {
+    let alloc = rt.alloc();
+    let sections = sections_of(alloc, units(alloc)?, (3, Format::Dwarf64, 4, true))?;
+    assert!(rt; holds(&sections, SectionId::DebugAbbrev, ABBREV_64));
+    assert!(rt; holds(&sections, SectionId::DebugInfo, INFO_64));
+    assert!(rt; holds(&sections, SectionId::DebugLine, LINE_64));
+    assert!(rt; holds(&sections, SectionId::DebugRanges, RANGES_64));
+    assert!(rt; holds(&sections, SectionId::DebugStr, b"a.c\0/w\0main\0f\0b.c\0"));
+    Ok(())
+}
+
+// What is refused for a unit that ends at an address.
+fn refusal_of(
+    alloc: Global,
+    end: u64,
+    target: (u16, Format, u8, bool),
+) -> Result<Option<&'static str>, AllocError> {
+    let rows = vec![in alloc; row(0x1000, 5, 1)]?;
+    let unit = unit(alloc, "a.c", 0x1000, end, Vec::new(alloc), rows)?;
+    Ok(sections_of(alloc, vec![in alloc; unit]?, target).err())
+}
+
+// The least tombstone of four bytes is 0xffff_fffe.
+#[test]
+fn tables_that_fit_targets(rt: HostRuntime) -> Result<(), Fail> {
+    let alloc = rt.alloc();
+    for (end, version, format, size, refusal) in [
+        (0xffff_fffd, 2, Format::Dwarf32, 4, None),
+        (
+            0xffff_fffe,
+            2,
+            Format::Dwarf32,
+            4,
+            Some("the table doesn't fit"),
+        ),
+        (0xffff_fffe, 3, Format::Dwarf64, 8, None),
+        (0x2000, 2, Format::Dwarf64, 8, Some("no such target")),
+        (0x2000, 1, Format::Dwarf32, 8, Some("no such target")),
+        (0x2000, 5, Format::Dwarf32, 8, Some("no such target")),
+        (0x2000, 4, Format::Dwarf32, 2, Some("no such target")),
+    ] {
+        let found = refusal_of(alloc, end, (version, format, size, true))?;
+        assert_eq!(rt; found, refusal, "{end:x} in version {version}");
+    }
     Ok(())
 }
 
@@ -189,4 +239,54 @@ const RANGES: &[u8] = &[
     0, 0, 0, 0, 0, 0, 0, 0, 0, 0, 0, 0, 0, 0, 0, 0, //
     0, 0x20, 0, 0, 0, 0, 0, 0, 4, 0x20, 0, 0, 0, 0, 0, 0, //
     0, 0, 0, 0, 0, 0, 0, 0, 0, 0, 0, 0, 0, 0, 0, 0, //
+];
+
+// The same declarations, with offsets of eight bytes as data.
+const ABBREV_64: &[u8] = &[
+    1, 0x11, 1, 0x03, 0x0e, 0x1b, 0x0e, 0x10, 0x07, 0x11, 0x01, 0x55, 0x07, 0, 0, //
+    2, 0x2e, 1, 0x03, 0x0e, 0x55, 0x07, 0, 0, //
+    3, 0x2e, 0, 0x03, 0x0e, 0x55, 0x07, 0, 0, //
+    4, 0x1d, 1, 0x03, 0x0e, 0x55, 0x07, 0x58, 0x0f, 0x59, 0x0f, 0x57, 0x0f, 0, 0, //
+    5, 0x1d, 0, 0x03, 0x0e, 0x55, 0x07, 0x58, 0x0f, 0x59, 0x0f, 0x57, 0x0f, 0, 0, //
+    0,
+];
+
+// The same units; the line number program of the second is at 74.
+const INFO_64: &[u8] = &[
+    0xff, 0xff, 0xff, 0xff, 0, 0, 0, 0, 0, 0, 0, 87, //
+    0, 3, 0, 0, 0, 0, 0, 0, 0, 0, 4, //
+    1, 0, 0, 0, 0, 0, 0, 0, 0, 0, 0, 0, 0, 0, 0, 0, 4, 0, 0, 0, 0, 0, 0, 0, 0, //
+    0, 0, 0, 0, 0, 0, 0, 0, 0, 0, 0, 0, //
+    2, 0, 0, 0, 0, 0, 0, 0, 7, 0, 0, 0, 0, 0, 0, 0, 16, //
+    5, 0, 0, 0, 0, 0, 0, 0, 12, 0, 0, 0, 0, 0, 0, 0, 32, 1, 7, 3, //
+    0, 0, //
+    0xff, 0xff, 0xff, 0xff, 0, 0, 0, 0, 0, 0, 0, 49, //
+    0, 3, 0, 0, 0, 0, 0, 0, 0, 0, 4, //
+    1, 0, 0, 0, 0, 0, 0, 0, 14, 0, 0, 0, 0, 0, 0, 0, 4, 0, 0, 0, 0, 0, 0, 0, 74, //
+    0, 0, 0, 0, 0, 0, 0, 0, 0, 0, 0, 48, //
+    0,
+];
+
+// The same programs.
+const LINE_64: &[u8] = &[
+    0xff, 0xff, 0xff, 0xff, 0, 0, 0, 0, 0, 0, 0, 62, //
+    0, 3, 0, 0, 0, 0, 0, 0, 0, 29, //
+    1, 1, 0xfb, 14, 13, 0, 1, 1, 1, 1, 0, 0, 0, 1, 0, 0, 1, //
+    b'/', b'w', 0, 0, b'a', b'.', b'c', 0, 1, 0, 0, 0, //
+    0, 5, 2, 0, 0, 0x10, 0, //
+    5, 1, 0x16, 0, 2, 4, 3, 6, 5, 2, 0x4b, 2, 12, 0, 1, 1, //
+    0xff, 0xff, 0xff, 0xff, 0, 0, 0, 0, 0, 0, 0, 54, //
+    0, 3, 0, 0, 0, 0, 0, 0, 0, 29, //
+    1, 1, 0xfb, 14, 13, 0, 1, 1, 1, 1, 0, 0, 0, 1, 0, 0, 1, //
+    b'/', b'w', 0, 0, b'b', b'.', b'c', 0, 1, 0, 0, 0, //
+    0, 5, 2, 0, 0, 0x20, 0, //
+    5, 1, 0x1a, 2, 4, 0, 1, 1, //
+];
+
+// The same ranges.
+const RANGES_64: &[u8] = &[
+    0, 0, 0x10, 0, 0, 0, 0x10, 0x10, 0, 0, 0, 0, 0, 0, 0, 0, //
+    0, 0, 0x10, 0, 0, 0, 0x10, 0x10, 0, 0, 0, 0, 0, 0, 0, 0, //
+    0, 0, 0x10, 4, 0, 0, 0x10, 8, 0, 0, 0, 0, 0, 0, 0, 0, //
+    0, 0, 0x20, 0, 0, 0, 0x20, 4, 0, 0, 0, 0, 0, 0, 0, 0, //
 ];

@@ -3,7 +3,7 @@ use Rattle.std.proofs.Common.{◌≡◌, drop, map}
 use Rattle.linemap_table.specs.TableViews.{unit_part}
 use Rattle.linemap_emit_fits.specs.TableEmission.{EmittedTable, with_emitted_units, emitted_table}
 use Rattle.linemap_emit_fits.specs.FittingUnits.{AllUnitsFit}
-use Rattle.linemap_emit.specs.EmissionTargets.{encoding_of, is_big_of}
+use Rattle.linemap_table.specs.EmissionTargets.{encoding_of, is_big_of}
 use Rattle.linemap_emit.specs.TableEmitterSteps.{HoldsTable}
 use Rattle.linemap_emit.proofs.table_emitter.emitter_of_units.Given as goal
 

@@ -17,7 +17,7 @@ write_program-requires-clause-header c =
     subst (λ (fs : List TableFile). length
     (spelled_header e.version (map (λ f. f.directory) (map file_part fs)) (files_from 1 (map file_part fs)))
     < 256 ^ word_size e.format) (sym c.deref-2.ensures.value)
-    (below_word e _ c.requires.served c.requires.fits.header_small)
+    (below_word e _ c.requires.fits.header_small)
 
 pub write_program-requires-clause-whole : goal.write_program-requires-clause-whole
 write_program-requires-clause-whole c =
@@ -33,7 +33,7 @@ write_program-requires-clause-whole c =
     c.slice.result.now) < length_limit e.format) (sym c.deref-2.ensures.value)
     (subst (λ (xs : List ℕ). length (spelled_program_body e is_big (directories_of u) (files_of u) xs)
     < length_limit e.format) (sym (c.slice.ensures ∙ known))
-    (below_limit e _ c.requires.served fits.program_small))
+    (below_limit e _ fits.program_small))
 
 pub returns : goal.returns
 returns c =

@@ -1,12 +1,14 @@
-use Rattle.std.proofs.Common.{◌<◌, ◌^◌, List, map, subst, sym, arith}
+use Rattle.std.proofs.Common.{◌≡◌, ◌<◌, ◌^◌, true, List, map, subst, sym, arith}
 use Rattle.linemap_table.specs.Conditions.{IsSound}
+use Rattle.linemap_table.specs.EncodingFits.{fits}
 use Rattle.linemap_table.specs.TableParts.{UnitPart}
 use Rattle.linemap_table.specs.TableViews.{unit_part}
 use Rattle.linemap_table.specs.TableWeight.{table_weight}
 use Rattle.linemap_table.specs.TableUnits.{units_of}
-use Rattle.linemap_emit.specs.EmissionTargets.{encoding_of, is_big_of}
+use Rattle.linemap_table.specs.EmissionTargets.{encoding_of, is_big_of}
 use Rattle.linemap_emit.specs.SectionAnswers.{AreAnswers}
 use Rattle.linemap_emit_fits.specs.EmittedSections.{SectionBytes}
+use Rattle.linemap_emit.proofs.ServedEncodings.{target_served}
 use Rattle.linemap_emit.proofs.SectionAnswerLemmas.{light_fits, light_answers}
 use Rattle.linemap_emit.proofs.table_sections.emit_sections.Goals as goal
 
@@ -18,7 +20,8 @@ emit_units-requires c =
     let same = sym c.units.ensures.value in
     let light : table_weight (units_of c.args.table.now) < 2 ^ 31 =
     omega (arith, c.weight.ensures, c.if-weight-ge-WEIGHT_LIMIT.false) in
-    light_fits e is_big units c.args.target.served (subst IsSound same c.units.ensures.sound)
+    light_fits e is_big units (target_served c.args.target) (subst IsSound same c.units.ensures.sound)
+    (subst (λ (us : List UnitPart). fits e.address_size us ≡ true) same c.requires.fits)
     (subst (λ (us : List UnitPart). table_weight us < 2 ^ 31) same light)
 
 pub returns-in-Ok-clause-answers : goal.returns-in-Ok-clause-answers
@@ -30,7 +33,8 @@ returns-in-Ok-clause-answers c =
     let light : table_weight (units_of c.args.table.now) < 2 ^ 31 =
     omega (arith, c.weight.ensures, c.if-weight-ge-WEIGHT_LIMIT.false) in
     let answers =
-    light_answers e is_big units c.args.target.served (subst IsSound (sym value) c.units.ensures.sound)
+    light_answers e is_big units (target_served c.args.target) (subst IsSound (sym value) c.units.ensures.sound)
+    (subst (λ (us : List UnitPart). fits e.address_size us ≡ true) (sym value) c.requires.fits)
     (subst (λ (us : List UnitPart). table_weight us < 2 ^ 31) (sym value) light) in
     subst (AreAnswers is_big c.in-Ok.sections) value
     (subst (λ (b : SectionBytes). AreAnswers is_big b (map unit_part units)) (sym c.in-Ok.ensures.ok) answers)

@@ -1,20 +1,9 @@
-use Rattle.std.proofs.Common.{[]}
-use Rattle.linemap_emit_units.specs.Rule.TheVariants.{NoRange}
-use Rattle.linemap_emit_units.proofs.SoundUnits.{sound_rule}
-use Rattle.linemap_emit_laws.proofs.RecordedContexts.{agreeing_units, context_again, places_again}
 use Rattle.linemap_emit_units.specs.TableEmission.{emitted_table}
 use Rattle.linemap_emit_laws.proofs.EmittedUnitLemmas.{emission_recorded}
+use Rattle.linemap_emit_laws.proofs.RecordedContexts.{answers_again}
 use Rattle.linemap_emit_laws.proofs.emission_laws.emission_answers.Goals as goal
 
 pub returns : goal.returns
 returns c = λ e is_big us s sound served wide utf8 fit hold.
-    let entries = (emitted_table e is_big us).units in
-    let t = emission_recorded e is_big us s served wide utf8 fit hold in
-    record {
-      found = record {
-        units = agreeing_units e is_big s us entries t.units_are_recorded 0 t.info_first;
-        supplement_units = [];
-      };
-      is_context = context_again e is_big s us entries t (sound_rule us NoRange sound);
-      places = λ a. places_again e is_big s us entries t a sound;
-    }
+    answers_again e is_big s us (emitted_table e is_big us).units
+    (emission_recorded e is_big us s served wide utf8 fit hold) sound

@@ -7,25 +7,25 @@ use Rattle.linemap_text.proofs.engine.write_places.Goals as goal
 
 pub context_of-requires : goal.context_of-requires
 context_of-requires g c =
-    context_from _ _ c.args.sections.now c.requires.0 _ c.dwarf_of-dwarf.ensures c.endian.ensures c.target.ensures
+    context_from _ _ c.args.sections.now c.requires.0 _ c.dwarf_of-dwarf.ensures c.endian.ensures c.target.ensures.order
     c.requires.1
 
 pub write_answers-requires : goal.write_answers-requires
 write_answers-requires g c =
-    (answers_from _ _ c.args.sections.now c.requires.0 _ _ c.dwarf_of-dwarf.ensures c.endian.ensures c.target.ensures
+    (answers_from _ _ c.args.sections.now c.requires.0 _ _ c.dwarf_of-dwarf.ensures c.endian.ensures c.target.ensures.order
     c.requires.1 c.in_ok-context.ensures).never_refuses
 
 pub returns-clause-whole : goal.returns-clause-whole
 returns-clause-whole g c = λ us are.
     subst (λ t. OnOk c.write_answers.result
     (Appends (g.W.Write.contents c.args.out.now) (g.W.Write.contents c.write_answers.new.out) t))
-    ((answers_from _ _ c.args.sections.now us _ _ c.dwarf_of-dwarf.ensures c.endian.ensures c.target.ensures are
+    ((answers_from _ _ c.args.sections.now us _ _ c.dwarf_of-dwarf.ensures c.endian.ensures c.target.ensures.order are
     c.in_ok-context.ensures).texts (map string_bytes c.args.words.now))
     c.write_answers.ensures.whole
 
 pub returns-clause-prefix : goal.returns-clause-prefix
 returns-clause-prefix g c = λ us are.
     subst (AppendsPrefix (g.W.Write.contents c.args.out.now) (g.W.Write.contents c.write_answers.new.out))
-    ((answers_from _ _ c.args.sections.now us _ _ c.dwarf_of-dwarf.ensures c.endian.ensures c.target.ensures are
+    ((answers_from _ _ c.args.sections.now us _ _ c.dwarf_of-dwarf.ensures c.endian.ensures c.target.ensures.order are
     c.in_ok-context.ensures).texts (map string_bytes c.args.words.now))
     c.write_answers.ensures.prefix
