@@ -83,7 +83,7 @@ const NONE: Section = Section {
 };
 
 // A section of a name and some bytes.
-fn section(name: u32, bytes: &'static [u8]) -> Section {
+fn plain_section(name: u32, bytes: &'static [u8]) -> Section {
     Section {
         name,
         section_type: SHT_PROGBITS,
@@ -117,12 +117,12 @@ fn program() -> [Section; 8] {
     [
         NONE,
         SECTION_NAMES,
-        section(1, TABLE),
-        section(15, UNIT),
-        section(27, LINES),
-        section(39, b"\x90\x90"),
+        plain_section(1, TABLE),
+        plain_section(15, UNIT),
+        plain_section(27, LINES),
+        plain_section(39, b"\x90\x90"),
         SYMBOL_TABLE,
-        section(0, SYMBOL_NAMES),
+        plain_section(0, SYMBOL_NAMES),
     ]
 }
 
@@ -131,8 +131,8 @@ fn split_program() -> [Section; 4] {
     [
         NONE,
         SECTION_NAMES,
-        section(1, SKELETON_TABLE),
-        section(15, SKELETON),
+        plain_section(1, SKELETON_TABLE),
+        plain_section(15, SKELETON),
     ]
 }
 
@@ -141,8 +141,8 @@ fn split_file() -> [Section; 4] {
     [
         NONE,
         SECTION_NAMES,
-        section(45, SPLIT_TABLE),
-        section(63, SPLIT),
+        plain_section(45, SPLIT_TABLE),
+        plain_section(63, SPLIT),
     ]
 }
 
@@ -151,8 +151,8 @@ fn other_split_file() -> [Section; 4] {
     [
         NONE,
         SECTION_NAMES,
-        section(45, SPLIT_TABLE),
-        section(63, OTHER_SPLIT),
+        plain_section(45, SPLIT_TABLE),
+        plain_section(63, OTHER_SPLIT),
     ]
 }
 
@@ -354,38 +354,65 @@ fn a_file_in_memory(rt: HostRuntime) -> Result<(), Fail> {
     Ok(())
 }
 
+// The first frame of an address of a program, in a loader of its own.
+fn first_frame_in(
+    alloc: Global,
+    sections: &[Section],
+    probe: u64,
+    source: &mut MapSource,
+    name: &[u8],
+) -> Result<Option<Named>, Fail> {
+    let mut loader = loader_of(alloc, sections)?;
+    Ok(first_frame(alloc, &mut loader, probe, source, name)?)
+}
+
+// Without split files, with one, with none, and with that of another unit.
 #[test]
 fn frames_with_split_files(rt: HostRuntime) -> Result<(), Fail> {
     let alloc = rt.alloc();
     let mut none = MapSource::new(alloc);
-    let mut whole = loader_of(alloc, &program())?;
-    let frame = first_frame(alloc, &mut whole, 0x20, &mut none, b"")?;
-    assert_eq!(rt; frame, Some((true, Some(3))));
-    // The first answer counts, also where the source changes.
-    let mut split = loader_of(alloc, &split_program())?;
+    let whole = first_frame_in(alloc, &program(), 0x20, &mut none, b"")?;
+    assert_eq!(rt; whole, Some((true, Some(3))));
     let mut source = source_of(alloc, &split_file())?;
-    for _ in 0..2 {
-        let frame = first_frame(alloc, &mut split, 0x1004, &mut source, b"f")?;
-        assert_eq!(rt; frame, Some((true, None)));
-    }
-    let frame = first_frame(alloc, &mut split, 0x1004, &mut none, b"f")?;
-    assert_eq!(rt; frame, Some((true, None)));
-    // A source that is out of memory leaves the load without an answer.
-    let mut split = loader_of(alloc, &split_program())?;
+    let split = first_frame_in(alloc, &split_program(), 0x1004, &mut source, b"f")?;
+    assert_eq!(rt; split, Some((true, None)));
+    let missing = first_frame_in(alloc, &split_program(), 0x1004, &mut none, b"f")?;
+    assert_eq!(rt; missing, None);
+    let mut other = source_of(alloc, &other_split_file())?;
+    let of_another = first_frame_in(alloc, &split_program(), 0x1004, &mut other, b"f")?;
+    assert_eq!(rt; of_another, None);
+    Ok(())
+}
+
+// The first frame of the split program by a source, and then without files.
+fn frames_by_two_sources(alloc: Global) -> Result<[Option<Named>; 2], Fail> {
+    let mut loader = loader_of(alloc, &split_program())?;
+    let mut source = source_of(alloc, &split_file())?;
+    let mut none = MapSource::new(alloc);
+    let first = first_frame(alloc, &mut loader, 0x1004, &mut source, b"f")?;
+    let second = first_frame(alloc, &mut loader, 0x1004, &mut none, b"f")?;
+    Ok([first, second])
+}
+
+// The refusal of a source that is out of memory, and the first frame after that.
+fn frame_after_a_refusal(alloc: Global) -> Result<(Option<Error>, Option<Named>), Fail> {
+    let mut loader = loader_of(alloc, &split_program())?;
+    let source = source_of(alloc, &split_file())?;
     let mut failing = Failing {
         source,
         fails: true,
     };
-    let refused = first_frame(alloc, &mut split, 0x1004, &mut failing, b"f").err();
-    assert_eq!(rt; refused, Some(Error::Memory));
-    let frame = first_frame(alloc, &mut split, 0x1004, &mut failing, b"f")?;
-    assert_eq!(rt; frame, Some((true, None)));
-    // No file, and a file of another unit.
-    let mut other = source_of(alloc, &other_split_file())?;
-    for source in [&mut none, &mut other] {
-        let mut split = loader_of(alloc, &split_program())?;
-        assert!(rt; first_frame(alloc, &mut split, 0x1004, source, b"f")?.is_none());
-    }
+    let refused = first_frame(alloc, &mut loader, 0x1004, &mut failing, b"f").err();
+    let frame = first_frame(alloc, &mut loader, 0x1004, &mut failing, b"f")?;
+    Ok((refused, frame))
+}
+
+// The first answer counts. A source that is out of memory leaves the load without one.
+#[test]
+fn first_answers_of_sources(rt: HostRuntime) -> Result<(), Fail> {
+    let found = Some((true, None));
+    assert_eq!(rt; frames_by_two_sources(rt.alloc())?, [found, found]);
+    assert_eq!(rt; frame_after_a_refusal(rt.alloc())?, (Some(Error::Memory), found));
     Ok(())
 }
 
@@ -397,7 +424,7 @@ fn files_that_are_refused(rt: HostRuntime) -> Result<(), Fail> {
         flags: 0x800,
         ..unit
     };
-    let damaged = section(15, DAMAGED_UNIT);
+    let damaged = plain_section(15, DAMAGED_UNIT);
     let far = Section { link: 9, ..symbols };
     let refusals = [
         refusal(alloc, 2, &[none, names, table, compressed])?,
