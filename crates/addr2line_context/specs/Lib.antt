@@ -1,5 +1,4 @@
 pub use Rattle.addr2line_lookups.specs.UnitLookups
-pub use Rattle.addr2line_lookups.specs.LookupCosts
 pub use Rattle.addr2line_lookups.specs.BorrowedFrames
 pub use Rattle.addr2line_lookups.specs.UnitParses
 pub use Rattle.addr2line_lookups.specs.KeptCalls
@@ -45,7 +44,6 @@ pub use Rattle.addr2line_lookups.specs.KeptUnits
 pub use Rattle.addr2line_lookups.specs.RangeItems
 pub mod AnsweredContexts
 pub mod KeptContexts
-pub mod ContextCosts
 pub mod ContextParses
 pub use Rattle.addr2line_lookups.specs.LoadAnswers
 pub use Rattle.addr2line_lookups.specs.Preloads
@@ -53,4 +51,3 @@ pub mod Suspended
 pub use Rattle.addr2line_lookups.specs.AnsweredUnits
 pub mod Outcomes
 pub mod SettledLookups
-pub mod FrameLoads

@@ -5,10 +5,8 @@
 pub mod context;
 pub mod find_frames;
 pub mod find_unit;
-pub mod frame_loads;
 pub mod lookup;
 mod outcomes;
-mod runs;
 mod sections;
 
 pub use addr2line_lookups::{

@@ -70,5 +70,4 @@ pub mod KeptCalls
 pub mod UnitParses
 pub mod FunctionPlaces
 pub mod FramePlaces
-pub mod LookupCosts
 pub mod UnitLookups

@@ -53,8 +53,7 @@ impl<T: Drop> Kept<T> {
 
     /// What is kept.
     pub fn result(&self) -> Option<&Result<T, Error>>
-        ensures kept { option_map (λ r. r.now) result ≡ self.now }
-        ensures answer { self.now ≢ Some (Err Memory) }
+        ensures { option_map (λ r. r.now) result ≡ self.now }
     {
         self.result.as_ref()
     }

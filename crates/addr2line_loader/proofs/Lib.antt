@@ -1,4 +1,0 @@
-mod AnsweredLoads
-mod FoundFrames
-mod SupplementSections
-mod FileReadLemmas

@@ -1,3 +1,0 @@
-pub mod LoadedFiles
-pub mod FileLoads
-pub mod SourceAnswers
