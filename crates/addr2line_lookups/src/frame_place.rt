@@ -94,7 +94,7 @@ pub(crate) fn find_frames_at<R: Reader>(
 
 // ---- lending
 
-// The place that a row stands for, if there is one.
+// The place of a row, if there is one.
 fn location_of_row(lines: &LineIndex, row: Option<LineRow>) -> Option<Location<'_>>
     ensures { option_map location_value result
         ≡ option_map (row_location lines.now.lines.files) row }

@@ -86,7 +86,7 @@ impl<R: Reader> Units<R> {
         find_row(alloc, &mut self.units, &self.ranges, probe)
     }
 
-    // The place that a row stands for, in the lines of its unit, which are kept.
+    // The place of a row in the lines of its unit, which are kept.
     pub fn place_in(&self, found: UnitRow) -> Option<Location<'_>>
         ensures { KeepsAt self.now found.unit → option_map location_value result
             ≡ location_of_unit_row (map plain_unit self.now) found }
