@@ -17,8 +17,8 @@ use std::alloc::Global;
 // A table with this weight or more is too large.
 const WEIGHT_LIMIT: u64 = 1 << 31;
 
-/// The sections of a table, for a target that it fits. A table whose weight is 2^31 or more is refused before
-/// any memory is taken; any other is emitted if there is enough memory.
+/// The sections of a table, for a target that it fits (`Table::fits`). A table whose weight is 2^31
+/// or more is refused before any memory is taken; any other is emitted if there is enough memory.
 pub fn emit_sections(alloc: Global, table: &Table, target: Target) -> Result<Sections, EmitError>
     requires fits { fits (encoding_of target).address_size (units_of table.now) ≡ true }
     ensures too_large { IsErrOf result EmitError.TooLarge
