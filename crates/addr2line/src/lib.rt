@@ -11,6 +11,7 @@ pub use addr2line_context::{
 pub use addr2line_demangle::{demangle, demangle_auto};
 pub use addr2line_elf::{Elf, LoadError, Symbol, Symbols};
 pub use addr2line_functions::{DebugFile, HasUnit, HoldingUnit, KnownUnits, Names, UnitNames};
+pub use addr2line_loader::Loader;
 pub use addr2line_split::{FileSource, MapSource, SplitFile, SplitSource, load_split};
 
 /// What holds of the definitions, as contracts.

@@ -35,7 +35,8 @@ has_load : {A : Type 0} (is_something : A → Bool) (nothing : A) (ask : Pair Co
 has_load is_something nothing ask c a h =
     let first =
     first_of_each _ h.0
-    (waits_for_first (decide_in c) is_something nothing ask (λ p (first : FirstAnswer). first) h.0 (pairs_of c.plain a) h.1)
+    (waits_for_first (decide_in c) is_something nothing ask (λ p (first : FirstAnswer). first) h.0
+    (pairs_of c.plain a) h.1)
     in one_or_more (loads_in c a) h.0 first.0 first.1
 
 pub frames_have_load : (c : AnsweredContext) (a : ℕ) → IsPending (frames_in c a) → 0 < length (loads_in c a)
@@ -78,7 +79,8 @@ module _ (c : AnsweredContext) (p : PendingLoad) (rest : List PendingLoad) where
           let same : w ≡ p = cc in
           let waits : decide_in c q ≡ pending p = is ∙ ap pending same in
           let number : q.number ≡ p.number =
-          pending_number q.number (load_of (main_unit_in c.plain q.unit)) (recorded_answer c.answers q.number) p waits in (
+          pending_number q.number (load_of (main_unit_in c.plain q.unit)) (recorded_answer c.answers q.number) p waits
+          in (
             q.unit,
             (
               ap (slice_get c.plain.context.units) (sym number) ∙ at.0,

@@ -141,7 +141,8 @@ module _ (file : DwarfFile) (us : List ResolvedUnit) (s : List UnitFacts)
   known_here : known_units here ≡ known_among us s
   known_here =
       ap (λ facts. record { units = facts; supplement_units = s })
-      (map-map (λ (u : ContextUnit). u.facts) unit_of vs ∙ map-map (λ (v : AnsweredUnit). v.unit.facts) value_of_unit us)
+      (map-map (λ (u : ContextUnit). u.facts) unit_of vs
+      ∙ map-map (λ (v : AnsweredUnit). v.unit.facts) value_of_unit us)
 
   -- the frames of an address
   pub frames_in_context : frames_in c a

@@ -1,5 +1,5 @@
 -- A context from its parts.
-use Rattle.std.proofs.Common.{◌≡◌, List, map, Option, None, Some, Result, Ok, Err, sym, ap, ◌∙◌}
+use Rattle.std.proofs.Common.{◌≡◌, ℕ, List, map, Option, None, Some, Result, Ok, Err, sym, ap, ◌∙◌, subst}
 use Rattle.std.proofs.lemmas.Simd.{map-map}
 use Rattle.addr2line_lookups.specs.Error.{Error}
 use Rattle.addr2line_lookups.specs.Repetition.{fault_of}
@@ -14,6 +14,9 @@ use Rattle.addr2line_lookups.specs.ResolvedUnits.{ResolvedUnit, value_of_unit, p
 use Rattle.addr2line_lookups.proofs.NewUnits.{unit_of, units_alone, units_of_new}
 use Rattle.addr2line_lookups.proofs.ContextOfUnits.{context_of_units}
 use Rattle.addr2line_context.specs.AnsweredContexts.{AnsweredContext}
+use Rattle.addr2line_context.specs.KeptContexts.{ResolvedContext}
+use Rattle.addr2line_context.specs.ContextCosts.{AfterLookup}
+use Rattle.addr2line_lookups.specs.LookupCosts.{AtMostLooks}
 use Rattle.addr2line_lookups.specs.AnsweredUnits.{answers_of}
 use Rattle.addr2line_lookups.proofs.KeptLines.{same_plain}
 
@@ -105,3 +108,26 @@ pub same_context : (file : DwarfFile) (us vs : List ResolvedUnit) (supplement_un
 same_context file us vs supplement_units c same is =
     ap (λ units. context_from file supplement_units units (answers_of (map value_of_unit vs))) (same_plain vs us same)
     ∙ ap (λ values. context_from file supplement_units (map plain_unit us) (answers_of values)) same ∙ is
+
+-- ---- with what is kept
+
+abbrev pub resolved_with : DwarfFile → List ResolvedUnit → List UnitFacts → ResolvedContext
+resolved_with file us supplement_units =
+    record { value = context_with file us supplement_units; units = us }
+
+module _ (file : DwarfFile) (us : List ResolvedUnit) (supplement_units : List UnitFacts) (c : ResolvedContext)
+    (is : resolved_with file us supplement_units ≡ c) where
+  pub value_is : context_with file us supplement_units ≡ c.value
+  value_is = ap (λ (x : ResolvedContext). x.value) is
+
+  -- the looks since then
+  pub looks_since : (n : ℕ) (vs : List ResolvedUnit) → AtMostLooks n us vs → AtMostLooks n c.units vs
+  looks_since n vs = subst (λ (x : ResolvedContext). AtMostLooks n x.units vs) is
+
+  -- a lookup that leaves the units' values
+  pub after_lookup : (n m : ℕ) (vs : List ResolvedUnit) → n ≡ m → map value_of_unit vs ≡ map value_of_unit us
+      → AtMostLooks n us vs → AfterLookup m c (resolved_with file vs supplement_units)
+  after_lookup n m vs same_count same looks = record {
+    value = same_context file us vs supplement_units c.value same value_is;
+    cost = subst (λ k. AtMostLooks k c.units vs) same_count (looks_since n vs looks);
+  }

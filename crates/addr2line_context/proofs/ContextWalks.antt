@@ -48,13 +48,13 @@ calls_said : (c : FileContext) (u : ContextUnit) (first : FirstAnswer)
 calls_said c u (Ok split) = refl
 calls_said c u (Err e) = refl
 
-pub says_calls : (c : FileContext) → Says c.file (calls_or_refusal c (naming_in c)) (check_calls_of (known_units c))
+says_calls : (c : FileContext) → Says c.file (calls_or_refusal c (naming_in c)) (check_calls_of (known_units c))
 says_calls c v of_file =
     ap (λ f. and_then (unit_of_functions (in_file f v.unit.facts) (first_answer v)) (calls_in (known_units c))) of_file
     ∙ calls_said c v.unit (first_answer v)
 
 -- that, with the names as a context finds them
-abbrev pub parse_calls : FileContext → ContextUnit → FirstAnswer → Result (Unit {0}) Error
+abbrev parse_calls : FileContext → ContextUnit → FirstAnswer → Result (Unit {0}) Error
 parse_calls c = calls_or_refusal c (naming_in c)
 
 -- the units that a context knows
@@ -89,15 +89,11 @@ module _ (file : DwarfFile) (us : List ResolvedUnit) (s : List UnitFacts)
             ∙ all_parsed here (parse here) check says vs of_file
             ∙ ap (λ (r : Walked). (r.0, answers_of r.1)) all)
         by (inr none) =
-            inr (
-              none.0,
-              (
-                none.1.0,
-                ap answers_of none.1.1
-                    ∙ sym (ap (λ units. (parse_from here (parse here) 0 (take none.1.0 units) (answers_of vs)).1) (sym units_here)
-                    ∙ ap (λ r. r.1) (first_parsed here (parse here) check says none.1.0 vs of_file)),
-              ),
-            )
+            let n = none.1.0 in
+            let parsed =
+            ap (λ units. (parse_from here (parse here) 0 (take n units) (answers_of vs)).1) (sym units_here)
+            ∙ ap (λ r. r.1) (first_parsed here (parse here) check says n vs of_file) in
+            inr (none.0, (n, ap answers_of none.1.1 ∙ sym parsed))
 
     -- of the context, as it is seen
     pub walk_of_context : (c : AnsweredContext) → context_with file us s ≡ c
@@ -114,3 +110,39 @@ module _ (file : DwarfFile) (us : List ResolvedUnit) (s : List UnitFacts)
 
     pub of_file_walked : AreOfFile file (map value_of_unit us')
     of_file_walked = same_file_left check result vs (map value_of_unit us') h file of_file
+
+-- ---- the walk over the calls of functions
+
+-- The units s of the supplement are handed in as a slice, which is `given`.
+module _ (file : DwarfFile) (us : List ResolvedUnit) (s : List UnitFacts)
+    (of_file : AreOfFile file (map value_of_unit us)) (given : List UnitFacts) (given_is : given ≡ s)
+    (us' : List ResolvedUnit) (result : Result (Unit {0}) Error)
+    (h : WalksOrNoMemory (check_calls_of (known_among us given)) result (map value_of_unit us)
+    (map value_of_unit us')) where
+  abbrev context_here : FileContext
+  context_here = file_context_with file us s
+
+  abbrev check_here : AnsweredUnit → Result (Unit {0}) Error
+  check_here = check_calls_of (known_units context_here)
+
+  walk_calls : WalksOrNoMemory check_here result (map value_of_unit us) (map value_of_unit us')
+  walk_calls =
+      let Walks : KnownUnits → Type 0 =
+      λ known. WalksOrNoMemory (check_calls_of known) result (map value_of_unit us) (map value_of_unit us') in
+      subst Walks (sym (known_in file us s))
+      (subst (λ (units : List UnitFacts). Walks (known_among us units)) given_is h)
+
+  pub of_file_calls : AreOfFile file (map value_of_unit us')
+  of_file_calls =
+      of_file_walked file us s of_file parse_calls check_here (says_calls context_here) us' result walk_calls
+
+  module _ (c : AnsweredContext) (is : context_with file us s ≡ c) where
+    pub calls_of_context : ParsesOrNoMemory c.plain (parse_calls c.plain) result c.answers
+        (answers_of (map value_of_unit us'))
+    calls_of_context =
+        walk_of_context file us s of_file parse_calls check_here (says_calls context_here) us' result walk_calls c is
+
+    pub same_plain_calls : file_context_with file us' s ≡ c.plain
+    same_plain_calls =
+        same_plain_walked file us s of_file parse_calls check_here (says_calls context_here) us' result walk_calls c
+        is

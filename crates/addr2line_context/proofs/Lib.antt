@@ -3,8 +3,13 @@ pub mod NewContexts
 pub mod ContextLoads
 pub mod KeptUnits
 pub mod ContextWalks
+pub mod ContextLooks
 pub mod AskedUnits
 pub mod AnsweredFirst
 pub mod SettledContexts
+pub mod FirstLoads
+pub mod FoundRows
 pub mod LookupResults
 pub mod ResumedLookups
+pub mod UnitRuns
+pub mod FrameLoads

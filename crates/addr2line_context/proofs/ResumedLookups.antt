@@ -1,32 +1,68 @@
--- How often a lookup waits.
-use Rattle.std.proofs.Common.{◌≡◌, ℕ, ◌<◌, ◌≤◌, ◌+◌, length, refl, arith}
+-- How often a lookup waits, and what one that goes on leaves.
+use Rattle.std.proofs.Common.{◌≡◌, inl, ℕ, ◌<◌, ◌≤◌, ◌+◌, length, Option, sym, ap, ◌∙◌, subst, arith}
+use Rattle.addr2line_lookups.specs.DwarfFiles.{DwarfFile}
+use Rattle.addr2line_lookups.specs.LookupCosts.{AtMostLooks}
+use Rattle.addr2line_lookups.proofs.UnitProbes.{looks_both, looks_weaker}
 use Rattle.addr2line_context.specs.AnsweredContexts.{AnsweredContext}
+use Rattle.addr2line_context.specs.KeptContexts.{ResolvedContext}
+use Rattle.addr2line_context.specs.ContextCosts.{frame_looks, AfterLookup}
 use Rattle.addr2line_context.specs.Suspended.{IfLoad, loads_left}
-use Rattle.addr2line_context.specs.SettledLookups.{loads_in, IsFor}
+use Rattle.addr2line_context.specs.SettledLookups.{loads_in, after_answer, LeavesAnswer, AfterAnswer, IsFor, WaitsAgain}
 use Rattle.addr2line_context.specs.declared.lookup.LookupResult.{LookupResult}
 use Rattle.addr2line_context.specs.declared.lookup.LookupResult.TheVariants.{Load, Output}
 
--- the result of a lookup at an address, in a context that has fewer loads there than before
-module _ {L O B W S E F : Type 0} (now : L → AnsweredContext) (probe : L → ℕ) (c : AnsweredContext) (a before : ℕ)
-    (fewer : 0 < length (loads_in c a) → length (loads_in c a) + 1 ≤ before) where
-  pub left_after : (result : LookupResult L O B W S E F)
-      → IfLoad (λ w. IsFor c a (now w) (probe w)) result
-      → loads_left (λ w. length (loads_in (now w) (probe w))) result ≤ before
-  left_after (Output x) h = omega arith
-  left_after (Load w) h = rw (h.0, h.1) (fewer h.2)
+-- the looks of a lookup that goes on after an answer
+abbrev looks_after : ResolvedContext → ℕ → Option DwarfFile → ℕ
+looks_after old a file = frame_looks (after_answer old.value a file) a
 
-module _ {L O B W S E F : Type 0} (now : L → AnsweredContext) (probe : L → ℕ) (c : AnsweredContext) (a : ℕ) where
-  pub waits_after : (result : LookupResult L O B W S E F)
-      → IfLoad (λ w. IsFor c a (now w) (probe w)) result
-      → IfLoad (λ w. 0 < length (loads_in (now w) (probe w))) result
-  waits_after (Output x) h = tt
-  waits_after (Load w) h = rw (h.0, h.1) h.2
+-- an answer that ended when out of memory
+pub after_error : (old new : ResolvedContext) (a : ℕ) (file : Option DwarfFile)
+    → LeavesAnswer old.value a file new.value → AtMostLooks 0 old.units new.units → AfterAnswer old a file new
+after_error old new a file left free =
+    record { value = left; cost = looks_weaker 0 (looks_after old a file) old.units new.units (omega arith) free }
 
-  pub place_after : (result : LookupResult L O B W S E F)
-      → IfLoad (λ w. IsFor c a (now w) (probe w)) result → IfLoad (λ w. probe w ≡ a) result
-  place_after (Output x) h = tt
-  place_after (Load w) h = h.1
+-- A lookup goes on in `mid`, the context after an answer to the first load of its address.
+module _ (old mid : ResolvedContext) (a : ℕ) (file : Option DwarfFile)
+    (answered : mid.value ≡ after_answer old.value a file) (free : AtMostLooks 0 old.units mid.units) where
+  looks_again : (new : ResolvedContext) → AfterLookup (frame_looks mid.value a) mid new
+      → AtMostLooks (looks_after old a file) old.units new.units
+  looks_again new after =
+      subst (λ (c : AnsweredContext). AtMostLooks (frame_looks c a) old.units new.units) answered
+      (looks_weaker (0 + frame_looks mid.value a) (frame_looks mid.value a) old.units new.units (omega arith)
+      (looks_both 0 (frame_looks mid.value a) old.units mid.units new.units free after.cost))
 
-pub if_load_same : {L O B W S E F A : Type 0} (result : LookupResult L O B W S E F) (x : A) → IfLoad (λ w. x ≡ x) result
-if_load_same (Output y) x = tt
-if_load_same (Load w) x = refl
+  pub after_again : (new : ResolvedContext) → AfterLookup (frame_looks mid.value a) mid new → AfterAnswer old a file new
+  after_again new after = record { value = inl (after.value ∙ answered); cost = looks_again new after }
+
+  module _ {L O B W S E F : Type 0} (now : L → ResolvedContext) (probe : L → ℕ) where
+    pub waits_again : (result : LookupResult L O B W S E F) → IfLoad (λ w. IsFor mid a (now w) (probe w)) result
+        → IfLoad (λ w. WaitsAgain old a file (now w) (probe w)) result
+    waits_again (Output x) h = tt
+    waits_again (Load w) h = record {
+      value = h.after.value ∙ answered;
+      cost = looks_again (now w) h.after;
+      place = h.place;
+    }
+
+-- the loads that are left to it
+module _ (old mid : ResolvedContext) (a : ℕ) {L : Type 0} (now : L → ResolvedContext) (probe : L → ℕ) where
+  abbrev left : L → ℕ
+  left w = length (loads_in (now w).value (probe w))
+
+  same_left : (w : L) → IsFor mid a (now w) (probe w) → left w ≡ length (loads_in mid.value a)
+  same_left w h =
+      ap (λ p. length (loads_in (now w).value p)) h.place ∙ ap (λ c. length (loads_in c a)) h.after.value
+
+  pub has_loads : {O B W S E F : Type 0} (result : LookupResult L O B W S E F)
+      → IfLoad (λ w. IsFor mid a (now w) (probe w)) result → IfLoad (λ w. 0 < left w) result
+  has_loads (Output x) h = tt
+  has_loads (Load w) h = subst (λ n. 0 < n) (sym (same_left w h)) h.has_load
+
+  -- fewer, where an answer leaves fewer
+  pub fewer_left : {O B W S E F : Type 0}
+      → (0 < length (loads_in mid.value a) → length (loads_in mid.value a) + 1 ≤ length (loads_in old.value a))
+      → (result : LookupResult L O B W S E F) → IfLoad (λ w. IsFor mid a (now w) (probe w)) result
+      → loads_left left result ≤ length (loads_in old.value a)
+  fewer_left fewer (Output x) h = omega arith
+  fewer_left fewer (Load w) h =
+      subst (λ n. n + 1 ≤ length (loads_in old.value a)) (sym (same_left w h)) (fewer h.has_load)

@@ -1,4 +1,5 @@
 pub use Rattle.addr2line_lookups.specs.UnitLookups
+pub use Rattle.addr2line_lookups.specs.LookupCosts
 pub use Rattle.addr2line_lookups.specs.BorrowedFrames
 pub use Rattle.addr2line_lookups.specs.UnitParses
 pub use Rattle.addr2line_lookups.specs.KeptCalls
@@ -44,6 +45,7 @@ pub use Rattle.addr2line_lookups.specs.KeptUnits
 pub use Rattle.addr2line_lookups.specs.RangeItems
 pub mod AnsweredContexts
 pub mod KeptContexts
+pub mod ContextCosts
 pub mod ContextParses
 pub use Rattle.addr2line_lookups.specs.LoadAnswers
 pub use Rattle.addr2line_lookups.specs.Preloads
@@ -51,3 +53,4 @@ pub mod Suspended
 pub use Rattle.addr2line_lookups.specs.AnsweredUnits
 pub mod Outcomes
 pub mod SettledLookups
+pub mod FrameLoads

@@ -1,16 +1,17 @@
 -- Lookups of a context under its own first answers, and what answers to their loads leave.
-use Rattle.std.specs.Prelude.{◌≡◌, ◌⊎◌, ℕ, ◌<◌, Bool, true, false, List, [], ◌∷◌, length, Option, Result, Ok, Err}
+use Rattle.std.specs.Prelude.{◌≡◌, ◌⊎◌, ℕ, ◌<◌, List, [], ◌∷◌, length, Option, Result, Ok}
 use Rattle.addr2line_lookups.specs.Error.{Error}
-use Rattle.addr2line_lookups.specs.Error.TheVariants.{Memory}
 use Rattle.addr2line_lookups.specs.Calls.{ReturnsOrNoMemory}
 use Rattle.addr2line_lookups.specs.DwarfFiles.{DwarfFile}
 use Rattle.addr2line_lookups.specs.UnitFacts.{UnitInFile}
 use Rattle.addr2line_lookups.specs.Frames.{Frame}
-use Rattle.addr2line_lookups.specs.FirstAnswers.{FirstAnswers, PendingLoad, SplitLoad, Lookup, output}
+use Rattle.addr2line_lookups.specs.FirstAnswers.{FirstAnswers, PendingLoad, SplitLoad, Lookup}
 use Rattle.addr2line_lookups.specs.Lookups.{frames, unit, loads, answer_load}
 use Rattle.addr2line_lookups.specs.ContextNames.{naming_in}
-use Rattle.addr2line_lookups.specs.UnitLookups.{IsPending}
+use Rattle.addr2line_lookups.specs.LookupCosts.{AtMostLooks}
 use Rattle.addr2line_context.specs.AnsweredContexts.{AnsweredContext}
+use Rattle.addr2line_context.specs.KeptContexts.{ResolvedContext}
+use Rattle.addr2line_context.specs.ContextCosts.{frame_looks, AfterLookup}
 
 -- ---- lookups
 
@@ -25,16 +26,6 @@ unit_in c a = unit c.plain (naming_in c.plain) c.answers a
 -- the loads that lookups of an address may wait for
 abbrev pub loads_in : AnsweredContext → ℕ → List PendingLoad
 loads_in c a = loads c.plain c.answers a
-
--- something is found without a load
-abbrev pub IsDone : {A : Type 0} → Lookup A → Type 0
-IsDone {A} meaning = (x : A) × (meaning ≡ output x)
-
--- whether a lookup waits, or out of memory
-abbrev pub TellsWaiting : {A : Type 0} → Lookup A → Result Bool Error → Type 0
-TellsWaiting meaning (Ok true) = IsPending meaning
-TellsWaiting meaning (Ok false) = IsDone meaning
-TellsWaiting meaning (Err e) = e ≡ Memory
 
 -- ---- answers
 
@@ -52,11 +43,27 @@ after_answer c a file = record c { answers = answers_with_first c (loads_in c a)
 abbrev pub LeavesAnswer : AnsweredContext → ℕ → Option DwarfFile → AnsweredContext → Type 0
 LeavesAnswer c a file new = (new ≡ after_answer c a file) ⊎ (new ≡ c)
 
+-- A context after an answer to the first load of an address, or as it was, and after the lookup of
+-- frames that goes on there.
+pub record AfterAnswer (old : ResolvedContext) (a : ℕ) (file : Option DwarfFile)
+    (new : ResolvedContext) : Type 0 where
+  pub value : LeavesAnswer old.value a file new.value
+  pub cost : AtMostLooks (frame_looks (after_answer old.value a file) a) old.units new.units
+
 -- ---- lookups that wait
 
--- a lookup waits in a context, at an address that has a load
-abbrev pub IsFor : AnsweredContext → ℕ → AnsweredContext → ℕ → Type 0
-IsFor c a now probe = (now ≡ c) × (probe ≡ a) × (0 < length (loads_in c a))
+-- a lookup waits in the context that it found, at an address that has a load
+pub record IsFor (old : ResolvedContext) (a : ℕ) (now : ResolvedContext) (probe : ℕ) : Type 0 where
+  pub after : AfterLookup (frame_looks old.value a) old now
+  pub place : probe ≡ a
+  pub has_load : 0 < length (loads_in old.value a)
+
+-- one that waits again: at its address, in the context after an answer to the first load
+pub record WaitsAgain (old : ResolvedContext) (a : ℕ) (file : Option DwarfFile)
+    (now : ResolvedContext) (probe : ℕ) : Type 0 where
+  pub value : now.value ≡ after_answer old.value a file
+  pub cost : AtMostLooks (frame_looks (after_answer old.value a file) a) old.units now.units
+  pub place : probe ≡ a
 
 -- the first of some loads, or out of memory
 abbrev pub LoadOf : List PendingLoad → Result SplitLoad Error → Type 0

@@ -1,6 +1,6 @@
 -- Lookups that wait for loads, and what they find in the end.
 use Rattle.std.specs.Prelude.{◌≡◌, ◌≢◌, ℕ, ◌+◌, Result, Ok, Err}
-use Rattle.std.specs.Borrow.{GName}
+use Rattle.std.specs.Borrow.{GName, Fml, RattleType, MutBor, follows_so}
 use mathlib.Core.Option as maybe
 use Rattle.addr2line_lookups.specs.Error.{Error}
 use Rattle.addr2line_lookups.specs.Error.TheVariants.{Memory}
@@ -27,6 +27,12 @@ abbrev pub waiting_name : {L O B W S E F : Type 0} → (L → GName)
     → LookupResult L O B W S E F → maybe.Option GName
 waiting_name name (Output found) = maybe.none
 waiting_name name (Load wait) = maybe.some (name wait)
+
+-- The reference s is in a lookup that waits; where none waits, P holds of what the loan leaves.
+abbrev pub RestsUnlessWaiting : {L O B W S E F : Type 0} (R : RattleType) → MutBor R.Denot
+    → (L → GName) → LookupResult L O B W S E F → (R.Denot → Type 0) → Fml
+RestsUnlessWaiting R s name result P =
+    follows_so R R s.ghost_name (waiting_name name result) (λ w n. IfLoad (λ v. n ≡ w) result) P
 
 -- ---- their meaning
 

@@ -1,28 +1,32 @@
 //! A context, and what lookups find in it.
 
-ghost use Rattle.std.specs.Prelude.{◌≡◌, ◌<◌, ◌≤◌, ◌+◌, Ok, IfOk, IfErr, OnOk, length, map, option_map};
+ghost use Rattle.std.specs.Prelude.{◌≡◌, ◌≢◌, ◌<◌, ◌≤◌, ◌+◌, Ok, Err, IfOk, IfErr, IfSome, OnOk, length, map, slice_get, option_map};
 ghost use Rattle.addr2line_lookups.specs.Calls.{ReturnsAsOrNoMemory, ReturnsOrNoMemory};
 ghost use Rattle.addr2line_lookups.specs.Contexts.{location, stretches, file_context, all_lines_or_refusal};
 ghost use Rattle.addr2line_lookups.specs.Error.TheVariants.{Memory};
-ghost use Rattle.addr2line_lookups.specs.Lookups.{loads, answer_load, map_output};
+ghost use Rattle.addr2line_lookups.specs.Lookups.{answer_load, map_output};
 ghost use Rattle.addr2line_lookups.specs.BorrowedFrames.{frames_left};
 ghost use Rattle.addr2line_lookups.specs.BorrowedLocations.{location_value};
-ghost use Rattle.addr2line_lookups.specs.ResolvedUnits.{plain_unit};
-ghost use Rattle.addr2line_context.specs.AnsweredContexts.{HasNoAnswers};
+ghost use Rattle.addr2line_lookups.specs.ResolvedUnits.{value_of_unit};
+ghost use Rattle.addr2line_lookups.specs.LookupCosts.{AtMostLooks};
+ghost use Rattle.addr2line_lookups.specs.UnitLookups.{SettlesFrames, SettlesUnit};
 ghost use Rattle.addr2line_lookups.specs.LoadAnswers.{AnswersOrNoMemory};
 ghost use Rattle.addr2line_lookups.specs.Histories.{functions_or_refusal, calls_or_refusal};
 ghost use Rattle.addr2line_lookups.specs.ContextNames.{naming_in};
-ghost use Rattle.addr2line_context.specs.ContextParses.{ParsesOrNoMemory};
-ghost use Rattle.addr2line_context.specs.SettledLookups.{frames_in, unit_in, loads_in, after_answer, IsFor, LoadOf, LeavesAnswer, TellsWaiting};
-ghost use Rattle.addr2line_context.specs.Suspended.{IfLoad, FollowsLookup, waiting_name};
 ghost use Rattle.addr2line_lookups.specs.Preloads.{load_of_item};
+ghost use Rattle.addr2line_context.specs.AnsweredContexts.{HasNoAnswers};
+ghost use Rattle.addr2line_context.specs.ContextCosts.{runs_of_unit, location_looks, frame_looks, KeepsLinesOver, AfterLookup};
+ghost use Rattle.addr2line_context.specs.ContextParses.{ParsesOrNoMemory};
+ghost use Rattle.addr2line_context.specs.SettledLookups.{frames_in, unit_in, loads_in, after_answer, IsFor, LoadOf, LeavesAnswer};
+ghost use Rattle.addr2line_context.specs.Suspended.{IfLoad, FollowsLookup, RestsUnlessWaiting};
 
 use crate::find_frames::FindFrames;
 use crate::find_unit::FindUnit;
 use crate::lookup::LookupResult;
-use crate::outcomes::{is_waiting, memory_alone};
+use crate::outcomes::memory_alone;
+use crate::runs::runs_at;
 use addr2line_lookups::{
-    ArangeIndex, Dwarf, Error, Location, LocationRangeIter, Reader, ResUnit, Settled,
+    ArangeIndex, Dwarf, Error, FramePlace, Location, LocationRangeIter, Reader, Runs, Settled,
     SplitDwarfLoad, Unit, UnitToken, Units, frame_without_function, units_of_file,
     units_of_supplement,
 };
@@ -44,21 +48,23 @@ pub struct Context<R: Reader> {
 impl<R: Reader> Model for Context<R> {
     ghost use Rattle.std.specs.Prelude.{map};
     ghost use Rattle.addr2line_lookups.specs.ResolvedUnits.{plain_unit, value_of_unit};
-    ghost use Rattle.addr2line_context.specs.AnsweredContexts.{AnsweredContext};
-    ghost use Rattle.addr2line_context.specs.KeptContexts.{HoldsUnits};
     ghost use Rattle.addr2line_lookups.specs.AnsweredUnits.{answers_of};
+    ghost use Rattle.addr2line_context.specs.KeptContexts.{ResolvedContext, HoldsUnits};
 
-    ghost Value = { AnsweredContext };
+    ghost Value = { ResolvedContext };
 
     ghost view = { λ c. record {
-      plain = record {
-        file = c.sections.value.file;
-        context = record {
-          units = map plain_unit c.units;
-          supplement_units = c.supplement_units.items;
+      value = record {
+        plain = record {
+          file = c.sections.value.file;
+          context = record {
+            units = map plain_unit c.units;
+            supplement_units = c.supplement_units.items;
+          };
         };
+        answers = answers_of (map value_of_unit c.units);
       };
-      answers = answers_of (map value_of_unit c.units);
+      units = c.units;
     } };
 
     ghost invariant = { λ c.
@@ -66,15 +72,16 @@ impl<R: Reader> Model for Context<R> {
 }
 
 impl<R: Reader> Context<R> {
-    ghost use Rattle.std.specs.Borrow.{sem, follows_if};
+    ghost use Rattle.std.specs.Borrow.{sem};
     ghost use Rattle.std.specs.Io.BufRead.{Rests};
     ghost use Rattle.addr2line_context.specs.contracts.context.Context.{the_row};
 
     /// The context of a file's sections. It takes memory for what shares them, and else is
     /// `from_arc_dwarf`.
     pub fn from_dwarf(alloc: Global, sections: Dwarf<R>) -> Result<Self, Error>
-        ensures context { ReturnsAsOrNoMemory (λ c. c.plain) result (file_context sections.file) }
-        ensures answers { IfOk result HasNoAnswers }
+        ensures context { ReturnsAsOrNoMemory (λ c. c.value.plain) result
+            (file_context sections.file) }
+        ensures answers { IfOk result (λ c. HasNoAnswers c.value) }
     {
         match Rc::new(alloc, sections) {
             Ok(sections) => Context::from_arc_dwarf(alloc, sections),
@@ -87,9 +94,9 @@ impl<R: Reader> Context<R> {
     /// `.debug_aranges`, by the first fault in `.debug_info`, of a unit's ranges or of a header, or
     /// by a header of the supplement, in this order.
     pub fn from_arc_dwarf(alloc: Global, sections: Rc<Dwarf<R>>) -> Result<Self, Error>
-        ensures context { ReturnsAsOrNoMemory (λ c. c.plain) result
+        ensures context { ReturnsAsOrNoMemory (λ c. c.value.plain) result
             (file_context sections.value.file) }
-        ensures answers { IfOk result HasNoAnswers }
+        ensures answers { IfOk result (λ c. HasNoAnswers c.value) }
     {
         let dwarf = sections.as_ref();
         let aranges = ArangeIndex::read(alloc, dwarf)?;
@@ -106,40 +113,42 @@ impl<R: Reader> Context<R> {
 
     /// The sections of the context.
     pub fn sections(&self) -> &Rc<Dwarf<R>>
-        ensures { result.now.value.file ≡ self.now.plain.file }
+        ensures { result.now.value.file ≡ self.now.value.plain.file }
     {
         &self.sections
     }
 
-    /// The units, by their numbers.
-    pub fn units(&self) -> &[ResUnit<R>]
-        ensures { map plain_unit result.now ≡ self.now.plain.context.units }
-    {
-        self.units.as_slice()
-    }
-
     /// The units of the supplement that can be read, of types too.
     pub fn supplement_units(&self) -> &[Unit<R>]
-        ensures { result.now ≡ self.now.plain.context.supplement_units }
+        ensures { result.now ≡ self.now.value.plain.context.supplement_units }
     {
         self.supplement_units.as_slice()
+    }
+
+    /// How often the line number program of a unit was run: once where its lines are kept, and else
+    /// never. Runs that ended when out of memory don't count. None for a token past the units.
+    pub fn line_runs(&self, token: UnitToken) -> Option<&Runs>
+        ensures runs { option_map (λ r. r.now) result
+            ≡ option_map runs_of_unit (slice_get self.now.units token) }
+        ensures once { IfSome result (λ r. r.now ≤ 1) }
+    {
+        runs_at(self.units.as_slice(), token.number())
     }
 
     /// The place of an address: of the units with a range over it, by the ranges' ends, the first
     /// that has a place for it. A unit whose lines are refused ends the search with that refusal.
     /// The lines of the units that it asks are read, unless they are kept, and kept; else it takes
-    /// no memory. The context's value stays the same.
+    /// no memory. In each it searches the sequences, and the rows of one. The context's value stays
+    /// the same.
     pub fn find_location(&mut self, probe: u64) -> Result<Option<Location<'_>>, Error>
         ensures place { ReturnsAsOrNoMemory (option_map location_value) result
-            (location self.old.plain.context probe) }
+            (location self.old.value.plain.context probe) }
+        ensures free { KeepsLinesOver self.old probe → result ≢ Err Memory }
         ensures* after { sem 𝓛 (Rests (the_row R.row R.Endian.row R.Offset.row R.Reader
-            R.Endian.Endianity.own (record { debug_output = R.Endian.debug_output })
-            (record { is_default = R.Endian.is_default }) (record { eq = R.Endian.eq })
-            R.Offset.ReaderOffset.own (record { debug_output = R.Offset.debug_output })
-            (record { eq = R.Offset.eq }) (record { cmp = R.Offset.cmp })
-            (record { partial_cmp = R.Offset.partial_cmp })
-            (record { hash_input = R.Offset.hash_input })) self.entry
-            (λ left. left ≡ self.old)) }
+            R.Endian.Endianity.own R.Endian.Debug R.Endian.Default R.Endian.PartialEq
+            R.Offset.ReaderOffset.own R.Offset.Debug R.Offset.PartialEq R.Offset.Ord.own
+            R.Offset.PartialOrd.own R.Offset.Hash.own) self.entry
+            (AfterLookup (location_looks self.old.value probe) self.old)) }
     {
         match self.units.find_row(probe)? {
             Some(found) => Ok(self.units.place_in(found)),
@@ -156,7 +165,7 @@ impl<R: Reader> Context<R> {
         probe_high: u64,
     ) -> Result<LocationRangeIter<'_, R>, Error>
         ensures { ReturnsOrNoMemory result
-            (Ok (stretches self.old.plain.context probe_low probe_high)) }
+            (Ok (stretches self.old.value.plain.context probe_low probe_high)) }
     {
         self.units.read_between(probe_low, probe_high)?;
         Ok(self.units.stretches(probe_low, probe_high))
@@ -166,8 +175,8 @@ impl<R: Reader> Context<R> {
     /// numbers. They are read, unless they are kept, and kept, up to that refusal.
     pub fn parse_lines(&mut self) -> Result<(), Error>
         ensures lines { ReturnsOrNoMemory result
-            (all_lines_or_refusal self.old.plain.context.units) }
-        ensures value { self.new ≡ self.old }
+            (all_lines_or_refusal self.old.value.plain.context.units) }
+        ensures after { AfterLookup 0 self.old self.new }
     {
         self.units.check_lines()
     }
@@ -177,9 +186,11 @@ impl<R: Reader> Context<R> {
     /// to its unit is answered by no file, so that the unit's own functions count. After out of
     /// memory what was answered and read before stays so.
     pub fn parse_functions(&mut self) -> Result<(), Error>
-        ensures functions { ParsesOrNoMemory self.old.plain (functions_or_refusal self.old.plain)
-            result self.old.answers self.new.answers }
-        ensures plain { self.new.plain ≡ self.old.plain }
+        ensures functions { ParsesOrNoMemory self.old.value.plain
+            (functions_or_refusal self.old.value.plain)
+            result self.old.value.answers self.new.value.answers }
+        ensures plain { self.new.value.plain ≡ self.old.value.plain }
+        ensures cost { AtMostLooks 0 self.old.units self.new.units }
     {
         self.units.check_functions()
     }
@@ -188,10 +199,11 @@ impl<R: Reader> Context<R> {
     /// name, the ranges and the place. Names are looked for in all units of the context and of the
     /// supplement. The first function whose calls are refused refuses its unit.
     pub fn parse_inlined_functions(&mut self) -> Result<(), Error>
-        ensures calls { ParsesOrNoMemory self.old.plain
-            (calls_or_refusal self.old.plain (naming_in self.old.plain))
-            result self.old.answers self.new.answers }
-        ensures plain { self.new.plain ≡ self.old.plain }
+        ensures calls { ParsesOrNoMemory self.old.value.plain
+            (calls_or_refusal self.old.value.plain (naming_in self.old.value.plain))
+            result self.old.value.answers self.new.value.answers }
+        ensures plain { self.new.value.plain ≡ self.old.value.plain }
+        ensures cost { AtMostLooks 0 self.old.units self.new.units }
     {
         self.units.check_calls(self.supplement_units.as_slice())
     }
@@ -201,14 +213,14 @@ impl<R: Reader> Context<R> {
     /// The loads that lookups of this address may wait for, each with the token of its unit: of the
     /// units with a range over it, in the order in which lookups ask them, those of split parts
     /// that were not answered yet (DWARF 5, 3.1.3), that of each unit once. After an answer to each
-    /// no lookup of this address waits. It takes memory for copies of readers, and looks through
-    /// the loads that it has found at each further range.
+    /// no lookup of this address waits. It takes memory for copies of readers and for the numbers
+    /// of their units; n ranges over the address take about n log n steps.
     pub fn preload_units(
         &mut self,
         probe: u64,
     ) -> Result<Vec<(SplitDwarfLoad<R>, UnitToken)>, Error>
         ensures loads { ReturnsAsOrNoMemory (λ found. map load_of_item found.items) result
-            (Ok (loads self.old.plain self.old.answers probe)) }
+            (Ok (loads_in self.old.value probe)) }
         ensures value { self.new ≡ self.old }
     {
         self.units.pending_loads(probe)
@@ -219,10 +231,11 @@ impl<R: Reader> Context<R> {
     /// a unit that is decided stays as it is, and the file isn't read. Refused by what the answer
     /// makes of the unit, or what was kept; by `NoSuchUnit` for a token past the context's units.
     pub fn answer_load(&mut self, token: UnitToken, file: Option<Rc<Dwarf<R>>>) -> Result<(), Error>
-        ensures answers { AnswersOrNoMemory result self.old.answers self.new.answers
-            (answer_load self.old.plain self.old.answers token
+        ensures answers { AnswersOrNoMemory result self.old.value.answers self.new.value.answers
+            (answer_load self.old.value.plain self.old.value.answers token
             (option_map (λ f. f.value.file) file)) }
-        ensures plain { self.new.plain ≡ self.old.plain }
+        ensures plain { self.new.value.plain ≡ self.old.value.plain }
+        ensures cost { AtMostLooks 0 self.old.units self.new.units }
     {
         self.units.answer_at(token.number(), file)
     }
@@ -233,121 +246,79 @@ impl<R: Reader> Context<R> {
     /// the ranges' ends, those of the first that has some, unless one is refused before. Where the
     /// functions of a unit are in another file that wasn't asked for yet (DWARF 5, 3.1.3), the
     /// lookup waits for that load first. Refused by what decides a unit, by its functions, by the
-    /// function that holds the address, or by its lines, in this order. What is read is kept. The
-    /// frames borrow what is kept; each takes memory only for a copy of its name's reader. The
-    /// context's value stays the same.
+    /// function that holds the address, or by its lines, in this order. What is read is kept. In
+    /// each unit it searches the functions, the calls of one at each depth, the sequences, and the
+    /// rows of one. The frames borrow what is kept; each takes memory only for a copy of its name's
+    /// reader. The context's value stays the same.
     pub fn find_frames(&mut self, probe: u64) -> LookupResult<FindFrames<'_, R>>
-        ensures found { FollowsLookup frames_left result (frames_in self.old probe) }
+        ensures found { FollowsLookup frames_left result (frames_in self.old.value probe) }
         ensures waits { IfLoad (λ w. IsFor self.old probe w.context.now w.probe) result }
-        ensures* after { sem 𝓛 (follows_if (the_row R.row R.Endian.row R.Offset.row R.Reader
-            R.Endian.Endianity.own (record { debug_output = R.Endian.debug_output })
-            (record { is_default = R.Endian.is_default }) (record { eq = R.Endian.eq })
-            R.Offset.ReaderOffset.own (record { debug_output = R.Offset.debug_output })
-            (record { eq = R.Offset.eq }) (record { cmp = R.Offset.cmp })
-            (record { partial_cmp = R.Offset.partial_cmp })
-            (record { hash_input = R.Offset.hash_input }))
-            (the_row R.row R.Endian.row R.Offset.row R.Reader
-            R.Endian.Endianity.own (record { debug_output = R.Endian.debug_output })
-            (record { is_default = R.Endian.is_default }) (record { eq = R.Endian.eq })
-            R.Offset.ReaderOffset.own (record { debug_output = R.Offset.debug_output })
-            (record { eq = R.Offset.eq }) (record { cmp = R.Offset.cmp })
-            (record { partial_cmp = R.Offset.partial_cmp })
-            (record { hash_input = R.Offset.hash_input }))
-            self.entry.ghost_name (waiting_name (λ w. w.context.ghost_name) result)
-            (λ left. left) self.old) }
+        ensures* after { sem 𝓛 (RestsUnlessWaiting (the_row R.row R.Endian.row R.Offset.row R.Reader
+            R.Endian.Endianity.own R.Endian.Debug R.Endian.Default R.Endian.PartialEq
+            R.Offset.ReaderOffset.own R.Offset.Debug R.Offset.PartialEq R.Offset.Ord.own
+            R.Offset.PartialOrd.own R.Offset.Hash.own) self.entry
+            (λ w. w.context.ghost_name) result
+            (AfterLookup (frame_looks self.old.value probe) self.old)) }
     {
-        match self.frames_wait(probe) {
-            Ok(true) => {
-                return LookupResult::Load(FindFrames {
-                    context: self,
-                    probe,
-                });
-            }
-            Ok(false) => {}
-            Err(error) => return LookupResult::Output(Err(error)),
-        }
-        let supplement_units = self.supplement_units.as_slice();
-        match self.units.settle_frames(supplement_units, probe) {
+        match self.settle_frames(probe) {
+            Ok(Settled::Waits) => LookupResult::Load(FindFrames {
+                context: self,
+                probe,
+            }),
             Ok(Settled::Found(place)) => {
                 LookupResult::Output(Ok(self.units.frames_at_place(place)))
             }
             Ok(Settled::Nothing) => LookupResult::Output(Ok(frame_without_function(None))),
-            Ok(Settled::Waits) => unreachable!(),
             Err(error) => LookupResult::Output(Err(error)),
         }
     }
 
     /// The unit of an address, with its file's sections: of the units with a range over it, by the
     /// ranges' ends, the first that has a function or a place for it, whatever is refused before;
-    /// the split unit where one has its functions. It waits for loads as `find_frames` does. The
-    /// only error is out of memory. What is read is kept. The context's value stays the same.
+    /// the split unit where one has its functions. It waits for loads, and searches, as
+    /// `find_frames` does. The only error is out of memory. What is read is kept. The context's
+    /// value stays the same.
     pub fn find_dwarf_and_unit(&mut self, probe: u64) -> LookupResult<FindUnit<'_, R>>
         ensures found { FollowsLookup (λ u. u) result
-            (map_output (λ u. Ok u) (unit_in self.old probe)) }
+            (map_output (λ u. Ok u) (unit_in self.old.value probe)) }
         ensures waits { IfLoad (λ w. IsFor self.old probe w.context.now w.probe) result }
-        ensures* after { sem 𝓛 (follows_if (the_row R.row R.Endian.row R.Offset.row R.Reader
-            R.Endian.Endianity.own (record { debug_output = R.Endian.debug_output })
-            (record { is_default = R.Endian.is_default }) (record { eq = R.Endian.eq })
-            R.Offset.ReaderOffset.own (record { debug_output = R.Offset.debug_output })
-            (record { eq = R.Offset.eq }) (record { cmp = R.Offset.cmp })
-            (record { partial_cmp = R.Offset.partial_cmp })
-            (record { hash_input = R.Offset.hash_input }))
-            (the_row R.row R.Endian.row R.Offset.row R.Reader
-            R.Endian.Endianity.own (record { debug_output = R.Endian.debug_output })
-            (record { is_default = R.Endian.is_default }) (record { eq = R.Endian.eq })
-            R.Offset.ReaderOffset.own (record { debug_output = R.Offset.debug_output })
-            (record { eq = R.Offset.eq }) (record { cmp = R.Offset.cmp })
-            (record { partial_cmp = R.Offset.partial_cmp })
-            (record { hash_input = R.Offset.hash_input }))
-            self.entry.ghost_name (waiting_name (λ w. w.context.ghost_name) result)
-            (λ left. left) self.old) }
+        ensures* after { sem 𝓛 (RestsUnlessWaiting (the_row R.row R.Endian.row R.Offset.row R.Reader
+            R.Endian.Endianity.own R.Endian.Debug R.Endian.Default R.Endian.PartialEq
+            R.Offset.ReaderOffset.own R.Offset.Debug R.Offset.PartialEq R.Offset.Ord.own
+            R.Offset.PartialOrd.own R.Offset.Hash.own) self.entry
+            (λ w. w.context.ghost_name) result
+            (AfterLookup (frame_looks self.old.value probe) self.old)) }
     {
-        match self.unit_waits(probe) {
-            Ok(true) => {
-                return LookupResult::Load(FindUnit {
-                    context: self,
-                    probe,
-                });
-            }
-            Ok(false) => {}
-            Err(error) => return LookupResult::Output(Err(error)),
-        }
-        let supplement_units = self.supplement_units.as_slice();
-        match self.units.settle_unit(supplement_units, probe) {
+        match self.settle_unit(probe) {
+            Ok(Settled::Waits) => LookupResult::Load(FindUnit {
+                context: self,
+                probe,
+            }),
             Ok(Settled::Found(number)) => {
                 LookupResult::Output(Ok(self.units.functions_unit_at(number)))
             }
             Ok(Settled::Nothing) => LookupResult::Output(Ok(None)),
-            Ok(Settled::Waits) => unreachable!(),
             Err(error) => LookupResult::Output(Err(error)),
         }
     }
 
-    // Whether the frames of an address wait for a load. Nothing is searched where all units with a
-    // range over it are decided. The only error is out of memory.
-    fn frames_wait(&mut self, probe: u64) -> Result<bool, Error>
-        ensures value { self.new ≡ self.old }
-        ensures waits { TellsWaiting (frames_in self.old probe) result }
+    // Where the frames of an address are, unless a load needs an answer before.
+    pub(crate) fn settle_frames(&mut self, probe: u64) -> Result<Settled<FramePlace>, Error>
+        ensures found { SettlesFrames self.new.units (frames_in self.old.value probe) result }
+        ensures after { AfterLookup (frame_looks self.old.value probe) self.old self.new }
     {
-        if self.units.first_waiting(probe).is_none() {
-            return Ok(false);
-        }
         let supplement_units = self.supplement_units.as_slice();
-        let settled = self.units.settle_frames(supplement_units, probe);
-        is_waiting(settled)
+        self.units.settle_frames(supplement_units, probe)
     }
 
-    // The same of the unit of an address.
-    fn unit_waits(&mut self, probe: u64) -> Result<bool, Error>
-        ensures value { self.new ≡ self.old }
-        ensures waits { TellsWaiting (unit_in self.old probe) result }
+    // The number of the unit of an address, unless a load needs an answer before.
+    fn settle_unit(&mut self, probe: u64) -> Result<Settled<usize>, Error>
+        ensures found { SettlesUnit (map value_of_unit self.new.units)
+            (unit_in self.old.value probe) result }
+        ensures after { AfterLookup (frame_looks self.old.value probe) self.old self.new }
     {
-        if self.units.first_waiting(probe).is_none() {
-            return Ok(false);
-        }
         let supplement_units = self.supplement_units.as_slice();
-        let settled = self.units.settle_unit(supplement_units, probe);
-        is_waiting(settled)
+        self.units.settle_unit(supplement_units, probe)
     }
 
     // Answers the first load of an address, if there is one. What the answer makes of its unit, a
@@ -357,12 +328,15 @@ impl<R: Reader> Context<R> {
         probe: u64,
         file: Option<Rc<Dwarf<R>>>,
     ) -> Result<(), Error>
-        ensures ok { OnOk result
-            (self.new ≡ after_answer self.old probe (option_map (λ f. f.value.file) file)) }
-        ensures fewer { OnOk result (0 < length (loads_in self.new probe)
-            → length (loads_in self.new probe) + 1 ≤ length (loads_in self.old probe)) }
-        ensures left { LeavesAnswer self.old probe (option_map (λ f. f.value.file) file) self.new }
+        ensures ok { OnOk result (self.new.value
+            ≡ after_answer self.old.value probe (option_map (λ f. f.value.file) file)) }
+        ensures fewer { OnOk result (0 < length (loads_in self.new.value probe)
+            → length (loads_in self.new.value probe) + 1
+            ≤ length (loads_in self.old.value probe)) }
+        ensures left { LeavesAnswer self.old.value probe (option_map (λ f. f.value.file) file)
+            self.new.value }
         ensures refusal { IfErr result (λ e. e ≡ Memory) }
+        ensures cost { AtMostLooks 0 self.old.units self.new.units }
     {
         let Some(number) = self.units.first_waiting(probe) else {
             drop(file);
@@ -374,8 +348,8 @@ impl<R: Reader> Context<R> {
 
     // The first load of an address that has one. The only error is out of memory.
     pub(crate) fn first_load(&self, probe: u64) -> Result<SplitDwarfLoad<R>, Error>
-        requires { 0 < length (loads_in self.now probe) }
-        ensures { LoadOf (loads_in self.now probe) result }
+        requires { 0 < length (loads_in self.now.value probe) }
+        ensures { LoadOf (loads_in self.now.value probe) result }
     {
         match self.units.first_load(probe)? {
             Some(load) => Ok(load),

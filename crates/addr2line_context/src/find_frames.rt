@@ -1,9 +1,9 @@
 //! The frames of an address.
 
-ghost use Rattle.std.specs.Prelude.{◌≡◌, ◌≤◌, ◌<◌, length, option_map};
+ghost use Rattle.std.specs.Prelude.{◌≤◌, ◌<◌, length, option_map};
 ghost use Rattle.addr2line_lookups.specs.BorrowedFrames.{frames_left};
-ghost use Rattle.addr2line_context.specs.SettledLookups.{frames_in, loads_in, after_answer, LoadOf, LeavesAnswer};
-ghost use Rattle.addr2line_context.specs.Suspended.{IfLoad, FollowsLookup, loads_left, waiting_name};
+ghost use Rattle.addr2line_context.specs.SettledLookups.{frames_in, loads_in, after_answer, LoadOf, AfterAnswer, WaitsAgain};
+ghost use Rattle.addr2line_context.specs.Suspended.{IfLoad, FollowsLookup, RestsUnlessWaiting, loads_left};
 
 use crate::context::Context;
 use crate::lookup::{LookupContinuation, LookupResult};
@@ -18,12 +18,12 @@ pub struct FindFrames<'ctx, R: Reader> {
 }
 
 impl<'ctx, R: Reader> LookupContinuation for FindFrames<'ctx, R> {
-    ghost use Rattle.std.specs.Borrow.{sem, follows_so};
-    ghost use Rattle.std.specs.Prelude.{◌≡◌, ◌≤◌, ◌<◌, length, option_map};
+    ghost use Rattle.std.specs.Borrow.{sem};
+    ghost use Rattle.std.specs.Prelude.{◌≤◌, ◌<◌, length, option_map};
     ghost use Rattle.addr2line_lookups.specs.BorrowedFrames.{frames_left};
     ghost use Rattle.addr2line_context.specs.contracts.context.Context.{the_row};
-    ghost use Rattle.addr2line_context.specs.SettledLookups.{frames_in, loads_in, after_answer, LoadOf, LeavesAnswer};
-    ghost use Rattle.addr2line_context.specs.Suspended.{IfLoad, FollowsLookup, loads_left, waiting_name};
+    ghost use Rattle.addr2line_context.specs.SettledLookups.{frames_in, loads_in, after_answer, LoadOf, AfterAnswer, WaitsAgain};
+    ghost use Rattle.addr2line_context.specs.Suspended.{IfLoad, FollowsLookup, RestsUnlessWaiting, loads_left};
 
     type Output = Result<FrameIter<'ctx, R>, Error>;
 
@@ -33,15 +33,15 @@ impl<'ctx, R: Reader> LookupContinuation for FindFrames<'ctx, R> {
 
     type Sections = Rc<Dwarf<R>>;
 
-    ghost left = { λ w. length (loads_in w.context.now w.probe) };
+    ghost left = { λ w. length (loads_in w.context.now.value w.probe) };
 
-    ghost waits = { λ w. 0 < length (loads_in w.context.now w.probe) };
+    ghost waits = { λ w. 0 < length (loads_in w.context.now.value w.probe) };
 
     /// The load of the first unit that needs an answer, of those with a range over the address. The
     /// only error is out of memory.
     fn load(&self) -> Result<SplitDwarfLoad<R>, Error>
-        requires { 0 < length (loads_in self.now.context.now self.now.probe) }
-        ensures { LoadOf (loads_in self.now.context.now self.now.probe) result }
+        requires { 0 < length (loads_in self.now.context.now.value self.now.probe) }
+        ensures { LoadOf (loads_in self.now.context.now.value self.now.probe) result }
     {
         let context: &Context<R> = &*self.context;
         context.first_load(self.probe)
@@ -50,31 +50,21 @@ impl<'ctx, R: Reader> LookupContinuation for FindFrames<'ctx, R> {
     /// Answers that load by the sections of the other file, or by none where there is no such file,
     /// and goes on.
     fn resume(self, input: Option<Rc<Dwarf<R>>>) -> LookupResult<FindFrames<'ctx, R>>
-        ensures fewer { loads_left (λ w. length (loads_in w.context.now w.probe)) result
-            ≤ length (loads_in self.entry.context.now self.entry.probe) }
-        ensures waits { IfLoad (λ w. 0 < length (loads_in w.context.now w.probe)) result }
+        ensures fewer { loads_left (λ w. length (loads_in w.context.now.value w.probe)) result
+            ≤ length (loads_in self.entry.context.now.value self.entry.probe) }
+        ensures waits { IfLoad (λ w. 0 < length (loads_in w.context.now.value w.probe)) result }
         ensures found { FollowsLookup frames_left result
-            (frames_in (after_answer self.entry.context.now self.entry.probe
+            (frames_in (after_answer self.entry.context.now.value self.entry.probe
             (option_map (λ f. f.value.file) input)) self.entry.probe) }
-        ensures place { IfLoad (λ w. w.probe ≡ self.entry.probe) result }
-        ensures* after { sem 𝓛 (follows_so (the_row R.row R.Endian.row R.Offset.row R.Reader
-            R.Endian.Endianity.own (record { debug_output = R.Endian.debug_output })
-            (record { is_default = R.Endian.is_default }) (record { eq = R.Endian.eq })
-            R.Offset.ReaderOffset.own (record { debug_output = R.Offset.debug_output })
-            (record { eq = R.Offset.eq }) (record { cmp = R.Offset.cmp })
-            (record { partial_cmp = R.Offset.partial_cmp })
-            (record { hash_input = R.Offset.hash_input }))
-            (the_row R.row R.Endian.row R.Offset.row R.Reader
-            R.Endian.Endianity.own (record { debug_output = R.Endian.debug_output })
-            (record { is_default = R.Endian.is_default }) (record { eq = R.Endian.eq })
-            R.Offset.ReaderOffset.own (record { debug_output = R.Offset.debug_output })
-            (record { eq = R.Offset.eq }) (record { cmp = R.Offset.cmp })
-            (record { partial_cmp = R.Offset.partial_cmp })
-            (record { hash_input = R.Offset.hash_input }))
-            self.entry.context.ghost_name (waiting_name (λ w. w.context.ghost_name) result)
-            (λ w n. IfLoad (λ v. n ≡ w) result)
-            (λ n. LeavesAnswer self.entry.context.now self.entry.probe
-            (option_map (λ f. f.value.file) input) n)) }
+        ensures again { IfLoad (λ w. WaitsAgain self.entry.context.now self.entry.probe
+            (option_map (λ f. f.value.file) input) w.context.now w.probe) result }
+        ensures* after { sem 𝓛 (RestsUnlessWaiting (the_row R.row R.Endian.row R.Offset.row R.Reader
+            R.Endian.Endianity.own R.Endian.Debug R.Endian.Default R.Endian.PartialEq
+            R.Offset.ReaderOffset.own R.Offset.Debug R.Offset.PartialEq R.Offset.Ord.own
+            R.Offset.PartialOrd.own R.Offset.Hash.own)
+            self.entry.context (λ w. w.context.ghost_name) result
+            (AfterAnswer self.entry.context.now self.entry.probe
+            (option_map (λ f. f.value.file) input))) }
     {
         let FindFrames { context, probe } = self;
         match context.answer_first(probe, input) {

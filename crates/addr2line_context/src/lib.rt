@@ -5,8 +5,10 @@
 pub mod context;
 pub mod find_frames;
 pub mod find_unit;
+pub mod frame_loads;
 pub mod lookup;
 mod outcomes;
+mod runs;
 mod sections;
 
 pub use addr2line_lookups::{

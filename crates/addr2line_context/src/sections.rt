@@ -31,11 +31,11 @@ impl<R: Reader> Context<R> {
         debug_str_offsets: DebugStrOffsets<R>,
         default_section: R,
     ) -> Result<Self, Error>
-        ensures context { ReturnsAsOrNoMemory (λ c. c.plain) result
+        ensures context { ReturnsAsOrNoMemory (λ c. c.value.plain) result
             (file_context (main_file R.Offset.limit debug_abbrev debug_addr debug_aranges debug_info
             debug_line debug_line_str debug_ranges debug_rnglists debug_str debug_str_offsets
             (R.view default_section))) }
-        ensures answers { IfOk result HasNoAnswers }
+        ensures answers { IfOk result (λ c. HasNoAnswers c.value) }
     {
         let sections = Dwarf {
             debug_abbrev,

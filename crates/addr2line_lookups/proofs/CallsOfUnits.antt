@@ -1,10 +1,10 @@
 -- The calls that are kept of units are those of their functions, whatever else of the units is read.
-use Rattle.std.proofs.Common.{◌≡◌, ◌≢◌, ℕ, zero, suc, ◌<◌, Bool, true, false, cond, List, [], ◌∷◌, length, set, get_or, map, slice_get, Option, Some, None, is_some, IfSome, option_map, Result, Ok, Err, OnOk, OnErr, IfOk, refl, sym, ap, ◌∙◌, subst, arith}
+use Rattle.std.proofs.Common.{◌≡◌, ◌≢◌, ℕ, ◌<◌, Bool, true, false, cond, List, [], ◌∷◌, length, set, get_or, map, slice_get, Option, Some, None, is_some, IfSome, option_map, Result, Ok, Err, OnOk, OnErr, IfOk, refl, sym, ap, ◌∙◌, subst}
 use Rattle.std.specs.Prelude.{option_and_then}
 use Rattle.std.proofs.lemmas.List.Elements.{All-nil, All-cons, All-head, All-tail, All-set, All-get_or}
 use Rattle.std.proofs.Math.Seq.{map-set_same}
 use Rattle.std.proofs.lemmas.Option.{slice_get-get_or, slice_get-map}
-use Rattle.std.proofs.lemmas.Simd.{map-map}
+use Rattle.std.proofs.lemmas.List.{length-set}
 use Rattle.addr2line_resolved.specs.Error.{Error}
 use Rattle.addr2line_resolved.specs.Error.TheVariants.{Memory}
 use Rattle.addr2line_resolved.specs.Calls.{Returns, ReturnsOrNoMemory, ReturnsAsOrNoMemory}
@@ -21,22 +21,12 @@ use Rattle.addr2line_resolved.specs.FirstAnswers.{SplitLoad}
 use Rattle.addr2line_resolved.specs.ProbedLists.{ProbeCount}
 use Rattle.addr2line_lookups.specs.Preloads.{numbered_load, load_at}
 use Rattle.addr2line_lookups.specs.KeptCalls.{facts_of, known_among, naming_from, kept_calls_of, calls_among, HoldsCalls, HoldCalls, LeavesCallsOf, LeavesCalls}
-use Rattle.addr2line_lookups.specs.FunctionPlaces.{HasFunction, HasFunctionAt, KeepsCallsAt, chain_of_any, chain_of}
+use Rattle.addr2line_lookups.specs.FunctionPlaces.{HasFunction, HasFunctionAt, KeepsCallsAt, count_of_unit, count_at, chain_of_any, chain_of}
+use Rattle.addr2line_lookups.proofs.UnitTurns.{set_here as put_here}
 
 -- ---- the units that references may lead to
 
-abbrev facts_of_value : AnsweredUnit → UnitFacts
-facts_of_value v = v.unit.facts
-
--- the units' values alone matter
-pub same_known : (us vs : List ResolvedUnit) (s : List UnitFacts) → map value_of_unit vs ≡ map value_of_unit us
-    → known_among vs s ≡ known_among us s
-same_known us vs s same =
-    ap (λ xs. record { units = xs; supplement_units = s })
-    (sym (map-map facts_of_value value_of_unit vs) ∙ ap (map facts_of_value) same
-    ∙ map-map facts_of_value value_of_unit us)
-
--- by its parts
+-- what is known, by its parts
 pub known_is : (us : List ResolvedUnit) (s : List UnitFacts) (x : KnownUnits) → x.units ≡ map facts_of us
     → x.supplement_units ≡ s → known_among us s ≡ x
 known_is us s x units supplement =
@@ -103,11 +93,6 @@ keeps_them u = by u.keeps_functions refl
     by true is = is
     by false is = refl
 
-set_at : {A : Type 0} (xs : List A) (n : ℕ) (x : A) → n < length xs → slice_get (set xs n x) n ≡ Some x
-set_at [] n x below = absurd (omega (arith, below))
-set_at (y ∷ ys) zero x below = refl
-set_at (y ∷ ys) (suc n) x below = set_at ys n x (omega (arith, below))
-
 module _ (known : KnownUnits) where
   to_naming : (u : ResolvedUnit) → HoldsCalls known u → KeepsCallsOf (naming_in_unit known u.value) u
   to_naming u holds n =
@@ -146,6 +131,22 @@ module _ (known : KnownUnits) where
       (calls_with_calls (naming_in_unit known u.value) u k r (is ∙ calls_by_naming known u.value k)
       (to_naming u holds))
 
+counts_stay : (u : ResolvedUnit) → ((with_functions u).probes ≡ u.probes)
+    × ((with_functions u).keeps_lines ≡ u.keeps_lines)
+counts_stay u = by u.keeps_functions
+  where
+    by : (b : Bool)
+        → ((cond b u (record u {
+          keeps_functions = true;
+          calls = calls_of_none (count_of_functions (functions_of u.value));
+        })).probes ≡ u.probes)
+        × ((cond b u (record u {
+          keeps_functions = true;
+          calls = calls_of_none (count_of_functions (functions_of u.value));
+        })).keeps_lines ≡ u.keeps_lines)
+    by true = (refl, refl)
+    by false = (refl, refl)
+
 -- what functions that were read leave
 module _ (u w : ResolvedUnit) (is : w ≡ with_functions u) where
   pub value_left : w.value ≡ u.value
@@ -153,6 +154,12 @@ module _ (u w : ResolvedUnit) (is : w ≡ with_functions u) where
 
   pub functions_kept : w.keeps_functions ≡ true
   functions_kept = ap (λ (x : ResolvedUnit). x.keeps_functions) is ∙ keeps_them u
+
+  pub counts_left : (w.probes ≡ u.probes) × (w.keeps_lines ≡ u.keeps_lines)
+  counts_left = (
+    ap (λ (x : ResolvedUnit). x.probes) is ∙ (counts_stay u).0,
+    ap (λ (x : ResolvedUnit). x.keeps_lines) is ∙ (counts_stay u).1,
+  )
 
   -- also after looks at them
   pub calls_left : (p : ProbeCount) (x : ResolvedUnit) → x ≡ with_probes w p → LeavesCallsOf u x
@@ -187,6 +194,9 @@ module _ (us : List ResolvedUnit) (n : ℕ) (u : ResolvedUnit) (below : n < leng
   pub if_there : (P : ResolvedUnit → Type 0) → P u → IfSome (slice_get us n) P
   if_there P h = subst (λ o. IfSome o P) (sym unit_here) h
 
+  pub count_here : count_at us n ≡ length u.calls
+  count_here = ap count_of_unit unit_here
+
   -- it is the same whenever it is looked at
   pub same_unit : (w : ResolvedUnit) → w ≡ get_or us n w → w ≡ u
   same_unit w again =
@@ -200,7 +210,7 @@ module _ (us : List ResolvedUnit) (n : ℕ) (u : ResolvedUnit) (below : n < leng
   -- another in its place
   module _ (new : ResolvedUnit) where
     pub set_here : slice_get (set us n new) n ≡ Some new
-    set_here = set_at us n new below
+    set_here = put_here us n new below
 
     pub if_set : (P : ResolvedUnit → Type 0) → P new → IfSome (slice_get (set us n new) n) P
     if_set P h = subst (λ o. IfSome o P) (sym set_here) h
@@ -227,8 +237,19 @@ module _ (us : List ResolvedUnit) (n : ℕ) (u : ResolvedUnit) (below : n < leng
     pub same_chain : new.chain ≡ u.chain → chain_of (set us n new) n ≡ chain_of us n
     same_chain same = chain_set ∙ same ∙ sym (ap chain_of_any unit_here)
 
+    pub same_count : length new.calls ≡ length u.calls → count_at (set us n new) n ≡ count_at us n
+    same_count same = ap count_of_unit set_here ∙ same ∙ sym count_here
+
     pub same_calls : new.calls ≡ u.calls → map kept_calls_of (set us n new) ≡ map kept_calls_of us
     same_calls same = map-set_same kept_calls_of us n new u (same ∙ ap kept_calls_of is)
+
+-- a number below the count of functions is one of them
+pub has_function : (us : List ResolvedUnit) (n k : ℕ) → k < count_at us n → HasFunctionAt us n k
+has_function us n k below = by (slice_get us n) below
+  where
+    by : (o : Option ResolvedUnit) → k < count_of_unit o → IfSome o (HasFunction k)
+    by None less = tt
+    by (Some u) less = less
 
 -- ---- units with the same values and calls
 
@@ -265,12 +286,25 @@ module _ (known : KnownUnits) (u new : ResolvedUnit) (k : ℕ) (read : Result Co
   value_kept (Ok x) is same = ap value_of_unit is
   value_kept (Err e) is same = ap value_of_unit same
 
+  pub length_kept : (r : Result (Unit {0}) Error) → OnOk r (new ≡ with_calls u k (plain_calls read))
+      → OnErr r (new ≡ u) → length new.calls ≡ length u.calls
+  length_kept (Ok x) is same =
+      ap (λ (w : ResolvedUnit). length w.calls) is ∙ length-set u.calls k (Some (plain_calls read))
+  length_kept (Err e) is same = ap (λ (w : ResolvedUnit). length w.calls) same
+
+  pub counts_kept : (r : Result (Unit {0}) Error) → OnOk r (new ≡ with_calls u k (plain_calls read))
+      → OnErr r (new ≡ u) → (new.probes ≡ u.probes) × (new.keeps_lines ≡ u.keeps_lines)
+  counts_kept (Ok x) is same =
+      (ap (λ (w : ResolvedUnit). w.probes) is, ap (λ (w : ResolvedUnit). w.keeps_lines) is)
+  counts_kept (Err e) is same =
+      (ap (λ (w : ResolvedUnit). w.probes) same, ap (λ (w : ResolvedUnit). w.keeps_lines) same)
+
   pub keeps_kept : (r : Result (Unit {0}) Error) → OnOk r (new ≡ with_calls u k (plain_calls read))
       → k < length u.calls → OnOk r (is_some (kept_at new.calls k) ≡ true)
   keeps_kept (Ok x) is below =
       ap (λ (w : ResolvedUnit). is_some (kept_at w.calls k)) is
       ∙ ap (λ o. is_some (option_and_then (λ (y : Option (Result FunctionCalls Error)). y) o))
-      (set_at u.calls k (Some (plain_calls read)) below)
+      (put_here u.calls k (Some (plain_calls read)) below)
   keeps_kept (Err e) is below = tt
 
 -- ---- results

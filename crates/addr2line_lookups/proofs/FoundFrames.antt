@@ -281,7 +281,7 @@ module _ (us ws : List ResolvedUnit) (values : map value_of_unit ws ≡ map valu
 
   pub function_stays : (n a : ℕ) (answer : Result (Option FunctionAt) Error) (k : Option ℕ) (chain : List ℕ)
       → FindsFunction us n a answer (Ok k) chain → FindsFunction ws n a answer (Ok k) chain
-  function_stays n a answer None chain h = h
+  function_stays n a answer None _ h = h
   function_stays n a answer (Some k) chain h = record {
     function = h.function;
     is_kept = same_function n k ∙ h.is_kept;
@@ -295,7 +295,7 @@ FoundOf answer = (f : Option FunctionAt) × (answer ≡ Ok f)
 
 pub found_function : (us : List ResolvedUnit) (n a : ℕ) (answer : Result (Option FunctionAt) Error) (k : Option ℕ)
     (chain : List ℕ) → FindsFunction us n a answer (Ok k) chain → FoundOf answer
-found_function us n a answer None chain h = (None, h)
+found_function us n a answer None _ h = (None, h)
 found_function us n a answer (Some k) chain h = (Some h.function, h.is_answer)
 
 -- ---- lines that are kept
@@ -358,10 +358,11 @@ module _ {X : Type 0} (see : X → List Frame) (us : List ResolvedUnit) (p : Fra
     (h : KeepsAt us p.unit → ReturnsAs see r (frames_at_place us p)) where
   pub lends_frames : (x : X) → r ≡ Ok x → LendsFrames us p (see x)
   lends_frames x is keeps fs found =
-      let lent : ok_frames (see x) ≡ Ok fs = sym (subst (λ y. ReturnsAs see y (frames_at_place us p)) is (h keeps)) ∙ found
-      in cc
+      let lent : ok_frames (see x) ≡ Ok fs =
+      sym (subst (λ y. ReturnsAs see y (frames_at_place us p)) is (h keeps)) ∙ found in cc
 
   pub lends_none : (e : Error) (other : List Frame) → r ≡ Err e → LendsFrames us p other
   lends_none e other is keeps fs found =
-      let refused : ok_frames fs ≡ Err e = sym found ∙ subst (λ y. ReturnsAs see y (frames_at_place us p)) is (h keeps) in
+      let refused : ok_frames fs ≡ Err e =
+      sym found ∙ subst (λ y. ReturnsAs see y (frames_at_place us p)) is (h keeps) in
       absurd cc

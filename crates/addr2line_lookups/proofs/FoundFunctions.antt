@@ -16,7 +16,7 @@ use Rattle.addr2line_resolved.specs.ResolvedUnits.{ResolvedUnit, AnsweredUnit, v
 use Rattle.addr2line_resolved.proofs.RangeNumbers.{function_of_number}
 use Rattle.addr2line_lookups.specs.KeptCalls.{known_among, naming_from, calls_among, HoldsCalls}
 use Rattle.addr2line_lookups.specs.FunctionPlaces.{function_number_at, number_of_any, calls_of_any, function_calls_at, function_of_answered, function_of_any, function_with_calls_at, kept_calls_at, HoldsChain, FindsCalls, HoldsFunction}
-use Rattle.addr2line_lookups.proofs.CallsOfUnits.{same_known}
+use Rattle.addr2line_lookups.proofs.CallsLeft.{known_same}
 
 -- a number that was found, if one was
 abbrev pub ok_number : Option ℕ → Result (Option ℕ) Error
@@ -28,7 +28,7 @@ pub same_function_calls : (us ws : List ResolvedUnit) (s : List UnitFacts)
     → function_calls_at (known_among ws s) (map value_of_unit ws) k n
     ≡ function_calls_at (known_among us s) (map value_of_unit us) k n
 same_function_calls us ws s same k n =
-    ap (λ known. function_calls_at known (map value_of_unit ws) k n) (same_known us ws s same)
+    ap (λ known. function_calls_at known (map value_of_unit ws) k n) (known_same us ws same s)
     ∙ ap (λ vs. function_calls_at (known_among us s) vs k n) same
 
 -- ---- one function
@@ -263,7 +263,7 @@ chain_by us n k a (Ok c) (Err e) chain kept h = λ m. absurd (no_refusal (h m))
     no_refusal is = cc
 
 -- calls that are kept are those of the function
-kept_is : (known : KnownUnits) (u : ResolvedUnit) (k : ℕ) → HoldsCalls known u → is_some (kept_at u.calls k) ≡ true
+pub kept_is : (known : KnownUnits) (u : ResolvedUnit) (k : ℕ) → HoldsCalls known u → is_some (kept_at u.calls k) ≡ true
     → kept_at u.calls k ≡ Some (calls_among known u.value k)
 kept_is known u k holds is = by (kept_at u.calls k) (holds k) is
   where

@@ -42,15 +42,6 @@ keeps_set [] number u keeps = tt
 keeps_set (v ∷ us) zero u keeps = keeps
 keeps_set (v ∷ us) (suc n) u keeps = keeps_set us n u keeps
 
--- the others stay
-pub keeps_more_set : (us : List ResolvedUnit) (number : ℕ) (u : ResolvedUnit) → KeepsLines u
-    → KeepsMore us (set us number u)
-keeps_more_set [] number u keeps m h = h
-keeps_more_set (v ∷ us) zero u keeps zero h = keeps
-keeps_more_set (v ∷ us) zero u keeps (suc m) h = h
-keeps_more_set (v ∷ us) (suc n) u keeps zero h = h
-keeps_more_set (v ∷ us) (suc n) u keeps (suc m) h = keeps_more_set us n u keeps m h
-
 places_of_kept : (u : ResolvedUnit) → KeepsLines u → kept_places u ≡ unit_places (plain_unit u)
 places_of_kept u keeps =
     ap (λ b. record { ranges = u.value.unit.ranges; lines = lines_if_kept b u.value.unit.lines }) keeps
@@ -100,6 +91,22 @@ stretches_of_kept us low high h =
     ∙ kept_stretches us low high (overlapping_ranges low high (ordered_ranges (map plain_unit us))) h
     ∙ sym (stretches_by_numbers (map unit_places (map plain_unit us)) low high)
     ∙ stretches_of_views unit_places (map plain_unit us) low high
+
+-- lines that are kept still
+keeps_ranges : (us vs : List ResolvedUnit) → KeepsMore us vs → (rs : List UnitRange) → KeepsRanges us rs
+    → KeepsRanges vs rs
+keeps_ranges us vs more [] h = tt
+keeps_ranges us vs more (r ∷ rs) h = (more r.unit h.0, keeps_ranges us vs more rs h.1)
+
+module _ (us : List ResolvedUnit) (r : UnitRange) (old rest : List UnitRange) (is : old ≡ r ∷ rest)
+    (h : KeepsRanges us old) where
+  -- those of the first range
+  pub keeps_first : KeepsAt us r.unit
+  keeps_first = (subst (KeepsRanges us) is h).0
+
+  -- and of the others, later
+  pub keeps_rest : (vs : List ResolvedUnit) → KeepsMore us vs → KeepsRanges vs rest
+  keeps_rest vs more = keeps_ranges us vs more rest (subst (KeepsRanges us) is h).1
 
 -- ---- ranges one after the other
 

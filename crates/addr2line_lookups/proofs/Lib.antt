@@ -10,6 +10,7 @@ pub use Rattle.addr2line_resolved.proofs.ResolvedViews
 pub use Rattle.addr2line_resolved.proofs.RangeNumbers
 pub mod ContextOfUnits
 pub mod KeptLines
+pub mod UnitProbes
 pub mod UnitRows
 pub mod PendingUnits
 pub mod ListedLoads
@@ -23,5 +24,6 @@ pub mod ParsedUnits
 pub mod CallsOfUnits
 pub mod FoundFunctions
 pub mod FoundFrames
+pub mod LookupProbes
 pub mod SettledUnits
 pub mod FirstLoads

@@ -1,17 +1,21 @@
 -- Loads that are listed one after the other, that of each unit once.
-use Rattle.std.proofs.Common.{◌≡◌, ℕ, ◌<◌, ◌≤◌, ◌==◌, suc, Bool, true, false, not, cond, ◌&&◌, ◌||◌, List, [], ◌∷◌, ◌++◌, length, get_or, drop, map, filter, Option, Some, None, Result, Ok, refl, sym, ap, ◌∙◌, append_assoc}
+use Rattle.std.proofs.Common.{◌≡◌, ℕ, inl, inr, arith, ◌==◌, Bool, true, false, not, cond, ◌&&◌, ◌||◌, List, [], ◌∷◌, ◌++◌, filter, Option, Some, None, Result, Ok, refl, sym, ap, ◌∙◌, append_assoc}
 use Rattle.std.specs.List.{list_any, cons_option}
-use Rattle.std.proofs.lemmas.Bool.{eqb-true, eq-eqb}
-use Rattle.std.proofs.lemmas.List.{append-nil, drop_all}
-use Rattle.std.proofs.Math.Seq.{drop-cons}
+use Rattle.std.specs.Ordering.{nat_cmp, is_eq}
+use Rattle.std.specs.Cmp.{nat_cmp_is}
+use Rattle.std.specs.declared.cmp.Ordering.TheVariants.{Less, Equal, Greater}
+use Rattle.std.specs.BTreeMap.{is_at}
+use Rattle.std.specs.BTreeSet.{BTreeSet, IsEmpty, contains}
+use Rattle.std.proofs.lemmas.Bool.{cases_order, eqb-true, eq-eqb, ne_eqb}
+use Rattle.std.proofs.lemmas.List.{append-nil}
 use Rattle.std.proofs.lemmas.List.Elements.{filter_agree}
 use Rattle.std.proofs.lemmas.List.Folds.{list_any-append}
 use Rattle.addr2line_resolved.specs.Error.{Error}
-use Rattle.addr2line_resolved.specs.FirstAnswers.{SplitLoad, PendingLoad}
+use Rattle.addr2line_resolved.specs.FirstAnswers.{PendingLoad}
 use Rattle.addr2line_resolved.specs.Lookups.{other_than, one_each}
 use Rattle.addr2line_resolved.specs.UnitRange.{UnitRange}
 use Rattle.addr2line_resolved.specs.ResolvedUnits.{AnsweredUnit}
-use Rattle.addr2line_lookups.specs.Preloads.{load_of_item, load_at, loads_at, is_listed, with_load, with_load_if_any}
+use Rattle.addr2line_lookups.specs.Preloads.{load_at, loads_at, is_listed, AreNumbersOf, with_load, with_load_if_any}
 
 -- ---- filters
 
@@ -37,31 +41,54 @@ filter_all : {A : Type 0} (xs : List A) → filter (λ x. true) xs ≡ xs
 filter_all [] = refl
 filter_all (x ∷ xs) = ap (λ l. x ∷ l) (filter_all xs)
 
--- ---- a walk over what is listed
+-- ---- the numbers of the units whose loads are listed
 
-module _ (items : List (SplitLoad × ℕ)) (number : ℕ) where
-  abbrev pub has_number : SplitLoad × ℕ → Bool
-  has_number i = number == i.1
+-- a number is looked for in a set as numbers are compared
+number_test : (key n : ℕ) → is_at (nat_cmp key) n ≡ (n == key)
+number_test key n = elim (cases_order key n) [
+  | inr (inl less) ↦ ap is_eq (sym (nat_cmp_is key n Less less)) ∙ sym (ne_eqb n key (λ e. omega (arith, e)))
+  | inl same ↦ ap is_eq (sym (nat_cmp_is key n Equal same)) ∙ sym (eq-eqb n key (sym same))
+  | inr (inr more) ↦ ap is_eq (sym (nat_cmp_is key n Greater more)) ∙ sym (ne_eqb n key (λ e. omega (arith, e)))
+]
 
-  listed_items : (xs : List (SplitLoad × ℕ)) → is_listed (map load_of_item xs) number ≡ list_any has_number xs
-  listed_items [] = refl
-  listed_items (x ∷ xs) = ap (λ b. has_number x || b) (listed_items xs)
+-- no numbers of no units
+pub no_numbers : (ps : List PendingLoad) (s : BTreeSet ℕ) → ps ≡ [] → IsEmpty s → AreNumbersOf ps s
+no_numbers ps s none empty n =
+    ap (list_any (is_at (nat_cmp n))) empty ∙ sym (ap (λ l. is_listed l n) none)
 
-  -- the answer is that of the items that are left
-  abbrev pub IsLeft : ℕ → Type 0
-  IsLeft i = list_any has_number items ≡ list_any has_number (drop i items)
+either : (b x y : Bool) → x ≡ y → cond b true x ≡ (y || (b || false))
+either true x true h = refl
+either true x false h = refl
+either false x true h = h
+either false x false h = h
 
-  pub listed_found : (i : ℕ) (item : SplitLoad × ℕ) → i < length items → item ≡ get_or items i item → IsLeft i
-      → number ≡ item.1 → true ≡ is_listed (map load_of_item items) number
-  listed_found i item below is left found =
-      sym (listed_items items ∙ left
-      ∙ ap (list_any has_number) (drop-cons items i item below)
-      ∙ ap (λ x. has_number x || list_any has_number (drop (suc i) items)) (sym is)
-      ∙ ap (λ b. b || list_any has_number (drop (suc i) items)) (eq-eqb number item.1 found))
+module _ (ps : List PendingLoad) (p : PendingLoad) (old new : BTreeSet ℕ) (before : AreNumbersOf ps old)
+    (added : (n : ℕ) → contains nat_cmp new n ≡ cond (is_at (nat_cmp p.number) n) true (contains nat_cmp old n)) where
+  added_test : (n : ℕ) → contains nat_cmp new n ≡ cond (n == p.number) true (contains nat_cmp old n)
+  added_test n = added n ∙ ap (λ b. cond b true (contains nat_cmp old n)) (number_test p.number n)
 
-  pub listed_missed : (i : ℕ) → length items ≤ i → IsLeft i → false ≡ is_listed (map load_of_item items) number
-  listed_missed i past left =
-      sym (listed_items items ∙ left ∙ ap (list_any has_number) (drop_all i items past))
+  -- one that wasn't listed
+  module _ (absent : contains nat_cmp old p.number ≡ false) where
+    pub load_added : with_load ps p ≡ ps ++ p ∷ []
+    load_added = ap (λ b. cond b ps (ps ++ p ∷ [])) (sym (before p.number) ∙ absent)
+
+    pub numbers_added : AreNumbersOf (ps ++ p ∷ []) new
+    numbers_added n =
+        added_test n ∙ either (n == p.number) (contains nat_cmp old n) (is_listed ps n) (before n)
+        ∙ sym (list_any-append (λ (q : PendingLoad). n == q.number) ps (p ∷ []))
+
+  -- one that was
+  module _ (present : contains nat_cmp old p.number ≡ true) where
+    pub load_again : with_load ps p ≡ ps
+    load_again = ap (λ b. cond b ps (ps ++ p ∷ [])) (sym (before p.number) ∙ present)
+
+    pub numbers_again : AreNumbersOf ps new
+    numbers_again n = added_test n ∙ by (n == p.number) refl
+      where
+        by : (b : Bool) → (n == p.number) ≡ b → cond b true (contains nat_cmp old n) ≡ is_listed ps n
+        by true same =
+            sym (ap (is_listed ps) (eqb-true n p.number same) ∙ sym (before p.number) ∙ present)
+        by false other = before n
 
 -- ---- loads that aren't listed
 

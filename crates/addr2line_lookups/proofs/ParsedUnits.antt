@@ -60,7 +60,8 @@ module _ (c : FileContext) (parse : ContextUnit → FirstAnswer → Result (Unit
       let k = length before in
       let load = load_of (main_unit v) in
       let old = before ++ v.first ∷ after in
-      ap (λ f. turn k v.unit us old (decision k (load_of (in_file f v.unit.facts)) (recorded_answer old k))) (sym of_file)
+      ap (λ f. turn k v.unit us old (decision k (load_of (in_file f v.unit.facts)) (recorded_answer old k)))
+      (sym of_file)
       ∙ ap (λ first. turn k v.unit us old (decision k load first)) (recorded_after before v.first after)
       ∙ ap (λ d. unless_refused_before (parse v.unit d) (with_answer (decision k load v.first) (Ok None) old)
       (parse_from c parse (k + 1) us)) (decided_after k load v.first (Ok None))

@@ -1,7 +1,6 @@
 -- Lookups over units, one after the other, as they are settled.
 use Rattle.std.proofs.Common.{◌≡◌, ℕ, Bool, true, false, cond, List, [], ◌∷◌, map, slice_get, Option, Some, None, option_map, Result, Ok, Err, refl, sym, ap, ◌∙◌, subst}
 use Rattle.std.specs.Prelude.{is_some}
-use Rattle.std.proofs.lemmas.Simd.{map-map}
 use Rattle.std.proofs.lemmas.Option.{slice_get-map}
 use Rattle.addr2line_resolved.specs.Error.{Error}
 use Rattle.addr2line_resolved.specs.UnitFacts.{UnitFacts, UnitInFile}
@@ -13,12 +12,13 @@ use Rattle.addr2line_resolved.specs.UnitRange.{UnitRange}
 use Rattle.addr2line_resolved.specs.EntryReferences.{KnownUnits, HoldingUnit}
 use Rattle.addr2line_resolved.specs.ResolvedUnits.{ResolvedUnit, AnsweredUnit, value_of_unit, main_unit, first_answer, unit_of_functions}
 use Rattle.addr2line_lookups.specs.Preloads.{load_at}
-use Rattle.addr2line_lookups.specs.KeptCalls.{facts_of, known_among, naming_from, HoldCalls}
+use Rattle.addr2line_lookups.specs.KeptCalls.{known_among, naming_from, HoldCalls}
 use Rattle.addr2line_lookups.specs.FramePlaces.{HoldsFrames, FindsFrames, frames_of_answered, frames_of_any, frames_at_number}
 use Rattle.addr2line_lookups.specs.UnitLookups.{unless_waiting, ask_if_any, ask_at, first_asked, IsPending, frames_asked, frames_among, FoundFrames, SettlesFrames, unit_with, unit_of_answered, unit_asked, unit_among, unit_if_any, unit_at_number, FoundUnit, SettlesUnit}
 use Rattle.addr2line_lookups.specs.declared.frame_place.FramePlace.{FramePlace}
 use Rattle.addr2line_lookups.specs.declared.settled.Settled.{Settled}
 use Rattle.addr2line_lookups.specs.declared.settled.Settled.TheVariants.{Waits, Nothing, Found}
+use Rattle.addr2line_lookups.proofs.CallsLeft.{known_same}
 
 -- ---- the first and the rest
 
@@ -47,47 +47,51 @@ module _ {A : Type 0} (is_something : A → Bool) (ask : AnsweredUnit → A) (no
 -- ---- units with the same values
 
 module _ (us vs : List ResolvedUnit) (same : map value_of_unit vs ≡ map value_of_unit us) where
-  facts_same : map facts_of vs ≡ map facts_of us
-  facts_same =
-      sym (map-map (λ (v : AnsweredUnit). v.unit.facts) value_of_unit vs)
-      ∙ ap (map (λ (v : AnsweredUnit). v.unit.facts)) same
-      ∙ map-map (λ (v : AnsweredUnit). v.unit.facts) value_of_unit us
-
-  pub known_same : (s : List UnitFacts) → known_among vs s ≡ known_among us s
-  known_same s = ap (λ facts. record { units = facts; supplement_units = s }) facts_same
-
   pub calls_same : (s : List UnitFacts) (ws : List ResolvedUnit) → HoldCalls (known_among us s) ws
       → HoldCalls (known_among vs s) ws
-  calls_same s ws h = subst (λ known. HoldCalls known ws) (sym (known_same s)) h
+  calls_same s ws h = subst (λ known. HoldCalls known ws) (sym (known_same us vs same s)) h
 
   pub calls_back : (s : List UnitFacts) (ws : List ResolvedUnit) → HoldCalls (known_among vs s) ws
       → HoldCalls (known_among us s) ws
-  calls_back s ws h = subst (λ known. HoldCalls known ws) (known_same s) h
+  calls_back s ws h = subst (λ known. HoldCalls known ws) (known_same us vs same s) h
 
   module _ (s : List UnitFacts) (a n : ℕ) where
     pub frames_same : frames_asked (known_among vs s) (map value_of_unit vs) a n
         ≡ frames_asked (known_among us s) (map value_of_unit us) a n
     frames_same =
-        ap (λ known. frames_asked known (map value_of_unit vs) a n) (known_same s)
+        ap (λ known. frames_asked known (map value_of_unit vs) a n) (known_same us vs same s)
         ∙ ap (λ xs. frames_asked (known_among us s) xs a n) same
 
     pub unit_same : unit_asked (known_among vs s) (map value_of_unit vs) a n
         ≡ unit_asked (known_among us s) (map value_of_unit us) a n
     unit_same =
-        ap (λ known. unit_asked known (map value_of_unit vs) a n) (known_same s)
+        ap (λ known. unit_asked known (map value_of_unit vs) a n) (known_same us vs same s)
         ∙ ap (λ xs. unit_asked (known_among us s) xs a n) same
 
 -- ---- one unit
 
 -- a unit that waits
-pub waits : {A : Type 0} (o : Option PendingLoad) (x : A) → true ≡ is_some o → IsPending (unless_waiting o x)
+waits : {A : Type 0} (o : Option PendingLoad) (x : A) → true ≡ is_some o → IsPending (unless_waiting o x)
 waits None x h = absurd cc
 waits (Some p) x h = (p, refl)
 
 -- one that doesn't
-pub waits_not : (o : Option PendingLoad) → false ≡ is_some o → o ≡ None
+waits_not : (o : Option PendingLoad) → false ≡ is_some o → o ≡ None
 waits_not None h = refl
 waits_not (Some p) h = absurd cc
+
+-- the unit of a number
+module _ (us xs : List ResolvedUnit) (n : ℕ) (same : xs ≡ us) where
+  pub waits_here : {A : Type 0} (ask : AnsweredUnit → A) (nothing : A)
+      → true ≡ is_some (load_at (map value_of_unit xs) n) → IsPending (ask_at ask nothing (map value_of_unit us) n)
+  waits_here ask nothing h =
+      waits (load_at (map value_of_unit us) n) (ask_if_any ask nothing (slice_get (map value_of_unit us) n))
+      (subst (λ (l : List ResolvedUnit). true ≡ is_some (load_at (map value_of_unit l) n)) same h)
+
+  pub decided_here : false ≡ is_some (load_at (map value_of_unit xs) n) → load_at (map value_of_unit us) n ≡ None
+  decided_here h =
+      waits_not (load_at (map value_of_unit us) n)
+      (subst (λ (l : List ResolvedUnit). false ≡ is_some (load_at (map value_of_unit l) n)) same h)
 
 -- what is found, as it is
 pub output_of : {A : Type 0} (m : Lookup A) (x y : A) → m ≡ output x → x ≡ y → m ≡ output y

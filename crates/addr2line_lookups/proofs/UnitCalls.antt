@@ -1,14 +1,14 @@
 -- The functions of a unit and their calls, by what is kept of them.
-use Rattle.std.proofs.Common.{◌≡◌, ℕ, zero, suc, ◌<◌, Bool, true, false, cond, List, [], ◌∷◌, length, slice_get, Option, Some, None, Result, Ok, Err, OnOk, refl, sym, ap, ◌∙◌, arith}
+use Rattle.std.proofs.Common.{◌≡◌, ℕ, zero, suc, ◌<◌, Bool, true, false, List, [], ◌∷◌, length, slice_get, Option, Some, None, Result, Ok, Err, OnOk, refl, sym, ap, ◌∙◌, arith}
 use Rattle.addr2line_resolved.specs.Error.{Error}
 use Rattle.addr2line_resolved.specs.Results.{and_then, each}
 use Rattle.addr2line_resolved.specs.UnitFacts.{UnitInFile}
 use Rattle.addr2line_resolved.specs.Functions.{Function, functions_of_unit}
 use Rattle.addr2line_resolved.specs.InlinedCalls.{Naming, calls_of_function}
 use Rattle.addr2line_resolved.specs.EntryReferences.{KnownUnits, HoldingUnit}
-use Rattle.addr2line_resolved.specs.KeptFunctions.{calls_of_none, count_of_functions}
+use Rattle.addr2line_resolved.specs.KeptFunctions.{count_of_functions}
 use Rattle.addr2line_resolved.specs.FirstAnswers.{SplitLoad, FirstAnswer, load_of}
-use Rattle.addr2line_resolved.specs.ResolvedUnits.{AnsweredUnit, ResolvedUnit, value_of_unit, main_unit, undecided, pending_load, first_with, with_unit_answer, with_functions, first_answer, unit_of_functions, functions_of, calls_of, if_kept}
+use Rattle.addr2line_resolved.specs.ResolvedUnits.{AnsweredUnit, ResolvedUnit, main_unit, undecided, pending_load, first_with, with_unit_answer, first_answer, unit_of_functions, functions_of, calls_of, if_kept}
 use Rattle.addr2line_lookups.specs.KeptCalls.{naming_from}
 use Rattle.addr2line_lookups.specs.UnitParses.{check_functions_of, check_calls_of, check_call_of, refusal_of}
 
@@ -44,30 +44,6 @@ functions_refused old new o e is kept same =
     by : (b : Bool) → Some (Err e) ≡ if_kept b (functions_of new.value) → check_functions_of new.value ≡ Err e
     by true h = let refused : functions_of new.value ≡ Err e = cc in ap refusal_of refused
     by false h = absurd cc
-
--- what reading functions leaves
-module _ (old new : ResolvedUnit) (is : new ≡ with_functions old) where
-  pub value_after : new.value ≡ old.value
-  value_after = ap value_of_unit is ∙ by old.keeps_functions
-    where
-      by : (b : Bool)
-          → (cond b old (record old {
-            keeps_functions = true;
-            calls = calls_of_none (count_of_functions (functions_of old.value));
-          })).value ≡ old.value
-      by true = refl
-      by false = refl
-
-  pub keeps_after : new.keeps_functions ≡ true
-  keeps_after = ap (λ (u : ResolvedUnit). u.keeps_functions) is ∙ by old.keeps_functions refl
-    where
-      by : (b : Bool) → old.keeps_functions ≡ b
-          → (cond b old (record old {
-            keeps_functions = true;
-            calls = calls_of_none (count_of_functions (functions_of old.value));
-          })).keeps_functions ≡ true
-      by true h = h
-      by false h = refl
 
 -- ---- calls
 

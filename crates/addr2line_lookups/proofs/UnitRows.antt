@@ -27,7 +27,7 @@ row_by_number : (us : List ResolvedUnit) (a n : ℕ) (o : Option ResolvedUnit) �
 row_by_number us a n o found =
     ap (row_of_unit a) (slice_get-map plain_unit us n ∙ ap (option_map plain_unit) (sym found))
 
--- the place that a row stands for in the lines of the unit of a number
+-- the place of a row in the lines of the unit of a number
 pub location_by_number : (us : List ResolvedUnit) (r : UnitRow) (o : Option ResolvedUnit) → o ≡ slice_get us r.unit
     → location_of_unit_row (map plain_unit us) r
     ≡ option_and_then (λ (u : ContextUnit). location_of_row r.row u.lines) (option_map plain_unit o)

@@ -76,7 +76,8 @@ module _ (check : AnsweredUnit → Result (Unit {0}) Error) where
       by : (r : Result (Unit {0}) Error)
           → ((walk_first check n vs).0 ≡ Err e → walk_all check vs ≡ walk_first check n vs)
           → (unless_refused r (without_load v) vs (walk_first check n vs)).0 ≡ Err e
-          → unless_refused r (without_load v) vs (walk_all check vs) ≡ unless_refused r (without_load v) vs (walk_first check n vs)
+          → unless_refused r (without_load v) vs (walk_all check vs)
+          ≡ unless_refused r (without_load v) vs (walk_first check n vs)
       by (Ok x) later h = ap (λ (r : Walked). unless_refused (Ok x) (without_load v) vs r) (later h)
       by (Err d) later h = refl
 
@@ -93,7 +94,8 @@ module _ (check : AnsweredUnit → Result (Unit {0}) Error) where
           → walk_all check vs ≡ walk_first check n vs)
           → length (unless_refused r (without_load v) vs (walk_first check n vs)).1 ≤ suc n
           → (unless_refused r (without_load v) vs (walk_first check n vs)).0 ≡ Ok tt
-          → unless_refused r (without_load v) vs (walk_all check vs) ≡ unless_refused r (without_load v) vs (walk_first check n vs)
+          → unless_refused r (without_load v) vs (walk_all check vs)
+          ≡ unless_refused r (without_load v) vs (walk_first check n vs)
       by (Ok x) later past h =
           ap (λ (r : Walked). unless_refused (Ok x) (without_load v) vs r) (later (omega (arith, past)) h)
       by (Err e) later past h = absurd cc
@@ -161,8 +163,11 @@ module _ (check : AnsweredUnit → Result (Unit {0}) Error) where
     where
       by : (r : Result (Unit {0}) Error) → AreOfFile file (walk_first check n vs).1
           → AreOfFile file (unless_refused r (without_load v) vs (walk_first check n vs)).1
-      by (Ok x) later = All-cons (IsOfFile file) (without_load v) (walk_first check n vs).1 (All-head (IsOfFile file) v vs h) later
-      by (Err e) later = All-cons (IsOfFile file) (without_load v) vs (All-head (IsOfFile file) v vs h) (All-tail (IsOfFile file) v vs h)
+      by (Ok x) later =
+          All-cons (IsOfFile file) (without_load v) (walk_first check n vs).1 (All-head (IsOfFile file) v vs h) later
+      by (Err e) later =
+          All-cons (IsOfFile file) (without_load v) vs (All-head (IsOfFile file) v vs h)
+          (All-tail (IsOfFile file) v vs h)
 
   module _ (result : Result (Unit {0}) Error) (old new : List AnsweredUnit)
       (h : WalksOrNoMemory check result old new) where

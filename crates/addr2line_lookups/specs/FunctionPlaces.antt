@@ -59,6 +59,14 @@ HasFunction k u = k < length u.calls
 abbrev pub HasFunctionAt : List ResolvedUnit → ℕ → ℕ → Type 0
 HasFunctionAt us n k = IfSome (slice_get us n) (HasFunction k)
 
+-- how many functions of the unit of a number are kept
+abbrev pub count_of_unit : Option ResolvedUnit → ℕ
+count_of_unit None = 0
+count_of_unit (Some u) = length u.calls
+
+abbrev pub count_at : List ResolvedUnit → ℕ → ℕ
+count_at us n = count_of_unit (slice_get us n)
+
 -- the calls of the function of a number in a unit are kept, if there is such a unit
 abbrev pub KeepsCallsAt : List ResolvedUnit → ℕ → ℕ → Type 0
 KeepsCallsAt us n k = IfSome (slice_get us n) (λ u. is_some (kept_at u.calls k) ≡ true)

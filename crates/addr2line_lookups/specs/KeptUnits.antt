@@ -7,7 +7,7 @@ use Rattle.addr2line_resolved.specs.Lines.{LineRow, Location}
 use Rattle.addr2line_resolved.specs.Contexts.{ContextUnit, ranges_of, lines_of}
 use Rattle.addr2line_resolved.specs.PlaceLookups.{location_at}
 use Rattle.addr2line_resolved.specs.UnitRange.{UnitRange}
-use Rattle.addr2line_resolved.specs.NumberedRanges.{overlapping_ranges}
+use Rattle.addr2line_resolved.specs.NumberedRanges.{covering_ranges, overlapping_ranges}
 use Rattle.addr2line_resolved.specs.ContextUnits.{ordered_ranges}
 use Rattle.addr2line_resolved.specs.ResolvedUnits.{ResolvedUnit, plain_unit, KeepsLines, row_or_refusal, location_of_row}
 use Rattle.addr2line_lookups.specs.declared.settle.UnitRow.{UnitRow}
@@ -28,6 +28,10 @@ abbrev pub KeepsBetween : ℕ → ℕ → List ResolvedUnit → Type 0
 KeepsBetween low high us =
     KeepsRanges us (overlapping_ranges low high (ordered_ranges (map plain_unit us)))
 
+-- those of the units with a range over an address
+abbrev pub KeepsCovering : ℕ → List ResolvedUnit → Type 0
+KeepsCovering a us = KeepsRanges us (covering_ranges a (ordered_ranges (map plain_unit us)))
+
 -- lines that were kept before are kept still
 abbrev pub KeepsMore : List ResolvedUnit → List ResolvedUnit → Type 0
 KeepsMore old new = (number : ℕ) → KeepsAt old number → KeepsAt new number
@@ -43,7 +47,7 @@ row_of_unit a (Some u) = row_or_refusal a u.lines
 abbrev pub row_at_number : List ContextUnit → ℕ → ℕ → Result (Option LineRow) Error
 row_at_number units a number = row_of_unit a (slice_get units number)
 
--- the place that a row stands for in the lines of its unit
+-- the place of a row in the lines of its unit
 abbrev pub location_of_unit_row : List ContextUnit → UnitRow → Option Location
 location_of_unit_row units r =
     option_and_then (λ u. location_of_row r.row u.lines) (slice_get units r.unit)

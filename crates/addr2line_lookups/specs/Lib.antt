@@ -70,4 +70,5 @@ pub mod KeptCalls
 pub mod UnitParses
 pub mod FunctionPlaces
 pub mod FramePlaces
+pub mod LookupCosts
 pub mod UnitLookups

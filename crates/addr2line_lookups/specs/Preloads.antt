@@ -1,6 +1,8 @@
 -- The loads that lookups of an address may wait for, by the units' numbers.
-use Rattle.std.specs.Prelude.{ℕ, ◌==◌, Bool, List, [], ◌∷◌, ◌++◌, slice_get, Option, Some, None, option_map, option_and_then, if◌then◌else◌}
+use Rattle.std.specs.Prelude.{◌≡◌, ℕ, ◌==◌, Bool, List, [], ◌∷◌, ◌++◌, slice_get, Option, Some, None, option_map, option_and_then, if◌then◌else◌}
 use Rattle.std.specs.List.{filter_map, list_any}
+use Rattle.std.specs.Ordering.{nat_cmp}
+use Rattle.std.specs.BTreeSet.{BTreeSet, contains}
 use Rattle.addr2line_resolved.specs.FirstAnswers.{SplitLoad, PendingLoad}
 use Rattle.addr2line_resolved.specs.UnitRange.{UnitRange}
 use Rattle.addr2line_resolved.specs.ResolvedUnits.{AnsweredUnit, pending_load}
@@ -28,6 +30,10 @@ load_of_item i = numbered_load i.1 i.0
 -- one of the loads is that of the unit of a number
 abbrev pub is_listed : List PendingLoad → ℕ → Bool
 is_listed ps number = list_any (λ p. number == p.number) ps
+
+-- these are the numbers of the units whose loads are listed
+abbrev pub AreNumbersOf : List PendingLoad → BTreeSet ℕ → Type 0
+AreNumbersOf ps numbers = (n : ℕ) → contains nat_cmp numbers n ≡ is_listed ps n
 
 -- with one more load, unless one of its unit is listed
 abbrev pub with_load : List PendingLoad → PendingLoad → List PendingLoad

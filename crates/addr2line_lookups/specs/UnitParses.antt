@@ -1,13 +1,12 @@
 -- What reading ahead says of units, by their numbers, and what it leaves of them: a load that is
 -- pending where the walk comes to its unit is answered by no file.
-use Rattle.std.specs.Prelude.{◌≡◌, ◌⊎◌, ℕ, zero, suc, true, List, [], ◌∷◌, length, set, slice_get, Option, Some, None, is_some, IfSome, Result, Ok, Err}
+use Rattle.std.specs.Prelude.{◌≡◌, ◌⊎◌, ℕ, zero, suc, true, List, [], ◌∷◌, length, set, slice_get, Option, Some, None, IfSome, Result, Ok, Err}
 use Rattle.addr2line_resolved.specs.Error.{Error}
 use Rattle.addr2line_resolved.specs.Error.TheVariants.{Memory}
 use Rattle.addr2line_resolved.specs.Results.{and_then, each, ◌>>=◌}
 use Rattle.addr2line_resolved.specs.Functions.{functions_of_unit}
 use Rattle.addr2line_resolved.specs.InlinedCalls.{calls_of_function}
 use Rattle.addr2line_resolved.specs.EntryReferences.{KnownUnits}
-use Rattle.addr2line_resolved.specs.KeptFunctions.{kept_at}
 use Rattle.addr2line_resolved.specs.ResolvedUnits.{AnsweredUnit, ResolvedUnit, main_unit, first_answer, unit_of_functions, functions_of, with_unit_answer}
 use Rattle.addr2line_lookups.specs.KeptCalls.{naming_from, calls_among}
 
@@ -64,19 +63,6 @@ KeepsFunctionsAt us number = IfSome (slice_get us number) (λ u. u.keeps_functio
 -- whether the calls of the function of a number can be read
 abbrev pub check_call_of : KnownUnits → ℕ → AnsweredUnit → Result (Unit {0}) Error
 check_call_of known function v = refusal_of (calls_among known v function)
-
--- how many functions of the unit of a number are kept
-abbrev pub count_of_unit : Option ResolvedUnit → ℕ
-count_of_unit None = 0
-count_of_unit (Some u) = length u.calls
-
-abbrev pub count_at : List ResolvedUnit → ℕ → ℕ
-count_at us number = count_of_unit (slice_get us number)
-
--- the calls of a function of that unit are kept
-abbrev pub KeepsCallsAt : List ResolvedUnit → ℕ → ℕ → Type 0
-KeepsCallsAt us number function =
-    IfSome (slice_get us number) (λ u. is_some (kept_at u.calls function) ≡ true)
 
 -- ---- one after the other
 

@@ -10,6 +10,7 @@ ghost use Rattle.addr2line_lookups.specs.Preloads.{load_at};
 ghost use Rattle.addr2line_lookups.specs.KeptUnits.{KeepsAt};
 ghost use Rattle.addr2line_lookups.specs.KeptCalls.{known_among, HoldCalls};
 ghost use Rattle.addr2line_lookups.specs.FramePlaces.{place_if_any, frames_at_number, frames_in_unit, frames_at_place, FindsFrames};
+ghost use Rattle.addr2line_lookups.specs.LookupCosts.{AtMostLooks, frame_probes_at};
 
 use crate::function_place::find_function_at;
 use crate::settle::{find_row_at, unit_at};
@@ -17,8 +18,8 @@ use addr2line_resolved::{Error, FrameIter, LineIndex, LineRow, Location, Reader,
 use std::alloc::Global;
 
 /// Where the frames of an address are: the number of a unit, that of the function there which holds
-/// the address, and the row of the unit's lines, each if there is one. The unit keeps the numbers of
-/// the calls that the address is in, until other calls are found there.
+/// the address, and the row of the unit's lines, each if there is one. The unit keeps the numbers
+/// of the calls that the address is in, until other calls are found there.
 #[derive(Clone, Copy)]
 pub struct FramePlace {
     pub unit: usize,
@@ -61,6 +62,9 @@ fn find_place_at<R: Reader>(
     ensures found { FindsFrames units.new.items
         (frames_at_number (known_among units.old.items supplement_units.now)
         (map value_of_unit units.old.items) probe number) result }
+    ensures cost { AtMostLooks
+        (frame_probes_at (known_among units.old.items supplement_units.now)
+        (map value_of_unit units.old.items) probe number) units.old.items units.new.items }
 {
     let function = find_function_at(alloc, units, supplement_units, number, probe)?;
     let row = find_row_at(alloc, units, number, probe)?;
@@ -85,6 +89,9 @@ pub(crate) fn find_frames_at<R: Reader>(
     ensures found { FindsFrames units.new.items
         (frames_at_number (known_among units.old.items supplement_units.now)
         (map value_of_unit units.old.items) probe number) result }
+    ensures cost { AtMostLooks
+        (frame_probes_at (known_among units.old.items supplement_units.now)
+        (map value_of_unit units.old.items) probe number) units.old.items units.new.items }
 {
     if number >= units.len() {
         return Ok(None);

@@ -4,11 +4,12 @@
 ghost use Rattle.std.specs.Prelude.{◌≡◌, ◌<◌, None, length, map, IfOk, IfSome, OnOk, IfErr};
 ghost use Rattle.addr2line_resolved.specs.Calls.{ReturnsOrNoMemory, ReturnsAsOrNoMemory};
 ghost use Rattle.addr2line_resolved.specs.Error.TheVariants.{Memory};
-ghost use Rattle.addr2line_resolved.specs.KeptFunctions.{number_in};
+ghost use Rattle.addr2line_resolved.specs.KeptFunctions.{number_in, number_probes};
 ghost use Rattle.addr2line_resolved.specs.ResolvedUnits.{functions_of, pending_load, value_of_unit};
 ghost use Rattle.addr2line_lookups.specs.Preloads.{load_at};
 ghost use Rattle.addr2line_lookups.specs.KeptCalls.{known_among, calls_among, HoldCalls, LeavesCallsOf, LeavesCalls};
-ghost use Rattle.addr2line_lookups.specs.FunctionPlaces.{HasFunction, HasFunctionAt, KeepsCallsAt, function_number_at, function_calls_at, function_with_calls_at, chain_of, FindsCalls, FindsFunction};
+ghost use Rattle.addr2line_lookups.specs.FunctionPlaces.{HasFunction, HasFunctionAt, KeepsCallsAt, count_at, function_number_at, function_calls_at, function_with_calls_at, chain_of, FindsCalls, FindsFunction};
+ghost use Rattle.addr2line_lookups.specs.LookupCosts.{AtMostLooks, AtMostLooksOf, number_probes_at, chain_probes_at, function_probes_at};
 
 use addr2line_resolved::{Error, FunctionCalls, KnownUnits, Reader, ResUnit, Unit, UnitNames};
 use std::alloc::Global;
@@ -25,6 +26,8 @@ fn find_number<R: Reader>(
     requires { pending_load unit.old.value ≡ None }
     ensures value { unit.new.value ≡ unit.old.value }
     ensures calls { LeavesCallsOf unit.old unit.new }
+    ensures cost { AtMostLooksOf (number_probes (functions_of unit.old.value))
+        unit.old unit.new }
     ensures number { ReturnsOrNoMemory result (number_in (functions_of unit.old.value) probe) }
     ensures below { IfOk result (λ number. IfSome number (λ k. HasFunction k unit.new)) }
 {
@@ -43,6 +46,8 @@ fn find_number_at<R: Reader>(
     requires decided { load_at (map value_of_unit units.old.items) number ≡ None }
     ensures values { map value_of_unit units.new.items ≡ map value_of_unit units.old.items }
     ensures calls { LeavesCalls units.old.items units.new.items }
+    ensures cost { AtMostLooks (number_probes_at (map value_of_unit units.old.items) number)
+        units.old.items units.new.items }
     ensures number { ReturnsOrNoMemory result
         (function_number_at (map value_of_unit units.old.items) probe number) }
     ensures below { IfOk result
@@ -76,7 +81,7 @@ fn read_calls<R: Reader>(
 
 // Reads the calls of the function of a number in the unit of a number, unless they are kept. A
 // refusal is kept too: the only error is out of memory.
-fn keep_calls<R: Reader>(
+pub(crate) fn keep_calls<R: Reader>(
     alloc: Global,
     units: &mut Vec<ResUnit<R>>,
     supplement_units: &[Unit<R>],
@@ -90,7 +95,9 @@ fn keep_calls<R: Reader>(
     ensures values { map value_of_unit units.new.items ≡ map value_of_unit units.old.items }
     ensures calls { HoldCalls (known_among units.old.items supplement_units.now)
         units.new.items }
+    ensures count { count_at units.new.items number ≡ count_at units.old.items number }
     ensures kept { OnOk result (KeepsCallsAt units.new.items number function) }
+    ensures cost { AtMostLooks 0 units.old.items units.new.items }
     ensures refusal { IfErr result (λ e. e ≡ Memory) }
 {
     let unit = &units[number];
@@ -123,6 +130,10 @@ fn find_calls<R: Reader>(
         (function_calls_at (known_among units.old.items supplement_units.now)
         (map value_of_unit units.old.items) function number) result
         (chain_of units.new.items number) }
+    ensures cost { AtMostLooks
+        (chain_probes_at (known_among units.old.items supplement_units.now)
+        (map value_of_unit units.old.items) probe function number)
+        units.old.items units.new.items }
 {
     keep_calls(alloc, units, supplement_units, number, function)?;
     let unit = &mut units[number];
@@ -151,6 +162,9 @@ pub(crate) fn find_function_at<R: Reader>(
         (function_with_calls_at (known_among units.old.items supplement_units.now)
         (map value_of_unit units.old.items) probe number) result
         (chain_of units.new.items number) }
+    ensures cost { AtMostLooks
+        (function_probes_at (known_among units.old.items supplement_units.now)
+        (map value_of_unit units.old.items) probe number) units.old.items units.new.items }
 {
     let Some(function) = find_number_at(alloc, units, number, probe)? else {
         return Ok(None);

@@ -7,6 +7,7 @@ ghost use Rattle.addr2line_resolved.specs.FirstAnswers.{answer_of};
 ghost use Rattle.addr2line_resolved.specs.ResolvedUnits.{value_of_unit};
 ghost use Rattle.addr2line_lookups.specs.KeptCalls.{LeavesCalls, LeavesCallsOf};
 ghost use Rattle.addr2line_lookups.specs.LoadAnswers.{AnswersOrNoMemory, check_unit, answer_unit, answer_at};
+ghost use Rattle.addr2line_lookups.specs.LookupCosts.{AtMostLooks, AtMostLooksOf};
 
 use addr2line_resolved::{Dwarf, Error, OwnedUnit, Reader, ResUnit, Unit, answer_of};
 use std::alloc::Global;
@@ -48,6 +49,7 @@ fn record_answer<R: Reader>(
     ensures answer { AnswersOrNoMemory result unit.old.value unit.new.value
         (answer_unit unit.old.value (option_map (λ f. f.value.file) file)) }
     ensures calls { LeavesCallsOf unit.old unit.new }
+    ensures cost { AtMostLooksOf 0 unit.old unit.new }
 {
     let answer = answer_or_refusal(alloc, unit.main().unit(), file)?;
     unit.record_answer(answer);
@@ -63,6 +65,7 @@ fn answer_unit<R: Reader>(
     ensures answer { AnswersOrNoMemory result unit.old.value unit.new.value
         (answer_unit unit.old.value (option_map (λ f. f.value.file) file)) }
     ensures calls { LeavesCallsOf unit.old unit.new }
+    ensures cost { AtMostLooksOf 0 unit.old unit.new }
 {
     if unit.pending_load().is_none() {
         drop(file);
@@ -83,6 +86,7 @@ pub(crate) fn answer_at<R: Reader>(
         (answer_at (map value_of_unit units.old.items) number
         (option_map (λ f. f.value.file) file)) }
     ensures calls { LeavesCalls units.old.items units.new.items }
+    ensures cost { AtMostLooks 0 units.old.items units.new.items }
 {
     if number >= units.len() {
         drop(file);

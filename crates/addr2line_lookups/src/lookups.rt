@@ -7,6 +7,7 @@ ghost use Rattle.addr2line_resolved.specs.ResolvedUnits.{plain_unit, value_of_un
 ghost use Rattle.addr2line_lookups.specs.KeptCalls.{known_among, HoldCalls};
 ghost use Rattle.addr2line_lookups.specs.Preloads.{load_at};
 ghost use Rattle.addr2line_lookups.specs.UnitLookups.{frames_asked, frames_among, SettlesFrames, unit_asked, unit_among, SettlesUnit, unit_at_number};
+ghost use Rattle.addr2line_lookups.specs.LookupCosts.{AtMostLooks, frame_probes_at, probes_among};
 
 use crate::frame_place::{FramePlace, find_frames_at};
 use crate::preload::load_at;
@@ -38,6 +39,9 @@ fn settle_frames_at<R: Reader>(
     ensures found { SettlesFrames units.new.items
         (frames_asked (known_among units.old.items supplement_units.now)
         (map value_of_unit units.old.items) probe number) result }
+    ensures cost { AtMostLooks
+        (frame_probes_at (known_among units.old.items supplement_units.now)
+        (map value_of_unit units.old.items) probe number) units.old.items units.new.items }
 {
     if waits_at(units, number) {
         return Ok(Settled::Waits);
@@ -64,6 +68,10 @@ pub(crate) fn settle_frames<R: Reader>(
     ensures found { SettlesFrames units.new.items
         (frames_among (known_among units.old.items supplement_units.now)
         (map value_of_unit units.old.items) probe (covering_ranges probe ranges.now)) result }
+    ensures cost { AtMostLooks (probes_among
+        (frame_probes_at (known_among units.old.items supplement_units.now)
+        (map value_of_unit units.old.items) probe) (covering_ranges probe ranges.now))
+        units.old.items units.new.items }
 {
     let mut covering = ranges.covering(probe);
     while let Some(range) = covering.next() {
@@ -94,6 +102,9 @@ fn settle_unit_at<R: Reader>(
     ensures found { SettlesUnit (map value_of_unit units.old.items)
         (unit_asked (known_among units.old.items supplement_units.now)
         (map value_of_unit units.old.items) probe number) result }
+    ensures cost { AtMostLooks
+        (frame_probes_at (known_among units.old.items supplement_units.now)
+        (map value_of_unit units.old.items) probe number) units.old.items units.new.items }
 {
     if waits_at(units, number) {
         return Ok(Settled::Waits);
@@ -124,6 +135,10 @@ pub(crate) fn settle_unit<R: Reader>(
     ensures found { SettlesUnit (map value_of_unit units.old.items)
         (unit_among (known_among units.old.items supplement_units.now)
         (map value_of_unit units.old.items) probe (covering_ranges probe ranges.now)) result }
+    ensures cost { AtMostLooks (probes_among
+        (frame_probes_at (known_among units.old.items supplement_units.now)
+        (map value_of_unit units.old.items) probe) (covering_ranges probe ranges.now))
+        units.old.items units.new.items }
 {
     let mut covering = ranges.covering(probe);
     while let Some(range) = covering.next() {

@@ -6,6 +6,7 @@ ghost use Rattle.addr2line_resolved.specs.Contexts.{all_lines_or_refusal};
 ghost use Rattle.addr2line_resolved.specs.ResolvedUnits.{plain_unit, value_of_unit};
 ghost use Rattle.addr2line_lookups.specs.KeptCalls.{LeavesCalls};
 ghost use Rattle.addr2line_lookups.specs.KeptUnits.{check_at};
+ghost use Rattle.addr2line_lookups.specs.LookupCosts.{AtMostLooks};
 
 use addr2line_resolved::{Error, Reader, ResUnit};
 use std::alloc::Global;
@@ -19,6 +20,7 @@ fn check_at<R: Reader>(
 ) -> Result<(), Error>
     ensures values { map value_of_unit units.new.items ≡ map value_of_unit units.old.items }
     ensures calls { LeavesCalls units.old.items units.new.items }
+    ensures cost { AtMostLooks 0 units.old.items units.new.items }
     ensures found { ReturnsOrNoMemory result (check_at (map plain_unit units.old.items) number) }
 {
     if number >= units.len() {
@@ -36,6 +38,7 @@ pub(crate) fn check_lines<R: Reader>(
 ) -> Result<(), Error>
     ensures values { map value_of_unit units.new.items ≡ map value_of_unit units.old.items }
     ensures calls { LeavesCalls units.old.items units.new.items }
+    ensures cost { AtMostLooks 0 units.old.items units.new.items }
     ensures found { ReturnsOrNoMemory result
         (all_lines_or_refusal (map plain_unit units.old.items)) }
 {

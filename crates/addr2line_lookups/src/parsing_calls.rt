@@ -1,67 +1,19 @@
 //! The functions of all units with the calls that are inlined into them.
 
-ghost use Rattle.std.specs.Prelude.{◌≡◌, ◌<◌, true, Ok, IfSome, IfOk, IfErr, OnOk, is_some, length, map};
-ghost use Rattle.addr2line_resolved.specs.Calls.{ReturnsAsOrNoMemory};
-ghost use Rattle.addr2line_resolved.specs.Error.TheVariants.{Memory};
+ghost use Rattle.std.specs.Prelude.{◌≡◌, ◌<◌, Ok, IfSome, length, map};
 ghost use Rattle.addr2line_resolved.specs.KeptFunctions.{kept_at};
 ghost use Rattle.addr2line_resolved.specs.ResolvedUnits.{value_of_unit};
-ghost use Rattle.addr2line_lookups.specs.KeptCalls.{known_among, calls_among, HoldCalls};
-ghost use Rattle.addr2line_lookups.specs.UnitParses.{check_functions_of, check_calls_of, check_call_of, refusal_of, ChecksOrNoMemory, after_turn, check_unit_at, count_at, KeepsFunctionsAt, KeepsCallsAt, WalksOrNoMemory};
+ghost use Rattle.addr2line_lookups.specs.KeptCalls.{known_among, HoldCalls};
+ghost use Rattle.addr2line_lookups.specs.FunctionPlaces.{count_at};
+ghost use Rattle.addr2line_lookups.specs.LookupCosts.{AtMostLooks};
+ghost use Rattle.addr2line_lookups.specs.UnitParses.{check_functions_of, check_calls_of, check_call_of, refusal_of, ChecksOrNoMemory, after_turn, check_unit_at, KeepsFunctionsAt, WalksOrNoMemory};
 
+use crate::function_place::keep_calls;
 use crate::parsing_functions::parse_functions_at;
-use addr2line_resolved::{Error, FunctionCalls, KnownUnits, Reader, ResUnit, Unit, UnitNames};
+use addr2line_resolved::{Error, Reader, ResUnit, Unit};
 use std::alloc::Global;
 
 // ---- one function
-
-// The calls of the function of a number in a unit, by the names in these units and those of the
-// supplement.
-fn read_calls<R: Reader>(
-    alloc: Global,
-    units: &[ResUnit<R>],
-    supplement_units: &[Unit<R>],
-    unit: &ResUnit<R>,
-    function: usize,
-) -> Result<FunctionCalls<R>, Error>
-    requires { function < length unit.now.calls }
-    ensures calls { ReturnsAsOrNoMemory (λ c. c.function) result
-        (calls_among (known_among units.now supplement_units.now) unit.now.value function) }
-    ensures counter { IfOk result (λ c. c.counter ≡ unit.now.probes.name) }
-{
-    let holder = unit.functions_unit()?;
-    let names = UnitNames {
-        known: KnownUnits::new(units, supplement_units),
-        holder,
-    };
-    unit.read_calls(alloc, &names, function)
-}
-
-// Reads the calls of a function of the unit of a number and keeps them, unless they are kept. A
-// refusal is kept too: the only error is out of memory.
-fn keep_calls_at<R: Reader>(
-    alloc: Global,
-    units: &mut Vec<ResUnit<R>>,
-    supplement_units: &[Unit<R>],
-    number: usize,
-    function: usize,
-) -> Result<(), Error>
-    requires number { number < length units.old.items }
-    requires function { function < count_at units.old.items number }
-    requires calls { HoldCalls (known_among units.old.items supplement_units.now) units.old.items }
-    ensures values { map value_of_unit units.new.items ≡ map value_of_unit units.old.items }
-    ensures calls { HoldCalls (known_among units.old.items supplement_units.now) units.new.items }
-    ensures count { count_at units.new.items number ≡ count_at units.old.items number }
-    ensures kept { OnOk result (KeepsCallsAt units.new.items number function) }
-    ensures refusal { IfErr result (λ e. e ≡ Memory) }
-{
-    let unit = &units[number];
-    if unit.kept_calls(function).is_some() {
-        return Ok(());
-    }
-    let read = read_calls(alloc, units.as_slice(), supplement_units, unit, function);
-    let unit = &mut units[number];
-    unit.keep_calls(function, read)
-}
 
 // Whether calls that are kept are a refusal.
 fn check_kept<R: Reader>(unit: &ResUnit<R>, function: usize) -> Result<(), Error>
@@ -87,12 +39,13 @@ fn parse_calls_of<R: Reader>(
     requires calls { HoldCalls (known_among units.old.items supplement_units.now) units.old.items }
     ensures values { map value_of_unit units.new.items ≡ map value_of_unit units.old.items }
     ensures calls { HoldCalls (known_among units.old.items supplement_units.now) units.new.items }
+    ensures cost { AtMostLooks 0 units.old.items units.new.items }
     ensures count { count_at units.new.items number ≡ count_at units.old.items number }
     ensures found { ChecksOrNoMemory result
         (check_unit_at (check_call_of (known_among units.old.items supplement_units.now) function)
         (map value_of_unit units.old.items) number) }
 {
-    keep_calls_at(alloc, units, supplement_units, number, function)?;
+    keep_calls(alloc, units, supplement_units, number, function)?;
     check_kept(&units[number], function)
 }
 
@@ -112,6 +65,7 @@ fn parse_calls_at<R: Reader>(
     requires calls { HoldCalls (known_among units.old.items supplement_units.now) units.old.items }
     ensures values { map value_of_unit units.new.items ≡ map value_of_unit units.old.items }
     ensures calls { HoldCalls (known_among units.old.items supplement_units.now) units.new.items }
+    ensures cost { AtMostLooks 0 units.old.items units.new.items }
     ensures found { ChecksOrNoMemory result
         (check_unit_at (check_calls_of (known_among units.old.items supplement_units.now))
         (map value_of_unit units.old.items) number) }
@@ -140,6 +94,7 @@ fn parse_unit_at<R: Reader>(
     ensures values { map value_of_unit units.new.items
         ≡ after_turn (map value_of_unit units.old.items) number }
     ensures calls { HoldCalls (known_among units.old.items supplement_units.now) units.new.items }
+    ensures cost { AtMostLooks 0 units.old.items units.new.items }
     ensures found { ChecksOrNoMemory result
         (check_unit_at (check_calls_of (known_among units.old.items supplement_units.now))
         (map value_of_unit units.new.items) number) }
@@ -161,6 +116,7 @@ pub(crate) fn check_calls<R: Reader>(
         (check_calls_of (known_among units.old.items supplement_units.now)) result
         (map value_of_unit units.old.items) (map value_of_unit units.new.items) }
     ensures calls { HoldCalls (known_among units.new.items supplement_units.now) units.new.items }
+    ensures cost { AtMostLooks 0 units.old.items units.new.items }
 {
     let mut number = 0;
     while number < units.len() {

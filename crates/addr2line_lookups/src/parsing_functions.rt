@@ -3,6 +3,7 @@
 ghost use Rattle.std.specs.Prelude.{◌≡◌, ◌<◌, true, None, OnOk, map};
 ghost use Rattle.addr2line_resolved.specs.ResolvedUnits.{pending_load, value_of_unit};
 ghost use Rattle.addr2line_lookups.specs.KeptCalls.{LeavesCalls, LeavesCallsOf};
+ghost use Rattle.addr2line_lookups.specs.LookupCosts.{AtMostLooks, AtMostLooksOf};
 ghost use Rattle.addr2line_lookups.specs.UnitParses.{without_load, check_functions_of, ChecksOrNoMemory, after_turn, check_unit_at, KeepsFunctionsAt, WalksOrNoMemory};
 
 use addr2line_resolved::{Error, Reader, ResUnit};
@@ -13,6 +14,7 @@ fn skip_load<R: Reader>(unit: &mut ResUnit<R>)
     ensures value { unit.new.value ≡ without_load unit.old.value }
     ensures load { pending_load unit.new.value ≡ None }
     ensures calls { LeavesCallsOf unit.old unit.new }
+    ensures cost { AtMostLooksOf 0 unit.old unit.new }
 {
     unit.record_answer(Ok(None));
 }
@@ -35,6 +37,7 @@ fn check_functions_of<R: Reader>(alloc: Global, unit: &mut ResUnit<R>) -> Result
     ensures found { ChecksOrNoMemory result (check_functions_of unit.old.value) }
     ensures kept { OnOk result (unit.new.keeps_functions ≡ true) }
     ensures calls { LeavesCallsOf unit.old unit.new }
+    ensures cost { AtMostLooksOf 0 unit.old unit.new }
 {
     unit.read_functions(alloc)?;
     check_kept(unit)
@@ -52,6 +55,7 @@ pub(crate) fn parse_functions_at<R: Reader>(
         (check_unit_at check_functions_of (map value_of_unit units.new.items) number) }
     ensures kept { OnOk result (KeepsFunctionsAt units.new.items number) }
     ensures calls { LeavesCalls units.old.items units.new.items }
+    ensures cost { AtMostLooks 0 units.old.items units.new.items }
 {
     if number >= units.len() {
         return Ok(());
@@ -69,6 +73,7 @@ pub(crate) fn check_functions<R: Reader>(
     ensures walk { WalksOrNoMemory check_functions_of result (map value_of_unit units.old.items)
         (map value_of_unit units.new.items) }
     ensures calls { LeavesCalls units.old.items units.new.items }
+    ensures cost { AtMostLooks 0 units.old.items units.new.items }
 {
     let mut number = 0;
     while number < units.len() {

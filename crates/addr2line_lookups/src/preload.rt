@@ -1,16 +1,17 @@
 //! The loads that lookups of an address may wait for.
 
-ghost use Rattle.std.specs.Prelude.{◌≡◌, Ok, map, option_map, option_and_then, slice_get};
+ghost use Rattle.std.specs.Prelude.{◌≡◌, Ok, OnOk, map, option_map, option_and_then, slice_get};
 ghost use Rattle.addr2line_resolved.specs.Calls.{ReturnsAsOrNoMemory};
 ghost use Rattle.addr2line_resolved.specs.Lookups.{one_each};
 ghost use Rattle.addr2line_resolved.specs.NumberedRanges.{covering_ranges};
 ghost use Rattle.addr2line_resolved.specs.ResolvedUnits.{pending_load, value_of_unit};
-ghost use Rattle.addr2line_lookups.specs.Preloads.{numbered_load, load_at, loads_at, load_of_item, is_listed, with_load, with_load_if_any};
+ghost use Rattle.addr2line_lookups.specs.Preloads.{numbered_load, load_at, loads_at, load_of_item, AreNumbersOf, with_load, with_load_if_any};
 
 use crate::settle::unit_at;
 use crate::token::UnitToken;
 use addr2line_resolved::{Error, Reader, ResUnit, SplitDwarfLoad, UnitRanges};
 use std::alloc::Global;
+use std::collections::BTreeSet;
 
 // The load of the unit of a number, if it needs an answer.
 pub(crate) fn load_at<R: Reader>(units: &[ResUnit<R>], number: usize) -> Option<&SplitDwarfLoad<R>>
@@ -23,28 +24,20 @@ pub(crate) fn load_at<R: Reader>(units: &[ResUnit<R>], number: usize) -> Option<
     }
 }
 
-// Whether the load of the unit of a number is one of these.
-fn is_listed<R: Reader>(loads: &[(SplitDwarfLoad<R>, UnitToken)], number: usize) -> bool
-    ensures { result ≡ is_listed (map load_of_item loads.now) number }
-{
-    for load in loads {
-        if number == load.1.number() {
-            return true;
-        }
-    }
-    false
-}
-
-// Lists a load, unless one of its unit is listed.
+// Lists a load, unless one of its unit is listed. The numbers are those of the units that are.
 fn add_load<R: Reader>(
     loads: &mut Vec<(SplitDwarfLoad<R>, UnitToken)>,
+    numbers: &mut BTreeSet<usize>,
     load: &SplitDwarfLoad<R>,
     number: usize,
 ) -> Result<(), Error>
-    ensures { ReturnsAsOrNoMemory (λ done. map load_of_item loads.new.items) result
+    requires { AreNumbersOf (map load_of_item loads.old.items) numbers.old }
+    ensures loads { ReturnsAsOrNoMemory (λ done. map load_of_item loads.new.items) result
         (Ok (with_load (map load_of_item loads.old.items) (numbered_load number load.now))) }
+    ensures numbers { OnOk result
+        (AreNumbersOf (map load_of_item loads.new.items) numbers.new) }
 {
-    if is_listed(loads, number) {
+    if !numbers.insert(number)? {
         return Ok(());
     }
     let load = load.copy()?;
@@ -55,15 +48,19 @@ fn add_load<R: Reader>(
 // Lists the load of the unit of a number, unless it is listed or needs no answer.
 fn add_load_at<R: Reader>(
     loads: &mut Vec<(SplitDwarfLoad<R>, UnitToken)>,
+    numbers: &mut BTreeSet<usize>,
     units: &[ResUnit<R>],
     number: usize,
 ) -> Result<(), Error>
-    ensures { ReturnsAsOrNoMemory (λ done. map load_of_item loads.new.items) result
+    requires { AreNumbersOf (map load_of_item loads.old.items) numbers.old }
+    ensures loads { ReturnsAsOrNoMemory (λ done. map load_of_item loads.new.items) result
         (Ok (with_load_if_any (map load_of_item loads.old.items)
         (load_at (map value_of_unit units.now) number))) }
+    ensures numbers { OnOk result
+        (AreNumbersOf (map load_of_item loads.new.items) numbers.new) }
 {
     match load_at(units, number) {
-        Some(load) => add_load(loads, load, number),
+        Some(load) => add_load(loads, numbers, load, number),
         None => Ok(()),
     }
 }
@@ -81,9 +78,10 @@ pub(crate) fn pending_loads<R: Reader>(
         (covering_ranges probe ranges.now)))) }
 {
     let mut loads = Vec::new(alloc);
+    let mut numbers = BTreeSet::new(alloc);
     let mut covering = ranges.covering(probe);
     while let Some(range) = covering.next() {
-        add_load_at(&mut loads, units, range.unit)?;
+        add_load_at(&mut loads, &mut numbers, units, range.unit)?;
     }
     Ok(loads)
 }

@@ -1,15 +1,16 @@
 //! The lines that a lookup asks for are read and kept before it answers.
 
-ghost use Rattle.std.specs.Prelude.{◌≡◌, map, option_map, slice_get, OnOk, IfErr};
+ghost use Rattle.std.specs.Prelude.{◌≡◌, ◌≢◌, map, option_map, slice_get, Err, OnOk, IfErr};
 ghost use Rattle.addr2line_resolved.specs.Calls.{ReturnsOrNoMemory};
 ghost use Rattle.addr2line_resolved.specs.Error.TheVariants.{Memory};
 ghost use Rattle.addr2line_resolved.specs.BorrowedLocations.{location_value};
-ghost use Rattle.addr2line_resolved.specs.NumberedRanges.{overlapping_ranges};
+ghost use Rattle.addr2line_resolved.specs.NumberedRanges.{covering_ranges, overlapping_ranges};
 ghost use Rattle.addr2line_resolved.specs.ContextUnits.{ordered_ranges};
 ghost use Rattle.addr2line_resolved.specs.ResolvedUnits.{plain_unit, value_of_unit};
 ghost use Rattle.addr2line_lookups.specs.KeptCalls.{LeavesCalls, kept_calls_of};
 ghost use Rattle.addr2line_lookups.specs.FunctionPlaces.{chain_of};
-ghost use Rattle.addr2line_lookups.specs.KeptUnits.{KeepsAt, KeepsRanges, KeepsMore, row_at_number, location_of_unit_row, FindsRow, KeepsFound};
+ghost use Rattle.addr2line_lookups.specs.KeptUnits.{KeepsAt, KeepsRanges, row_at_number, location_of_unit_row, FindsRow, KeepsFound};
+ghost use Rattle.addr2line_lookups.specs.LookupCosts.{AtMostLooks, row_probes_at, probes_among};
 
 use addr2line_resolved::{Error, LineRow, Location, Reader, ResUnit, UnitRanges};
 use std::alloc::Global;
@@ -33,8 +34,7 @@ pub(crate) fn unit_at<R: Reader>(units: &[ResUnit<R>], number: usize) -> Option<
     }
 }
 
-// The place that a row of a unit stands for, if the unit's lines are kept and not refused. Nothing
-// is searched.
+// The place of a row of a unit, if the unit's lines are kept and not refused. Nothing is searched.
 pub(crate) fn place_in<R: Reader>(units: &[ResUnit<R>], found: UnitRow) -> Option<Location<'_>>
     ensures { KeepsAt units.now found.unit → option_map location_value result
         ≡ location_of_unit_row (map plain_unit units.now) found }
@@ -59,6 +59,9 @@ pub(crate) fn find_row_at<R: Reader>(
     ensures found { ReturnsOrNoMemory result
         (row_at_number (map plain_unit units.old.items) probe number) }
     ensures kept { OnOk result (KeepsAt units.new.items number) }
+    ensures cost { AtMostLooks (row_probes_at (map value_of_unit units.old.items) probe number)
+        units.old.items units.new.items }
+    ensures free { KeepsAt units.old.items number → result ≢ Err Memory }
 {
     if number >= units.len() {
         return Ok(None);
@@ -80,6 +83,11 @@ pub(crate) fn find_row<R: Reader>(
     ensures calls { LeavesCalls units.old.items units.new.items }
     ensures found { FindsRow (map plain_unit units.old.items) probe result }
     ensures kept { KeepsFound units.new.items result }
+    ensures cost { AtMostLooks (probes_among
+        (row_probes_at (map value_of_unit units.old.items) probe)
+        (covering_ranges probe ranges.now)) units.old.items units.new.items }
+    ensures free { KeepsRanges units.old.items (covering_ranges probe ranges.now)
+        → result ≢ Err Memory }
 {
     let mut covering = ranges.covering(probe);
     while let Some(range) = covering.next() {
@@ -102,7 +110,7 @@ fn read_at<R: Reader>(
     ensures values { map value_of_unit units.new.items ≡ map value_of_unit units.old.items }
     ensures calls { LeavesCalls units.old.items units.new.items }
     ensures kept { OnOk result (KeepsAt units.new.items number) }
-    ensures more { OnOk result (KeepsMore units.old.items units.new.items) }
+    ensures cost { AtMostLooks 0 units.old.items units.new.items }
     ensures refusal { IfErr result (λ e. e ≡ Memory) }
 {
     if number >= units.len() {
@@ -125,6 +133,7 @@ pub(crate) fn read_between<R: Reader>(
     ensures calls { LeavesCalls units.old.items units.new.items }
     ensures kept { OnOk result
         (KeepsRanges units.new.items (overlapping_ranges low high ranges.now)) }
+    ensures cost { AtMostLooks 0 units.old.items units.new.items }
     ensures refusal { IfErr result (λ e. e ≡ Memory) }
 {
     let mut from = 0;

@@ -1,6 +1,6 @@
 //! The units of a context with their ranges, in the order in which lookups ask them.
 
-ghost use Rattle.std.specs.Prelude.{◌≡◌, Ok, map, option_map, IfOk, OnOk, IfErr};
+ghost use Rattle.std.specs.Prelude.{◌≡◌, ◌≢◌, Ok, Err, map, option_map, IfOk, OnOk, IfErr};
 ghost use Rattle.addr2line_resolved.specs.Calls.{ReturnsAsOrNoMemory, ReturnsOrNoMemory};
 ghost use Rattle.addr2line_resolved.specs.Error.TheVariants.{Memory};
 ghost use Rattle.addr2line_resolved.specs.PlaceLookups.{stretches_between};
@@ -16,7 +16,8 @@ ghost use Rattle.addr2line_lookups.specs.Preloads.{loads_at, load_of_item, first
 ghost use Rattle.addr2line_lookups.specs.FramePlaces.{LendsFrames};
 ghost use Rattle.addr2line_lookups.specs.UnitLookups.{frames_among, SettlesFrames, unit_among, SettlesUnit, unit_at_number};
 ghost use Rattle.addr2line_resolved.specs.BorrowedFrames.{frames_left};
-ghost use Rattle.addr2line_lookups.specs.KeptUnits.{KeepsAt, KeepsBetween, KeepsFound, FindsRow, location_of_unit_row};
+ghost use Rattle.addr2line_lookups.specs.KeptUnits.{KeepsAt, KeepsBetween, KeepsCovering, KeepsFound, FindsRow, location_of_unit_row};
+ghost use Rattle.addr2line_lookups.specs.LookupCosts.{AtMostLooks, row_probes_at, frame_probes_at, probes_among};
 ghost use Rattle.addr2line_lookups.specs.UnitParses.{WalksOrNoMemory, check_functions_of, check_calls_of};
 
 use crate::frame_place::{FramePlace, frames_at_place};
@@ -81,12 +82,15 @@ impl<R: Reader> Units<R> {
         ensures calls { LeavesCalls self.old self.new }
         ensures found { FindsRow (map plain_unit self.old) probe result }
         ensures kept { KeepsFound self.new result }
+        ensures cost { AtMostLooks (probes_among (row_probes_at (map value_of_unit self.old) probe)
+            (covering_ranges probe (ordered_ranges (map plain_unit self.old)))) self.old self.new }
+        ensures free { KeepsCovering probe self.old → result ≢ Err Memory }
     {
         let alloc = *self.units.allocator();
         find_row(alloc, &mut self.units, &self.ranges, probe)
     }
 
-    // The place of a row in the lines of its unit, which are kept.
+    // The place of a row, in the lines of its unit, which are kept.
     pub fn place_in(&self, found: UnitRow) -> Option<Location<'_>>
         ensures { KeepsAt self.now found.unit → option_map location_value result
             ≡ location_of_unit_row (map plain_unit self.now) found }
@@ -98,6 +102,7 @@ impl<R: Reader> Units<R> {
     pub fn read_between(&mut self, low: u64, high: u64) -> Result<(), Error>
         ensures values { map value_of_unit self.new ≡ map value_of_unit self.old }
         ensures calls { LeavesCalls self.old self.new }
+        ensures cost { AtMostLooks 0 self.old self.new }
         ensures kept { OnOk result (KeepsBetween low high self.new) }
         ensures refusal { IfErr result (λ e. e ≡ Memory) }
     {
@@ -119,6 +124,7 @@ impl<R: Reader> Units<R> {
     pub fn check_lines(&mut self) -> Result<(), Error>
         ensures values { map value_of_unit self.new ≡ map value_of_unit self.old }
         ensures calls { LeavesCalls self.old self.new }
+        ensures cost { AtMostLooks 0 self.old self.new }
         ensures found { ReturnsOrNoMemory result (all_lines_or_refusal (map plain_unit self.old)) }
     {
         let alloc = *self.units.allocator();
@@ -131,6 +137,7 @@ impl<R: Reader> Units<R> {
         ensures walk { WalksOrNoMemory check_functions_of result (map value_of_unit self.old)
             (map value_of_unit self.new) }
         ensures calls { LeavesCalls self.old self.new }
+        ensures cost { AtMostLooks 0 self.old self.new }
     {
         let alloc = *self.units.allocator();
         check_functions(alloc, &mut self.units)
@@ -144,6 +151,7 @@ impl<R: Reader> Units<R> {
             (check_calls_of (known_among self.old supplement_units.now)) result
             (map value_of_unit self.old) (map value_of_unit self.new) }
         ensures calls { HoldCalls (known_among self.new supplement_units.now) self.new }
+        ensures cost { AtMostLooks 0 self.old self.new }
     {
         let alloc = *self.units.allocator();
         check_calls(alloc, &mut self.units, supplement_units)
@@ -166,6 +174,7 @@ impl<R: Reader> Units<R> {
             (answer_at (map value_of_unit self.old) number
             (option_map (λ f. f.value.file) file)) }
         ensures calls { LeavesCalls self.old self.new }
+        ensures cost { AtMostLooks 0 self.old self.new }
     {
         let alloc = *self.units.allocator();
         answer_at(alloc, &mut self.units, number, file)
@@ -187,6 +196,10 @@ impl<R: Reader> Units<R> {
         ensures found { SettlesFrames self.new
             (frames_among (known_among self.old supplement_units.now) (map value_of_unit self.old)
             probe (covering_ranges probe (ordered_ranges (map plain_unit self.old)))) result }
+        ensures cost { AtMostLooks (probes_among
+            (frame_probes_at (known_among self.old supplement_units.now)
+            (map value_of_unit self.old) probe)
+            (covering_ranges probe (ordered_ranges (map plain_unit self.old)))) self.old self.new }
     {
         let alloc = *self.units.allocator();
         settle_frames(
@@ -211,6 +224,10 @@ impl<R: Reader> Units<R> {
         ensures found { SettlesUnit (map value_of_unit self.old)
             (unit_among (known_among self.old supplement_units.now) (map value_of_unit self.old)
             probe (covering_ranges probe (ordered_ranges (map plain_unit self.old)))) result }
+        ensures cost { AtMostLooks (probes_among
+            (frame_probes_at (known_among self.old supplement_units.now)
+            (map value_of_unit self.old) probe)
+            (covering_ranges probe (ordered_ranges (map plain_unit self.old)))) self.old self.new }
     {
         let alloc = *self.units.allocator();
         settle_unit(

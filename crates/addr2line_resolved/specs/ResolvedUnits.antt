@@ -177,7 +177,7 @@ kept_probes a None = 0
 kept_probes a (Some (Ok l)) = place_probes l.lines a
 kept_probes a (Some (Err e)) = 0
 
--- the place that a row of lines stands for, unless they are refused
+-- the place of a row of lines, unless they are refused
 abbrev pub location_of_row : LineRow → Result Lines Error → Option Location
 location_of_row r (Ok l) = Some (row_location l.files r)
 location_of_row r (Err e) = None

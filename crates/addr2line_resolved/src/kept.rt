@@ -53,7 +53,8 @@ impl<T: Drop> Kept<T> {
 
     /// What is kept.
     pub fn result(&self) -> Option<&Result<T, Error>>
-        ensures { option_map (λ r. r.now) result ≡ self.now }
+        ensures kept { option_map (λ r. r.now) result ≡ self.now }
+        ensures answer { self.now ≢ Some (Err Memory) }
     {
         self.result.as_ref()
     }

@@ -12,7 +12,7 @@ ghost use Rattle.addr2line_units.specs.LineIndexes.{counted_lines};
 ghost use Rattle.addr2line_units.specs.RootRanges.{RunsForRanges, unit_with};
 ghost use Rattle.addr2line_units.specs.Searches.{AtMostProbes};
 ghost use Rattle.addr2line_resolved.specs.KeptFunctions.{kept_at, plain_functions, plain_calls, count_of_functions, number_in, number_probes, function_at_number, FindsChain, kept_chain_probes, frames_by_numbers};
-ghost use Rattle.addr2line_resolved.specs.ResolvedUnits.{main_unit, pending_load, decided, first_answer, answer_or_none, unit_of_functions, functions_of, calls_of_number, if_kept, runs_if_kept, row_or_refusal, row_in_kept, lines_probes, kept_probes, location_of_row, with_functions, with_calls, with_probes, with_chain, with_unit_answer, without_answer, new_unit, KeepsNoFunctions, RunsForRangesAlone};
+ghost use Rattle.addr2line_resolved.specs.ResolvedUnits.{main_unit, pending_load, decided, first_answer, answer_or_none, unit_of_functions, functions_of, calls_of_number, if_kept, runs_if_kept, row_or_refusal, row_in_kept, lines_probes, kept_probes, location_of_row, with_functions, with_calls, with_probes, with_chain, with_unit_answer, without_answer, new_unit, KeepsLines, KeepsNoFunctions, RunsForRangesAlone};
 
 use crate::kept::Kept;
 use crate::load::{SplitDwarfLoad, load_of};
@@ -119,6 +119,7 @@ fn row_in_kept(
 ) -> Result<Option<LineRow>, Error>
     requires counter { IfSome lines.now (λ r. IfOk r (λ l. probes.old.name ≡ l.counter)) }
     ensures row { Returns result (row_in_kept probe lines.now) }
+    ensures refusal { result ≢ Err Memory }
     ensures cost { AtMostProbes (kept_probes probe lines.now) probes.old probes.new }
 {
     match lines.result() {
@@ -275,8 +276,8 @@ impl<R: Reader> ResUnit<R> {
         } }
         ensures row { ReturnsOrNoMemory result (row_or_refusal probe self.old.value.unit.lines) }
         ensures kept { OnOk result (self.new.keeps_lines ≡ true) }
-        ensures free { self.old.keeps_lines ≡ true
-            → Returns result (row_or_refusal probe self.old.value.unit.lines) }
+        ensures more { KeepsLines self.old → KeepsLines self.new }
+        ensures free { KeepsLines self.old → result ≢ Err Memory }
         ensures cost { AtMostProbes (lines_probes probe self.old.value.unit.lines)
             self.old.probes self.new.probes }
     {
@@ -284,8 +285,7 @@ impl<R: Reader> ResUnit<R> {
         row_in_kept(&self.lines, probe, &mut self.probes)
     }
 
-    /// The place that a row stands for in the lines that are kept, unless they are refused. Nothing
-    /// is searched.
+    /// The place of a row in the lines that are kept, unless they are refused. Nothing is searched.
     pub fn location_of_row(&self, row: &LineRow) -> Option<Location<'_>>
         ensures { self.now.keeps_lines ≡ true → option_map location_value result
             ≡ location_of_row row.now self.now.value.unit.lines }
@@ -303,6 +303,7 @@ impl<R: Reader> ResUnit<R> {
         ensures found { ReturnsOrNoMemory result
             (and_then self.old.value.unit.lines (λ lines. Ok tt)) }
         ensures kept { OnOk result (self.new.keeps_lines ≡ true) }
+        ensures more { KeepsLines self.old → KeepsLines self.new }
     {
         self.read_lines(alloc)?;
         match self.kept_lines() {

@@ -3,6 +3,10 @@ pub use Rattle.addr2line_resolved.specs.Error
 pub use Rattle.addr2line_resolved.specs.Results
 pub use Rattle.gimli_dwarf_spec.specs.SectionId
 pub use Rattle.addr2line_resolved.specs.View
+pub use Rattle.addr2line_resolved.specs.Range
+pub use Rattle.addr2line_resolved.specs.SectionLoading
+pub use Rattle.addr2line_resolved.specs.CachedFiles
+pub use Rattle.gimli_dwarf_spec.specs.TableCache
 pub use Rattle.addr2line_elf.specs.ElfDebugSections
 pub use Rattle.addr2line_elf.specs.ElfImages
 pub use Rattle.addr2line_elf.specs.ElfSymbols

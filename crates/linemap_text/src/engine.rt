@@ -106,11 +106,11 @@ fn write_answers<R: Reader, W: Write>(
     words: &[String],
     out: &mut W,
 ) -> Result<(), Stop>
-    requires { NeverRefuses context.old.plain.context }
+    requires { NeverRefuses context.old.value.plain.context }
     ensures whole { OnOk result (Appends (W.contents out.old) (W.contents out.new)
-        (words_text context.old.plain.context (map string_bytes words.now))) }
+        (words_text context.old.value.plain.context (map string_bytes words.now))) }
     ensures prefix { AppendsPrefix (W.contents out.old) (W.contents out.new)
-        (words_text context.old.plain.context (map string_bytes words.now)) }
+        (words_text context.old.value.plain.context (map string_bytes words.now)) }
     ensures stop { IfErr result StopsWriting }
 {
     for word in words {
@@ -126,13 +126,13 @@ fn write_answer<R: Reader, W: Write>(
     word: &str,
     out: &mut W,
 ) -> Result<(), Stop>
-    requires { NeverRefuses context.old.plain.context }
+    requires { NeverRefuses context.old.value.plain.context }
     ensures whole { OnOk result (Appends (W.contents out.old) (W.contents out.new)
-        (word_text context.old.plain.context word.now ++ codes "\n")) }
+        (word_text context.old.value.plain.context word.now ++ codes "\n")) }
     ensures prefix { AppendsPrefix (W.contents out.old) (W.contents out.new)
-        (word_text context.old.plain.context word.now ++ codes "\n") }
+        (word_text context.old.value.plain.context word.now ++ codes "\n") }
     ensures stop { IfErr result StopsWriting }
-    ensures value { context.new ≡ context.old }
+    ensures value { context.new.value ≡ context.old.value }
 {
     let line = answer_line(alloc, context, word)?;
     write_text(out, &line)?;
@@ -146,10 +146,10 @@ fn answer_line<R: Reader>(
     context: &mut Context<R>,
     word: &str,
 ) -> Result<String, AllocError>
-    requires { NeverRefuses context.old.plain.context }
+    requires { NeverRefuses context.old.value.plain.context }
     ensures line { IfOk result (λ line.
-        string_bytes line ≡ word_text context.old.plain.context word.now ++ codes "\n") }
-    ensures value { context.new ≡ context.old }
+        string_bytes line ≡ word_text context.old.value.plain.context word.now ++ codes "\n") }
+    ensures value { context.new.value ≡ context.old.value }
 {
     let mut line = word_line(alloc, context, word)?;
     line.push('\n')?;

@@ -64,10 +64,10 @@ fn address_line<R: Reader>(
     context: &mut Context<R>,
     address: u64,
 ) -> Result<String, AllocError>
-    requires { NeverRefuses context.old.plain.context }
+    requires { NeverRefuses context.old.value.plain.context }
     ensures line { IfOk result (λ line.
-        string_bytes line ≡ text_of_answer (location context.old.plain.context address)) }
-    ensures value { context.new ≡ context.old }
+        string_bytes line ≡ text_of_answer (location context.old.value.plain.context address)) }
+    ensures value { context.new.value ≡ context.old.value }
 {
     let place = match context.find_location(address) {
         Ok(place) => place,
@@ -84,10 +84,10 @@ pub fn word_line<R: Reader>(
     context: &mut Context<R>,
     word: &str,
 ) -> Result<String, AllocError>
-    requires { NeverRefuses context.old.plain.context }
+    requires { NeverRefuses context.old.value.plain.context }
     ensures line { IfOk result (λ line.
-        string_bytes line ≡ word_text context.old.plain.context word.now) }
-    ensures value { context.new ≡ context.old }
+        string_bytes line ≡ word_text context.old.value.plain.context word.now) }
+    ensures value { context.new.value ≡ context.old.value }
 {
     match read_address(word) {
         Some(address) => address_line(alloc, context, address),

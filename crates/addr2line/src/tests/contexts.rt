@@ -2,7 +2,7 @@
 
 use super::files::{EMPTY, File, Slice, load};
 use crate::{Context, LocationRangeIter};
-use addr2line_context::{EndianBytes, Error, LittleEndian, Reader};
+use addr2line_context::{EndianBytes, Error, LittleEndian, Reader, UnitToken};
 use bytes::Bytes;
 use std::alloc::Global;
 use std::rc::Rc;
@@ -158,24 +158,22 @@ fn context_of_shared(alloc: Global, file: File) -> Result<Context<Shared>, Error
 
 // ---- one address
 
-// The number of units, that of the supplement's, and of the first unit the language, the begin and
-// the end of its first range.
-type Units = (usize, usize, Option<u16>, u64, u64);
+// Whether there is a unit of the number 0 and of 1, and how many units the supplement has.
+type Units = (bool, bool, usize);
 
-fn first_unit(alloc: Global, file: File) -> Result<Units, Error> {
+fn units_of(alloc: Global, file: File) -> Result<Units, Error> {
     match context_of(alloc, file) {
-        Ok(context) => units_of(&context).ok_or(Error::NoSuchUnit),
+        Ok(context) => Ok((
+            has_unit(&context, 0),
+            has_unit(&context, 1),
+            context.supplement_units().len(),
+        )),
         Err(error) => Err(error),
     }
 }
 
-fn units_of(context: &Context<Slice>) -> Option<Units> {
-    let units = context.units();
-    let first = units.first()?;
-    let range = first.ranges().first()?;
-    let language = first.language().map(|language| language.0);
-    let more = context.supplement_units().len();
-    Some((units.len(), more, language, range.begin, range.end))
+fn has_unit(context: &Context<Slice>, number: usize) -> bool {
+    context.line_runs(UnitToken::new(number)).is_some()
 }
 
 // The line and the column of an address, and whether its file is /w/a.c.
@@ -207,11 +205,11 @@ fn place_in<R: Reader>(context: &mut Context<R>, probe: u64) -> Result<Place, Er
 fn a_unit_and_its_places(rt: HostRuntime) {
     let alloc = rt.alloc();
     let whole = file_with_language(UNIT, LINES, b"");
-    let expected = Ok((1, 0, Some(0x0c), 0x1000, 0x1008));
-    assert_eq!(rt; first_unit(alloc, whole), expected);
+    let one = Ok((true, false, 0));
+    assert_eq!(rt; units_of(alloc, whole), one);
     // A unit before it that is refused is not kept.
     let late = file_with_language(LATE, LINES, b"");
-    assert_eq!(rt; first_unit(alloc, late), expected);
+    assert_eq!(rt; units_of(alloc, late), one);
     let line_3 = Ok(Some((Some(3), Some(0), true)));
     assert_eq!(rt; place(alloc, whole, 0x1004), line_3);
     assert_eq!(rt; place_in_shared(alloc, whole, 0x1004), line_3);
@@ -310,7 +308,7 @@ fn items_of(alloc: Global, found: &mut LocationRangeIter<'_, Slice>) -> Result<V
 fn rows_between_two_ends(rt: HostRuntime) -> Result<(), Fail> {
     let backwards = file_of(FROM_10_TO_200, BACKWARDS);
     let doubled = file_of(FROM_10_TO_30, DOUBLED);
-    let table: [(&str, File, (u64, u64), &[Item]); 5] = [
+    let table: [(&str, File, (u64, u64), &[Item]); 6] = [
         (
             "rows that go back",
             backwards,
@@ -334,6 +332,7 @@ fn rows_between_two_ends(rt: HostRuntime) -> Result<(), Fail> {
             &[(0x10, 0x10, Some(2))],
         ),
         ("outside", doubled, (u64::MAX, 0), &[]),
+        ("no addresses", doubled, (0, 0), &[]),
         ("nothing", EMPTY, (0, u64::MAX), &[]),
     ];
     for (what, file, ends, wanted) in table {

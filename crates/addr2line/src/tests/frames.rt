@@ -23,7 +23,7 @@ const CALL_UNIT: &[u8] = b"\x32\0\0\0\x04\0\0\0\0\0\x04\
     \x03h\0\x48\0\0\0\x04\0\x06\0\
     \0\0\0\0";
 
-const CALLS: File = File {
+pub const CALLS: File = File {
     abbrev: CALL_TABLE,
     info: CALL_UNIT,
     ..EMPTY

@@ -1,9 +1,9 @@
 //! The ranges and the language of a unit, by hand in the layouts of DWARF 4, 7.5, 6.1.2 and 2.17.3.
 
 use super::files::{EMPTY, File, Question, Slice, answer, load};
-use crate::Context;
 use addr2line_context::{
-    ArangeIndex, DW_LANG_Rust, DwLang, Error, Range, ReaderOffsetId, UnitRef, language_of,
+    ArangeIndex, DW_LANG_Rust, DwLang, Error, Range, ReaderOffsetId, Runs, UnitRef, UnitRoot,
+    language_of,
 };
 use addr2line_functions::{DebuggingInformationEntry, entries_raw};
 use std::alloc::Global;
@@ -77,19 +77,22 @@ fn root_of(
     }
 }
 
-// The ranges of the first unit of a context.
-fn ranges_of(alloc: Global, file: File) -> Result<Vec<Range>, Error> {
-    let context = Context::from_dwarf(alloc, load(alloc, file)?)?;
-    let mut ranges = Vec::new(alloc);
-    if let Some(unit) = context.units().first() {
-        for range in unit.ranges() {
-            ranges.push(Range {
-                begin: range.begin,
-                end: range.end,
-            })?;
-        }
+struct Ranges;
+
+impl Question for Ranges {
+    type Answer = Vec<Range>;
+
+    fn ask(&self, alloc: Global, unit: &UnitRef<'_, Slice>) -> Result<Vec<Range>, Error> {
+        let aranges = ArangeIndex::read(alloc, unit.dwarf)?;
+        let mut runs = Runs::new();
+        let UnitRoot { ranges, .. } = UnitRoot::read(alloc, unit, &aranges, &mut runs)?;
+        Ok(ranges)
     }
-    Ok(ranges)
+}
+
+// The ranges of the first unit of a file.
+fn ranges_of(alloc: Global, file: File) -> Result<Vec<Range>, Error> {
+    answer(alloc, file, 0, &Ranges)
 }
 
 fn aranges_of(alloc: Global, file: File) -> Result<ArangeIndex, Error> {

@@ -32,6 +32,19 @@ const RANGES: &[u8] = b"\0\x10\0\0\0\0\0\0\x10\x10\0\0\0\0\0\0\
     \x04\x10\0\0\0\0\0\0\x10\x10\0\0\0\0\0\0\
     \0\0\0\0\0\0\0\0\0\0\0\0\0\0\0\0";
 
+pub const TWO_UNITS: File = File {
+    abbrev: TABLE,
+    info: TWO,
+    ..EMPTY
+};
+
+pub const ONE_WITH_TWO_RANGES: File = File {
+    abbrev: TABLE_WITH_RANGES,
+    info: WITH_RANGES,
+    ranges: RANGES,
+    ..EMPTY
+};
+
 // A unit whose only entry has a code that the table lacks.
 const UNKNOWN_CODE: &[u8] = b"\x08\0\0\0\x04\0\0\0\0\0\x08\x09";
 
@@ -102,7 +115,7 @@ fn answer(
 // Loads are in the order of the ranges' ends. An answer takes that of its unit, and no other.
 #[test]
 fn loads_of_an_address(rt: HostRuntime) -> Result<(), Fail> {
-    let mut context = context_of(rt.alloc(), file_of(TWO))?;
+    let mut context = context_of(rt.alloc(), TWO_UNITS)?;
     let (a, b) = (Some((7, true)), Some((8, true)));
     let both = loads_at(&mut context, 0x1008, [b"a.dwo", b"b.dwo"]);
     assert_eq!(rt; both, Ok((a, b, 2)));
@@ -134,13 +147,7 @@ fn loads_of_an_address(rt: HostRuntime) -> Result<(), Fail> {
 
 #[test]
 fn a_unit_with_two_ranges_has_one_load(rt: HostRuntime) -> Result<(), Fail> {
-    let file = File {
-        abbrev: TABLE_WITH_RANGES,
-        info: WITH_RANGES,
-        ranges: RANGES,
-        ..EMPTY
-    };
-    let mut context = context_of(rt.alloc(), file)?;
+    let mut context = context_of(rt.alloc(), ONE_WITH_TWO_RANGES)?;
     let one = loads_at(&mut context, 0x1008, [b"a.dwo", b""]);
     assert_eq!(rt; one, Ok((Some((7, true)), None, 1)));
     Ok(())

@@ -2,6 +2,7 @@ use Rattle.std.proofs.Common.{map, refl, arith}
 use Rattle.addr2line_resolved.specs.ResolvedUnits.{value_of_unit}
 use Rattle.addr2line_lookups.specs.KeptCalls.{known_among}
 use Rattle.addr2line_lookups.proofs.FoundFrames.{none_past}
+use Rattle.addr2line_lookups.proofs.UnitProbes.{looks_none}
 use Rattle.addr2line_lookups.proofs.frame_place.find_frames_at.Goals as goal
 
 pub returns-then-number-len : goal.returns-then-number-len
@@ -13,6 +14,7 @@ returns-then-number-len g c =
       found =
           none_past (known_among us c.args.supplement_units.now) c.args.probe c.args.number us (map value_of_unit us)
           refl (omega arith);
+      cost = looks_none _ us;
     }
 
 pub find_place_at-requires : goal.find_place_at-requires

@@ -10,6 +10,7 @@ use Rattle.addr2line_lookups.specs.FramePlaces.{frames_at_number, FindsFrames}
 use Rattle.addr2line_lookups.proofs.KeptLines.{same_plain}
 use Rattle.addr2line_lookups.proofs.CallsOfUnits.{hold_same}
 use Rattle.addr2line_lookups.proofs.FoundFrames.{function_refuses, found_function, lines_refuse, function_stays, frames_found}
+use Rattle.addr2line_lookups.proofs.LookupProbes.{looks_without_row, looks_for_frames}
 use Rattle.addr2line_lookups.proofs.frame_place.find_place_at.Goals as goal
 
 pub returns-in_err-function : goal.returns-in_err-function
@@ -24,6 +25,9 @@ returns-in_err-function g c =
       found =
           rw (p.1, p.2) (λ m.
           function_refuses known c.args.probe c.args.number (map value_of_unit us) _ (refused.found m));
+      cost =
+          looks_without_row known (map value_of_unit us) c.args.probe c.args.number us
+          c.find_function_at.new.units.items refused.cost;
     }
 
 pub returns-in_err-row : goal.returns-in_err-row
@@ -46,6 +50,8 @@ returns-in_err-row g c =
       values = refused.values ∙ found.values;
       calls = hold_same known ws xs refused.values refused.same found.calls;
       found = rw (p.1, p.2) (λ m. lines_refuse known a n ws vs found.values f.0 _ f.1 (refused.found m));
+      cost =
+          looks_for_frames us ws xs found.values c.args.supplement_units.now a n known found.cost refused.cost;
     }
 
 pub returns : goal.returns
@@ -75,4 +81,5 @@ returns g c =
           (function_stays ws xs rows.values rows.same n a (function_with_calls_at known vs a n) function chain
           found.found))
           (ap (λ (l : List ContextUnit). row_at_number l a n) (same_plain xs ws rows.values) ∙ rows.found));
+      cost = looks_for_frames us ws xs found.values c.args.supplement_units.now a n known found.cost rows.cost;
     }

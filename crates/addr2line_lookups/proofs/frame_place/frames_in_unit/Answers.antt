@@ -22,13 +22,15 @@ returns-in-Some-Ok g c = λ keeps.
     (frames_by_numbers u.value.unit.language l.lines.files here
     (option_and_then (function_at_number (functions_of u.value) u.calls) place.function) chain) in
     subst P
-    (sym (frames_with_lines u place chain l.lines (lines_are u keeps _ c.in-Some-Ok.ensures l (ap Some c.in-Some-Ok.field-0-is))))
+    (sym (frames_with_lines u place chain l.lines
+    (lines_are u keeps _ c.in-Some-Ok.ensures l (ap Some c.in-Some-Ok.field-0-is))))
     (subst Q c.location_of_row-here.ensures c.frames.ensures)
 
 pub returns-in-Some-Err : goal.returns-in-Some-Err
 returns-in-Some-Err g c = λ keeps.
     let u = c.args.unit.now in
-    frames_refused u c.args.place u.chain _ (lines_refused u keeps _ c.in-Some-Err.ensures _ (ap Some c.in-Some-Err.field-0-is))
+    frames_refused u c.args.place u.chain _
+    (lines_refused u keeps _ c.in-Some-Err.ensures _ (ap Some c.in-Some-Err.field-0-is))
 
 pub returns-in-None : goal.returns-in-None
 returns-in-None g c = λ keeps. absurd (lines_there c.args.unit.now keeps None c.in-None.ensures refl)

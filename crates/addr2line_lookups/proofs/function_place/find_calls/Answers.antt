@@ -3,13 +3,16 @@ use Rattle.std.proofs.lemmas.Result.{err_from_is_err_and}
 use Rattle.addr2line_resolved.specs.Error.{Error}
 use Rattle.addr2line_resolved.specs.InlinedCalls.{FunctionCalls}
 use Rattle.addr2line_resolved.specs.KeptFunctions.{kept_at, FindsChain}
-use Rattle.addr2line_resolved.specs.ResolvedUnits.{AnsweredUnit, value_of_unit}
+use Rattle.addr2line_resolved.specs.ResolvedUnits.{ResolvedUnit, AnsweredUnit, value_of_unit}
 use Rattle.addr2line_lookups.specs.KeptCalls.{known_among, kept_calls_of}
 use Rattle.addr2line_lookups.specs.FunctionPlaces.{function_calls_at, FindsCalls}
 use Rattle.addr2line_lookups.proofs.KeptLines.{same_length}
 use Rattle.addr2line_lookups.proofs.UnitRows.{same_values}
 use Rattle.addr2line_lookups.proofs.CallsOfUnits.{value_here, if_here, holds_here, set_here, holds_set, holds_same, chain_set}
 use Rattle.addr2line_lookups.proofs.FoundFunctions.{calls_found}
+use Rattle.addr2line_lookups.specs.LookupCosts.{chain_probes_at}
+use Rattle.addr2line_lookups.proofs.UnitProbes.{looks_after, looks_more}
+use Rattle.addr2line_lookups.proofs.LookupProbes.{looks_for_chain}
 use Rattle.addr2line_lookups.proofs.function_place.find_calls.Goals as goal
 
 pub index_mut-unit-requires : goal.index_mut-unit-requires
@@ -40,6 +43,8 @@ returns g c =
     let Q : List (Option (Result FunctionCalls Error)) → Type 0 = λ cs.
     FindsChain (λ (done : Unit {0}). new.chain) (kept_at cs k) c.args.probe c.find_chain.result in
     let answer = function_calls_at known (map value_of_unit us) k n in
+    let has : is_some (kept_at u.calls k) ≡ true =
+    if_here ws n u below is (λ w. is_some (kept_at w.calls k) ≡ true) settled.kept in
     let R : List ℕ → Type 0 = λ chain. FindsCalls (set ws n new) n k c.args.probe answer c.find_chain.result chain in
     record {
       values = same_values ws n u new is value ∙ settled.values;
@@ -51,8 +56,15 @@ returns g c =
           (ap (λ (l : List AnsweredUnit). slice_get l n) (sym settled.values) ∙ value_here ws n u below is
           ∙ ap Some (sym value))
           holds
-          (subst P (sym calls) (if_here ws n u below is (λ w. is_some (kept_at w.calls k) ≡ true) settled.kept))
+          (subst P (sym calls) has)
           (subst Q (sym calls) c.find_chain.ensures.chain));
+      cost =
+          looks_after (chain_probes_at known (map value_of_unit us) c.args.probe k n) us ws (set ws n new) settled.cost
+          (looks_for_chain ws n u below is new known (map value_of_unit us) c.args.probe k settled.values
+          (holds_here ws n u below is known settled.calls) has (record {
+            probes = c.find_chain.ensures.cost;
+            more = λ kept. ap (λ (x : ResolvedUnit). x.keeps_lines) c.find_chain.ensures.unit ∙ kept;
+          }));
     }
 
 pub returns-in_err-keep_calls : goal.returns-in_err-keep_calls
@@ -63,4 +75,5 @@ returns-in_err-keep_calls g c =
       values = refused.values;
       calls = refused.calls;
       found = rw (p.1, p.2) (λ m. absurd (m refused.refusal));
+      cost = looks_more _ c.args.units.now.items c.keep_calls.new.units.items refused.cost;
     }

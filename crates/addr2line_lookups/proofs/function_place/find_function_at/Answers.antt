@@ -7,8 +7,9 @@ use Rattle.addr2line_resolved.specs.ResolvedUnits.{value_of_unit}
 use Rattle.addr2line_lookups.specs.KeptCalls.{known_among, HoldCalls}
 use Rattle.addr2line_lookups.specs.FunctionPlaces.{HasFunctionAt, HoldsChain, chain_of}
 use Rattle.addr2line_lookups.proofs.KeptLines.{same_length}
-use Rattle.addr2line_lookups.proofs.CallsOfUnits.{same_known}
+use Rattle.addr2line_lookups.proofs.CallsLeft.{known_same}
 use Rattle.addr2line_lookups.proofs.FoundFunctions.{ok_number, refused_functions, none_there, refused_calls, same_function_calls, function_found}
+use Rattle.addr2line_lookups.proofs.LookupProbes.{looks_without_calls, looks_for_function}
 use Rattle.addr2line_lookups.proofs.function_place.find_function_at.Goals as goal
 
 pub find_calls-requires : goal.find_calls-requires
@@ -23,7 +24,7 @@ find_calls-requires g c =
     record {
       unit = subst (λ l. n < l) (sym (same_length ws us found.values)) c.requires.unit;
       function = subst P c.in-Some.is found.below;
-      calls = subst Q (sym (same_known us ws s found.values)) (found.calls (known_among us s) c.requires.calls);
+      calls = subst Q (sym (known_same us ws found.values s)) (found.calls (known_among us s) c.requires.calls);
     }
 
 pub returns-in_err-function : goal.returns-in_err-function
@@ -38,6 +39,9 @@ returns-in_err-function g c =
       found =
           rw (p.1, p.2) (λ m.
           refused_functions known c.args.probe c.args.number (map value_of_unit us) _ (refused.number m));
+      cost =
+          looks_without_calls known (map value_of_unit us) c.args.probe c.args.number us
+          c.find_number_at.new.units.items refused.cost;
     }
 
 pub returns-in_default : goal.returns-in_default
@@ -51,6 +55,9 @@ returns-in_default g c =
       found =
           none_there known c.args.probe c.args.number (map value_of_unit us)
           (found.number ∙ ap ok_number c.in_default.is);
+      cost =
+          looks_without_calls known (map value_of_unit us) c.args.probe c.args.number us
+          c.find_number_at.new.units.items found.cost;
     }
 
 pub returns-in_err-find_calls : goal.returns-in_err-find_calls
@@ -69,11 +76,14 @@ returns-in_err-find_calls g c =
     let P : KnownUnits → Type 0 = λ x. HoldCalls x xs in
     record {
       values = refused.values ∙ found.values;
-      calls = subst P (same_known us ws s found.values) refused.calls;
+      calls = subst P (known_same us ws found.values s) refused.calls;
       found =
           rw (p.1, p.2) (λ m.
           refused_calls known c.args.probe n (map value_of_unit us) k _ (found.number ∙ ap ok_number c.in-Some.is)
           (sym (same_function_calls us ws s found.values k n) ∙ refused.found m));
+      cost =
+          looks_for_function us ws xs found.values s c.args.probe n k (found.number ∙ ap ok_number c.in-Some.is)
+          found.cost refused.cost;
     }
 
 pub returns : goal.returns
@@ -93,9 +103,12 @@ returns g c =
     let Q : Result FunctionCalls Error → Type 0 = λ m. HoldsChain xs n k a m chain in
     record {
       values = calls.values ∙ found.values;
-      calls = subst P (same_known us ws s found.values) calls.calls;
+      calls = subst P (known_same us ws found.values s) calls.calls;
       found =
           function_found known a n xs (map value_of_unit us) k chain (calls.values ∙ found.values)
           (found.number ∙ ap ok_number c.in-Some.is)
           (subst Q (same_function_calls us ws s found.values k n) calls.found);
+      cost =
+          looks_for_function us ws xs found.values s a n k (found.number ∙ ap ok_number c.in-Some.is) found.cost
+          calls.cost;
     }

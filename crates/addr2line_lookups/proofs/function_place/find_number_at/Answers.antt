@@ -4,6 +4,7 @@ use Rattle.addr2line_resolved.specs.Calls.{ReturnsOrNoMemory}
 use Rattle.addr2line_lookups.specs.FunctionPlaces.{number_of_any}
 use Rattle.addr2line_lookups.proofs.UnitRows.{same_values}
 use Rattle.addr2line_lookups.proofs.CallsOfUnits.{value_here, is_decided, leaves_calls, functions_there}
+use Rattle.addr2line_lookups.proofs.LookupProbes.{looks_for_number}
 use Rattle.addr2line_lookups.proofs.function_place.find_number_at.Goals as goal
 
 pub find_number-requires : goal.find_number-requires
@@ -25,5 +26,6 @@ returns g c =
       values = same_values us n u new is c.find_number.ensures.value;
       calls = leaves_calls us n u below is new c.find_number.ensures.calls;
       number = subst P (ap (number_of_any a) (sym (value_here us n u below is))) c.find_number.ensures.number;
+      cost = looks_for_number us n u below is new c.find_number.ensures.cost;
       below = functions_there us n u below is new c.find_number.result c.find_number.ensures.below;
     }

@@ -7,7 +7,8 @@ use Rattle.addr2line_resolved.specs.ResolvedUnits.{ResolvedUnit}
 use Rattle.addr2line_lookups.specs.KeptCalls.{known_among, calls_among}
 use Rattle.addr2line_lookups.specs.FunctionPlaces.{HasFunction}
 use Rattle.addr2line_lookups.proofs.UnitRows.{same_values}
-use Rattle.addr2line_lookups.proofs.CallsOfUnits.{if_here, if_there, same_unit, holds_here, holds_set, kept_set, holds_kept, value_kept, keeps_kept, kept_there}
+use Rattle.addr2line_lookups.proofs.CallsOfUnits.{if_here, if_there, same_unit, holds_here, holds_set, kept_set, same_count, holds_kept, value_kept, length_kept, counts_kept, keeps_kept, kept_there}
+use Rattle.addr2line_lookups.proofs.UnitProbes.{looks_none, looks_set, looks_nowhere}
 use Rattle.addr2line_lookups.proofs.function_place.keep_calls.Goals as goal
 
 pub returns-then-is_some : goal.returns-then-is_some
@@ -17,11 +18,13 @@ returns-then-is_some g c =
     record {
       values = refl;
       calls = c.requires.calls;
+      count = refl;
       kept =
           if_there us c.args.number c.index-unit.result.now c.requires.unit c.index-unit.ensures
           (λ w. is_some (kept_at w.calls k) ≡ true)
           (kept_there _ c.kept_calls.result _ c.is_some.result c.kept_calls.ensures c.is_some.ensures
           c.if-is_some.true);
+      cost = looks_none 0 us;
       refusal = tt;
     }
 
@@ -73,9 +76,13 @@ returns g c =
           (holds_kept known u new k read r kept.ok kept.answer kept.err calls
           (holds_here us n u below is known c.requires.calls))
           c.requires.calls;
+      count = same_count us n u below is new (length_kept known u new k read r kept.ok kept.err);
       kept =
           on_ok_weaker r (kept_set us n u below is new k)
           (keeps_kept known u new k read r kept.ok
           (if_here us n u below is (HasFunction k) c.requires.function));
+      cost =
+          let counts = counts_kept known u new k read r kept.ok kept.err in
+          looks_set us n u below is new 0 (looks_nowhere u new counts.0 counts.1);
       refusal = kept.refusal;
     }

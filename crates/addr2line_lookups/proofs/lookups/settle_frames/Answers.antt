@@ -5,6 +5,8 @@ use Rattle.addr2line_resolved.specs.ResolvedUnits.{value_of_unit}
 use Rattle.addr2line_lookups.specs.KeptCalls.{known_among}
 use Rattle.addr2line_lookups.specs.UnitLookups.{frames_among}
 use Rattle.addr2line_lookups.proofs.SettledUnits.{calls_same, calls_back, frames_step_refused, frames_step_waits, frames_step_found, frames_step_further, no_frames_left}
+use Rattle.addr2line_lookups.proofs.UnitProbes.{looks_begin, looks_end}
+use Rattle.addr2line_lookups.proofs.LookupProbes.{frame_probes_among, frames_further, frames_stop}
 use Rattle.addr2line_lookups.proofs.lookups.settle_frames.Goals as goal
 
 pub loop-range-init : goal.loop-range-init
@@ -14,6 +16,11 @@ loop-range-init g c =
       c.requires.calls,
       ap (frames_among (known_among us c.args.supplement_units.now) (map value_of_unit us) c.args.probe)
           (sym c.covering-covering.ensures),
+      looks_begin
+          (frame_probes_among us c.args.supplement_units.now c.args.probe
+          (covering_ranges c.args.probe c.args.ranges.now))
+          (frame_probes_among us c.args.supplement_units.now c.args.probe c.covering-covering.result) us
+          (ap (frame_probes_among us c.args.supplement_units.now c.args.probe) c.covering-covering.ensures),
     )
 
 pub settle_frames_at-requires : goal.settle_frames_at-requires
@@ -35,6 +42,11 @@ returns-in_err-settle_frames_at g c =
       calls =
           calls_back us vs c.loop-range.invariant.0 s c.settle_frames_at.new.units.items
           c.in_err-settle_frames_at.ensures.calls;
+      cost =
+          frames_stop us vs c.loop-range.invariant.0 c.args.probe
+          (frame_probes_among us s c.args.probe (covering_ranges c.args.probe c.args.ranges.now)) c.in-Some.range
+          c.loop-range.covering c.next.new.self c.in-Some.ensures.none c.settle_frames_at.new.units.items s
+          c.loop-range.invariant.3 c.in_err-settle_frames_at.ensures.cost;
       found =
           rw (p.1, p.2) (λ m.
           frames_step_refused us vs c.loop-range.invariant.0 s a c.in-Some.range c.loop-range.covering c.next.new.self
@@ -52,6 +64,11 @@ returns-in-Waits g c =
     record {
       values = c.in_ok-settle_frames_at.ensures.values ∙ c.loop-range.invariant.0;
       calls = calls_back us vs c.loop-range.invariant.0 s new c.in_ok-settle_frames_at.ensures.calls;
+      cost =
+          frames_stop us vs c.loop-range.invariant.0 c.args.probe
+          (frame_probes_among us s c.args.probe (covering_ranges c.args.probe c.args.ranges.now)) c.in-Some.range
+          c.loop-range.covering c.next.new.self c.in-Some.ensures.none c.settle_frames_at.new.units.items s
+          c.loop-range.invariant.3 c.in_ok-settle_frames_at.ensures.cost;
       found =
           frames_step_waits us vs c.loop-range.invariant.0 s a c.in-Some.range c.loop-range.covering c.next.new.self
           c.in-Some.ensures.none whole c.loop-range.invariant.2 new
@@ -69,6 +86,11 @@ returns-in-Found g c =
     record {
       values = c.in_ok-settle_frames_at.ensures.values ∙ c.loop-range.invariant.0;
       calls = calls_back us vs c.loop-range.invariant.0 s new c.in_ok-settle_frames_at.ensures.calls;
+      cost =
+          frames_stop us vs c.loop-range.invariant.0 c.args.probe
+          (frame_probes_among us s c.args.probe (covering_ranges c.args.probe c.args.ranges.now)) c.in-Some.range
+          c.loop-range.covering c.next.new.self c.in-Some.ensures.none c.settle_frames_at.new.units.items s
+          c.loop-range.invariant.3 c.in_ok-settle_frames_at.ensures.cost;
       found =
           frames_step_found us vs c.loop-range.invariant.0 s a c.in-Some.range c.loop-range.covering c.next.new.self
           c.in-Some.ensures.none whole c.loop-range.invariant.2 new
@@ -88,6 +110,10 @@ loop-range-preserved g c =
       frames_step_further us vs c.loop-range.invariant.0 s a c.in-Some.range c.loop-range.covering c.next.new.self
           c.in-Some.ensures.none whole c.loop-range.invariant.2 new
           c.in_ok-settle_frames_at.field-0 c.in_ok-settle_frames_at.ensures.found c.in-Nothing.is,
+      frames_further us vs c.loop-range.invariant.0 a
+          (frame_probes_among us s a (covering_ranges a c.args.ranges.now)) c.in-Some.range c.loop-range.covering
+          c.next.new.self c.in-Some.ensures.none new s c.loop-range.invariant.3
+          c.in_ok-settle_frames_at.ensures.cost,
     )
 
 pub returns : goal.returns
@@ -99,7 +125,10 @@ returns g c =
     record {
       values = c.loop-range.invariant.0;
       calls = c.loop-range.invariant.1;
+      cost =
+          looks_end (frame_probes_among us s a (covering_ranges a c.args.ranges.now))
+          (frame_probes_among us s a c.loop-range.covering) us c.loop-range.units.items c.loop-range.invariant.3;
       found =
-          no_frames_left (known_among us s) (map value_of_unit us) a whole c.loop-range.covering c.in_default.ensures.none
-          c.loop-range.invariant.2;
+          no_frames_left (known_among us s) (map value_of_unit us) a whole c.loop-range.covering
+          c.in_default.ensures.none c.loop-range.invariant.2;
     }

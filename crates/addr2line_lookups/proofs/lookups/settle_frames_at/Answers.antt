@@ -1,30 +1,21 @@
-use Rattle.std.proofs.Common.{◌≡◌, true, false, map, slice_get, subst, List, Option, Ok, []}
-use Rattle.std.specs.Prelude.{is_some}
+use Rattle.std.proofs.Common.{map, subst, Option, Ok, []}
 use Rattle.std.proofs.lemmas.Result.{err_from_is_err_and}
-use Rattle.addr2line_resolved.specs.ResolvedUnits.{ResolvedUnit, value_of_unit}
-use Rattle.addr2line_lookups.specs.Preloads.{load_at}
+use Rattle.addr2line_resolved.specs.ResolvedUnits.{value_of_unit}
 use Rattle.addr2line_lookups.specs.KeptCalls.{known_among}
 use Rattle.addr2line_lookups.specs.FramePlaces.{FindsFrames, frames_of_answered, frames_at_number}
-use Rattle.addr2line_lookups.specs.UnitLookups.{ask_if_any}
 use Rattle.addr2line_lookups.specs.declared.frame_place.FramePlace.{FramePlace}
-use Rattle.addr2line_lookups.proofs.SettledUnits.{waits, waits_not, frames_decided, output_of}
+use Rattle.addr2line_lookups.proofs.SettledUnits.{waits_here, decided_here, frames_decided, output_of}
 use Rattle.addr2line_lookups.proofs.lookups.settle_frames_at.Goals as goal
 
 pub find_frames_at-requires-clause-decided : goal.find_frames_at-requires-clause-decided
 find_frames_at-requires-clause-decided g c =
-    let waiting : List ResolvedUnit → Type 0 = λ xs. false ≡ is_some (load_at (map value_of_unit xs) c.args.number) in
-    waits_not (load_at (map value_of_unit c.args.units.now.items) c.args.number)
-    (subst waiting c.deref.ensures.value c.if-waits_at.ensures)
+    decided_here c.args.units.now.items c.deref.result.now c.args.number c.deref.ensures.value c.if-waits_at.ensures
 
 pub returns-then-waits_at-clause-found : goal.returns-then-waits_at-clause-found
 returns-then-waits_at-clause-found g c =
     let us = c.args.units.now.items in
-    let vs = map value_of_unit us in
-    let known = known_among us c.args.supplement_units.now in
-    let waiting : List ResolvedUnit → Type 0 = λ xs. true ≡ is_some (load_at (map value_of_unit xs) c.args.number) in
-    waits (load_at vs c.args.number)
-    (ask_if_any (frames_of_answered known c.args.probe) (Ok []) (slice_get vs c.args.number))
-    (subst waiting c.deref.ensures.value c.if-waits_at.ensures)
+    waits_here us c.deref.result.now c.args.number c.deref.ensures.value
+    (frames_of_answered (known_among us c.args.supplement_units.now) c.args.probe) (Ok []) c.if-waits_at.ensures
 
 pub returns-in_err-place : goal.returns-in_err-place
 returns-in_err-place g c =
@@ -32,11 +23,11 @@ returns-in_err-place g c =
     let us = c.args.units.now.items in
     let vs = map value_of_unit us in
     let known = known_among us c.args.supplement_units.now in
-    let waiting : List ResolvedUnit → Type 0 = λ xs. false ≡ is_some (load_at (map value_of_unit xs) c.args.number) in
-    let decided = waits_not (load_at vs c.args.number) (subst waiting c.deref.ensures.value c.if-waits_at.ensures) in
+    let decided = decided_here us c.deref.result.now c.args.number c.deref.ensures.value c.if-waits_at.ensures in
     record {
       values = c.in_err-place.ensures.values;
       calls = c.in_err-place.ensures.calls;
+      cost = c.in_err-place.ensures.cost;
       found =
           rw (p.1, p.2) (λ m.
           output_of _ _ _ (frames_decided known vs c.args.probe c.args.number decided)
@@ -48,14 +39,14 @@ returns-in-Some g c =
     let us = c.args.units.now.items in
     let vs = map value_of_unit us in
     let known = known_among us c.args.supplement_units.now in
-    let waiting : List ResolvedUnit → Type 0 = λ xs. false ≡ is_some (load_at (map value_of_unit xs) c.args.number) in
-    let decided = waits_not (load_at vs c.args.number) (subst waiting c.deref.ensures.value c.if-waits_at.ensures) in
+    let decided = decided_here us c.deref.result.now c.args.number c.deref.ensures.value c.if-waits_at.ensures in
     let answer = frames_at_number known vs c.args.probe c.args.number in
     let found : Option FramePlace → Type 0 =
     λ o. FindsFrames c.find_frames_at.new.units.items answer (Ok o) in
     record {
       values = c.in_ok-place.ensures.values;
       calls = c.in_ok-place.ensures.calls;
+      cost = c.in_ok-place.ensures.cost;
       found = record {
         answer = answer;
         is_found = frames_decided known vs c.args.probe c.args.number decided;
@@ -68,14 +59,14 @@ returns-in-None g c =
     let us = c.args.units.now.items in
     let vs = map value_of_unit us in
     let known = known_among us c.args.supplement_units.now in
-    let waiting : List ResolvedUnit → Type 0 = λ xs. false ≡ is_some (load_at (map value_of_unit xs) c.args.number) in
-    let decided = waits_not (load_at vs c.args.number) (subst waiting c.deref.ensures.value c.if-waits_at.ensures) in
+    let decided = decided_here us c.deref.result.now c.args.number c.deref.ensures.value c.if-waits_at.ensures in
     let answer = frames_at_number known vs c.args.probe c.args.number in
     let found : Option FramePlace → Type 0 =
     λ o. FindsFrames c.find_frames_at.new.units.items answer (Ok o) in
     record {
       values = c.in_ok-place.ensures.values;
       calls = c.in_ok-place.ensures.calls;
+      cost = c.in_ok-place.ensures.cost;
       found =
           output_of _ _ _ (frames_decided known vs c.args.probe c.args.number decided)
           (subst found c.in-None.is c.in_ok-place.ensures.found);

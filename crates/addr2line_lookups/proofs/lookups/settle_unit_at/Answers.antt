@@ -1,29 +1,21 @@
-use Rattle.std.proofs.Common.{◌≡◌, true, false, map, slice_get, subst, List, Option, None, Ok}
-use Rattle.std.specs.Prelude.{is_some}
-use Rattle.addr2line_resolved.specs.ResolvedUnits.{ResolvedUnit, value_of_unit}
-use Rattle.addr2line_lookups.specs.Preloads.{load_at}
+use Rattle.std.proofs.Common.{map, subst, Option, None, Ok}
+use Rattle.addr2line_resolved.specs.ResolvedUnits.{value_of_unit}
 use Rattle.addr2line_lookups.specs.KeptCalls.{known_among}
 use Rattle.addr2line_lookups.specs.FramePlaces.{FindsFrames, frames_at_number}
-use Rattle.addr2line_lookups.specs.UnitLookups.{ask_if_any, unit_of_answered}
+use Rattle.addr2line_lookups.specs.UnitLookups.{unit_of_answered}
 use Rattle.addr2line_lookups.specs.declared.frame_place.FramePlace.{FramePlace}
-use Rattle.addr2line_lookups.proofs.SettledUnits.{waits, waits_not, unit_with_frames, unit_without_frames, unit_is_there, no_frames_has, refused_has, has_some_frames}
+use Rattle.addr2line_lookups.proofs.SettledUnits.{waits_here, decided_here, unit_with_frames, unit_without_frames, unit_is_there, no_frames_has, refused_has, has_some_frames}
 use Rattle.addr2line_lookups.proofs.lookups.settle_unit_at.Goals as goal
 
 pub find_frames_at-requires-clause-decided : goal.find_frames_at-requires-clause-decided
 find_frames_at-requires-clause-decided g c =
-    let waiting : List ResolvedUnit → Type 0 = λ xs. false ≡ is_some (load_at (map value_of_unit xs) c.args.number) in
-    waits_not (load_at (map value_of_unit c.args.units.now.items) c.args.number)
-    (subst waiting c.deref.ensures.value c.if-waits_at.ensures)
+    decided_here c.args.units.now.items c.deref.result.now c.args.number c.deref.ensures.value c.if-waits_at.ensures
 
 pub returns-then-waits_at-clause-found : goal.returns-then-waits_at-clause-found
 returns-then-waits_at-clause-found g c =
     let us = c.args.units.now.items in
-    let vs = map value_of_unit us in
-    let known = known_among us c.args.supplement_units.now in
-    let waiting : List ResolvedUnit → Type 0 = λ xs. true ≡ is_some (load_at (map value_of_unit xs) c.args.number) in
-    waits (load_at vs c.args.number)
-    (ask_if_any (unit_of_answered known c.args.probe) None (slice_get vs c.args.number))
-    (subst waiting c.deref.ensures.value c.if-waits_at.ensures)
+    waits_here us c.deref.result.now c.args.number c.deref.ensures.value
+    (unit_of_answered (known_among us c.args.supplement_units.now) c.args.probe) None c.if-waits_at.ensures
 
 pub returns-in-Ok-Some : goal.returns-in-Ok-Some
 returns-in-Ok-Some g c =
@@ -31,8 +23,7 @@ returns-in-Ok-Some g c =
     let vs = map value_of_unit us in
     let known = known_among us c.args.supplement_units.now in
     let n = c.args.number in
-    let waiting : List ResolvedUnit → Type 0 = λ xs. false ≡ is_some (load_at (map value_of_unit xs) n) in
-    let decided = waits_not (load_at vs n) (subst waiting c.deref.ensures.value c.if-waits_at.ensures) in
+    let decided = decided_here us c.deref.result.now n c.deref.ensures.value c.if-waits_at.ensures in
     let answer = frames_at_number known vs c.args.probe n in
     let has =
     has_some_frames c.find_frames_at.new.units.items answer c.in-Ok-Some.field-0
@@ -40,6 +31,7 @@ returns-in-Ok-Some g c =
     record {
       values = c.in-Ok-Some.ensures.values;
       calls = c.in-Ok-Some.ensures.calls;
+      cost = c.in-Ok-Some.ensures.cost;
       found = record {
         is_found = unit_with_frames known vs c.args.probe n decided has;
         is_one = unit_is_there known vs c.args.probe n decided has;
@@ -52,14 +44,14 @@ returns-in-Ok-None g c =
     let vs = map value_of_unit us in
     let known = known_among us c.args.supplement_units.now in
     let n = c.args.number in
-    let waiting : List ResolvedUnit → Type 0 = λ xs. false ≡ is_some (load_at (map value_of_unit xs) n) in
-    let decided = waits_not (load_at vs n) (subst waiting c.deref.ensures.value c.if-waits_at.ensures) in
+    let decided = decided_here us c.deref.result.now n c.deref.ensures.value c.if-waits_at.ensures in
     let answer = frames_at_number known vs c.args.probe n in
     let found : Option FramePlace → Type 0 =
     λ o. FindsFrames c.find_frames_at.new.units.items answer (Ok o) in
     record {
       values = c.in-Ok-None.ensures.values;
       calls = c.in-Ok-None.ensures.calls;
+      cost = c.in-Ok-None.ensures.cost;
       found =
           unit_without_frames known vs c.args.probe n decided
           (no_frames_has answer (subst found c.in-Ok-None.field-0-is c.in-Ok-None.ensures.found));
@@ -71,12 +63,12 @@ returns-in_default g c =
     let vs = map value_of_unit us in
     let known = known_among us c.args.supplement_units.now in
     let n = c.args.number in
-    let waiting : List ResolvedUnit → Type 0 = λ xs. false ≡ is_some (load_at (map value_of_unit xs) n) in
-    let decided = waits_not (load_at vs n) (subst waiting c.deref.ensures.value c.if-waits_at.ensures) in
+    let decided = decided_here us c.deref.result.now n c.deref.ensures.value c.if-waits_at.ensures in
     let answer = frames_at_number known vs c.args.probe n in
     record {
       values = c.in-Err.ensures.values;
       calls = c.in-Err.ensures.calls;
+      cost = c.in-Err.ensures.cost;
       found =
           unit_without_frames known vs c.args.probe n decided
           (refused_has answer c.in-Err.error (c.in-Err.ensures.found (λ m. c.in_default.not-Memory m)));

@@ -2,8 +2,10 @@ use Rattle.std.proofs.Common.{◌<◌, length, subst, sym, ap, Result, arith}
 use Rattle.addr2line_resolved.specs.Error.{Error}
 use Rattle.addr2line_resolved.specs.Calls.{ReturnsOrNoMemory}
 use Rattle.addr2line_resolved.specs.ResolvedUnits.{ResolvedUnit, value_of_unit}
-use Rattle.addr2line_lookups.proofs.CallsLeft.{leaves_set, leaves_value}
+use Rattle.addr2line_lookups.proofs.CallsOfUnits.{leaves_calls}
+use Rattle.addr2line_lookups.proofs.CallsLeft.{leaves_value}
 use Rattle.addr2line_lookups.proofs.UnitRows.{check_here, same_values}
+use Rattle.addr2line_lookups.proofs.UnitProbes.{looks_set, looks_same}
 use Rattle.addr2line_lookups.proofs.parsing.check_at.Goals as goal
 
 pub returns : goal.returns
@@ -18,7 +20,11 @@ returns g c =
           (ap value_of_unit c.check_lines.ensures.unit);
       found = subst P (sym (check_here us n unit below c.index_mut-unit.ensures.value)) c.check_lines.ensures.found;
       calls =
-          leaves_set us n unit c.check_lines.new.self below c.index_mut-unit.ensures.value
+          leaves_calls us n unit below c.index_mut-unit.ensures.value c.check_lines.new.self
           (leaves_value unit c.check_lines.new.self (ap value_of_unit c.check_lines.ensures.unit)
           (ap (λ (u : ResolvedUnit). u.calls) c.check_lines.ensures.unit));
+      cost =
+          looks_set us n unit below c.index_mut-unit.ensures.value c.check_lines.new.self 0
+          (looks_same unit c.check_lines.new.self (ap (λ (u : ResolvedUnit). u.probes) c.check_lines.ensures.unit)
+          c.check_lines.ensures.more);
     }

@@ -7,10 +7,11 @@ use Rattle.addr2line_lookups.specs.KeptCalls.{known_among, HoldCalls}
 use Rattle.addr2line_lookups.specs.UnitParses.{ChecksOrNoMemory, check_unit_at, check_calls_of}
 use Rattle.addr2line_lookups.proofs.CallsLeft.{same_known}
 use Rattle.addr2line_lookups.proofs.UnitWalks.{walk_goes_on, walk_refused, walk_ends, plain_so_far, plain_after_turn}
+use Rattle.addr2line_lookups.proofs.UnitProbes.{looks_none, looks_after}
 use Rattle.addr2line_lookups.proofs.parsing_calls.check_calls.Goals as goal
 
 pub loop-number-init : goal.loop-number-init
-loop-number-init g c = (refl, c.requires)
+loop-number-init g c = (refl, c.requires, looks_none 0 c.args.units.now.items)
 
 pub loop-number-smaller : goal.loop-number-smaller
 loop-number-smaller g c =
@@ -49,6 +50,7 @@ loop-number-preserved g c =
           (map value_of_unit ws) c.in_ok-parse_unit_at.ensures.values
           (subst P known c.in_ok-parse_unit_at.ensures.found),
       subst (λ (k : KnownUnits). HoldCalls k ws) known c.in_ok-parse_unit_at.ensures.calls,
+      looks_after 0 us vs ws c.loop-number.invariant.2 c.in_ok-parse_unit_at.ensures.cost,
     )
 
 pub returns-in_err-parse_unit_at : goal.returns-in_err-parse_unit_at
@@ -71,6 +73,7 @@ returns-in_err-parse_unit_at g c =
           (map value_of_unit ws) c.in_err-parse_unit_at.field-0.0 c.from_residual.result p.0 p.1 p.2
           c.in_err-parse_unit_at.ensures.values (subst P known c.in_err-parse_unit_at.ensures.found);
       calls = subst (λ (k : KnownUnits). HoldCalls k ws) (sym turn) c.in_err-parse_unit_at.ensures.calls;
+      cost = looks_after 0 us vs ws c.loop-number.invariant.2 c.in_err-parse_unit_at.ensures.cost;
     }
 
 pub returns : goal.returns
@@ -88,4 +91,5 @@ returns g c =
           subst (λ (k : KnownUnits). HoldCalls k vs)
           (sym (same_known us vs s (plain_so_far check n us vs c.loop-number.invariant.0)))
           c.loop-number.invariant.1;
+      cost = c.loop-number.invariant.2;
     }

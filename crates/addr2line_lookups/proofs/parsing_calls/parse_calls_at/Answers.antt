@@ -7,7 +7,9 @@ use Rattle.addr2line_lookups.specs.KeptCalls.{known_among, HoldCalls}
 use Rattle.addr2line_lookups.specs.UnitParses.{ChecksOrNoMemory, check_unit_at, check_calls_of}
 use Rattle.addr2line_lookups.proofs.KeptLines.{same_length}
 use Rattle.addr2line_lookups.proofs.UnitTurns.{no_check_past}
-use Rattle.addr2line_lookups.proofs.KeptCallsAt.{count_there, functions_at, known_now, checked_now, pass_further, all_checked, refused_at}
+use Rattle.addr2line_lookups.proofs.CallsOfUnits.{count_here}
+use Rattle.addr2line_lookups.proofs.KeptCallsAt.{functions_at, known_now, checked_now, pass_further, all_checked, refused_at}
+use Rattle.addr2line_lookups.proofs.UnitProbes.{looks_none, looks_after}
 use Rattle.addr2line_lookups.proofs.parsing_calls.parse_calls_at.Goals as goal
 
 pub returns-then-number-len-clause-found : goal.returns-then-number-len-clause-found
@@ -22,8 +24,9 @@ loop-function-init g c =
     let below : n < length us = omega arith in (
       refl,
       c.requires.calls,
-      count_there us n c.index.result.now below c.index.ensures ∙ sym c.function_count-count.ensures.calls,
+      count_here us n c.index.result.now below c.index.ensures ∙ sym c.function_count-count.ensures.calls,
       λ m less. absurd (omega (arith, less)),
+      looks_none 0 us,
     )
 
 pub parse_calls_of-requires : goal.parse_calls_of-requires
@@ -56,6 +59,7 @@ loop-function-preserved g c =
       c.in_ok-parse_calls_of.ensures.count ∙ c.loop-function.invariant.2,
       pass_further s us n f c.loop-function.invariant.3
           (checked_now s us n vs c.loop-function.invariant.0 f (Ok tt) c.in_ok-parse_calls_of.ensures.found),
+      looks_after 0 us vs ws c.loop-function.invariant.4 c.in_ok-parse_calls_of.ensures.cost,
     )
 
 pub returns-in_err-parse_calls_of : goal.returns-in_err-parse_calls_of
@@ -77,6 +81,7 @@ returns-in_err-parse_calls_of g c =
     record {
       values = c.in_err-parse_calls_of.ensures.values ∙ c.loop-function.invariant.0;
       calls = subst (λ (k : KnownUnits). HoldCalls k ws) known c.in_err-parse_calls_of.ensures.calls;
+      cost = looks_after 0 us vs ws c.loop-function.invariant.4 c.in_err-parse_calls_of.ensures.cost;
       found =
           subst P (sym (p.1 ∙ ap Err p.2))
           (refused_at s us n u below c.index.ensures c.function_count-count.result count f _ c.loop-function-test.true
@@ -96,6 +101,7 @@ returns g c =
     record {
       values = c.loop-function.invariant.0;
       calls = c.loop-function.invariant.1;
+      cost = c.loop-function.invariant.4;
       found =
           all_checked s us n u below c.index.ensures c.function_count-count.result count c.loop-function.function
           (omega (arith, c.loop-function-test.false)) c.requires.readable c.loop-function.invariant.3;

@@ -1,9 +1,10 @@
--- The calls of the functions before a number can be read, and what is kept is the definition's.
+-- The calls of the functions before a number can be read, what is kept is the definition's, and nothing was looked at.
 use Rattle.std.proofs.Common.{◌≡◌, ◌-◌, map}
 use Rattle.addr2line_resolved.specs.ResolvedUnits.{value_of_unit}
 use Rattle.addr2line_lookups.specs.KeptCalls.{known_among, HoldCalls}
-use Rattle.addr2line_lookups.specs.UnitParses.{count_at}
+use Rattle.addr2line_lookups.specs.FunctionPlaces.{count_at}
 use Rattle.addr2line_lookups.proofs.KeptCallsAt.{PassBelow}
+use Rattle.addr2line_lookups.specs.LookupCosts.{AtMostLooks}
 use Rattle.addr2line_lookups.proofs.parsing_calls.parse_calls_at.Given as goal
 
 abbrev pub invariant-loop-function : goal.invariant-loop-function
@@ -12,6 +13,7 @@ invariant-loop-function g l =
     × HoldCalls (known_among l.fn.units.items l.supplement_units) l.units.items
     × (count_at l.units.items l.number ≡ l.count)
     × PassBelow l.supplement_units l.fn.units.items l.number l.function
+    × AtMostLooks 0 l.fn.units.items l.units.items
 
 abbrev pub decreases-loop-function : goal.decreases-loop-function
 decreases-loop-function g l = l.count - l.function

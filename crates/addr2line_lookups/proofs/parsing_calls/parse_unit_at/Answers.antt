@@ -8,6 +8,7 @@ use Rattle.addr2line_lookups.specs.UnitParses.{ChecksOrNoMemory, check_unit_at, 
 use Rattle.addr2line_lookups.proofs.UnitWalks.{plain_after_turn}
 use Rattle.addr2line_lookups.proofs.CallsLeft.{same_known}
 use Rattle.addr2line_lookups.proofs.KeptCallsAt.{functions_refused_at, readable_of}
+use Rattle.addr2line_lookups.proofs.UnitProbes.{looks_after}
 use Rattle.addr2line_lookups.proofs.parsing_calls.parse_unit_at.Goals as goal
 
 pub parse_calls_at-requires : goal.parse_calls_at-requires
@@ -36,6 +37,7 @@ returns-in_err-parse_functions_at g c =
     record {
       values = c.in_err-parse_functions_at.ensures.values;
       calls = c.in_err-parse_functions_at.ensures.calls (known_among us s) c.requires;
+      cost = c.in_err-parse_functions_at.ensures.cost;
       found =
           subst P (sym (p.1 ∙ ap Err p.2))
           (functions_refused_at (known_among us s) (map value_of_unit vs) c.args.number _
@@ -58,5 +60,6 @@ returns g c =
     record {
       values = c.parse_calls_at.ensures.values ∙ c.in_ok-parse_functions_at.ensures.values;
       calls = subst (λ (k : KnownUnits). HoldCalls k ws) known c.parse_calls_at.ensures.calls;
+      cost = looks_after 0 us vs ws c.in_ok-parse_functions_at.ensures.cost c.parse_calls_at.ensures.cost;
       found = subst Q (sym c.parse_calls_at.ensures.values) (subst P known c.parse_calls_at.ensures.found);
     }

@@ -5,10 +5,11 @@ use Rattle.addr2line_resolved.specs.ResolvedUnits.{value_of_unit}
 use Rattle.addr2line_lookups.specs.UnitParses.{check_functions_of}
 use Rattle.addr2line_lookups.proofs.CallsLeft.{leaves_none, leaves_both}
 use Rattle.addr2line_lookups.proofs.UnitWalks.{walk_goes_on, walk_ends, walk_refused}
+use Rattle.addr2line_lookups.proofs.UnitProbes.{looks_none, looks_after}
 use Rattle.addr2line_lookups.proofs.parsing_functions.check_functions.Goals as goal
 
 pub loop-number-init : goal.loop-number-init
-loop-number-init g c = (refl, leaves_none c.args.units.now.items)
+loop-number-init g c = (refl, leaves_none c.args.units.now.items, looks_none 0 c.args.units.now.items)
 
 pub loop-number-preserved : goal.loop-number-preserved
 loop-number-preserved g c =
@@ -19,6 +20,7 @@ loop-number-preserved g c =
           c.loop-number.invariant.0 (map value_of_unit ws) c.in_ok-parse_functions_at.ensures.values
           c.in_ok-parse_functions_at.ensures.found,
       leaves_both us vs ws c.loop-number.invariant.1 c.in_ok-parse_functions_at.ensures.calls,
+      looks_after 0 us vs ws c.loop-number.invariant.2 c.in_ok-parse_functions_at.ensures.cost,
     )
 
 pub returns-in_err-parse_functions_at : goal.returns-in_err-parse_functions_at
@@ -33,6 +35,7 @@ returns-in_err-parse_functions_at g c =
           c.loop-number.invariant.0 (map value_of_unit ws) _ c.from_residual.result p.0 p.1 p.2
           c.in_err-parse_functions_at.ensures.values c.in_err-parse_functions_at.ensures.found;
       calls = leaves_both us vs ws c.loop-number.invariant.1 c.in_err-parse_functions_at.ensures.calls;
+      cost = looks_after 0 us vs ws c.loop-number.invariant.2 c.in_err-parse_functions_at.ensures.cost;
     }
 
 pub returns : goal.returns
@@ -44,4 +47,5 @@ returns g c =
           walk_ends check_functions_of c.loop-number.number (map value_of_unit us) (map value_of_unit vs)
           c.loop-number.invariant.0 (omega (arith, length-map vs value_of_unit));
       calls = c.loop-number.invariant.1;
+      cost = c.loop-number.invariant.2;
     }

@@ -4,12 +4,14 @@ use Rattle.addr2line_resolved.specs.ResolvedUnits.{value_of_unit}
 use Rattle.addr2line_lookups.specs.KeptCalls.{LeavesCalls}
 use Rattle.addr2line_lookups.specs.UnitParses.{check_functions_of}
 use Rattle.addr2line_lookups.proofs.UnitWalks.{HasWalked}
+use Rattle.addr2line_lookups.specs.LookupCosts.{AtMostLooks}
 use Rattle.addr2line_lookups.proofs.parsing_functions.check_functions.Given as goal
 
 abbrev pub invariant-loop-number : goal.invariant-loop-number
 invariant-loop-number g l =
     HasWalked check_functions_of l.number (map value_of_unit l.fn.units.items) (map value_of_unit l.units.items)
     × LeavesCalls l.fn.units.items l.units.items
+    × AtMostLooks 0 l.fn.units.items l.units.items
 
 abbrev pub decreases-loop-number : goal.decreases-loop-number
 decreases-loop-number g l = length l.units.items - l.number

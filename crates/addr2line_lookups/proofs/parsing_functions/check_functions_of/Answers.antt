@@ -3,7 +3,9 @@ use Rattle.std.proofs.lemmas.Result.{err_from_is_err_and}
 use Rattle.addr2line_resolved.specs.ResolvedUnits.{ResolvedUnit}
 use Rattle.addr2line_lookups.specs.UnitParses.{check_functions_of}
 use Rattle.addr2line_lookups.proofs.CallsLeft.{leaves_functions, leaves_value}
-use Rattle.addr2line_lookups.proofs.UnitCalls.{keeps_after, value_after, on_ok_always}
+use Rattle.addr2line_lookups.proofs.UnitCalls.{on_ok_always}
+use Rattle.addr2line_lookups.proofs.CallsOfUnits.{value_left, functions_kept, counts_left}
+use Rattle.addr2line_lookups.proofs.UnitProbes.{looks_nowhere, looks_unchanged}
 use Rattle.addr2line_lookups.proofs.parsing_functions.check_functions_of.Goals as goal
 
 pub returns-in_err-read_functions : goal.returns-in_err-read_functions
@@ -18,6 +20,7 @@ returns-in_err-read_functions g c =
       calls =
           leaves_value old new (ap (λ (u : ResolvedUnit). u.value) c.in_err-read_functions.ensures.err)
           (ap (λ (u : ResolvedUnit). u.calls) c.in_err-read_functions.ensures.err);
+      cost = looks_unchanged 0 old new c.in_err-read_functions.ensures.err;
     }
 
 pub returns : goal.returns
@@ -25,10 +28,11 @@ returns g c =
     let old = c.args.unit.now in
     let new = c.read_functions.new.self in
     let read = c.in_ok-read_functions.ensures.ok in
-    let kept = keeps_after old new read in
+    let kept = functions_kept old new read in
     record {
-      value = value_after old new read;
-      found = inl (ap check_functions_of (sym (value_after old new read)) ∙ c.check_kept.ensures kept);
+      value = value_left old new read;
+      found = inl (ap check_functions_of (sym (value_left old new read)) ∙ c.check_kept.ensures kept);
       kept = on_ok_always c.check_kept.result kept;
       calls = leaves_functions old new read;
+      cost = let counts = counts_left old new read in looks_nowhere old new counts.0 counts.1;
     }

@@ -1,8 +1,10 @@
 use Rattle.std.proofs.Common.{◌<◌, ◌∙◌, sym, length, subst, arith}
 use Rattle.std.proofs.lemmas.Result.{on_ok_weaker}
 use Rattle.addr2line_lookups.specs.UnitParses.{check_functions_of, ChecksOrNoMemory}
-use Rattle.addr2line_lookups.proofs.CallsLeft.{leaves_set, leaves_both_of}
+use Rattle.addr2line_lookups.proofs.CallsOfUnits.{leaves_calls}
+use Rattle.addr2line_lookups.proofs.CallsLeft.{leaves_both_of}
 use Rattle.addr2line_lookups.proofs.UnitTurns.{turn_there, check_there, functions_there}
+use Rattle.addr2line_lookups.proofs.UnitProbes.{looks_set, looks_both_of}
 use Rattle.addr2line_lookups.proofs.parsing_functions.parse_functions_at.Goals as goal
 
 pub returns : goal.returns
@@ -25,6 +27,9 @@ returns g c =
           on_ok_weaker c.check_functions_of.result (functions_there us n unit new below is)
           c.check_functions_of.ensures.kept;
       calls =
-          leaves_set us n unit new below is
+          leaves_calls us n unit below is new
           (leaves_both_of unit turned new c.skip_load.ensures.calls c.check_functions_of.ensures.calls);
+      cost =
+          looks_set us n unit below is new 0
+          (looks_both_of 0 0 unit turned new c.skip_load.ensures.cost c.check_functions_of.ensures.cost);
     }

@@ -1,10 +1,18 @@
-use Rattle.std.proofs.Common.{◌∙◌, ap, map, refl}
+use Rattle.std.proofs.Common.{◌∙◌, ap, map, refl, sym, subst, Option}
 use Rattle.std.proofs.lemmas.Result.{err_from_is_err_and}
+use Rattle.addr2line_resolved.specs.Error.TheVariants.{Memory}
+use Rattle.addr2line_resolved.specs.Lines.{LineRow}
 use Rattle.addr2line_resolved.specs.PlaceLookups.{location_at}
 use Rattle.addr2line_resolved.specs.Contexts.{ranges_of, lines_of}
 use Rattle.addr2line_resolved.specs.ResolvedUnits.{plain_unit}
 use Rattle.addr2line_lookups.proofs.CallsLeft.{leaves_none, leaves_both}
 use Rattle.addr2line_lookups.proofs.UnitRows.{ok_row, answers_start, row_found, none_found, refusal_found}
+use Rattle.addr2line_lookups.specs.declared.settle.UnitRow.{UnitRow}
+use Rattle.addr2line_lookups.specs.KeptUnits.{KeepsRanges}
+use Rattle.addr2line_lookups.proofs.KeptLines.{keeps_first, keeps_rest}
+use Rattle.addr2line_lookups.proofs.UnitProbes.{looks_begin, looks_end, refused_so}
+use Rattle.addr2line_lookups.proofs.LookupProbes.{row_probes_among, rows_further, rows_stop}
+use Rattle.addr2line_resolved.specs.NumberedRanges.{covering_ranges}
 use Rattle.addr2line_lookups.proofs.settle.find_row.Goals as goal
 
 pub loop-range-init : goal.loop-range-init
@@ -13,6 +21,10 @@ loop-range-init g c = (
   answers_start (map plain_unit c.args.units.now.items) c.args.probe c.args.ranges.now
       c.covering-covering.result c.requires c.covering-covering.ensures,
   leaves_none c.args.units.now.items,
+  looks_begin (row_probes_among c.args.units.now.items c.args.probe (covering_ranges c.args.probe c.args.ranges.now))
+      (row_probes_among c.args.units.now.items c.args.probe c.covering-covering.result) c.args.units.now.items
+      (ap (row_probes_among c.args.units.now.items c.args.probe) c.covering-covering.ensures),
+  λ kept. subst (KeepsRanges c.args.units.now.items) (sym c.covering-covering.ensures) kept,
 )
 
 pub returns-in_err-row-clause-found : goal.returns-in_err-row-clause-found
@@ -42,6 +54,13 @@ loop-range-preserved g c =
           c.in-Some.ensures.none (location_at ranges_of lines_of (map plain_unit us) c.args.probe)
           c.loop-range.invariant.1 (c.in_ok-row.ensures.found ∙ ap ok_row c.in_default-2.is),
       leaves_both us vs c.find_row_at.new.units.items c.loop-range.invariant.2 c.in_ok-row.ensures.calls,
+      rows_further us vs c.loop-range.invariant.0 c.args.probe
+          (row_probes_among us c.args.probe (covering_ranges c.args.probe c.args.ranges.now)) c.in-Some.range
+          c.loop-range.covering c.next.new.self c.in-Some.ensures.none c.find_row_at.new.units.items
+          c.loop-range.invariant.3 c.in_ok-row.ensures.cost,
+      λ kept.
+          keeps_rest vs c.in-Some.range c.loop-range.covering c.next.new.self c.in-Some.ensures.none
+          (c.loop-range.invariant.4 kept) c.find_row_at.new.units.items c.in_ok-row.ensures.cost.more,
     )
 
 pub returns-in_err-row-clause-calls : goal.returns-in_err-row-clause-calls
@@ -56,3 +75,34 @@ returns-in-Some-2-clause-calls g c =
 
 pub returns-clause-calls : goal.returns-clause-calls
 returns-clause-calls g c = c.loop-range.invariant.2
+
+pub returns-in_err-row-clause-cost : goal.returns-in_err-row-clause-cost
+returns-in_err-row-clause-cost g c =
+    let us = c.args.units.now.items in
+    rows_stop us c.loop-range.units.items c.loop-range.invariant.0 c.args.probe
+    (row_probes_among us c.args.probe (covering_ranges c.args.probe c.args.ranges.now)) c.in-Some.range
+    c.loop-range.covering c.next.new.self c.in-Some.ensures.none c.find_row_at.new.units.items c.loop-range.invariant.3
+    c.in_err-row.ensures.cost
+
+pub returns-in-Some-2-clause-cost : goal.returns-in-Some-2-clause-cost
+returns-in-Some-2-clause-cost g c =
+    let us = c.args.units.now.items in
+    rows_stop us c.loop-range.units.items c.loop-range.invariant.0 c.args.probe
+    (row_probes_among us c.args.probe (covering_ranges c.args.probe c.args.ranges.now)) c.in-Some.range
+    c.loop-range.covering c.next.new.self c.in-Some.ensures.none c.find_row_at.new.units.items c.loop-range.invariant.3
+    c.in_ok-row.ensures.cost
+
+pub returns-clause-cost : goal.returns-clause-cost
+returns-clause-cost g c =
+    let us = c.args.units.now.items in
+    looks_end (row_probes_among us c.args.probe (covering_ranges c.args.probe c.args.ranges.now))
+    (row_probes_among us c.args.probe c.loop-range.covering) us c.loop-range.units.items c.loop-range.invariant.3
+
+pub returns-in_err-row-clause-free : goal.returns-in_err-row-clause-free
+returns-in_err-row-clause-free g c =
+    let p = err_from_is_err_and c.from_residual.result c.from_residual.ensures.1 in
+    rw (p.1, p.2) (λ kept.
+    refused_so (Option LineRow) (Option UnitRow) _ Memory
+    (c.in_err-row.ensures.free
+    (keeps_first c.loop-range.units.items c.in-Some.range c.loop-range.covering c.next.new.self
+    c.in-Some.ensures.none (c.loop-range.invariant.4 kept))))

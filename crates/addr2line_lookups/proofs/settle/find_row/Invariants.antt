@@ -1,5 +1,5 @@
 -- The answer is that of the ranges that are left, the units' values are the same, and calls that are kept stay the
--- definition's.
+-- definition's. Looks are left for the ranges that are left, and lines that were kept are kept.
 use Rattle.std.proofs.Common.{◌≡◌, length, map}
 use Rattle.addr2line_resolved.specs.PlaceLookups.{location_at}
 use Rattle.addr2line_resolved.specs.Contexts.{ranges_of, lines_of}
@@ -7,6 +7,10 @@ use Rattle.addr2line_resolved.specs.RangeIndexLaws.{answer_from}
 use Rattle.addr2line_resolved.specs.ContextUnits.{unit_places}
 use Rattle.addr2line_resolved.specs.ResolvedUnits.{plain_unit, value_of_unit}
 use Rattle.addr2line_lookups.specs.KeptCalls.{LeavesCalls}
+use Rattle.addr2line_resolved.specs.NumberedRanges.{covering_ranges}
+use Rattle.addr2line_lookups.specs.KeptUnits.{KeepsRanges}
+use Rattle.addr2line_lookups.proofs.UnitProbes.{LooksLeft}
+use Rattle.addr2line_lookups.proofs.LookupProbes.{row_probes_among}
 use Rattle.addr2line_lookups.proofs.settle.find_row.Given as goal
 
 abbrev pub invariant-loop-range : goal.invariant-loop-range
@@ -15,6 +19,9 @@ invariant-loop-range g l =
     (map value_of_unit l.units.items ≡ map value_of_unit l.fn.units.items)
     × (location_at ranges_of lines_of us l.probe ≡ answer_from (map unit_places us) l.probe l.covering)
     × LeavesCalls l.fn.units.items l.units.items
+    × LooksLeft (row_probes_among l.fn.units.items l.probe (covering_ranges l.probe l.ranges))
+    (row_probes_among l.fn.units.items l.probe l.covering) l.fn.units.items l.units.items
+    × (KeepsRanges l.fn.units.items (covering_ranges l.probe l.ranges) → KeepsRanges l.units.items l.covering)
 
 abbrev pub decreases-loop-range : goal.decreases-loop-range
 decreases-loop-range g l = length l.covering

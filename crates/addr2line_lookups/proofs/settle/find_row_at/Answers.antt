@@ -3,12 +3,13 @@ use Rattle.std.proofs.lemmas.Result.{on_ok_weaker}
 use Rattle.addr2line_resolved.specs.Error.{Error}
 use Rattle.addr2line_resolved.specs.Calls.{ReturnsOrNoMemory}
 use Rattle.addr2line_resolved.specs.Lines.{LineRow}
-use Rattle.addr2line_resolved.specs.ResolvedUnits.{ResolvedUnit, value_of_unit}
+use Rattle.addr2line_resolved.specs.ResolvedUnits.{ResolvedUnit, KeepsLines, value_of_unit}
 use Rattle.addr2line_lookups.specs.KeptCalls.{kept_calls_of}
-use Rattle.addr2line_lookups.proofs.CallsOfUnits.{same_calls, same_chain}
-use Rattle.addr2line_lookups.proofs.CallsLeft.{leaves_set, leaves_value}
+use Rattle.addr2line_lookups.proofs.CallsOfUnits.{if_here, leaves_calls, same_calls, same_chain}
+use Rattle.addr2line_lookups.proofs.CallsLeft.{leaves_value}
 use Rattle.addr2line_lookups.proofs.KeptLines.{keeps_set}
 use Rattle.addr2line_lookups.proofs.UnitRows.{row_here, same_values}
+use Rattle.addr2line_lookups.proofs.LookupProbes.{looks_for_row}
 use Rattle.addr2line_lookups.proofs.settle.find_row_at.Goals as goal
 
 pub returns : goal.returns
@@ -26,11 +27,15 @@ returns g c =
           c.find_row.ensures.row;
       kept = on_ok_weaker c.find_row.result (keeps_set us n new) c.find_row.ensures.kept;
       calls =
-          leaves_set us n unit new below c.index_mut-unit.ensures.value
+          leaves_calls us n unit below c.index_mut-unit.ensures.value new
           (leaves_value unit new (ap value_of_unit c.find_row.ensures.unit)
           (ap (λ (u : ResolvedUnit). u.calls) c.find_row.ensures.unit));
       same = same_calls us n unit below c.index_mut-unit.ensures.value new (ap kept_calls_of c.find_row.ensures.unit);
       chain =
           same_chain us n unit below c.index_mut-unit.ensures.value new
           (ap (λ (u : ResolvedUnit). u.chain) c.find_row.ensures.unit);
+      cost =
+          looks_for_row us n unit below c.index_mut-unit.ensures.value new c.args.probe c.find_row.ensures.cost
+          c.find_row.ensures.more;
+      free = λ kept. c.find_row.ensures.free (if_here us n unit below c.index_mut-unit.ensures.value KeepsLines kept);
     }

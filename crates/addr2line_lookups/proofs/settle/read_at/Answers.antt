@@ -1,9 +1,11 @@
 use Rattle.std.proofs.Common.{◌<◌, length, ap, arith}
 use Rattle.std.proofs.lemmas.Result.{on_ok_weaker}
 use Rattle.addr2line_resolved.specs.ResolvedUnits.{ResolvedUnit, value_of_unit}
-use Rattle.addr2line_lookups.proofs.CallsLeft.{leaves_set, leaves_value}
-use Rattle.addr2line_lookups.proofs.KeptLines.{keeps_set, keeps_more_set}
+use Rattle.addr2line_lookups.proofs.CallsOfUnits.{leaves_calls}
+use Rattle.addr2line_lookups.proofs.CallsLeft.{leaves_value}
+use Rattle.addr2line_lookups.proofs.KeptLines.{keeps_set}
 use Rattle.addr2line_lookups.proofs.UnitRows.{same_values}
+use Rattle.addr2line_lookups.proofs.UnitProbes.{looks_set, looks_same, keeps_still}
 use Rattle.addr2line_lookups.proofs.settle.read_at.Goals as goal
 
 pub returns : goal.returns
@@ -18,10 +20,13 @@ returns g c =
           same_values us n unit new c.index_mut-unit.ensures.value
           (ap value_of_unit c.read_lines.ensures.unit);
       kept = on_ok_weaker c.read_lines.result (keeps_set us n new) c.read_lines.ensures.kept;
-      more = on_ok_weaker c.read_lines.result (keeps_more_set us n new) c.read_lines.ensures.kept;
+      cost =
+          looks_set us n unit below c.index_mut-unit.ensures.value new 0
+          (looks_same unit new (ap (λ (u : ResolvedUnit). u.probes) c.read_lines.ensures.unit)
+          (keeps_still c.read_lines.result unit new c.read_lines.ensures.kept c.read_lines.ensures.free));
       refusal = c.read_lines.ensures.refusal;
       calls =
-          leaves_set us n unit new below c.index_mut-unit.ensures.value
+          leaves_calls us n unit below c.index_mut-unit.ensures.value new
           (leaves_value unit new (ap value_of_unit c.read_lines.ensures.unit)
           (ap (λ (u : ResolvedUnit). u.calls) c.read_lines.ensures.unit));
     }

@@ -18,7 +18,7 @@ write_answer-requires g c =
 
 pub returns-in_err-write_answer-clause-prefix : goal.returns-in_err-write_answer-clause-prefix
 returns-in_err-write_answer-clause-prefix g c =
-    prefix_at_word c.args.context.now.plain.context c.args.words.now _ _ _ c.loop-word.word-index c.word-item.result _
+    prefix_at_word c.args.context.now.value.plain.context c.args.words.now _ _ _ c.loop-word.word-index c.word-item.result _
     c.loop-word-test.true c.word-item.is
     (same_line _ _ _ _ c.loop-word.invariant.0 c.deref.ensures) c.loop-word.invariant.1
     c.in_err-write_answer.ensures.prefix
@@ -26,7 +26,7 @@ returns-in_err-write_answer-clause-prefix g c =
 pub loop-word-preserved : goal.loop-word-preserved
 loop-word-preserved g c = (
   c.in_ok-write_answer.ensures.value ∙ c.loop-word.invariant.0,
-  appends_at_word c.args.context.now.plain.context c.args.words.now _ _ _ c.loop-word.word-index c.word-item.result _
+  appends_at_word c.args.context.now.value.plain.context c.args.words.now _ _ _ c.loop-word.word-index c.word-item.result _
       c.loop-word-test.true c.word-item.is
       (same_line _ _ _ _ c.loop-word.invariant.0 c.deref.ensures) c.loop-word.invariant.1
       c.in_ok-write_answer.ensures.whole,
@@ -34,5 +34,5 @@ loop-word-preserved g c = (
 
 pub returns-clause-prefix : goal.returns-clause-prefix
 returns-clause-prefix g c =
-    prefix_of_answers c.args.context.now.plain.context c.args.words.now _ _ c.loop-word.word-index
+    prefix_of_answers c.args.context.now.value.plain.context c.args.words.now _ _ c.loop-word.word-index
     (prefix_whole _ _ _ c.loop-word.invariant.1)

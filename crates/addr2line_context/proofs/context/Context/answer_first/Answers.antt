@@ -1,44 +1,43 @@
 use Rattle.std.proofs.Common.{inl, option_map, sym, ◌∙◌}
 use Rattle.addr2line_lookups.proofs.AnsweredLoads.{file_left, plain_left}
+use Rattle.addr2line_lookups.proofs.UnitProbes.{looks_none}
+use Rattle.addr2line_context.proofs.ContextParts.{value_is, looks_since}
 use Rattle.addr2line_context.proofs.KeptUnits.{holds_after}
-use Rattle.addr2line_context.proofs.SettledContexts.{none_answered, none_fewer, answer_left, answered_ok, answered_refusal, answered_fewer}
+use Rattle.addr2line_context.proofs.FirstLoads.{none_answered, none_fewer, answer_left, answered_ok, answered_refusal, answered_fewer}
 use Rattle.addr2line_context.proofs.context.Context.answer_first.Goals as goal
 
 pub returns : goal.returns
 returns g c =
-    let file = c.self.inside.sections.value.file in
-    let us = c.self.inside.units in
-    let s = c.self.inside.supplement_units.items in
-    let new = c.answer_at-answered.new.self in
+    let of_file = c.self.invariant.are_of_file in
+    let a = c.args.probe in
+    let is = value_is _ _ _ _ c.self.view_is in
     let n = c.in-Some.number in
+    let first = c.in-Some.ensures in
+    let new = c.answer_at-answered.new.self in
+    let h = c.answer_at-answered.ensures.answer in
+    let r = c.memory_alone.result in
+    let alone = c.memory_alone.ensures in
     record {
-      ok =
-          answered_ok file us s c.self.invariant c.args.probe c.args.self.now c.self.view_is _ n c.in-Some.ensures new
-          c.answer_at-answered.result c.answer_at-answered.ensures.answer c.memory_alone.result c.memory_alone.ensures;
-      fewer =
-          answered_fewer file us s c.self.invariant c.args.probe c.args.self.now c.self.view_is _ n c.in-Some.ensures new
-          c.answer_at-answered.result c.answer_at-answered.ensures.answer c.memory_alone.result c.memory_alone.ensures;
-      left =
-          answer_left file us s c.self.invariant c.args.probe c.args.self.now c.self.view_is _ n c.in-Some.ensures new
-          c.answer_at-answered.result c.answer_at-answered.ensures.answer;
-      refusal =
-          answered_refusal file us s c.self.invariant c.args.probe c.args.self.now c.self.view_is _ n c.in-Some.ensures new
-          c.answer_at-answered.result c.answer_at-answered.ensures.answer c.memory_alone.result c.memory_alone.ensures;
+      ok = answered_ok _ _ _ of_file a _ is _ n first new _ h r alone;
+      fewer = answered_fewer _ _ _ of_file a _ is _ n first new _ h r alone;
+      left = answer_left _ _ _ of_file a _ is _ n first new _ h;
+      refusal = answered_refusal _ _ _ of_file a _ is _ n first new _ h r alone;
+      cost = looks_since _ _ _ _ c.self.view_is 0 new c.answer_at-answered.ensures.cost;
     }
 
 pub returns-in_default : goal.returns-in_default
 returns-in_default g c =
-    let file = c.self.inside.sections.value.file in
-    let us = c.self.inside.units in
-    let s = c.self.inside.supplement_units.items in
+    let of_file = c.self.invariant.are_of_file in
+    let is = value_is _ _ _ _ c.self.view_is in
     let answer = option_map (λ f. f.value.file) c.args.file in
     let first = sym c.in_default.is ∙ c.first_waiting.ensures in
-    let same = none_answered file us s c.self.invariant c.args.probe c.args.self.now c.self.view_is answer first in
+    let same = none_answered _ _ _ of_file c.args.probe _ is answer first in
     record {
       ok = same;
-      fewer = none_fewer file us s c.self.invariant c.args.probe c.args.self.now c.self.view_is answer first;
+      fewer = none_fewer _ _ _ of_file c.args.probe _ is answer first;
       left = inl same;
       refusal = tt;
+      cost = looks_none 0 _;
     }
 
 pub invariant_of-self : goal.invariant_of-self

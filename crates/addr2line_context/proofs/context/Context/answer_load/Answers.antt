@@ -4,6 +4,7 @@ use Rattle.addr2line_lookups.specs.ResolvedUnits.{value_of_unit}
 use Rattle.addr2line_lookups.specs.AnsweredUnits.{answers_of}
 use Rattle.addr2line_lookups.specs.LoadAnswers.{AnswersOrNoMemory}
 use Rattle.addr2line_lookups.proofs.AnsweredLoads.{file_left, plain_left}
+use Rattle.addr2line_context.proofs.ContextParts.{value_is, looks_since}
 use Rattle.addr2line_context.proofs.ContextLoads.{answer_of_context, same_plain_context}
 use Rattle.addr2line_context.proofs.KeptUnits.{holds_after}
 use Rattle.addr2line_context.proofs.context.Context.answer_load.Goals as goal
@@ -19,14 +20,17 @@ invariant_of-self g c =
 
 pub returns-clause-answers : goal.returns-clause-answers
 returns-clause-answers g c =
-    subst (λ n. AnswersOrNoMemory c.answer_at.result c.args.self.now.answers
-    (answers_of (map value_of_unit c.answer_at.new.self))
-    (answer_load c.args.self.now.plain c.args.self.now.answers n (option_map (λ f. f.value.file) c.args.file)))
+    let old = c.args.self.now.value in
+    subst (λ n. AnswersOrNoMemory c.answer_at.result old.answers (answers_of (map value_of_unit c.answer_at.new.self))
+    (answer_load old.plain old.answers n (option_map (λ f. f.value.file) c.args.file)))
     c.number.ensures
-    (answer_of_context c.self.inside.sections.value.file c.self.inside.units c.self.inside.supplement_units.items
-    c.self.invariant.are_of_file c.answer_at.new.self c.answer_at.result _ _ c.answer_at.ensures.answer c.args.self.now c.self.view_is)
+    (answer_of_context _ _ _ c.self.invariant.are_of_file c.answer_at.new.self c.answer_at.result _ _
+    c.answer_at.ensures.answer old (value_is _ _ _ _ c.self.view_is))
 
 pub returns-clause-plain : goal.returns-clause-plain
 returns-clause-plain g c =
-    same_plain_context c.self.inside.sections.value.file c.self.inside.units c.self.inside.supplement_units.items
-    c.self.invariant.are_of_file c.answer_at.new.self c.answer_at.result _ _ c.answer_at.ensures.answer c.args.self.now c.self.view_is
+    same_plain_context _ _ _ c.self.invariant.are_of_file c.answer_at.new.self c.answer_at.result _ _
+    c.answer_at.ensures.answer c.args.self.now.value (value_is _ _ _ _ c.self.view_is)
+
+pub returns-clause-cost : goal.returns-clause-cost
+returns-clause-cost g c = looks_since _ _ _ _ c.self.view_is 0 c.answer_at.new.self c.answer_at.ensures.cost

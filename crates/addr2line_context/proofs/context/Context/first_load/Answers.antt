@@ -1,21 +1,20 @@
 use Rattle.std.proofs.lemmas.Result.{err_from_is_err_and}
-use Rattle.addr2line_context.proofs.SettledContexts.{load_found, no_load_found, load_refused}
+use Rattle.addr2line_context.proofs.ContextParts.{value_is}
+use Rattle.addr2line_context.proofs.FirstLoads.{load_found, no_load_found, load_refused}
 use Rattle.addr2line_context.proofs.context.Context.first_load.Goals as goal
 
 pub returns-in_err-load : goal.returns-in_err-load
 returns-in_err-load g c =
     let p = err_from_is_err_and c.from_residual.result c.from_residual.ensures.1 in
-    rw (p.1, p.2) (load_refused c.self.inside.sections.value.file c.self.inside.units c.self.inside.supplement_units.items
-    c.self.invariant c.args.probe c.args.self.now c.self.view_is _ c.in_err-load.ensures c.requires)
+    rw (p.1, p.2) (load_refused _ _ _ c.self.invariant.are_of_file c.args.probe _ (value_is _ _ _ _ c.self.view_is) _
+    c.in_err-load.ensures c.requires)
 
 pub returns : goal.returns
 returns g c =
-    load_found c.self.inside.sections.value.file c.self.inside.units c.self.inside.supplement_units.items
-    c.self.invariant c.args.probe c.args.self.now c.self.view_is c.in_ok-load.field-0 c.in-Some.load c.in-Some.is
-    c.in_ok-load.ensures
+    load_found _ _ _ c.self.invariant.are_of_file c.args.probe _ (value_is _ _ _ _ c.self.view_is) _ c.in-Some.load
+    c.in-Some.is c.in_ok-load.ensures
 
 pub unreachable-requires : goal.unreachable-requires
 unreachable-requires g c =
-    no_load_found c.self.inside.sections.value.file c.self.inside.units c.self.inside.supplement_units.items
-    c.self.invariant c.args.probe c.args.self.now c.self.view_is c.in_ok-load.field-0 c.in-None.is
+    no_load_found _ _ _ c.self.invariant.are_of_file c.args.probe _ (value_is _ _ _ _ c.self.view_is) _ c.in-None.is
     c.in_ok-load.ensures c.requires

@@ -1,7 +1,7 @@
 use Rattle.addr2line_lookups.specs.Histories.{functions_or_refusal}
 use Rattle.addr2line_lookups.specs.UnitParses.{check_functions_of}
 use Rattle.addr2line_lookups.proofs.UnitWalks.{plain_walked}
-use Rattle.addr2line_context.proofs.ContextParts.{file_context_with}
+use Rattle.addr2line_context.proofs.ContextParts.{file_context_with, value_is, looks_since}
 use Rattle.addr2line_context.proofs.ContextWalks.{says_functions, walk_of_context, same_plain_walked, of_file_walked}
 use Rattle.addr2line_context.proofs.KeptUnits.{holds_after}
 use Rattle.addr2line_context.proofs.context.Context.parse_functions.Goals as goal
@@ -27,7 +27,7 @@ returns-clause-functions g c =
     let s = i.supplement_units.items in
     walk_of_context file i.units s c.self.invariant.are_of_file functions_or_refusal check_functions_of
     (says_functions (file_context_with file i.units s)) c.check_functions.new.self c.check_functions.result
-    c.check_functions.ensures.walk c.args.self.now c.self.view_is
+    c.check_functions.ensures.walk c.args.self.now.value (value_is _ _ _ _ c.self.view_is)
 
 pub returns-clause-plain : goal.returns-clause-plain
 returns-clause-plain g c =
@@ -36,4 +36,7 @@ returns-clause-plain g c =
     let s = i.supplement_units.items in
     same_plain_walked file i.units s c.self.invariant.are_of_file functions_or_refusal check_functions_of
     (says_functions (file_context_with file i.units s)) c.check_functions.new.self c.check_functions.result
-    c.check_functions.ensures.walk c.args.self.now c.self.view_is
+    c.check_functions.ensures.walk c.args.self.now.value (value_is _ _ _ _ c.self.view_is)
+
+pub returns-clause-cost : goal.returns-clause-cost
+returns-clause-cost g c = looks_since _ _ _ _ c.self.view_is 0 c.check_functions.new.self c.check_functions.ensures.cost

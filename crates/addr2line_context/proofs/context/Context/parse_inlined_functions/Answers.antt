@@ -1,12 +1,8 @@
-use Rattle.std.proofs.Common.{List, map, sym, subst}
+use Rattle.std.proofs.Common.{List, sym, subst}
 use Rattle.addr2line_lookups.specs.UnitFacts.{UnitFacts}
-use Rattle.addr2line_lookups.specs.EntryReferences.{KnownUnits}
-use Rattle.addr2line_lookups.specs.ContextNames.{known_units}
-use Rattle.addr2line_lookups.specs.ResolvedUnits.{value_of_unit}
 use Rattle.addr2line_lookups.specs.KeptCalls.{known_among, HoldCalls}
-use Rattle.addr2line_lookups.specs.UnitParses.{check_calls_of, WalksOrNoMemory}
-use Rattle.addr2line_context.proofs.ContextParts.{file_context_with}
-use Rattle.addr2line_context.proofs.ContextWalks.{parse_calls, says_calls, known_in, walk_of_context, same_plain_walked, of_file_walked}
+use Rattle.addr2line_context.proofs.ContextParts.{value_is, looks_since}
+use Rattle.addr2line_context.proofs.ContextWalks.{of_file_calls, calls_of_context, same_plain_calls}
 use Rattle.addr2line_context.proofs.context.Context.parse_inlined_functions.Goals as goal
 
 pub check_calls-requires : goal.check_calls-requires
@@ -16,50 +12,23 @@ check_calls-requires g c =
 
 pub invariant_of-self : goal.invariant_of-self
 invariant_of-self g c =
-    let i = c.self.inside in
-    let file = i.sections.value.file in
-    let s = i.supplement_units.items in
     let new = c.check_calls.new.self in
-    let here = file_context_with file i.units s in
-    let check = check_calls_of (known_units here) in
-    let P : KnownUnits → Type 0 = λ k.
-    WalksOrNoMemory (check_calls_of k) c.check_calls.result (map value_of_unit i.units) (map value_of_unit new) in
-    let Q : List UnitFacts → Type 0 = λ l. P (known_among i.units l) in
-    let walk = subst P (sym (known_in file i.units s)) (subst Q c.as_slice.ensures.value c.check_calls.ensures.walk) in
-    let R : List UnitFacts → Type 0 = λ l. HoldCalls (known_among new l) new in
+    let Holds : List UnitFacts → Type 0 = λ units. HoldCalls (known_among new units) new in
     record {
       are_of_file =
-          of_file_walked file i.units s c.self.invariant.are_of_file parse_calls check (says_calls here) new
-          c.check_calls.result walk;
-      calls_are_kept = subst R c.as_slice.ensures.value c.check_calls.ensures.calls;
+          of_file_calls _ _ _ c.self.invariant.are_of_file _ c.as_slice.ensures.value new _ c.check_calls.ensures.walk;
+      calls_are_kept = subst Holds c.as_slice.ensures.value c.check_calls.ensures.calls;
     }
 
 pub returns-clause-calls : goal.returns-clause-calls
 returns-clause-calls g c =
-    let i = c.self.inside in
-    let file = i.sections.value.file in
-    let s = i.supplement_units.items in
-    let new = c.check_calls.new.self in
-    let here = file_context_with file i.units s in
-    let check = check_calls_of (known_units here) in
-    let P : KnownUnits → Type 0 = λ k.
-    WalksOrNoMemory (check_calls_of k) c.check_calls.result (map value_of_unit i.units) (map value_of_unit new) in
-    let Q : List UnitFacts → Type 0 = λ l. P (known_among i.units l) in
-    let walk = subst P (sym (known_in file i.units s)) (subst Q c.as_slice.ensures.value c.check_calls.ensures.walk) in
-    walk_of_context file i.units s c.self.invariant.are_of_file parse_calls check (says_calls here) new
-    c.check_calls.result walk c.args.self.now c.self.view_is
+    calls_of_context _ _ _ c.self.invariant.are_of_file _ c.as_slice.ensures.value c.check_calls.new.self _
+    c.check_calls.ensures.walk c.args.self.now.value (value_is _ _ _ _ c.self.view_is)
 
 pub returns-clause-plain : goal.returns-clause-plain
 returns-clause-plain g c =
-    let i = c.self.inside in
-    let file = i.sections.value.file in
-    let s = i.supplement_units.items in
-    let new = c.check_calls.new.self in
-    let here = file_context_with file i.units s in
-    let check = check_calls_of (known_units here) in
-    let P : KnownUnits → Type 0 = λ k.
-    WalksOrNoMemory (check_calls_of k) c.check_calls.result (map value_of_unit i.units) (map value_of_unit new) in
-    let Q : List UnitFacts → Type 0 = λ l. P (known_among i.units l) in
-    let walk = subst P (sym (known_in file i.units s)) (subst Q c.as_slice.ensures.value c.check_calls.ensures.walk) in
-    same_plain_walked file i.units s c.self.invariant.are_of_file parse_calls check (says_calls here) new
-    c.check_calls.result walk c.args.self.now c.self.view_is
+    same_plain_calls _ _ _ c.self.invariant.are_of_file _ c.as_slice.ensures.value c.check_calls.new.self _
+    c.check_calls.ensures.walk c.args.self.now.value (value_is _ _ _ _ c.self.view_is)
+
+pub returns-clause-cost : goal.returns-clause-cost
+returns-clause-cost g c = looks_since _ _ _ _ c.self.view_is 0 c.check_calls.new.self c.check_calls.ensures.cost

@@ -1,9 +1,12 @@
-use Rattle.addr2line_context.proofs.ContextParts.{same_context}
+use Rattle.std.proofs.Common.{refl}
+use Rattle.addr2line_context.proofs.ContextParts.{after_lookup}
 use Rattle.addr2line_context.proofs.KeptUnits.{holds_same}
 use Rattle.addr2line_context.proofs.context.Context.parse_lines.Goals as goal
 
-pub returns-clause-value : goal.returns-clause-value
-returns-clause-value g c = same_context _ _ _ _ _ c.check_lines.ensures.values c.self.view_is
+pub returns-clause-after : goal.returns-clause-after
+returns-clause-after g c =
+    after_lookup _ _ _ _ c.self.view_is 0 0 c.check_lines.new.self refl c.check_lines.ensures.values
+    c.check_lines.ensures.cost
 
 pub invariant_of-self : goal.invariant_of-self
 invariant_of-self g c =

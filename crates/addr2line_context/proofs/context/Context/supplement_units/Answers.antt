@@ -1,6 +1,7 @@
 use Rattle.std.proofs.Common.{◌∙◌, ap}
-use Rattle.addr2line_context.specs.AnsweredContexts.{AnsweredContext}
+use Rattle.addr2line_context.specs.KeptContexts.{ResolvedContext}
 use Rattle.addr2line_context.proofs.context.Context.supplement_units.Goals as goal
 
 pub returns : goal.returns
-returns g c = c.as_slice.ensures.value ∙ ap (λ (x : AnsweredContext). x.plain.context.supplement_units) c.self.view_is
+returns g c =
+    c.as_slice.ensures.value ∙ ap (λ (x : ResolvedContext). x.value.plain.context.supplement_units) c.self.view_is

@@ -1,9 +1,9 @@
-use Rattle.std.proofs.Common.{◌≡◌, refl, inl, subst, option_map, arith}
+use Rattle.std.proofs.Common.{refl, subst, option_map, arith}
 use Rattle.addr2line_lookups.specs.BorrowedFrames.{frames_left}
 use Rattle.addr2line_context.specs.AnsweredContexts.{AnsweredContext}
 use Rattle.addr2line_context.specs.Suspended.{FollowsLookup}
-use Rattle.addr2line_context.specs.SettledLookups.{frames_in, after_answer}
-use Rattle.addr2line_context.proofs.ResumedLookups.{left_after, waits_after, place_after, if_load_same}
+use Rattle.addr2line_context.specs.SettledLookups.{frames_in}
+use Rattle.addr2line_context.proofs.ResumedLookups.{after_again, after_error, waits_again, has_loads, fewer_left}
 use Rattle.addr2line_context.proofs.find_frames.FindFramesLookupContinuation.resume.Goals as goal
 
 pub returns-in-Ok : goal.returns-in-Ok
@@ -13,29 +13,33 @@ returns-in-Ok g c =
     let mid = c.answer_first.new.self in
     let a = c.args.self.probe in
     let result = c.find_frames.result in
-    let same : mid ≡ after_answer old a file = c.in-Ok.ensures.ok in (
-      (refl, λ w. if_load_same result w, inl same),
+    let ok = c.in-Ok.ensures.ok in
+    let free = c.in-Ok.ensures.cost in
+    let waits = c.find_frames.ensures.waits in (
+      (
+        refl,
+        c.find_frames.follows.holds,
+        after_again old mid a file ok free _ c.find_frames.follows.holds-at-none,
+      ),
       record {
-        fewer =
-            left_after (λ w. w.context.now) (λ w. w.probe) mid a _ c.in-Ok.ensures.fewer result
-            c.find_frames.ensures.waits;
-        waits = waits_after (λ w. w.context.now) (λ w. w.probe) mid a result c.find_frames.ensures.waits;
+        fewer = fewer_left old mid a (λ w. w.context.now) (λ w. w.probe) c.in-Ok.ensures.fewer result waits;
+        waits = has_loads old mid a (λ w. w.context.now) (λ w. w.probe) result waits;
         found =
-            subst (λ (x : AnsweredContext). FollowsLookup frames_left result (frames_in x a)) same
+            subst (λ (x : AnsweredContext). FollowsLookup frames_left result (frames_in x a)) ok
             c.find_frames.ensures.found;
-        place = place_after (λ w. w.context.now) (λ w. w.probe) mid a result c.find_frames.ensures.waits;
+        again = waits_again old mid a file ok free (λ w. w.context.now) (λ w. w.probe) result waits;
         after = tt;
       },
     )
 
 pub returns-in-Err : goal.returns-in-Err
 returns-in-Err g c = (
-  (refl, λ w. tt, c.in-Err.ensures.left),
+  (refl, λ w. tt, after_error _ _ _ _ c.in-Err.ensures.left c.in-Err.ensures.cost),
   record {
     fewer = omega arith;
     waits = tt;
     found = λ m. absurd (m c.in-Err.ensures.refusal);
-    place = tt;
+    again = tt;
     after = tt;
   },
 )

@@ -22,4 +22,5 @@ returns-clause-answer g c =
 
 pub returns-clause-calls : goal.returns-clause-calls
 returns-clause-calls g c =
-    subst (λ (us : List ResolvedUnit). LeavesCalls us c.answer_at.new.units.items) c.self.view_is c.answer_at.ensures.calls
+    subst (λ (us : List ResolvedUnit). LeavesCalls us c.answer_at.new.units.items) c.self.view_is
+    c.answer_at.ensures.calls

@@ -15,8 +15,9 @@ invariant_of-self g c =
 
 pub returns-clause-walk : goal.returns-clause-walk
 returns-clause-walk g c =
-    subst (λ (us : List ResolvedUnit). WalksOrNoMemory check_functions_of c.check_functions.result (map value_of_unit us)
-    (map value_of_unit c.check_functions.new.units.items)) c.self.view_is c.check_functions.ensures.walk
+    subst (λ (us : List ResolvedUnit). WalksOrNoMemory check_functions_of c.check_functions.result
+    (map value_of_unit us) (map value_of_unit c.check_functions.new.units.items)) c.self.view_is
+    c.check_functions.ensures.walk
 
 pub returns-clause-calls : goal.returns-clause-calls
 returns-clause-calls g c =

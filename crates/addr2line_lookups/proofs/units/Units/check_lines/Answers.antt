@@ -13,4 +13,5 @@ invariant_of-self g c =
 
 pub returns-clause-calls : goal.returns-clause-calls
 returns-clause-calls g c =
-    subst (λ (us : List ResolvedUnit). LeavesCalls us c.check_lines.new.units.items) c.self.view_is c.check_lines.ensures.calls
+    subst (λ (us : List ResolvedUnit). LeavesCalls us c.check_lines.new.units.items) c.self.view_is
+    c.check_lines.ensures.calls

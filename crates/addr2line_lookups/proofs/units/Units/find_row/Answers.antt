@@ -1,8 +1,13 @@
-use Rattle.std.proofs.Common.{◌∙◌, List, ap, sym, subst}
+use Rattle.std.proofs.Common.{◌∙◌, List, map, ap, sym, subst}
 use Rattle.addr2line_resolved.specs.ContextUnits.{ordered_ranges}
-use Rattle.addr2line_resolved.specs.ResolvedUnits.{ResolvedUnit}
+use Rattle.addr2line_resolved.specs.ResolvedUnits.{ResolvedUnit, plain_unit}
 use Rattle.addr2line_lookups.specs.KeptCalls.{LeavesCalls}
 use Rattle.addr2line_lookups.proofs.KeptLines.{same_plain}
+use Rattle.addr2line_resolved.specs.UnitRange.{UnitRange}
+use Rattle.addr2line_resolved.specs.NumberedRanges.{covering_ranges}
+use Rattle.addr2line_lookups.specs.KeptUnits.{KeepsRanges, KeepsCovering}
+use Rattle.addr2line_lookups.specs.LookupCosts.{AtMostLooks}
+use Rattle.addr2line_lookups.proofs.LookupProbes.{row_probes_among}
 use Rattle.addr2line_lookups.proofs.units.Units.find_row.Goals as goal
 
 pub invariant_of-self : goal.invariant_of-self
@@ -13,4 +18,22 @@ invariant_of-self g c =
 
 pub returns-clause-calls : goal.returns-clause-calls
 returns-clause-calls g c =
-    subst (λ (us : List ResolvedUnit). LeavesCalls us c.find_row.new.units.items) c.self.view_is c.find_row.ensures.calls
+    subst (λ (us : List ResolvedUnit). LeavesCalls us c.find_row.new.units.items) c.self.view_is
+    c.find_row.ensures.calls
+
+pub returns-clause-cost : goal.returns-clause-cost
+returns-clause-cost g c =
+    let us = c.self.inside.units.items in
+    let a = c.args.probe in
+    let looks : List ResolvedUnit → List UnitRange → Type 0 =
+    λ us rs. AtMostLooks (row_probes_among us a (covering_ranges a rs)) us c.find_row.new.units.items in
+    subst (λ (us : List ResolvedUnit). looks us (ordered_ranges (map plain_unit us))) c.self.view_is
+    (subst (looks us) c.self.invariant c.find_row.ensures.cost)
+
+pub returns-clause-free : goal.returns-clause-free
+returns-clause-free g c = λ kept.
+    let us = c.self.inside.units.items in
+    let a = c.args.probe in
+    c.find_row.ensures.free
+    (subst (λ (rs : List UnitRange). KeepsRanges us (covering_ranges a rs)) (sym c.self.invariant)
+    (subst (KeepsCovering a) (sym c.self.view_is) kept))

@@ -16,5 +16,6 @@ returns g c =
     (c.as_slice.ensures.value ∙ c.self.view_is)
     (subst (λ (rs : List UnitRange). ReturnsAsOrNoMemory (option_map (λ l. l)) c.first_load.result
     (Ok (first_load (loads_at (map value_of_unit units) (covering_ranges c.args.probe rs)))))
-    (c.self.invariant ∙ ap (λ (us : List ResolvedUnit). ordered_ranges (map plain_unit us)) (sym c.as_slice.ensures.value))
+    (c.self.invariant
+    ∙ ap (λ (us : List ResolvedUnit). ordered_ranges (map plain_unit us)) (sym c.as_slice.ensures.value))
     c.first_load.ensures)

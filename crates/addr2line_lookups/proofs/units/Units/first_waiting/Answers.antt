@@ -11,6 +11,7 @@ returns g c =
     let units = c.as_slice.result.now in
     c.first_waiting.ensures
     ∙ ap (λ (rs : List UnitRange). first_number (loads_at (map value_of_unit units) (covering_ranges c.args.probe rs)))
-    (c.self.invariant ∙ ap (λ (us : List ResolvedUnit). ordered_ranges (map plain_unit us)) (sym c.as_slice.ensures.value))
+    (c.self.invariant
+    ∙ ap (λ (us : List ResolvedUnit). ordered_ranges (map plain_unit us)) (sym c.as_slice.ensures.value))
     ∙ ap (λ (us : List ResolvedUnit). first_number (loads_at (map value_of_unit us)
     (covering_ranges c.args.probe (ordered_ranges (map plain_unit us))))) (c.as_slice.ensures.value ∙ c.self.view_is)

@@ -19,5 +19,6 @@ returns g c =
     (subst (λ (rs : List UnitRange). ReturnsAsOrNoMemory (λ loads. map load_of_item loads.items)
     c.pending_loads.result
     (Ok (one_each (loads_at (map value_of_unit units) (covering_ranges c.args.probe rs)))))
-    (c.self.invariant ∙ ap (λ (us : List ResolvedUnit). ordered_ranges (map plain_unit us)) (sym c.as_slice.ensures.value))
+    (c.self.invariant
+    ∙ ap (λ (us : List ResolvedUnit). ordered_ranges (map plain_unit us)) (sym c.as_slice.ensures.value))
     c.pending_loads.ensures)

@@ -25,4 +25,5 @@ returns-clause-kept g c =
 
 pub returns-clause-calls : goal.returns-clause-calls
 returns-clause-calls g c =
-    subst (λ (us : List ResolvedUnit). LeavesCalls us c.read_between.new.units.items) c.self.view_is c.read_between.ensures.calls
+    subst (λ (us : List ResolvedUnit). LeavesCalls us c.read_between.new.units.items) c.self.view_is
+    c.read_between.ensures.calls

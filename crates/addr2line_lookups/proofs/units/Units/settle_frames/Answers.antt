@@ -6,6 +6,8 @@ use Rattle.addr2line_resolved.specs.ResolvedUnits.{ResolvedUnit, plain_unit, val
 use Rattle.addr2line_lookups.specs.KeptCalls.{known_among, HoldCalls}
 use Rattle.addr2line_lookups.specs.UnitLookups.{frames_among, SettlesFrames}
 use Rattle.addr2line_lookups.proofs.KeptLines.{same_plain}
+use Rattle.addr2line_lookups.specs.LookupCosts.{AtMostLooks}
+use Rattle.addr2line_lookups.proofs.LookupProbes.{frame_probes_among}
 use Rattle.addr2line_lookups.proofs.units.Units.settle_frames.Goals as goal
 
 pub settle_frames-requires-clause-calls : goal.settle_frames-requires-clause-calls
@@ -28,6 +30,8 @@ returns g c =
     let settles : List ResolvedUnit → List UnitRange → Type 0 =
     λ us rs. SettlesFrames new (frames_among (known_among us s) (map value_of_unit us) a (covering_ranges a rs))
     c.settle_frames.result in
+    let looks : List ResolvedUnit → List UnitRange → Type 0 =
+    λ us rs. AtMostLooks (frame_probes_among us s a (covering_ranges a rs)) us new in
     record {
       values = c.settle_frames.ensures.values ∙ ap (map value_of_unit) c.self.view_is;
       calls =
@@ -36,4 +40,7 @@ returns g c =
       found =
           subst (λ (us : List ResolvedUnit). settles us (ordered_ranges (map plain_unit us))) c.self.view_is
           (subst (settles us) c.self.invariant c.settle_frames.ensures.found);
+      cost =
+          subst (λ (us : List ResolvedUnit). looks us (ordered_ranges (map plain_unit us))) c.self.view_is
+          (subst (looks us) c.self.invariant c.settle_frames.ensures.cost);
     }

@@ -6,6 +6,8 @@ use Rattle.addr2line_resolved.specs.ResolvedUnits.{ResolvedUnit, plain_unit, val
 use Rattle.addr2line_lookups.specs.KeptCalls.{known_among, HoldCalls}
 use Rattle.addr2line_lookups.specs.UnitLookups.{unit_among, SettlesUnit}
 use Rattle.addr2line_lookups.proofs.KeptLines.{same_plain}
+use Rattle.addr2line_lookups.specs.LookupCosts.{AtMostLooks}
+use Rattle.addr2line_lookups.proofs.LookupProbes.{frame_probes_among}
 use Rattle.addr2line_lookups.proofs.units.Units.settle_unit.Goals as goal
 
 pub settle_unit-requires-clause-calls : goal.settle_unit-requires-clause-calls
@@ -26,8 +28,11 @@ returns g c =
     let new = c.settle_unit.new.units.items in
     let us = c.self.inside.units.items in
     let settles : List ResolvedUnit → List UnitRange → Type 0 =
-    λ us rs. SettlesUnit (map value_of_unit us) (unit_among (known_among us s) (map value_of_unit us) a (covering_ranges a rs))
+    λ us rs. SettlesUnit (map value_of_unit us)
+    (unit_among (known_among us s) (map value_of_unit us) a (covering_ranges a rs))
     c.settle_unit.result in
+    let looks : List ResolvedUnit → List UnitRange → Type 0 =
+    λ us rs. AtMostLooks (frame_probes_among us s a (covering_ranges a rs)) us new in
     record {
       values = c.settle_unit.ensures.values ∙ ap (map value_of_unit) c.self.view_is;
       calls =
@@ -36,4 +41,7 @@ returns g c =
       found =
           subst (λ (us : List ResolvedUnit). settles us (ordered_ranges (map plain_unit us))) c.self.view_is
           (subst (settles us) c.self.invariant c.settle_unit.ensures.found);
+      cost =
+          subst (λ (us : List ResolvedUnit). looks us (ordered_ranges (map plain_unit us))) c.self.view_is
+          (subst (looks us) c.self.invariant c.settle_unit.ensures.cost);
     }

@@ -7,7 +7,7 @@ use Rattle.addr2line_resolved.proofs.unit.ResUnit.kept_lines.Goals as goal
 
 pub returns : goal.returns
 returns g c =
-    c.result.ensures
+    c.result.ensures.kept
     ∙ kept_is (counted_lines c.self.inside.probes.name (lines_of_unit c.self.inside.main)) c.self.inside.lines
     c.self.invariant.lines_are
     ∙ ap (λ (u : ResolvedUnit). if_kept u.keeps_lines (counted_lines u.probes.name u.value.unit.lines)) c.self.view_is

@@ -1,0 +1,112 @@
+//! Answers addresses from an ELF image's debug information through a `Context`, as text, and prints
+//! to standard error how long each part of that took, for `bench/context.sh`:
+//!
+//! - `IMAGE READER places FILE`: the places of a file's addresses, one a line in hexadecimal;
+//! - `IMAGE READER frames FILE`: their frames, each with the function's name before its place;
+//! - `IMAGE READER all`: the places of all addresses at which a row of the image's lines begins.
+//!
+//! The reader is `slice`, of borrowed bytes, or `bytes`, of shared ones.
+#![tactic(auto)]
+
+mod answers;
+mod fault;
+mod image;
+mod request;
+mod stages;
+
+use crate::fault::Fault;
+use crate::image::Image;
+use crate::request::{ReaderKind, Request, request_of};
+use crate::stages::{answer, context_of, now, report};
+use addr2line_context::{Context, EndianBytes, EndianSlice, Error, RunTimeEndian};
+use std::alloc::Global;
+use std::process::ExitCode;
+use std::rt::{Env, Runtime};
+use std::{env, fs, io};
+
+fn main(rt: HostRuntime) -> ExitCode {
+    match run(&rt) {
+        Ok(()) => ExitCode::from(0),
+        Err(fault) => {
+            let _ = eprintln!(rt; "addr2line_bench: {fault}");
+            ExitCode::from(1)
+        }
+    }
+}
+
+fn run<R: Runtime + AllocGlobal>(rt: &R) -> Result<(), Fault> {
+    let words = words_of(rt)?;
+    match request_of(&words) {
+        Some(request) => obey(rt, &request),
+        None => Err(Fault::Usage),
+    }
+}
+
+fn words_of<R: Env + AllocGlobal>(rt: &R) -> io::Result<Vec<String>> {
+    let words = env::args(rt)?.collect(rt.alloc())?;
+    Ok(words)
+}
+
+// The sections of an image's file.
+fn image_of<R: Runtime + AllocGlobal>(rt: &R, path: &str) -> Result<Image, Fault> {
+    match fs::read(rt, path) {
+        Ok(file) => Image::parse(rt.alloc(), file),
+        Err(_) => Err(Fault::Stream),
+    }
+}
+
+// Loads the image, and answers what is asked of it.
+fn obey<R: Runtime + AllocGlobal>(rt: &R, request: &Request<'_>) -> Result<(), Fault> {
+    let start = now(rt)?;
+    let image = image_of(rt, request.image)?;
+    report(rt, "image", start)?;
+    match request.addresses {
+        Some(file) => match fs::read_to_string(rt, file) {
+            Ok(text) => answer_through(rt, &image, request, Some(&text)),
+            Err(_) => Err(Fault::Stream),
+        },
+        None => answer_through(rt, &image, request, None),
+    }
+}
+
+// Answers through the readers that are asked for.
+fn answer_through<R: Runtime + AllocGlobal>(
+    rt: &R,
+    image: &Image,
+    request: &Request<'_>,
+    text: Option<&str>,
+) -> Result<(), Fault> {
+    let start = now(rt)?;
+    match request.reader {
+        ReaderKind::Borrowed => match borrowed_context(rt.alloc(), image) {
+            Ok(mut context) => answer(rt, start, &mut context, request.question, text),
+            Err(error) => Err(Fault::from(error)),
+        },
+        ReaderKind::Shared => match shared_context(rt.alloc(), image) {
+            Ok(mut context) => answer(rt, start, &mut context, request.question, text),
+            Err(error) => Err(Fault::from(error)),
+        },
+    }
+}
+
+// The image's context, through readers that borrow its bytes.
+fn borrowed_context(
+    alloc: Global,
+    image: &Image,
+) -> Result<Context<EndianSlice<'_, RunTimeEndian>>, Error> {
+    match image.borrowed(alloc) {
+        Ok(dwarf) => context_of(alloc, dwarf),
+        Err(error) => Err(error),
+    }
+}
+
+// The same, through readers that share them.
+fn shared_context(
+    alloc: Global,
+    image: &Image,
+) -> Result<Context<EndianBytes<RunTimeEndian>>, Error> {
+    match image.shared(alloc) {
+        Ok(dwarf) => context_of(alloc, dwarf),
+        Err(error) => Err(error),
+    }
+}

@@ -1,0 +1,156 @@
+//! The parts of a run, each timed.
+
+use crate::answers::Answers;
+use crate::fault::Fault;
+use crate::request::Question;
+use addr2line_context::{
+    AbbreviationsCacheStrategy, Context, Dwarf, Error, LocationRangeIter, Reader,
+};
+use std::alloc::{AllocError, Global};
+use std::io;
+use std::io::Write;
+use std::rt::Runtime;
+use std::time::Instant;
+
+/// The time.
+pub fn now<R: Runtime>(rt: &R) -> Result<Instant, Fault> {
+    match Instant::now(rt) {
+        Ok(now) => Ok(now),
+        Err(_) => Err(Fault::Stream),
+    }
+}
+
+fn print_time<R: Runtime>(rt: &R, part: &str, start: Instant) -> io::Result<()> {
+    let took = start.elapsed(rt)?.as_micros();
+    eprintln!(rt; "{part}: {took} us")
+}
+
+/// Prints to standard error how long a part took.
+pub fn report<R: Runtime>(rt: &R, part: &str, start: Instant) -> Result<(), Fault> {
+    match print_time(rt, part, start) {
+        Ok(()) => Ok(()),
+        Err(_) => Err(Fault::Stream),
+    }
+}
+
+/// Answers the addresses of a text, or where there is none all addresses at which rows begin, in a
+/// context that has been in the making since the start.
+pub fn answer<R: Runtime + AllocGlobal, I: Reader>(
+    rt: &R,
+    start: Instant,
+    context: &mut Context<I>,
+    question: Question,
+    text: Option<&str>,
+) -> Result<(), Fault> {
+    report(rt, "context", start)?;
+    let addresses = timed_addresses(rt, context, text)?;
+    let start = now(rt)?;
+    print_answers(rt, context, question, &addresses)?;
+    report(rt, "answers", start)
+}
+
+fn timed_addresses<R: Runtime + AllocGlobal, I: Reader>(
+    rt: &R,
+    context: &mut Context<I>,
+    text: Option<&str>,
+) -> Result<Vec<u64>, Fault> {
+    let start = now(rt)?;
+    let addresses = addresses_of(rt.alloc(), context, text)?;
+    report(rt, "addresses", start)?;
+    Ok(addresses)
+}
+
+fn addresses_of<R: Reader>(
+    alloc: Global,
+    context: &mut Context<R>,
+    text: Option<&str>,
+) -> Result<Vec<u64>, Fault> {
+    match text {
+        Some(text) => addresses_in(alloc, text),
+        None => addresses_of_rows(alloc, context),
+    }
+}
+
+// With tables of abbreviations that units share kept.
+fn with_tables<R: Reader>(alloc: Global, mut dwarf: Dwarf<R>) -> Result<Dwarf<R>, Error> {
+    dwarf.populate_abbreviations_cache(alloc, AbbreviationsCacheStrategy::Duplicates)?;
+    Ok(dwarf)
+}
+
+/// The context of a file's sections.
+pub fn context_of<R: Reader>(alloc: Global, dwarf: Dwarf<R>) -> Result<Context<R>, Error> {
+    match with_tables(alloc, dwarf) {
+        Ok(dwarf) => Context::from_dwarf(alloc, dwarf),
+        Err(error) => Err(error),
+    }
+}
+
+// The addresses of a text, one a line, with or without `0x`. Other lines are skipped.
+fn addresses_in(alloc: Global, text: &str) -> Result<Vec<u64>, Fault> {
+    let mut addresses = Vec::new(alloc);
+    for line in text.lines() {
+        let digits = line.strip_prefix("0x").unwrap_or(line);
+        if let Ok(address) = u64::from_str_radix(digits, 16) {
+            addresses.push(address)?;
+        }
+    }
+    Ok(addresses)
+}
+
+// The addresses at which rows begin, each once.
+fn addresses_of_rows<R: Reader>(
+    alloc: Global,
+    context: &mut Context<R>,
+) -> Result<Vec<u64>, Fault> {
+    let mut addresses = Vec::new(alloc);
+    match context.find_location_range(0, u64::MAX) {
+        Ok(mut found) => push_addresses(&mut addresses, &mut found)?,
+        Err(error) => return Err(Fault::from(error)),
+    }
+    addresses.sort_unstable();
+    addresses.dedup();
+    Ok(addresses)
+}
+
+fn push_addresses<R: Reader>(
+    addresses: &mut Vec<u64>,
+    found: &mut LocationRangeIter<'_, R>,
+) -> Result<(), Fault> {
+    for _ in 0..u64::MAX {
+        match found.next()? {
+            Some((address, _, _)) => addresses.push(address)?,
+            None => break,
+        }
+    }
+    Ok(())
+}
+
+fn print_answers<R: Runtime + AllocGlobal, I: Reader>(
+    rt: &R,
+    context: &mut Context<I>,
+    question: Question,
+    addresses: &[u64],
+) -> Result<(), Fault> {
+    match Answers::new(rt.alloc(), io::writer(rt)) {
+        Ok(mut answers) => {
+            add_answers(&mut answers, context, question, addresses)?;
+            answers.write()
+        }
+        Err(_) => Err(Fault::from(AllocError)),
+    }
+}
+
+fn add_answers<W: Write + Drop, I: Reader>(
+    answers: &mut Answers<W>,
+    context: &mut Context<I>,
+    question: Question,
+    addresses: &[u64],
+) -> Result<(), Fault> {
+    for address in addresses {
+        match question {
+            Question::Place => answers.add_place(context, *address)?,
+            Question::Frames => answers.add_frames(context, *address)?,
+        }
+    }
+    Ok(())
+}

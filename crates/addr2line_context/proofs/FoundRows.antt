@@ -1,0 +1,42 @@
+-- What a lookup of a place leaves of a context.
+use Rattle.std.proofs.Common.{◌≡◌, ◌≢◌, ℕ, List, map, Result, Err, sym, ap, subst}
+use Rattle.addr2line_lookups.specs.Error.{Error}
+use Rattle.addr2line_lookups.specs.Error.TheVariants.{Memory}
+use Rattle.addr2line_lookups.specs.DwarfFiles.{DwarfFile}
+use Rattle.addr2line_lookups.specs.UnitFacts.{UnitFacts}
+use Rattle.addr2line_lookups.specs.NumberedRanges.{covering_ranges}
+use Rattle.addr2line_lookups.specs.ContextUnits.{ordered_ranges}
+use Rattle.addr2line_lookups.specs.ResolvedUnits.{ResolvedUnit, value_of_unit, plain_unit}
+use Rattle.addr2line_lookups.specs.AnsweredUnits.{AreOfFile}
+use Rattle.addr2line_lookups.specs.KeptUnits.{KeepsRanges}
+use Rattle.addr2line_lookups.specs.LookupCosts.{AtMostLooks, probes_among, row_probes_at}
+use Rattle.addr2line_context.specs.KeptContexts.{ResolvedContext}
+use Rattle.addr2line_context.specs.ContextCosts.{ranges_over, location_looks, KeepsLinesOver, AfterLookup}
+use Rattle.addr2line_context.proofs.ContextParts.{resolved_with, value_is, after_lookup}
+use Rattle.addr2line_context.proofs.ContextLooks.{location_looks_here, keeps_here}
+
+module _ (file : DwarfFile) (us : List ResolvedUnit) (s : List UnitFacts)
+    (of_file : AreOfFile file (map value_of_unit us)) (a : ℕ) (c : ResolvedContext)
+    (is : resolved_with file us s ≡ c) where
+  abbrev looks : ℕ
+  looks =
+      probes_among (row_probes_at (map value_of_unit us) a) (covering_ranges a (ordered_ranges (map plain_unit us)))
+
+  pub after_row : (new : List ResolvedUnit) → map value_of_unit new ≡ map value_of_unit us → AtMostLooks looks us new
+      → AfterLookup (location_looks c.value a) c (resolved_with file new s)
+  after_row new =
+      after_lookup file us s c is looks (location_looks c.value a) new
+      (location_looks_here file us s of_file a c.value (value_is file us s c is))
+
+  -- the lines of the units over the address are kept
+  pub keeps_row : KeepsLinesOver c a → KeepsRanges us (covering_ranges a (ordered_ranges (map plain_unit us)))
+  keeps_row h =
+      keeps_here file us s of_file a c.value (value_is file us s c is)
+      (subst (λ (x : ResolvedContext). KeepsRanges x.units (ranges_over c.value a)) (sym is) h)
+
+-- a row that isn't refused when out of memory, nor is its place
+abbrev refusal : (A : Type 0) → Error → Result A Error
+refusal A e = Err e
+
+pub same_refusal : {A B : Type 0} (e : Error) → refusal A e ≢ refusal A Memory → refusal B e ≢ refusal B Memory
+same_refusal {A} e other is = let same : e ≡ Memory = cc in other (ap (refusal A) same)

@@ -1,0 +1,55 @@
+-- The load for which the frames of an address wait.
+use Rattle.std.proofs.Common.{◌≡◌, ℕ, zero, suc, ◌+◌, ◌<◌, ◌≤◌, List, [], ◌∷◌, length, Bool, Result, Ok, Err, OnOk, arith, sym, subst}
+use Rattle.addr2line_lookups.specs.Error.{Error}
+use Rattle.addr2line_lookups.specs.FirstAnswers.{FirstAnswer, PendingLoad, Lookup, output, pending}
+use Rattle.addr2line_lookups.specs.Lookups.{decision_of, frames_under, is_answer}
+use Rattle.addr2line_lookups.specs.Pairs.{Pair, covering_pairs}
+use Rattle.addr2line_lookups.specs.ContextNames.{naming_in}
+use Rattle.addr2line_lookups.specs.Contexts.{ContextUnit, ranges_of}
+use Rattle.addr2line_lookups.specs.Frames.{Frame}
+use Rattle.addr2line_lookups.specs.ResolvedUnits.{ResolvedUnit}
+use Rattle.addr2line_lookups.specs.UnitLookups.{IsPending, SettlesFrames}
+use Rattle.addr2line_lookups.specs.declared.frame_place.FramePlace.{FramePlace}
+use Rattle.addr2line_lookups.specs.declared.settled.Settled.{Settled}
+use Rattle.addr2line_lookups.specs.declared.settled.Settled.TheVariants.{Waits, Nothing, Found}
+use Rattle.addr2line_lookups.proofs.PendingLoads.{waits_for_first, first_of_each}
+use Rattle.addr2line_context.specs.AnsweredContexts.{AnsweredContext}
+use Rattle.addr2line_context.specs.FrameLoads.{IsDone, TellsWaiting, TellsIfWaiting}
+use Rattle.addr2line_context.specs.SettledLookups.{frames_in, loads_in}
+use Rattle.addr2line_context.proofs.AnsweredFirst.{frames_have_load}
+
+-- it is the first of the address's
+pub first_load_of_frames : (c : AnsweredContext) (a : ℕ) (p : PendingLoad) → frames_in c a ≡ pending p
+    → (rest : List PendingLoad) × (loads_in c a ≡ p ∷ rest)
+first_load_of_frames c a p h =
+    first_of_each _ p
+    (waits_for_first (λ (q : Pair ContextUnit). decision_of c.plain c.answers q.number q.unit) is_answer (Ok [])
+    (λ q. frames_under c.plain (naming_in c.plain) a q.unit) (λ q (first : FirstAnswer). first) p
+    (covering_pairs ranges_of c.plain.context.units a) h)
+
+-- there are fewer loads where there are fewer if any are left
+pub fewer_loads_of_frames : (c new : AnsweredContext) (a : ℕ) (r : Result (Unit {0}) Error) → IsPending (frames_in c a)
+    → OnOk r (0 < length (loads_in new a) → length (loads_in new a) + 1 ≤ length (loads_in c a))
+    → OnOk r (length (loads_in new a) < length (loads_in c a))
+fewer_loads_of_frames c new a (Ok done) waits fewer =
+    by (length (loads_in new a)) fewer (frames_have_load c a waits)
+  where
+    by : (n : ℕ) → (0 < n → n + 1 ≤ length (loads_in c a)) → 0 < length (loads_in c a) → n < length (loads_in c a)
+    by zero h some = some
+    by (suc n) h some = let next = h (omega arith) in omega (arith, next)
+fewer_loads_of_frames c new a (Err e) waits fewer = tt
+
+-- what settling found tells whether they wait
+pub frames_tell : (us : List ResolvedUnit) (m : Lookup (Result (List Frame) Error))
+    (settled : Result (Settled FramePlace) Error) (r : Result Bool Error) → SettlesFrames us m settled
+    → TellsIfWaiting settled r → TellsWaiting m r
+frames_tell us m (Ok Waits) r h is = subst (TellsWaiting m) (sym is) h
+frames_tell us m (Ok Nothing) r h is = subst (TellsWaiting m) (sym is) (Ok [], h)
+frames_tell us m (Ok (Found p)) r h is = subst (TellsWaiting m) (sym is) (h.answer, h.is_found)
+frames_tell us m (Err e) (Ok w) h is = subst (λ b. TellsWaiting m (Ok b)) (sym is.0) (Err e, h is.1)
+frames_tell us m (Err e) (Err d) h is = is.1
+
+-- what is found waits for no load
+pub waits_not : {A : Type 0} (m : Lookup A) → IsDone m → IsPending m → ⊥
+waits_not (output x) is waits = cc
+waits_not (pending p) is waits = cc

@@ -1,0 +1,61 @@
+-- How many looks at what is kept lookups of a context take, and what they leave of it.
+use Rattle.std.specs.Prelude.{◌≡◌, ℕ, List, [], ◌∷◌, map, Option, None}
+use Rattle.addr2line_lookups.specs.DwarfFiles.{DwarfFile}
+use Rattle.addr2line_lookups.specs.FirstAnswers.{FirstAnswer, FirstAnswers}
+use Rattle.addr2line_lookups.specs.Pairs.{covering_pairs}
+use Rattle.addr2line_lookups.specs.ContextNames.{known_units}
+use Rattle.addr2line_lookups.specs.Contexts.{ContextUnit, ranges_of}
+use Rattle.addr2line_lookups.specs.UnitRange.{UnitRange}
+use Rattle.addr2line_lookups.specs.NumberedRanges.{numbered_range}
+use Rattle.addr2line_lookups.specs.ResolvedUnits.{AnsweredUnit, ResolvedUnit, runs_if_kept}
+use Rattle.addr2line_lookups.specs.KeptUnits.{KeepsRanges}
+use Rattle.addr2line_lookups.specs.LookupCosts.{AtMostLooks, probes_among, row_probes_at, frame_probes_at}
+use Rattle.addr2line_context.specs.AnsweredContexts.{AnsweredContext}
+use Rattle.addr2line_context.specs.KeptContexts.{ResolvedContext}
+
+-- ---- runs
+
+-- how often the line number program of a unit was run
+abbrev pub runs_of_unit : ResolvedUnit → ℕ
+runs_of_unit u = runs_if_kept u.keeps_lines
+
+-- ---- looks
+
+abbrev pub answered_unit : DwarfFile → ContextUnit → Option FirstAnswer → AnsweredUnit
+answered_unit file u first = record { file = file; unit = u; first = first }
+
+-- units of a file with the first answers to their loads, by their numbers
+abbrev pub units_with_answers : DwarfFile → List ContextUnit → FirstAnswers → List AnsweredUnit
+units_with_answers file [] answers = []
+units_with_answers file (u ∷ us) [] = answered_unit file u None ∷ units_with_answers file us []
+units_with_answers file (u ∷ us) (first ∷ answers) =
+    answered_unit file u first ∷ units_with_answers file us answers
+
+-- those of a context
+abbrev pub answered_units : AnsweredContext → List AnsweredUnit
+answered_units c = units_with_answers c.plain.file c.plain.context.units c.answers
+
+-- the ranges that cover an address, in the order in which lookups ask their units
+abbrev pub ranges_over : AnsweredContext → ℕ → List UnitRange
+ranges_over c a = map numbered_range (covering_pairs ranges_of c.plain.context.units a)
+
+-- the looks for the place of an address: for each such range, two searches among its unit's lines
+abbrev pub location_looks : AnsweredContext → ℕ → ℕ
+location_looks c a = probes_among (row_probes_at (answered_units c) a) (ranges_over c a)
+
+-- those for its frames, or for its unit: among the functions and the calls of one, too
+abbrev pub frame_looks : AnsweredContext → ℕ → ℕ
+frame_looks c a =
+    probes_among (frame_probes_at (known_units c.plain) (answered_units c) a) (ranges_over c a)
+
+-- ---- what a lookup leaves
+
+-- the lines of each unit with a range over an address are kept
+abbrev pub KeepsLinesOver : ResolvedContext → ℕ → Type 0
+KeepsLinesOver c a = KeepsRanges c.units (ranges_over c.value a)
+
+-- The context's value is what it was. There were no more than n looks at what is kept, and lines
+-- that were kept are kept still, so that no line number program is run again.
+pub record AfterLookup (n : ℕ) (old new : ResolvedContext) : Type 0 where
+  pub value : new.value ≡ old.value
+  pub cost : AtMostLooks n old.units new.units

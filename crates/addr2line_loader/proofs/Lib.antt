@@ -1,0 +1,4 @@
+mod AnsweredLoads
+mod FoundFrames
+mod SupplementSections
+mod FileReadLemmas

@@ -1,0 +1,59 @@
+use Rattle.std.proofs.Common.{◌∙◌, ap, subst, sym, Ok}
+use Rattle.std.proofs.lemmas.Result.{err_from_is_err_and}
+use Rattle.addr2line_context.specs.AnsweredContexts.{AnsweredContext}
+use Rattle.addr2line_context.specs.FirstAnswers.{FirstAnswers}
+use Rattle.addr2line_context.specs.UnitLookups.{IsPending}
+use Rattle.addr2line_context.specs.FrameLoads.{TellsWaiting}
+use Rattle.addr2line_context.specs.SettledLookups.{frames_in}
+use Rattle.addr2line_loader.specs.SourceAnswers.{LoadState}
+use Rattle.addr2line_loader.proofs.AnsweredLoads.{answers_more, stops_at, stops_before, all_answered}
+use Rattle.addr2line_loader.proofs.answers.answer_loads.Goals as goal
+
+pub returns-in_err-frames_wait-clause-loads : goal.returns-in_err-frames_wait-clause-loads
+returns-in_err-frames_wait-clause-loads g c =
+    let p = err_from_is_err_and c.from_residual.result c.from_residual.ensures.1 in
+    let asked : FirstAnswers → LoadState g.row.S.Denot = λ x. record { answers = x; source = c.loop-context.source } in
+    rw (p.1, p.2) (stops_before g.S.SplitSource.answers c.args.probe c.args.context.now.value.plain
+    (record { answers = c.args.context.now.value.answers; source = c.args.source.now }) _ _
+    (ap asked (ap (λ (x : AnsweredContext). x.answers) c.frames_wait.ensures.after.value)) c.loop-context.invariant.1 _
+    c.in_err-frames_wait.ensures.waits)
+
+pub loop-context-preserved : goal.loop-context-preserved
+loop-context-preserved g c =
+    let asked : FirstAnswers → LoadState g.row.S.Denot = λ x. record { answers = x; source = c.loop-context.source } in
+    let same = ap (λ (x : AnsweredContext). x.plain) c.frames_wait.ensures.after.value ∙ c.loop-context.invariant.0 in (
+      c.answer_next.ensures.plain ∙ same,
+      answers_more g.S.SplitSource.answers c.args.probe c.args.context.now.value.plain
+          (record { answers = c.args.context.now.value.answers; source = c.args.source.now })
+          c.frames_wait.new.context.value.plain same _ _
+          (ap asked (ap (λ (x : AnsweredContext). x.answers) c.frames_wait.ensures.after.value)) c.loop-context.invariant.1 _
+          c.in_ok-answer_next.ensures.loads,
+    )
+
+pub returns-in_err-answer_next-clause-loads : goal.returns-in_err-answer_next-clause-loads
+returns-in_err-answer_next-clause-loads g c =
+    let p =
+    err_from_is_err_and c.from_residual-in_err-answer_next.result c.from_residual-in_err-answer_next.ensures.1 in
+    let asked : FirstAnswers → LoadState g.row.S.Denot = λ x. record { answers = x; source = c.loop-context.source } in
+    rw (p.1, p.2) (stops_at g.S.SplitSource.answers c.args.probe c.args.context.now.value.plain
+    (record { answers = c.args.context.now.value.answers; source = c.args.source.now })
+    c.frames_wait.new.context.value.plain
+    (ap (λ (x : AnsweredContext). x.plain) c.frames_wait.ensures.after.value ∙ c.loop-context.invariant.0) _ _
+    (ap asked (ap (λ (x : AnsweredContext). x.answers) c.frames_wait.ensures.after.value)) c.loop-context.invariant.1 _ _
+    c.in_err-answer_next.ensures.loads)
+
+pub returns-clause-loads : goal.returns-clause-loads
+returns-clause-loads g c =
+    let asked : FirstAnswers → LoadState g.row.S.Denot = λ x. record { answers = x; source = c.loop-context.source } in
+    all_answered g.S.SplitSource.answers c.args.probe c.args.context.now.value.plain
+    (record { answers = c.args.context.now.value.answers; source = c.args.source.now }) _ _
+    (ap asked (ap (λ (x : AnsweredContext). x.answers) c.frames_wait.ensures.after.value)) c.loop-context.invariant.1
+    c.loop-context.context.value.plain c.loop-context.invariant.0
+    (subst (λ b. TellsWaiting (frames_in c.loop-context.context.value c.args.probe) (Ok b)) c.if-branch.false
+    c.in_ok-frames_wait.ensures.waits)
+
+pub answer_next-requires : goal.answer_next-requires
+answer_next-requires g c =
+    subst (λ (x : AnsweredContext). IsPending (frames_in x c.args.probe)) (sym c.frames_wait.ensures.after.value)
+    (subst (λ b. TellsWaiting (frames_in c.loop-context.context.value c.args.probe) (Ok b)) c.if-branch.true
+    c.in_ok-frames_wait.ensures.waits)

@@ -1,0 +1,15 @@
+-- Some loads are answered, in order; and there are fewer loads left.
+use Rattle.std.proofs.Common.{◌≡◌, length}
+use Rattle.addr2line_context.specs.SettledLookups.{loads_in}
+use Rattle.addr2line_loader.proofs.AnsweredLoads.{AnsweredTo}
+use Rattle.addr2line_loader.proofs.answers.answer_loads.Given as goal
+
+abbrev pub decreases-loop-context : goal.decreases-loop-context
+decreases-loop-context g l = length (loads_in l.context.value l.probe)
+
+abbrev pub invariant-loop-context : goal.invariant-loop-context
+invariant-loop-context g l =
+    (l.context.value.plain ≡ l.fn.context.value.plain)
+    × AnsweredTo g.S.SplitSource.answers l.probe l.fn.context.value.plain
+    (record { answers = l.fn.context.value.answers; source = l.fn.source })
+    (record { answers = l.context.value.answers; source = l.source })

@@ -1,0 +1,3 @@
+pub mod LoadedFiles
+pub mod FileLoads
+pub mod SourceAnswers

@@ -1,0 +1,50 @@
+//! The loads of a lookup, answered by the split files of a source.
+
+ghost use Rattle.std.specs.Prelude.{◌≡◌, ◌<◌, length, OnOk};
+ghost use Rattle.addr2line_context.specs.SettledLookups.{frames_in, loads_in};
+ghost use Rattle.addr2line_context.specs.UnitLookups.{IsPending};
+ghost use Rattle.addr2line_loader.specs.SourceAnswers.{AnswersOneOrNoMemory, AnswersAllOrNoMemory};
+
+use addr2line_context::frame_loads::{answer_first, first_load, frames_wait};
+use addr2line_context::{Context, Error};
+use addr2line_split::{ImageReader, SplitSource, load_split};
+use std::alloc::Global;
+
+/// Answers each load that the frames of an address wait for by the split file that a source has for
+/// it, or by none.
+pub(crate) fn answer_loads<S: SplitSource>(
+    alloc: Global,
+    context: &mut Context<ImageReader>,
+    probe: u64,
+    source: &mut S,
+) -> Result<(), Error>
+    ensures plain { context.new.value.plain ≡ context.old.value.plain }
+    ensures loads { AnswersAllOrNoMemory S.answers context.old.value.plain probe
+        (record { answers = context.old.value.answers; source = source.old }) result
+        (record { answers = context.new.value.answers; source = source.new }) }
+{
+    while frames_wait(context, probe)? {
+        answer_next(alloc, context, probe, source)?;
+    }
+    Ok(())
+}
+
+// Answers the first load that the frames of an address wait for.
+fn answer_next<S: SplitSource>(
+    alloc: Global,
+    context: &mut Context<ImageReader>,
+    probe: u64,
+    source: &mut S,
+) -> Result<(), Error>
+    requires { IsPending (frames_in context.old.value probe) }
+    ensures plain { context.new.value.plain ≡ context.old.value.plain }
+    ensures loads { AnswersOneOrNoMemory S.answers context.old.value.plain probe
+        (record { answers = context.old.value.answers; source = source.old }) result
+        (record { answers = context.new.value.answers; source = source.new }) }
+    ensures fewer { OnOk result
+        (length (loads_in context.new.value probe) < length (loads_in context.old.value probe)) }
+{
+    let load = first_load(context, probe)?;
+    let file = load_split(alloc, &load, source)?;
+    answer_first(context, probe, file)
+}

@@ -1,0 +1,122 @@
+//! A loader, and what it finds without split files.
+
+ghost use Rattle.std.specs.Prelude.{◌≡◌, Ok, option_map};
+ghost use Rattle.addr2line_context.specs.BorrowedLocations.{location_value};
+ghost use Rattle.addr2line_context.specs.Calls.{ReturnsAsOrNoMemory, ReturnsOrNoMemory};
+ghost use Rattle.addr2line_context.specs.Contexts.{location, stretches};
+ghost use Rattle.addr2line_split.specs.ElfImages.{section_range};
+ghost use Rattle.addr2line_split.specs.ElfSymbols.{symbol_at};
+ghost use Rattle.addr2line_split.specs.ImageLoading.{LoadsOrNoMemory};
+ghost use Rattle.addr2line_loader.specs.LoadedFiles.{loaded_file, range_of, symbol_name};
+
+use crate::parts::{Parts, parts_of};
+use addr2line_context::{Context, Error, Location, LocationRangeIter, Range};
+use addr2line_split::{Elf, ImageReader, LoadError, Symbol, Symbols};
+use bytes::Bytes;
+use std::alloc::Global;
+use std::marker::Model;
+
+/// An ELF file whose debugging information answers lookups: its sections, its symbols, and a
+/// context over its sections. Lookups go by the addresses that the file is linked to run at.
+#[derive(Drop)]
+pub struct Loader {
+    pub(crate) elf: Elf,
+    pub(crate) symbols: Symbols,
+    pub(crate) context: Context<ImageReader>,
+}
+
+impl Model for Loader {
+    ghost use Rattle.addr2line_loader.specs.LoadedFiles.{LoadedFile};
+
+    ghost Value = { LoadedFile };
+
+    ghost view = { λ l. record {
+      image = l.elf;
+      symbols = l.symbols;
+      context = l.context.value.plain;
+      answers = l.context.value.answers;
+    } };
+}
+
+impl Loader {
+    ghost use Rattle.std.specs.Borrow.{sem};
+    ghost use Rattle.std.specs.Io.BufRead.{Rests};
+    ghost use Rattle.addr2line_loader.specs.contracts.loader.Loader.{the_row};
+
+    /// Loads the file of some bytes, and its supplement, if there is one. It shares the bytes, and
+    /// takes memory for its sections, its symbols and its units.
+    pub fn from_bytes(
+        alloc: Global,
+        image: Bytes,
+        supplement: Option<Bytes>,
+    ) -> Result<Loader, LoadError>
+        ensures { LoadsOrNoMemory result (loaded_file image supplement) }
+    {
+        let elf = Elf::parse(alloc, image)?;
+        let Parts { symbols, context } = parts_of(alloc, &elf, supplement)?;
+        Ok(Loader {
+            elf,
+            symbols,
+            context,
+        })
+    }
+
+    /// The address that addresses count from: 0, as in all ELF files.
+    pub fn relative_address_base(&self) -> u64
+        ensures { result ≡ 0 }
+    {
+        0
+    }
+
+    /// The place of an address, as `Context::find_location` finds it. The lines of the units that
+    /// it asks are read, unless they are kept, and kept.
+    pub fn find_location(&mut self, probe: u64) -> Result<Option<Location<'_>>, Error>
+        ensures place { ReturnsAsOrNoMemory (option_map location_value) result
+            (location self.old.context.context probe) }
+        ensures* after { sem 𝓛 (Rests the_row self.entry (λ left. left ≡ self.old)) }
+    {
+        self.context.find_location(probe)
+    }
+
+    /// The stretches of addresses between two ends, with their places, as
+    /// `Context::find_location_range` finds them.
+    pub fn find_location_range(
+        &mut self,
+        probe_low: u64,
+        probe_high: u64,
+    ) -> Result<LocationRangeIter<'_, ImageReader>, Error>
+        ensures { ReturnsOrNoMemory result
+            (Ok (stretches self.old.context.context probe_low probe_high)) }
+    {
+        self.context.find_location_range(probe_low, probe_high)
+    }
+
+    /// The name of the symbol that holds an address. It takes no memory.
+    pub fn find_symbol(&self, probe: u64) -> Option<&str>
+        ensures { option_map (λ name. name.now) result
+            ≡ option_map symbol_name (symbol_at probe self.now.symbols) }
+    {
+        let symbol = self.find_symbol_info(probe)?;
+        Some(symbol.name())
+    }
+
+    /// The symbol that holds an address: of several the one of the greatest address, and of these
+    /// the first in the file. It is a bisection, and takes no memory.
+    pub fn find_symbol_info(&self, probe: u64) -> Option<Symbol<'_>>
+        ensures { result ≡ symbol_at probe self.now.symbols }
+    {
+        self.symbols.find(probe)
+    }
+
+    /// The addresses of the first section of a name, if its end is an address of 64 bits. It looks
+    /// at each section before.
+    pub fn get_section_range(&self, section_name: &[u8]) -> Option<Range>
+        ensures { result ≡ option_map range_of (section_range section_name.now self.now.image) }
+    {
+        let range = self.elf.get_section_range(section_name)?;
+        Some(Range {
+            begin: range.start,
+            end: range.end,
+        })
+    }
+}

@@ -1,0 +1,107 @@
+//! What an ELF file is made into, step by step. A step that is refused hands what it was given to
+//! `refusal`, which drops it in one place.
+
+ghost use Rattle.std.specs.Prelude.{◌≡◌, OnOk, IfErr, IfOk, Ok, Err};
+ghost use Rattle.addr2line_context.specs.AnsweredContexts.{HasNoAnswers};
+ghost use Rattle.addr2line_context.specs.Contexts.{file_context};
+ghost use Rattle.addr2line_context.specs.Error.TheVariants.{Memory};
+ghost use Rattle.addr2line_context.specs.Results.{and_then};
+ghost use Rattle.addr2line_split.specs.ImageLoading.{LoadsAsOrNoMemory};
+ghost use Rattle.addr2line_loader.specs.LoadedFiles.{with_supplement_if_any, with_shared_tables, or_load_error, parts_with, parts_of};
+
+use crate::sections::{add_supplement, main_sections};
+use addr2line_context::{AbbreviationsCacheStrategy, Context, Dwarf, Error, Reader};
+use addr2line_split::{Elf, ImageReader, LoadError, Symbols};
+use bytes::Bytes;
+use std::alloc::Global;
+
+/// The symbols of an ELF file, and the context over its sections.
+#[derive(Drop)]
+pub(crate) struct Parts {
+    pub symbols: Symbols,
+    pub context: Context<ImageReader>,
+}
+
+/// The parts of an ELF file, with a supplement if there is one.
+pub(crate) fn parts_of(
+    alloc: Global,
+    elf: &Elf,
+    supplement: Option<Bytes>,
+) -> Result<Parts, LoadError>
+    ensures parts { LoadsAsOrNoMemory
+        (λ p. record { symbols = p.symbols; context = p.context.value.plain }) result
+        (parts_of elf.now supplement) }
+    ensures answers { IfOk result (λ p. HasNoAnswers p.context.value) }
+{
+    match main_sections(alloc, elf) {
+        Ok(main) => parts_with(alloc, elf, main, supplement),
+        Err(error) => refusal(supplement, error),
+    }
+}
+
+// The parts, of which the sections are there.
+fn parts_with(
+    alloc: Global,
+    elf: &Elf,
+    main: Dwarf<ImageReader>,
+    supplement: Option<Bytes>,
+) -> Result<Parts, LoadError>
+    ensures parts { LoadsAsOrNoMemory
+        (λ p. record { symbols = p.symbols; context = p.context.value.plain }) result
+        (parts_with elf.now main.file supplement) }
+    ensures answers { IfOk result (λ p. HasNoAnswers p.context.value) }
+{
+    match elf.symbols(alloc) {
+        Ok(symbols) => match context_with(alloc, main, supplement) {
+            Ok(context) => Ok(Parts { symbols, context }),
+            Err(error) => refusal(symbols, error),
+        },
+        Err(error) => refusal((main, supplement), error),
+    }
+}
+
+// The context over a file's sections, with a supplement if there is one.
+fn context_with(
+    alloc: Global,
+    main: Dwarf<ImageReader>,
+    supplement: Option<Bytes>,
+) -> Result<Context<ImageReader>, LoadError>
+    ensures context { LoadsAsOrNoMemory (λ c. c.value.plain) result
+        (and_then (with_supplement_if_any supplement main.file)
+        (λ file. or_load_error (file_context file))) }
+    ensures answers { IfOk result (λ c. HasNoAnswers c.value) }
+{
+    let mut dwarf = main;
+    match add_supplement(alloc, &mut dwarf, supplement) {
+        Ok(()) => context_over(alloc, dwarf),
+        Err(error) => refusal(dwarf, error),
+    }
+}
+
+// The context over a file's sections.
+fn context_over<R: Reader>(alloc: Global, sections: Dwarf<R>) -> Result<Context<R>, LoadError>
+    ensures context { LoadsAsOrNoMemory (λ c. c.value.plain) result
+        (or_load_error (file_context sections.file)) }
+    ensures answers { IfOk result (λ c. HasNoAnswers c.value) }
+{
+    let mut dwarf = sections;
+    match share_tables(alloc, &mut dwarf) {
+        Ok(()) => Ok(Context::from_dwarf(alloc, dwarf)?),
+        Err(error) => refusal(dwarf, LoadError::from(error)),
+    }
+}
+
+// Reads the abbreviation tables that several of a file's units share, once each, and keeps them.
+fn share_tables<R: Reader>(alloc: Global, dwarf: &mut Dwarf<R>) -> Result<(), Error>
+    ensures tables { OnOk result (dwarf.new ≡ with_shared_tables dwarf.old.file) }
+    ensures memory { IfErr result (λ e. e ≡ Memory) }
+{
+    dwarf.populate_abbreviations_cache(alloc, AbbreviationsCacheStrategy::Duplicates)
+}
+
+// A refusal. What isn't used any more is dropped.
+fn refusal<T: Drop, U>(_unused: T, error: LoadError) -> Result<U, LoadError>
+    ensures { result ≡ Err error }
+{
+    Err(error)
+}
