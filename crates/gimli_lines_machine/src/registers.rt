@@ -1,6 +1,6 @@
 //! The registers, and what the operations of instructions make of them.
 
-ghost use Rattle.std.specs.Prelude.{◌≡◌, ◌+◌, ◌≤◌, IsTrue};
+ghost use Rattle.std.specs.Prelude.{◌≡◌, ◌+◌, ◌≤◌, ◌<◌, ◌/◌, ◌%◌, IsTrue};
 ghost use Rattle.gimli_core_readers.specs.Calls.{Returns};
 ghost use Rattle.gimli_core_readers.specs.NumberParsers.{is_address_size};
 ghost use Rattle.gimli_lines_machine.specs.Machine.{start, line_after, line_advance, operation_advance, address_within, after_operations, after_bytes, at_new_address, after_row, with_line, Becomes, IsSound};
@@ -69,11 +69,12 @@ impl Registers {
             return Ok(());
         }
         let operations = self.op_index.wrapping_add(operations);
-        let maximum = u64::from(rules.line_encoding.maximum_operations_per_instruction);
+        let maximum = rules.line_encoding.maximum_operations_per_instruction;
+        let (instructions, op_index) = whole_instructions(operations, maximum);
         let length = u64::from(rules.line_encoding.minimum_instruction_length);
-        let advance = length.wrapping_mul(operations / maximum);
+        let advance = length.wrapping_mul(instructions);
         self.address = sum_within(self.address, advance, rules.encoding.address_size)?;
-        self.op_index = operations % maximum;
+        self.op_index = op_index;
         Ok(())
     }
 
@@ -141,6 +142,19 @@ impl Registers {
             self.discriminator = 0;
         }
     }
+}
+
+// How many whole instructions some operations fill, and how many operations are left over. Most
+// machines have one operation in each instruction, which needs no division.
+fn whole_instructions(operations: u64, maximum: u8) -> (u64, u64)
+    requires { 0 < maximum }
+    ensures { result ≡ (operations / maximum, operations % maximum) }
+{
+    if maximum == 1 {
+        return (operations, 0);
+    }
+    let maximum = u64::from(maximum);
+    (operations / maximum, operations % maximum)
 }
 
 // A line, moved.

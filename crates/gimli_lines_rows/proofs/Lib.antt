@@ -5,4 +5,5 @@ pub mod NumericSteps
 pub mod LineRowSteps
 pub mod RowPaths
 pub mod ResumedRows
+pub mod StepsAtOnce
 pub mod SequenceLoops

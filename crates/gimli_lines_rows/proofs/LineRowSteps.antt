@@ -1,16 +1,16 @@
 -- What is to come of the rows, by the next instruction.
-use Rattle.std.proofs.Common.{◌≡◌, ℕ, ◌+◌, ◌-◌, ◌<◌, Bool, true, false, cond, List, [], ◌∷◌, ◌++◌, map, length, take, Option, Some, None, Result, Ok, Err, refl, sym, ap, subst, ◌∙◌}
+use Rattle.std.proofs.Common.{◌≡◌, ℕ, ◌<◌, Bool, true, false, cond, List, [], ◌∷◌, ◌++◌, map, Option, Some, None, Result, Ok, Err, refl, sym, ap, subst, ◌∙◌}
 use Rattle.gimli_lines_machine.specs.Error.{Error}
 use Rattle.gimli_lines_machine.specs.View.{View, after, prefix, bytes_left}
 use Rattle.gimli_lines_machine.specs.Repetition.{Listing, no_items, prepend, next_item, answer, last_answer}
-use Rattle.gimli_lines_machine.proofs.StepParts.{read, value_is, state_is}
+use Rattle.gimli_lines_machine.proofs.StepParts.{value_is, state_is}
 use Rattle.gimli_lines_machine.proofs.Listings.{listing_next, item_smaller}
 use Rattle.gimli_lines_header.specs.LineFiles.{FileFacts, file_in}
 use Rattle.gimli_lines_header.specs.LineHeaders.{LineHeader}
 use Rattle.gimli_lines_machine.specs.declared.registers.Registers.{Registers}
 use Rattle.gimli_lines_machine.specs.LineInstructions.{InstructionOf, define_file}
 use Rattle.gimli_lines_machine.specs.Machine.{registers_after, next_registers}
-use Rattle.gimli_lines_machine.specs.Runs.{Execution, run_step, run, is_shown}
+use Rattle.gimli_lines_machine.specs.Runs.{Execution, run_step, run}
 use Rattle.gimli_lines_machine.proofs.CutInstructions.{instructions-shrink}
 use Rattle.gimli_lines_rows.specs.ProgramInstructions.{rules_of, instructions_in, next_instruction, with_rest}
 use Rattle.gimli_lines_rows.specs.ProgramRows.{Row, RemainingRows, header_after, header_with, rows_of_run, with_ending, program_run, row_answers, rows_to_come, last_row, is_shown_by, state_after, step_to, step_of, next_step}

@@ -1,5 +1,5 @@
 -- Rows of a path, given again by a reader of the bytes that the path took, whatever files its header has.
-use Rattle.std.proofs.Common.{◌≡◌, ◌≢◌, ℕ, ◌+◌, ◌-◌, ◌<◌, ◌≤◌, Bool, true, false, cond, eqb, ◌&&◌, List, [], ◌∷◌, ◌++◌, map, length, take, Option, Some, None, Result, Ok, Err, refl, sym, ap, ◌∙◌, arith, length-drop}
+use Rattle.std.proofs.Common.{◌≡◌, ◌≢◌, ℕ, ◌+◌, ◌-◌, ◌<◌, ◌≤◌, Bool, true, false, cond, eqb, ◌&&◌, List, [], ◌∷◌, ◌++◌, map, length, take, Option, Some, None, Result, Ok, refl, sym, ap, ◌∙◌, arith, length-drop}
 use Rattle.std.proofs.lemmas.List.{length-take}
 use Rattle.std.proofs.lemmas.Bool.{ne_eqb}
 use Rattle.gimli_lines_machine.specs.Error.{Error}
@@ -17,7 +17,7 @@ use Rattle.gimli_lines_machine.specs.Decoding.{instruction_with}
 use Rattle.gimli_lines_machine.proofs.CutBytes.{after_after, after_front, after_zero}
 use Rattle.gimli_lines_machine.proofs.CutInstructions.{cut-instruction}
 use Rattle.gimli_lines_rows.specs.ProgramInstructions.{rules_of, instruction_in, next_instruction}
-use Rattle.gimli_lines_rows.specs.ProgramRows.{Row, RemainingRows, header_after, header_with, rows_to_come, last_row, is_shown_by, state_after, next_step, Path, stays, shows, passes}
+use Rattle.gimli_lines_rows.specs.ProgramRows.{Row, RemainingRows, header_after, header_with, rows_to_come, is_shown_by, state_after, next_step, Path, stays, shows, passes}
 use Rattle.gimli_lines_rows.specs.RowSequences.{registers_of, row_under}
 use Rattle.gimli_lines_rows.proofs.LineRowSteps.{StepsTo, step_parts, step_smaller, come_after, come_nothing, row_first}
 

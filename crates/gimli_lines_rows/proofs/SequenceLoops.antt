@@ -6,7 +6,7 @@ use Rattle.std.specs.Option.{option_or}
 use Rattle.std.specs.Result.{IsErrAnd}
 use Rattle.gimli_lines_machine.specs.Error.{Error}
 use Rattle.gimli_lines_machine.specs.Error.TheVariants.{Memory}
-use Rattle.gimli_lines_machine.specs.View.{View, after, prefix, bytes_left}
+use Rattle.gimli_lines_machine.specs.View.{View, prefix, bytes_left}
 use Rattle.gimli_lines_machine.specs.Readers.{Holds}
 use Rattle.gimli_lines_header.specs.LineHeaders.{LineHeader}
 use Rattle.gimli_lines_machine.specs.declared.registers.Registers.{Registers}

@@ -27,4 +27,5 @@ pub mod InstructionViews
 pub mod NumericInstructions
 pub mod ProgramRows
 pub mod Columns
+pub mod NumericSteps
 pub mod RowSequences

@@ -11,6 +11,7 @@ pub mod program;
 pub mod row;
 pub mod rows;
 pub mod sequence;
+mod steps;
 
 pub use gimli_lines_header::{
     AbbreviationsCache, AbbreviationsCacheStrategy, ArangeEntry, ArangeEntryIter, ArangeHeader,

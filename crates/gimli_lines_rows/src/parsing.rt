@@ -76,7 +76,7 @@ fn parse_numeric<R: Reader>(
 
 // The same, after an opcode 0: an extended opcode and its operands, after their length.
 #[tactic(auto, unfolding(gimli_lines_machine::specs::Decoding::extended_instruction, gimli_lines_machine::specs::Decoding::extended_in))]
-fn parse_numeric_extended<R: Reader>(
+pub(crate) fn parse_numeric_extended<R: Reader>(
     input: &mut EndianSlice<'_, R::Endian>,
     rules: LineRules,
 ) -> Result<Option<NumericInstruction>, Error>
@@ -141,7 +141,7 @@ fn numeric_unknown<R: Reader>(
 }
 
 // How many operands the header gives to a standard opcode.
-fn operand_count(counts: &[u8], opcode: u8) -> u8
+pub(crate) fn operand_count(counts: &[u8], opcode: u8) -> u8
     requires { 0 < opcode }
     ensures { result ≡ slice_index counts.now (opcode - 1) }
 {

@@ -1,18 +1,19 @@
 //! The rows of a program, one after the other.
 
-ghost use Rattle.std.specs.Prelude.{◌≡◌, not, if◌then◌else◌, Ok};
+ghost use Rattle.std.specs.Prelude.{◌≡◌, Ok};
 ghost use Rattle.gimli_lines_machine.specs.Calls.{ReturnsOrNoMemory, ReadsOrNoMemory};
 ghost use Rattle.gimli_lines_rows.specs.ProgramRows.{NextRow, ToNextRow, OneStep, LendsRow, rows_to_come, next_step};
 ghost use Rattle.gimli_lines_rows.specs.RowSequences.{rows_under};
-ghost use Rattle.gimli_lines_machine.specs.Machine.{after_row};
+ghost use Rattle.gimli_lines_rows.specs.NumericSteps.{RunsToRow};
 
 use crate::LineInstructions;
 use crate::execution::{execute, rules_of};
-use crate::numeric::execute_numeric;
+use crate::parsing::borrow;
 use crate::program::LineProgram;
 use crate::row::LineRow;
+use crate::steps::{end_row, run_to_row};
 use gimli_lines_header::LineProgramHeader;
-use gimli_lines_machine::{Error, LineRules, Reader, Registers};
+use gimli_lines_machine::{Error, Reader, Registers};
 use std::marker::Model;
 
 /// The rows of a program, from one of them on.
@@ -105,12 +106,17 @@ impl<R: Reader, P: LineProgram<R> + Drop> LineRows<R, P> {
         ensures next { NextRow R.Offset.limit result self.old self.new }
         ensures path { ToNextRow R.Offset.limit result self.old self.new }
     {
-        while let Some(is_shown) = self.step()? {
+        loop {
+            if self.run_to_row() {
+                return Ok(true);
+            }
+            let Some(is_shown) = self.step()? else {
+                return Ok(false);
+            };
             if is_shown {
                 return Ok(true);
             }
         }
-        Ok(false)
     }
 
     /// The next row, with the header that has the files defined so far; none at the end. After a
@@ -137,8 +143,22 @@ impl<R: Reader, P: LineProgram<R> + Drop> LineRows<R, P> {
         }
     }
 
-    // Executes the next instruction, and says whether it shows a row; none at the end of the
-    // program and after a fault. Out of memory, nothing changes.
+    // Executes instructions up to the next row that is shown, and says whether there is one; else up
+    // to the first whose operands aren't numbers or that is refused, or to the end of the program.
+    fn run_to_row(&mut self) -> bool
+        ensures { RunsToRow R.Offset.limit result self.old self.new }
+    {
+        let mut bytes = borrow(self.instructions.reader());
+        let before = bytes.slice().len();
+        let header = self.program.header();
+        let found = run_to_row(&mut bytes, &mut self.registers, &mut self.row, header);
+        let len = before - bytes.slice().len();
+        self.instructions.skip(len);
+        found
+    }
+
+    // Executes the next instruction, whatever its operands are, and says whether it shows a row;
+    // none at the end of the program and after a fault. Out of memory, nothing changes.
     fn step(&mut self) -> Result<Option<bool>, Error>
         ensures { OneStep R.Offset.limit result self.old self.new }
     {
@@ -156,23 +176,6 @@ impl<R: Reader, P: LineProgram<R> + Drop> LineRows<R, P> {
     fn try_step(&mut self) -> Result<Option<bool>, Error>
         ensures { ReadsOrNoMemory result self.old self.new (next_step R.Offset.limit self.old) }
     {
-        let header = self.program.header();
-        let rules = rules_of(header);
-        let Some((instruction, len)) = self.instructions.peek(header) else {
-            return self.step_over_bytes();
-        };
-        let gives_row = execute_numeric(&mut self.registers, rules, instruction)?;
-        self.instructions.skip(len);
-        if !gives_row {
-            return Ok(Some(false));
-        }
-        Ok(Some(end_row(rules, &mut self.registers, &mut self.row)))
-    }
-
-    // The same, whatever the operands of the instruction are.
-    fn step_over_bytes(&mut self) -> Result<Option<bool>, Error>
-        ensures { ReadsOrNoMemory result self.old self.new (next_step R.Offset.limit self.old) }
-    {
         let Some((instruction, rest)) = self.instructions.read_next(self.program.header())? else {
             return Ok(None);
         };
@@ -184,18 +187,4 @@ impl<R: Reader, P: LineProgram<R> + Drop> LineRows<R, P> {
         }
         Ok(Some(end_row(rules, &mut self.registers, &mut self.row)))
     }
-}
-
-// Ends a row, and says whether it's shown: then it is the last row.
-fn end_row(rules: LineRules, registers: &mut Registers, row: &mut LineRow) -> bool
-    ensures shown { result ≡ not registers.old.is_hidden }
-    ensures row { row.new ≡ (if not registers.old.is_hidden then registers.old else row.old) }
-    ensures registers { registers.new ≡ after_row rules registers.old }
-{
-    let is_shown = !registers.is_hidden;
-    if is_shown {
-        *row = LineRow::of(*registers);
-    }
-    registers.clear(rules);
-    is_shown
 }

@@ -1,48 +1,70 @@
 use Rattle.std.proofs.Common.{false, true}
 use Rattle.gimli_lines_rows.specs.ProgramRows.{stays}
-use Rattle.gimli_lines_rows.proofs.LineRowSteps.{step_smaller}
-use Rattle.gimli_lines_rows.proofs.RowPaths.{path_comes, path_shows, path_passes, next_refused, next_none, path_ends, next_step_as, answered_none}
+use Rattle.gimli_lines_rows.proofs.RowPaths.{path_comes, path_shows, path_passes, path_path, next_refused, next_none, path_ends, next_step_as, answered_none}
 use Rattle.gimli_lines_rows.proofs.ResumedRows.{row_cleared}
+use Rattle.gimli_lines_rows.proofs.StepsAtOnce.{run_found, run_none, step_below}
 use Rattle.gimli_lines_rows.proofs.rows.LineRows.advance.Goals as goal
 
-pub loop-is_shown-init : goal.loop-is_shown-init
-loop-is_shown-init g c = stays _
+pub loop-self-init : goal.loop-self-init
+loop-self-init g c = stays _
 
-pub loop-is_shown-preserved : goal.loop-is_shown-preserved
-loop-is_shown-preserved g c =
-    path_passes c.loop-is_shown.invariant
-    (next_step_as g.R.Offset.ReaderOffset.limit _ _ _ _ false c.in_ok-is_shown.ensures c.in-Some.is
-    c.if-is_shown.false)
+pub loop-self-preserved : goal.loop-self-preserved
+loop-self-preserved g c =
+    let limit = g.R.Offset.ReaderOffset.limit in
+    path_passes (path_path c.loop-self.invariant
+    (run_none limit _ _ _ c.if-run_to_row.false c.run_to_row.ensures))
+    (next_step_as limit _ _ _ _ false c.in_ok-is_shown.ensures c.in-Some.is c.if-is_shown.false)
 
-pub loop-is_shown-smaller : goal.loop-is_shown-smaller
-loop-is_shown-smaller g c =
-    step_smaller g.R.Offset.ReaderOffset.limit _ false _
-    (next_step_as g.R.Offset.ReaderOffset.limit _ _ _ _ false c.in_ok-is_shown.ensures c.in-Some.is
-    c.if-is_shown.false)
+pub loop-self-smaller : goal.loop-self-smaller
+loop-self-smaller g c =
+    let limit = g.R.Offset.ReaderOffset.limit in
+    step_below limit _ _ _ false (run_none limit _ _ _ c.if-run_to_row.false c.run_to_row.ensures)
+    (next_step_as limit _ _ _ _ false c.in_ok-is_shown.ensures c.in-Some.is c.if-is_shown.false)
+
+pub returns-then-run_to_row-clause-next : goal.returns-then-run_to_row-clause-next
+returns-then-run_to_row-clause-next g c =
+    let limit = g.R.Offset.ReaderOffset.limit in
+    path_comes (path_path c.loop-self.invariant
+    (run_found limit _ _ _ c.if-run_to_row.true c.run_to_row.ensures).0)
+
+pub returns-then-run_to_row-clause-path : goal.returns-then-run_to_row-clause-path
+returns-then-run_to_row-clause-path g c =
+    let found = run_found g.R.Offset.ReaderOffset.limit _ _ _ c.if-run_to_row.true c.run_to_row.ensures in
+    (path_path c.loop-self.invariant found.0, found.1)
 
 pub returns-then-is_shown-clause-next : goal.returns-then-is_shown-clause-next
 returns-then-is_shown-clause-next g c =
-    path_comes (path_shows c.loop-is_shown.invariant
-    (next_step_as g.R.Offset.ReaderOffset.limit _ _ _ _ true c.in_ok-is_shown.ensures c.in-Some.is
-    c.if-is_shown.true))
+    let limit = g.R.Offset.ReaderOffset.limit in
+    path_comes (path_shows (path_path c.loop-self.invariant
+    (run_none limit _ _ _ c.if-run_to_row.false c.run_to_row.ensures))
+    (next_step_as limit _ _ _ _ true c.in_ok-is_shown.ensures c.in-Some.is c.if-is_shown.true))
 
 pub returns-then-is_shown-clause-path : goal.returns-then-is_shown-clause-path
 returns-then-is_shown-clause-path g c =
-    let e = next_step_as g.R.Offset.ReaderOffset.limit _ _ _ _ true c.in_ok-is_shown.ensures c.in-Some.is
-    c.if-is_shown.true in
-    (path_shows c.loop-is_shown.invariant e, row_cleared g.R.Offset.ReaderOffset.limit _ _ e)
+    let limit = g.R.Offset.ReaderOffset.limit in
+    let e = next_step_as limit _ _ _ _ true c.in_ok-is_shown.ensures c.in-Some.is c.if-is_shown.true in (
+      path_shows (path_path c.loop-self.invariant
+          (run_none limit _ _ _ c.if-run_to_row.false c.run_to_row.ensures)) e,
+      row_cleared limit _ _ e,
+    )
 
-pub returns-clause-path : goal.returns-clause-path
-returns-clause-path g c =
-    path_ends g.R.Offset.ReaderOffset.limit _ _ _ c.loop-is_shown.invariant
-    (answered_none g.R.Offset.ReaderOffset.limit _ _ _ c.in_ok-is_shown.ensures c.in_default.is)
+pub returns-in_default-clause-next : goal.returns-in_default-clause-next
+returns-in_default-clause-next g c =
+    let limit = g.R.Offset.ReaderOffset.limit in
+    next_none limit _ _ _ (path_path c.loop-self.invariant
+    (run_none limit _ _ _ c.if-run_to_row.false c.run_to_row.ensures))
+    (answered_none limit _ _ _ c.in_ok-is_shown.ensures c.in_default.is)
+
+pub returns-in_default-clause-path : goal.returns-in_default-clause-path
+returns-in_default-clause-path g c =
+    let limit = g.R.Offset.ReaderOffset.limit in
+    path_ends limit _ _ _ (path_path c.loop-self.invariant
+    (run_none limit _ _ _ c.if-run_to_row.false c.run_to_row.ensures))
+    (answered_none limit _ _ _ c.in_ok-is_shown.ensures c.in_default.is)
 
 pub returns-in_err-is_shown-clause-next : goal.returns-in_err-is_shown-clause-next
 returns-in_err-is_shown-clause-next g c =
-    next_refused g.R.Offset.ReaderOffset.limit c.from_residual.result _ _ _ _ c.from_residual.ensures.1
-    c.loop-is_shown.invariant c.in_err-is_shown.ensures
-
-pub returns-clause-next : goal.returns-clause-next
-returns-clause-next g c =
-    next_none g.R.Offset.ReaderOffset.limit _ _ _ c.loop-is_shown.invariant
-    (answered_none g.R.Offset.ReaderOffset.limit _ _ _ c.in_ok-is_shown.ensures c.in_default.is)
+    let limit = g.R.Offset.ReaderOffset.limit in
+    next_refused limit c.from_residual.result _ _ _ _ c.from_residual.ensures.1
+    (path_path c.loop-self.invariant (run_none limit _ _ _ c.if-run_to_row.false c.run_to_row.ensures))
+    c.in_err-is_shown.ensures

@@ -4,8 +4,8 @@ use Rattle.gimli_lines_rows.specs.ProgramRows.{Path}
 use Rattle.gimli_lines_rows.proofs.rows.LineRows.advance.Given as goal
 
 -- no row was shown on the way so far
-abbrev pub invariant-loop-is_shown : goal.invariant-loop-is_shown
-invariant-loop-is_shown g l = Path g.R.Offset.ReaderOffset.limit l.fn.self [] l.self
+abbrev pub invariant-loop-self : goal.invariant-loop-self
+invariant-loop-self g l = Path g.R.Offset.ReaderOffset.limit l.fn.self [] l.self
 
-abbrev pub decreases-loop-is_shown : goal.decreases-loop-is_shown
-decreases-loop-is_shown g l = bytes_left l.self.rest
+abbrev pub decreases-loop-self : goal.decreases-loop-self
+decreases-loop-self g l = bytes_left l.self.rest
