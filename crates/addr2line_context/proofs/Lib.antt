@@ -13,3 +13,4 @@ pub mod LookupResults
 pub mod ResumedLookups
 pub mod UnitRuns
 pub mod FrameLoads
+pub mod UnitLoads

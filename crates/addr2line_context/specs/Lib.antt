@@ -34,6 +34,9 @@ pub use Rattle.addr2line_lookups.specs.PlaceLookups
 pub use Rattle.addr2line_lookups.specs.UnitLines
 pub use Rattle.addr2line_lookups.specs.UnitRanges
 pub use Rattle.addr2line_lookups.specs.Results
+pub use Rattle.addr2line_lookups.specs.Repetition
+pub use Rattle.addr2line_lookups.specs.View
+pub use Rattle.addr2line_lookups.specs.DwarfFileType
 pub use Rattle.addr2line_lookups.specs.Error
 pub use Rattle.addr2line_lookups.specs.RunTimeEndian
 pub use Rattle.addr2line_lookups.specs.SectionLoading

@@ -312,7 +312,7 @@ impl<R: Reader> Context<R> {
     }
 
     // The number of the unit of an address, unless a load needs an answer before.
-    fn settle_unit(&mut self, probe: u64) -> Result<Settled<usize>, Error>
+    pub(crate) fn settle_unit(&mut self, probe: u64) -> Result<Settled<usize>, Error>
         ensures found { SettlesUnit (map value_of_unit self.new.units)
             (unit_in self.old.value probe) result }
         ensures after { AfterLookup (frame_looks self.old.value probe) self.old self.new }

@@ -19,7 +19,7 @@ use addr2line_lookups::{
 use std::rc::Rc;
 
 // Whether settling found that a load needs an answer. The only error is out of memory.
-fn is_waiting<P: Drop>(settled: Result<Settled<P>, Error>) -> Result<bool, Error>
+pub(crate) fn is_waiting<P: Drop>(settled: Result<Settled<P>, Error>) -> Result<bool, Error>
     ensures { TellsIfWaiting settled result }
 {
     match settled {

@@ -6,10 +6,12 @@ pub mod context;
 pub mod find_frames;
 pub mod find_unit;
 pub mod frame_loads;
+pub mod kept_stretches;
 pub mod lookup;
 mod outcomes;
 mod runs;
 mod sections;
+pub mod unit_loads;
 
 pub use addr2line_lookups::{
     AbbreviationsCache, AbbreviationsCacheStrategy, ArangeIndex, AttributeValue, DW_LANG_Rust,

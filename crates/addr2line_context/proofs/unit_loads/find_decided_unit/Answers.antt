@@ -1,0 +1,28 @@
+use Rattle.std.proofs.Common.{subst, sym, ap, ◌∙◌, map, Ok}
+use Rattle.addr2line_lookups.specs.FirstAnswers.{output}
+use Rattle.addr2line_lookups.specs.ResolvedUnits.{value_of_unit}
+use Rattle.addr2line_lookups.specs.UnitLookups.{FoundUnit, SettlesUnit, unit_at_number}
+use Rattle.addr2line_context.specs.SettledLookups.{unit_in}
+use Rattle.addr2line_context.proofs.FrameLoads.{waits_not}
+use Rattle.addr2line_context.proofs.unit_loads.find_decided_unit.Goals as goal
+
+pub returns-in-Ok-Nothing-clause-found : goal.returns-in-Ok-Nothing-clause-found
+returns-in-Ok-Nothing-clause-found g c =
+    subst (λ o. SettlesUnit (map value_of_unit c.settle_unit.new.self.units)
+    (unit_in c.args.context.now.value c.args.probe) (Ok o))
+    c.in-Ok-Nothing.field-0-is c.in-Ok-Nothing.ensures.found
+
+pub returns-in-Ok-Found-clause-found : goal.returns-in-Ok-Found-clause-found
+returns-in-Ok-Found-clause-found g c =
+    let vs = map value_of_unit c.settle_unit.new.self.units in
+    let meaning = unit_in c.args.context.now.value c.args.probe in
+    let found : FoundUnit vs meaning c.in-Ok-Found.number =
+    subst (λ o. SettlesUnit vs meaning (Ok o)) c.in-Ok-Found.field-0-is c.in-Ok-Found.ensures.found in
+    found.is_found ∙ ap (λ n. output (unit_at_number vs n)) (sym c.new.ensures)
+
+pub unreachable-requires : goal.unreachable-requires
+unreachable-requires g c =
+    let meaning = unit_in c.args.context.now.value c.args.probe in
+    waits_not meaning c.requires
+    (subst (λ o. SettlesUnit (map value_of_unit c.settle_unit.new.self.units) meaning (Ok o)) c.in-Ok-Waits.field-0-is
+    c.in-Ok-Waits.ensures.found)
