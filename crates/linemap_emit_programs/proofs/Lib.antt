@@ -5,11 +5,17 @@ pub use Rattle.linemap_emit_parts.proofs.DeclarationsRead
 pub use Rattle.linemap_emit_parts.proofs.EmittedHeadersRead
 pub use Rattle.linemap_emit_parts.proofs.EmittedRangesRead
 pub use Rattle.linemap_emit_parts.proofs.EntryRowsRead
+pub use Rattle.linemap_emit_parts.proofs.EntryListsRead
 pub use Rattle.linemap_emit_parts.proofs.FollowedReads
 pub use Rattle.linemap_emit_parts.proofs.UnitsRead
 pub use Rattle.linemap_places_laws.proofs.SoundUnits
 pub use Rattle.linemap_places_laws.proofs.TableViewLemmas
 pub use Rattle.linemap_places_laws.proofs.TableLocations
+pub use Rattle.linemap_emit_parts.proofs.RowParts
+pub use Rattle.linemap_emit_parts.proofs.StepParts
+pub use Rattle.linemap_emit_parts.proofs.StepSizes
+pub use Rattle.linemap_emit_parts.proofs.RowLaws
+pub use Rattle.linemap_emit_parts.proofs.RowSteps
 pub mod EmittedFileTexts
 pub mod EmittedProgramLines
 pub mod EmittedProgramRows
