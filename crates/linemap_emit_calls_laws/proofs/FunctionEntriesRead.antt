@@ -9,6 +9,7 @@ use Rattle.linemap_emit_units.specs.Error.{Error}
 use Rattle.linemap_emit_units.specs.View.{View}
 use Rattle.linemap_emit_units.specs.DwarfFileType.TheVariants.{Main}
 use Rattle.linemap_emit_units.specs.Encoding.{Encoding}
+use Rattle.linemap_emit_units.specs.Range.{Range}
 use Rattle.linemap_emit_units.specs.NumberParsers.{is_address_size}
 use Rattle.linemap_emit_units.specs.Repetition.{Listing, prepend, no_items, fault_of}
 use Rattle.linemap_emit_units.specs.Results.{and_then, each, unless}
@@ -23,11 +24,11 @@ use Rattle.linemap_emit_units.specs.EntryLaws.{row_under_choice}
 use Rattle.linemap_emit_units.specs.UnitEntries.{walk_from}
 use Rattle.linemap_emit_units.specs.UnitFacts.{UnitFacts, UnitInFile, in_file}
 use Rattle.linemap_emit_units.specs.BytesAt.{bytes_at}
-use Rattle.linemap_emit_units.specs.TableParts.{Site, Calls, no_calls, more_calls, FunctionPart}
+use Rattle.linemap_emit_units.specs.TableParts.{RangePart, Site, Calls, no_calls, more_calls, FunctionPart}
 use Rattle.linemap_emit_units.specs.Conditions.{any_call, is_bad_number}
 use Rattle.linemap_emit_units.specs.Entry.{Entry}
 use Rattle.linemap_emit_units.specs.Entry.TheVariants.{CompileUnit, AbstractFunction, Function, Call, EndOfChildren}
-use Rattle.linemap_emit_units.specs.EmittedEntries.{AllFit, attributes_of, declarations, declaration_of}
+use Rattle.linemap_emit_units.specs.EmittedEntries.{AllFit, attributes_of, declaration_of, spelled_entry}
 use Rattle.linemap_emit_units.specs.EmittedEntryRows.{walk_at, row_for, spelled_entries, place_before, rows_for, depth_after_entries}
 use Rattle.linemap_emit_units.specs.EmittedEntryLaws.{AllEntriesFit}
 use Rattle.linemap_emit_units.specs.EmittedUnits.{unit_for}
@@ -125,11 +126,20 @@ module _ (e : Encoding) (is_big : Bool) (s : DwarfFile) (offset first : ℕ) (al
   call_agrees : ReadsCalls s.offset_limit e is_big end_offset is_size s unit naming number all
   call_agrees site origin range_list file recorded plain children k xs =
       let tests = or_parts (is_bad_number site.line) (is_bad_number site.column) plain in
-      let text = recorded.has_origin.is_name in (
-        _,
-        call_read e s facts main encoding low h holds follow k
-            (place_before e is_big end_offset (Call children origin range_list file site.line site.column ∷ xs))
-            (pos (k + 1)) children origin range_list file (number site.file) site.line site.column site.ranges text.found
+      let text = recorded.has_origin.is_name in
+      let place = place_before e is_big end_offset (Call children origin range_list file site.line site.column ∷ xs) in
+      let c : FoundCall = record {
+        depth = k;
+        offset = place;
+        ranges = map lookup_range site.ranges;
+        name = Some text.found;
+        file = Some (number site.file);
+        line = site.line;
+        column = site.column;
+      } in (
+        c,
+        call_read e s facts main encoding low h holds follow k place (pos (k + 1)) children origin range_list file
+            (number site.file) site.line site.column site.ranges text.found
             (origin_name e is_big s offset first all b unit_name directory header is_size fit known 15 h holds origin
             site.name recorded.has_origin)
             recorded.ranges_are recorded.file_is (low_number site.line tests.0) (low_number site.column tests.1),
@@ -156,6 +166,9 @@ module _ (e : Encoding) (is_big : Bool) (s : DwarfFile) (offset first : ℕ) (al
     are : calls_among unit naming (entries_of s.offset_limit w) ≡ Ok flat
     agree : CallsAgree number 0 cs flat
 
+  at_level : pos 0 ≤ℤ pos 0
+  at_level = omega (arith, ints)
+
   calls_of_entry : (cs : Calls) (refs : CallReferences) (name range_list place : ℕ) (rest : List Entry)
       → RecordsCalls e s number all cs refs → AllEntriesFit s.offset_limit e (entries_of_calls cs refs)
       → any_call bad_number cs ≡ false
@@ -167,7 +180,7 @@ module _ (e : Encoding) (is_big : Bool) (s : DwarfFile) (offset first : ℕ) (al
     are =
         ap (λ (l : Listing FunctionWalk NestedEntry). calls_among unit naming l)
         (entries-end s.offset_limit
-        (record { walk = after_entry no_calls name range_list place rest; before = [] }) (omega (arith, ints)));
+        (record { walk = after_entry no_calls name range_list place rest; before = [] }) at_level);
     agree = tt;
   }
   calls_of_entry (more_calls site inner others) refs name range_list place rest recorded fits_all plain =
@@ -179,8 +192,8 @@ module _ (e : Encoding) (is_big : Bool) (s : DwarfFile) (offset first : ℕ) (al
       (EndOfChildren ∷ rest) recorded fits_all plain refl refl in
       let end = nested_entry limit e is_big end_offset is_size 1 EndOfChildren rest read.before in
       let last =
-      inside limit e is_big end_offset is_size 0 (read.next_first + 1) rest
-      (end.row ∷ read.before) in
+      inside limit e is_big end_offset is_size 0
+      (read.next_first + length (spelled_entry e is_big EndOfChildren)) rest (end.row ∷ read.before) in
       record {
         flat = read.flat;
         are =
@@ -193,7 +206,7 @@ module _ (e : Encoding) (is_big : Bool) (s : DwarfFile) (offset first : ℕ) (al
             ∙ ap (λ (l : Listing FunctionWalk NestedEntry). prepend read.items l)
             (children_end limit e is_big end_offset is_size 0 read.next_first read.before rest
             ∙ ap (λ (l : Listing FunctionWalk NestedEntry). prepend (end ∷ []) l)
-            (entries-end limit _ (omega (arith, ints)))))
+            (entries-end limit last at_level)))
             ∙ ap (λ (l : List NestedEntry). and_then (each (call_of unit naming) l) (λ cs. Ok cs))
             (filter-append is_call read.items (end ∷ [])
             ∙ ap (λ l. filter is_call read.items ++ l)
@@ -222,8 +235,9 @@ module _ (e : Encoding) (is_big : Bool) (s : DwarfFile) (offset first : ℕ) (al
       let xs = (own ++ end) ++ rest in
       let place = place_before e is_big end_offset (x ∷ xs) in
       let there = (unit_for e is_big offset first all).entries.first + length (spelled_entries e is_big front) in
+      let next = there + length (spelled_entry e is_big x) in
       let calls =
-      calls_of_entry f.calls refs.calls refs.name refs.range_list _ rest recorded.calls_are
+      calls_of_entry f.calls refs.calls refs.name refs.range_list next rest recorded.calls_are
       (All-left fits own end (All-tail fits x (own ++ end) fits_all)) plain in
       record {
         entry = record { name = Some recorded.is_name.found; calls = calls.flat };
@@ -235,7 +249,7 @@ module _ (e : Encoding) (is_big : Bool) (s : DwarfFile) (offset first : ℕ) (al
             (All-head fits x (own ++ end) fits_all))
             ∙ ap (λ (q : Result (Option View) Error). and_then q (λ name.
             and_then (calls_among unit naming (entries_of limit
-            (after_entry f.calls refs.name refs.range_list _ xs))) (λ calls.
+            (after_entry f.calls refs.name refs.range_list next xs))) (λ calls.
             Ok (record { name = name; calls = calls }))))
             (function_name e s facts main encoding low h holds follow (has_calls f.calls) refs.name refs.range_list
             f.name recorded.is_name)
@@ -264,7 +278,7 @@ module _ (e : Encoding) (is_big : Bool) (s : DwarfFile) (offset first : ℕ) (al
       → has_range g ≡ true
   some_ranges f g same some = ap (λ l. not (length l == 0)) same ∙ by f.ranges some
     where
-      by : (rs : List _) → (length rs == 0) ≡ false → not (length (map lookup_range rs) == 0) ≡ true
+      by : (rs : List RangePart) → (length rs == 0) ≡ false → not (length (map lookup_range rs) == 0) ≡ true
       by [] none = absurd cc
       by (r ∷ rs) none = refl
 
@@ -308,7 +322,7 @@ module _ (e : Encoding) (is_big : Bool) (s : DwarfFile) (offset first : ℕ) (al
         next = others.next;
         are = λ more h.
             ap (λ (l : List Entry). each (function_of unit) (rows_from d l)) grouped
-            ∙ ap (λ (q : Result _ Error). and_then (and_then q (λ rs. Ok (record { offset = g.offset; ranges = rs })))
+            ∙ ap (λ (q : Result (List Range) Error). and_then (and_then q (λ rs. Ok (record { offset = g.offset; ranges = rs })))
             (λ y. and_then (each (function_of unit) (rows_from d1 ((own ++ end) ++ tail))) (λ ys. Ok (y ∷ ys))))
             (function_ranges e s facts main encoding low (has_calls f.calls) refs.name refs.range_list f.ranges
             recorded.0.ranges_are)

@@ -221,7 +221,7 @@ module _ (e : Encoding) (is_big : Bool) (s : DwarfFile) (last : EmittedUnit) (fi
 
   -- ---- abstract functions
 
-  origin_there : (all : List Entry) (names : List (List ℕ)) (a : EmittedUnit) (before rest : List Entry) (n i : ℕ)
+  pub origin_there : (all : List Entry) (names : List (List ℕ)) (a : EmittedUnit) (before rest : List Entry) (n i : ℕ)
       (t : List ℕ) → all ≡ before ++ (map AbstractFunction (abstract_texts names a) ++ rest)
       → ((big : Bool) → abstract_offset e n ≡ entries_start e + length (spelled_entries e big before))
       → Grows (with_abstract_functions names a) last → slice_get names i ≡ Some t
