@@ -1,15 +1,13 @@
 -- The entries of calls are read as the table's calls, each at its depth.
-use Rattle.std.proofs.Common.{◌≡◌, ℕ, suc, ◌+◌, ◌<◌, ◌≤◌, ◌^◌, ℤ, pos, ◌≤ℤ◌, ◌<ℤ◌, ◌+ℤ◌, ◌-ℤ◌, Bool, true, false, cond, not, ◌&&◌, ◌||◌, List, [], ◌∷◌, ◌++◌, All, length, filter, map, Option, Some, None, Result, Ok, Err, refl, sym, ap, subst, ◌∙◌, arith, append_assoc}
+use Rattle.std.proofs.Common.{◌≡◌, ℕ, suc, ◌+◌, ℤ, pos, ◌≤ℤ◌, ◌<ℤ◌, ◌+ℤ◌, ◌-ℤ◌, Bool, true, false, cond, not, ◌&&◌, ◌||◌, List, [], ◌∷◌, ◌++◌, length, filter, Result, Ok, Err, refl, sym, ap, ◌∙◌, arith, append_assoc}
 use Rattle.std.proofs.lemmas.Int.{ints}
 use Rattle.std.proofs.lemmas.Bool.{or_parts}
 use Rattle.std.proofs.lemmas.List.Elements.{All-head, All-tail}
 use Rattle.linemap_emit_units.specs.Error.{Error}
-use Rattle.linemap_emit_units.specs.View.{View}
 use Rattle.linemap_emit_units.specs.Encoding.{Encoding}
 use Rattle.linemap_emit_units.specs.NumberParsers.{is_address_size}
 use Rattle.linemap_emit_units.specs.Repetition.{Listing, prepend}
 use Rattle.linemap_emit_units.specs.Results.{and_then, each}
-use Rattle.linemap_emit_units.specs.AttributeValues.{RawAttribute}
 use Rattle.linemap_emit_units.specs.EntryWalks.{Walk, depth_after}
 use Rattle.linemap_emit_units.specs.EntryRows.{Row, row_choosing}
 use Rattle.linemap_emit_units.specs.EntryLaws.{row_under_choice}
@@ -21,15 +19,14 @@ use Rattle.linemap_emit_units.specs.TableParts.{Site, Calls, no_calls, more_call
 use Rattle.linemap_emit_units.specs.Conditions.{any_call, is_bad_number}
 use Rattle.linemap_emit_units.specs.Entry.{Entry}
 use Rattle.linemap_emit_units.specs.Entry.TheVariants.{Call, EndOfChildren}
-use Rattle.linemap_emit_units.specs.EmittedEntries.{AllFit, attributes_of, raw_attribute_of, declaration_of, spelled_entry}
+use Rattle.linemap_emit_units.specs.EmittedEntries.{AllFit, attributes_of, declaration_of, spelled_entry}
 use Rattle.linemap_emit_units.specs.EmittedEntryRows.{walk_at, row_for, spelled_entries, place_before}
 use Rattle.linemap_emit_units.specs.EmittedEntryLaws.{AllEntriesFit}
-use Rattle.linemap_emit_units.specs.UnitEmission.{has_calls}
 use Rattle.linemap_emit_units.proofs.EntryRowsRead.{row_again}
 use Rattle.linemap_emit_units.proofs.InlinedNameLemmas.{All-left, All-right}
 use Rattle.addr2line_functions.specs.InlinedCalls.{Call as FoundCall, FunctionWalk, NestedEntry, Naming, enclosing_rows, is_nested, is_inlined, is_call_in, is_call, calls_above, call_at, call_of, entries_below}
-use Rattle.linemap_frames_laws.specs.CallAgreement.{OneByOne, CallAtDepth, CallAgrees, CallsAgree, calls_at_depth}
-use Rattle.linemap_emit_calls_laws.specs.RecordedFunctions.{CallReferences, no_references, more_references, end_of_children, entries_of_calls, RecordsCall, RecordsCalls}
+use Rattle.linemap_frames_laws.specs.CallAgreement.{OneByOne, CallAgrees, CallsAgree, calls_at_depth}
+use Rattle.linemap_emit_calls_laws.specs.RecordedFunctions.{CallReferences, no_references, more_references, entries_of_calls, RecordsCall, RecordsCalls}
 use Rattle.linemap_emit_calls_laws.proofs.EntryDepths.{deeper, less_deep, enclosing-same, enclosing-more}
 use Rattle.linemap_emit_calls_laws.proofs.EntriesBelow.{entries-next}
 
@@ -315,7 +312,8 @@ module _ (limit : ℕ) (e : Encoding) (is_big : Bool) (end_offset : ℕ) (is_siz
           let further : pos (k + 1) <ℤ pos (k + 1 + 1) = omega (arith, ints) in
           let opened : enclosing_rows (pos (k + 1 + 1)) (r ∷ before) ≡ r ∷ enclosing_rows (pos (k + 1)) before =
           enclosing-more (pos (k + 1 + 1)) r before further in
-          let one_more : calls_above (r ∷ enclosing_rows (pos (k + 1)) before) ≡ k + 1 = ap suc above in
+          let one_more : calls_above (r ∷ enclosing_rows (pos (k + 1)) before) ≡ k + 1 =
+          let next : suc k ≡ k + 1 = omega arith in ap suc above ∙ next in
           let middle =
           calls_read inner within (k + 1) (first + length (spelled_entry e is_big x)) (r ∷ before)
           (EndOfChildren ∷ (last ++ rest)) recorded.1 (All-left fits own_entries (EndOfChildren ∷ last) tail_fit) own.1

@@ -1,9 +1,9 @@
 -- The entries of functions are read as the table's functions, each with its calls.
-use Rattle.std.proofs.Common.{◌≡◌, ℕ, suc, ◌+◌, ◌<◌, ◌^◌, ◌≤ℤ◌, ℤ, pos, ◌+ℤ◌, Bool, true, false, cond, not, ◌&&◌, ◌||◌, List, [], ◌∷◌, ◌++◌, All, length, filter, map, Option, Some, None, Result, Ok, refl, sym, ap, subst, ◌∙◌, arith, append_assoc, append-nil}
+use Rattle.std.proofs.Common.{◌≡◌, ℕ, ◌+◌, ◌-◌, ◌<◌, ◌^◌, ◌≤ℤ◌, ℤ, pos, Bool, true, false, cond, not, ◌||◌, List, [], ◌∷◌, ◌++◌, length, filter, map, Option, Some, Result, Ok, refl, sym, ap, subst, ◌∙◌, arith, append_assoc, append-nil}
 use Rattle.std.specs.Prelude.{◌==◌}
 use Rattle.std.specs.List.{list_any}
 use Rattle.std.proofs.lemmas.Int.{ints}
-use Rattle.std.proofs.lemmas.Bool.{or_parts, ltb-false}
+use Rattle.std.proofs.lemmas.Bool.{or_parts, ltb-false, ne_eqb}
 use Rattle.std.proofs.lemmas.List.Elements.{All-head, All-tail}
 use Rattle.linemap_emit_units.specs.Error.{Error}
 use Rattle.linemap_emit_units.specs.View.{View}
@@ -11,17 +11,16 @@ use Rattle.linemap_emit_units.specs.DwarfFileType.TheVariants.{Main}
 use Rattle.linemap_emit_units.specs.Encoding.{Encoding}
 use Rattle.linemap_emit_units.specs.Range.{Range}
 use Rattle.linemap_emit_units.specs.NumberParsers.{is_address_size}
-use Rattle.linemap_emit_units.specs.Repetition.{Listing, prepend, no_items, fault_of}
-use Rattle.linemap_emit_units.specs.Results.{and_then, each, unless}
-use Rattle.linemap_emit_units.specs.AttributeValues.{RawValue, unit_reference}
+use Rattle.linemap_emit_units.specs.Repetition.{Listing, prepend}
+use Rattle.linemap_emit_units.specs.Results.{and_then, each}
+use Rattle.linemap_emit_units.specs.AttributeValues.{RawValue}
 use Rattle.linemap_emit_units.specs.Attributes.{Bases}
 use Rattle.linemap_emit_units.specs.DwarfFiles.{DwarfFile}
 use Rattle.linemap_emit_units.specs.LineHeaders.{LineHeader}
 use Rattle.linemap_emit_units.specs.UnitHeaders.{length_including_self}
 use Rattle.linemap_emit_units.specs.EntryWalks.{Walk, depth_after}
-use Rattle.linemap_emit_units.specs.EntryRows.{Row, row, rows, not_null}
+use Rattle.linemap_emit_units.specs.EntryRows.{Row, row}
 use Rattle.linemap_emit_units.specs.EntryLaws.{row_under_choice}
-use Rattle.linemap_emit_units.specs.UnitEntries.{walk_from}
 use Rattle.linemap_emit_units.specs.UnitFacts.{UnitFacts, UnitInFile, in_file}
 use Rattle.linemap_emit_units.specs.BytesAt.{bytes_at}
 use Rattle.linemap_emit_units.specs.TableParts.{RangePart, Site, Calls, no_calls, more_calls, FunctionPart}
@@ -29,7 +28,7 @@ use Rattle.linemap_emit_units.specs.Conditions.{any_call, is_bad_number}
 use Rattle.linemap_emit_units.specs.Entry.{Entry}
 use Rattle.linemap_emit_units.specs.Entry.TheVariants.{CompileUnit, AbstractFunction, Function, Call, EndOfChildren}
 use Rattle.linemap_emit_units.specs.EmittedEntries.{AllFit, attributes_of, declaration_of, spelled_entry}
-use Rattle.linemap_emit_units.specs.EmittedEntryRows.{walk_at, row_for, spelled_entries, place_before, rows_for, depth_after_entries}
+use Rattle.linemap_emit_units.specs.EmittedEntryRows.{walk_at, spelled_entries, place_before, rows_for}
 use Rattle.linemap_emit_units.specs.EmittedEntryLaws.{AllEntriesFit}
 use Rattle.linemap_emit_units.specs.EmittedUnits.{unit_for}
 use Rattle.linemap_emit_units.specs.LookupAgreement.{lookup_range}
@@ -38,17 +37,17 @@ use Rattle.linemap_emit_units.proofs.EntryRowsRead.{row_again}
 use Rattle.linemap_emit_units.proofs.EntryListsRead.{rows_again, walk_to}
 use Rattle.linemap_emit_units.proofs.InlinedNameLemmas.{All-left, All-right}
 use Rattle.addr2line_functions.specs.Functions.{Function as FoundFunction, is_subprogram, function_of, has_range, functions_of_rows, functions_of_unit}
-use Rattle.addr2line_functions.specs.InlinedCalls.{Call as FoundCall, FunctionCalls, FunctionWalk, NestedEntry, Naming, is_call, call_of, calls_among, calls_of_function, calls_of_row, function_calls, name_by, entries_of, entries_below}
+use Rattle.addr2line_functions.specs.InlinedCalls.{Call as FoundCall, FunctionCalls, FunctionWalk, NestedEntry, Naming, is_call, call_of, calls_among, calls_of_function, calls_of_row, entries_of}
 use Rattle.addr2line_functions.specs.EntryReferences.{KnownUnits, HoldingUnit}
 use Rattle.addr2line_functions.specs.FunctionNames.{name_by_reference, most_references, name_with}
-use Rattle.linemap_frames_laws.specs.CallAgreement.{CallsAgree, EntryAgrees, FunctionAgrees, FunctionsAgree}
-use Rattle.linemap_emit_calls_laws.specs.RecordedFunctions.{CallReferences, no_references, more_references, FunctionReferences, end_of_children, entries_of_calls, entries_of_function, entries_of_functions, RecordsCall, RecordsCalls, RecordsFunction, AllRecorded, RecordsFunctions}
+use Rattle.linemap_frames_laws.specs.CallAgreement.{CallsAgree, EntryAgrees, FunctionsAgree}
+use Rattle.linemap_emit_calls_laws.specs.RecordedFunctions.{CallReferences, no_references, more_references, FunctionReferences, end_of_children, entries_of_calls, entries_of_function, entries_of_functions, RecordsCalls, RecordsFunction, AllRecorded, RecordsFunctions}
 use Rattle.linemap_emit_calls_laws.specs.FunctionLaws.{written_facts}
 use Rattle.linemap_emit_calls_laws.proofs.EntryDepths.{deeper}
 use Rattle.linemap_emit_calls_laws.proofs.EntriesBelow.{entries-end}
-use Rattle.linemap_emit_calls_laws.proofs.EntryFacts.{raw_attributes, function_ranges, function_name, call_read}
+use Rattle.linemap_emit_calls_laws.proofs.EntryFacts.{function_ranges, function_name, call_read}
 use Rattle.linemap_emit_calls_laws.proofs.OriginNames.{origin_name}
-use Rattle.linemap_emit_calls_laws.proofs.CallEntriesRead.{ReadsCalls, CallsRead, calls_read, children_end, inside, nested_entry, no_call, filter-append, each-append}
+use Rattle.linemap_emit_calls_laws.proofs.CallEntriesRead.{ReadsCalls, calls_read, children_end, inside, nested_entry, no_call, filter-append}
 
 -- ---- rows of functions
 
@@ -280,7 +279,7 @@ module _ (e : Encoding) (is_big : Bool) (s : DwarfFile) (offset first : ℕ) (al
     where
       by : (rs : List RangePart) → (length rs == 0) ≡ false → not (length (map lookup_range rs) == 0) ≡ true
       by [] none = absurd cc
-      by (r ∷ rs) none = refl
+      by (r ∷ rs) none = ap not (ne_eqb (length (map lookup_range (r ∷ rs))) 0 (omega arith))
 
   functions_read : (fs : List FunctionPart) (refs : List FunctionReferences) (d : ℤ) (front rest : List Entry)
       → all ≡ front ++ (entries_of_functions fs refs ++ rest) → AllRecorded e s number all fs refs
