@@ -11,12 +11,14 @@ pub use Rattle.linemap_emit_parts.specs.HeaderParsing
 pub use Rattle.linemap_emit_parts.specs.LineHeaders
 pub use Rattle.linemap_emit_parts.specs.EntryRows
 pub use Rattle.linemap_emit_parts.specs.EntryWalks
+pub use Rattle.linemap_emit_parts.specs.EntryLaws
 pub use Rattle.linemap_emit_parts.specs.UnitEntries
 pub use Rattle.linemap_emit_parts.specs.AttributeMeanings
 pub use Rattle.linemap_emit_parts.specs.AttributeValues
 pub use Rattle.linemap_emit_parts.specs.ArangeSets
 pub use Rattle.linemap_emit_parts.specs.Tiling
 pub use Rattle.linemap_emit_parts.specs.UnitHeaders
+pub use Rattle.linemap_emit_parts.specs.UnitOffsets
 pub use Rattle.linemap_emit_parts.specs.ListSections
 pub use Rattle.linemap_emit_parts.specs.EmittedEntries
 pub use Rattle.linemap_emit_parts.specs.EmittedEntryLaws

@@ -4,13 +4,14 @@ use Rattle.std.proofs.Common.{◌≡◌, ℕ, true, false, [], ◌∷◌, refl}
 use Rattle.gimli_lines_write_tables.specs.Encoding.{Encoding}
 use Rattle.gimli_lines_write_tables.specs.Format.TheVariants.{Dwarf32, Dwarf64}
 use Rattle.gimli_lines_write_tables.specs.StringSections.{section_of}
-use Rattle.linemap_emit_programs.specs.TableParts.{RangePart, RowPart, no_calls, UnitPart}
-use Rattle.linemap_emit_programs.specs.Entry.TheVariants.{CompileUnit, Function, EndOfChildren}
+use Rattle.linemap_emit_programs.specs.TableParts.{RangePart, RowPart, no_calls, more_calls, UnitPart}
+use Rattle.linemap_emit_programs.specs.Entry.TheVariants.{CompileUnit, AbstractFunction, Function, Call, EndOfChildren}
 use Rattle.linemap_emit_programs.specs.EmittedRanges.{lists_start, spelled_lists, spelled_ranges}
 use Rattle.linemap_emit_programs.specs.EmittedUnits.{spelled_units}
 use Rattle.linemap_emit_units.specs.TableEmission.{EmittedTable, emitted_table, with_emitted_units}
 use Rattle.gimli_lines_write_tables.specs.Spelling as spelling
 use Rattle.gimli_lines_write_tables.specs.RowPieces as pieces
+use Rattle.linemap_emit_units.specs.InlinedNames as names
 use Rattle.linemap_emit_units.specs.UnitEmission as entries
 
 abbrev target : Encoding
@@ -40,7 +41,7 @@ table_of_a_unit = emitted_table target false (a_unit ∷ [])
 -- each text once, by first use
 texts_of_the_unit : section_of table_of_a_unit.texts ≡
     97 ∷ 46 ∷ 99 ∷ 0 ∷ 47 ∷ 119 ∷ 0 ∷ 109 ∷ 97 ∷ 105 ∷ 110 ∷ 0 ∷ []
-unfolding section_of with_emitted_units entries.with_calls
+unfolding section_of with_emitted_units entries.with_calls names.call_names
 texts_of_the_unit = refl
 
 -- each row by a special opcode, after what changes
@@ -57,14 +58,42 @@ ranges_of_the_unit : table_of_a_unit.ranges ≡
     0 ∷ 16 ∷ 0 ∷ 0 ∷ 0 ∷ 0 ∷ 0 ∷ 0 ∷ 64 ∷ 16 ∷ 0 ∷ 0 ∷ 0 ∷ 0 ∷ 0 ∷ 0 ∷ 0 ∷ 0 ∷ 0 ∷ 0 ∷ 0 ∷ 0 ∷ 0 ∷ 0 ∷ 0 ∷ 0 ∷
     0 ∷ 0 ∷ 0 ∷ 0 ∷ 0 ∷ 0 ∷ 0 ∷ 16 ∷ 0 ∷ 0 ∷ 0 ∷ 0 ∷ 0 ∷ 0 ∷ 48 ∷ 16 ∷ 0 ∷ 0 ∷ 0 ∷ 0 ∷ 0 ∷ 0 ∷ 0 ∷ 0 ∷ 0 ∷ 0 ∷
     0 ∷ 0 ∷ 0 ∷ 0 ∷ 0 ∷ 0 ∷ 0 ∷ 0 ∷ 0 ∷ 0 ∷ 0 ∷ 0 ∷ []
-unfolding with_emitted_units entries.with_calls
+unfolding with_emitted_units entries.with_calls names.call_names
 ranges_of_the_unit = refl
 
 entries_of_the_unit : spelled_units target false table_of_a_unit.units ≡
     42 ∷ 0 ∷ 0 ∷ 0 ∷ 4 ∷ 0 ∷ 0 ∷ 0 ∷ 0 ∷ 0 ∷ 8 ∷ 1 ∷ 0 ∷ 0 ∷ 0 ∷ 0 ∷ 4 ∷ 0 ∷ 0 ∷ 0 ∷ 0 ∷ 0 ∷ 0 ∷ 0 ∷ 0 ∷ 0 ∷ 0 ∷
     0 ∷ 0 ∷ 0 ∷ 0 ∷ 0 ∷ 0 ∷ 0 ∷ 0 ∷ 0 ∷ 3 ∷ 7 ∷ 0 ∷ 0 ∷ 0 ∷ 32 ∷ 0 ∷ 0 ∷ 0 ∷ 0 ∷ []
-unfolding with_emitted_units entries.with_calls spelling.unsigned_within
+unfolding with_emitted_units entries.with_calls names.call_names spelling.unsigned_within
 entries_of_the_unit = refl
+
+-- the same unit, where "main" calls "f" twice
+abbrev c_unit : UnitPart
+c_unit = record a_unit {
+  functions = record {
+    name = 109 ∷ 97 ∷ 105 ∷ 110 ∷ [];
+    ranges = range 4096 4144 ∷ [];
+    calls =
+        more_calls (record { name = 102 ∷ []; ranges = range 4112 4128 ∷ []; file = 0; line = 6; column = 3 }) no_calls
+        (more_calls (record { name = 102 ∷ []; ranges = range 4128 4136 ∷ []; file = 0; line = 8; column = 3 }) no_calls
+        no_calls);
+  } ∷ [];
+}
+
+-- one abstract function, to which both calls refer
+entries_of_calls : (emitted_table target false (c_unit ∷ [])).units ≡
+    (CompileUnit 0 4 0 0 ∷ AbstractFunction 7 ∷ Function true 9 32 ∷ Call false 36 64 1 6 3 ∷ Call false 36 96 1 8 3
+    ∷ EndOfChildren ∷ EndOfChildren ∷ []) ∷ []
+unfolding with_emitted_units entries.with_calls names.call_names spelling.unsigned_within spelling.signed_within
+    pieces.row_piece pieces.flags pieces.changes pieces.moves pieces.end_piece
+entries_of_calls = refl
+
+bytes_of_calls : spelled_units target false (emitted_table target false (c_unit ∷ [])).units ≡
+    72 ∷ 0 ∷ 0 ∷ 0 ∷ 4 ∷ 0 ∷ 0 ∷ 0 ∷ 0 ∷ 0 ∷ 8 ∷ 1 ∷ 0 ∷ 0 ∷ 0 ∷ 0 ∷ 4 ∷ 0 ∷ 0 ∷ 0 ∷ 0 ∷ 0 ∷ 0 ∷ 0 ∷ 0 ∷ 0 ∷ 0 ∷ 0 ∷ 0 ∷
+    0 ∷ 0 ∷ 0 ∷ 0 ∷ 0 ∷ 0 ∷ 0 ∷ 6 ∷ 7 ∷ 0 ∷ 0 ∷ 0 ∷ 2 ∷ 9 ∷ 0 ∷ 0 ∷ 0 ∷ 32 ∷ 0 ∷ 0 ∷ 0 ∷ 5 ∷ 36 ∷ 0 ∷ 0 ∷ 0 ∷ 64 ∷ 0 ∷ 0 ∷
+    0 ∷ 1 ∷ 6 ∷ 3 ∷ 5 ∷ 36 ∷ 0 ∷ 0 ∷ 0 ∷ 96 ∷ 0 ∷ 0 ∷ 0 ∷ 1 ∷ 8 ∷ 3 ∷ 0 ∷ 0 ∷ []
+unfolding with_emitted_units entries.with_calls names.call_names spelling.unsigned_within
+bytes_of_calls = refl
 
 -- "b.c" in the same directory
 abbrev b_unit : UnitPart
@@ -82,7 +111,7 @@ b_unit =
 second_unit_after_the_first : (emitted_table target false (a_unit ∷ b_unit ∷ [])).units ≡
     (CompileUnit 0 4 0 0 ∷ Function false 7 32 ∷ EndOfChildren ∷ []) ∷ (CompileUnit 12 4 70 64 ∷ EndOfChildren ∷ [])
     ∷ []
-unfolding with_emitted_units entries.with_calls spelling.unsigned_within spelling.signed_within pieces.row_piece
+unfolding with_emitted_units entries.with_calls names.call_names spelling.unsigned_within spelling.signed_within pieces.row_piece
     pieces.flags pieces.changes pieces.moves pieces.end_piece
 second_unit_after_the_first = refl
 
