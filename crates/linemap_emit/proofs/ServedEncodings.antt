@@ -1,5 +1,5 @@
 -- What holds in the encodings that are served.
-use Rattle.std.proofs.Common.{◌≡◌, ℕ, ◌<◌, ◌≤◌, ◌^◌, Bool, true, not, ◌==◌, ◌&&◌, ◌||◌, nat_le, List, [], ◌∷◌, refl, ap, inl, inr, arith}
+use Rattle.std.proofs.Common.{◌≡◌, ℕ, ◌<◌, ◌≤◌, ◌^◌, Bool, true, not, ◌==◌, ◌&&◌, ◌||◌, nat_le, List, refl, ap, inl, inr, arith}
 use Rattle.std.specs.Prelude.{All}
 use Rattle.std.proofs.lemmas.Bool.{and_parts, or_cases, eqb-true, leb-true}
 use Rattle.linemap_emit_fits.specs.Encoding.{Encoding}
@@ -13,7 +13,8 @@ use Rattle.linemap_table.specs.TargetEncodings.{is_64_bit}
 use Rattle.linemap_table.specs.declared.target.Target.{Target}
 use Rattle.linemap_table.specs.TableParts.{SequencePart}
 use Rattle.linemap_emit_fits.specs.Entry.{Entry}
-use Rattle.linemap_emit_fits.specs.EmittedEntries.{EmittedValue, strp, sec_offset, addr, udata, EmittedAttribute, Fits, AllFit, attributes_of}
+use Rattle.linemap_emit_laws.proofs.EmittedFunctionLemmas.{entries_below}
+use Rattle.linemap_emit_fits.specs.EmittedEntries.{AllFit, attributes_of}
 use Rattle.linemap_emit_fits.specs.EmittedUnits.{IsWritten}
 use Rattle.linemap_emit_fits.specs.EmittedRows.{emitted_rules, emitted_sequences}
 use Rattle.linemap_emit_fits.specs.SoundSequences.{CanEmitSequences}
@@ -53,20 +54,10 @@ below_limit e n small = length_fits e.format n small
 pub below_word : (e : Encoding) (n : ℕ) → n < 2 ^ 31 → n < 256 ^ word_size e.format
 below_word e n small = word_is_small e.format n small
 
--- values that fit below a limit fit below a larger one
-value_fits : (e : Encoding) (name : ℕ) (v : EmittedValue) → Fits (2 ^ 31) e name v → Fits (2 ^ 64) e name v
-value_fits e name (strp offset) h = (h.0, omega (arith, h.1))
-value_fits e name (sec_offset offset) h = (h.0, omega (arith, h.1), h.2)
-value_fits e name (addr at) h = h
-value_fits e name (udata n) h = h
-
-values_fit : (e : Encoding) (ss : List EmittedAttribute) → AllFit (2 ^ 31) e ss → AllFit (2 ^ 64) e ss
-values_fit e [] h = tt
-values_fit e (s ∷ ss) h = (value_fits e s.name s.value h.0, values_fit e ss h.1)
-
+-- entries that fit below a limit fit below a larger one
 pub entries_fit : (e : Encoding) (xs : List Entry) → All (λ x. AllFit (2 ^ 31) e (attributes_of x)) xs
     → All (λ x. AllFit (2 ^ 64) e (attributes_of x)) xs
-entries_fit e xs h = λ k d below. values_fit e _ (h k d below)
+entries_fit e xs h = entries_below (2 ^ 64) e xs (omega arith) h
 
 -- ---- the targets that are served
 

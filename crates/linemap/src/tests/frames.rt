@@ -39,15 +39,25 @@ fn order(big_endian: bool) -> RunTimeEndian {
     }
 }
 
+fn file_of(
+    alloc: Global,
+    sections: &Sections,
+    endian: RunTimeEndian,
+) -> Result<Dwarf<EndianSlice<'_, RunTimeEndian>>, Error> {
+    Dwarf::load(alloc, move |id| {
+        Ok(EndianSlice::new(sections.get(id), endian))
+    })
+}
+
 fn context_of(
     alloc: Global,
     sections: &Sections,
     endian: RunTimeEndian,
 ) -> Result<Context<EndianSlice<'_, RunTimeEndian>>, Error> {
-    let dwarf = Dwarf::load(alloc, move |id| {
-        Ok(EndianSlice::new(sections.get(id), endian))
-    })?;
-    Context::from_dwarf(alloc, dwarf)
+    match file_of(alloc, sections, endian) {
+        Ok(dwarf) => Context::from_dwarf(alloc, dwarf),
+        Err(error) => Err(error),
+    }
 }
 
 // The frames of an address, each with its name, line and column.
