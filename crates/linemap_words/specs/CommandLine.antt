@@ -56,6 +56,10 @@ letter text = slice_index_or text 0 0
 abbrev pub with_short : ℕ → Rule → Rule
 with_short short rule = record rule { short = Some short }
 
+-- `-L` or `--NAME`
+abbrev pub short_flag_rule : Text → Text → Rule
+short_flag_rule short name = with_short (letter short) (flag_rule name)
+
 -- `-e FILE`, the file that is looked into
 abbrev pub exe_rule : Rule
 exe_rule = record (with_short (letter (codes "e")) (option_rule (codes "exe"))) { required = true }
@@ -90,12 +94,12 @@ with_source_rules app =
 -- `[-f] [-p] [-i] [-a] [-s] [-C]`
 abbrev pub with_detail_rules : App → App
 with_detail_rules app =
-    let functions = with_rule app (with_short (letter (codes "f")) (flag_rule (codes "functions"))) in
-    let pretty = with_rule functions (with_short (letter (codes "p")) (flag_rule (codes "pretty-print"))) in
-    let inlines = with_rule pretty (with_short (letter (codes "i")) (flag_rule (codes "inlines"))) in
-    let addresses = with_rule inlines (with_short (letter (codes "a")) (flag_rule (codes "addresses"))) in
-    let basenames = with_rule addresses (with_short (letter (codes "s")) (flag_rule (codes "basenames"))) in
-    with_rule basenames (with_short (letter (codes "C")) (flag_rule (codes "demangle")))
+    let functions = with_rule app (short_flag_rule (codes "f") (codes "functions")) in
+    let pretty = with_rule functions (short_flag_rule (codes "p") (codes "pretty-print")) in
+    let inlines = with_rule pretty (short_flag_rule (codes "i") (codes "inlines")) in
+    let addresses = with_rule inlines (short_flag_rule (codes "a") (codes "addresses")) in
+    let basenames = with_rule addresses (short_flag_rule (codes "s") (codes "basenames")) in
+    with_rule basenames (short_flag_rule (codes "C") (codes "demangle"))
 
 -- `lookup -e FILE [OPTIONS] [ADDR..]`
 abbrev pub lookup_app : App

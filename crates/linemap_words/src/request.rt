@@ -117,7 +117,7 @@ impl WordsError {
     }
 }
 
-#[tactic(auto, using(crate::proofs::SimpleCommand::linemap_app_is_simple, crate::proofs::SimpleCommand::linemap_app_is_free))]
+#[tactic(auto, using(crate::proofs::SimpleCommand::is_simple, crate::proofs::SimpleCommand::is_free))]
 /// Reads the words of a command line, of which the first is the program's name. Its answers take
 /// memory for copies of the words.
 pub fn read_words(alloc: Global, words: &[String]) -> Result<Request, WordsError>

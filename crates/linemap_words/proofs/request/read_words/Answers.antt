@@ -5,7 +5,7 @@ use Rattle.linemap_words.specs.CommandLine.{linemap_app}
 use Rattle.linemap_words.specs.WordsRequest.{IsFault, IsRefusal}
 use Rattle.linemap_words.specs.declared.request.WordsError.{WordsError}
 use Rattle.linemap_words.specs.declared.request.WordsError.TheVariants.{Memory, Fault}
-use Rattle.linemap_words.proofs.SimpleCommand.{linemap_app_is_free}
+use Rattle.linemap_words.proofs.SimpleCommand.{is_free}
 use Rattle.linemap_words.proofs.request.read_words.Goals as goal
 
 -- a fault of the parse is a refusal
@@ -24,5 +24,5 @@ returns-in-Err-clause-refusal c =
     let words = map string_bytes c.args.words.now in
     let has =
     subst (λ a. HasKind (fault_of a words) c.in-Err.error) app
-    (c.in-Err.ensures.kinds (ap is_simple_and_free app ∙ linemap_app_is_free)) in
+    (c.in-Err.ensures.kinds (ap is_simple_and_free app ∙ is_free)) in
     fault_refuses (fault_of linemap_app words) _ c.in-Err.error has c.error_of.result c.error_of.ensures
