@@ -1,0 +1,17 @@
+pub use Rattle.linemap_places_laws.proofs.FilePathLemmas
+pub use Rattle.gimli_lines_write_rows.proofs.Wrapping
+pub use Rattle.linemap_emit_parts.proofs.ArangeSetLemmas
+pub use Rattle.linemap_emit_parts.proofs.TilingLemmas
+pub use Rattle.linemap_emit_parts.proofs.DeclarationsRead
+pub use Rattle.linemap_emit_parts.proofs.EmittedRangesRead
+pub use Rattle.linemap_emit_parts.proofs.EntryRowsRead
+pub use Rattle.linemap_emit_parts.proofs.FollowedReads
+pub use Rattle.linemap_emit_parts.proofs.UnitsRead
+pub use Rattle.linemap_places_laws.proofs.SoundUnits
+pub use Rattle.linemap_places_laws.proofs.TableViewLemmas
+pub use Rattle.linemap_places_laws.proofs.TableLocations
+pub mod EmittedProgramRows
+pub mod EmittedRowsShown
+pub mod EmittedRowsBuilt
+pub mod SoundSequenceLemmas
+pub mod BuiltSequences
