@@ -13,7 +13,7 @@ use Rattle.gimli_lines_header.specs.AttributeValues.{RawAttribute}
 use Rattle.gimli_units_entries.specs.EntryWalks.{Walk, entry_head, values, read_in_walk, declaration_of_code, change_depth, depth_after}
 use Rattle.gimli_units_entries.specs.EntryRows.{Row, row, row_of, all_contents}
 use Rattle.linemap_emit_parts.specs.declared.entries.Entry.{Entry}
-use Rattle.linemap_emit_parts.specs.declared.entries.Entry.TheVariants.{CompileUnit, Function, Call, EndOfChildren}
+use Rattle.linemap_emit_parts.specs.declared.entries.Entry.TheVariants.{CompileUnit, AbstractFunction, Function, Call, EndOfChildren}
 use Rattle.linemap_emit_parts.specs.EmittedEntries.{EmittedAttribute, AllFit, declared_attribute, raw_attribute_of, spelled_value, spelled_entry, attributes_of, abbreviation_code, declaration_of, declarations}
 use Rattle.linemap_emit_parts.specs.EmittedEntryRows.{walk_at, row_for}
 use Rattle.gimli_lines_write_bytes.proofs.FollowedReads.{again_unsigned}
@@ -21,7 +21,7 @@ use Rattle.linemap_emit_parts.proofs.EntryAttributesRead.{attributes_again}
 use Rattle.gimli_lines_write_bytes.specs.BytesAt.{bytes_at}
 
 -- the code of a declaration
-head_again : (e : Encoding) (end_offset : ℕ) (depth : ℤ) (is_big : Bool) (first code : ℕ) (d : Option Declaration)
+pub head_again : (e : Encoding) (end_offset : ℕ) (depth : ℤ) (is_big : Bool) (first code : ℕ) (d : Option Declaration)
     (rest : List ℕ) → code < 2 ^ 64 → declaration_of_code code (declarations e) ≡ Ok d
     → entry_head (walk_at e end_offset depth (bytes_at is_big first (unsigned_string code ++ rest)))
     ≡ Ok (d, walk_at e end_offset (depth_after depth d) (bytes_at is_big (first + length (unsigned_string code)) rest))
@@ -35,21 +35,23 @@ head_again e end_offset depth is_big first code d rest small known =
     ∙ ap (λ (r : Result (Option Declaration) Error). proceed (lift r u) change_depth) known
 
 -- the declaration of an entry
-known_code : (e : Encoding) (x : Entry)
+pub known_code : (e : Encoding) (x : Entry)
     → declaration_of_code (abbreviation_code x) (declarations e) ≡ Ok (declaration_of e x)
 known_code e (CompileUnit name directory line_program ranges) = refl
 known_code e (Function true name ranges) = refl
 known_code e (Function false name ranges) = refl
 known_code e (Call true name ranges file line column) = refl
 known_code e (Call false name ranges file line column) = refl
+known_code e (AbstractFunction name) = refl
 known_code e EndOfChildren = refl
 
-small_code : (x : Entry) → abbreviation_code x < 2 ^ 64
+pub small_code : (x : Entry) → abbreviation_code x < 2 ^ 64
 small_code (CompileUnit name directory line_program ranges) = omega arith
 small_code (Function true name ranges) = omega arith
 small_code (Function false name ranges) = omega arith
 small_code (Call true name ranges file line column) = omega arith
 small_code (Call false name ranges file line column) = omega arith
+small_code (AbstractFunction name) = omega arith
 small_code EndOfChildren = omega arith
 
 -- the attributes of an entry
@@ -87,6 +89,8 @@ contents_again limit e end_offset depth is_big first (Function has_children name
 contents_again limit e end_offset depth is_big first (Call has_children name ranges file line column) rest is_size fit =
     attribute_list_again limit e end_offset depth is_big first
     (attributes_of (Call has_children name ranges file line column)) rest is_size fit
+contents_again limit e end_offset depth is_big first (AbstractFunction name) rest is_size fit =
+    attribute_list_again limit e end_offset depth is_big first (attributes_of (AbstractFunction name)) rest is_size fit
 contents_again limit e end_offset depth is_big first EndOfChildren rest is_size fit =
     let same : first ≡ first + 0 = omega arith in
     ap (λ (n : ℕ). Ok ([], walk_at e end_offset depth (bytes_at is_big n rest))) same

@@ -13,8 +13,8 @@ use Rattle.gimli_lines_write_bytes.specs.Fixed.{number_bytes}
 use Rattle.gimli_lines_write_bytes.specs.Spelling.{unsigned_string}
 use Rattle.gimli_lines_header.specs.FormSpellings.{spelling}
 use Rattle.gimli_lines_header.specs.AttributeReading.{attribute, final_form, form_within, value, number_value, from_number, offset_or_fault, data_of_word}
-use Rattle.gimli_lines_header.specs.AttributeValues.{RawValue, string_reference, section_offset, address, unsigned_data}
-use Rattle.linemap_emit_parts.specs.EmittedEntries.{EmittedValue, strp, sec_offset, addr, udata, form_of, offset_form, spelled_value, raw_value_of, Fits}
+use Rattle.gimli_lines_header.specs.AttributeValues.{RawValue, string_reference, section_offset, address, unsigned_data, unit_reference}
+use Rattle.linemap_emit_parts.specs.EmittedEntries.{EmittedValue, strp, sec_offset, addr, udata, ref4, form_of, offset_form, spelled_value, raw_value_of, Fits}
 use Rattle.gimli_lines_write_bytes.proofs.FollowedReads.{Again, again_fixed, again_unsigned, offset_is_below}
 use Rattle.gimli_lines_write_bytes.specs.BytesAt.{bytes_at}
 
@@ -73,6 +73,12 @@ unfolding number_value
 number_means limit e name n Dwarf32 = refl
 number_means limit e name n Dwarf64 = refl
 
+reference_means : (limit : ℕ) (e : Encoding) (name n : ℕ) (format : Format) → n < limit
+    → number_value limit (in_format e format) name 0x13 n ≡ Ok (unit_reference n)
+unfolding number_value
+reference_means limit e name n Dwarf32 small = offset_is limit n unit_reference small
+reference_means limit e name n Dwarf64 small = offset_is limit n unit_reference small
+
 offset_means : (limit : ℕ) (e : Encoding) (name n : ℕ) (format : Format) → n < limit
     → number_value limit (in_format e format) name 0x17 n ≡ Ok (section_offset n)
 unfolding number_value
@@ -115,6 +121,9 @@ value_again limit e is_big first name (addr n) is_size fits =
 value_again limit e is_big first name (udata n) is_size fits =
     number_again limit e is_big first name 0x0f n unsigned (unsigned_data n) (unsigned_string n) refl (λ v. refl)
     (again_unsigned is_big first n fits) (number_means limit e name n e.format)
+value_again limit e is_big first name (ref4 n) is_size fits =
+    number_again limit e is_big first name 0x13 n (fixed 4) (unit_reference n) (number_bytes is_big 4 n) refl (λ v. refl)
+    (again_fixed is_big first 4 n fits.0) (reference_means limit e name n e.format fits.1)
 value_again limit e is_big first name (sec_offset n) is_size fits = by_version (nat_le e.version 3) refl
   where
     by_version : (b : Bool) → nat_le e.version 3 ≡ b

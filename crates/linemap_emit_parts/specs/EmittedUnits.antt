@@ -1,9 +1,9 @@
 -- Units as they are written: headers with their entries, end to end (DWARF 5, 7.5.1; versions 2 to
 -- 4: DWARF 4, 7.5.1.1).
-use Rattle.std.specs.Prelude.{◌≡◌, ℕ, ◌+◌, ◌<◌, ◌≤◌, nat_le, Bool, true, List, [], ◌∷◌, ◌++◌, flat_map, length, if◌then◌else◌}
+use Rattle.std.specs.Prelude.{◌≡◌, ℕ, ◌+◌, ◌*◌, ◌<◌, ◌≤◌, nat_le, Bool, true, List, [], ◌∷◌, ◌++◌, flat_map, length, if◌then◌else◌}
 use Rattle.gimli_lines_write_bytes.specs.TheConstants.{DW_UT_compile}
 use Rattle.gimli_lines_write_bytes.specs.Encoding.{Encoding}
-use Rattle.gimli_lines_write_bytes.specs.FormatSizes.{word_size}
+use Rattle.gimli_lines_write_bytes.specs.FormatSizes.{initial_length_size, word_size}
 use Rattle.gimli_lines_write_bytes.specs.Fixed.{number_bytes}
 use Rattle.gimli_lines_write_bytes.specs.NumberBytes.{length_limit, spelled_length}
 use Rattle.gimli_lines_write_bytes.specs.NumberParsers.{is_address_size}
@@ -38,6 +38,29 @@ spelled_unit e is_big xs =
 
 abbrev pub spelled_units : Encoding → Bool → List (List Entry) → List ℕ
 spelled_units e is_big us = flat_map (spelled_unit e is_big) us
+
+-- ---- where the abstract functions of a unit are
+
+-- the bytes of a unit before its entries
+abbrev pub entries_start : Encoding → ℕ
+entries_start e =
+    if nat_le e.version 4 then initial_length_size e.format + 3 + word_size e.format
+    else initial_length_size e.format + 4 + word_size e.format
+
+-- the bytes of its root: the code, four offsets and an address
+abbrev pub root_size : Encoding → ℕ
+root_size e = 1 + 4 * word_size e.format + e.address_size
+
+-- those of an abstract function: the code, and the offset of its name
+abbrev pub abstract_size : Encoding → ℕ
+abstract_size e = 1 + word_size e.format
+
+-- the offset from the unit's start of the abstract function of a number; they come directly after
+-- the root
+abbrev pub abstract_offset : Encoding → ℕ → ℕ
+abstract_offset e number = entries_start e + root_size e + number * abstract_size e
+
+-- ---- units as they are read
 
 -- what is read of a unit at an offset, whose first byte has an identifier
 abbrev pub unit_for : Encoding → Bool → ℕ → ℕ → List Entry → DebugUnit

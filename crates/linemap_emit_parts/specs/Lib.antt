@@ -5,12 +5,14 @@ pub use Rattle.gimli_lines_header.specs.LineFiles
 pub use Rattle.gimli_lines_header.specs.LineHeaders
 pub use Rattle.gimli_units_entries.specs.EntryRows
 pub use Rattle.gimli_units_entries.specs.EntryWalks
+pub use Rattle.gimli_units_entries.specs.EntryLaws
 pub use Rattle.gimli_units_entries.specs.UnitEntries
 pub use Rattle.gimli_lines_header.specs.AttributeMeanings
 pub use Rattle.gimli_lines_header.specs.AttributeValues
 pub use Rattle.gimli_lines_header.specs.ArangeSets
 pub use Rattle.gimli_lines_header.specs.Tiling
 pub use Rattle.gimli_lines_header.specs.UnitHeaders
+pub use Rattle.gimli_lines_header.specs.UnitOffsets
 pub use Rattle.gimli_units_lists.specs.ListSections
 pub mod WriteResults
 pub mod EmittedEntries

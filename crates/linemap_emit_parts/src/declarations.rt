@@ -4,8 +4,10 @@ ghost use Rattle.std.specs.Prelude.{◌≡◌, ◌++◌, ◌∷◌, [], if◌the
 ghost use Rattle.gimli_lines_write_bytes.specs.Spelling.{unsigned_string};
 ghost use Rattle.linemap_emit_parts.specs.WriteResults.{Appends};
 ghost use Rattle.linemap_emit_parts.specs.EmittedEntries.{declaration_for, offset_form, spelled_declaration, spelled_declarations};
-ghost use Rattle.linemap_emit_parts.specs.declared.entries.Entry.TheVariants.{CompileUnit, Function, Call};
+ghost use Rattle.linemap_emit_parts.specs.declared.entries.Entry.TheVariants.{CompileUnit, AbstractFunction, Function, Call};
 
+use gimli_core_base::DW_AT_abstract_origin;
+use gimli_core_base::constants::DW_FORM_ref4;
 use gimli_lines_write_bytes::{
     DW_AT_call_column, DW_AT_call_file, DW_AT_call_line, DW_AT_comp_dir, DW_AT_low_pc, DW_AT_name,
     DW_AT_ranges, DW_AT_stmt_list, DW_FORM_addr, DW_FORM_data4, DW_FORM_data8, DW_FORM_sec_offset,
@@ -84,6 +86,20 @@ fn write_unit_offsets(w: &mut EndianVec<RunTimeEndian>, encoding: Encoding) -> R
     write_attribute(w, DW_AT_ranges, offset_form(encoding))
 }
 
+// Writes the attributes of the abstract function and of the ranges of a call.
+fn write_origin_and_ranges(
+    w: &mut EndianVec<RunTimeEndian>,
+    encoding: Encoding,
+) -> Result<(), Error>
+    ensures { Appends result w.old w.new
+        (unsigned_string DW_AT_abstract_origin.0 ++ unsigned_string DW_FORM_ref4.0
+        ++ unsigned_string DW_AT_ranges.0
+        ++ unsigned_string (offset_form encoding)) }
+{
+    write_attribute(w, DW_AT_abstract_origin, DW_FORM_ref4)?;
+    write_attribute(w, DW_AT_ranges, offset_form(encoding))
+}
+
 // Writes the attributes of the file, line and column of a call.
 fn write_call_attributes(w: &mut EndianVec<RunTimeEndian>) -> Result<(), Error>
     ensures { Appends result w.old w.new
@@ -153,8 +169,22 @@ fn declare_call(
         DW_TAG_inlined_subroutine,
         has_children,
     )?;
-    write_name_and_ranges(w, encoding)?;
+    write_origin_and_ranges(w, encoding)?;
     write_call_attributes(w)?;
+    write_end(w)
+}
+
+// Declares abstract functions.
+fn declare_abstract_function(
+    w: &mut EndianVec<RunTimeEndian>,
+    encoding: Encoding,
+) -> Result<(), Error>
+    ensures { Appends result w.old w.new
+        (spelled_declaration
+        (declaration_for encoding DW_TAG_subprogram.0 false (AbstractFunction 0))) }
+{
+    write_start(w, 6, DW_TAG_subprogram, false)?;
+    write_attribute(w, DW_AT_name, DW_FORM_strp)?;
     write_end(w)
 }
 
@@ -189,5 +219,6 @@ pub fn write_declarations(w: &mut EndianVec<RunTimeEndian>, encoding: Encoding) 
     declare_unit(w, encoding)?;
     declare_functions(w, encoding)?;
     declare_calls(w, encoding)?;
+    declare_abstract_function(w, encoding)?;
     w.write_u8(0)
 }

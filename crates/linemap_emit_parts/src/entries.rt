@@ -21,16 +21,21 @@ pub enum Entry {
         line_program: u64,
         ranges: u64,
     },
+    /// A function that is inlined somewhere, without code of its own (DWARF 5, 3.3.8.1): its name.
+    AbstractFunction {
+        name: u64,
+    },
     /// A function: its name, and the offset of its ranges.
     Function {
         has_children: bool,
         name: u64,
         ranges: u64,
     },
-    /// An inlined call: the name of the function, the offset of its ranges, and where it is called.
+    /// An inlined call: the offset of the abstract function from the start of the unit, the offset
+    /// of its ranges, and where it is called.
     Call {
         has_children: bool,
-        name: u64,
+        origin: u64,
         ranges: u64,
         file: u64,
         line: u64,
@@ -49,6 +54,7 @@ impl Entry {
             Entry::CompileUnit { .. } => 1,
             Entry::Function { has_children, .. } => if has_children { 2 } else { 3 },
             Entry::Call { has_children, .. } => if has_children { 4 } else { 5 },
+            Entry::AbstractFunction { .. } => 6,
             Entry::EndOfChildren => 0,
         }
     }
@@ -69,6 +75,14 @@ fn write_address(w: &mut EndianVec<RunTimeEndian>, size: u8, address: u64) -> Re
     ensures { Appends result w.old w.new (number_bytes w.old.is_big size address) }
 {
     w.write_udata(address, size)
+}
+
+// Writes the offset of an entry from the start of its unit.
+fn write_reference(w: &mut EndianVec<RunTimeEndian>, offset: u64) -> Result<(), Error>
+    requires { offset < 256 ^ 4 }
+    ensures { Appends result w.old w.new (number_bytes w.old.is_big 4 offset) }
+{
+    w.write_udata(offset, 4)
 }
 
 // Writes the file, line and column of a call.
@@ -114,15 +128,16 @@ pub fn write_entry(
             write_word(w, encoding.format, name)?;
             write_word(w, encoding.format, ranges)
         }
+        Entry::AbstractFunction { name } => write_word(w, encoding.format, name),
         Entry::Call {
-            name,
+            origin,
             ranges,
             file,
             line,
             column,
             ..
         } => {
-            write_word(w, encoding.format, name)?;
+            write_reference(w, origin)?;
             write_word(w, encoding.format, ranges)?;
             write_place(w, file, line, column)
         }

@@ -13,4 +13,4 @@ pub mod units;
 pub use declarations::write_declarations;
 pub use entries::Entry;
 pub use range_lists::{lists_start, write_lists_header, write_ranges};
-pub use units::{write_length, write_unit};
+pub use units::{abstract_offset, write_length, write_unit};

@@ -6,7 +6,7 @@ ghost use Rattle.gimli_lines_write_bytes.specs.FormatSizes.{word_size};
 ghost use Rattle.linemap_emit_parts.specs.WriteResults.{Appends};
 ghost use Rattle.linemap_emit_parts.specs.EmittedEntries.{AllFit, attributes_of};
 ghost use Rattle.linemap_emit_parts.specs.EmittedEntryRows.{spelled_entries};
-ghost use Rattle.linemap_emit_parts.specs.EmittedUnits.{IsWritten, spelled_fields, spelled_unit_body, spelled_unit};
+ghost use Rattle.linemap_emit_parts.specs.EmittedUnits.{IsWritten, spelled_fields, spelled_unit_body, spelled_unit, entries_start, root_size, abstract_size, abstract_offset};
 ghost use Rattle.gimli_lines_write_bytes.specs.NumberBytes.{length_limit, spelled_length};
 
 use crate::entries::{Entry, write_entry};
@@ -32,6 +32,32 @@ pub fn write_length(
             w.write_u64(length)
         }
     }
+}
+
+// The bytes of a unit before its entries.
+fn entries_start(encoding: Encoding) -> u64
+    ensures { result ≡ entries_start encoding }
+{
+    let fields = if encoding.version <= 4 { 3 } else { 4 };
+    let format = encoding.format;
+    u64::from(format.initial_length_size()) + fields + u64::from(format.word_size())
+}
+
+// The bytes of a unit's root.
+fn root_size(encoding: Encoding) -> u64
+    ensures { result ≡ root_size encoding }
+{
+    1 + 4 * u64::from(encoding.format.word_size()) + u64::from(encoding.address_size)
+}
+
+/// The offset from the start of its unit of the abstract function of a number. These functions are
+/// numbered from 0, and come directly after the root.
+pub fn abstract_offset(encoding: Encoding, number: u64) -> u64
+    requires { number < 2 ^ 31 }
+    ensures { result ≡ abstract_offset encoding number }
+{
+    let abstract_size = 1 + u64::from(encoding.format.word_size());
+    entries_start(encoding) + root_size(encoding) + number * abstract_size
 }
 
 // Writes the offset of the declarations, which is 0.

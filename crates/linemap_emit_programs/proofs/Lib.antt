@@ -1,3 +1,9 @@
+pub use Rattle.linemap_emit_rows.proofs.RowSteps
+pub use Rattle.linemap_emit_rows.proofs.RowLaws
+pub use Rattle.linemap_emit_rows.proofs.StepSizes
+pub use Rattle.linemap_emit_rows.proofs.StepParts
+pub use Rattle.linemap_emit_rows.proofs.RowParts
+pub use Rattle.linemap_emit_rows.proofs.EntryListsRead
 pub use Rattle.linemap_emit_rows.proofs.Wrapping
 pub use Rattle.linemap_emit_rows.proofs.ArangeSetLemmas
 pub use Rattle.linemap_emit_rows.proofs.TilingLemmas

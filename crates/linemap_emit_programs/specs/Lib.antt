@@ -1,3 +1,5 @@
+pub use Rattle.linemap_emit_rows.specs.UnitOffsets
+pub use Rattle.linemap_emit_rows.specs.EntryLaws
 pub use Rattle.linemap_emit_rows.specs.Contexts
 pub use Rattle.linemap_emit_rows.specs.Lines
 pub use Rattle.linemap_emit_rows.specs.UnitLines

@@ -1,3 +1,5 @@
+pub use Rattle.linemap_emit_parts.specs.UnitOffsets
+pub use Rattle.linemap_emit_parts.specs.EntryLaws
 pub use Rattle.linemap_emit_parts.specs.LineFiles
 pub use Rattle.gimli_lines_write_rows.specs.SectionReads
 pub use Rattle.linemap_places_laws.specs.FileText

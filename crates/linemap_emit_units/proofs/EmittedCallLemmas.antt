@@ -1,12 +1,16 @@
 -- Calls, one level at a time.
 use Rattle.std.proofs.Math.Seq.{drop-cons}
-use Rattle.std.proofs.Common.{◌≡◌, ℕ, suc, ◌+◌, ◌<◌, drop, get_or, Bool, true, false, not, eqb, List, [], ◌∷◌, length, ap, refl, sym, ◌∙◌, arith}
+use Rattle.std.proofs.Common.{◌≡◌, ℕ, suc, ◌+◌, ◌<◌, drop, get_or, Bool, true, false, not, eqb, List, [], ◌∷◌, ◌++◌, All, length, ap, refl, sym, subst, ◌∙◌, arith}
+use Rattle.std.proofs.lemmas.List.Elements.{All-head, All-tail}
 use Rattle.std.proofs.lemmas.Bool.{ne_eqb}
 use Rattle.linemap_emit_programs.specs.TableViews.{call_part, calls_part}
 use Rattle.linemap_emit_programs.specs.TableCall.{TableCall}
 use Rattle.linemap_emit_programs.specs.TableCall.TheViews.{out-TableCall}
 use Rattle.linemap_emit_programs.proofs.TableViewLemmas.{inner-out}
 use Rattle.linemap_emit_programs.specs.TableParts.{Calls, no_calls, more_calls, FunctionPart}
+use Rattle.linemap_emit_units.specs.InlinedNames.{call_names, called_names, with_texts, IsAmong}
+use Rattle.linemap_emit_units.proofs.InlinedNameLemmas.{All-left, All-right, with_texts-append}
+use Rattle.gimli_lines_write_tables.specs.StringSections.{IsText, with_text}
 use Rattle.linemap_emit_units.specs.UnitEmission.{EmittedUnit, has_calls, with_end_of_children, with_call, with_calls, with_function_entry, with_function, with_functions, CanEmitCalls, CanEmitFunctions}
 
 -- there are some
@@ -28,51 +32,119 @@ closed_keeps : (b : Bool) (st : EmittedUnit) → (with_end_of_children b st).enc
 closed_keeps true st = refl
 closed_keeps false st = refl
 
-pub calls_keep : (cs : Calls) (st : EmittedUnit) → (with_calls cs st).encoding ≡ st.encoding
+pub calls_keep : (names : List (List ℕ)) (cs : Calls) (st : EmittedUnit)
+    → (with_calls names cs st).encoding ≡ st.encoding
 unfolding with_calls
-calls_keep no_calls st = refl
-calls_keep (more_calls site inner others) st =
-    calls_keep others (with_end_of_children (has_calls inner) (with_calls inner (with_call (has_calls inner) site st)))
-    ∙ closed_keeps (has_calls inner) (with_calls inner (with_call (has_calls inner) site st))
-    ∙ calls_keep inner (with_call (has_calls inner) site st)
+calls_keep names no_calls st = refl
+calls_keep names (more_calls site inner others) st =
+    let head = with_call names (has_calls inner) site st in
+    calls_keep names others (with_end_of_children (has_calls inner) (with_calls names inner head))
+    ∙ closed_keeps (has_calls inner) (with_calls names inner head)
+    ∙ calls_keep names inner head
 
 -- ---- one call of several
 
 -- the entries of a call, of those in it, and the end of them
-pub call_emitted : (size : ℕ) (c : TableCall) (rest : List TableCall) (st st1 st2 st3 final : EmittedUnit)
-    (children : Bool)
-    → children ≡ has_calls (call_part c).inner → st1 ≡ with_call children (call_part c).site st
-    → st2 ≡ with_calls (calls_part (out-TableCall c).calls.items) st1 → st3 ≡ with_end_of_children children st2
-    → CanEmitCalls size (calls_part (c ∷ rest)) → with_calls (calls_part (c ∷ rest)) st ≡ final
-    → (st3.encoding ≡ st.encoding) × CanEmitCalls size (calls_part rest) × (with_calls (calls_part rest) st3 ≡ final)
-unfolding with_calls CanEmitCalls
-call_emitted size c rest st st1 st2 st3 final children some head inner end can whole =
+pub call_emitted : (size : ℕ) (names : List (List ℕ)) (c : TableCall) (rest : List TableCall)
+    (st st1 st2 st3 final : EmittedUnit) (children : Bool)
+    → children ≡ has_calls (call_part c).inner → st1 ≡ with_call names children (call_part c).site st
+    → st2 ≡ with_calls names (calls_part (out-TableCall c).calls.items) st1
+    → st3 ≡ with_end_of_children children st2
+    → CanEmitCalls size (calls_part (c ∷ rest)) → All (IsAmong names) (call_names (calls_part (c ∷ rest)))
+    → with_calls names (calls_part (c ∷ rest)) st ≡ final
+    → (st3.encoding ≡ st.encoding) × CanEmitCalls size (calls_part rest)
+    × All (IsAmong names) (call_names (calls_part rest))
+    × (with_calls names (calls_part rest) st3 ≡ final)
+unfolding with_calls CanEmitCalls call_names
+call_emitted size names c rest st st1 st2 st3 final children some head inner end can among whole =
+    let called = with_call names (has_calls (call_part c).inner) (call_part c).site st in
     let after : st3 ≡ with_end_of_children (has_calls (call_part c).inner)
-    (with_calls (call_part c).inner (with_call (has_calls (call_part c).inner) (call_part c).site st)) =
+    (with_calls names (call_part c).inner called) =
     end ∙ ap (with_end_of_children children)
-    (inner ∙ ap (λ cs. with_calls cs st1) (sym (inner_is c)) ∙ ap (with_calls (call_part c).inner) head)
-    ∙ ap (λ b. with_end_of_children b (with_calls (call_part c).inner (with_call b (call_part c).site st))) some in
-    let can_rest =
-    ap (λ x. x.encoding) after ∙ closed_keeps (has_calls (call_part c).inner)
-    (with_calls (call_part c).inner (with_call (has_calls (call_part c).inner) (call_part c).site st))
-    ∙ calls_keep (call_part c).inner (with_call (has_calls (call_part c).inner) (call_part c).site st) in
-    (can_rest, can.3, ap (with_calls (calls_part rest)) after ∙ whole)
+    (inner ∙ ap (λ cs. with_calls names cs st1) (sym (inner_is c)) ∙ ap (with_calls names (call_part c).inner) head)
+    ∙ ap (λ b. with_end_of_children b (with_calls names (call_part c).inner
+    (with_call names b (call_part c).site st))) some in
+    let same =
+    ap (λ x. x.encoding) after
+    ∙ closed_keeps (has_calls (call_part c).inner) (with_calls names (call_part c).inner called)
+    ∙ calls_keep names (call_part c).inner called in
+    let within = call_names (call_part c).inner in
+    let later = call_names (calls_part rest) in (
+      same,
+      can.3,
+      All-right (IsAmong names) within later
+          (All-tail (IsAmong names) (call_part c).site.name (within ++ later) among),
+      ap (with_calls names (calls_part rest)) after ∙ whole,
+    )
+
+-- the names of a call and of those in it are among all
+pub call_among : (names : List (List ℕ)) (c : TableCall) (rest : List TableCall)
+    → All (IsAmong names) (call_names (calls_part (c ∷ rest)))
+    → IsAmong names (call_part c).site.name
+    × All (IsAmong names) (call_names (calls_part (out-TableCall c).calls.items))
+unfolding call_names
+call_among names c rest among =
+    let within = call_names (call_part c).inner in
+    let later = call_names (calls_part rest) in (
+      All-head (IsAmong names) (call_part c).site.name (within ++ later) among,
+      subst (λ cs. All (IsAmong names) (call_names cs)) (inner_is c)
+          (All-left (IsAmong names) within later
+          (All-tail (IsAmong names) (call_part c).site.name (within ++ later) among)),
+    )
+
+-- the names of one call, and then those of others
+pub call_named : (c : TableCall) (rest : List TableCall) (texts texts1 texts2 final : List (List ℕ))
+    → texts1 ≡ with_text texts (call_part c).site.name
+    → texts2 ≡ with_texts texts1 (call_names (calls_part (out-TableCall c).calls.items))
+    → All IsText (call_names (calls_part (c ∷ rest)))
+    → with_texts texts (call_names (calls_part (c ∷ rest))) ≡ final
+    → All IsText (call_names (calls_part rest)) × (with_texts texts2 (call_names (calls_part rest)) ≡ final)
+unfolding call_names
+call_named c rest texts texts1 texts2 final first inner all whole =
+    let within = call_names (call_part c).inner in
+    let later = call_names (calls_part rest) in
+    let after : texts2 ≡ with_texts (with_text texts (call_part c).site.name) within =
+    inner ∙ ap (λ cs. with_texts texts1 (call_names cs)) (sym (inner_is c)) ∙ ap (λ ts. with_texts ts within) first in (
+      All-right IsText within later (All-tail IsText (call_part c).site.name (within ++ later) all),
+      ap (λ ts. with_texts ts later) after
+          ∙ sym (with_texts-append (with_text texts (call_part c).site.name) within later) ∙ whole,
+    )
+
+-- the texts of a call's name, and of the names of those in it
+pub call_texts_of : (c : TableCall) (rest : List TableCall) → All IsText (call_names (calls_part (c ∷ rest)))
+    → IsText (call_part c).site.name × All IsText (call_names (calls_part (out-TableCall c).calls.items))
+unfolding call_names
+call_texts_of c rest all =
+    let within = call_names (call_part c).inner in
+    let later = call_names (calls_part rest) in (
+      All-head IsText (call_part c).site.name (within ++ later) all,
+      subst (λ cs. All IsText (call_names cs)) (inner_is c)
+          (All-left IsText within later (All-tail IsText (call_part c).site.name (within ++ later) all)),
+    )
 
 -- the same of a function
-pub function_emitted : (size : ℕ) (f : FunctionPart) (rest : List FunctionPart) (st st1 st2 st3 final : EmittedUnit)
-    (children : Bool)
-    → children ≡ has_calls f.calls → st1 ≡ with_function_entry f st → st2 ≡ with_calls f.calls st1
+pub function_emitted : (size : ℕ) (names : List (List ℕ)) (f : FunctionPart) (rest : List FunctionPart)
+    (st st1 st2 st3 final : EmittedUnit) (children : Bool)
+    → children ≡ has_calls f.calls → st1 ≡ with_function_entry f st → st2 ≡ with_calls names f.calls st1
     → st3 ≡ with_end_of_children children st2
-    → CanEmitFunctions size (f ∷ rest) → with_functions (f ∷ rest) st ≡ final
-    → (st3.encoding ≡ st.encoding) × CanEmitFunctions size rest × (with_functions rest st3 ≡ final)
-function_emitted size f rest st st1 st2 st3 final children some head inner end can whole =
-    let after : st3 ≡ with_function f st =
-    end ∙ ap (with_end_of_children children) (inner ∙ ap (with_calls f.calls) head)
-    ∙ ap (λ b. with_end_of_children b (with_calls f.calls (with_function_entry f st))) some in
-    let can_rest =
-    ap (λ x. x.encoding) after ∙ closed_keeps (has_calls f.calls) (with_calls f.calls (with_function_entry f st))
-    ∙ calls_keep f.calls (with_function_entry f st) in
-    (can_rest, can.2, ap (with_functions rest) after ∙ whole)
+    → CanEmitFunctions size (f ∷ rest) → All (IsAmong names) (called_names (f ∷ rest))
+    → with_functions names (f ∷ rest) st ≡ final
+    → (st3.encoding ≡ st.encoding) × CanEmitFunctions size rest × All (IsAmong names) (called_names rest)
+    × (with_functions names rest st3 ≡ final)
+function_emitted size names f rest st st1 st2 st3 final children some head inner end can among whole =
+    let after : st3 ≡ with_function names f st =
+    end ∙ ap (with_end_of_children children) (inner ∙ ap (with_calls names f.calls) head)
+    ∙ ap (λ b. with_end_of_children b (with_calls names f.calls (with_function_entry f st))) some in
+    let same =
+    ap (λ x. x.encoding) after
+    ∙ closed_keeps (has_calls f.calls) (with_calls names f.calls (with_function_entry f st))
+    ∙ calls_keep names f.calls (with_function_entry f st) in
+    (
+      same,
+      can.2,
+      All-right (IsAmong names) (call_names f.calls) (called_names rest) among,
+      ap (with_functions names rest) after ∙ whole,
+    )
 
 -- an element before those after it
 pub from_here : {X : Type 0} (xs : List X) (i : ℕ) (x : X) → i < length xs → x ≡ get_or xs i x

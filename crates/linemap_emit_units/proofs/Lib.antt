@@ -11,6 +11,7 @@ pub use Rattle.linemap_emit_programs.proofs.DeclarationsRead
 pub use Rattle.linemap_emit_programs.proofs.EmittedHeadersRead
 pub use Rattle.linemap_emit_programs.proofs.EmittedRangesRead
 pub use Rattle.linemap_emit_programs.proofs.EntryRowsRead
+pub use Rattle.linemap_emit_programs.proofs.EntryListsRead
 pub use Rattle.linemap_emit_programs.proofs.FollowedReads
 pub use Rattle.linemap_emit_programs.proofs.UnitsRead
 pub use Rattle.linemap_emit_programs.proofs.EmittedFileTexts
@@ -21,6 +22,12 @@ pub use Rattle.linemap_emit_programs.proofs.EmittedRowsShown
 pub use Rattle.linemap_emit_programs.proofs.SoundSequenceLemmas
 pub use Rattle.linemap_emit_programs.proofs.SoundUnits
 pub use Rattle.linemap_emit_programs.proofs.TableLocations
+pub use Rattle.linemap_emit_programs.proofs.RowParts
+pub use Rattle.linemap_emit_programs.proofs.StepParts
+pub use Rattle.linemap_emit_programs.proofs.StepSizes
+pub use Rattle.linemap_emit_programs.proofs.RowLaws
+pub use Rattle.linemap_emit_programs.proofs.RowSteps
 pub mod EmittedTextLemmas
+pub mod InlinedNameLemmas
 pub mod EmittedCallLemmas
 mod WorkedEmission

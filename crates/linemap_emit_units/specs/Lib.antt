@@ -41,12 +41,14 @@ pub use Rattle.gimli_lines_write_tables.specs.LineRow
 pub use Rattle.gimli_lines_write_tables.specs.StringSections
 pub use Rattle.linemap_emit_programs.specs.EntryRows
 pub use Rattle.linemap_emit_programs.specs.EntryWalks
+pub use Rattle.linemap_emit_programs.specs.EntryLaws
 pub use Rattle.linemap_emit_programs.specs.UnitEntries
 pub use Rattle.linemap_emit_programs.specs.AttributeMeanings
 pub use Rattle.linemap_emit_programs.specs.AttributeValues
 pub use Rattle.linemap_emit_programs.specs.ArangeSets
 pub use Rattle.linemap_emit_programs.specs.Tiling
 pub use Rattle.linemap_emit_programs.specs.UnitHeaders
+pub use Rattle.linemap_emit_programs.specs.UnitOffsets
 pub use Rattle.linemap_emit_programs.specs.ListSections
 pub use Rattle.linemap_emit_programs.specs.EmittedEntries
 pub use Rattle.linemap_emit_programs.specs.EmittedEntryLaws
@@ -67,6 +69,7 @@ pub use Rattle.linemap_emit_programs.specs.TableParts
 pub use Rattle.linemap_emit_programs.specs.TableWeight
 pub use Rattle.linemap_emit_programs.specs.Rule
 pub use Rattle.linemap_emit_programs.specs.LookupAgreement
+pub mod InlinedNames
 pub mod UnitEmission
 pub mod TableEmission
 pub mod FittingUnits

@@ -6,9 +6,11 @@ use Rattle.gimli_lines_write_tables.specs.StringSections.{IsText, with_text, tex
 use Rattle.gimli_lines_write_tables.specs.OutputBytes.{WriterContents, append}
 use Rattle.linemap_emit_programs.specs.TableParts.{RangePart, Site, Calls, no_calls, more_calls, FunctionPart, UnitPart}
 use Rattle.linemap_emit_programs.specs.Entry.{Entry}
-use Rattle.linemap_emit_programs.specs.Entry.TheVariants.{CompileUnit, Function, Call, EndOfChildren}
+use Rattle.linemap_emit_programs.specs.Entry.TheVariants.{CompileUnit, AbstractFunction, Function, Call, EndOfChildren}
+use Rattle.linemap_emit_programs.specs.EmittedUnits.{abstract_offset}
 use Rattle.linemap_emit_programs.specs.EmittedRanges.{AllWritable, lists_start, spelled_ranges}
 use Rattle.linemap_emit_programs.specs.LookupAgreement.{lookup_range}
+use Rattle.linemap_emit_units.specs.InlinedNames.{inlined_names}
 
 -- the encoding, the texts of the string section, the range lists, and the entries of the unit
 pub record EmittedUnit : Type 0 where
@@ -48,19 +50,32 @@ abbrev pub with_end_of_children : Bool → EmittedUnit → EmittedUnit
 with_end_of_children true st = with_entry EndOfChildren st
 with_end_of_children false st = st
 
--- the entry of a call: its name, its ranges, and where it is called, in files that count from 1
-abbrev pub with_call : Bool → Site → EmittedUnit → EmittedUnit
-with_call children s st =
-    with_entry (Call children (text_offset s.name st) (list_offset st) (s.file + 1) s.line s.column)
-    (with_list s.ranges (with_name s.name st))
+-- the entries of functions that are inlined somewhere, each with its name alone
+abbrev pub with_abstract_functions : List (List ℕ) → EmittedUnit → EmittedUnit
+with_abstract_functions [] st = st
+with_abstract_functions (name ∷ names) st =
+    with_abstract_functions names
+    (with_entry (AbstractFunction (text_offset name st)) (with_name name st))
+
+-- where the entry of such a function is, among those of some names
+abbrev pub origin_of : Encoding → List (List ℕ) → List ℕ → ℕ
+origin_of e names name = abstract_offset e (text_index names name)
+
+-- the entry of a call of one of these functions: that function's entry, the call's ranges, and
+-- where it is called, in files that count from 1
+abbrev pub with_call : List (List ℕ) → Bool → Site → EmittedUnit → EmittedUnit
+with_call names children s st =
+    with_entry
+    (Call children (origin_of st.encoding names s.name) (list_offset st) (s.file + 1) s.line
+    s.column) (with_list s.ranges st)
 
 -- calls, each with those in it
-unfoldable pub with_calls : Calls → EmittedUnit → EmittedUnit
-with_calls no_calls st = st
-with_calls (more_calls site inner others) st =
-    with_calls others
+unfoldable pub with_calls : List (List ℕ) → Calls → EmittedUnit → EmittedUnit
+with_calls names no_calls st = st
+with_calls names (more_calls site inner others) st =
+    with_calls names others
     (with_end_of_children (has_calls inner)
-    (with_calls inner (with_call (has_calls inner) site st)))
+    (with_calls names inner (with_call names (has_calls inner) site st)))
 
 -- the entry of a function
 abbrev pub with_function_entry : FunctionPart → EmittedUnit → EmittedUnit
@@ -69,13 +84,13 @@ with_function_entry f st =
     (with_list f.ranges (with_name f.name st))
 
 -- a function with its calls
-abbrev pub with_function : FunctionPart → EmittedUnit → EmittedUnit
-with_function f st =
-    with_end_of_children (has_calls f.calls) (with_calls f.calls (with_function_entry f st))
+abbrev pub with_function : List (List ℕ) → FunctionPart → EmittedUnit → EmittedUnit
+with_function names f st =
+    with_end_of_children (has_calls f.calls) (with_calls names f.calls (with_function_entry f st))
 
-abbrev pub with_functions : List FunctionPart → EmittedUnit → EmittedUnit
-with_functions [] st = st
-with_functions (f ∷ fs) st = with_functions fs (with_function f st)
+abbrev pub with_functions : List (List ℕ) → List FunctionPart → EmittedUnit → EmittedUnit
+with_functions names [] st = st
+with_functions names (f ∷ fs) st = with_functions names fs (with_function names f st)
 
 -- the entry of a unit whose line program is at an offset
 abbrev pub with_unit_entry : ℕ → UnitPart → EmittedUnit → EmittedUnit
@@ -84,10 +99,13 @@ with_unit_entry line_program u st =
     with_entry (CompileUnit (text_offset u.name st) (text_offset u.directory next) line_program
     (list_offset st)) (with_list u.ranges (with_name u.directory next))
 
--- a unit: its entry, those of its functions, and the end of its children
+-- a unit: its entry, those of the functions that are inlined, those of its functions with their
+-- calls, and the end of its children
 abbrev pub with_unit : ℕ → UnitPart → EmittedUnit → EmittedUnit
 with_unit line_program u st =
-    with_entry EndOfChildren (with_functions u.functions (with_unit_entry line_program u st))
+    with_entry EndOfChildren
+    (with_functions (inlined_names u) u.functions
+    (with_abstract_functions (inlined_names u) (with_unit_entry line_program u st)))
 
 -- no current unit
 abbrev pub without_entries : EmittedUnit → EmittedUnit
@@ -111,6 +129,8 @@ CanEmitFunctions size [] = Unit {0}
 CanEmitFunctions size (f ∷ fs) =
     CanEmit size f.name f.ranges × CanEmitCalls size f.calls × CanEmitFunctions size fs
 
+-- what can be emitted of a unit, in which fewer than 2^31 functions are inlined
 abbrev pub CanEmitUnit : ℕ → UnitPart → Type 0
 CanEmitUnit size u =
     IsText u.directory × CanEmit size u.name u.ranges × CanEmitFunctions size u.functions
+    × (length (inlined_names u) < 2 ^ 31)

@@ -1,6 +1,7 @@
 //! The units of a table as they are emitted, and the tables that fit.
 #![tactic(auto)]
 
+pub mod inlined_names;
 pub mod unit_emitter;
 
 pub use gimli_lines_write_tables::{

@@ -1,6 +1,6 @@
 //! The entries of units, with their texts and range lists.
 
-ghost use Rattle.std.specs.Prelude.{◌≡◌, ◌<◌, ◌+◌, ◌^◌, [], All, ◌≢◌, map, string_bytes, OnOk, IfOk, IfErr, true};
+ghost use Rattle.std.specs.Prelude.{◌≡◌, ◌<◌, ◌+◌, ◌^◌, [], All, ◌≢◌, map, length, string_bytes, OnOk, IfOk, IfErr, true};
 ghost use Rattle.linemap_emit_programs.specs.LookupAgreement.{lookup_range};
 ghost use Rattle.gimli_lines_write_tables.specs.StringSections.{IsText, section_of};
 ghost use Rattle.gimli_lines_write_tables.specs.WriteError.TheVariants.{Memory};
@@ -8,13 +8,16 @@ ghost use Rattle.linemap_emit_programs.specs.TableViews.{range_part, call_part, 
 ghost use Rattle.gimli_lines_write_tables.specs.NumberParsers.{is_address_size};
 ghost use Rattle.linemap_emit_programs.specs.WriteResults.{Appends};
 ghost use Rattle.linemap_emit_programs.specs.EmittedRanges.{AllWritable};
-ghost use Rattle.linemap_emit_units.specs.UnitEmission.{text_offset, with_name, with_list, list_offset, with_entry, has_calls, with_end_of_children, with_function_entry, with_call, CanEmit, CanEmitCalls, CanEmitFunctions, CanEmitUnit, with_calls, with_function, with_functions, with_unit_entry, with_unit, without_entries};
+ghost use Rattle.linemap_emit_units.specs.UnitEmission.{text_offset, with_name, with_list, list_offset, with_entry, has_calls, with_end_of_children, with_abstract_functions, with_function_entry, with_call, CanEmit, CanEmitCalls, CanEmitFunctions, CanEmitUnit, with_calls, with_function, with_functions, with_unit_entry, with_unit, without_entries};
+ghost use Rattle.linemap_emit_units.specs.InlinedNames.{call_names, called_names, IsAmong};
 
+use crate::inlined_names::{names_of, number_of};
 use gimli_lines_write_tables::{
-    Encoding, EndianVec, Error, Range, RunTimeEndian, StringTable, Writer,
+    Encoding, EndianVec, Error, Range, RunTimeEndian, StringId, StringTable, Writer,
 };
 use linemap_emit_programs::{
-    Entry, TableCall, TableFunction, TableRange, TableUnit, lists_start, write_ranges,
+    Entry, TableCall, TableFunction, TableRange, TableUnit, abstract_offset, lists_start,
+    write_ranges,
 };
 use std::alloc::Global;
 use std::marker::Model;
@@ -58,13 +61,13 @@ impl UnitEmitter {
 
     // The offset of a text, which is added if it isn't there.
     #[tactic(auto, using(crate::proofs::EmittedTextLemmas::place_below))]
-    fn text(&mut self, alloc: Global, text: &str) -> Result<u64, Error>
+    fn text(&mut self, alloc: Global, text: &[u8]) -> Result<u64, Error>
         requires { IsText text.now }
         ensures ok { OnOk result (self.new ≡ with_name text.now self.old) }
         ensures offset { IfOk result (λ offset. offset ≡ text_offset text.now self.old) }
         ensures refusal { IfErr result (λ e. e ≡ Memory) }
     {
-        let id = self.strings.add(alloc, text.as_bytes())?;
+        let id = self.strings.add(alloc, text)?;
         Ok(self.strings.offset(id).0 as u64)
     }
 
@@ -103,21 +106,43 @@ impl UnitEmitter {
         Ok(())
     }
 
-    // The entry of a call, without those in it.
-    fn call(&mut self, alloc: Global, call: &TableCall, has_children: bool) -> Result<(), Error>
+    // The entries of functions that are inlined somewhere.
+    fn abstract_functions(&mut self, alloc: Global, names: &StringTable) -> Result<(), Error>
+        ensures ok { OnOk result (self.new ≡ with_abstract_functions names.now self.old) }
+        ensures refusal { IfErr result (λ e. e ≡ Memory) }
+    {
+        for number in 0..names.count() {
+            let name = self.text(alloc, names.get(StringId(number)))?;
+            self.entry(Entry::AbstractFunction { name })?;
+        }
+        Ok(())
+    }
+
+    // The entry of a call of one of these functions, without the calls in it.
+    fn call(
+        &mut self,
+        alloc: Global,
+        names: &mut StringTable,
+        call: &TableCall,
+        has_children: bool,
+    ) -> Result<(), Error>
         requires size { is_address_size self.old.encoding.address_size ≡ true }
         requires can_emit { CanEmit self.old.encoding.address_size (call_part call.now).site.name
             (call_part call.now).site.ranges }
+        requires among { IsAmong names.old (call_part call.now).site.name }
+        requires few { length names.old < 2 ^ 31 }
         requires file { (call_part call.now).site.file + 1 < 2 ^ 64 }
         ensures ok { OnOk result
-            (self.new ≡ with_call has_children (call_part call.now).site self.old) }
+            (self.new ≡ with_call names.old has_children (call_part call.now).site self.old) }
+        ensures same { OnOk result (names.new ≡ names.old) }
         ensures refusal { IfErr result (λ e. e ≡ Memory) }
     {
-        let name = self.text(alloc, &call.name)?;
+        let number = number_of(alloc, names, &call.name)?;
+        let origin = abstract_offset(self.encoding, number);
         let ranges = self.list(alloc, &call.ranges)?;
         self.entry(Entry::Call {
             has_children,
-            name,
+            origin,
             ranges,
             file: call.file + 1,
             line: call.line,
@@ -127,16 +152,25 @@ impl UnitEmitter {
 
     // The entries of calls, each with those in it.
     #[tactic(auto, using(crate::proofs::EmittedCallLemmas::some_in), unfolding(crate::specs::UnitEmission::with_calls, crate::specs::UnitEmission::CanEmitCalls))]
-    fn calls(&mut self, alloc: Global, calls: &[TableCall]) -> Result<(), Error>
+    fn calls(
+        &mut self,
+        alloc: Global,
+        names: &mut StringTable,
+        calls: &[TableCall],
+    ) -> Result<(), Error>
         requires size { is_address_size self.old.encoding.address_size ≡ true }
         requires can_emit { CanEmitCalls self.old.encoding.address_size (calls_part calls.now) }
-        ensures ok { OnOk result (self.new ≡ with_calls (calls_part calls.now) self.old) }
+        requires among { All (IsAmong names.old) (call_names (calls_part calls.now)) }
+        requires few { length names.old < 2 ^ 31 }
+        ensures ok { OnOk result
+            (self.new ≡ with_calls names.old (calls_part calls.now) self.old) }
+        ensures same { OnOk result (names.new ≡ names.old) }
         ensures refusal { IfErr result (λ e. e ≡ Memory) }
     {
         for call in calls {
             let has_children = !call.calls.is_empty();
-            self.call(alloc, call, has_children)?;
-            self.calls(alloc, &call.calls)?;
+            self.call(alloc, names, call, has_children)?;
+            self.calls(alloc, names, &call.calls)?;
             self.close(has_children)?;
         }
         Ok(())
@@ -152,7 +186,7 @@ impl UnitEmitter {
             (self.new ≡ with_function_entry (function_part function.now) self.old) }
         ensures refusal { IfErr result (λ e. e ≡ Memory) }
     {
-        let name = self.text(alloc, &function.name)?;
+        let name = self.text(alloc, function.name.as_bytes())?;
         let ranges = self.list(alloc, &function.ranges)?;
         self.entry(Entry::Function {
             has_children: !function.calls.is_empty(),
@@ -163,18 +197,25 @@ impl UnitEmitter {
 
     // The entries of functions, each with its calls.
     #[tactic(auto, using(crate::proofs::EmittedCallLemmas::some_calls))]
-    fn functions(&mut self, alloc: Global, functions: &[TableFunction]) -> Result<(), Error>
+    fn functions(
+        &mut self,
+        alloc: Global,
+        names: &mut StringTable,
+        functions: &[TableFunction],
+    ) -> Result<(), Error>
         requires size { is_address_size self.old.encoding.address_size ≡ true }
         requires can_emit { CanEmitFunctions self.old.encoding.address_size
             (map function_part functions.now) }
+        requires among { All (IsAmong names.old) (called_names (map function_part functions.now)) }
+        requires few { length names.old < 2 ^ 31 }
         ensures ok { OnOk result
-            (self.new ≡ with_functions (map function_part functions.now) self.old) }
+            (self.new ≡ with_functions names.old (map function_part functions.now) self.old) }
         ensures refusal { IfErr result (λ e. e ≡ Memory) }
     {
         for function in functions {
             let has_children = !function.calls.is_empty();
             self.function(alloc, function)?;
-            self.calls(alloc, &function.calls)?;
+            self.calls(alloc, names, &function.calls)?;
             self.close(has_children)?;
         }
         Ok(())
@@ -190,8 +231,8 @@ impl UnitEmitter {
             (self.new ≡ with_unit_entry line_program (unit_part unit.now) self.old) }
         ensures refusal { IfErr result (λ e. e ≡ Memory) }
     {
-        let name = self.text(alloc, &unit.name)?;
-        let directory = self.text(alloc, &unit.directory)?;
+        let name = self.text(alloc, unit.name.as_bytes())?;
+        let directory = self.text(alloc, unit.directory.as_bytes())?;
         let ranges = self.list(alloc, &unit.ranges)?;
         self.entry(Entry::CompileUnit {
             name,
@@ -203,14 +244,17 @@ impl UnitEmitter {
 
     /// Adds the entries of a unit, with its texts and range lists. Its line program is at an
     /// offset.
+    #[tactic(auto, using(crate::proofs::InlinedNameLemmas::unit_texts, crate::proofs::InlinedNameLemmas::unit_among))]
     pub fn unit(&mut self, alloc: Global, unit: &TableUnit, line_program: u64) -> Result<(), Error>
         requires size { is_address_size self.old.encoding.address_size ≡ true }
         requires can_emit { CanEmitUnit self.old.encoding.address_size (unit_part unit.now) }
         ensures ok { OnOk result (self.new ≡ with_unit line_program (unit_part unit.now) self.old) }
         ensures refusal { IfErr result (λ e. e ≡ Memory) }
     {
+        let mut names = names_of(alloc, &unit.functions)?;
         self.root(alloc, unit, line_program)?;
-        self.functions(alloc, &unit.functions)?;
+        self.abstract_functions(alloc, &names)?;
+        self.functions(alloc, &mut names, &unit.functions)?;
         self.entry(Entry::EndOfChildren)
     }
 
