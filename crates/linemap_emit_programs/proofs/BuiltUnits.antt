@@ -10,10 +10,10 @@ use Rattle.linemap_emit_rows.specs.TableParts.{FilePart}
 use Rattle.linemap_emit_programs.specs.EmittedFiles.{EmittedFiles, with_table_file, table_file_ids}
 
 -- as many ids as files
-pub length-ids : (fs : List FilePart) (st : EmittedFiles) → length (table_file_ids fs st) ≡ length fs
+pub ids_counted : (fs : List FilePart) (st : EmittedFiles) → length (table_file_ids fs st) ≡ length fs
 unfolding table_file_ids
-length-ids [] st = refl
-length-ids (f ∷ fs) st = ap suc (length-ids fs (with_table_file f st))
+ids_counted [] st = refl
+ids_counted (f ∷ fs) st = ap suc (ids_counted fs (with_table_file f st))
 
 -- no file's own text is recorded
 pub none_is_empty : (version : ℕ) (infos : List Info) → empty_form version no_details infos ≡ None

@@ -26,3 +26,5 @@ pub mod SoundFiles
 pub mod PlacedFiles
 pub mod EmittedFileTexts
 pub mod UnitProgramsRead
+pub mod WrittenPrograms
+pub mod AddedFiles

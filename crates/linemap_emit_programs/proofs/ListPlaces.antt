@@ -54,7 +54,7 @@ pub item_extends : {A : Type 0} (same : A → A → Bool) (items : List A) (x : 
     → Extends items (with_item same items x)
 item_extends {A} same items x = by (list_any (same x) items)
   where
-    by : (b : Bool) → Extends {A} items (cond b items (items ++ x ∷ []))
+    by : (b : Bool) → Extends items (cond b items (items ++ x ∷ []))
     by true = stays_same items
     by false = record { more = x ∷ []; are = refl }
 

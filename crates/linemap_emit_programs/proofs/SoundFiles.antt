@@ -239,6 +239,12 @@ first_sound e u line_texts has free =
       same_length = count_at (nat_le v 4) name;
     }
   where
+    infos_at : Bool → List Info
+    infos_at b = cond b [] (no_info ∷ [])
+
+    files_at : Bool → Text → List File
+    files_at b name = cond b [] (record { path = name; directory = 0 } ∷ [])
+
     by_version : (b : Bool) (two : List (List ℕ)) (name : Text) → Stands e.version two name
         → All (FileStands e.version two 1) (cond b [] (record { path = name; directory = 0 } ∷ []))
     by_version true two name stands = All-nil (FileStands e.version two 1)
@@ -250,8 +256,7 @@ first_sound e u line_texts has free =
     plain_at true = All-nil (λ (i : Info). i ≡ no_info)
     plain_at false = All-cons (λ (i : Info). i ≡ no_info) no_info [] refl (All-nil (λ (i : Info). i ≡ no_info))
 
-    count_at : (b : Bool) (name : Text) → length (cond b {A = List Info} [] (no_info ∷ []))
-        ≡ length (cond b {A = List File} [] (record { path = name; directory = 0 } ∷ []))
+    count_at : (b : Bool) (name : Text) → length (infos_at b) ≡ length (files_at b name)
     count_at true name = refl
     count_at false name = refl
 

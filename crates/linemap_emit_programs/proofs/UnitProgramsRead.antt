@@ -66,7 +66,7 @@ info_fits : (i : Info) → i ≡ no_info → InfoFits i
 info_fits i e = subst InfoFits (sym e) (record {
   timestamp = omega arith;
   size = omega arith;
-  md5 = (length-replicate 16 0, All-replicate (λ (b : ℕ). b < 256) 16 0 (omega arith));
+  md5 = (length-replicate {A = ℕ} 16 0, All-replicate (λ (b : ℕ). b < 256) 16 0 (omega arith));
 })
 
 info_free : (i : Info) → i ≡ no_info → SourceHasNoZero i
@@ -102,10 +102,14 @@ module _ (e : Encoding) (is_big : Bool) (u : UnitPart) (line_texts : List (List 
   abbrev place : ℕ → ℕ
   place = place_in (unit_file_ids e u line_texts)
 
+  -- the unit's own file, where the version has it
+  abbrev own_files : Bool → File → List File
+  own_files b f = cond b [] (f ∷ [])
+
   first_few : length first.tables.files ≤ 1
   first_few = by (nat_le e.version 4) _
     where
-      by : (b : Bool) (f : File) → length (cond b {A = List File} [] (f ∷ [])) ≤ 1
+      by : (b : Bool) (f : File) → length (own_files b f) ≤ 1
       by true f = omega arith
       by false f = omega arith
 
@@ -168,7 +172,7 @@ module _ (e : Encoding) (is_big : Bool) (u : UnitPart) (line_texts : List (List 
 
   -- ---- what is read
 
-  unit_read : UnitIsRead constant_of is_big (emitted_rules e) tables (emitted_sequences place u.sequences) bytes
+  pub unit_read : UnitIsRead constant_of is_big (emitted_rules e) tables (emitted_sequences place u.sequences) bytes
   unit_read =
       unit_is_read constant_of (emitted_rules e) tables (emitted_sequences place u.sequences) is_big bytes can_build
       (omega arith) (omega arith) read_back unit_bytes_are
@@ -243,8 +247,7 @@ module _ (e : Encoding) (is_big : Bool) (u : UnitPart) (line_texts : List (List 
           let there = (files_stay u.files first).files in
           let longer = length-extended first.tables.files st.tables.files there in
           let one : length first.tables.files ≡ 1 =
-          ap (λ b. length (cond b {A = List File} []
-          (record { path = text_in e.version _ u.name; directory = 0 } ∷ [])))
+          ap (λ b. length (own_files b (record { path = text_in e.version _ u.name; directory = 0 })))
           (ap (λ v. nat_le v 4) (sym version_is) ∙ new) in
           omega arith
 

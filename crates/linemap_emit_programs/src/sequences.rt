@@ -44,9 +44,10 @@ fn push_rows(
     requires ends { begin ≤ end }
     requires open { IsOpen (place_in files.now) begin (map row_part rows.now) end
         program.old.rows }
-    ensures ok { OnOk result (program.new ≡ record program.old
-        { rows = with_rows (place_in files.now) begin (map row_part rows.now) end
-            program.old.rows }) }
+    ensures ok { OnOk result (program.new ≡ record program.old {
+      rows = with_rows (place_in files.now) begin (map row_part rows.now) end
+          program.old.rows;
+    }) }
     ensures refusal { IfErr result (λ e. e ≡ Memory) }
 {
     for row in rows {
@@ -66,16 +67,18 @@ fn push_sequence(
     requires ordered { IsOrdered program.old.rows.rules (place_in files.now) (length files.now)
         (sequence_part sequence.now) }
     requires idle { IsIdle program.old.rows }
-    ensures ok { OnOk result (program.new ≡ record program.old
-        { rows = with_entries (emitted_sequence (place_in files.now) (sequence_part sequence.now))
-            program.old.rows }) }
+    ensures ok { OnOk result (program.new ≡ record program.old {
+      rows = with_entries (emitted_sequence (place_in files.now) (sequence_part sequence.now))
+          program.old.rows;
+    }) }
     ensures refusal { IfErr result (λ e. e ≡ Memory) }
 {
     let Some(first) = sequence.rows.first() else {
         return Ok(());
     };
     program.begin_sequence(Some(Address::Constant(first.address)))?;
-    push_rows(program, files, first.address, &sequence.rows, sequence.end)
+    push_rows(program, files, first.address, &sequence.rows, sequence.end)?;
+    Ok(())
 }
 
 /// Adds sequences to a program that has no open one. Refused only when out of memory.
@@ -88,10 +91,11 @@ pub fn push_sequences(
     requires ordered { AllOrdered program.old.rows.rules (place_in files.now) (length files.now)
         (map sequence_part sequences.now) }
     requires idle { IsIdle program.old.rows }
-    ensures ok { OnOk result (program.new ≡ record program.old
-        { rows = with_entries
-            (emitted_sequences (place_in files.now) (map sequence_part sequences.now))
-            program.old.rows }) }
+    ensures ok { OnOk result (program.new ≡ record program.old {
+      rows = with_entries
+          (emitted_sequences (place_in files.now) (map sequence_part sequences.now))
+          program.old.rows;
+    }) }
     ensures refusal { IfErr result (λ e. e ≡ Memory) }
 {
     for sequence in sequences {

@@ -99,6 +99,7 @@ fn add_name(
 }
 
 // Adds a file of a table.
+#[tactic(auto, using(crate::proofs::AddedFiles::file_added, crate::proofs::AddedFiles::texts_added, crate::proofs::AddedFiles::place_added))]
 fn add_file(
     alloc: Global,
     program: &mut LineProgram,
@@ -119,7 +120,8 @@ fn add_file(
     ensures refusal { IfErr result (λ e. e ≡ Memory) }
 {
     let directory = add_directory(alloc, program, line_strings, &file.directory)?;
-    add_name(alloc, program, line_strings, directory, &file.name)
+    let id = add_name(alloc, program, line_strings, directory, &file.name)?;
+    Ok(id)
 }
 
 // Adds the files of a table.
@@ -173,7 +175,7 @@ fn new_program(
 
 /// The line number program of a unit. In version 5 its texts are added to `.debug_line_str`.
 /// Refused only when out of memory.
-#[tactic(auto, using(crate::proofs::BuiltUnits::length-ids))]
+#[tactic(auto, using(crate::proofs::BuiltUnits::ids_counted))]
 pub fn unit_program(
     alloc: Global,
     encoding: Encoding,
