@@ -10,7 +10,9 @@ use Rattle.linemap_emit_fits.specs.EmittedEntries.{AllFit, attributes_of, spelle
 use Rattle.linemap_emit_fits.specs.EmittedSections.{sections_of}
 use Rattle.linemap_emit_fits.specs.StringSections.{section_of}
 use Rattle.linemap_emit_fits.specs.EmittedUnits.{spelled_unit_body, spelled_unit, spelled_units}
-use Rattle.linemap_emit_fits.specs.UnitEmission.{EmittedUnit, has_calls, with_end_of_children, with_call, with_calls, with_function_entry, with_function, with_functions, with_unit_entry, with_unit, without_entries}
+use Rattle.linemap_emit_fits.specs.Entry.TheVariants.{AbstractFunction}
+use Rattle.linemap_emit_fits.specs.InlinedNames.{inlined_names}
+use Rattle.linemap_emit_fits.specs.UnitEmission.{EmittedUnit, text_offset, with_name, with_entry, has_calls, with_end_of_children, with_abstract_functions, with_call, with_calls, with_function_entry, with_function, with_functions, with_unit_entry, with_unit, without_entries}
 use Rattle.linemap_emit_fits.specs.TableEmission.{EmittedTable, no_units, emitted_table, before_entries, after_entries, with_emitted_unit, with_emitted_units}
 use Rattle.linemap_emit_fits.specs.FittingUnits.{IsServed, UnitFits, AllUnitsFit}
 use Rattle.linemap_emit.specs.declared.table_emitter.TableEmitter.{TableEmitter}
@@ -29,29 +31,43 @@ closed_keeps : (b : Bool) (st : EmittedUnit) → Keeps st (with_end_of_children 
 closed_keeps true st = (refl, refl)
 closed_keeps false st = (refl, refl)
 
-calls_keep : (cs : Calls) (st : EmittedUnit) → Keeps st (with_calls cs st)
+calls_keep : (names : List (List ℕ)) (cs : Calls) (st : EmittedUnit) → Keeps st (with_calls names cs st)
 unfolding with_calls
-calls_keep no_calls st = (refl, refl)
-calls_keep (more_calls site inner others) st =
-    let head = with_call (has_calls inner) site st in
-    let within = with_calls inner head in
+calls_keep names no_calls st = (refl, refl)
+calls_keep names (more_calls site inner others) st =
+    let head = with_call names (has_calls inner) site st in
+    let within = with_calls names inner head in
     let after = with_end_of_children (has_calls inner) within in
-    let ended = keeps_then head within after (calls_keep inner head) (closed_keeps (has_calls inner) within) in
-    let all = keeps_then head after (with_calls others after) ended (calls_keep others after) in
+    let ended = keeps_then head within after (calls_keep names inner head) (closed_keeps (has_calls inner) within) in
+    let all = keeps_then head after (with_calls names others after) ended (calls_keep names others after) in
     (all.0, all.1)
 
-functions_keep : (fs : List FunctionPart) (st : EmittedUnit) → Keeps st (with_functions fs st)
-functions_keep [] st = (refl, refl)
-functions_keep (f ∷ fs) st =
+functions_keep : (names : List (List ℕ)) (fs : List FunctionPart) (st : EmittedUnit)
+    → Keeps st (with_functions names fs st)
+functions_keep names [] st = (refl, refl)
+functions_keep names (f ∷ fs) st =
     let head = with_function_entry f st in
-    let within = with_calls f.calls head in
-    let after = with_function f st in
-    let ended = keeps_then head within after (calls_keep f.calls head) (closed_keeps (has_calls f.calls) within) in
-    let all = keeps_then head after (with_functions fs after) ended (functions_keep fs after) in
+    let within = with_calls names f.calls head in
+    let after = with_function names f st in
+    let ended =
+    keeps_then head within after (calls_keep names f.calls head) (closed_keeps (has_calls f.calls) within) in
+    let all = keeps_then head after (with_functions names fs after) ended (functions_keep names fs after) in
+    (all.0, all.1)
+
+abstract_keep : (names : List (List ℕ)) (st : EmittedUnit) → Keeps st (with_abstract_functions names st)
+abstract_keep [] st = (refl, refl)
+abstract_keep (name ∷ names) st =
+    let all = abstract_keep names (with_entry (AbstractFunction (text_offset name st)) (with_name name st)) in
     (all.0, all.1)
 
 unit_keeps : (line_program : ℕ) (u : UnitPart) (st : EmittedUnit) → Keeps st (with_unit line_program u st)
-unit_keeps line_program u st = functions_keep u.functions (with_unit_entry line_program u st)
+unit_keeps line_program u st =
+    let root = with_unit_entry line_program u st in
+    let named = with_abstract_functions (inlined_names u) root in
+    let all =
+    keeps_then root named (with_functions (inlined_names u) u.functions named) (abstract_keep (inlined_names u) root)
+    (functions_keep (inlined_names u) u.functions named) in
+    (all.0, all.1)
 
 -- ---- the emitter after a unit
 

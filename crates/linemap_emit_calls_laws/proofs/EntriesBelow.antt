@@ -1,16 +1,16 @@
 -- The entries below a function's, one after the other.
 use Rattle.std.proofs.Common.{◌≡◌, ℕ, ◌<◌, ◌≤◌, ℤ, pos, ◌≤ℤ◌, ◌<ℤ◌, int_lt, Bool, true, false, cond, List, [], ◌∷◌, Option, Some, None, Result, Ok, Err, refl, ap, subst, ◌∙◌, arith}
-use Rattle.addr2line_spec.specs.Error.{Error}
-use Rattle.addr2line_spec.specs.View.{bytes_left}
-use Rattle.addr2line_spec.specs.Repetition.{prepend, no_items, next_item, listing_in}
+use Rattle.addr2line_functions.specs.Error.{Error}
+use Rattle.addr2line_functions.specs.View.{bytes_left}
+use Rattle.addr2line_functions.specs.Repetition.{prepend, no_items, next_item, listing_in}
 use Rattle.linemap_emit_units.proofs.Listings.{Shrinks, listing_next}
 use Rattle.linemap_emit_units.proofs.StepSizes.{SomeBelow}
 use Rattle.linemap_emit_units.proofs.StepParts.{value_is, state_is}
 use Rattle.linemap_emit_units.specs.EntryWalks.{Walk}
 use Rattle.linemap_emit_units.specs.EntryRows.{Row, row_choosing}
 use Rattle.linemap_emit_units.proofs.RowParts.{row-parts, row-takes}
-use Rattle.addr2line_spec.specs.InlinedCalls.{FunctionWalk, NestedEntry, enclosing_rows, is_call_in, entry_of_row, entry_below, entries_below}
-use Rattle.addr2line_spec.proofs.EntryLevels.{lt_from, not_lt_from}
+use Rattle.addr2line_functions.specs.InlinedCalls.{FunctionWalk, NestedEntry, enclosing_rows, is_call_in, entry_of_row, entry_below, entries_below}
+use Rattle.linemap_emit_calls_laws.proofs.EntryDepths.{lt_from, not_lt_from}
 
 abbrev size : FunctionWalk → ℕ
 size i = bytes_left i.walk.rest

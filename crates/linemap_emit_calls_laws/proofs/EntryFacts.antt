@@ -19,31 +19,16 @@ use Rattle.linemap_emit_units.specs.UnitFacts.{UnitFacts, UnitInFile, in_file}
 use Rattle.linemap_emit_units.specs.TableParts.{RangePart, Site, FunctionPart}
 use Rattle.linemap_emit_units.specs.Entry.{Entry}
 use Rattle.linemap_emit_units.specs.Entry.TheVariants.{AbstractFunction, Function, Call}
-use Rattle.linemap_emit_units.specs.EmittedEntries.{attributes_of, raw_attribute_of, attribute_with, sec_offset, udata, declarations}
+use Rattle.linemap_emit_units.specs.EmittedEntries.{attributes_of, raw_attribute_of, attribute_with, sec_offset, udata}
 use Rattle.linemap_emit_units.specs.EmittedEntryRows.{row_for}
-use Rattle.linemap_emit_units.specs.EmittedUnits.{unit_for}
 use Rattle.linemap_emit_units.specs.LookupAgreement.{lookup_range}
-use Rattle.linemap_emit_units.specs.LineHeaders.{LineHeader}
 use Rattle.linemap_emit_units.specs.UnitRanges.{RangeFact, no_fact, has_list, last_of, list_in}
-use Rattle.addr2line_spec.specs.EntryRanges.{ranges_of_facts, ranges_of_entry}
-use Rattle.addr2line_spec.specs.Functions.{Function as FoundFunction, function_of}
-use Rattle.addr2line_spec.specs.InlinedCalls.{Call as FoundCall, CallFacts, Naming, call_facts, call_at, call_file, file_number, name_by}
-use Rattle.addr2line_names.specs.EntryReferences.{HoldingUnit}
-use Rattle.addr2line_names.specs.FunctionNames.{name_with}
+use Rattle.addr2line_functions.specs.EntryRanges.{ranges_of_facts, ranges_of_entry}
+use Rattle.addr2line_functions.specs.Functions.{Function as FoundFunction, function_of}
+use Rattle.addr2line_functions.specs.InlinedCalls.{Call as FoundCall, CallFacts, Naming, call_facts, call_at, call_file, file_number, name_by}
+use Rattle.addr2line_functions.specs.EntryReferences.{HoldingUnit}
+use Rattle.addr2line_functions.specs.FunctionNames.{name_with}
 use Rattle.linemap_emit_calls_laws.specs.RecordedFunctions.{HasTextAt, HasListAt}
-
--- a unit that was written, as its facts
-abbrev pub written_facts : Encoding → Bool → ℕ → ℕ → List Entry → Bases → Option View → Option View
-    → Option LineHeader → UnitFacts
-written_facts e is_big offset first all b name directory header = record {
-  header = unit_for e is_big offset first all;
-  table = declarations e;
-  name = name;
-  comp_dir = directory;
-  bases = b;
-  line_header = header;
-  dwo_id = None;
-}
 
 -- all of some ranges, none of which is refused
 pub all_there : (rs : List RangePart)

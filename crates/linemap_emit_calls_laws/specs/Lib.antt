@@ -1,1 +1,10 @@
+pub use Rattle.addr2line_functions.specs.ContextNames
+pub use Rattle.addr2line_functions.specs.FirstAnswers
+pub use Rattle.addr2line_functions.specs.Frames
+pub use Rattle.addr2line_functions.specs.Functions
+pub use Rattle.addr2line_functions.specs.InlinedCalls
+pub use Rattle.addr2line_functions.specs.Lookups
+pub use Rattle.linemap_frames_laws.specs.CallAgreement
+pub use Rattle.linemap_frames_laws.specs.LookupFrameLaws
 pub mod RecordedFunctions
+pub mod FunctionLaws

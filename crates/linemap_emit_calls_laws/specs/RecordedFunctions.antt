@@ -13,7 +13,7 @@ use Rattle.linemap_emit_units.specs.EmittedEntryLaws.{AllEntriesFit}
 use Rattle.linemap_emit_units.specs.EmittedUnits.{entries_start}
 use Rattle.linemap_emit_units.specs.UnitEmission.{has_calls}
 use Rattle.linemap_emit_units.specs.LookupAgreement.{lookup_range}
-use Rattle.linemap_frames_laws.specs.InlinedCalls.{file_number}
+use Rattle.addr2line_functions.specs.InlinedCalls.{file_number}
 
 -- a text is at an offset of the string section
 pub record HasTextAt (s : DwarfFile) (offset : ℕ) (text : List ℕ) : Type 0 where

@@ -18,6 +18,8 @@ use Rattle.linemap_emit_units.specs.FittingUnits.{IsServed, UnitFits, AllUnitsFi
 use Rattle.linemap_emit_fits.specs.EmissionBounds.{IsUnitBounded, IsTableBounded}
 use Rattle.linemap_emit_fits.proofs.InstructionSizes.{IsWithin, sequences_within}
 use Rattle.linemap_emit_fits.proofs.EntryListSizes.{fields_few}
+use Rattle.linemap_emit_units.specs.InlinedNames.{inlined_names}
+use Rattle.linemap_emit_fits.proofs.InlinedNameSizes.{names_few, unit_split}
 use Rattle.linemap_emit_fits.proofs.HeaderSizes.{header_few, body_few, program_few}
 use Rattle.linemap_emit_fits.proofs.EntrySizes.{unit_most, unit_is_bounded}
 use Rattle.linemap_emit_fits.proofs.SoundUnitFits.{CanEmitUnitSequences, plain_can_emit, AllPlain, sound_is_plain}
@@ -101,8 +103,10 @@ module _ (e : Encoding) (is_big : Bool) (served : IsServed e) where
   all_fit [] m st rows few plain bounded fits = tt
   all_fit (u ∷ us) m st rows few plain bounded fits =
       let whole = sum_by-cons unit_weight u us in
-      let can = plain_can_emit e.address_size u few.0 plain.0 in
-      let here : m + unit_weight u < 2 ^ 31 = omega arith in (
+      let here : m + unit_weight u < 2 ^ 31 = omega arith in
+      let split = unit_split u in
+      let count = names_few (inlined_names u) in
+      let can = plain_can_emit e.address_size u few.0 (omega arith) plain.0 in (
         unit_fits m u st rows.0 can bounded here,
         all_fit us (m + unit_weight u) (with_emitted_unit e is_big u st) rows.1 few.1 plain.1
             (unit_bounded m u st rows.0 can bounded here) (omega arith),

@@ -11,7 +11,7 @@ use Rattle.linemap_emit_units.specs.Spelling.{unsigned_string}
 use Rattle.linemap_emit_units.proofs.NumberRoundTrip.{length-spelled}
 use Rattle.linemap_emit_units.specs.Range.{Range}
 use Rattle.linemap_emit_units.specs.Entry.{Entry}
-use Rattle.linemap_emit_units.specs.EmittedEntries.{EmittedValue, strp, sec_offset, addr, udata, spelled_value, EmittedAttribute, attributes_of, abbreviation_code, spelled_entry}
+use Rattle.linemap_emit_units.specs.EmittedEntries.{EmittedValue, strp, sec_offset, addr, udata, ref4, spelled_value, EmittedAttribute, attributes_of, abbreviation_code, spelled_entry}
 use Rattle.linemap_emit_units.specs.EmittedUnits.{spelled_fields}
 use Rattle.linemap_emit_units.specs.EmittedRanges.{lists_start, spelled_pair, spelled_range, spelled_end, spelled_ranges}
 use Rattle.linemap_emit_fits.proofs.NumberSizes.{length-unsigned, word_few, length-cond}
@@ -72,6 +72,7 @@ value_few e is_big (sec_offset offset) narrow =
     let l = length-spelled is_big (word_size e.format) offset in let w = word_few e.format in omega arith
 value_few e is_big (addr at) narrow = let l = length-spelled is_big e.address_size at in omega arith
 value_few e is_big (udata n) narrow = length-unsigned n
+value_few e is_big (ref4 offset) narrow = let l = length-spelled is_big 4 offset in omega arith
 
 values_few : (e : Encoding) (is_big : Bool) (ss : List EmittedAttribute) → e.address_size ≤ 8
     → length (flat_map (λ s. spelled_value e is_big s.value) ss) ≤ 10 * length ss

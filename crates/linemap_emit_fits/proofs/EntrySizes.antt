@@ -1,5 +1,7 @@
 -- What is emitted of a unit's entries stays within a bound.
-use Rattle.std.proofs.Common.{◌≡◌, ℕ, ◌+◌, ◌*◌, ◌<◌, ◌≤◌, ◌^◌, Bool, true, false, List, [], ◌∷◌, ◌++◌, length, map, sum_by, refl, ap, ◌∙◌, arith}
+use Rattle.std.proofs.Common.{◌≡◌, ℕ, ◌+◌, ◌*◌, ◌<◌, ◌≤◌, ◌^◌, Bool, true, false, cond, not, List, [], ◌∷◌, ◌++◌, length, map, sum_by, refl, ap, ◌∙◌, arith}
+use Rattle.std.specs.Prelude.{nat_le}
+use Rattle.std.specs.List.{prefix_len}
 use Rattle.std.proofs.Math.Nat.{one-le-pow}
 use Rattle.std.proofs.lemmas.List.{length-append, length-map}
 use Rattle.std.proofs.lemmas.List.Elements.{All-push}
@@ -8,19 +10,23 @@ use Rattle.std.proofs.lemmas.List.Sums.{sum_by-cons}
 use Rattle.linemap_emit_units.specs.Encoding.{Encoding}
 use Rattle.linemap_emit_units.specs.Format.{Format}
 use Rattle.linemap_emit_units.specs.Format.TheVariants.{Dwarf32, Dwarf64}
-use Rattle.linemap_emit_units.specs.FormatSizes.{word_size}
-use Rattle.linemap_emit_units.specs.StringSections.{with_text, section_of, text_index}
+use Rattle.linemap_emit_units.specs.FormatSizes.{initial_length_size, word_size}
+use Rattle.linemap_emit_units.specs.StringSections.{same_bytes, with_text, section_of, text_index}
 use Rattle.linemap_emit_units.specs.TableParts.{RangePart, Site, Calls, no_calls, more_calls, FunctionPart, UnitPart}
-use Rattle.linemap_emit_units.specs.TableWeight.{calls_weight, function_weight}
+use Rattle.linemap_emit_units.specs.TableWeight.{function_weight}
 use Rattle.linemap_emit_units.specs.Entry.{Entry}
-use Rattle.linemap_emit_units.specs.Entry.TheVariants.{CompileUnit, Function, Call, EndOfChildren}
+use Rattle.linemap_emit_units.specs.Entry.TheVariants.{CompileUnit, AbstractFunction, Function, Call, EndOfChildren}
 use Rattle.linemap_emit_units.specs.EmittedEntries.{AllFit, attributes_of, spelled_entry}
 use Rattle.linemap_emit_units.specs.EmittedEntryRows.{spelled_entries}
 use Rattle.linemap_emit_units.specs.EmittedRanges.{spelled_ranges}
-use Rattle.linemap_emit_units.specs.UnitEmission.{EmittedUnit, text_offset, with_name, with_list, list_offset, with_entry, has_calls, with_end_of_children, with_call, with_calls, with_function_entry, with_function, with_functions, with_unit_entry, with_unit}
+use Rattle.linemap_emit_units.specs.EmittedUnits.{entries_start, abstract_offset}
+use Rattle.linemap_emit_units.specs.InlinedNames.{inlined_names}
+use Rattle.linemap_emit_units.specs.UnitEmission.{EmittedUnit, text_offset, with_name, with_list, list_offset, with_entry, has_calls, with_end_of_children, with_abstract_functions, origin_of, with_call, with_calls, with_function_entry, with_function, with_functions, with_unit_entry, with_unit}
 use Rattle.linemap_emit_fits.specs.EmissionBounds.{IsUnitBounded}
+use Rattle.linemap_emit_fits.proofs.NumberSizes.{word_few}
 use Rattle.linemap_emit_fits.proofs.StringSectionSizes.{section_grows, offset_within}
 use Rattle.linemap_emit_fits.proofs.EntryListSizes.{start_few, ranges_few, entry_few}
+use Rattle.linemap_emit_fits.proofs.InlinedNameSizes.{name_most, names_most, names_few, site_most, calls_most, function_most, unit_split}
 use Rattle.linemap_emit_units.specs.LookupAgreement.{lookup_range}
 
 -- offsets below 2^31 fit their words
@@ -52,9 +58,39 @@ unfoldable pub AllFunctionsCounted : List FunctionPart → Type 0
 AllFunctionsCounted [] = Unit {0}
 AllFunctionsCounted (f ∷ fs) = AllCounted f.calls × AllFunctionsCounted fs
 
--- a call's weight but for the end of those in it
-abbrev site_most : Site → ℕ
-site_most s = 118 + 64 * length s.ranges + 4 * length s.name
+-- an abstract function's entry is near the start of its unit
+prefix_few : {X : Type 0} (p : X → Bool) (xs : List X) → prefix_len p xs ≤ length xs
+prefix_few p [] = omega arith
+prefix_few p (x ∷ xs) = let few = prefix_few p xs in by (p x)
+  where
+    by : (b : Bool) → cond b (1 + prefix_len p xs) 0 ≤ length (x ∷ xs)
+    by true = let few = prefix_few p xs in omega arith
+    by false = omega arith
+
+index_few : (names : List (List ℕ)) (t : List ℕ) → text_index names t ≤ length names
+index_few names t = prefix_few (λ s. not (same_bytes t s)) names
+
+origin_few : (e : Encoding) (names : List (List ℕ)) (t : List ℕ) → e.address_size ≤ 8
+    → origin_of e names t ≤ 65 + 9 * length names
+origin_few e names t narrow =
+    sum _ (entries_start e) _ e.address_size _ (text_index names t) (length names) refl
+    (by_version (nat_le e.version 4) e.format) (few e.format (text_index names t)) narrow (word_few e.format)
+    (index_few names t)
+  where
+    by_version : (b : Bool) (f : Format)
+        → cond b (initial_length_size f + 3 + word_size f) (initial_length_size f + 4 + word_size f) ≤ 24
+    by_version true Dwarf32 = omega arith
+    by_version true Dwarf64 = omega arith
+    by_version false Dwarf32 = omega arith
+    by_version false Dwarf64 = omega arith
+
+    few : (f : Format) (n : ℕ) → n * (1 + word_size f) ≤ 9 * n
+    few Dwarf32 n = omega arith
+    few Dwarf64 n = omega arith
+
+    sum : (o s a size w i n : ℕ) → o ≡ s + (1 + 4 * w + size) + a → s ≤ 24 → a ≤ 9 * i → size ≤ 8 → w ≤ 8 → i ≤ n
+        → o ≤ 65 + 9 * n
+    sum o s a size w i n g h j k l m = omega arith
 
 -- what a unit's entries, texts and range lists take at most
 abbrev pub unit_most : UnitPart → ℕ
@@ -143,37 +179,43 @@ module _ (e : Encoding) (is_big : Bool) (narrow : e.address_size ≤ 8) where
 
   -- ---- calls
 
-  call_bounded : {m : ℕ} {st : EmittedUnit} (b : Bool) (s : Site) → IsCounted s → m + site_most s < 2 ^ 31
-      → IsUnitBounded e is_big m st → IsUnitBounded e is_big (m + site_most s) (with_call b s st)
-  call_bounded {m} {st} b s numbers fits k =
-      let name_low = text_low s.name st m k.texts_few in
-      let name_fits : text_offset s.name st < 2 ^ 31 = omega arith in
+  call_bounded : (names : List (List ℕ)) {m : ℕ} {st : EmittedUnit} (b : Bool) (s : Site)
+      → 65 + 9 * length names < 2 ^ 31 → IsCounted s → m + site_most s < 2 ^ 31
+      → IsUnitBounded e is_big m st → IsUnitBounded e is_big (m + site_most s) (with_call names b s st)
+  call_bounded names {m} {st} b s few numbers fits k =
+      let near = origin_few st.encoding names s.name k.size_few in
+      let origin_fits : origin_of st.encoding names s.name < 2 ^ 31 = omega arith in
+      let origin_wide : origin_of st.encoding names s.name < 256 ^ 4 = omega arith in
       let list_few = k.ranges_few in
       let start = start_few st.encoding in
       let list_fits : list_offset st < 2 ^ 31 = omega arith in
-      bound_raised (entry_bounded (Call b (text_offset s.name st) (list_offset st) (s.file + 1) s.line s.column) (
-        (fits_word e.format (text_offset s.name st) name_fits, name_fits),
+      bound_raised
+      (entry_bounded
+      (Call b (origin_of st.encoding names s.name) (list_offset st) (s.file + 1) s.line s.column) (
+        (origin_wide, origin_fits),
         (
           (fits_word e.format (list_offset st) list_fits, list_fits, refl),
           (numbers.file, (numbers.line, (numbers.column, tt))),
         ),
-      ) (list_bounded s.ranges (name_bounded s.name k))) (omega arith)
+      ) (list_bounded s.ranges k)) (omega arith)
 
-  pub calls_bounded : (cs : Calls) {m : ℕ} {st : EmittedUnit} → AllCounted cs → m + calls_weight cs < 2 ^ 31
-      → IsUnitBounded e is_big m st → IsUnitBounded e is_big (m + calls_weight cs) (with_calls cs st)
+  pub calls_bounded : (names : List (List ℕ)) (cs : Calls) {m : ℕ} {st : EmittedUnit}
+      → 65 + 9 * length names < 2 ^ 31 → AllCounted cs → m + calls_most cs < 2 ^ 31
+      → IsUnitBounded e is_big m st → IsUnitBounded e is_big (m + calls_most cs) (with_calls names cs st)
   unfolding with_calls AllCounted
-  calls_bounded no_calls {m} {st} numbers fits k = bound_raised k (omega arith)
-  calls_bounded (more_calls site inner others) {m} {st} numbers fits k =
-      let head = call_bounded (has_calls inner) site numbers.0 (omega arith) k in
-      let middle = calls_bounded inner numbers.1 (omega arith) head in
+  calls_bounded names no_calls {m} {st} few numbers fits k = bound_raised k (omega arith)
+  calls_bounded names (more_calls site inner others) {m} {st} few numbers fits k =
+      let head = call_bounded names (has_calls inner) site few numbers.0 (omega arith) k in
+      let middle = calls_bounded names inner few numbers.1 (omega arith) head in
       let end = end_bounded (has_calls inner) middle in
-      bound_raised (calls_bounded others numbers.2 (omega arith) end) (omega arith)
+      bound_raised (calls_bounded names others few numbers.2 (omega arith) end) (omega arith)
 
   -- ---- functions
 
-  function_bounded : {m : ℕ} {st : EmittedUnit} (f : FunctionPart) → AllCounted f.calls → m + function_weight f < 2 ^ 31
-      → IsUnitBounded e is_big m st → IsUnitBounded e is_big (m + function_weight f) (with_function f st)
-  function_bounded {m} {st} f numbers fits k =
+  function_bounded : (names : List (List ℕ)) {m : ℕ} {st : EmittedUnit} (f : FunctionPart)
+      → 65 + 9 * length names < 2 ^ 31 → AllCounted f.calls → m + function_most f < 2 ^ 31
+      → IsUnitBounded e is_big m st → IsUnitBounded e is_big (m + function_most f) (with_function names f st)
+  function_bounded names {m} {st} f few numbers fits k =
       let name_low = text_low f.name st m k.texts_few in
       let name_fits : text_offset f.name st < 2 ^ 31 = omega arith in
       let list_few = k.ranges_few in
@@ -185,17 +227,36 @@ module _ (e : Encoding) (is_big : Bool) (narrow : e.address_size ≤ 8) where
         (fits_word e.format (text_offset f.name st) name_fits, name_fits),
         ((fits_word e.format (list_offset st) list_fits, list_fits, refl), tt),
       ) (list_bounded f.ranges (name_bounded f.name k))) (omega arith) in
-      bound_raised (end_bounded (has_calls f.calls) (calls_bounded f.calls numbers (omega arith) head)) (omega arith)
-
-  pub functions_bounded : (fs : List FunctionPart) {m : ℕ} {st : EmittedUnit} → AllFunctionsCounted fs
-      → m + sum_by function_weight fs < 2 ^ 31 → IsUnitBounded e is_big m st
-      → IsUnitBounded e is_big (m + sum_by function_weight fs) (with_functions fs st)
-  unfolding AllFunctionsCounted
-  functions_bounded [] {m} {st} numbers fits k = bound_raised k (omega arith)
-  functions_bounded (f ∷ fs) {m} {st} numbers fits k =
-      let whole = sum_by-cons function_weight f fs in
-      bound_raised (functions_bounded fs numbers.1 (omega arith) (function_bounded f numbers.0 (omega arith) k))
+      bound_raised (end_bounded (has_calls f.calls) (calls_bounded names f.calls few numbers (omega arith) head))
       (omega arith)
+
+  pub functions_bounded : (names : List (List ℕ)) (fs : List FunctionPart) {m : ℕ} {st : EmittedUnit}
+      → 65 + 9 * length names < 2 ^ 31 → AllFunctionsCounted fs
+      → m + sum_by function_most fs < 2 ^ 31 → IsUnitBounded e is_big m st
+      → IsUnitBounded e is_big (m + sum_by function_most fs) (with_functions names fs st)
+  unfolding AllFunctionsCounted
+  functions_bounded names [] {m} {st} few numbers fits k = bound_raised k (omega arith)
+  functions_bounded names (f ∷ fs) {m} {st} few numbers fits k =
+      let whole = sum_by-cons function_most f fs in
+      bound_raised
+      (functions_bounded names fs few numbers.1 (omega arith) (function_bounded names f few numbers.0 (omega arith) k))
+      (omega arith)
+
+  -- ---- abstract functions
+
+  abstract_bounded : (names : List (List ℕ)) {m : ℕ} {st : EmittedUnit} → m + names_most names < 2 ^ 31
+      → IsUnitBounded e is_big m st → IsUnitBounded e is_big (m + names_most names) (with_abstract_functions names st)
+  abstract_bounded [] {m} {st} fits k = bound_raised k (omega arith)
+  abstract_bounded (name ∷ names) {m} {st} fits k =
+      let whole = sum_by-cons name_most name names in
+      let name_low = text_low name st m k.texts_few in
+      let name_fits : text_offset name st < 2 ^ 31 = omega arith in
+      let head : IsUnitBounded e is_big (m + name_most name)
+      (with_entry (AbstractFunction (text_offset name st)) (with_name name st)) =
+      bound_raised
+      (entry_bounded (AbstractFunction (text_offset name st))
+      ((fits_word e.format (text_offset name st) name_fits, name_fits), tt) (name_bounded name k)) (omega arith) in
+      bound_raised (abstract_bounded names (omega arith) head) (omega arith)
 
   -- ---- a unit
 
@@ -228,5 +289,11 @@ module _ (e : Encoding) (is_big : Bool) (narrow : e.address_size ≤ 8) where
           ),
         ),
       ) (list_bounded u.ranges (name_bounded u.directory after_name))) (omega arith) in
-      bound_raised (entry_bounded EndOfChildren tt (functions_bounded u.functions numbers (omega arith) root))
+      let names = inlined_names u in
+      let split = unit_split u in
+      let count = names_few names in
+      let few : 65 + 9 * length names < 2 ^ 31 = omega arith in
+      bound_raised
+      (entry_bounded EndOfChildren tt
+      (functions_bounded names u.functions few numbers (omega arith) (abstract_bounded names (omega arith) root)))
       (omega arith)

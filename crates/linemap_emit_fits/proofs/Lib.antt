@@ -4,6 +4,7 @@ pub mod NumberSizes
 pub mod StringSectionSizes
 pub mod InstructionSizes
 pub mod EntryListSizes
+pub mod InlinedNameSizes
 pub mod HeaderSizes
 pub mod EntrySizes
 pub mod SoundUnitFits

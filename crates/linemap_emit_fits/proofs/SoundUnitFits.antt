@@ -14,6 +14,7 @@ use Rattle.linemap_emit_units.proofs.SoundUnits.{sound_rule}
 use Rattle.linemap_emit_units.specs.EmittedRanges.{AllWritable}
 use Rattle.linemap_emit_units.specs.EmittedHeaders.{IsTableText, IsTableText, IsTableFile}
 use Rattle.linemap_emit_units.specs.EmittedPrograms.{directories_of, files_from, files_of}
+use Rattle.linemap_emit_units.specs.InlinedNames.{inlined_names}
 use Rattle.linemap_emit_units.specs.UnitEmission.{CanEmitCalls, CanEmitFunctions, CanEmitUnit}
 use Rattle.linemap_emit_fits.proofs.EntrySizes.{AllCounted, AllFunctionsCounted}
 use Rattle.linemap_emit_units.specs.LookupAgreement.{lookup_range}
@@ -221,8 +222,9 @@ pub record CanEmitUnitSequences (size : ℕ) (u : UnitPart) : Type 0 where
   pub all_directories : All IsTableText (directories_of u)
   pub all_files : All IsTableFile (files_of u)
 
-pub plain_can_emit : (size : ℕ) (u : UnitPart) → length u.files < 2 ^ 64 → IsPlain size u → CanEmitUnitSequences size u
-plain_can_emit size u few plain =
+pub plain_can_emit : (size : ℕ) (u : UnitPart) → length u.files < 2 ^ 64 → length (inlined_names u) < 2 ^ 31
+    → IsPlain size u → CanEmitUnitSequences size u
+plain_can_emit size u few few_names plain =
     let empty = or_parts (list_any is_empty_range u.ranges) _ plain.empty in
     let bounds = or_parts _ (list_any sequence_out_of_bounds u.sequences) plain.bounds in
     let range_bounds = or_parts (list_any range_out_of_bounds u.ranges) _ bounds.0 in
@@ -257,6 +259,7 @@ plain_can_emit size u few plain =
         text_is u.directory names.0,
         (text_is u.name names.1, writable size u.ranges empty.0 range_bounds.0 range_low.0),
         functions.0,
+        few_names,
       );
       numbers_fit = functions.1;
       all_directories = tables.0;

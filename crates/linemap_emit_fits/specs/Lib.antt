@@ -28,5 +28,6 @@ pub use Rattle.linemap_emit_units.specs.EmittedSections
 pub use Rattle.linemap_emit_units.specs.FittingUnits
 pub use Rattle.linemap_emit_units.specs.TableEmission
 pub use Rattle.linemap_emit_units.specs.UnitEmission
+pub use Rattle.linemap_emit_units.specs.InlinedNames
 pub use Rattle.linemap_emit_units.specs.LookupAgreement
 pub mod EmissionBounds

@@ -5,9 +5,10 @@ use Rattle.linemap_emit_units.specs.StringSections.{offset_of}
 use Rattle.linemap_emit_units.proofs.SectionTexts.{stays}
 use Rattle.linemap_emit_units.specs.TableParts.{RangePart, Site, Calls, no_calls, more_calls, FunctionPart, UnitPart}
 use Rattle.linemap_emit_units.specs.Entry.{Entry}
-use Rattle.linemap_emit_units.specs.Entry.TheVariants.{CompileUnit, Function, Call, EndOfChildren}
+use Rattle.linemap_emit_units.specs.Entry.TheVariants.{CompileUnit, AbstractFunction, Function, Call, EndOfChildren}
 use Rattle.linemap_emit_units.specs.EmittedRanges.{spelled_ranges}
-use Rattle.linemap_emit_units.specs.UnitEmission.{EmittedUnit, text_offset, list_offset, with_name, with_list, with_entry, has_calls, with_end_of_children, with_call, with_calls, with_function_entry, with_function, with_functions, with_unit_entry, with_unit}
+use Rattle.linemap_emit_units.specs.InlinedNames.{inlined_names}
+use Rattle.linemap_emit_units.specs.UnitEmission.{EmittedUnit, text_offset, list_offset, with_name, with_list, with_entry, has_calls, with_end_of_children, with_abstract_functions, origin_of, with_call, with_calls, with_function_entry, with_function, with_functions, with_unit_entry, with_unit}
 use Rattle.linemap_emit_units.specs.TableEmission.{EmittedTable, program_of, before_entries, after_entries, with_emitted_unit, with_emitted_units}
 use Rattle.linemap_emit_units.specs.LookupAgreement.{lookup_range}
 
@@ -26,14 +27,18 @@ texts_stay_on a b c g h i t there =
 -- ---- within a unit
 
 pub record Grows (a b : EmittedUnit) : Type 0 where
+  pub same_encoding : b.encoding ≡ a.encoding
+  pub same_order : b.ranges.is_big ≡ a.ranges.is_big
   pub texts : TextsStay a.texts b.texts
   pub more_ranges : List ℕ
   pub ranges : b.ranges.bytes ≡ a.ranges.bytes ++ more_ranges
   pub more_entries : List Entry
   pub entries : b.entries ≡ a.entries ++ more_entries
 
-grows_by_nothing : (a : EmittedUnit) → Grows a a
+pub grows_by_nothing : (a : EmittedUnit) → Grows a a
 grows_by_nothing a = record {
+  same_encoding = refl;
+  same_order = refl;
   texts = λ i t there. (there, refl);
   more_ranges = [];
   ranges = sym (append-nil a.ranges.bytes);
@@ -41,8 +46,10 @@ grows_by_nothing a = record {
   entries = sym (append-nil a.entries);
 }
 
-grows_on : (a b c : EmittedUnit) → Grows a b → Grows b c → Grows a c
+pub grows_on : (a b c : EmittedUnit) → Grows a b → Grows b c → Grows a c
 grows_on a b c g h = record {
+  same_encoding = h.same_encoding ∙ g.same_encoding;
+  same_order = h.same_order ∙ g.same_order;
   texts = texts_stay_on a.texts b.texts c.texts g.texts h.texts;
   more_ranges = g.more_ranges ++ h.more_ranges;
   ranges =
@@ -55,8 +62,10 @@ grows_on a b c g h = record {
 }
 
 -- a text
-name_grows : (text : List ℕ) (a : EmittedUnit) → Grows a (with_name text a)
+pub name_grows : (text : List ℕ) (a : EmittedUnit) → Grows a (with_name text a)
 name_grows text a = record {
+  same_encoding = refl;
+  same_order = refl;
   texts = λ i t there. stays a.texts text t i there;
   more_ranges = [];
   ranges = sym (append-nil a.ranges.bytes);
@@ -65,8 +74,10 @@ name_grows text a = record {
 }
 
 -- a list
-list_grows : (rs : List RangePart) (a : EmittedUnit) → Grows a (with_list rs a)
+pub list_grows : (rs : List RangePart) (a : EmittedUnit) → Grows a (with_list rs a)
 list_grows rs a = record {
+  same_encoding = refl;
+  same_order = refl;
   texts = λ i t there. (there, refl);
   more_ranges = spelled_ranges a.encoding a.ranges.is_big (map lookup_range rs);
   ranges = refl;
@@ -75,8 +86,10 @@ list_grows rs a = record {
 }
 
 -- an entry
-entry_grows : (x : Entry) (a : EmittedUnit) → Grows a (with_entry x a)
+pub entry_grows : (x : Entry) (a : EmittedUnit) → Grows a (with_entry x a)
 entry_grows x a = record {
+  same_encoding = refl;
+  same_order = refl;
   texts = λ i t there. (there, refl);
   more_ranges = [];
   ranges = sym (append-nil a.ranges.bytes);
@@ -84,12 +97,12 @@ entry_grows x a = record {
   entries = refl;
 }
 
-end_grows : (b : Bool) (a : EmittedUnit) → Grows a (with_end_of_children b a)
+pub end_grows : (b : Bool) (a : EmittedUnit) → Grows a (with_end_of_children b a)
 end_grows true a = entry_grows EndOfChildren a
 end_grows false a = grows_by_nothing a
 
 -- a text, a list and an entry
-attributes_grow : (text : List ℕ) (rs : List RangePart) (x : Entry) (a : EmittedUnit)
+pub attributes_grow : (text : List ℕ) (rs : List RangePart) (x : Entry) (a : EmittedUnit)
     → Grows a (with_entry x (with_list rs (with_name text a)))
 attributes_grow text rs x a =
     let named = with_name text a in
@@ -97,47 +110,65 @@ attributes_grow text rs x a =
     grows_on a named (with_entry x listed) (name_grows text a)
     (grows_on named listed (with_entry x listed) (list_grows rs named) (entry_grows x listed))
 
-call_grows : (children : Bool) (site : Site) (a : EmittedUnit) → Grows a (with_call children site a)
-call_grows children site a =
-    attributes_grow site.name site.ranges
-    (Call children (text_offset site.name a) (list_offset a) (site.file + 1) site.line site.column) a
+-- abstract functions
+pub abstract_grow : (names : List (List ℕ)) (a : EmittedUnit) → Grows a (with_abstract_functions names a)
+abstract_grow [] a = grows_by_nothing a
+abstract_grow (name ∷ names) a =
+    let named = with_name name a in
+    let next = with_entry (AbstractFunction (text_offset name a)) named in
+    grows_on a named (with_abstract_functions names next) (name_grows name a)
+    (grows_on named next (with_abstract_functions names next) (entry_grows (AbstractFunction (text_offset name a)) named)
+    (abstract_grow names next))
 
-calls_grow : (cs : Calls) (a : EmittedUnit) → Grows a (with_calls cs a)
+pub call_grows : (names : List (List ℕ)) (children : Bool) (site : Site) (a : EmittedUnit)
+    → Grows a (with_call names children site a)
+call_grows names children site a =
+    let listed = with_list site.ranges a in
+    let x = Call children (origin_of a.encoding names site.name) (list_offset a) (site.file + 1) site.line site.column in
+    grows_on a listed (with_entry x listed) (list_grows site.ranges a) (entry_grows x listed)
+
+pub calls_grow : (names : List (List ℕ)) (cs : Calls) (a : EmittedUnit) → Grows a (with_calls names cs a)
 unfolding with_calls
-calls_grow no_calls a = grows_by_nothing a
-calls_grow (more_calls site inner others) a =
-    let head = with_call (has_calls inner) site a in
-    let within = with_calls inner head in
+calls_grow names no_calls a = grows_by_nothing a
+calls_grow names (more_calls site inner others) a =
+    let head = with_call names (has_calls inner) site a in
+    let within = with_calls names inner head in
     let after = with_end_of_children (has_calls inner) within in
-    grows_on a head (with_calls others after) (call_grows (has_calls inner) site a)
-    (grows_on head within (with_calls others after) (calls_grow inner head)
-    (grows_on within after (with_calls others after) (end_grows (has_calls inner) within) (calls_grow others after)))
+    let whole = with_calls names others after in
+    grows_on a head whole (call_grows names (has_calls inner) site a)
+    (grows_on head within whole (calls_grow names inner head)
+    (grows_on within after whole (end_grows (has_calls inner) within) (calls_grow names others after)))
 
-function_grows : (f : FunctionPart) (a : EmittedUnit) → Grows a (with_function f a)
-function_grows f a =
+pub function_grows : (names : List (List ℕ)) (f : FunctionPart) (a : EmittedUnit) → Grows a (with_function names f a)
+function_grows names f a =
     let head = with_function_entry f a in
-    let within = with_calls f.calls head in
-    grows_on a head (with_function f a)
+    let within = with_calls names f.calls head in
+    grows_on a head (with_function names f a)
     (attributes_grow f.name f.ranges (Function (has_calls f.calls) (text_offset f.name a) (list_offset a)) a)
-    (grows_on head within (with_function f a) (calls_grow f.calls head) (end_grows (has_calls f.calls) within))
+    (grows_on head within (with_function names f a) (calls_grow names f.calls head)
+    (end_grows (has_calls f.calls) within))
 
-functions_grow : (fs : List FunctionPart) (a : EmittedUnit) → Grows a (with_functions fs a)
-functions_grow [] a = grows_by_nothing a
-functions_grow (f ∷ fs) a =
-    grows_on a (with_function f a) (with_functions fs (with_function f a)) (function_grows f a)
-    (functions_grow fs (with_function f a))
+pub functions_grow : (names : List (List ℕ)) (fs : List FunctionPart) (a : EmittedUnit)
+    → Grows a (with_functions names fs a)
+functions_grow names [] a = grows_by_nothing a
+functions_grow names (f ∷ fs) a =
+    grows_on a (with_function names f a) (with_functions names fs (with_function names f a)) (function_grows names f a)
+    (functions_grow names fs (with_function names f a))
 
 -- what is emitted after the entry of a unit
 pub root_grows : (line_program : ℕ) (u : UnitPart) (a : EmittedUnit)
     → Grows (with_unit_entry line_program u a) (with_unit line_program u a)
 root_grows line_program u a =
+    let names = inlined_names u in
     let root = with_unit_entry line_program u a in
-    let after = with_functions u.functions root in
-    grows_on root after (with_entry EndOfChildren after) (functions_grow u.functions root)
-    (entry_grows EndOfChildren after)
+    let named = with_abstract_functions names root in
+    let after = with_functions names u.functions named in
+    grows_on root named (with_entry EndOfChildren after) (abstract_grow names root)
+    (grows_on named after (with_entry EndOfChildren after) (functions_grow names u.functions named)
+    (entry_grows EndOfChildren after))
 
 -- a unit
-unit_grows : (line_program : ℕ) (u : UnitPart) (a : EmittedUnit) → Grows a (with_unit line_program u a)
+pub unit_grows : (line_program : ℕ) (u : UnitPart) (a : EmittedUnit) → Grows a (with_unit line_program u a)
 unit_grows line_program u a =
     let named = with_name u.name a in
     let root = with_unit_entry line_program u a in

@@ -1,7 +1,7 @@
 -- The texts that were emitted are found in the string section.
 use Rattle.std.proofs.Common.{◌≡◌, ℕ, ◌+◌, Bool, true, false, List, [], ◌∷◌, All, length, refl, sym, ap, subst, ◌∙◌, append-nil}
 use Rattle.std.specs.List.{list_any}
-use Rattle.std.proofs.lemmas.List.Elements.{All-push}
+use Rattle.std.proofs.lemmas.List.Elements.{All-nil, All-head, All-tail, All-push}
 use Rattle.linemap_emit_units.specs.Encoding.{Encoding}
 use Rattle.linemap_emit_units.specs.SectionReads.{string_at}
 use Rattle.linemap_emit_units.specs.StringSections.{same_bytes, IsText as HasNoZero, with_text, text_index, offset_of, section_of}
@@ -9,8 +9,11 @@ use Rattle.linemap_emit_units.proofs.TextTableLemmas.{with_text-again, with_text
 use Rattle.linemap_emit_units.proofs.SectionTexts.{text_at_index, stays, read_again}
 use Rattle.linemap_emit_units.specs.DwarfFiles.{DwarfFile}
 use Rattle.linemap_emit_units.specs.TableParts.{Calls, no_calls, more_calls, FunctionPart, UnitPart}
-use Rattle.linemap_emit_units.specs.UnitEmission.{EmittedUnit, has_calls, with_end_of_children, with_call, with_calls, with_function_entry, with_function, with_functions, with_unit_entry, with_unit, CanEmitCalls, CanEmitFunctions, CanEmitUnit}
-use Rattle.linemap_emit_laws.specs.RecordedTables.{HasTextAt}
+use Rattle.linemap_emit_units.specs.InlinedNames.{called_names, inlined_names, with_texts}
+use Rattle.linemap_emit_units.proofs.InlinedNameLemmas.{unit_texts}
+use Rattle.linemap_emit_units.specs.UnitEmission.{EmittedUnit, has_calls, with_end_of_children, with_abstract_functions, with_call, with_calls, with_function_entry, with_function, with_functions, with_unit_entry, with_unit, with_entry, with_name, text_offset, CanEmitFunctions, CanEmitUnit}
+use Rattle.linemap_emit_units.specs.Entry.TheVariants.{AbstractFunction}
+use Rattle.linemap_emit_calls_laws.specs.RecordedFunctions.{HasTextAt}
 use Rattle.linemap_emit_units.specs.TableEmission.{EmittedTable, before_entries, with_emitted_unit, with_emitted_units}
 use Rattle.linemap_emit_units.specs.FittingUnits.{AllUnitsFit}
 use Rattle.linemap_emit_laws.proofs.EmissionGrowth.{TextsStay}
@@ -30,31 +33,47 @@ closed_holds : (b : Bool) (a : EmittedUnit) → All HasNoZero a.texts → All Ha
 closed_holds true a all = all
 closed_holds false a all = all
 
-calls_hold : (size : ℕ) (cs : Calls) (a : EmittedUnit) → CanEmitCalls size cs → All HasNoZero a.texts
-    → All HasNoZero (with_calls cs a).texts
-unfolding with_calls CanEmitCalls
-calls_hold size no_calls a can all = all
-calls_hold size (more_calls site inner others) a can all =
-    let head = with_call (has_calls inner) site a in
-    let within = with_calls inner head in
-    calls_hold size others (with_end_of_children (has_calls inner) within) can.3
-    (closed_holds (has_calls inner) within
-    (calls_hold size inner head can.2 (text_holds a.texts site.name all can.0.0)))
+calls_hold : (names : List (List ℕ)) (cs : Calls) (a : EmittedUnit) → All HasNoZero a.texts
+    → All HasNoZero (with_calls names cs a).texts
+unfolding with_calls
+calls_hold names no_calls a all = all
+calls_hold names (more_calls site inner others) a all =
+    let head = with_call names (has_calls inner) site a in
+    let within = with_calls names inner head in
+    calls_hold names others (with_end_of_children (has_calls inner) within)
+    (closed_holds (has_calls inner) within (calls_hold names inner head all))
 
-functions_hold : (size : ℕ) (fs : List FunctionPart) (a : EmittedUnit) → CanEmitFunctions size fs
-    → All HasNoZero a.texts → All HasNoZero (with_functions fs a).texts
-functions_hold size [] a can all = all
-functions_hold size (f ∷ fs) a can all =
+functions_hold : (size : ℕ) (names : List (List ℕ)) (fs : List FunctionPart) (a : EmittedUnit)
+    → CanEmitFunctions size fs → All HasNoZero a.texts → All HasNoZero (with_functions names fs a).texts
+functions_hold size names [] a can all = all
+functions_hold size names (f ∷ fs) a can all =
     let head = with_function_entry f a in
-    functions_hold size fs (with_function f a) can.2
-    (closed_holds (has_calls f.calls) (with_calls f.calls head)
-    (calls_hold size f.calls head can.1 (text_holds a.texts f.name all can.0.0)))
+    functions_hold size names fs (with_function names f a) can.2
+    (closed_holds (has_calls f.calls) (with_calls names f.calls head)
+    (calls_hold names f.calls head (text_holds a.texts f.name all can.0.0)))
+
+abstract_hold : (names : List (List ℕ)) (a : EmittedUnit) → All HasNoZero names → All HasNoZero a.texts
+    → All HasNoZero (with_abstract_functions names a).texts
+abstract_hold [] a are all = all
+abstract_hold (name ∷ names) a are all =
+    abstract_hold names (with_entry (AbstractFunction (text_offset name a)) (with_name name a))
+    (All-tail HasNoZero name names are) (text_holds a.texts name all (All-head HasNoZero name names are))
+
+all_texts_hold : (texts ts : List (List ℕ)) → All HasNoZero texts → All HasNoZero ts
+    → All HasNoZero (with_texts texts ts)
+all_texts_hold texts [] all are = all
+all_texts_hold texts (t ∷ ts) all are =
+    all_texts_hold (with_text texts t) ts (text_holds texts t all (All-head HasNoZero t ts are))
+    (All-tail HasNoZero t ts are)
 
 unit_holds : (size line_program : ℕ) (u : UnitPart) (a : EmittedUnit) → CanEmitUnit size u → All HasNoZero a.texts
     → All HasNoZero (with_unit line_program u a).texts
 unit_holds size line_program u a can all =
-    functions_hold size u.functions (with_unit_entry line_program u a) can.2
-    (text_holds (with_text a.texts u.name) u.directory (text_holds a.texts u.name all can.1.0) can.0)
+    let root = with_unit_entry line_program u a in
+    functions_hold size (inlined_names u) u.functions (with_abstract_functions (inlined_names u) root) can.2
+    (abstract_hold (inlined_names u) root
+    (all_texts_hold [] (called_names u.functions) (All-nil HasNoZero) (unit_texts size u can))
+    (text_holds (with_text a.texts u.name) u.directory (text_holds a.texts u.name all can.1.0) can.0))
 
 pub all_hold : (e : Encoding) (is_big : Bool) (us : List UnitPart) (a : EmittedTable) → AllUnitsFit e is_big us a
     → All HasNoZero a.texts → All HasNoZero (with_emitted_units e is_big us a).texts

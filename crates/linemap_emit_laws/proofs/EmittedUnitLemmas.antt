@@ -16,7 +16,9 @@ use Rattle.linemap_emit_units.specs.EmittedRows.{emitted_rules}
 use Rattle.linemap_emit_units.specs.EmittedPrograms.{emitted_file_texts}
 use Rattle.linemap_emit_units.proofs.EmittedFileTexts.{numbered_again}
 use Rattle.linemap_emit_units.specs.UnitEmission.{EmittedUnit, text_offset, with_name, with_unit_entry}
-use Rattle.linemap_emit_laws.specs.RecordedTables.{HasTextAt, RecordsUnit, RecordsUnits, RecordsTable}
+use Rattle.linemap_emit_calls_laws.specs.RecordedFunctions.{HasTextAt}
+use Rattle.linemap_emit_laws.proofs.EmittedFunctionUnits.{unit_entries, other_entries, functions_are_recorded}
+use Rattle.linemap_emit_laws.specs.RecordedTables.{RecordsUnit, RecordsUnits, RecordsTable}
 use Rattle.linemap_emit_units.specs.EmittedSections.{HoldTable}
 use Rattle.linemap_emit_units.specs.TableEmission.{EmittedTable, no_units, before_entries, after_entries, with_emitted_unit, with_emitted_units, emitted_table}
 use Rattle.linemap_emit_units.specs.FittingUnits.{IsServed, UnitFits, AllUnitsFit, IsInUtf8, AllInUtf8}
@@ -52,11 +54,11 @@ unit_recorded e is_big u st final s served wide utf8 fit hold no_zeros extends =
   directory = directory;
   line_program = length st.lines;
   range_list = lists_start e + length st.ranges;
-  others = grows.more_entries;
-  entries_are = grows.entries;
+  others = other_entries e is_big u st;
+  entries_are = unit_entries e is_big u st;
   fit = root_fits s.offset_limit e name directory (length st.lines) (lists_start e + length st.ranges) wide
-      (All-head (λ x. AllFit (2 ^ 31) e (attributes_of x)) x grows.more_entries
-      (subst (All (λ x. AllFit (2 ^ 31) e (attributes_of x))) grows.entries fit.entries_fit));
+      (All-head (λ x. AllFit (2 ^ 31) e (attributes_of x)) x (other_entries e is_big u st)
+      (subst (All (λ x. AllFit (2 ^ 31) e (attributes_of x))) (unit_entries e is_big u st) fit.entries_fit));
   is_name = name_there;
   is_directory = directory_there;
   ranges_are =
@@ -78,6 +80,7 @@ unit_recorded e is_big u st final s served wide utf8 fit hold no_zeros extends =
       sequences_shown (emitted_rules e) u.sequences (le-leb e.version 4 served.not_after_4)
       fit.can_emit_sequences.can_show;
   files_numbered = numbered_again u;
+  functions_are = functions_are_recorded e is_big u st final s served wide fit hold no_zeros extends;
 }
   where
     before : EmittedUnit

@@ -1,7 +1,11 @@
 pub mod RecordedUnitFacts
 pub mod RecordedContexts
+pub mod RecordedFrames
+pub mod RecordedAnswers
 pub mod EmissionGrowth
 pub mod EmittedStringLemmas
 pub mod EmittedListLemmas
 pub mod EmittedProgramLemmas
+pub mod EmittedFunctionLemmas
+pub mod EmittedFunctionUnits
 pub mod EmittedUnitLemmas

@@ -27,8 +27,7 @@ use Rattle.linemap_emit_units.specs.UnitLines.{lines_of_unit}
 use Rattle.linemap_emit_units.specs.UnitRanges.{RangeFact, no_fact, begins_at, has_list, last_of, list_in, declared_ranges, ranges_of_attributes, or_else, ranges_of_lines, language_in}
 use Rattle.linemap_emit_units.specs.Contexts.{ContextUnit, context, context_unit, unit_of_entry, facts_of_code_unit, readable_facts, headers_of, units_of_file, units_of_supplement, ranges_of, lines_of}
 use Rattle.linemap_emit_units.specs.TableParts.{RangePart, UnitPart}
-use Rattle.linemap_emit_units.specs.Conditions.{has_no_range, any_call, IsSound}
-use Rattle.linemap_emit_units.specs.Rule.TheVariants.{NoRange}
+use Rattle.linemap_emit_units.specs.Conditions.{has_no_range, any_call}
 use Rattle.linemap_emit_units.specs.Entry.{Entry}
 use Rattle.linemap_emit_units.specs.Entry.TheVariants.{CompileUnit}
 use Rattle.linemap_emit_units.specs.EmittedEntries.{declarations, spelled_declarations}
@@ -36,10 +35,6 @@ use Rattle.linemap_emit_units.specs.EmittedEntryRows.{row_for}
 use Rattle.linemap_emit_units.specs.EmittedUnits.{IsWritten, unit_for, units_for, spelled_unit, spelled_units}
 use Rattle.linemap_emit_units.proofs.UnitsRead.{units_again}
 use Rattle.linemap_emit_units.specs.LookupAgreement.{lookup_range, TableAgrees}
-use Rattle.linemap_emit_units.proofs.SoundUnits.{sound_rule}
-use Rattle.linemap_emit_units.proofs.TableLocations.{locations_meet}
-use Rattle.linemap_stretches_laws.proofs.TableLookupStretches.{stretches_meet}
-use Rattle.linemap_emit_laws.specs.RecordedTableLaws.{AnswersTable}
 use Rattle.linemap_emit_laws.specs.RecordedTables.{RecordsUnit, RecordsUnits, RecordsTable}
 use Rattle.linemap_emit_laws.proofs.RecordedUnitFacts.{root_attributes, facts_recorded, root_again, root_offset, facts_again}
 use Rattle.linemap_emit_units.specs.BytesAt.{bytes_at}
@@ -196,7 +191,7 @@ each_again e is_big s (u ∷ us) (x ∷ xs) say offset first w main some =
     (first + length (spelled_unit e is_big x)) w main parts.1)
 
 -- what lookups know says what the table says
-table_agrees : (e : Encoding) (is_big : Bool) (s : DwarfFile) (us : List UnitPart) (all : List (List Entry))
+pub table_agrees : (e : Encoding) (is_big : Bool) (s : DwarfFile) (us : List UnitPart) (all : List (List Entry))
     (say : RecordsUnits e s us all) (offset first : ℕ)
     → TableAgrees ranges_of lines_of us (agreeing_units e is_big s us all say offset first)
 unfolding agreeing_units
@@ -227,7 +222,7 @@ no_sets limit v none =
     (proceed (part_of (arange_set limit) (bytes_left v) v) (λ x. give (Some x)))) (eq-eqb (bytes_left v) 0 none)))
 
 -- the context
-context_again : (e : Encoding) (is_big : Bool) (s : DwarfFile) (us : List UnitPart)
+pub context_again : (e : Encoding) (is_big : Bool) (s : DwarfFile) (us : List UnitPart)
     (all : List (List Entry)) (t : RecordsTable e is_big s us all) → list_any has_no_range us ≡ false
     → context s
     ≡ Ok (record {
@@ -263,7 +258,7 @@ context_again e is_big s us all t some =
     (λ supplement_units. Ok (record { units = own_units; supplement_units = supplement_units }))) t.is_alone
 
 -- none of its units has a dwo id
-no_dwo_id : (e : Encoding) (is_big : Bool) (s : DwarfFile) (us : List UnitPart) (all : List (List Entry))
+pub no_dwo_id : (e : Encoding) (is_big : Bool) (s : DwarfFile) (us : List UnitPart) (all : List (List Entry))
     (say : RecordsUnits e s us all) (offset first : ℕ)
     → filter_map (λ (u : ContextUnit). u.facts.dwo_id) (agreeing_units e is_big s us all say offset first) ≡ []
 unfolding agreeing_units
@@ -273,17 +268,3 @@ no_dwo_id e is_big s (u ∷ us) [] say offset first = refl
 no_dwo_id e is_big s (u ∷ us) (x ∷ xs) say offset first =
     no_dwo_id e is_big s us xs say.1 (offset + length (spelled_unit e is_big x))
     (first + length (spelled_unit e is_big x))
-
--- its places and its stretches are the table's
-pub answers_again : (e : Encoding) (is_big : Bool) (s : DwarfFile) (us : List UnitPart)
-    (all : List (List Entry)) → RecordsTable e is_big s us all → IsSound us → AnswersTable s us
-answers_again e is_big s us all t sound =
-    let units = agreeing_units e is_big s us all t.units_are_recorded 0 t.info_first in
-    let agrees = table_agrees e is_big s us all t.units_are_recorded 0 t.info_first in
-    record {
-      found = record { units = units; supplement_units = [] };
-      is_context = context_again e is_big s us all t (sound_rule us NoRange sound);
-      has_no_dwo_id = no_dwo_id e is_big s us all t.units_are_recorded 0 t.info_first;
-      places = λ a. locations_meet ranges_of lines_of us units a sound agrees;
-      stretches_are = λ low high. stretches_meet ranges_of lines_of us units low high sound agrees;
-    }

@@ -1,9 +1,8 @@
 -- Files that say what a table says.
 use Rattle.std.specs.Prelude.{◌≡◌, ℕ, Bool, List, [], ◌∷◌, map, Some, Ok}
-use Rattle.linemap_emit_units.specs.View.{View, bytes_left}
+use Rattle.linemap_emit_units.specs.View.{bytes_left}
 use Rattle.linemap_emit_units.specs.DwarfFileType.TheVariants.{Main}
 use Rattle.linemap_emit_units.specs.Encoding.{Encoding}
-use Rattle.linemap_emit_units.specs.SectionReads.{string_at}
 use Rattle.linemap_emit_units.specs.LineHeaders.{LineHeader}
 use Rattle.linemap_emit_units.specs.HeaderParsing.{header_at}
 use Rattle.linemap_emit_units.specs.Attributes.{Bases, ranges_of_list}
@@ -18,15 +17,11 @@ use Rattle.linemap_emit_units.specs.EmittedEntries.{AllFit, attributes_of, spell
 use Rattle.linemap_emit_units.specs.EmittedUnits.{IsWritten, AllSmall, spelled_units}
 use Rattle.linemap_emit_units.specs.LookupAgreement.{lookup_range, RowsAgree, AreNumbered}
 use Rattle.linemap_emit_units.specs.BytesAt.{bytes_at}
-
--- a text is at an offset of the string section
-pub record HasTextAt (s : DwarfFile) (offset : ℕ) (text : List ℕ) : Type 0 where
-  pub found : View
-  pub there : string_at offset s.sections.debug_str ≡ Ok found
-  pub bytes : found.bytes ≡ text
+use Rattle.linemap_emit_calls_laws.specs.RecordedFunctions.{HasTextAt, RecordsFunctions}
 
 -- The entries of a unit, and what its root refers to, say what a table's unit says: its name and
--- directory, its ranges, and a line number program that shows its rows and names its files.
+-- directory, its ranges, a line number program that shows its rows and names its files, and its
+-- functions.
 pub record RecordsUnit (e : Encoding) (s : DwarfFile) (u : UnitPart)
     (entries : List Entry) : Type 0 where
   pub name : ℕ
@@ -56,6 +51,8 @@ pub record RecordsUnit (e : Encoding) (s : DwarfFile) (u : UnitPart)
       ≡ Ok (record { sequences = sequences_of_rows rows; files = files })
   pub rows_agree : RowsAgree number u.sequences rows
   pub files_numbered : AreNumbered number u files
+  pub functions_are : RecordsFunctions e s number u.functions
+      (CompileUnit name directory line_program range_list) others
 
 -- units one by one
 abbrev pub RecordsUnits : Encoding → DwarfFile → List UnitPart → List (List Entry) → Type 0

@@ -9,7 +9,7 @@ pub fn emission_records()
 {}
 
 /// Over sections that hold what was emitted of a sound table there is a context, and it answers the
-/// table's places and stretches.
+/// table's places, frames and stretches.
 pub fn emission_answers()
     ensures { EmissionAnswers }
 {}

@@ -4,7 +4,7 @@
 ghost use Rattle.linemap_emit_laws.specs.RecordedTableLaws.{AnswersAgree, SectionsAnswer};
 
 /// Over sections that say what a sound table says there is a context, and it answers the table's
-/// places and stretches.
+/// places, frames and stretches.
 pub fn sections_answer()
     ensures { SectionsAnswer }
 {}

@@ -1,17 +1,25 @@
 -- Calls, one level at a time.
 use Rattle.std.proofs.Math.Seq.{drop-cons}
-use Rattle.std.proofs.Common.{◌≡◌, ℕ, suc, ◌+◌, ◌<◌, drop, get_or, Bool, true, false, not, eqb, List, [], ◌∷◌, ◌++◌, All, length, ap, refl, sym, subst, ◌∙◌, arith}
-use Rattle.std.proofs.lemmas.List.Elements.{All-head, All-tail}
+use Rattle.std.proofs.Common.{◌≡◌, ℕ, suc, ◌+◌, ◌<◌, drop, get_or, Bool, true, false, not, eqb, List, [], ◌∷◌, ◌++◌, All, length, slice_get, Some, ap, refl, sym, subst, ◌∙◌, arith}
 use Rattle.std.proofs.lemmas.Bool.{ne_eqb}
+use Rattle.std.proofs.lemmas.Option.{slice_get_within, get_or_from_slice_get}
 use Rattle.linemap_emit_programs.specs.TableViews.{call_part, calls_part}
 use Rattle.linemap_emit_programs.specs.TableCall.{TableCall}
 use Rattle.linemap_emit_programs.specs.TableCall.TheViews.{out-TableCall}
 use Rattle.linemap_emit_programs.proofs.TableViewLemmas.{inner-out}
 use Rattle.linemap_emit_programs.specs.TableParts.{Calls, no_calls, more_calls, FunctionPart}
-use Rattle.linemap_emit_units.specs.InlinedNames.{call_names, called_names, with_texts, IsAmong}
-use Rattle.linemap_emit_units.proofs.InlinedNameLemmas.{All-left, All-right, with_texts-append}
+use Rattle.linemap_emit_units.specs.InlinedNames.{call_names, with_texts, NamesAre, FunctionNamesAre, IsAmong}
+use Rattle.linemap_emit_units.proofs.InlinedNameLemmas.{with_texts-append}
 use Rattle.gimli_lines_write_tables.specs.StringSections.{IsText, with_text}
-use Rattle.linemap_emit_units.specs.UnitEmission.{EmittedUnit, has_calls, with_end_of_children, with_call, with_calls, with_function_entry, with_function, with_functions, CanEmitCalls, CanEmitFunctions}
+use Rattle.linemap_emit_programs.specs.Entry.TheVariants.{AbstractFunction}
+use Rattle.linemap_emit_units.specs.UnitEmission.{EmittedUnit, text_offset, with_name, with_entry, with_abstract_functions, has_calls, with_end_of_children, with_call, with_calls, with_function_entry, with_function, with_functions, CanEmitCalls, CanEmitFunctions}
+
+-- an element before those after it
+pub from_here : {X : Type 0} (xs : List X) (i : ℕ) (x : X) → i < length xs → x ≡ get_or xs i x
+    → drop i xs ≡ (x ∷ drop (i + 1) xs)
+from_here xs i x inside is =
+    let next : suc i ≡ i + 1 = omega arith in
+    drop-cons xs i x inside ∙ ap (λ y. y ∷ drop (suc i) xs) (sym is) ∙ ap (λ n. x ∷ drop n xs) next
 
 -- there are some
 pub some_calls : (cs : List TableCall) → has_calls (calls_part cs) ≡ not (eqb (length cs) 0)
@@ -42,6 +50,26 @@ calls_keep names (more_calls site inner others) st =
     ∙ closed_keeps (has_calls inner) (with_calls names inner head)
     ∙ calls_keep names inner head
 
+pub abstract_keeps : (names : List (List ℕ)) (st : EmittedUnit)
+    → (with_abstract_functions names st).encoding ≡ st.encoding
+abstract_keeps [] st = refl
+abstract_keeps (name ∷ names) st =
+    abstract_keeps names (with_entry (AbstractFunction (text_offset name st)) (with_name name st))
+
+-- ---- one of several abstract functions
+
+pub abstract_emitted : (names : List (List ℕ)) (i : ℕ) (name : List ℕ) (offset : ℕ) (st st1 st2 final : EmittedUnit)
+    → slice_get names i ≡ Some name → offset ≡ text_offset name st → st1 ≡ with_name name st
+    → st2 ≡ with_entry (AbstractFunction offset) st1 → with_abstract_functions (drop i names) st ≡ final
+    → with_abstract_functions (drop (i + 1) names) st2 ≡ final
+abstract_emitted names i name offset st st1 st2 final there place named entered whole =
+    let here =
+    from_here names i name (slice_get_within names i name there) (sym (get_or_from_slice_get names i name name there)) in
+    ap (with_abstract_functions (drop (i + 1) names))
+    (entered ∙ ap (λ (o : ℕ). with_entry (AbstractFunction o) st1) place
+    ∙ ap (with_entry (AbstractFunction (text_offset name st))) named)
+    ∙ ap (λ l. with_abstract_functions l st) (sym here) ∙ whole
+
 -- ---- one call of several
 
 -- the entries of a call, of those in it, and the end of them
@@ -50,12 +78,12 @@ pub call_emitted : (size : ℕ) (names : List (List ℕ)) (c : TableCall) (rest 
     → children ≡ has_calls (call_part c).inner → st1 ≡ with_call names children (call_part c).site st
     → st2 ≡ with_calls names (calls_part (out-TableCall c).calls.items) st1
     → st3 ≡ with_end_of_children children st2
-    → CanEmitCalls size (calls_part (c ∷ rest)) → All (IsAmong names) (call_names (calls_part (c ∷ rest)))
+    → CanEmitCalls size (calls_part (c ∷ rest)) → NamesAre (IsAmong names) (calls_part (c ∷ rest))
     → with_calls names (calls_part (c ∷ rest)) st ≡ final
     → (st3.encoding ≡ st.encoding) × CanEmitCalls size (calls_part rest)
-    × All (IsAmong names) (call_names (calls_part rest))
+    × NamesAre (IsAmong names) (calls_part rest)
     × (with_calls names (calls_part rest) st3 ≡ final)
-unfolding with_calls CanEmitCalls call_names
+unfolding with_calls CanEmitCalls NamesAre
 call_emitted size names c rest st st1 st2 st3 final children some head inner end can among whole =
     let called = with_call names (has_calls (call_part c).inner) (call_part c).site st in
     let after : st3 ≡ with_end_of_children (has_calls (call_part c).inner)
@@ -68,58 +96,24 @@ call_emitted size names c rest st st1 st2 st3 final children some head inner end
     ap (λ x. x.encoding) after
     ∙ closed_keeps (has_calls (call_part c).inner) (with_calls names (call_part c).inner called)
     ∙ calls_keep names (call_part c).inner called in
-    let within = call_names (call_part c).inner in
-    let later = call_names (calls_part rest) in (
-      same,
-      can.3,
-      All-right (IsAmong names) within later
-          (All-tail (IsAmong names) (call_part c).site.name (within ++ later) among),
-      ap (with_calls names (calls_part rest)) after ∙ whole,
-    )
-
--- the names of a call and of those in it are among all
-pub call_among : (names : List (List ℕ)) (c : TableCall) (rest : List TableCall)
-    → All (IsAmong names) (call_names (calls_part (c ∷ rest)))
-    → IsAmong names (call_part c).site.name
-    × All (IsAmong names) (call_names (calls_part (out-TableCall c).calls.items))
-unfolding call_names
-call_among names c rest among =
-    let within = call_names (call_part c).inner in
-    let later = call_names (calls_part rest) in (
-      All-head (IsAmong names) (call_part c).site.name (within ++ later) among,
-      subst (λ cs. All (IsAmong names) (call_names cs)) (inner_is c)
-          (All-left (IsAmong names) within later
-          (All-tail (IsAmong names) (call_part c).site.name (within ++ later) among)),
-    )
+    (same, can.3, among.2, ap (with_calls names (calls_part rest)) after ∙ whole)
 
 -- the names of one call, and then those of others
 pub call_named : (c : TableCall) (rest : List TableCall) (texts texts1 texts2 final : List (List ℕ))
     → texts1 ≡ with_text texts (call_part c).site.name
     → texts2 ≡ with_texts texts1 (call_names (calls_part (out-TableCall c).calls.items))
-    → All IsText (call_names (calls_part (c ∷ rest)))
+    → NamesAre IsText (calls_part (c ∷ rest))
     → with_texts texts (call_names (calls_part (c ∷ rest))) ≡ final
-    → All IsText (call_names (calls_part rest)) × (with_texts texts2 (call_names (calls_part rest)) ≡ final)
-unfolding call_names
+    → NamesAre IsText (calls_part rest) × (with_texts texts2 (call_names (calls_part rest)) ≡ final)
+unfolding call_names NamesAre
 call_named c rest texts texts1 texts2 final first inner all whole =
     let within = call_names (call_part c).inner in
     let later = call_names (calls_part rest) in
     let after : texts2 ≡ with_texts (with_text texts (call_part c).site.name) within =
     inner ∙ ap (λ cs. with_texts texts1 (call_names cs)) (sym (inner_is c)) ∙ ap (λ ts. with_texts ts within) first in (
-      All-right IsText within later (All-tail IsText (call_part c).site.name (within ++ later) all),
+      all.2,
       ap (λ ts. with_texts ts later) after
           ∙ sym (with_texts-append (with_text texts (call_part c).site.name) within later) ∙ whole,
-    )
-
--- the texts of a call's name, and of the names of those in it
-pub call_texts_of : (c : TableCall) (rest : List TableCall) → All IsText (call_names (calls_part (c ∷ rest)))
-    → IsText (call_part c).site.name × All IsText (call_names (calls_part (out-TableCall c).calls.items))
-unfolding call_names
-call_texts_of c rest all =
-    let within = call_names (call_part c).inner in
-    let later = call_names (calls_part rest) in (
-      All-head IsText (call_part c).site.name (within ++ later) all,
-      subst (λ cs. All IsText (call_names cs)) (inner_is c)
-          (All-left IsText within later (All-tail IsText (call_part c).site.name (within ++ later) all)),
     )
 
 -- the same of a function
@@ -127,9 +121,9 @@ pub function_emitted : (size : ℕ) (names : List (List ℕ)) (f : FunctionPart)
     (st st1 st2 st3 final : EmittedUnit) (children : Bool)
     → children ≡ has_calls f.calls → st1 ≡ with_function_entry f st → st2 ≡ with_calls names f.calls st1
     → st3 ≡ with_end_of_children children st2
-    → CanEmitFunctions size (f ∷ rest) → All (IsAmong names) (called_names (f ∷ rest))
+    → CanEmitFunctions size (f ∷ rest) → FunctionNamesAre (IsAmong names) (f ∷ rest)
     → with_functions names (f ∷ rest) st ≡ final
-    → (st3.encoding ≡ st.encoding) × CanEmitFunctions size rest × All (IsAmong names) (called_names rest)
+    → (st3.encoding ≡ st.encoding) × CanEmitFunctions size rest × FunctionNamesAre (IsAmong names) rest
     × (with_functions names rest st3 ≡ final)
 function_emitted size names f rest st st1 st2 st3 final children some head inner end can among whole =
     let after : st3 ≡ with_function names f st =
@@ -138,17 +132,9 @@ function_emitted size names f rest st st1 st2 st3 final children some head inner
     let same =
     ap (λ x. x.encoding) after
     ∙ closed_keeps (has_calls f.calls) (with_calls names f.calls (with_function_entry f st))
-    ∙ calls_keep names f.calls (with_function_entry f st) in
-    (
+    ∙ calls_keep names f.calls (with_function_entry f st) in (
       same,
       can.2,
-      All-right (IsAmong names) (call_names f.calls) (called_names rest) among,
+      among.1,
       ap (with_functions names rest) after ∙ whole,
     )
-
--- an element before those after it
-pub from_here : {X : Type 0} (xs : List X) (i : ℕ) (x : X) → i < length xs → x ≡ get_or xs i x
-    → drop i xs ≡ (x ∷ drop (i + 1) xs)
-from_here xs i x inside is =
-    let next : suc i ≡ i + 1 = omega arith in
-    drop-cons xs i x inside ∙ ap (λ y. y ∷ drop (suc i) xs) (sym is) ∙ ap (λ n. x ∷ drop n xs) next

@@ -7,7 +7,7 @@ use Rattle.std.proofs.lemmas.Cmp.{nat_list_eq_equiv}
 use Rattle.gimli_lines_write_tables.specs.StringSections.{IsText, same_bytes, with_text}
 use Rattle.gimli_lines_write_tables.proofs.TextTableLemmas.{with_text-again, with_text-new}
 use Rattle.linemap_emit_programs.specs.TableParts.{Calls, no_calls, more_calls, FunctionPart, UnitPart}
-use Rattle.linemap_emit_units.specs.InlinedNames.{call_names, called_names, with_texts, inlined_names, IsAmong}
+use Rattle.linemap_emit_units.specs.InlinedNames.{call_names, called_names, with_texts, inlined_names, NamesAre, FunctionNamesAre, IsAmong}
 use Rattle.linemap_emit_units.specs.UnitEmission.{CanEmitCalls, CanEmitFunctions, CanEmitUnit}
 
 -- ---- lists one after the other
@@ -26,6 +26,24 @@ with_texts-append texts [] ys = refl
 with_texts-append texts (x ∷ xs) ys = with_texts-append (with_text texts x) xs ys
 
 -- ---- texts without a zero byte
+
+-- what holds of all names holds of each
+pub names_are : (P : List ℕ → Type 0) (cs : Calls) → All P (call_names cs) → NamesAre P cs
+unfolding call_names NamesAre
+names_are P no_calls all = tt
+names_are P (more_calls site inner others) all =
+    let rest = All-tail P site.name (call_names inner ++ call_names others) all in (
+      All-head P site.name (call_names inner ++ call_names others) all,
+      names_are P inner (All-left P (call_names inner) (call_names others) rest),
+      names_are P others (All-right P (call_names inner) (call_names others) rest),
+    )
+
+function_names_are : (P : List ℕ → Type 0) (fs : List FunctionPart) → All P (called_names fs) → FunctionNamesAre P fs
+function_names_are P [] all = tt
+function_names_are P (f ∷ fs) all = (
+  names_are P f.calls (All-left P (call_names f.calls) (called_names fs) all),
+  function_names_are P fs (All-right P (call_names f.calls) (called_names fs) all),
+)
 
 pub call_texts : (size : ℕ) (cs : Calls) → CanEmitCalls size cs → All IsText (call_names cs)
 unfolding CanEmitCalls call_names
@@ -81,3 +99,9 @@ all_among texts (t ∷ ts) =
 
 pub unit_among : (u : UnitPart) → All (IsAmong (inlined_names u)) (called_names u.functions)
 unit_among u = all_among [] (called_names u.functions)
+
+pub unit_names_are : (u : UnitPart) → FunctionNamesAre (IsAmong (inlined_names u)) u.functions
+unit_names_are u = function_names_are (IsAmong (inlined_names u)) u.functions (unit_among u)
+
+pub unit_names_are_texts : (size : ℕ) (u : UnitPart) → CanEmitUnit size u → FunctionNamesAre IsText u.functions
+unit_names_are_texts size u can = function_names_are IsText u.functions (unit_texts size u can)

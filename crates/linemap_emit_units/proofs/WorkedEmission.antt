@@ -11,6 +11,7 @@ use Rattle.linemap_emit_programs.specs.EmittedUnits.{spelled_units}
 use Rattle.linemap_emit_units.specs.TableEmission.{EmittedTable, emitted_table, with_emitted_units}
 use Rattle.gimli_lines_write_tables.specs.Spelling as spelling
 use Rattle.gimli_lines_write_tables.specs.RowPieces as pieces
+use Rattle.linemap_emit_units.specs.InlinedNames as names
 use Rattle.linemap_emit_units.specs.UnitEmission as entries
 
 abbrev target : Encoding
@@ -40,7 +41,7 @@ table_of_a_unit = emitted_table target false (a_unit ∷ [])
 -- each text once, by first use
 texts_of_the_unit : section_of table_of_a_unit.texts ≡
     97 ∷ 46 ∷ 99 ∷ 0 ∷ 47 ∷ 119 ∷ 0 ∷ 109 ∷ 97 ∷ 105 ∷ 110 ∷ 0 ∷ []
-unfolding section_of with_emitted_units entries.with_calls
+unfolding section_of with_emitted_units entries.with_calls names.call_names
 texts_of_the_unit = refl
 
 -- each row by a special opcode, after what changes
@@ -57,13 +58,13 @@ ranges_of_the_unit : table_of_a_unit.ranges ≡
     0 ∷ 16 ∷ 0 ∷ 0 ∷ 0 ∷ 0 ∷ 0 ∷ 0 ∷ 64 ∷ 16 ∷ 0 ∷ 0 ∷ 0 ∷ 0 ∷ 0 ∷ 0 ∷ 0 ∷ 0 ∷ 0 ∷ 0 ∷ 0 ∷ 0 ∷ 0 ∷ 0 ∷ 0 ∷ 0 ∷
     0 ∷ 0 ∷ 0 ∷ 0 ∷ 0 ∷ 0 ∷ 0 ∷ 16 ∷ 0 ∷ 0 ∷ 0 ∷ 0 ∷ 0 ∷ 0 ∷ 48 ∷ 16 ∷ 0 ∷ 0 ∷ 0 ∷ 0 ∷ 0 ∷ 0 ∷ 0 ∷ 0 ∷ 0 ∷ 0 ∷
     0 ∷ 0 ∷ 0 ∷ 0 ∷ 0 ∷ 0 ∷ 0 ∷ 0 ∷ 0 ∷ 0 ∷ 0 ∷ 0 ∷ []
-unfolding with_emitted_units entries.with_calls
+unfolding with_emitted_units entries.with_calls names.call_names
 ranges_of_the_unit = refl
 
 entries_of_the_unit : spelled_units target false table_of_a_unit.units ≡
     42 ∷ 0 ∷ 0 ∷ 0 ∷ 4 ∷ 0 ∷ 0 ∷ 0 ∷ 0 ∷ 0 ∷ 8 ∷ 1 ∷ 0 ∷ 0 ∷ 0 ∷ 0 ∷ 4 ∷ 0 ∷ 0 ∷ 0 ∷ 0 ∷ 0 ∷ 0 ∷ 0 ∷ 0 ∷ 0 ∷ 0 ∷
     0 ∷ 0 ∷ 0 ∷ 0 ∷ 0 ∷ 0 ∷ 0 ∷ 0 ∷ 0 ∷ 3 ∷ 7 ∷ 0 ∷ 0 ∷ 0 ∷ 32 ∷ 0 ∷ 0 ∷ 0 ∷ 0 ∷ []
-unfolding with_emitted_units entries.with_calls spelling.unsigned_within
+unfolding with_emitted_units entries.with_calls names.call_names spelling.unsigned_within
 entries_of_the_unit = refl
 
 -- "b.c" in the same directory
@@ -82,7 +83,7 @@ b_unit =
 second_unit_after_the_first : (emitted_table target false (a_unit ∷ b_unit ∷ [])).units ≡
     (CompileUnit 0 4 0 0 ∷ Function false 7 32 ∷ EndOfChildren ∷ []) ∷ (CompileUnit 12 4 70 64 ∷ EndOfChildren ∷ [])
     ∷ []
-unfolding with_emitted_units entries.with_calls spelling.unsigned_within spelling.signed_within pieces.row_piece
+unfolding with_emitted_units entries.with_calls names.call_names spelling.unsigned_within spelling.signed_within pieces.row_piece
     pieces.flags pieces.changes pieces.moves pieces.end_piece
 second_unit_after_the_first = refl
 

@@ -22,6 +22,15 @@ with_texts texts (t ∷ ts) = with_texts (with_text texts t) ts
 abbrev pub inlined_names : UnitPart → List (List ℕ)
 inlined_names u = with_texts [] (called_names u.functions)
 
+-- each name of calls is such that something holds of it
+unfoldable pub NamesAre : (List ℕ → Type 0) → Calls → Type 0
+NamesAre P no_calls = Unit {0}
+NamesAre P (more_calls site inner others) = P site.name × NamesAre P inner × NamesAre P others
+
+abbrev pub FunctionNamesAre : (List ℕ → Type 0) → List FunctionPart → Type 0
+FunctionNamesAre P [] = Unit {0}
+FunctionNamesAre P (f ∷ fs) = NamesAre P f.calls × FunctionNamesAre P fs
+
 -- a text is among others
 abbrev pub IsAmong : List (List ℕ) → List ℕ → Type 0
 IsAmong texts t = list_any (same_bytes t) texts ≡ true

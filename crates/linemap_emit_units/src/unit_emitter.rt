@@ -9,7 +9,7 @@ ghost use Rattle.gimli_lines_write_tables.specs.NumberParsers.{is_address_size};
 ghost use Rattle.linemap_emit_programs.specs.WriteResults.{Appends};
 ghost use Rattle.linemap_emit_programs.specs.EmittedRanges.{AllWritable};
 ghost use Rattle.linemap_emit_units.specs.UnitEmission.{text_offset, with_name, with_list, list_offset, with_entry, has_calls, with_end_of_children, with_abstract_functions, with_function_entry, with_call, CanEmit, CanEmitCalls, CanEmitFunctions, CanEmitUnit, with_calls, with_function, with_functions, with_unit_entry, with_unit, without_entries};
-ghost use Rattle.linemap_emit_units.specs.InlinedNames.{call_names, called_names, IsAmong};
+ghost use Rattle.linemap_emit_units.specs.InlinedNames.{NamesAre, FunctionNamesAre, IsAmong};
 
 use crate::inlined_names::{names_of, number_of};
 use gimli_lines_write_tables::{
@@ -151,7 +151,7 @@ impl UnitEmitter {
     }
 
     // The entries of calls, each with those in it.
-    #[tactic(auto, using(crate::proofs::EmittedCallLemmas::some_in), unfolding(crate::specs::UnitEmission::with_calls, crate::specs::UnitEmission::CanEmitCalls))]
+    #[tactic(auto, using(crate::proofs::EmittedCallLemmas::some_in), unfolding(crate::specs::UnitEmission::with_calls, crate::specs::UnitEmission::CanEmitCalls, crate::specs::InlinedNames::NamesAre))]
     fn calls(
         &mut self,
         alloc: Global,
@@ -160,7 +160,7 @@ impl UnitEmitter {
     ) -> Result<(), Error>
         requires size { is_address_size self.old.encoding.address_size ≡ true }
         requires can_emit { CanEmitCalls self.old.encoding.address_size (calls_part calls.now) }
-        requires among { All (IsAmong names.old) (call_names (calls_part calls.now)) }
+        requires among { NamesAre (IsAmong names.old) (calls_part calls.now) }
         requires few { length names.old < 2 ^ 31 }
         ensures ok { OnOk result
             (self.new ≡ with_calls names.old (calls_part calls.now) self.old) }
@@ -206,7 +206,7 @@ impl UnitEmitter {
         requires size { is_address_size self.old.encoding.address_size ≡ true }
         requires can_emit { CanEmitFunctions self.old.encoding.address_size
             (map function_part functions.now) }
-        requires among { All (IsAmong names.old) (called_names (map function_part functions.now)) }
+        requires among { FunctionNamesAre (IsAmong names.old) (map function_part functions.now) }
         requires few { length names.old < 2 ^ 31 }
         ensures ok { OnOk result
             (self.new ≡ with_functions names.old (map function_part functions.now) self.old) }
@@ -244,7 +244,6 @@ impl UnitEmitter {
 
     /// Adds the entries of a unit, with its texts and range lists. Its line program is at an
     /// offset.
-    #[tactic(auto, using(crate::proofs::InlinedNameLemmas::unit_texts, crate::proofs::InlinedNameLemmas::unit_among))]
     pub fn unit(&mut self, alloc: Global, unit: &TableUnit, line_program: u64) -> Result<(), Error>
         requires size { is_address_size self.old.encoding.address_size ≡ true }
         requires can_emit { CanEmitUnit self.old.encoding.address_size (unit_part unit.now) }

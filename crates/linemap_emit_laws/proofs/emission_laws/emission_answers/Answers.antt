@@ -1,6 +1,6 @@
 use Rattle.linemap_emit_units.specs.TableEmission.{emitted_table}
 use Rattle.linemap_emit_laws.proofs.EmittedUnitLemmas.{emission_recorded}
-use Rattle.linemap_emit_laws.proofs.RecordedContexts.{answers_again}
+use Rattle.linemap_emit_laws.proofs.RecordedAnswers.{answers_again}
 use Rattle.linemap_emit_laws.proofs.emission_laws.emission_answers.Goals as goal
 
 pub returns : goal.returns

@@ -1,4 +1,4 @@
-use Rattle.linemap_emit_laws.proofs.RecordedContexts.{answers_again}
+use Rattle.linemap_emit_laws.proofs.RecordedAnswers.{answers_again}
 use Rattle.linemap_emit_laws.proofs.recorded_table_laws.sections_answer.Goals as goal
 
 pub returns : goal.returns

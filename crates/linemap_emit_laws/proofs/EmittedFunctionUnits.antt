@@ -1,0 +1,108 @@
+-- The entries of a unit that was emitted say what the functions of the table's unit say.
+use Rattle.std.proofs.Common.{◌≡◌, ℕ, ◌+◌, ◌*◌, ◌≤◌, ◌^◌, Bool, List, [], ◌∷◌, ◌++◌, All, length, map, refl, sym, ap, subst, ◌∙◌, arith, append_assoc}
+use Rattle.linemap_emit_units.specs.Encoding.{Encoding}
+use Rattle.linemap_emit_units.specs.StringSections.{IsText as HasNoZero, text_index}
+use Rattle.linemap_emit_units.proofs.SectionTexts.{added_text-index}
+use Rattle.linemap_emit_units.proofs.InlinedNameLemmas.{unit_names_are}
+use Rattle.linemap_emit_units.specs.DwarfFiles.{DwarfFile}
+use Rattle.linemap_emit_units.specs.TableParts.{UnitPart}
+use Rattle.linemap_emit_units.specs.Entry.{Entry}
+use Rattle.linemap_emit_units.specs.Entry.TheVariants.{CompileUnit, AbstractFunction, EndOfChildren}
+use Rattle.linemap_emit_units.specs.EmittedEntryRows.{spelled_entries}
+use Rattle.linemap_emit_units.specs.EmittedUnits.{entries_start, abstract_offset}
+use Rattle.linemap_emit_units.specs.InlinedNames.{inlined_names, IsAmong}
+use Rattle.linemap_emit_units.specs.UnitEmission.{EmittedUnit, text_offset, list_offset, with_name, with_entry, with_abstract_functions, with_functions, with_unit_entry, origin_of}
+use Rattle.linemap_emit_units.specs.EmittedSections.{HoldTable}
+use Rattle.linemap_emit_units.specs.TableEmission.{EmittedTable, before_entries, after_entries, with_emitted_unit}
+use Rattle.linemap_emit_units.specs.FittingUnits.{IsServed, UnitFits}
+use Rattle.linemap_emit_calls_laws.specs.RecordedFunctions.{entries_of_functions, HasOrigin, RecordsFunctions}
+use Rattle.linemap_emit_laws.proofs.EmissionGrowth.{Grows, grows_on, entry_grows, functions_grow, unit_grows, Extends}
+use Rattle.linemap_emit_laws.proofs.EmittedFunctionLemmas.{entries_below, all_refs, abstract_texts, abstract_entries, functions_entries, root_takes, origin_there, functions_recorded}
+
+module _ (e : Encoding) (is_big : Bool) (u : UnitPart) (st : EmittedTable) where
+  abbrev before : EmittedUnit
+  before = before_entries e is_big st
+
+  abbrev root : EmittedUnit
+  root = with_unit_entry (length st.lines) u before
+
+  abbrev named : EmittedUnit
+  named = with_abstract_functions (inlined_names u) root
+
+  abbrev after : EmittedUnit
+  after = with_functions (inlined_names u) u.functions named
+
+  abbrev last : EmittedUnit
+  last = after_entries e is_big u st
+
+  -- the entry of the unit
+  abbrev pub root_entry : Entry
+  root_entry =
+      CompileUnit (text_offset u.name before) (text_offset u.directory (with_name u.name before)) (length st.lines)
+      (list_offset before)
+
+  -- those after it
+  abbrev pub other_entries : List Entry
+  other_entries =
+      map AbstractFunction (abstract_texts (inlined_names u) root)
+      ++ (entries_of_functions u.functions (all_refs (inlined_names u) u.functions named) ++ EndOfChildren ∷ [])
+
+  pub unit_entries : last.entries ≡ root_entry ∷ other_entries
+  unit_entries =
+      ap (λ (l : List Entry). l ++ EndOfChildren ∷ [])
+      (functions_entries (inlined_names u) u.functions named
+      ∙ ap (λ (l : List Entry). l ++ entries_of_functions u.functions (all_refs (inlined_names u) u.functions named))
+      (abstract_entries (inlined_names u) root))
+      ∙ regroup (root_entry ∷ []) (map AbstractFunction (abstract_texts (inlined_names u) root))
+      (entries_of_functions u.functions (all_refs (inlined_names u) u.functions named)) (EndOfChildren ∷ [])
+    where
+      regroup : (x a f n : List Entry) → ((x ++ a) ++ f) ++ n ≡ x ++ (a ++ (f ++ n))
+      regroup x a f n = simp append_assoc
+
+  pub functions_are_recorded : (final : EmittedTable) (s : DwarfFile) → IsServed e → 2 ^ 31 ≤ s.offset_limit
+      → UnitFits e is_big u st → HoldTable e is_big final s → All HasNoZero final.texts
+      → Extends (with_emitted_unit e is_big u st) final
+      → RecordsFunctions e s (λ i. i + 1) u.functions root_entry other_entries
+  functions_are_recorded final s served wide fit hold no_zeros extends =
+      record {
+        abstract_names = abstract_texts (inlined_names u) root;
+        refs = all_refs (inlined_names u) u.functions named;
+        entries_are = refl;
+        fit = entries_below s.offset_limit e all wide (subst (All _) unit_entries fit.entries_fit);
+        are_recorded =
+            functions_recorded e is_big s last final hold no_zeros served.has_address_size encoding order extends.texts
+            extends.more_ranges extends.ranges (inlined_names u) all origins u.functions named
+            (entry_grows EndOfChildren after) fit.can_emit.2 (unit_names_are u);
+      }
+    where
+      all : List Entry
+      all = root_entry ∷ other_entries
+
+      encoding : last.encoding ≡ e
+      encoding = (unit_grows (length st.lines) u before).same_encoding
+
+      order : last.ranges.is_big ≡ is_big
+      order = (unit_grows (length st.lines) u before).same_order
+
+      named_grows : Grows named last
+      named_grows = grows_on named after last (functions_grow (inlined_names u) u.functions named)
+          (entry_grows EndOfChildren after)
+
+      rest : List Entry
+      rest = entries_of_functions u.functions (all_refs (inlined_names u) u.functions named) ++ EndOfChildren ∷ []
+
+      place : (big : Bool) → abstract_offset e 0 ≡ entries_start e + length (spelled_entries e big (root_entry ∷ []))
+      place big =
+          let size =
+          root_takes e big (text_offset u.name before) (text_offset u.directory (with_name u.name before))
+          (length st.lines) (list_offset before) in
+          omega (arith, size)
+
+      origins : (t : List ℕ) → IsAmong (inlined_names u) t → HasOrigin e s all (origin_of e (inlined_names u) t) t
+      origins t among =
+          let i = text_index (inlined_names u) t in
+          let same : 0 + i ≡ i = omega arith in
+          subst (λ n. HasOrigin e s all (abstract_offset e n) t) same
+          (origin_there e is_big s last final hold no_zeros served.has_address_size encoding order extends.texts
+          extends.more_ranges extends.ranges all (inlined_names u) root (root_entry ∷ []) rest 0 i t refl place named_grows
+          (added_text-index (inlined_names u) t among))
