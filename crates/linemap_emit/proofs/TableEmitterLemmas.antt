@@ -31,27 +31,27 @@ closed_keeps : (b : Bool) (st : EmittedUnit) → Keeps st (with_end_of_children 
 closed_keeps true st = (refl, refl)
 closed_keeps false st = (refl, refl)
 
-calls_keep : (names : List (List ℕ)) (cs : Calls) (st : EmittedUnit) → Keeps st (with_calls names cs st)
+calls_keep : (number : ℕ → ℕ) (names : List (List ℕ)) (cs : Calls) (st : EmittedUnit) → Keeps st (with_calls number names cs st)
 unfolding with_calls
-calls_keep names no_calls st = (refl, refl)
-calls_keep names (more_calls site inner others) st =
-    let head = with_call names (has_calls inner) site st in
-    let within = with_calls names inner head in
+calls_keep number names no_calls st = (refl, refl)
+calls_keep number names (more_calls site inner others) st =
+    let head = with_call number names (has_calls inner) site st in
+    let within = with_calls number names inner head in
     let after = with_end_of_children (has_calls inner) within in
-    let ended = keeps_then head within after (calls_keep names inner head) (closed_keeps (has_calls inner) within) in
-    let all = keeps_then head after (with_calls names others after) ended (calls_keep names others after) in
+    let ended = keeps_then head within after (calls_keep number names inner head) (closed_keeps (has_calls inner) within) in
+    let all = keeps_then head after (with_calls number names others after) ended (calls_keep number names others after) in
     (all.0, all.1)
 
-functions_keep : (names : List (List ℕ)) (fs : List FunctionPart) (st : EmittedUnit)
-    → Keeps st (with_functions names fs st)
-functions_keep names [] st = (refl, refl)
-functions_keep names (f ∷ fs) st =
+functions_keep : (number : ℕ → ℕ) (names : List (List ℕ)) (fs : List FunctionPart) (st : EmittedUnit)
+    → Keeps st (with_functions number names fs st)
+functions_keep number names [] st = (refl, refl)
+functions_keep number names (f ∷ fs) st =
     let head = with_function_entry f st in
-    let within = with_calls names f.calls head in
-    let after = with_function names f st in
+    let within = with_calls number names f.calls head in
+    let after = with_function number names f st in
     let ended =
-    keeps_then head within after (calls_keep names f.calls head) (closed_keeps (has_calls f.calls) within) in
-    let all = keeps_then head after (with_functions names fs after) ended (functions_keep names fs after) in
+    keeps_then head within after (calls_keep number names f.calls head) (closed_keeps (has_calls f.calls) within) in
+    let all = keeps_then head after (with_functions number names fs after) ended (functions_keep number names fs after) in
     (all.0, all.1)
 
 abstract_keep : (names : List (List ℕ)) (st : EmittedUnit) → Keeps st (with_abstract_functions names st)
@@ -65,8 +65,8 @@ unit_keeps line_program u st =
     let root = with_unit_entry line_program u st in
     let named = with_abstract_functions (inlined_names u) root in
     let all =
-    keeps_then root named (with_functions (inlined_names u) u.functions named) (abstract_keep (inlined_names u) root)
-    (functions_keep (inlined_names u) u.functions named) in
+    keeps_then root named (with_functions number (inlined_names u) u.functions named) (abstract_keep (inlined_names u) root)
+    (functions_keep number (inlined_names u) u.functions named) in
     (all.0, all.1)
 
 -- ---- the emitter after a unit

@@ -120,40 +120,40 @@ abstract_grow (name ∷ names) a =
     (grows_on named next (with_abstract_functions names next) (entry_grows (AbstractFunction (text_offset name a)) named)
     (abstract_grow names next))
 
-pub call_grows : (names : List (List ℕ)) (children : Bool) (site : Site) (a : EmittedUnit)
-    → Grows a (with_call names children site a)
-call_grows names children site a =
+pub call_grows : (number : ℕ → ℕ) (names : List (List ℕ)) (children : Bool) (site : Site) (a : EmittedUnit)
+    → Grows a (with_call number names children site a)
+call_grows number names children site a =
     let listed = with_list site.ranges a in
     let x = Call children (origin_of a.encoding names site.name) (list_offset a) (site.file + 1) site.line site.column in
     grows_on a listed (with_entry x listed) (list_grows site.ranges a) (entry_grows x listed)
 
-pub calls_grow : (names : List (List ℕ)) (cs : Calls) (a : EmittedUnit) → Grows a (with_calls names cs a)
+pub calls_grow : (number : ℕ → ℕ) (names : List (List ℕ)) (cs : Calls) (a : EmittedUnit) → Grows a (with_calls number names cs a)
 unfolding with_calls
-calls_grow names no_calls a = grows_by_nothing a
-calls_grow names (more_calls site inner others) a =
-    let head = with_call names (has_calls inner) site a in
-    let within = with_calls names inner head in
+calls_grow number names no_calls a = grows_by_nothing a
+calls_grow number names (more_calls site inner others) a =
+    let head = with_call number names (has_calls inner) site a in
+    let within = with_calls number names inner head in
     let after = with_end_of_children (has_calls inner) within in
-    let whole = with_calls names others after in
-    grows_on a head whole (call_grows names (has_calls inner) site a)
-    (grows_on head within whole (calls_grow names inner head)
-    (grows_on within after whole (end_grows (has_calls inner) within) (calls_grow names others after)))
+    let whole = with_calls number names others after in
+    grows_on a head whole (call_grows number names (has_calls inner) site a)
+    (grows_on head within whole (calls_grow number names inner head)
+    (grows_on within after whole (end_grows (has_calls inner) within) (calls_grow number names others after)))
 
-pub function_grows : (names : List (List ℕ)) (f : FunctionPart) (a : EmittedUnit) → Grows a (with_function names f a)
-function_grows names f a =
+pub function_grows : (number : ℕ → ℕ) (names : List (List ℕ)) (f : FunctionPart) (a : EmittedUnit) → Grows a (with_function number names f a)
+function_grows number names f a =
     let head = with_function_entry f a in
-    let within = with_calls names f.calls head in
-    grows_on a head (with_function names f a)
+    let within = with_calls number names f.calls head in
+    grows_on a head (with_function number names f a)
     (attributes_grow f.name f.ranges (Function (has_calls f.calls) (text_offset f.name a) (list_offset a)) a)
-    (grows_on head within (with_function names f a) (calls_grow names f.calls head)
+    (grows_on head within (with_function number names f a) (calls_grow number names f.calls head)
     (end_grows (has_calls f.calls) within))
 
-pub functions_grow : (names : List (List ℕ)) (fs : List FunctionPart) (a : EmittedUnit)
-    → Grows a (with_functions names fs a)
-functions_grow names [] a = grows_by_nothing a
-functions_grow names (f ∷ fs) a =
-    grows_on a (with_function names f a) (with_functions names fs (with_function names f a)) (function_grows names f a)
-    (functions_grow names fs (with_function names f a))
+pub functions_grow : (number : ℕ → ℕ) (names : List (List ℕ)) (fs : List FunctionPart) (a : EmittedUnit)
+    → Grows a (with_functions number names fs a)
+functions_grow number names [] a = grows_by_nothing a
+functions_grow number names (f ∷ fs) a =
+    grows_on a (with_function number names f a) (with_functions number names fs (with_function number names f a)) (function_grows number names f a)
+    (functions_grow number names fs (with_function number names f a))
 
 -- what is emitted after the entry of a unit
 pub root_grows : (line_program : ℕ) (u : UnitPart) (a : EmittedUnit)
@@ -162,9 +162,9 @@ root_grows line_program u a =
     let names = inlined_names u in
     let root = with_unit_entry line_program u a in
     let named = with_abstract_functions names root in
-    let after = with_functions names u.functions named in
+    let after = with_functions number names u.functions named in
     grows_on root named (with_entry EndOfChildren after) (abstract_grow names root)
-    (grows_on named after (with_entry EndOfChildren after) (functions_grow names u.functions named)
+    (grows_on named after (with_entry EndOfChildren after) (functions_grow number names u.functions named)
     (entry_grows EndOfChildren after))
 
 -- a unit

@@ -30,7 +30,7 @@ module _ (e : Encoding) (is_big : Bool) (u : UnitPart) (st : EmittedTable) where
   named = with_abstract_functions (inlined_names u) root
 
   abbrev after : EmittedUnit
-  after = with_functions (inlined_names u) u.functions named
+  after = with_functions number (inlined_names u) u.functions named
 
   abbrev last : EmittedUnit
   last = after_entries e is_big u st
@@ -45,16 +45,16 @@ module _ (e : Encoding) (is_big : Bool) (u : UnitPart) (st : EmittedTable) where
   abbrev pub other_entries : List Entry
   other_entries =
       map AbstractFunction (abstract_texts (inlined_names u) root)
-      ++ (entries_of_functions u.functions (all_refs (inlined_names u) u.functions named) ++ EndOfChildren ∷ [])
+      ++ (entries_of_functions u.functions (all_refs number (inlined_names u) u.functions named) ++ EndOfChildren ∷ [])
 
   pub unit_entries : last.entries ≡ root_entry ∷ other_entries
   unit_entries =
       ap (λ (l : List Entry). l ++ EndOfChildren ∷ [])
-      (functions_entries (inlined_names u) u.functions named
-      ∙ ap (λ (l : List Entry). l ++ entries_of_functions u.functions (all_refs (inlined_names u) u.functions named))
+      (functions_entries number (inlined_names u) u.functions named
+      ∙ ap (λ (l : List Entry). l ++ entries_of_functions u.functions (all_refs number (inlined_names u) u.functions named))
       (abstract_entries (inlined_names u) root))
       ∙ regroup (root_entry ∷ []) (map AbstractFunction (abstract_texts (inlined_names u) root))
-      (entries_of_functions u.functions (all_refs (inlined_names u) u.functions named)) (EndOfChildren ∷ [])
+      (entries_of_functions u.functions (all_refs number (inlined_names u) u.functions named)) (EndOfChildren ∷ [])
     where
       regroup : (x a f n : List Entry) → ((x ++ a) ++ f) ++ n ≡ x ++ (a ++ (f ++ n))
       regroup x a f n = simp append_assoc
@@ -66,7 +66,7 @@ module _ (e : Encoding) (is_big : Bool) (u : UnitPart) (st : EmittedTable) where
   functions_are_recorded final s served wide fit hold no_zeros extends =
       record {
         abstract_names = abstract_texts (inlined_names u) root;
-        refs = all_refs (inlined_names u) u.functions named;
+        refs = all_refs number (inlined_names u) u.functions named;
         entries_are = refl;
         fit = entries_below s.offset_limit e all wide (subst (All _) unit_entries fit.entries_fit);
         are_recorded =
@@ -85,11 +85,11 @@ module _ (e : Encoding) (is_big : Bool) (u : UnitPart) (st : EmittedTable) where
       order = (unit_grows (length st.lines) u before).same_order
 
       named_grows : Grows named last
-      named_grows = grows_on named after last (functions_grow (inlined_names u) u.functions named)
+      named_grows = grows_on named after last (functions_grow number (inlined_names u) u.functions named)
           (entry_grows EndOfChildren after)
 
       rest : List Entry
-      rest = entries_of_functions u.functions (all_refs (inlined_names u) u.functions named) ++ EndOfChildren ∷ []
+      rest = entries_of_functions u.functions (all_refs number (inlined_names u) u.functions named) ++ EndOfChildren ∷ []
 
       place : (big : Bool) → abstract_offset e 0 ≡ entries_start e + length (spelled_entries e big (root_entry ∷ []))
       place big =

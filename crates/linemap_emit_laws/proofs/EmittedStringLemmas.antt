@@ -33,24 +33,24 @@ closed_holds : (b : Bool) (a : EmittedUnit) → All HasNoZero a.texts → All Ha
 closed_holds true a all = all
 closed_holds false a all = all
 
-calls_hold : (names : List (List ℕ)) (cs : Calls) (a : EmittedUnit) → All HasNoZero a.texts
-    → All HasNoZero (with_calls names cs a).texts
+calls_hold : (number : ℕ → ℕ) (names : List (List ℕ)) (cs : Calls) (a : EmittedUnit) → All HasNoZero a.texts
+    → All HasNoZero (with_calls number names cs a).texts
 unfolding with_calls
-calls_hold names no_calls a all = all
-calls_hold names (more_calls site inner others) a all =
-    let head = with_call names (has_calls inner) site a in
-    let within = with_calls names inner head in
-    calls_hold names others (with_end_of_children (has_calls inner) within)
-    (closed_holds (has_calls inner) within (calls_hold names inner head all))
+calls_hold number names no_calls a all = all
+calls_hold number names (more_calls site inner others) a all =
+    let head = with_call number names (has_calls inner) site a in
+    let within = with_calls number names inner head in
+    calls_hold number names others (with_end_of_children (has_calls inner) within)
+    (closed_holds (has_calls inner) within (calls_hold number names inner head all))
 
-functions_hold : (size : ℕ) (names : List (List ℕ)) (fs : List FunctionPart) (a : EmittedUnit)
-    → CanEmitFunctions size fs → All HasNoZero a.texts → All HasNoZero (with_functions names fs a).texts
-functions_hold size names [] a can all = all
-functions_hold size names (f ∷ fs) a can all =
+functions_hold : (size : ℕ) (number : ℕ → ℕ) (names : List (List ℕ)) (fs : List FunctionPart) (a : EmittedUnit)
+    → CanEmitFunctions size fs → All HasNoZero a.texts → All HasNoZero (with_functions number names fs a).texts
+functions_hold size number names [] a can all = all
+functions_hold size number names (f ∷ fs) a can all =
     let head = with_function_entry f a in
-    functions_hold size names fs (with_function names f a) can.2
-    (closed_holds (has_calls f.calls) (with_calls names f.calls head)
-    (calls_hold names f.calls head (text_holds a.texts f.name all can.0.0)))
+    functions_hold size number names fs (with_function number names f a) can.2
+    (closed_holds (has_calls f.calls) (with_calls number names f.calls head)
+    (calls_hold number names f.calls head (text_holds a.texts f.name all can.0.0)))
 
 abstract_hold : (names : List (List ℕ)) (a : EmittedUnit) → All HasNoZero names → All HasNoZero a.texts
     → All HasNoZero (with_abstract_functions names a).texts
@@ -70,7 +70,7 @@ unit_holds : (size line_program : ℕ) (u : UnitPart) (a : EmittedUnit) → CanE
     → All HasNoZero (with_unit line_program u a).texts
 unit_holds size line_program u a can all =
     let root = with_unit_entry line_program u a in
-    functions_hold size (inlined_names u) u.functions (with_abstract_functions (inlined_names u) root) can.2
+    functions_hold size number (inlined_names u) u.functions (with_abstract_functions (inlined_names u) root) can.2
     (abstract_hold (inlined_names u) root
     (all_texts_hold [] (called_names u.functions) (All-nil HasNoZero) (unit_texts size u can))
     (text_holds (with_text a.texts u.name) u.directory (text_holds a.texts u.name all can.1.0) can.0))

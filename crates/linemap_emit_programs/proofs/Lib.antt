@@ -28,3 +28,4 @@ pub mod EmittedFileTexts
 pub mod UnitProgramsRead
 pub mod WrittenPrograms
 pub mod AddedFiles
+pub mod WholeSequences

@@ -79,6 +79,16 @@ known_is version line_texts (in_header bytes) h = tt
 known_is version line_texts (of_line_strings place) h = h.1
 known_is version line_texts _ h = absurd h
 
+-- no texts take no bytes
+none_short : (limit : ℕ) → length (section_of []) ≤ limit
+unfolding section_of
+none_short limit = omega arith
+
+-- and every section begins with them
+none_hold : (v : View) → Holds [] v
+unfolding section_of
+none_hold v = (v.bytes, refl)
+
 -- ---- a unit's program
 
 module _ (e : Encoding) (is_big : Bool) (u : UnitPart) (line_texts : List (List ℕ)) (bytes : List ℕ)
@@ -195,8 +205,10 @@ module _ (e : Encoding) (is_big : Bool) (u : UnitPart) (line_texts : List (List 
       ≡ Ok (program_header offset at directory name, bytes_at is_big (at + length bytes) rest)
   header_is limit offset at directory name rest small texts_small =
       unit_read.header limit offset at (unit_of directory name) rest small
-      (directories_below [] st.line_texts st.tables no_details (in_header []) known limit (omega arith) texts_small)
-      (files_below [] st.line_texts st.tables no_details (in_header []) known limit (omega arith) texts_small) refl
+      (directories_below [] st.line_texts st.tables no_details (in_header []) known limit (none_short limit)
+      texts_small)
+      (files_below [] st.line_texts st.tables no_details (in_header []) known limit (none_short limit) texts_small)
+      refl
 
   -- the rows that it shows
   abbrev pub program_rows : List ProgramRow
@@ -220,11 +232,11 @@ module _ (e : Encoding) (is_big : Bool) (u : UnitPart) (line_texts : List (List 
         version_is = sym version_is;
         directories_read =
             directories_read [] st.line_texts st.tables no_details (in_header []) known (All-nil IsText) all_texts refl
-            s.sections.debug_str s.sections.debug_line_str (s.sections.debug_str.bytes, refl) holds e is_big
+            s.sections.debug_str s.sections.debug_line_str (none_hold s.sections.debug_str) holds e is_big
             (directories_at (emitted_rules e) (fields_at (emitted_rules e) is_big at tables unit_read.unit.program));
         files_read =
             files_read [] st.line_texts st.tables no_details (in_header []) known (All-nil IsText) all_texts refl
-            s.sections.debug_str s.sections.debug_line_str (s.sections.debug_str.bytes, refl) holds e is_big
+            s.sections.debug_str s.sections.debug_line_str (none_hold s.sections.debug_str) holds e is_big
             (files_at (emitted_rules e) is_big
             (fields_at (emitted_rules e) is_big at tables unit_read.unit.program) tables) (sym version_is);
         unit_file_is = refl;
@@ -247,7 +259,7 @@ module _ (e : Encoding) (is_big : Bool) (u : UnitPart) (line_texts : List (List 
           let there = (files_stay u.files first).files in
           let longer = length-extended first.tables.files st.tables.files there in
           let one : length first.tables.files ≡ 1 =
-          ap (λ b. length (own_files b (record { path = text_in e.version _ u.name; directory = 0 })))
+          ap (λ b. length (own_files b (record { path = text_in e.version (table_after e.version u.directory line_texts) u.name; directory = 0 })))
           (ap (λ v. nat_le v 4) (sym version_is) ∙ new) in
           omega arith
 

@@ -1,5 +1,5 @@
 -- A write of bytes that aren't refused appends them, or is out of memory.
-use Rattle.std.proofs.Common.{◌≡◌, ◌≢◌, ⊥, ℕ, List, Result, Ok, Err, refl, sym}
+use Rattle.std.proofs.Common.{◌≡◌, ◌≢◌, ℕ, List, Result, Ok, Err, refl, sym}
 use Rattle.std.specs.Prelude.{IsOk}
 use Rattle.linemap_emit_rows.specs.OutputBytes.{WriterContents, append, append_result}
 use Rattle.linemap_emit_rows.specs.WriteError.{Error}

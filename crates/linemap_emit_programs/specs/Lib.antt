@@ -1,3 +1,15 @@
+pub use Rattle.linemap_emit_rows.specs.FileId
+pub use Rattle.gimli_lines_write_program.specs.BuiltPrograms
+pub use Rattle.gimli_lines_write_laws.specs.LineStrings
+pub use Rattle.gimli_lines_write_laws.specs.FileTables
+pub use Rattle.gimli_lines_write_laws.specs.UnitBytes
+pub use Rattle.gimli_lines_write_laws.specs.EntryFields
+pub use Rattle.gimli_lines_write_laws.specs.HeaderSpelling
+pub use Rattle.gimli_lines_write_laws.specs.HeaderTexts
+pub use Rattle.gimli_lines_write_laws.specs.HeaderContents
+pub use Rattle.gimli_lines_write_unit.specs.HeaderBytes
+pub use Rattle.gimli_lines_write_laws.specs.ProgramReadBack
+pub use Rattle.linemap_emit_rows.specs.FilePaths
 pub use Rattle.linemap_emit_rows.specs.UnitOffsets
 pub use Rattle.linemap_emit_rows.specs.EntryLaws
 pub use Rattle.linemap_emit_rows.specs.Contexts

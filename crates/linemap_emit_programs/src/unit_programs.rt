@@ -99,7 +99,6 @@ fn add_name(
 }
 
 // Adds a file of a table.
-#[tactic(auto, using(crate::proofs::AddedFiles::file_added, crate::proofs::AddedFiles::texts_added, crate::proofs::AddedFiles::place_added))]
 fn add_file(
     alloc: Global,
     program: &mut LineProgram,
