@@ -1,39 +1,45 @@
 -- How many bytes a unit's line number program takes, and that none of them is refused.
-use Rattle.std.proofs.Common.{◌≡◌, ℕ, suc, ◌+◌, ◌*◌, ◌<◌, ◌≤◌, ◌^◌, ◌==◌, Bool, true, false, cond, not, ◌&&◌, List, [], ◌∷◌, ◌++◌, length, map, drop, sum_by, Result, Ok, refl, sym, ap, subst, ◌∙◌, arith}
+use Rattle.std.proofs.Common.{◌≡◌, ℕ, suc, ◌+◌, ◌*◌, ◌<◌, ◌≤◌, ◌^◌, ◌==◌, Bool, true, false, cond, not, ◌&&◌, List, [], ◌∷◌, ◌++◌, length, map, drop, sum_by, negsuc, Option, Result, Ok, Err, refl, sym, ap, subst, ◌∙◌, arith}
 use Rattle.std.specs.Prelude.{All, nat_le, nat_lt}
 use Rattle.std.proofs.lemmas.Bool.{eq-eqb, le-ltb, lt-ltb}
 use Rattle.std.proofs.lemmas.List.{length-append}
-use Rattle.std.proofs.lemmas.List.Elements.{All-head, All-tail}
+use Rattle.std.proofs.lemmas.List.Elements.{All-head, All-tail, All-drop}
 use Rattle.std.proofs.lemmas.List.Sums.{sum_by-cons}
 use Rattle.linemap_emit_units.specs.Encoding.{Encoding}
 use Rattle.linemap_emit_units.specs.Format.{Format}
 use Rattle.linemap_emit_units.specs.Format.TheVariants.{Dwarf32, Dwarf64}
 use Rattle.linemap_emit_units.specs.FormatSizes.{word_size}
 use Rattle.linemap_emit_units.specs.NumberParsers.{is_address_size}
-use Rattle.linemap_emit_units.specs.NumberBytes.{constant_of, bytes_in_width, length_bytes, escape}
+use Rattle.linemap_emit_units.specs.NumberBytes.{constant_of, bytes_in_width, length_bytes, escape, complement}
 use Rattle.linemap_emit_units.specs.WriteError.{Error}
+use Rattle.linemap_emit_units.specs.WriteError.TheVariants.{NeedVersion}
 use Rattle.linemap_emit_units.specs.EntryBytes.{entries_bytes}
 use Rattle.linemap_emit_units.specs.BuiltRows.{first_row}
 use Rattle.linemap_emit_units.specs.LineEntry.{LineEntry}
-use Rattle.linemap_emit_units.specs.StringSections.{section_of, offset_of}
+use Rattle.linemap_emit_units.specs.StringSections.{IsText, section_of, offset_of}
 use Rattle.linemap_emit_units.specs.FileTables.{Text, in_header, of_strings, of_line_strings, File, Info}
 use Rattle.linemap_emit_units.specs.HeaderTexts.{WrittenText, form_of, form_in}
-use Rattle.linemap_emit_units.specs.HeaderSpelling.{Tables}
+use Rattle.linemap_emit_units.specs.HeaderSpelling.{Tables, spelled_parameters, spelled_opcodes, spelled_sizes}
 use Rattle.linemap_emit_units.specs.EntryFields.{WrittenFile, Details, directory_formats, file_formats, spelled_formats}
-use Rattle.linemap_emit_units.specs.HeaderContents.{header_text, header_file, header_files, listed_directories, tables_with, records_source, details_of}
+use Rattle.linemap_emit_units.specs.HeaderContents.{header_text, header_file, header_files, listed_directories, tables_with, records_source, details_of, empty_text, strings_after, line_strings_after}
 use Rattle.linemap_emit_units.specs.HeaderBytes.{text_bytes, all_bytes, bytes_after_path, details_bytes, file_bytes_to_4, file_bytes_of_5, directory_entries_bytes, directories_bytes, entries_of_files, described_files, files_bytes, tables_bytes, header_bytes, form_of_paths, form_of_sources}
-use Rattle.linemap_emit_units.specs.UnitBytes.{body_with_header, body_bytes, with_length, unit_with_length, unit_bytes}
+use Rattle.linemap_emit_units.specs.UnitBytes.{body_bytes, unit_with_length, unit_bytes}
 use Rattle.linemap_emit_units.specs.BuiltPrograms.{no_details}
-use Rattle.linemap_emit_units.specs.EmittedFiles.{EmittedFiles}
-use Rattle.linemap_emit_units.specs.EmittedRows.{emitted_rules}
+use Rattle.linemap_emit_units.specs.EmittedFiles.{EmittedFiles, HasTableTexts, first_unit_files, unit_files, unit_file_ids, place_in}
+use Rattle.linemap_emit_units.specs.EmittedPrograms.{line_program_bytes}
+use Rattle.linemap_emit_units.specs.SoundSequences.{CanEmitSequences}
+use Rattle.linemap_emit_units.specs.TableParts.{UnitPart}
+use Rattle.linemap_emit_units.specs.TableWeight.{sequence_weight}
+use Rattle.linemap_emit_units.specs.EmittedRows.{emitted_rules, emitted_sequences}
 use Rattle.linemap_emit_units.specs.FittingUnits.{IsServed}
 use Rattle.linemap_emit_units.specs.Fixed.{number_bytes}
 use Rattle.linemap_emit_units.specs.Spelling.{unsigned_string}
 use Rattle.linemap_emit_units.proofs.NumberRoundTrip.{length-spelled}
-use Rattle.linemap_emit_units.proofs.SoundFiles.{Stands, FileStands, AreSound}
+use Rattle.linemap_emit_units.proofs.SoundFiles.{Stands, FileStands, AreSound, files_stay, unit_sound}
+use Rattle.linemap_emit_units.proofs.BuiltUnits.{none_is_empty}
 use Rattle.linemap_emit_fits.proofs.NumberSizes.{length-unsigned}
 use Rattle.linemap_emit_fits.proofs.StringSectionSizes.{offset_within}
-use Rattle.linemap_emit_fits.proofs.InstructionSizes.{IsWithin, bytes_within, joined_within, sized_within}
+use Rattle.linemap_emit_fits.proofs.InstructionSizes.{IsWithin, bytes_within, joined_within, sized_within, sequences_within}
 use Rattle.linemap_emit_fits.proofs.FileTableSizes.{text_size, file_size, tables_size}
 
 -- ---- words
@@ -282,3 +288,121 @@ listed_few version (t ∷ ts) = by (nat_le version 4)
     by : (b : Bool) → sum_by text_size (cond b ts (t ∷ ts)) ≤ sum_by text_size (t ∷ ts)
     by true = let whole = sum_by-cons text_size t ts in omega arith
     by false = omega arith
+
+module _ (e : Encoding) (is_big : Bool) (served : IsServed e) (st : EmittedFiles) (same : st.tables.version ≡ e.version)
+    (sound : AreSound st) (small : length (section_of st.line_texts) < 2 ^ 31) where
+  -- the tables of a version
+  abbrev tables_in : ℕ → Tables
+  tables_in version = record {
+    directories = map (header_text [] st.line_texts) (listed_directories version st.tables.directories);
+    files = header_files [] st.line_texts (records_source version no_details) (in_header []) st.tables.files
+        st.tables.infos;
+    details = details_of no_details;
+  }
+
+  directories_stand : All (Stands e.version st.line_texts) st.tables.directories
+  directories_stand = subst (λ v. All (Stands v st.line_texts) st.tables.directories) same sound.directories
+
+  files_stand : All (FileStands e.version st.line_texts (length st.tables.directories)) st.tables.files
+  files_stand =
+      subst (λ v. All (FileStands v st.line_texts (length st.tables.directories)) st.tables.files) same sound.files
+
+  listed_stand : All (Stands e.version st.line_texts) (listed_directories e.version st.tables.directories)
+  listed_stand = by (nat_le e.version 4)
+    where
+      by : (b : Bool) → All (Stands e.version st.line_texts) (cond b (drop 1 st.tables.directories) st.tables.directories)
+      by true = All-drop (Stands e.version st.line_texts) 1 st.tables.directories directories_stand
+      by false = directories_stand
+
+  parameters_few : length (spelled_parameters (emitted_rules e) ++ spelled_opcodes) ≤ 18
+  parameters_few = by (nat_le 4 e.version)
+    where
+      by : (b : Bool)
+          → length ((1 ∷ ((cond b (1 ∷ []) []) ++ (1 ∷ complement 1 (negsuc 4) ∷ 14 ∷ []))) ++ spelled_opcodes) ≤ 18
+      by true = omega arith
+      by false = omega arith
+
+  header_within : IsWithin (100 + tables_size st) (header_bytes is_big (emitted_rules e) (tables_in e.version))
+  header_within =
+      let listed = listed_few e.version st.tables.directories in
+      joined_within 18 (82 + tables_size st) _ (bytes_within 18 _ parameters_few)
+      (joined_within (31 + sum_by text_size (listed_directories e.version st.tables.directories))
+      (51 + sum_by file_size st.tables.files) _
+      (directories_within e is_big st.line_texts small (listed_directories e.version st.tables.directories) listed_stand)
+      (all_files_within e is_big st.line_texts small (length st.tables.directories) st.tables.files st.tables.infos
+      files_stand) (omega arith)) (omega arith)
+
+  sizes_few : length (spelled_sizes e is_big) ≤ 4
+  sizes_few =
+      by (nat_le e.version 4) (length-spelled is_big 2 e.version)
+    where
+      by : (b : Bool) → length (number_bytes is_big 2 e.version) ≡ 2
+          → length (number_bytes is_big 2 e.version ++ cond b [] (e.address_size ∷ 0 ∷ [])) ≤ 4
+      by true l = let m = length-append (number_bytes is_big 2 e.version) [] in omega arith
+      by false l = let m = length-append (number_bytes is_big 2 e.version) (e.address_size ∷ 0 ∷ []) in omega arith
+
+  module _ (entries : List LineEntry) (n : ℕ)
+      (rows : IsWithin n (entries_bytes constant_of is_big (emitted_rules e) (first_row (emitted_rules e)) entries))
+      (fits : 200 + tables_size st + n < 2 ^ 31) where
+    body_within : IsWithin (112 + tables_size st + n)
+        (body_bytes constant_of is_big (emitted_rules e) (header_bytes is_big (emitted_rules e) (tables_in e.version))
+        entries)
+    body_within =
+        let header = header_within in
+        let few = header.few in
+        rw header.are
+        (joined_within 4 (108 + tables_size st + n) _ (bytes_within 4 (spelled_sizes e is_big) sizes_few)
+        (joined_within 8 (100 + tables_size st + n) _
+        (word_within is_big e.format (length header.bytes) (omega arith))
+        (joined_within (100 + tables_size st) n _ (bytes_within _ header.bytes few) rows (omega arith)) (omega arith))
+        (omega arith))
+
+    counted_within : IsWithin (124 + tables_size st + n)
+        (unit_with_length constant_of is_big (emitted_rules e) (tables_in e.version) entries)
+    counted_within =
+        let body = body_within in
+        let few = body.few in
+        rw body.are
+        (joined_within 4 (120 + tables_size st + n) _ (bytes_within 4 (escape e.format) (escape_few e.format))
+        (joined_within 8 (112 + tables_size st + n) _
+        (length_within is_big e.format (length body.bytes) (omega arith)) (bytes_within _ body.bytes few) (omega arith))
+        (omega arith))
+
+    pub unit_within : IsWithin (124 + tables_size st + n)
+        (unit_bytes constant_of is_big (emitted_rules e) (tables_in e.version) entries)
+    unit_within =
+        rw (le-ltb e.version 2 served.not_before_2, le-ltb 5 e.version served.not_after_5)
+        (by (nat_lt e.version 4))
+      where
+        by : (b : Bool) → IsWithin (124 + tables_size st + n)
+            (cond (b && false) (Err NeedVersion)
+            (unit_with_length constant_of is_big (emitted_rules e) (tables_in e.version) entries))
+        by true = counted_within
+        by false = counted_within
+
+    pub tables_within : IsWithin (124 + tables_size st + n)
+        (unit_bytes constant_of is_big (emitted_rules e)
+        (tables_with [] st.line_texts st.tables no_details (in_header [])) entries)
+    tables_within =
+        subst (λ v. IsWithin (124 + tables_size st + n)
+        (unit_bytes constant_of is_big (emitted_rules e) (tables_in v) entries)) (sym same) unit_within
+
+-- a unit's program
+pub program_within : (e : Encoding) (is_big : Bool) (u : UnitPart) (line_texts : List (List ℕ)) → IsServed e
+    → HasTableTexts u → All IsText line_texts → CanEmitSequences e.address_size (length u.files) u.sequences
+    → length (section_of (unit_files e u line_texts).line_texts) < 2 ^ 31
+    → 200 + tables_size (unit_files e u line_texts) + sum_by sequence_weight u.sequences < 2 ^ 31
+    → IsWithin (124 + tables_size (unit_files e u line_texts) + sum_by sequence_weight u.sequences)
+    (line_program_bytes e is_big u line_texts)
+program_within e is_big u line_texts served has free sequences small fits =
+    let st = unit_files e u line_texts in
+    let entries = emitted_sequences (place_in (unit_file_ids e u line_texts)) u.sequences in
+    let n = sum_by sequence_weight u.sequences in
+    subst (λ (o : Option Text). IsWithin (124 + tables_size st + n)
+    (unit_bytes constant_of is_big (emitted_rules e)
+    (tables_with (strings_after o []) (line_strings_after o st.line_texts) st.tables no_details
+    (empty_text [] st.line_texts o)) entries)) (sym (none_is_empty st.tables.version st.tables.infos))
+    (tables_within e is_big served st (files_stay u.files (first_unit_files e u line_texts)).version
+    (unit_sound e u line_texts has free) small entries n
+    (sequences_within e is_big served.has_address_size (place_in (unit_file_ids e u line_texts)) u.sequences
+    sequences.can_build) fits)

@@ -60,21 +60,21 @@ entries_below limit e xs wide fit =
 -- ---- the entries
 
 -- what the entries of calls refer to
-unfoldable pub call_refs : List (List ℕ) → Calls → EmittedUnit → CallReferences
+unfoldable pub call_refs : (ℕ → ℕ) → List (List ℕ) → Calls → EmittedUnit → CallReferences
 call_refs number names no_calls a = no_references
 call_refs number names (more_calls site inner others) a =
     let head = with_call number names (has_calls inner) site a in
-    more_references (origin_of a.encoding names site.name) (list_offset a) (site.file + 1) (call_refs number names inner head)
+    more_references (origin_of a.encoding names site.name) (list_offset a) (number site.file) (call_refs number names inner head)
     (call_refs number names others (with_end_of_children (has_calls inner) (with_calls number names inner head)))
 
-abbrev pub function_refs : List (List ℕ) → FunctionPart → EmittedUnit → FunctionReferences
+abbrev pub function_refs : (ℕ → ℕ) → List (List ℕ) → FunctionPart → EmittedUnit → FunctionReferences
 function_refs number names f a = record {
   name = text_offset f.name a;
   range_list = list_offset a;
   calls = call_refs number names f.calls (with_function_entry f a);
 }
 
-unfoldable pub all_refs : List (List ℕ) → List FunctionPart → EmittedUnit → List FunctionReferences
+unfoldable pub all_refs : (ℕ → ℕ) → List (List ℕ) → List FunctionPart → EmittedUnit → List FunctionReferences
 all_refs number names [] a = []
 all_refs number names (f ∷ fs) a = function_refs number names f a ∷ all_refs number names fs (with_function number names f a)
 
@@ -100,7 +100,7 @@ call_entries number names (more_calls site inner others) a =
     let own = entries_of_calls inner (call_refs number names inner head) in
     let end = end_of_children (has_calls inner) in
     let last = entries_of_calls others (call_refs number names others after) in
-    let x = Call (has_calls inner) (origin_of a.encoding names site.name) (list_offset a) (site.file + 1) site.line site.column in
+    let x = Call (has_calls inner) (origin_of a.encoding names site.name) (list_offset a) (number site.file) site.line site.column in
     call_entries number names others after
     ∙ ap (λ (l : List Entry). l ++ last) (end_entries (has_calls inner) within
     ∙ ap (λ (l : List Entry). l ++ end) (call_entries number names inner head))
@@ -261,23 +261,15 @@ module _ (e : Encoding) (is_big : Bool) (s : DwarfFile) (last : EmittedUnit) (fi
 
   -- ---- calls
 
-  module _ (names : List (List ℕ)) (all : List Entry)
+  module _ (number : ℕ → ℕ) (counts : (n : ℕ) → file_number e.version (number n) ≡ Some (number n))
+      (names : List (List ℕ)) (all : List Entry)
       (origins : (t : List ℕ) → IsAmong names t → HasOrigin e s all (origin_of e names t) t) where
-    file_counts : (n : ℕ) → file_number e.version (n + 1) ≡ Some (n + 1)
-    file_counts n =
-        ap (λ b. cond (nat_lt e.version 5 && b) None (Some (n + 1))) (ne_eqb (n + 1) 0 (omega arith))
-        ∙ by (nat_lt e.version 5)
-      where
-        by : (b : Bool) → cond {A = Option ℕ} (b && false) None (Some (n + 1)) ≡ Some (n + 1)
-        by true = refl
-        by false = refl
-
-    calls_recorded : (cs : Calls) (a : EmittedUnit) → Grows (with_calls number names cs a) last
-        → CanEmitCalls e.address_size cs → NamesAre (IsAmong names) cs
-        → RecordsCalls e s (λ i. i + 1) all cs (call_refs number names cs a)
+    calls_recorded : (files : ℕ) (cs : Calls) (a : EmittedUnit) → Grows (with_calls number names cs a) last
+        → CanEmitCalls e.address_size files cs → NamesAre (IsAmong names) cs
+        → RecordsCalls e s number all cs (call_refs number names cs a)
     unfolding with_calls CanEmitCalls NamesAre RecordsCalls call_refs
-    calls_recorded no_calls a g can among = tt
-    calls_recorded (more_calls site inner others) a g can among =
+    calls_recorded files no_calls a g can among = tt
+    calls_recorded files (more_calls site inner others) a g can among =
         let listed = with_list site.ranges a in
         let head = with_call number names (has_calls inner) site a in
         let within = with_calls number names inner head in
@@ -286,27 +278,27 @@ module _ (e : Encoding) (is_big : Bool) (s : DwarfFile) (last : EmittedUnit) (fi
         let after_grows = grows_on after whole last (calls_grow number names others after) g in
         let within_grows = grows_on within after last (end_grows (has_calls inner) within) after_grows in
         let head_grows = grows_on head within last (calls_grow number names inner head) within_grows in
-        let x = Call (has_calls inner) (origin_of a.encoding names site.name) (list_offset a) (site.file + 1) site.line site.column in
+        let x = Call (has_calls inner) (origin_of a.encoding names site.name) (list_offset a) (number site.file) site.line site.column in
         let listed_grows = grows_on listed head last (entry_grows x listed) head_grows in
         let own_encoding : a.encoding ≡ e = sym listed_grows.same_encoding ∙ encoding in (
           record {
             has_origin = subst (λ (c : Encoding). HasOrigin e s all (origin_of c names site.name) site.name)
                 (sym own_encoding) (origins site.name among.0);
             ranges_are = list_there a site.ranges listed_grows can.0.1;
-            file_is = file_counts site.file;
+            file_is = counts site.file;
           },
-          calls_recorded inner head within_grows can.2 among.1,
-          calls_recorded others after g can.3 among.2,
+          calls_recorded files inner head within_grows can.2 among.1,
+          calls_recorded files others after g can.3 among.2,
         )
 
     -- ---- functions
 
-    pub functions_recorded : (fs : List FunctionPart) (a : EmittedUnit) → Grows (with_functions number names fs a) last
-        → CanEmitFunctions e.address_size fs → FunctionNamesAre (IsAmong names) fs
-        → AllRecorded e s (λ i. i + 1) all fs (all_refs number names fs a)
+    pub functions_recorded : (files : ℕ) (fs : List FunctionPart) (a : EmittedUnit) → Grows (with_functions number names fs a) last
+        → CanEmitFunctions e.address_size files fs → FunctionNamesAre (IsAmong names) fs
+        → AllRecorded e s number all fs (all_refs number names fs a)
     unfolding AllRecorded all_refs
-    functions_recorded [] a g can among = tt
-    functions_recorded (f ∷ fs) a g can among =
+    functions_recorded files [] a g can among = tt
+    functions_recorded files (f ∷ fs) a g can among =
         let named = with_name f.name a in
         let listed = with_list f.ranges named in
         let head = with_function_entry f a in
@@ -321,7 +313,7 @@ module _ (e : Encoding) (is_big : Bool) (s : DwarfFile) (last : EmittedUnit) (fi
           record {
             is_name = text_there a f.name (grows_on named listed last (list_grows f.ranges named) listed_grows);
             ranges_are = list_there named f.ranges listed_grows can.0.1;
-            calls_are = calls_recorded f.calls head within_grows can.1 among.0;
+            calls_are = calls_recorded files f.calls head within_grows can.1 among.0;
           },
-          functions_recorded fs after g can.2 among.1,
+          functions_recorded files fs after g can.2 among.1,
         )

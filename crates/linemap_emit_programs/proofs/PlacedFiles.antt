@@ -1,5 +1,5 @@
 -- The files of a table are among those of a program, each at its place.
-use Rattle.std.proofs.Common.{◌≡◌, ℕ, zero, suc, ◌+◌, ◌≤◌, Bool, true, false, cond, List, [], ◌∷◌, ◌++◌, length, Some, slice_get, refl, sym, ap, subst, ◌∙◌, arith}
+use Rattle.std.proofs.Common.{◌≡◌, ℕ, zero, suc, ◌+◌, ◌<◌, ◌≤◌, ◌%◌, ◌^◌, Bool, true, false, cond, List, [], ◌∷◌, ◌++◌, length, Some, slice_get, refl, sym, ap, subst, ◌∙◌, arith}
 use Rattle.std.specs.Prelude.{nat_le}
 use Rattle.gimli_lines_write_tables.specs.StringSections.{with_text, text_index}
 use Rattle.gimli_lines_write_tables.specs.LineStrings.{table_after}
@@ -7,8 +7,9 @@ use Rattle.gimli_lines_write_tables.specs.FileTables.{Text, in_header, of_string
 use Rattle.gimli_lines_write_tables.proofs.SectionTexts.{text_at_index}
 use Rattle.gimli_lines_write_tables.proofs.Additions.{place_within}
 use Rattle.gimli_lines_write_laws.specs.ProgramReadBack.{bytes_of}
-use Rattle.linemap_emit_rows.specs.TableParts.{FilePart}
-use Rattle.linemap_emit_programs.specs.EmittedFiles.{text_in, EmittedFiles, with_directory_text, directory_number, named_file, with_table_file, table_file_place, with_table_files, table_file_ids, place_in}
+use Rattle.linemap_emit_rows.specs.Encoding.{Encoding}
+use Rattle.linemap_emit_rows.specs.TableParts.{FilePart, UnitPart}
+use Rattle.linemap_emit_programs.specs.EmittedFiles.{text_in, EmittedFiles, with_directory_text, directory_number, named_file, with_table_file, table_file_place, with_table_files, table_file_ids, first_unit_files, unit_file_ids, place_in, file_number}
 use Rattle.linemap_emit_programs.proofs.ListPlaces.{Extends, get_extended, length-extended, length-with_item, item_there, texts_equal, files_equal}
 use Rattle.linemap_emit_programs.proofs.SoundFiles.{texts_extend, StaysIn, files_stay}
 
@@ -115,3 +116,34 @@ directories_few (f ∷ fs) st =
     let one = length-with_item is_same st.tables.directories (text_in st.tables.version st.line_texts f.directory) in
     let rest = directories_few fs (with_table_file f st) in
     omega arith
+
+-- the places of a unit's files
+pub place_is_low : (e : Encoding) (u : UnitPart) (line_texts : List (List ℕ)) → length u.files < 2 ^ 31 → (i : ℕ)
+    → place_in (unit_file_ids e u line_texts) i < 2 ^ 63
+place_is_low e u line_texts few i =
+    let low = place_low u.files first i in
+    let n = files_few u.files first in
+    let one : length first.tables.files ≤ 1 =
+    first_few (nat_le e.version 4)
+    (record { path = text_in e.version (table_after e.version u.directory line_texts) u.name; directory = 0 }) in
+    omega arith
+  where
+    first : EmittedFiles
+    first = first_unit_files e u line_texts
+
+    own_files : Bool → File → List File
+    own_files b f = cond b [] (f ∷ [])
+
+    first_few : (b : Bool) (f : File) → length (own_files b f) ≤ 1
+    first_few true f = omega arith
+    first_few false f = omega arith
+
+-- their numbers have 64 bits
+pub numbers_low : (e : Encoding) (u : UnitPart) (line_texts : List (List ℕ)) → length u.files < 2 ^ 31 → (i : ℕ)
+    → file_number e.version (unit_file_ids e u line_texts) i < 2 ^ 64
+numbers_low e u line_texts few i =
+    by (nat_le e.version 4) (place_in (unit_file_ids e u line_texts) i) (place_is_low e u line_texts few i)
+  where
+    by : (b : Bool) (place : ℕ) → place < 2 ^ 63 → cond b ((place + 1) % 2 ^ 64) place < 2 ^ 64
+    by true place low = omega arith
+    by false place low = omega arith

@@ -13,7 +13,7 @@ use Rattle.linemap_emit_units.specs.UnitEmission.{CanEmitUnit}
 use Rattle.gimli_lines_write_tables.specs.StringSections.{IsText, section_of}
 use Rattle.linemap_emit_programs.specs.FilePaths.{is_rooted}
 use Rattle.linemap_emit_programs.specs.EmittedFiles.{HasTableTexts, unit_files}
-use Rattle.linemap_emit_programs.specs.SoundSequences.{CanEmitSequences, AllCountable}
+use Rattle.linemap_emit_programs.specs.SoundSequences.{CanEmitSequences}
 use Rattle.linemap_emit_programs.specs.EmittedPrograms.{FilesAreUtf8, line_program_bytes}
 use Rattle.linemap_emit_units.specs.TableEmission.{EmittedTable, no_units, after_entries, with_emitted_unit}
 
@@ -53,8 +53,8 @@ AllUnitsFit e is_big (u ∷ us) st =
 abbrev pub TablesFit : Type 0
 TablesFit =
     (e : Encoding) (is_big : Bool) (us : List UnitPart)
-    → IsServed e → IsSound us → fits e.address_size us ≡ true → AllCountable us
-    → table_weight us < 2 ^ 31 → AllUnitsFit e is_big us no_units
+    → IsServed e → IsSound us → fits e.address_size us ≡ true → table_weight us < 2 ^ 31
+    → AllUnitsFit e is_big us no_units
 
 -- the texts of a unit's directory and files are UTF-8
 abbrev pub IsInUtf8 : UnitPart → Type 0

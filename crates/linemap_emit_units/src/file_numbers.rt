@@ -5,19 +5,11 @@ ghost use Rattle.linemap_emit_programs.specs.EmittedFiles.{file_number};
 
 use linemap_emit_programs::FileId;
 
-/// The ids of a unit's files in a line number program of a version.
-#[derive(Clone, Copy)]
-pub struct FileNumbers<'a> {
-    pub version: u16,
-    pub ids: &'a [FileId],
-}
-
-impl<'a> FileNumbers<'a> {
-    /// The number by which calls name a file of the unit.
-    pub fn number(self, file: u64) -> u64
-        requires { file < length self.ids.now }
-        ensures { result ≡ file_number self.version self.ids.now file }
-    {
-        self.ids[file as usize].raw(self.version)
-    }
+/// The number by which calls name a file of a unit, whose files have these ids in a line number
+/// program of a version.
+pub fn number_in(version: u16, ids: &[FileId], file: u64) -> u64
+    requires { file < length ids.now }
+    ensures { result ≡ file_number version ids.now file }
+{
+    ids[file as usize].raw(version)
 }

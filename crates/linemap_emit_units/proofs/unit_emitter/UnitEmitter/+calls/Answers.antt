@@ -11,8 +11,8 @@ pub loop-call-preserved : goal.loop-call-preserved
 loop-call-preserved n c =
     let cs = c.args.calls.now in
     let names = c.args.names.now in
-    let count = length c.args.files.ids.now in
-    let number = file_number c.args.files.version c.args.files.ids.now in
+    let count = length c.args.files.now in
+    let number = file_number c.args.version c.args.files.now in
     let call = c.call-item.result in
     let rest = drop (c.loop-call.call-index + 1) cs in
     let here = from_here cs c.loop-call.call-index call c.loop-call-test.true c.call-item.is in

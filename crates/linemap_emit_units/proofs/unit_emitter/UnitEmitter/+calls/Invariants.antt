@@ -9,7 +9,7 @@ use Rattle.linemap_emit_units.proofs.unit_emitter.UnitEmitter.+calls.Given as go
 abbrev pub invariant-loop-call : goal.invariant-loop-call
 invariant-loop-call l =
     (l.names ≡ l.fn.names) × (l.self.encoding ≡ l.fn.self.encoding)
-    × CanEmitCalls l.fn.self.encoding.address_size (length l.files.ids.now) (calls_part (drop l.call-index l.calls))
+    × CanEmitCalls l.fn.self.encoding.address_size (length l.files) (calls_part (drop l.call-index l.calls))
     × NamesAre (IsAmong l.fn.names) (calls_part (drop l.call-index l.calls))
-    × (with_calls (file_number l.files.version l.files.ids.now) l.fn.names (calls_part (drop l.call-index l.calls)) l.self
-    ≡ with_calls (file_number l.files.version l.files.ids.now) l.fn.names (calls_part l.calls) l.fn.self)
+    × (with_calls (file_number l.version l.files) l.fn.names (calls_part (drop l.call-index l.calls)) l.self
+    ≡ with_calls (file_number l.version l.files) l.fn.names (calls_part l.calls) l.fn.self)

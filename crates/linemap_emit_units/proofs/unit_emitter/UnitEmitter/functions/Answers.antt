@@ -20,8 +20,8 @@ pub loop-function-preserved : goal.loop-function-preserved
 loop-function-preserved c =
     let fs = c.args.functions.now in
     let names = c.args.names.now in
-    let count = length c.args.files.ids.now in
-    let number = file_number c.args.files.version c.args.files.ids.now in
+    let count = length c.args.files.now in
+    let number = file_number c.args.version c.args.files.now in
     let function = c.function-item.result in
     let rest = drop (c.loop-function.function-index + 1) fs in
     let here = from_here fs c.loop-function.function-index function c.loop-function-test.true c.function-item.is in
