@@ -1,15 +1,13 @@
 -- The entries of calls are read as the table's calls, each at its depth.
-use Rattle.std.proofs.Common.{◌≡◌, ℕ, ◌+◌, ◌<◌, ◌≤◌, ◌^◌, ℤ, pos, ◌≤ℤ◌, ◌<ℤ◌, ◌+ℤ◌, ◌-ℤ◌, Bool, true, false, cond, not, ◌&&◌, ◌||◌, List, [], ◌∷◌, ◌++◌, All, length, filter, map, Option, Some, None, Result, Ok, refl, sym, ap, subst, ◌∙◌, arith, append_assoc}
+use Rattle.std.proofs.Common.{◌≡◌, ℕ, suc, ◌+◌, ℤ, pos, ◌≤ℤ◌, ◌<ℤ◌, ◌+ℤ◌, ◌-ℤ◌, Bool, true, false, cond, not, ◌&&◌, ◌||◌, List, [], ◌∷◌, ◌++◌, length, filter, Result, Ok, Err, refl, sym, ap, ◌∙◌, arith, append_assoc}
 use Rattle.std.proofs.lemmas.Int.{ints}
 use Rattle.std.proofs.lemmas.Bool.{or_parts}
 use Rattle.std.proofs.lemmas.List.Elements.{All-head, All-tail}
 use Rattle.linemap_emit_units.specs.Error.{Error}
-use Rattle.linemap_emit_units.specs.View.{View}
 use Rattle.linemap_emit_units.specs.Encoding.{Encoding}
 use Rattle.linemap_emit_units.specs.NumberParsers.{is_address_size}
 use Rattle.linemap_emit_units.specs.Repetition.{Listing, prepend}
 use Rattle.linemap_emit_units.specs.Results.{and_then, each}
-use Rattle.linemap_emit_units.specs.AttributeValues.{RawAttribute}
 use Rattle.linemap_emit_units.specs.EntryWalks.{Walk, depth_after}
 use Rattle.linemap_emit_units.specs.EntryRows.{Row, row_choosing}
 use Rattle.linemap_emit_units.specs.EntryLaws.{row_under_choice}
@@ -21,15 +19,14 @@ use Rattle.linemap_emit_units.specs.TableParts.{Site, Calls, no_calls, more_call
 use Rattle.linemap_emit_units.specs.Conditions.{any_call, is_bad_number}
 use Rattle.linemap_emit_units.specs.Entry.{Entry}
 use Rattle.linemap_emit_units.specs.Entry.TheVariants.{Call, EndOfChildren}
-use Rattle.linemap_emit_units.specs.EmittedEntries.{AllFit, attributes_of, raw_attribute_of, declaration_of, spelled_entry}
+use Rattle.linemap_emit_units.specs.EmittedEntries.{AllFit, attributes_of, declaration_of, spelled_entry}
 use Rattle.linemap_emit_units.specs.EmittedEntryRows.{walk_at, row_for, spelled_entries, place_before}
 use Rattle.linemap_emit_units.specs.EmittedEntryLaws.{AllEntriesFit}
-use Rattle.linemap_emit_units.specs.UnitEmission.{has_calls}
 use Rattle.linemap_emit_units.proofs.EntryRowsRead.{row_again}
 use Rattle.linemap_emit_units.proofs.InlinedNameLemmas.{All-left, All-right}
 use Rattle.addr2line_functions.specs.InlinedCalls.{Call as FoundCall, FunctionWalk, NestedEntry, Naming, enclosing_rows, is_nested, is_inlined, is_call_in, is_call, calls_above, call_at, call_of, entries_below}
-use Rattle.linemap_frames_laws.specs.CallAgreement.{OneByOne, CallAtDepth, CallAgrees, CallsAgree, calls_at_depth}
-use Rattle.linemap_emit_calls_laws.specs.RecordedFunctions.{CallReferences, no_references, more_references, end_of_children, entries_of_calls, RecordsCall, RecordsCalls}
+use Rattle.linemap_frames_laws.specs.CallAgreement.{OneByOne, CallAgrees, CallsAgree, calls_at_depth}
+use Rattle.linemap_emit_calls_laws.specs.RecordedFunctions.{CallReferences, no_references, more_references, entries_of_calls, RecordsCall, RecordsCalls}
 use Rattle.linemap_emit_calls_laws.proofs.EntryDepths.{deeper, less_deep, enclosing-same, enclosing-more}
 use Rattle.linemap_emit_calls_laws.proofs.EntriesBelow.{entries-next}
 
@@ -39,30 +36,31 @@ pub each-append : {A B : Type 0} (f : A → Result B Error) (xs ys : List A) (us
     → each f ys ≡ Ok vs → each f (xs ++ ys) ≡ Ok (us ++ vs)
 each-append {A} {B} f [] ys us vs h k =
     let none : [] ≡ us = cc in k ∙ ap (λ (l : List B). Ok (l ++ vs)) none
-each-append {A} {B} f (x ∷ xs) ys us vs h k = by_first (f x) refl h
+each-append {A} {B} f (x ∷ xs) ys us vs h k = by_first (f x) refl h (λ zs is. each-append f xs ys zs vs is k)
   where
     by_rest : (y : B) (r : Result (List B) Error) → each f xs ≡ r → and_then r (λ zs. Ok (y ∷ zs)) ≡ Ok us
+        → ((zs : List B) → each f xs ≡ Ok zs → each f (xs ++ ys) ≡ Ok (zs ++ vs))
         → and_then (each f (xs ++ ys)) (λ zs. Ok (y ∷ zs)) ≡ Ok (us ++ vs)
-    by_rest y (Ok zs) is whole =
+    by_rest y (Ok zs) is whole later =
         let same : y ∷ zs ≡ us = cc in
-        ap (λ q. and_then q (λ zs. Ok (y ∷ zs))) (each-append f xs ys zs vs is k)
-        ∙ ap (λ (l : List B). Ok (l ++ vs)) same
-    by_rest y (Err d) is whole = absurd cc
+        ap (λ q. and_then q (λ zs. Ok (y ∷ zs))) (later zs is) ∙ ap (λ (l : List B). Ok (l ++ vs)) same
+    by_rest y (Err d) is whole later = absurd cc
 
     by_first : (r : Result B Error) → f x ≡ r
         → and_then r (λ y. and_then (each f xs) (λ zs. Ok (y ∷ zs))) ≡ Ok us
+        → ((zs : List B) → each f xs ≡ Ok zs → each f (xs ++ ys) ≡ Ok (zs ++ vs))
         → and_then r (λ y. and_then (each f (xs ++ ys)) (λ zs. Ok (y ∷ zs))) ≡ Ok (us ++ vs)
-    by_first (Ok y) is whole = by_rest y (each f xs) refl whole
-    by_first (Err d) is whole = absurd cc
+    by_first (Ok y) is whole later = by_rest y (each f xs) refl whole later
+    by_first (Err d) is whole later = absurd cc
 
 pub filter-append : {A : Type 0} (p : A → Bool) (xs ys : List A) → filter p (xs ++ ys) ≡ filter p xs ++ filter p ys
 filter-append p [] ys = refl
-filter-append {A} p (x ∷ xs) ys = by (p x)
+filter-append {A} p (x ∷ xs) ys = by (p x) (filter-append p xs ys)
   where
-    by : (b : Bool) → cond b (x ∷ filter p (xs ++ ys)) (filter p (xs ++ ys))
-        ≡ cond b (x ∷ filter p xs) (filter p xs) ++ filter p ys
-    by true = ap (λ l. x ∷ l) (filter-append p xs ys)
-    by false = filter-append p xs ys
+    by : (b : Bool) → filter p (xs ++ ys) ≡ filter p xs ++ filter p ys
+        → cond b (x ∷ filter p (xs ++ ys)) (filter p (xs ++ ys)) ≡ cond b (x ∷ filter p xs) (filter p xs) ++ filter p ys
+    by true later = ap (λ l. x ∷ l) later
+    by false later = later
 
 pub one_by_one-append : {A B : Type 0} (R : A → B → Type 0) (xs xs' : List A) (ys ys' : List B) → OneByOne R xs ys
     → OneByOne R xs' ys' → OneByOne R (xs ++ xs') (ys ++ ys')
@@ -241,7 +239,7 @@ module _ (limit : ℕ) (e : Encoding) (is_big : Bool) (end_offset : ℕ) (is_siz
           ∙ ap (λ q. and_then q (λ ys. Ok (c ∷ ys))) others
 
       -- the end of children is none
-      no_call : (k : ℕ) (xs : List Entry) (before : List Row) (items : List NestedEntry)
+      pub no_call : (k : ℕ) (xs : List Entry) (before : List Row) (items : List NestedEntry)
           → filter is_call (nested_entry (k + 1) EndOfChildren xs before ∷ items) ≡ filter is_call items
       no_call k xs before items =
           ap (λ b. cond b (nested_entry (k + 1) EndOfChildren xs before ∷ filter is_call items) (filter is_call items))
@@ -276,7 +274,8 @@ module _ (limit : ℕ) (e : Encoding) (is_big : Bool) (end_offset : ℕ) (is_siz
           let tests = or_parts (has_bad_number site || any_call has_bad_number no_calls) (any_call has_bad_number others) low in
           let own = or_parts (has_bad_number site) (any_call has_bad_number no_calls) tests.0 in
           let here = reads site origin range_list file recorded.0 own.0 false k xs in
-          let same = enclosing-same (pos (k + 1)) r before (omega (arith, ints)) in
+          let level : pos (k + 1) ≤ℤ pos (k + 1) = omega (arith, ints) in
+          let same = enclosing-same (pos (k + 1)) r before level in
           let later =
           calls_read others after k (first + length (spelled_entry e is_big x)) (r ∷ before) rest recorded.2
           (All-tail (λ y. AllFit limit e (attributes_of y)) x (entries_of_calls others after) fit) tests.1
@@ -309,9 +308,12 @@ module _ (limit : ℕ) (e : Encoding) (is_big : Bool) (end_offset : ℕ) (is_siz
           let tests = or_parts (has_bad_number site || any_call has_bad_number inner) (any_call has_bad_number others) low in
           let own = or_parts (has_bad_number site) (any_call has_bad_number inner) tests.0 in
           let here = reads site origin range_list file recorded.0 own.0 true k xs in
+          let level : pos (k + 1) ≤ℤ pos (k + 1) = omega (arith, ints) in
+          let further : pos (k + 1) <ℤ pos (k + 1 + 1) = omega (arith, ints) in
           let opened : enclosing_rows (pos (k + 1 + 1)) (r ∷ before) ≡ r ∷ enclosing_rows (pos (k + 1)) before =
-          enclosing-more (pos (k + 1 + 1)) r before (omega (arith, ints)) in
-          let one_more : calls_above (r ∷ enclosing_rows (pos (k + 1)) before) ≡ k + 1 = ap (λ n. 1 + n) above ∙ omega arith in
+          enclosing-more (pos (k + 1 + 1)) r before further in
+          let one_more : calls_above (r ∷ enclosing_rows (pos (k + 1)) before) ≡ k + 1 =
+          let next : suc k ≡ k + 1 = omega arith in ap suc above ∙ next in
           let middle =
           calls_read inner within (k + 1) (first + length (spelled_entry e is_big x)) (r ∷ before)
           (EndOfChildren ∷ (last ++ rest)) recorded.1 (All-left fits own_entries (EndOfChildren ∷ last) tail_fit) own.1
@@ -319,14 +321,14 @@ module _ (limit : ℕ) (e : Encoding) (is_big : Bool) (end_offset : ℕ) (is_siz
           let null = row_here (k + 1 + 1) EndOfChildren (last ++ rest) in
           let kept : (d : ℤ) → d ≤ℤ pos (k + 1) → enclosing_rows d (null ∷ middle.before) ≡ enclosing_rows d before =
           λ d h.
-          enclosing-same d null middle.before (omega (arith, ints, h)) ∙ middle.keeps d (omega (arith, ints, h))
-          ∙ enclosing-same d r before h in
+          let lower : d ≤ℤ pos (k + 1 + 1) = omega (arith, ints, h) in
+          enclosing-same d null middle.before lower ∙ middle.keeps d lower ∙ enclosing-same d r before h in
           let later =
           calls_read others after k (middle.next_first + length (spelled_entry e is_big EndOfChildren))
           (null ∷ middle.before) rest recorded.2
           (All-tail fits EndOfChildren last (All-right fits own_entries (EndOfChildren ∷ last) tail_fit)) tests.1
-          (ap is_nested (kept (pos (k + 1)) (omega (arith, ints))) ∙ plain)
-          (ap calls_above (kept (pos (k + 1)) (omega (arith, ints))) ∙ above) in
+          (ap is_nested (kept (pos (k + 1)) level) ∙ plain)
+          (ap calls_above (kept (pos (k + 1)) level) ∙ above) in
           let end = nested_entry (k + 1 + 1) EndOfChildren (last ++ rest) middle.before in
           record {
             items = nested_entry (k + 1) x xs before ∷ (middle.items ++ (end ∷ later.items));

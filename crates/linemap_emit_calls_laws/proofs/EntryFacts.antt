@@ -1,6 +1,5 @@
 -- What the entries of functions and calls say, by their attributes.
-use Rattle.std.proofs.Common.{◌≡◌, ℕ, ◌<◌, ◌^◌, ◌%◌, ◌+◌, ℤ, Bool, true, false, cond, List, [], ◌∷◌, ◌++◌, length, map, Option, Some, None, Result, Ok, Err, refl, sym, ap, ◌∙◌}
-use Rattle.std.specs.Prelude.{option_and_then}
+use Rattle.std.proofs.Common.{◌≡◌, ℕ, ◌<◌, ◌^◌, ◌%◌, ℤ, Bool, cond, List, [], ◌∷◌, map, Option, Some, None, Result, Ok, refl, ap, ◌∙◌}
 use Rattle.std.proofs.Math.Nat.{mod-eq_of_lt}
 use Rattle.linemap_emit_units.specs.Error.{Error}
 use Rattle.linemap_emit_units.specs.View.{View}
@@ -13,10 +12,10 @@ use Rattle.linemap_emit_units.specs.Results.{and_then, some_of, each}
 use Rattle.linemap_emit_units.specs.SectionReads.{string_at}
 use Rattle.linemap_emit_units.specs.AttributeMeanings.{if_readable}
 use Rattle.linemap_emit_units.specs.AttributeValues.{RawValue, RawAttribute, unit_reference}
-use Rattle.linemap_emit_units.specs.Attributes.{Bases, counts_from_base, ranges_of_list}
+use Rattle.linemap_emit_units.specs.Attributes.{Bases, counts_from_base}
 use Rattle.linemap_emit_units.specs.DwarfFiles.{DwarfFile}
 use Rattle.linemap_emit_units.specs.UnitFacts.{UnitFacts, UnitInFile, in_file}
-use Rattle.linemap_emit_units.specs.TableParts.{RangePart, Site, FunctionPart}
+use Rattle.linemap_emit_units.specs.TableParts.{RangePart}
 use Rattle.linemap_emit_units.specs.Entry.{Entry}
 use Rattle.linemap_emit_units.specs.Entry.TheVariants.{AbstractFunction, Function, Call}
 use Rattle.linemap_emit_units.specs.EmittedEntries.{attributes_of, raw_attribute_of, attribute_with, sec_offset, udata}
@@ -24,7 +23,6 @@ use Rattle.linemap_emit_units.specs.EmittedEntryRows.{row_for}
 use Rattle.linemap_emit_units.specs.LookupAgreement.{lookup_range}
 use Rattle.linemap_emit_units.specs.UnitRanges.{RangeFact, no_fact, has_list, last_of, list_in}
 use Rattle.addr2line_functions.specs.EntryRanges.{ranges_of_facts, ranges_of_entry}
-use Rattle.addr2line_functions.specs.Functions.{Function as FoundFunction, function_of}
 use Rattle.addr2line_functions.specs.InlinedCalls.{Call as FoundCall, CallFacts, Naming, call_facts, call_at, call_file, file_number, name_by}
 use Rattle.addr2line_functions.specs.EntryReferences.{HoldingUnit}
 use Rattle.addr2line_functions.specs.FunctionNames.{name_with}
@@ -106,8 +104,8 @@ module _ (e : Encoding) (s : DwarfFile) (f : UnitFacts) (main : s.sections.file_
         (list_is f.bases encoding low)
         ∙ ap (λ q. and_then q (λ rs. Ok (with_ranges rs))) (all_there rs)
         ∙ ap (λ n. Ok (call (map lookup_range rs) n (line % 2 ^ 32) (column % 2 ^ 32))) file_is'
-        ∙ ap (λ n. Ok (call (map lookup_range rs) (Some number) n (column % 2 ^ 32))) (mod-eq_of_lt line (2 ^ 32) line_low)
-        ∙ ap (λ n. Ok (call (map lookup_range rs) (Some number) line n)) (mod-eq_of_lt column (2 ^ 32) column_low)
+        ∙ ap (λ n. Ok (call (map lookup_range rs) (Some number) n (column % 2 ^ 32))) (mod-eq_of_lt line_low)
+        ∙ ap (λ n. Ok (call (map lookup_range rs) (Some number) line n)) (mod-eq_of_lt column_low)
       where
         u : UnitInFile
         u = in_file s f

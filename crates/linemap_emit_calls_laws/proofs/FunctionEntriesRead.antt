@@ -1,34 +1,34 @@
 -- The entries of functions are read as the table's functions, each with its calls.
-use Rattle.std.proofs.Common.{◌≡◌, ℕ, suc, ◌+◌, ◌<◌, ◌^◌, ◌≤ℤ◌, ℤ, pos, ◌+ℤ◌, Bool, true, false, cond, not, ◌&&◌, ◌||◌, List, [], ◌∷◌, ◌++◌, All, length, filter, map, Option, Some, None, Result, Ok, refl, sym, ap, subst, ◌∙◌, arith, append_assoc, append-nil}
+use Rattle.std.proofs.Common.{◌≡◌, ℕ, ◌+◌, ◌-◌, ◌<◌, ◌^◌, ◌≤ℤ◌, ℤ, pos, Bool, true, false, cond, not, ◌||◌, List, [], ◌∷◌, ◌++◌, length, filter, map, Option, Some, Result, Ok, refl, sym, ap, subst, ◌∙◌, arith, append_assoc, append-nil}
 use Rattle.std.specs.Prelude.{◌==◌}
 use Rattle.std.specs.List.{list_any}
 use Rattle.std.proofs.lemmas.Int.{ints}
-use Rattle.std.proofs.lemmas.Bool.{or_parts, ltb-false}
+use Rattle.std.proofs.lemmas.Bool.{or_parts, ltb-false, ne_eqb}
 use Rattle.std.proofs.lemmas.List.Elements.{All-head, All-tail}
 use Rattle.linemap_emit_units.specs.Error.{Error}
 use Rattle.linemap_emit_units.specs.View.{View}
 use Rattle.linemap_emit_units.specs.DwarfFileType.TheVariants.{Main}
 use Rattle.linemap_emit_units.specs.Encoding.{Encoding}
+use Rattle.linemap_emit_units.specs.Range.{Range}
 use Rattle.linemap_emit_units.specs.NumberParsers.{is_address_size}
-use Rattle.linemap_emit_units.specs.Repetition.{Listing, prepend, no_items, fault_of}
-use Rattle.linemap_emit_units.specs.Results.{and_then, each, unless}
-use Rattle.linemap_emit_units.specs.AttributeValues.{RawValue, unit_reference}
+use Rattle.linemap_emit_units.specs.Repetition.{Listing, prepend}
+use Rattle.linemap_emit_units.specs.Results.{and_then, each}
+use Rattle.linemap_emit_units.specs.AttributeValues.{RawValue}
 use Rattle.linemap_emit_units.specs.Attributes.{Bases}
 use Rattle.linemap_emit_units.specs.DwarfFiles.{DwarfFile}
 use Rattle.linemap_emit_units.specs.LineHeaders.{LineHeader}
 use Rattle.linemap_emit_units.specs.UnitHeaders.{length_including_self}
 use Rattle.linemap_emit_units.specs.EntryWalks.{Walk, depth_after}
-use Rattle.linemap_emit_units.specs.EntryRows.{Row, row, rows, not_null}
+use Rattle.linemap_emit_units.specs.EntryRows.{Row, row}
 use Rattle.linemap_emit_units.specs.EntryLaws.{row_under_choice}
-use Rattle.linemap_emit_units.specs.UnitEntries.{walk_from}
 use Rattle.linemap_emit_units.specs.UnitFacts.{UnitFacts, UnitInFile, in_file}
 use Rattle.linemap_emit_units.specs.BytesAt.{bytes_at}
-use Rattle.linemap_emit_units.specs.TableParts.{Site, Calls, no_calls, more_calls, FunctionPart}
+use Rattle.linemap_emit_units.specs.TableParts.{RangePart, Site, Calls, no_calls, more_calls, FunctionPart}
 use Rattle.linemap_emit_units.specs.Conditions.{any_call, is_bad_number}
 use Rattle.linemap_emit_units.specs.Entry.{Entry}
 use Rattle.linemap_emit_units.specs.Entry.TheVariants.{CompileUnit, AbstractFunction, Function, Call, EndOfChildren}
-use Rattle.linemap_emit_units.specs.EmittedEntries.{AllFit, attributes_of, declarations, declaration_of}
-use Rattle.linemap_emit_units.specs.EmittedEntryRows.{walk_at, row_for, spelled_entries, place_before, rows_for, depth_after_entries}
+use Rattle.linemap_emit_units.specs.EmittedEntries.{AllFit, attributes_of, declaration_of, spelled_entry}
+use Rattle.linemap_emit_units.specs.EmittedEntryRows.{walk_at, spelled_entries, place_before, rows_for}
 use Rattle.linemap_emit_units.specs.EmittedEntryLaws.{AllEntriesFit}
 use Rattle.linemap_emit_units.specs.EmittedUnits.{unit_for}
 use Rattle.linemap_emit_units.specs.LookupAgreement.{lookup_range}
@@ -37,17 +37,17 @@ use Rattle.linemap_emit_units.proofs.EntryRowsRead.{row_again}
 use Rattle.linemap_emit_units.proofs.EntryListsRead.{rows_again, walk_to}
 use Rattle.linemap_emit_units.proofs.InlinedNameLemmas.{All-left, All-right}
 use Rattle.addr2line_functions.specs.Functions.{Function as FoundFunction, is_subprogram, function_of, has_range, functions_of_rows, functions_of_unit}
-use Rattle.addr2line_functions.specs.InlinedCalls.{Call as FoundCall, FunctionCalls, FunctionWalk, NestedEntry, Naming, is_call, call_of, calls_among, calls_of_function, calls_of_row, function_calls, name_by, entries_of, entries_below}
+use Rattle.addr2line_functions.specs.InlinedCalls.{Call as FoundCall, FunctionCalls, FunctionWalk, NestedEntry, Naming, is_call, call_of, calls_among, calls_of_function, calls_of_row, entries_of}
 use Rattle.addr2line_functions.specs.EntryReferences.{KnownUnits, HoldingUnit}
 use Rattle.addr2line_functions.specs.FunctionNames.{name_by_reference, most_references, name_with}
-use Rattle.linemap_frames_laws.specs.CallAgreement.{CallsAgree, EntryAgrees, FunctionAgrees, FunctionsAgree}
-use Rattle.linemap_emit_calls_laws.specs.RecordedFunctions.{CallReferences, no_references, more_references, FunctionReferences, end_of_children, entries_of_calls, entries_of_function, entries_of_functions, RecordsCall, RecordsCalls, RecordsFunction, AllRecorded, RecordsFunctions}
+use Rattle.linemap_frames_laws.specs.CallAgreement.{CallsAgree, EntryAgrees, FunctionsAgree}
+use Rattle.linemap_emit_calls_laws.specs.RecordedFunctions.{CallReferences, no_references, more_references, FunctionReferences, end_of_children, entries_of_calls, entries_of_function, entries_of_functions, RecordsCalls, RecordsFunction, AllRecorded, RecordsFunctions}
 use Rattle.linemap_emit_calls_laws.specs.FunctionLaws.{written_facts}
 use Rattle.linemap_emit_calls_laws.proofs.EntryDepths.{deeper}
 use Rattle.linemap_emit_calls_laws.proofs.EntriesBelow.{entries-end}
-use Rattle.linemap_emit_calls_laws.proofs.EntryFacts.{raw_attributes, function_ranges, function_name, call_read}
+use Rattle.linemap_emit_calls_laws.proofs.EntryFacts.{function_ranges, function_name, call_read}
 use Rattle.linemap_emit_calls_laws.proofs.OriginNames.{origin_name}
-use Rattle.linemap_emit_calls_laws.proofs.CallEntriesRead.{ReadsCalls, CallsRead, calls_read, children_end, inside, nested_entry, no_call, filter-append, each-append}
+use Rattle.linemap_emit_calls_laws.proofs.CallEntriesRead.{ReadsCalls, calls_read, children_end, inside, nested_entry, no_call, filter-append}
 
 -- ---- rows of functions
 
@@ -125,11 +125,20 @@ module _ (e : Encoding) (is_big : Bool) (s : DwarfFile) (offset first : ℕ) (al
   call_agrees : ReadsCalls s.offset_limit e is_big end_offset is_size s unit naming number all
   call_agrees site origin range_list file recorded plain children k xs =
       let tests = or_parts (is_bad_number site.line) (is_bad_number site.column) plain in
-      let text = recorded.has_origin.is_name in (
-        _,
-        call_read e s facts main encoding low h holds follow k
-            (place_before e is_big end_offset (Call children origin range_list file site.line site.column ∷ xs))
-            (pos (k + 1)) children origin range_list file (number site.file) site.line site.column site.ranges text.found
+      let text = recorded.has_origin.is_name in
+      let place = place_before e is_big end_offset (Call children origin range_list file site.line site.column ∷ xs) in
+      let c : FoundCall = record {
+        depth = k;
+        offset = place;
+        ranges = map lookup_range site.ranges;
+        name = Some text.found;
+        file = Some (number site.file);
+        line = site.line;
+        column = site.column;
+      } in (
+        c,
+        call_read e s facts main encoding low h holds follow k place (pos (k + 1)) children origin range_list file
+            (number site.file) site.line site.column site.ranges text.found
             (origin_name e is_big s offset first all b unit_name directory header is_size fit known 15 h holds origin
             site.name recorded.has_origin)
             recorded.ranges_are recorded.file_is (low_number site.line tests.0) (low_number site.column tests.1),
@@ -156,6 +165,9 @@ module _ (e : Encoding) (is_big : Bool) (s : DwarfFile) (offset first : ℕ) (al
     are : calls_among unit naming (entries_of s.offset_limit w) ≡ Ok flat
     agree : CallsAgree number 0 cs flat
 
+  at_level : pos 0 ≤ℤ pos 0
+  at_level = omega (arith, ints)
+
   calls_of_entry : (cs : Calls) (refs : CallReferences) (name range_list place : ℕ) (rest : List Entry)
       → RecordsCalls e s number all cs refs → AllEntriesFit s.offset_limit e (entries_of_calls cs refs)
       → any_call bad_number cs ≡ false
@@ -167,7 +179,7 @@ module _ (e : Encoding) (is_big : Bool) (s : DwarfFile) (offset first : ℕ) (al
     are =
         ap (λ (l : Listing FunctionWalk NestedEntry). calls_among unit naming l)
         (entries-end s.offset_limit
-        (record { walk = after_entry no_calls name range_list place rest; before = [] }) (omega (arith, ints)));
+        (record { walk = after_entry no_calls name range_list place rest; before = [] }) at_level);
     agree = tt;
   }
   calls_of_entry (more_calls site inner others) refs name range_list place rest recorded fits_all plain =
@@ -179,8 +191,8 @@ module _ (e : Encoding) (is_big : Bool) (s : DwarfFile) (offset first : ℕ) (al
       (EndOfChildren ∷ rest) recorded fits_all plain refl refl in
       let end = nested_entry limit e is_big end_offset is_size 1 EndOfChildren rest read.before in
       let last =
-      inside limit e is_big end_offset is_size 0 (read.next_first + 1) rest
-      (end.row ∷ read.before) in
+      inside limit e is_big end_offset is_size 0
+      (read.next_first + length (spelled_entry e is_big EndOfChildren)) rest (end.row ∷ read.before) in
       record {
         flat = read.flat;
         are =
@@ -193,7 +205,7 @@ module _ (e : Encoding) (is_big : Bool) (s : DwarfFile) (offset first : ℕ) (al
             ∙ ap (λ (l : Listing FunctionWalk NestedEntry). prepend read.items l)
             (children_end limit e is_big end_offset is_size 0 read.next_first read.before rest
             ∙ ap (λ (l : Listing FunctionWalk NestedEntry). prepend (end ∷ []) l)
-            (entries-end limit _ (omega (arith, ints)))))
+            (entries-end limit last at_level)))
             ∙ ap (λ (l : List NestedEntry). and_then (each (call_of unit naming) l) (λ cs. Ok cs))
             (filter-append is_call read.items (end ∷ [])
             ∙ ap (λ l. filter is_call read.items ++ l)
@@ -222,8 +234,9 @@ module _ (e : Encoding) (is_big : Bool) (s : DwarfFile) (offset first : ℕ) (al
       let xs = (own ++ end) ++ rest in
       let place = place_before e is_big end_offset (x ∷ xs) in
       let there = (unit_for e is_big offset first all).entries.first + length (spelled_entries e is_big front) in
+      let next = there + length (spelled_entry e is_big x) in
       let calls =
-      calls_of_entry f.calls refs.calls refs.name refs.range_list _ rest recorded.calls_are
+      calls_of_entry f.calls refs.calls refs.name refs.range_list next rest recorded.calls_are
       (All-left fits own end (All-tail fits x (own ++ end) fits_all)) plain in
       record {
         entry = record { name = Some recorded.is_name.found; calls = calls.flat };
@@ -235,7 +248,7 @@ module _ (e : Encoding) (is_big : Bool) (s : DwarfFile) (offset first : ℕ) (al
             (All-head fits x (own ++ end) fits_all))
             ∙ ap (λ (q : Result (Option View) Error). and_then q (λ name.
             and_then (calls_among unit naming (entries_of limit
-            (after_entry f.calls refs.name refs.range_list _ xs))) (λ calls.
+            (after_entry f.calls refs.name refs.range_list next xs))) (λ calls.
             Ok (record { name = name; calls = calls }))))
             (function_name e s facts main encoding low h holds follow (has_calls f.calls) refs.name refs.range_list
             f.name recorded.is_name)
@@ -264,9 +277,9 @@ module _ (e : Encoding) (is_big : Bool) (s : DwarfFile) (offset first : ℕ) (al
       → has_range g ≡ true
   some_ranges f g same some = ap (λ l. not (length l == 0)) same ∙ by f.ranges some
     where
-      by : (rs : List _) → (length rs == 0) ≡ false → not (length (map lookup_range rs) == 0) ≡ true
+      by : (rs : List RangePart) → (length rs == 0) ≡ false → not (length (map lookup_range rs) == 0) ≡ true
       by [] none = absurd cc
-      by (r ∷ rs) none = refl
+      by (r ∷ rs) none = ap not (ne_eqb (length (map lookup_range (r ∷ rs))) 0 (omega arith))
 
   functions_read : (fs : List FunctionPart) (refs : List FunctionReferences) (d : ℤ) (front rest : List Entry)
       → all ≡ front ++ (entries_of_functions fs refs ++ rest) → AllRecorded e s number all fs refs
@@ -308,7 +321,7 @@ module _ (e : Encoding) (is_big : Bool) (s : DwarfFile) (offset first : ℕ) (al
         next = others.next;
         are = λ more h.
             ap (λ (l : List Entry). each (function_of unit) (rows_from d l)) grouped
-            ∙ ap (λ (q : Result _ Error). and_then (and_then q (λ rs. Ok (record { offset = g.offset; ranges = rs })))
+            ∙ ap (λ (q : Result (List Range) Error). and_then (and_then q (λ rs. Ok (record { offset = g.offset; ranges = rs })))
             (λ y. and_then (each (function_of unit) (rows_from d1 ((own ++ end) ++ tail))) (λ ys. Ok (y ∷ ys))))
             (function_ranges e s facts main encoding low (has_calls f.calls) refs.name refs.range_list f.ranges
             recorded.0.ranges_are)

@@ -1,7 +1,7 @@
 -- The name of a call is found through the reference to its abstract function.
-use Rattle.std.proofs.Common.{◌≡◌, ℕ, suc, ◌+◌, Bool, List, [], ◌∷◌, ◌++◌, All, length, Option, Some, None, Result, Ok, refl, sym, ap, subst, ◌∙◌, append_assoc, append-nil}
+use Rattle.std.proofs.Common.{◌≡◌, ℕ, suc, ◌+◌, Bool, true, List, [], ◌∷◌, ◌++◌, length, Option, Some, None, Result, Ok, sym, ap, subst, ◌∙◌, append_assoc, append-nil}
 use Rattle.std.specs.List.{cons_option, last_or}
-use Rattle.std.specs.Prelude.{pos, flat_map, ℤ}
+use Rattle.std.specs.Prelude.{pos}
 use Rattle.std.proofs.lemmas.List.Elements.{All-head}
 use Rattle.linemap_emit_units.specs.Error.{Error}
 use Rattle.linemap_emit_units.specs.View.{View}
@@ -14,30 +14,30 @@ use Rattle.linemap_emit_units.specs.Repetition.{Listing, no_items}
 use Rattle.linemap_emit_units.specs.Results.{and_then}
 use Rattle.linemap_emit_units.specs.SectionReads.{string_at}
 use Rattle.linemap_emit_units.specs.AttributeMeanings.{if_readable}
-use Rattle.linemap_emit_units.specs.AttributeValues.{RawValue, RawAttribute, unit_reference}
+use Rattle.linemap_emit_units.specs.AttributeValues.{RawAttribute, unit_reference}
 use Rattle.linemap_emit_units.specs.Declarations.{Declaration}
 use Rattle.linemap_emit_units.specs.UnitHeaders.{DebugUnit, length_including_self}
 use Rattle.linemap_emit_units.specs.EntryWalks.{Walk, entry_head, value, read_in_walk}
 use Rattle.linemap_emit_units.specs.UnitEntries.{walk_from}
 use Rattle.linemap_emit_units.specs.Attributes.{Bases}
 use Rattle.linemap_emit_units.specs.DwarfFiles.{DwarfFile}
-use Rattle.linemap_emit_units.specs.UnitFacts.{UnitFacts, UnitInFile, in_file}
+use Rattle.linemap_emit_units.specs.UnitFacts.{UnitInFile, in_file}
 use Rattle.linemap_emit_units.specs.LineHeaders.{LineHeader}
 use Rattle.linemap_emit_units.specs.Entry.{Entry}
 use Rattle.linemap_emit_units.specs.Entry.TheVariants.{AbstractFunction}
-use Rattle.linemap_emit_units.specs.EmittedEntries.{AllFit, attributes_of, declarations, declaration_of, abbreviation_code, attribute_with, declared_attribute, raw_attribute_of, strp}
+use Rattle.linemap_emit_units.specs.EmittedEntries.{AllFit, attributes_of, declarations, declaration_of, abbreviation_code, strp}
 use Rattle.linemap_emit_units.specs.EmittedEntryRows.{walk_at, spelled_entries, place_before}
 use Rattle.linemap_emit_units.specs.EmittedEntryLaws.{AllEntriesFit}
-use Rattle.linemap_emit_units.specs.EmittedUnits.{unit_for, entries_start}
+use Rattle.linemap_emit_units.specs.EmittedUnits.{unit_for}
 use Rattle.linemap_emit_units.specs.BytesAt.{bytes_at}
 use Rattle.linemap_emit_units.proofs.EntryRowsRead.{head_again, known_code, small_code}
 use Rattle.linemap_emit_units.proofs.EntryListsRead.{walk_to, place_is}
 use Rattle.linemap_emit_units.proofs.ValuesRead.{value_again}
 use Rattle.linemap_emit_units.proofs.InlinedNameLemmas.{All-right}
-use Rattle.addr2line_functions.specs.EntryReferences.{KnownUnits, HoldingUnit, ReferredEntry}
-use Rattle.addr2line_functions.specs.EntryNamings.{EntryNaming, by_name, nameless, name_or_naming, attributes_from, attributes_of as attributes_of_declaration, attributes_at, attribute_and_rest, naming_in, naming_of, naming_at, linkage_name_or}
-use Rattle.addr2line_functions.specs.FunctionNames.{name_by_reference, name_or_follow, name_of_entry}
-use Rattle.linemap_emit_calls_laws.specs.RecordedFunctions.{HasTextAt, HasOrigin}
+use Rattle.addr2line_functions.specs.EntryReferences.{KnownUnits, HoldingUnit}
+use Rattle.addr2line_functions.specs.EntryNamings.{EntryNaming, by_name, nameless, name_or_naming, attributes_from, attributes_of as attributes_of_declaration, attributes_at, attribute_and_rest, naming_in, naming_at}
+use Rattle.addr2line_functions.specs.FunctionNames.{name_by_reference, name_or_follow}
+use Rattle.linemap_emit_calls_laws.specs.RecordedFunctions.{HasOrigin}
 use Rattle.linemap_emit_calls_laws.specs.FunctionLaws.{written_facts}
 
 module _ (e : Encoding) (is_big : Bool) (s : DwarfFile) (offset first : ℕ) (all : List Entry) (b : Bases)

@@ -60,11 +60,11 @@ AllFunctionsCounted (f ∷ fs) = AllCounted f.calls × AllFunctionsCounted fs
 -- an abstract function's entry is near the start of its unit
 prefix_few : {X : Type 0} (p : X → Bool) (xs : List X) → prefix_len p xs ≤ length xs
 prefix_few p [] = omega arith
-prefix_few p (x ∷ xs) = let few = prefix_few p xs in by (p x)
+prefix_few p (x ∷ xs) = by (p x) (prefix_few p xs)
   where
-    by : (b : Bool) → cond b (1 + prefix_len p xs) 0 ≤ length (x ∷ xs)
-    by true = let few = prefix_few p xs in omega arith
-    by false = omega arith
+    by : (b : Bool) → prefix_len p xs ≤ length xs → cond b (1 + prefix_len p xs) 0 ≤ length (x ∷ xs)
+    by true few = omega arith
+    by false few = omega arith
 
 index_few : (names : List (List ℕ)) (t : List ℕ) → text_index names t ≤ length names
 index_few names t = prefix_few (λ s. not (same_bytes t s)) names

@@ -1,6 +1,7 @@
 -- What is emitted of a unit's functions and calls says what they say.
 use Rattle.std.proofs.Common.{◌≡◌, ℕ, zero, suc, ◌+◌, ◌*◌, ◌<◌, ◌≤◌, ◌^◌, Bool, true, false, cond, eqb, List, [], ◌∷◌, ◌++◌, All, length, map, slice_get, Option, Some, None, Ok, refl, sym, ap, subst, ◌∙◌, arith, append_assoc, append-nil}
 use Rattle.std.specs.Prelude.{nat_lt, ◌&&◌}
+use Rattle.std.proofs.Math.Nat.{add-mul}
 use Rattle.std.proofs.lemmas.Bool.{ne_eqb}
 use Rattle.std.proofs.lemmas.List.{length-append}
 use Rattle.std.proofs.lemmas.List.Concat.{flat_map-append}
@@ -29,7 +30,7 @@ use Rattle.linemap_emit_units.specs.UnitEmission.{EmittedUnit, text_offset, list
 use Rattle.linemap_emit_units.specs.EmittedSections.{HoldTable}
 use Rattle.linemap_emit_units.specs.TableEmission.{EmittedTable}
 use Rattle.linemap_emit_units.specs.LookupAgreement.{lookup_range}
-use Rattle.addr2line_functions.specs.InlinedCalls.{file_number}
+use Rattle.linemap_emit_calls_laws.specs.InlinedCalls.{file_number}
 use Rattle.linemap_emit_calls_laws.specs.RecordedFunctions.{HasTextAt, HasListAt, CallReferences, no_references, more_references, FunctionReferences, end_of_children, entries_of_calls, entries_of_function, entries_of_functions, HasOrigin, RecordsCall, RecordsCalls, RecordsFunction, AllRecorded}
 use Rattle.linemap_emit_laws.proofs.EmissionGrowth.{TextsStay, texts_stay_on, Grows, grows_on, name_grows, list_grows, entry_grows, end_grows, attributes_grow, call_grows, calls_grow, function_grows, functions_grow, abstract_grow}
 use Rattle.linemap_emit_laws.proofs.EmittedStringLemmas.{text_is}
@@ -221,7 +222,7 @@ module _ (e : Encoding) (is_big : Bool) (s : DwarfFile) (last : EmittedUnit) (fi
 
   -- ---- abstract functions
 
-  origin_there : (all : List Entry) (names : List (List ℕ)) (a : EmittedUnit) (before rest : List Entry) (n i : ℕ)
+  pub origin_there : (all : List Entry) (names : List (List ℕ)) (a : EmittedUnit) (before rest : List Entry) (n i : ℕ)
       (t : List ℕ) → all ≡ before ++ (map AbstractFunction (abstract_texts names a) ++ rest)
       → ((big : Bool) → abstract_offset e n ≡ entries_start e + length (spelled_entries e big before))
       → Grows (with_abstract_functions names a) last → slice_get names i ≡ Some t
@@ -251,13 +252,16 @@ module _ (e : Encoding) (is_big : Bool) (s : DwarfFile) (last : EmittedUnit) (fi
       (origin_there all names next (before ++ x ∷ []) rest (n + 1) i t
       (are ∙ sym (append_assoc before (x ∷ []) (map AbstractFunction (abstract_texts names next) ++ rest)))
       (λ big. one_more n (abstract_size e) (entries_start e + root_size e) _ _ _ (place big)
-      (abstract_takes e big before (text_offset name a))) g cc)
+      (abstract_takes e big before (text_offset name a))) g there)
     where
       mul-suc : (n k : ℕ) → (n + 1) * k ≡ n * k + k
-      mul-suc n k = grind arith
+      mul-suc n k = let one : 1 * k ≡ k = omega arith in add-mul n 1 k ∙ ap (λ m. n * k + m) one
+
+      sum : (p q k c s w x : ℕ) → p ≡ q + k → c + q ≡ s + w → x ≡ w + k → c + p ≡ s + x
+      sum p q k c s w x f g h = omega arith
 
       one_more : (n k c s w x : ℕ) → c + n * k ≡ s + w → x ≡ w + k → c + (n + 1) * k ≡ s + x
-      one_more n k c s w x g h = let m : (n + 1) * k ≡ n * k + k = mul-suc n k in omega arith
+      one_more n k c s w x g h = sum ((n + 1) * k) (n * k) k c s w x (mul-suc n k) g h
 
   -- ---- calls
 

@@ -10,6 +10,7 @@ use Rattle.linemap_emit_units.specs.DwarfFiles.{DwarfFile}
 use Rattle.linemap_emit_units.specs.TableParts.{UnitPart}
 use Rattle.linemap_emit_units.specs.Entry.{Entry}
 use Rattle.linemap_emit_units.specs.Entry.TheVariants.{CompileUnit, AbstractFunction, EndOfChildren}
+use Rattle.linemap_emit_units.specs.EmittedEntryLaws.{AllEntriesFit}
 use Rattle.linemap_emit_units.specs.EmittedEntryRows.{spelled_entries}
 use Rattle.linemap_emit_units.specs.EmittedUnits.{entries_start, abstract_offset}
 use Rattle.linemap_emit_units.specs.InlinedNames.{inlined_names, IsAmong}
@@ -105,7 +106,7 @@ module _ (e : Encoding) (is_big : Bool) (u : UnitPart) (st : EmittedTable) where
         abstract_names = abstract_texts (inlined_names u) root;
         refs = all_refs number (inlined_names u) u.functions named;
         entries_are = refl;
-        fit = entries_below s.offset_limit e all wide (subst (All _) unit_entries fit.entries_fit);
+        fit = entries_below s.offset_limit e all wide (subst (λ (l : List Entry). AllEntriesFit (2 ^ 31) e l) unit_entries fit.entries_fit);
         are_recorded =
             functions_recorded e is_big s last final hold no_zeros served.has_address_size encoding order extends.texts
             extends.more_ranges extends.ranges number counts (inlined_names u) all origins (length u.files) u.functions named

@@ -1,5 +1,5 @@
 -- The frames that are found over sections that say what a table says.
-use Rattle.std.proofs.Common.{◌≡◌, ℕ, ◌+◌, Bool, false, List, [], ◌∷◌, All, Contains, length, map, Option, None, option_map, Result, Ok, refl, sym, ap, subst, ◌∙◌}
+use Rattle.std.proofs.Common.{◌≡◌, ℕ, ◌+◌, Bool, false, List, [], ◌∷◌, All, Contains, length, map, Option, Some, None, option_map, Result, Ok, refl, sym, ap, subst, ◌∙◌}
 use Rattle.std.specs.List.{list_any}
 use Rattle.std.proofs.lemmas.Bool.{or_parts}
 use Rattle.std.proofs.lemmas.List.Elements.{All-nil, All-cons, All-head, All-tail, All-contains_itself}
@@ -83,7 +83,8 @@ module _ (e : Encoding) (is_big : Bool) (s : DwarfFile) (us : List UnitPart) (fo
       subst (λ (ys : List Entry). FunctionsFound say.number u.functions (in_file s (facts_with u xs say offset first ys))
       (naming_in over_file (unit_with (facts_with u xs say offset first ys)))) (sym say.entries_are)
       (functions_found e is_big s offset first say.name say.directory say.line_program say.range_list say.others
-      (facts_with u xs say offset first (root_entry e s u xs say ∷ say.others)).bases _ _ _ (known_units over_file)
+      (facts_with u xs say offset first (root_entry e s u xs say ∷ say.others)).bases (Some say.is_name.found)
+      (Some say.is_directory.found) (Some say.header) (known_units over_file)
       (holding_unit (unit_with (facts_with u xs say offset first (root_entry e s u xs say ∷ say.others)))) say.number u w
       main refl refl refl some numbers say.functions_are)
 

@@ -12,6 +12,7 @@ pub use Rattle.linemap_emit_rows.proofs.EmittedRangesRead
 pub use Rattle.linemap_emit_rows.proofs.EntryRowsRead
 pub use Rattle.linemap_emit_rows.proofs.FollowedReads
 pub use Rattle.linemap_emit_rows.proofs.UnitsRead
+pub use Rattle.linemap_emit_rows.proofs.ValuesRead
 pub use Rattle.linemap_emit_rows.proofs.SoundUnits
 pub use Rattle.linemap_emit_rows.proofs.TableViewLemmas
 pub use Rattle.linemap_emit_rows.proofs.TableLocations

@@ -13,6 +13,7 @@ pub use Rattle.linemap_emit_parts.proofs.EmittedRangesRead
 pub use Rattle.linemap_emit_parts.proofs.EntryRowsRead
 pub use Rattle.linemap_emit_parts.proofs.FollowedReads
 pub use Rattle.linemap_emit_parts.proofs.UnitsRead
+pub use Rattle.linemap_emit_parts.proofs.ValuesRead
 pub use Rattle.linemap_places_laws.proofs.SoundUnits
 pub use Rattle.linemap_places_laws.proofs.TableViewLemmas
 pub use Rattle.linemap_places_laws.proofs.TableLocations

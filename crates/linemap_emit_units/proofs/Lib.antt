@@ -18,6 +18,7 @@ pub use Rattle.linemap_emit_programs.proofs.EntryRowsRead
 pub use Rattle.linemap_emit_programs.proofs.EntryListsRead
 pub use Rattle.linemap_emit_programs.proofs.FollowedReads
 pub use Rattle.linemap_emit_programs.proofs.UnitsRead
+pub use Rattle.linemap_emit_programs.proofs.ValuesRead
 pub use Rattle.linemap_emit_programs.proofs.EmittedFileTexts
 pub use Rattle.linemap_emit_programs.proofs.EmittedProgramRows
 pub use Rattle.linemap_emit_programs.proofs.EmittedRowsBuilt

@@ -4,8 +4,8 @@ use Rattle.std.proofs.Common.{◌≡◌, ℕ, true, false, [], ◌∷◌, refl}
 use Rattle.gimli_lines_write_tables.specs.Encoding.{Encoding}
 use Rattle.gimli_lines_write_tables.specs.Format.TheVariants.{Dwarf32, Dwarf64}
 use Rattle.gimli_lines_write_tables.specs.StringSections.{section_of}
-use Rattle.linemap_emit_programs.specs.TableParts.{RangePart, RowPart, no_calls, UnitPart}
-use Rattle.linemap_emit_programs.specs.Entry.TheVariants.{CompileUnit, Function, EndOfChildren}
+use Rattle.linemap_emit_programs.specs.TableParts.{RangePart, RowPart, no_calls, more_calls, UnitPart}
+use Rattle.linemap_emit_programs.specs.Entry.TheVariants.{CompileUnit, AbstractFunction, Function, Call, EndOfChildren}
 use Rattle.linemap_emit_programs.specs.EmittedRanges.{lists_start, spelled_lists, spelled_ranges}
 use Rattle.linemap_emit_programs.specs.EmittedUnits.{spelled_units}
 use Rattle.linemap_emit_units.specs.TableEmission.{EmittedTable, emitted_table, with_emitted_units}
@@ -67,6 +67,36 @@ entries_of_the_unit : spelled_units target false table_of_a_unit.units ≡
     0 ∷ 0 ∷ 0 ∷ 0 ∷ 0 ∷ 0 ∷ 0 ∷ 0 ∷ 0 ∷ 3 ∷ 7 ∷ 0 ∷ 0 ∷ 0 ∷ 32 ∷ 0 ∷ 0 ∷ 0 ∷ 0 ∷ []
 unfolding with_emitted_units entries.with_calls names.call_names spelling.unsigned_within
 entries_of_the_unit = refl
+
+-- the same unit, where "main" calls "f" twice
+abbrev c_unit : UnitPart
+c_unit = record a_unit {
+  functions = record {
+    name = 109 ∷ 97 ∷ 105 ∷ 110 ∷ [];
+    ranges = range 4096 4144 ∷ [];
+    calls =
+        more_calls (record { name = 102 ∷ []; ranges = range 4112 4128 ∷ []; file = 0; line = 6; column = 3 }) no_calls
+        (more_calls (record { name = 102 ∷ []; ranges = range 4128 4136 ∷ []; file = 0; line = 8; column = 3 }) no_calls
+        no_calls);
+  } ∷ [];
+}
+
+-- one abstract function, to which both calls refer
+entries_of_calls : (emitted_table target false (c_unit ∷ [])).units ≡
+    (CompileUnit 0 4 0 0 ∷ AbstractFunction 7 ∷ Function true 9 32 ∷ Call false 36 64 1 6 3 ∷ Call false 36 96 1 8 3
+    ∷ EndOfChildren ∷ EndOfChildren ∷ []) ∷ []
+unfolding with_emitted_units files.with_table_files files.table_file_ids entries.with_calls names.call_names
+    spelling.unsigned_within spelling.signed_within pieces.row_piece
+    pieces.flags pieces.changes pieces.moves pieces.end_piece
+entries_of_calls = refl
+
+bytes_of_calls : spelled_units target false (emitted_table target false (c_unit ∷ [])).units ≡
+    72 ∷ 0 ∷ 0 ∷ 0 ∷ 4 ∷ 0 ∷ 0 ∷ 0 ∷ 0 ∷ 0 ∷ 8 ∷ 1 ∷ 0 ∷ 0 ∷ 0 ∷ 0 ∷ 4 ∷ 0 ∷ 0 ∷ 0 ∷ 0 ∷ 0 ∷ 0 ∷ 0 ∷ 0 ∷ 0 ∷ 0 ∷ 0 ∷ 0 ∷
+    0 ∷ 0 ∷ 0 ∷ 0 ∷ 0 ∷ 0 ∷ 0 ∷ 6 ∷ 7 ∷ 0 ∷ 0 ∷ 0 ∷ 2 ∷ 9 ∷ 0 ∷ 0 ∷ 0 ∷ 32 ∷ 0 ∷ 0 ∷ 0 ∷ 5 ∷ 36 ∷ 0 ∷ 0 ∷ 0 ∷ 64 ∷ 0 ∷ 0 ∷
+    0 ∷ 1 ∷ 6 ∷ 3 ∷ 5 ∷ 36 ∷ 0 ∷ 0 ∷ 0 ∷ 96 ∷ 0 ∷ 0 ∷ 0 ∷ 1 ∷ 8 ∷ 3 ∷ 0 ∷ 0 ∷ []
+unfolding with_emitted_units files.with_table_files files.table_file_ids entries.with_calls names.call_names
+    spelling.unsigned_within
+bytes_of_calls = refl
 
 -- "b.c" in the same directory
 abbrev b_unit : UnitPart

@@ -132,7 +132,7 @@ fn sections_of_tables(rt: HostRuntime) -> Result<(), Fail> {
     assert!(rt; holds(&sections, SectionId::DebugInfo, INFO));
     assert!(rt; holds(&sections, SectionId::DebugLine, LINE));
     assert!(rt; holds(&sections, SectionId::DebugRanges, RANGES));
-    assert!(rt; holds(&sections, SectionId::DebugStr, b"a.c\0/w\0main\0f\0b.c\0"));
+    assert!(rt; holds(&sections, SectionId::DebugStr, b"a.c\0/w\0f\0main\0b.c\0"));
     assert!(rt; holds(&sections, SectionId::DebugAranges, b""));
     let empty = sections_of(alloc, Vec::new(alloc), (4, Format::Dwarf32, 8, false))?;
     assert!(rt; holds(&empty, SectionId::DebugAbbrev, ABBREV));
@@ -152,7 +152,7 @@ fn sections_in_64_bit_dwarf(rt: HostRuntime) -> Result<(), Fail> {
     assert!(rt; holds(&sections, SectionId::DebugInfo, INFO_64));
     assert!(rt; holds(&sections, SectionId::DebugLine, LINE_64));
     assert!(rt; holds(&sections, SectionId::DebugRanges, RANGES_64));
-    assert!(rt; holds(&sections, SectionId::DebugStr, b"a.c\0/w\0main\0f\0b.c\0"));
+    assert!(rt; holds(&sections, SectionId::DebugStr, b"a.c\0/w\0f\0main\0b.c\0"));
     Ok(())
 }
 
@@ -192,23 +192,26 @@ fn tables_that_fit_targets(rt: HostRuntime) -> Result<(), Fail> {
     Ok(())
 }
 
-// Units; functions with children and without; inlined subroutines with children and without.
+// Units; functions with children and without; inlined subroutines with children and without;
+// abstract functions.
 const ABBREV: &[u8] = &[
     1, 0x11, 1, 0x03, 0x0e, 0x1b, 0x0e, 0x10, 0x17, 0x11, 0x01, 0x55, 0x17, 0, 0, //
     2, 0x2e, 1, 0x03, 0x0e, 0x55, 0x17, 0, 0, //
     3, 0x2e, 0, 0x03, 0x0e, 0x55, 0x17, 0, 0, //
-    4, 0x1d, 1, 0x03, 0x0e, 0x55, 0x17, 0x58, 0x0f, 0x59, 0x0f, 0x57, 0x0f, 0, 0, //
-    5, 0x1d, 0, 0x03, 0x0e, 0x55, 0x17, 0x58, 0x0f, 0x59, 0x0f, 0x57, 0x0f, 0, 0, //
+    4, 0x1d, 1, 0x31, 0x13, 0x55, 0x17, 0x58, 0x0f, 0x59, 0x0f, 0x57, 0x0f, 0, 0, //
+    5, 0x1d, 0, 0x31, 0x13, 0x55, 0x17, 0x58, 0x0f, 0x59, 0x0f, 0x57, 0x0f, 0, 0, //
+    6, 0x2e, 0, 0x03, 0x0e, 0, 0, //
     0,
 ];
 
-// The unit of `a.c`, with `main` and the call in it; that of `b.c`, whose line number program
-// is at 67.
+// The unit of `a.c`, with the abstract function `f`, `main`, and the call in it; that of `b.c`, whose
+// line number program is at 67.
 const INFO: &[u8] = &[
-    55, 0, 0, 0, 4, 0, 0, 0, 0, 0, 8, //
+    60, 0, 0, 0, 4, 0, 0, 0, 0, 0, 8, //
     1, 0, 0, 0, 0, 4, 0, 0, 0, 0, 0, 0, 0, 0, 0, 0, 0, 0, 0, 0, 0, 0, 0, 0, 0, //
-    2, 7, 0, 0, 0, 32, 0, 0, 0, //
-    5, 12, 0, 0, 0, 64, 0, 0, 0, 1, 7, 3, //
+    6, 7, 0, 0, 0, //
+    2, 9, 0, 0, 0, 32, 0, 0, 0, //
+    5, 36, 0, 0, 0, 64, 0, 0, 0, 1, 7, 3, //
     0, 0, //
     33, 0, 0, 0, 4, 0, 0, 0, 0, 0, 8, //
     1, 14, 0, 0, 0, 4, 0, 0, 0, 67, 0, 0, 0, 0, 0, 0, 0, 0, 0, 0, 0, 96, 0, 0, 0, //
@@ -246,19 +249,21 @@ const ABBREV_64: &[u8] = &[
     1, 0x11, 1, 0x03, 0x0e, 0x1b, 0x0e, 0x10, 0x07, 0x11, 0x01, 0x55, 0x07, 0, 0, //
     2, 0x2e, 1, 0x03, 0x0e, 0x55, 0x07, 0, 0, //
     3, 0x2e, 0, 0x03, 0x0e, 0x55, 0x07, 0, 0, //
-    4, 0x1d, 1, 0x03, 0x0e, 0x55, 0x07, 0x58, 0x0f, 0x59, 0x0f, 0x57, 0x0f, 0, 0, //
-    5, 0x1d, 0, 0x03, 0x0e, 0x55, 0x07, 0x58, 0x0f, 0x59, 0x0f, 0x57, 0x0f, 0, 0, //
+    4, 0x1d, 1, 0x31, 0x13, 0x55, 0x07, 0x58, 0x0f, 0x59, 0x0f, 0x57, 0x0f, 0, 0, //
+    5, 0x1d, 0, 0x31, 0x13, 0x55, 0x07, 0x58, 0x0f, 0x59, 0x0f, 0x57, 0x0f, 0, 0, //
+    6, 0x2e, 0, 0x03, 0x0e, 0, 0, //
     0,
 ];
 
 // The same units; the line number program of the second is at 74.
 const INFO_64: &[u8] = &[
-    0xff, 0xff, 0xff, 0xff, 0, 0, 0, 0, 0, 0, 0, 87, //
+    0xff, 0xff, 0xff, 0xff, 0, 0, 0, 0, 0, 0, 0, 92, //
     0, 3, 0, 0, 0, 0, 0, 0, 0, 0, 4, //
     1, 0, 0, 0, 0, 0, 0, 0, 0, 0, 0, 0, 0, 0, 0, 0, 4, 0, 0, 0, 0, 0, 0, 0, 0, //
     0, 0, 0, 0, 0, 0, 0, 0, 0, 0, 0, 0, //
-    2, 0, 0, 0, 0, 0, 0, 0, 7, 0, 0, 0, 0, 0, 0, 0, 16, //
-    5, 0, 0, 0, 0, 0, 0, 0, 12, 0, 0, 0, 0, 0, 0, 0, 32, 1, 7, 3, //
+    6, 0, 0, 0, 0, 0, 0, 0, 7, //
+    2, 0, 0, 0, 0, 0, 0, 0, 9, 0, 0, 0, 0, 0, 0, 0, 16, //
+    5, 0, 0, 0, 60, 0, 0, 0, 0, 0, 0, 0, 32, 1, 7, 3, //
     0, 0, //
     0xff, 0xff, 0xff, 0xff, 0, 0, 0, 0, 0, 0, 0, 49, //
     0, 3, 0, 0, 0, 0, 0, 0, 0, 0, 4, //
