@@ -1,4 +1,4 @@
-use Rattle.std.proofs.Common.{◌≡◌, [], true, map, ap, subst, sym, ◌∙◌}
+use Rattle.std.proofs.Common.{◌≡◌, [], true, length, map, ap, subst, sym, ◌∙◌}
 use Rattle.gimli_lines_write_tables.specs.Encoding.{Encoding}
 use Rattle.gimli_lines_write_tables.specs.NumberParsers.{is_address_size}
 use Rattle.gimli_lines_write_tables.specs.StringSections.{IsText}
