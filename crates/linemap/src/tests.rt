@@ -2,6 +2,7 @@
 mod answers;
 mod fake;
 mod faults;
+mod frames;
 mod places;
 mod refusals;
 mod rules;

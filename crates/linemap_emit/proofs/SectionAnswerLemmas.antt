@@ -6,7 +6,7 @@ use Rattle.linemap_table.specs.EncodingFits.{fits}
 use Rattle.linemap_table.specs.TableViews.{unit_part}
 use Rattle.linemap_table.specs.TableWeight.{table_weight}
 use Rattle.linemap_table.specs.TableUnit.{TableUnit}
-use Rattle.linemap_emit_laws.proofs.RecordedContexts.{answers_again}
+use Rattle.linemap_emit_laws.proofs.RecordedAnswers.{answers_again}
 use Rattle.linemap_emit_fits.specs.TableEmission.{no_units, emitted_table}
 use Rattle.linemap_emit_fits.specs.FittingUnits.{IsServed, AllUnitsFit}
 use Rattle.linemap_emit_fits.proofs.EmittedUnitSizes.{tables_fit}

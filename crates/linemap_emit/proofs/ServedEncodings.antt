@@ -9,7 +9,8 @@ use Rattle.linemap_table.specs.EmissionTargets.{encoding_of}
 use Rattle.linemap_table.specs.TargetEncodings.{is_64_bit}
 use Rattle.linemap_table.specs.declared.target.Target.{Target}
 use Rattle.linemap_emit_fits.specs.Entry.{Entry}
-use Rattle.linemap_emit_fits.specs.EmittedEntries.{EmittedValue, strp, sec_offset, addr, udata, ref4, EmittedAttribute, Fits, AllFit, attributes_of}
+use Rattle.linemap_emit_laws.proofs.EmittedFunctionLemmas.{entries_below}
+use Rattle.linemap_emit_fits.specs.EmittedEntries.{AllFit, attributes_of}
 use Rattle.linemap_emit_fits.specs.EmittedUnits.{IsWritten}
 use Rattle.linemap_emit_fits.specs.EmittedRows.{emitted_rules}
 use Rattle.linemap_emit_fits.specs.FittingUnits.{IsServed}
@@ -38,21 +39,10 @@ is_buildable e served = record {
 pub below_limit : (e : Encoding) (n : ℕ) → n < 2 ^ 31 → n < length_limit e.format
 below_limit e n small = length_fits e.format n small
 
--- values that fit below a limit fit below a larger one
-value_fits : (e : Encoding) (name : ℕ) (v : EmittedValue) → Fits (2 ^ 31) e name v → Fits (2 ^ 64) e name v
-value_fits e name (strp offset) h = (h.0, omega (arith, h.1))
-value_fits e name (sec_offset offset) h = (h.0, omega (arith, h.1), h.2)
-value_fits e name (addr at) h = h
-value_fits e name (udata n) h = h
-value_fits e name (ref4 offset) h = (h.0, omega (arith, h.1))
-
-values_fit : (e : Encoding) (ss : List EmittedAttribute) → AllFit (2 ^ 31) e ss → AllFit (2 ^ 64) e ss
-values_fit e [] h = tt
-values_fit e (s ∷ ss) h = (value_fits e s.name s.value h.0, values_fit e ss h.1)
-
+-- entries that fit below a limit fit below a larger one
 pub entries_fit : (e : Encoding) (xs : List Entry) → All (λ x. AllFit (2 ^ 31) e (attributes_of x)) xs
     → All (λ x. AllFit (2 ^ 64) e (attributes_of x)) xs
-entries_fit e xs h = λ k d below. values_fit e _ (h k d below)
+entries_fit e xs h = entries_below (2 ^ 64) e xs (omega arith) h
 
 -- ---- the targets that are served
 

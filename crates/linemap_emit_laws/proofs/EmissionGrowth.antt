@@ -52,10 +52,6 @@ pub grows_on : (a b c : EmittedUnit) → Grows a b → Grows b c → Grows a c
 grows_on a b c g h = record {
   same_encoding = h.same_encoding ∙ g.same_encoding;
   same_order = h.same_order ∙ g.same_order;
-  more_line_texts = g.more_line_texts ++ h.more_line_texts;
-  line_texts =
-      h.line_texts ∙ ap (λ (l : List (List ℕ)). l ++ h.more_line_texts) g.line_texts
-      ∙ append_assoc a.line_texts g.more_line_texts h.more_line_texts;
   texts = texts_stay_on a.texts b.texts c.texts g.texts h.texts;
   more_ranges = g.more_ranges ++ h.more_ranges;
   ranges =

@@ -20,7 +20,7 @@ use Rattle.linemap_emit_units.specs.TableEmission.{EmittedTable, number_of, befo
 use Rattle.linemap_emit_units.specs.EmittedFiles.{unit_file_ids, place_in}
 use Rattle.linemap_emit_units.specs.BuiltRows.{raw_file}
 use Rattle.linemap_emit_units.proofs.PlacedFiles.{place_is_low}
-use Rattle.addr2line_functions.specs.InlinedCalls.{file_number}
+use Rattle.linemap_emit_calls_laws.specs.InlinedCalls.{file_number}
 use Rattle.linemap_emit_units.specs.FittingUnits.{IsServed, UnitFits}
 use Rattle.linemap_emit_calls_laws.specs.RecordedFunctions.{entries_of_functions, HasOrigin, RecordsFunctions}
 use Rattle.linemap_emit_laws.proofs.EmissionGrowth.{Grows, grows_on, entry_grows, functions_grow, unit_grows, Extends}

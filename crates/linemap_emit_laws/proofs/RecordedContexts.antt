@@ -134,7 +134,7 @@ unit_again e is_big s u xs say offset first w main some =
 -- ---- all units
 
 -- what lookups know of units from an offset on
-pub agreeing_units : (e : Encoding) (is_big : Bool) (s : DwarfFile) (us : List UnitPart)
+unfoldable pub agreeing_units : (e : Encoding) (is_big : Bool) (s : DwarfFile) (us : List UnitPart)
     (all : List (List Entry)) → RecordsUnits e s us all → ℕ → ℕ → List ContextUnit
 agreeing_units e is_big s [] [] say offset first = []
 agreeing_units e is_big s [] (x ∷ xs) say offset first = []

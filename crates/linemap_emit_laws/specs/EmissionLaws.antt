@@ -19,8 +19,8 @@ EmissionRecords =
     → HoldTable e is_big (emitted_table e is_big us) s
     → RecordsTable e is_big s us (emitted_table e is_big us).units
 
--- Where the table is sound, there is a context over them, and it answers the table's places and
--- stretches.
+-- Where the table is sound, there is a context over them, and it answers the table's places, frames
+-- and stretches.
 abbrev pub EmissionAnswers : Type 0
 EmissionAnswers =
     (e : Encoding) (is_big : Bool) (us : List UnitPart) (s : DwarfFile)
