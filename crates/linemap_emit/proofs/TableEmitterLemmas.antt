@@ -3,7 +3,7 @@ use Rattle.std.proofs.Common.{◌≡◌, ℕ, ◌+◌, ◌<◌, ◌^◌, arith, 
 use Rattle.std.specs.Prelude.{All, IsOk}
 use Rattle.std.proofs.lemmas.Grind.{flat_map-append}
 use Rattle.linemap_emit_fits.specs.Encoding.{Encoding}
-use Rattle.linemap_emit_fits.specs.OutputBytes.{WriterContents}
+use Rattle.linemap_emit_fits.specs.OutputBytes.{WriterContents, append}
 use Rattle.linemap_table.specs.TableParts.{Calls, no_calls, more_calls, FunctionPart, UnitPart}
 use Rattle.linemap_emit_fits.specs.Entry.{Entry}
 use Rattle.linemap_emit_fits.specs.EmittedEntries.{AllFit, attributes_of, spelled_declarations}
@@ -17,10 +17,12 @@ use Rattle.linemap_emit_fits.specs.TableEmission.{EmittedTable, no_units, number
 use Rattle.linemap_emit_fits.specs.FittingUnits.{IsServed, UnitFits, AllUnitsFit}
 use Rattle.linemap_emit_fits.specs.WriteError.{Error}
 use Rattle.linemap_emit_fits.specs.RowPieces.{IsBuildable}
-use Rattle.linemap_emit_fits.specs.BuiltPrograms.{HasItsTexts}
+use Rattle.linemap_emit_fits.specs.NumberBytes.{constant_of}
+use Rattle.linemap_emit_fits.specs.FileId.{FileId}
+use Rattle.linemap_emit_fits.specs.BuiltPrograms.{Program, HasItsTexts, program_bytes}
 use Rattle.linemap_emit_fits.specs.EmittedRows.{emitted_rules, AllOrdered}
 use Rattle.linemap_emit_fits.specs.EmittedFiles.{HasTableTexts, first_unit_files, unit_files, unit_file_ids, place_in, file_number}
-use Rattle.linemap_emit_fits.specs.EmittedPrograms.{line_program, line_program_bytes}
+use Rattle.linemap_emit_fits.specs.EmittedPrograms.{line_program, line_program_bytes, bytes_if_any}
 use Rattle.linemap_emit_fits.proofs.EmittedRowsBuilt.{sequences_ordered}
 use Rattle.linemap_emit_fits.proofs.PlacedFiles.{place_is_low}
 use Rattle.linemap_emit_fits.proofs.BuiltUnits.{ids_counted}
@@ -227,6 +229,48 @@ unit_ready u s t =
           (subst (λ (l : List (List ℕ)). IsOk (line_program_bytes e t.is_big u l)) texts
           (ok_is (line_program_bytes e t.is_big u t.before.line_texts) fits.program fits.program_is));
     }
+
+-- what is written of a unit is what it adds
+pub state_is : (u : UnitPart) (s : TableEmitter) (ids : List FileId) (n : ℕ) (p : Program) (texts : List (List ℕ))
+    (lines : WriterContents) (line_strings : List (List ℕ)) (info : WriterContents) (emitter : EmittedUnit)
+    → ids ≡ unit_file_ids s.encoding u s.line_strings → n ≡ length s.lines.bytes
+    → p ≡ line_program s.encoding u s.line_strings → texts ≡ (unit_files s.encoding u s.line_strings).line_texts
+    → lines ≡ append (bytes_if_any (program_bytes constant_of s.lines.is_big [] texts p)) s.lines → line_strings ≡ texts
+    → info ≡ append (spelled_unit s.encoding s.info.is_big
+    (with_unit (file_number s.encoding.version ids) n u s.emitter).entries) s.info
+    → emitter ≡ without_entries (with_unit (file_number s.encoding.version ids) n u s.emitter)
+    → record {
+      encoding = s.encoding;
+      lines = lines;
+      line_strings = line_strings;
+      info = info;
+      emitter = emitter;
+    } ≡ with_unit_added u s
+state_is u s ids n p texts lines line_strings info emitter ids_are n_is p_is texts_are lines_are strings_are info_is emitter_is =
+    let e = s.encoding in
+    let new_ids = unit_file_ids e u s.line_strings in
+    let new_texts = (unit_files e u s.line_strings).line_texts in
+    let added : List FileId → ℕ → EmittedUnit = λ l k. with_unit (file_number e.version l) k u s.emitter in
+    let last = added new_ids (length s.lines.bytes) in
+    let same : added ids n ≡ last =
+    ap (λ (l : List FileId). added l n) ids_are ∙ ap (λ (k : ℕ). added new_ids k) n_is in
+    let new_lines = append (bytes_if_any (line_program_bytes e s.lines.is_big u s.line_strings)) s.lines in
+    let lines_all : lines ≡ new_lines =
+    lines_are
+    ∙ ap (λ (l : List (List ℕ)). append (bytes_if_any (program_bytes constant_of s.lines.is_big [] l p)) s.lines)
+    texts_are
+    ∙ ap (λ (q : Program). append (bytes_if_any (program_bytes constant_of s.lines.is_big [] new_texts q)) s.lines)
+    p_is in
+    let new_info = append (spelled_unit e s.info.is_big last.entries) s.info in
+    let info_all : info ≡ new_info =
+    info_is ∙ ap (λ (x : EmittedUnit). append (spelled_unit e s.info.is_big x.entries) s.info) same in
+    let state : WriterContents → List (List ℕ) → WriterContents → EmittedUnit → TableEmitter =
+    λ a b i m. record { encoding = e; lines = a; line_strings = b; info = i; emitter = m } in
+    ap (λ (a : WriterContents). state a line_strings info emitter) lines_all
+    ∙ ap (λ (b : List (List ℕ)). state new_lines b info emitter) (strings_are ∙ texts_are)
+    ∙ ap (λ (i : WriterContents). state new_lines new_texts i emitter) info_all
+    ∙ ap (λ (m : EmittedUnit). state new_lines new_texts new_info m)
+    (emitter_is ∙ ap (λ (x : EmittedUnit). without_entries x) same)
 
 -- ---- one unit of several
 
