@@ -1,5 +1,5 @@
 -- A unit that was written is read again.
-use Rattle.std.proofs.Common.{◌≡◌, ℕ, ◌+◌, ◌<◌, ◌≤◌, Bool, true, false, List, [], ◌∷◌, ◌++◌, length, map, Ok, refl, sym, ap, subst, ◌∙◌, arith}
+use Rattle.std.proofs.Common.{◌≡◌, ℕ, ◌+◌, ◌<◌, ◌≤◌, Bool, true, false, List, [], ◌∷◌, ◌++◌, length, map, Result, Ok, refl, sym, ap, subst, ◌∙◌, arith}
 use Rattle.std.specs.Prelude.{nat_le, All}
 use Rattle.std.proofs.lemmas.Bool.{le-leb, lt-leb}
 use Rattle.std.proofs.lemmas.List.{length-append}
@@ -7,7 +7,12 @@ use Rattle.std.proofs.lemmas.List.Elements.{All-head}
 use Rattle.gimli_lines_write_unit.specs.Format.{Format}
 use Rattle.gimli_lines_write_unit.specs.LineRules.{LineRules}
 use Rattle.gimli_lines_write_laws.proofs.RowAnswers.{rows_answered}
-use Rattle.gimli_lines_write_unit.specs.HeaderParsing.{line_header}
+use Rattle.gimli_lines_write_unit.specs.HeaderParsing.{LineUnit, line_header}
+use Rattle.gimli_lines_write_unit.specs.LineEntry.{LineEntry}
+use Rattle.gimli_lines_write_unit.specs.WriteError.{Error}
+use Rattle.gimli_lines_write_unit.specs.Address.{Address}
+use Rattle.gimli_lines_write_unit.specs.RowPieces.{IsBuildable}
+use Rattle.gimli_lines_write_unit.specs.UnitBytes.{unit_bytes}
 use Rattle.gimli_lines_write_unit.specs.HeaderTexts.{WrittenText, in_place, in_strings, in_line_strings, form_of, form_in, IsReadableText, IsEntry}
 use Rattle.gimli_lines_write_unit.specs.EntryFields.{WrittenFile, IsReadableFile}
 use Rattle.gimli_lines_write_unit.specs.HeaderSpelling.{Tables, path_form, source_form, spelled_header, spelled_body, fields_at, header_value}
@@ -16,7 +21,7 @@ use Rattle.gimli_lines_write_unit.proofs.LineUnitsAgain.{unit_again}
 use Rattle.gimli_lines_write_laws.specs.UnitReadBack.{IsBelow, FileBelow, HasNoZero, HasBytes, FileReadsBack, records_sources, TablesReadBack, UnitReadsBack}
 use Rattle.gimli_lines_write_laws.proofs.SpelledPieces.{Fits}
 use Rattle.gimli_lines_write_laws.proofs.TableBytes.{DirectoryIs, FileIs, form_at, header_is}
-use Rattle.gimli_lines_write_laws.proofs.UnitBytesAgain.{unit_is}
+use Rattle.gimli_lines_write_laws.proofs.UnitBytesAgain.{UnitIs, unit_is}
 use Rattle.gimli_lines_write_unit.specs.BytesAt.{bytes_at}
 use Rattle.gimli_lines_write_unit.specs.NumberBytes.{spelled_length}
 
@@ -111,15 +116,32 @@ rest_length a b n h = omega (arith, length-append a b)
 one_is : (n : ℕ) → 0 < n → n ≤ 1 → n ≡ 1
 one_is n above below = omega arith
 
-pub unit_reads_back : UnitReadsBack
-unit_reads_back address_of rules t entries is_big bytes constants can_build byte few read_back f readable h =
+-- A unit that was written: its header is read, whatever follows it, for each reader that can hold its length and the
+-- offsets of texts.
+pub record UnitIsRead (address_of : Address → Result ℕ Error) (is_big : Bool) (rules : LineRules) (t : Tables)
+    (entries : List LineEntry) (bytes : List ℕ) : Type 0 where
+  pub unit : UnitIs address_of is_big rules t entries bytes
+  pub header : (limit offset first : ℕ) (line_unit : LineUnit) (rest : List ℕ) → length bytes < limit
+      → All (IsBelow limit) t.directories → All (FileBelow limit) t.files
+      → line_unit.address_bytes ≡ rules.encoding.address_size
+      → line_header limit offset line_unit (bytes_at is_big first (bytes ++ rest))
+      ≡ Ok (
+        header_value rules is_big offset (fields_at rules is_big first t unit.program) line_unit t unit.program,
+        bytes_at is_big (first + length bytes) rest,
+      )
+
+pub unit_is_read : (address_of : Address → Result ℕ Error) (rules : LineRules) (t : Tables) (entries : List LineEntry)
+    (is_big : Bool) (bytes : List ℕ) → IsBuildable rules → rules.line_encoding.minimum_instruction_length < 256
+    → rules.line_encoding.maximum_operations_per_instruction < 256 → TablesReadBack rules.encoding.version t
+    → unit_bytes address_of is_big rules t entries ≡ Ok bytes → UnitIsRead address_of is_big rules t entries bytes
+unit_is_read address_of rules t entries is_big bytes can_build byte few read_back h =
     let header = header_is is_big rules t in
     let parts = unit_is address_of is_big rules t entries (λ hd made. (header hd made).2) bytes h in
     let version = parts.0 in
     let unit = parts.1 in
     let tables = header (spelled_header rules is_big t) unit.header in
     record {
-      program = unit.program;
+      unit = unit;
       header = λ limit offset first line_unit rest small directories_below files_below sized.
           let can : CanWrite limit rules is_big t unit.program = record {
             not_before_2 = version.0;
@@ -147,5 +169,14 @@ unit_reads_back address_of rules t entries is_big bytes constants can_build byte
             bytes_at is_big (first + length l) rest,
           )) (sym unit.bytes_are)
           ((unit_again limit rules is_big t unit.program can offset first line_unit sized).again rest);
-      runs = rows_answered address_of constants rules can_build entries f readable is_big unit.program unit.entries_are;
+    }
+
+pub unit_reads_back : UnitReadsBack
+unit_reads_back address_of rules t entries is_big bytes constants can_build byte few read_back f readable h =
+    let read = unit_is_read address_of rules t entries is_big bytes can_build byte few read_back h in
+    record {
+      program = read.unit.program;
+      header = read.header;
+      runs = rows_answered address_of constants rules can_build entries f readable is_big read.unit.program
+          read.unit.entries_are;
     }

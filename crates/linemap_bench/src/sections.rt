@@ -72,7 +72,9 @@ fn id_of(name: &str) -> Option<SectionId> {
         SectionId::DebugAbbrev,
         SectionId::DebugInfo,
         SectionId::DebugLine,
+        SectionId::DebugLineStr,
         SectionId::DebugRanges,
+        SectionId::DebugRngLists,
         SectionId::DebugStr,
     ];
     ids.into_iter().find(|id| id.name() == name)

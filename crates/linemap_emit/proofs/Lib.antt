@@ -1,5 +1,4 @@
 pub mod SectionAnswerLemmas
-pub mod InstructionBytes
 pub mod ServedEncodings
 pub mod TableEmitterLemmas
 pub mod UnitTextLemmas

@@ -13,13 +13,13 @@ use Rattle.linemap_emit_fits.proofs.EmittedUnitSizes.{tables_fit}
 use Rattle.linemap_emit_laws.proofs.EmittedUnitLemmas.{emission_recorded}
 use Rattle.linemap_emit_fits.specs.EmittedSections.{emitted_sections}
 use Rattle.linemap_emit.specs.SectionAnswers.{AreAnswers}
-use Rattle.linemap_emit.proofs.UnitTextLemmas.{all_countable, all_in_utf8}
+use Rattle.linemap_emit.proofs.UnitTextLemmas.{all_in_utf8}
 
 pub light_fits : (e : Encoding) (is_big : Bool) (units : List TableUnit) → IsServed e → IsSound (map unit_part units)
     → fits e.address_size (map unit_part units) ≡ true → table_weight (map unit_part units) < 2 ^ 31
     → AllUnitsFit e is_big (map unit_part units) no_units
 light_fits e is_big units served sound fitting light =
-    tables_fit e is_big (map unit_part units) served sound fitting (all_countable units) light
+    tables_fit e is_big (map unit_part units) served sound fitting light
 
 pub light_answers : (e : Encoding) (is_big : Bool) (units : List TableUnit) → IsServed e → IsSound (map unit_part units)
     → fits e.address_size (map unit_part units) ≡ true → table_weight (map unit_part units) < 2 ^ 31

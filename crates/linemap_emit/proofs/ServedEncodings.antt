@@ -3,34 +3,26 @@ use Rattle.std.proofs.Common.{◌≡◌, ℕ, ◌<◌, ◌≤◌, ◌^◌, Bool,
 use Rattle.std.specs.Prelude.{All}
 use Rattle.std.proofs.lemmas.Bool.{and_parts, or_cases, eqb-true, leb-true}
 use Rattle.linemap_emit_fits.specs.Encoding.{Encoding}
-use Rattle.linemap_emit_fits.specs.FormatSizes.{word_size}
 use Rattle.linemap_emit_fits.specs.NumberParsers.{is_address_size}
 use Rattle.linemap_emit_fits.specs.RowPieces.{IsBuildable}
-use Rattle.linemap_emit_fits.specs.BuiltRows.{first_row, follows}
-use Rattle.linemap_table.specs.EncodingFits.{is_target}
 use Rattle.linemap_table.specs.EmissionTargets.{encoding_of}
 use Rattle.linemap_table.specs.TargetEncodings.{is_64_bit}
 use Rattle.linemap_table.specs.declared.target.Target.{Target}
-use Rattle.linemap_table.specs.TableParts.{SequencePart}
 use Rattle.linemap_emit_fits.specs.Entry.{Entry}
 use Rattle.linemap_emit_laws.proofs.EmittedFunctionLemmas.{entries_below}
 use Rattle.linemap_emit_fits.specs.EmittedEntries.{AllFit, attributes_of}
 use Rattle.linemap_emit_fits.specs.EmittedUnits.{IsWritten}
-use Rattle.linemap_emit_fits.specs.EmittedRows.{emitted_rules, emitted_sequences}
-use Rattle.linemap_emit_fits.specs.SoundSequences.{CanEmitSequences}
-use Rattle.linemap_emit_fits.proofs.EmittedRowsBuilt.{sequences_follow}
+use Rattle.linemap_emit_fits.specs.EmittedRows.{emitted_rules}
 use Rattle.linemap_emit_fits.specs.FittingUnits.{IsServed}
 use Rattle.linemap_emit_fits.specs.NumberBytes.{length_limit}
-use Rattle.linemap_emit_laws.proofs.EmittedProgramLemmas.{length_fits, word_is_small}
+use Rattle.linemap_emit_laws.proofs.EmittedProgramLemmas.{length_fits}
 
 pub is_written : (e : Encoding) → IsServed e → IsWritten e
-is_written e served =
-    let low = served.not_after_4 in
-    record {
-      not_before_2 = served.not_before_2;
-      not_after_5 = omega (arith, low);
-      has_address_size = served.has_address_size;
-    }
+is_written e served = record {
+  not_before_2 = served.not_before_2;
+  not_after_5 = served.not_after_5;
+  has_address_size = served.has_address_size;
+}
 
 pub is_buildable : (e : Encoding) → IsServed e → IsBuildable (emitted_rules e)
 is_buildable e served = record {
@@ -43,16 +35,9 @@ is_buildable e served = record {
   first_special = refl;
 }
 
-pub all_follow : (e : Encoding) (ss : List SequencePart) → CanEmitSequences e.address_size ss
-    → follows (emitted_rules e) (first_row (emitted_rules e)) (emitted_sequences ss) ≡ true
-all_follow e ss can = sequences_follow e ss can.can_build
-
 -- small lengths can be written
 pub below_limit : (e : Encoding) (n : ℕ) → n < 2 ^ 31 → n < length_limit e.format
 below_limit e n small = length_fits e.format n small
-
-pub below_word : (e : Encoding) (n : ℕ) → n < 2 ^ 31 → n < 256 ^ word_size e.format
-below_word e n small = word_is_small e.format n small
 
 -- entries that fit below a limit fit below a larger one
 pub entries_fit : (e : Encoding) (xs : List Entry) → All (λ x. AllFit (2 ^ 31) e (attributes_of x)) xs
@@ -75,15 +60,20 @@ is_size size h = elim (or_cases (size == 4) (size == 8) h) [
   | inr eight ↦ ap is_address_size (eqb-true size 8 eight)
 ]
 
+not_after_5 : (version : ℕ) (b : Bool)
+    → (((version == 2) && b) || (nat_le 3 version && nat_le version 5)) ≡ true → version ≤ 5
+not_after_5 version b h = elim (or_cases ((version == 2) && b) (nat_le 3 version && nat_le version 5) h) [
+  | inl old ↦ let two = eqb-true version 2 (and_parts (version == 2) b old).0 in omega arith
+  | inr new ↦ leb-true version 5 (and_parts (nat_le 3 version) (nat_le version 5) new).1
+]
+
 pub target_served : (t : Target) → IsServed (encoding_of t)
 target_served t =
     let e = encoding_of t in
-    let parts = and_parts (is_target e.version (is_64_bit e.format) e.address_size) (nat_le e.version 4) t.served in
-    let target =
-    and_parts (((e.version == 2) && not (is_64_bit e.format)) || (nat_le 3 e.version && nat_le e.version 5))
-    ((e.address_size == 4) || (e.address_size == 8)) parts.0 in
+    let version = ((e.version == 2) && not (is_64_bit e.format)) || (nat_le 3 e.version && nat_le e.version 5) in
+    let parts = and_parts version ((e.address_size == 4) || (e.address_size == 8)) t.served in
     record {
-      not_before_2 = not_before_2 e.version (not (is_64_bit e.format)) target.0;
-      not_after_4 = leb-true e.version 4 parts.1;
-      has_address_size = is_size e.address_size target.1;
+      not_before_2 = not_before_2 e.version (not (is_64_bit e.format)) parts.0;
+      not_after_5 = not_after_5 e.version (not (is_64_bit e.format)) parts.0;
+      has_address_size = is_size e.address_size parts.1;
     }

@@ -1,22 +1,11 @@
--- What any units have: fewer files than a word counts, and texts that are UTF-8.
-use Rattle.std.proofs.Common.{◌<◌, ◌^◌, List, [], ◌∷◌, length, map, arith}
-use Rattle.std.specs.Global.{Vec}
-use Rattle.std.proofs.lemmas.List.{length-map}
+-- The texts of any units are UTF-8.
+use Rattle.std.proofs.Common.{List, [], ◌∷◌, map}
 use Rattle.std.proofs.lemmas.Str.{IsUtf8-string_bytes}
 use Rattle.linemap_table.specs.TableFile.{TableFile}
 use Rattle.linemap_table.specs.TableUnit.{TableUnit}
 use Rattle.linemap_table.specs.TableViews.{file_part, unit_part}
-use Rattle.linemap_emit_fits.specs.SoundSequences.{AllCountable}
 use Rattle.linemap_emit_fits.specs.EmittedPrograms.{FilesAreUtf8}
 use Rattle.linemap_emit_fits.specs.FittingUnits.{AllInUtf8}
-
-files_counted : (fs : Vec TableFile) → length (map file_part fs.items) < 2 ^ 64
-files_counted fs = omega (arith, length-map fs.items file_part, fs.ok.0, fs.ok.1, fs.small)
-
-pub all_countable : (us : List TableUnit) → AllCountable (map unit_part us)
-unfolding AllCountable
-all_countable [] = tt
-all_countable (u ∷ us) = (files_counted u.files, all_countable us)
 
 files_in_utf8 : (fs : List TableFile) → FilesAreUtf8 (map file_part fs)
 files_in_utf8 [] = tt

@@ -1,14 +1,13 @@
 -- The state of the emitter of a table's units, and what a unit adds to it.
-use Rattle.std.specs.Prelude.{◌≡◌, ℕ, ◌<◌, ◌^◌, nat_le, Bool, List, [], length, Ok, if◌then◌else◌}
+use Rattle.std.specs.Prelude.{◌≡◌, ℕ, nat_le, Bool, List, [], length, if◌then◌else◌}
 use Rattle.linemap_emit_fits.specs.Encoding.{Encoding}
 use Rattle.linemap_emit_fits.specs.OutputBytes.{WriterContents, append}
 use Rattle.linemap_table.specs.TableParts.{UnitPart}
 use Rattle.linemap_emit_fits.specs.EmittedUnits.{spelled_unit, spelled_units}
 use Rattle.linemap_emit_fits.specs.UnitEmission.{EmittedUnit, with_unit, without_entries}
-use Rattle.linemap_emit_fits.specs.EmittedHeaders.{spelled_header, spelled_program_body}
-use Rattle.linemap_emit_fits.specs.SoundSequences.{CanEmitSequences}
-use Rattle.linemap_emit_fits.specs.EmittedPrograms.{directories_of, files_of}
-use Rattle.linemap_emit_fits.specs.TableEmission.{EmittedTable, instructions_of, program_of, before_entries}
+use Rattle.linemap_emit_fits.specs.EmittedFiles.{unit_files, unit_file_ids, file_number}
+use Rattle.linemap_emit_fits.specs.EmittedPrograms.{line_program_bytes, bytes_if_any}
+use Rattle.linemap_emit_fits.specs.TableEmission.{EmittedTable, before_entries}
 use Rattle.linemap_emit_fits.specs.EmittedRanges.{spelled_lists}
 use Rattle.linemap_emit_fits.specs.EmittedSections.{SectionBytes}
 use Rattle.linemap_emit_fits.specs.FittingUnits.{IsServed, UnitFits}
@@ -20,14 +19,18 @@ bytes_in_order is_big bytes = record { bytes = bytes; is_big = is_big }
 
 -- the emitter's unit with the entries of a table's unit, after those before it
 abbrev pub unit_after_entries : UnitPart → TableEmitter → EmittedUnit
-unit_after_entries u s = with_unit (length s.lines.bytes) u s.emitter
+unit_after_entries u s =
+    with_unit (file_number s.encoding.version (unit_file_ids s.encoding u s.line_strings))
+    (length s.lines.bytes) u s.emitter
 
--- the emitter with one more unit: its line number program, its entries as a unit, its texts and
--- range lists
+-- the emitter with one more unit: its line number program with its texts, its entries as a unit,
+-- their texts and range lists
 abbrev pub with_unit_added : UnitPart → TableEmitter → TableEmitter
 with_unit_added u s = record {
   encoding = s.encoding;
-  lines = append (program_of s.encoding s.lines.is_big u) s.lines;
+  lines = append
+      (bytes_if_any (line_program_bytes s.encoding s.lines.is_big u s.line_strings)) s.lines;
+  line_strings = (unit_files s.encoding u s.line_strings).line_texts;
   info = append (spelled_unit s.encoding s.info.is_big (unit_after_entries u s).entries) s.info;
   emitter = without_entries (unit_after_entries u s);
 }
@@ -37,15 +40,17 @@ pub record HoldsTable (e : Encoding) (is_big : Bool) (st : EmittedTable) (s : Ta
   where
     pub encoding_is : s.encoding ≡ e
     pub lines_are : s.lines ≡ bytes_in_order is_big st.lines
+    pub line_texts_are : s.line_strings ≡ st.line_texts
     pub units_are : s.info ≡ bytes_in_order is_big (spelled_units e is_big st.units)
     pub emitter_is : s.emitter ≡ before_entries e is_big st
 
 -- the emitter's sections, with those of declarations and of texts
-abbrev pub sections_in : TableEmitter → List ℕ → List ℕ → SectionBytes
-sections_in s declarations texts = record {
+abbrev pub sections_in : TableEmitter → List ℕ → List ℕ → List ℕ → SectionBytes
+sections_in s declarations line_texts texts = record {
   debug_abbrev = declarations;
   debug_info = s.info.bytes;
   debug_line = s.lines.bytes;
+  debug_line_str = line_texts;
   debug_ranges = if nat_le s.encoding.version 4 then s.emitter.ranges.bytes else [];
   debug_rnglists = if nat_le s.encoding.version 4 then []
       else spelled_lists s.encoding s.emitter.ranges.is_big s.emitter.ranges.bytes;
@@ -59,12 +64,3 @@ pub record CanAddUnit (u : UnitPart) (s : TableEmitter) : Type 0 where
   pub is_served : IsServed s.encoding
   pub holds_before : HoldsTable s.encoding is_big before s
   pub fits : UnitFits s.encoding is_big u before
-
--- A unit's line number program can be written.
-pub record ProgramFits (e : Encoding) (is_big : Bool) (u : UnitPart) : Type 0 where
-  pub can_emit_sequences : CanEmitSequences e.address_size u.sequences
-  pub instructions : List ℕ
-  pub instructions_are : instructions_of e is_big u ≡ Ok instructions
-  pub header_small : length (spelled_header e.version (directories_of u) (files_of u)) < 2 ^ 31
-  pub program_small : length
-      (spelled_program_body e is_big (directories_of u) (files_of u) instructions) < 2 ^ 31

@@ -11,6 +11,7 @@ pub struct Sections {
     debug_abbrev: Vec<u8>,
     debug_info: Vec<u8>,
     debug_line: Vec<u8>,
+    debug_line_str: Vec<u8>,
     debug_ranges: Vec<u8>,
     debug_rnglists: Vec<u8>,
     debug_str: Vec<u8>,
@@ -25,6 +26,7 @@ impl Model for Sections {
       debug_abbrev = s.debug_abbrev.items;
       debug_info = s.debug_info.items;
       debug_line = s.debug_line.items;
+      debug_line_str = s.debug_line_str.items;
       debug_ranges = s.debug_ranges.items;
       debug_rnglists = s.debug_rnglists.items;
       debug_str = s.debug_str.items;
@@ -39,6 +41,7 @@ impl Sections {
         debug_abbrev: Vec<u8>,
         debug_info: Vec<u8>,
         debug_line: Vec<u8>,
+        debug_line_str: Vec<u8>,
         debug_ranges: Vec<u8>,
         debug_rnglists: Vec<u8>,
         debug_str: Vec<u8>,
@@ -48,6 +51,7 @@ impl Sections {
               debug_abbrev = debug_abbrev.items;
               debug_info = debug_info.items;
               debug_line = debug_line.items;
+              debug_line_str = debug_line_str.items;
               debug_ranges = debug_ranges.items;
               debug_rnglists = debug_rnglists.items;
               debug_str = debug_str.items;
@@ -57,6 +61,7 @@ impl Sections {
             debug_abbrev,
             debug_info,
             debug_line,
+            debug_line_str,
             debug_ranges,
             debug_rnglists,
             debug_str,
@@ -71,6 +76,7 @@ impl Sections {
             SectionId::DebugAbbrev => &self.debug_abbrev,
             SectionId::DebugInfo => &self.debug_info,
             SectionId::DebugLine => &self.debug_line,
+            SectionId::DebugLineStr => &self.debug_line_str,
             SectionId::DebugRanges => &self.debug_ranges,
             SectionId::DebugRngLists => &self.debug_rnglists,
             SectionId::DebugStr => &self.debug_str,

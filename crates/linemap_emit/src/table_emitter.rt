@@ -1,33 +1,28 @@
 //! A table's units, emitted one after the other.
 
 ghost use Rattle.std.specs.Prelude.{◌≡◌, ◌<◌, ◌+◌, ◌^◌, nat_le, [], All, map, length, Ok, IfOk, IfErr, IsOk, OnOk, if◌then◌else◌};
-ghost use Rattle.linemap_emit_fits.specs.NumberBytes.{constant_of};
 ghost use Rattle.linemap_emit_fits.specs.WriteError.TheVariants.{Memory};
-ghost use Rattle.linemap_emit_fits.specs.BuiltRows.{first_row};
 ghost use Rattle.linemap_emit_fits.specs.EmittedRanges.{spelled_lists};
 ghost use Rattle.linemap_emit_fits.specs.NumberBytes.{length_limit};
-ghost use Rattle.linemap_emit_fits.specs.EntryBytes.{entries_bytes};
 ghost use Rattle.linemap_emit_fits.specs.StringSections.{section_of};
-ghost use Rattle.linemap_table.specs.TableViews.{sequence_part, unit_part};
+ghost use Rattle.linemap_table.specs.TableViews.{unit_part};
 ghost use Rattle.linemap_emit_fits.specs.EmittedEntries.{AllFit, attributes_of, spelled_declarations};
 ghost use Rattle.linemap_emit_fits.specs.EmittedUnits.{spelled_unit_body, spelled_unit};
 ghost use Rattle.linemap_emit_fits.specs.WriteResults.{Appends};
+ghost use Rattle.linemap_emit_fits.specs.EmittedFiles.{file_number};
 ghost use Rattle.linemap_emit_fits.specs.UnitEmission.{CanEmitUnit, with_unit, without_entries};
-ghost use Rattle.linemap_emit_fits.specs.EmittedRows.{emitted_rules, emitted_sequences};
-ghost use Rattle.linemap_emit_fits.specs.SoundSequences.{CanEmitSequences};
-ghost use Rattle.linemap_emit_fits.specs.TableEmission.{program_of, no_units, emitted_table};
+ghost use Rattle.linemap_emit_fits.specs.TableEmission.{no_units, emitted_table};
 ghost use Rattle.linemap_emit_fits.specs.FittingUnits.{IsServed, AllUnitsFit};
 ghost use Rattle.linemap_table.specs.EmissionTargets.{encoding_of, is_big_of};
-ghost use Rattle.linemap_emit_fits.specs.ByteOrders.{is_big_endian};
 ghost use Rattle.linemap_emit_fits.specs.EmittedSections.{emitted_sections};
-ghost use Rattle.linemap_emit.specs.TableEmitterSteps.{CanAddUnit, ProgramFits, HoldsTable, sections_in, with_unit_added};
+ghost use Rattle.linemap_emit.specs.TableEmitterSteps.{CanAddUnit, HoldsTable, sections_in, with_unit_added};
 
 use crate::sections::Sections;
 use linemap_emit_fits::{
-    Encoding, EndianVec, Error, LineEncoding, LineRules, RunTimeEndian, UnitEmitter, Writer,
-    entries_of, write_declarations, write_entries, write_lists_header, write_program, write_unit,
+    Encoding, EndianVec, Error, FileId, LineStringTable, RunTimeEndian, UnitEmitter, Writer,
+    unit_program, write_declarations, write_lists_header, write_program, write_unit,
 };
-use linemap_table::{TableSequence, TableUnit, Target};
+use linemap_table::{TableUnit, Target};
 use std::alloc::Global;
 
 /// What is emitted so far: line number programs, units, and the texts and range lists that their
@@ -36,62 +31,9 @@ use std::alloc::Global;
 pub struct TableEmitter {
     encoding: Encoding,
     lines: EndianVec<RunTimeEndian>,
+    line_strings: LineStringTable,
     info: EndianVec<RunTimeEndian>,
     emitter: UnitEmitter,
-}
-
-// The parameters of the line number programs.
-fn rules(encoding: Encoding) -> LineRules
-    ensures { result ≡ emitted_rules encoding }
-{
-    LineRules {
-        encoding,
-        line_encoding: LineEncoding::default(),
-        opcode_base: 13,
-    }
-}
-
-// The bytes of the instructions that show the rows of sequences.
-#[tactic(auto, using(crate::proofs::ServedEncodings::is_buildable, crate::proofs::ServedEncodings::all_follow))]
-fn instructions(
-    alloc: Global,
-    encoding: Encoding,
-    endian: RunTimeEndian,
-    sequences: &[TableSequence],
-) -> Result<EndianVec<RunTimeEndian>, Error>
-    requires served { IsServed encoding }
-    requires emits { CanEmitSequences encoding.address_size
-        (map sequence_part sequences.now) }
-    requires spelled { IsOk
-        (entries_bytes constant_of (is_big_endian endian) (emitted_rules encoding)
-        (first_row (emitted_rules encoding))
-        (emitted_sequences (map sequence_part sequences.now))) }
-    ensures ok { IfOk result
-        (λ w. entries_bytes constant_of (is_big_endian endian) (emitted_rules encoding)
-        (first_row (emitted_rules encoding))
-        (emitted_sequences (map sequence_part sequences.now)) ≡ Ok w.bytes) }
-    ensures refusal { IfErr result (λ e. e ≡ Memory) }
-{
-    let entries = entries_of(alloc, sequences)?;
-    let mut bytes = EndianVec::new(alloc, endian);
-    write_entries(alloc, &mut bytes, rules(encoding), &entries)?;
-    Ok(bytes)
-}
-
-// Writes the line number program of a unit.
-#[tactic(auto, using(crate::proofs::ServedEncodings::below_limit, crate::proofs::ServedEncodings::below_word))]
-fn write_lines(
-    alloc: Global,
-    w: &mut EndianVec<RunTimeEndian>,
-    encoding: Encoding,
-    unit: &TableUnit,
-) -> Result<(), Error>
-    requires served { IsServed encoding }
-    requires fits { ProgramFits encoding w.old.is_big (unit_part unit.now) }
-    ensures { Appends result w.old w.new (program_of encoding w.old.is_big (unit_part unit.now)) }
-{
-    let program = instructions(alloc, encoding, w.endian(), &unit.sequences)?;
-    write_program(alloc, w, encoding, &unit.files, program.slice())
 }
 
 // Writes the entries of a unit whose line number program is at an offset.
@@ -102,22 +44,28 @@ fn write_info(
     emitter: &mut UnitEmitter,
     encoding: Encoding,
     unit: &TableUnit,
+    files: &[FileId],
     line_program: u64,
 ) -> Result<(), Error>
     requires served { IsServed encoding }
     requires same { emitter.old.encoding ≡ encoding }
+    requires files { length files.now ≡ length (unit_part unit.now).files }
     requires can { CanEmitUnit encoding.address_size (unit_part unit.now) }
     requires fit { All (λ x. AllFit (2 ^ 31) encoding (attributes_of x))
-        (with_unit line_program (unit_part unit.now) emitter.old).entries }
+        (with_unit (file_number encoding.version files.now) line_program (unit_part unit.now)
+        emitter.old).entries }
     requires small { length (spelled_unit_body encoding w.old.is_big
-        (with_unit line_program (unit_part unit.now) emitter.old).entries) < 2 ^ 31 }
+        (with_unit (file_number encoding.version files.now) line_program (unit_part unit.now)
+        emitter.old).entries) < 2 ^ 31 }
     ensures state { OnOk result
-        (emitter.new ≡ without_entries (with_unit line_program (unit_part unit.now) emitter.old)) }
+        (emitter.new ≡ without_entries (with_unit (file_number encoding.version files.now) line_program (unit_part unit.now)
+        emitter.old)) }
     ensures bytes { Appends result w.old w.new
         (spelled_unit encoding w.old.is_big
-        (with_unit line_program (unit_part unit.now) emitter.old).entries) }
+        (with_unit (file_number encoding.version files.now) line_program (unit_part unit.now)
+        emitter.old).entries) }
 {
-    emitter.unit(alloc, unit, line_program)?;
+    emitter.unit(alloc, unit, files, line_program)?;
     write_unit(alloc, w, encoding, emitter.entries())?;
     emitter.clear_entries();
     Ok(())
@@ -133,6 +81,7 @@ impl TableEmitter {
         TableEmitter {
             encoding,
             lines: EndianVec::new(alloc, endian),
+            line_strings: LineStringTable::new(alloc),
             info: EndianVec::new(alloc, endian),
             emitter: UnitEmitter::new(alloc, encoding, EndianVec::new(alloc, endian)),
         }
@@ -146,15 +95,23 @@ impl TableEmitter {
         ensures refusal { IfErr result (λ e. e ≡ Memory) }
     {
         let line_program = self.lines.len() as u64;
+        let built = unit_program(alloc, self.encoding, &mut self.line_strings, unit)?;
         write_info(
             alloc,
             &mut self.info,
             &mut self.emitter,
             self.encoding,
             unit,
+            &built.files,
             line_program,
         )?;
-        write_lines(alloc, &mut self.lines, self.encoding, unit)
+        write_program(
+            alloc,
+            &mut self.lines,
+            &built.program,
+            &mut self.line_strings,
+        )?;
+        Ok(())
     }
 
     // The section of the declarations.
@@ -164,6 +121,16 @@ impl TableEmitter {
     {
         let mut w = EndianVec::new(alloc, self.info.endian());
         write_declarations(&mut w, self.encoding)?;
+        Ok(w.into_vec())
+    }
+
+    // The section of the line number programs' texts.
+    fn line_texts(&self, alloc: Global) -> Result<Vec<u8>, Error>
+        ensures ok { IfOk result (λ bytes. bytes.items ≡ section_of self.now.line_strings) }
+        ensures refusal { IfErr result (λ e. e ≡ Memory) }
+    {
+        let mut w = EndianVec::new(alloc, self.info.endian());
+        self.line_strings.write(&mut w)?;
         Ok(w.into_vec())
     }
 
@@ -183,10 +150,12 @@ impl TableEmitter {
         self,
         alloc: Global,
         declarations: Vec<u8>,
+        line_texts: Vec<u8>,
         texts: Vec<u8>,
     ) -> Result<Sections, Error>
         requires { 8 + length self.emitter.ranges.bytes < 2 ^ 31 }
-        ensures ok { IfOk result (λ s. s ≡ sections_in self declarations.items texts.items) }
+        ensures ok { IfOk result (λ s. s ≡ sections_in self declarations.items line_texts.items
+            texts.items) }
         ensures refusal { IfErr result (λ e. e ≡ Memory) }
     {
         let encoding = self.encoding;
@@ -196,6 +165,7 @@ impl TableEmitter {
             declarations,
             self.info.into_vec(),
             self.lines.into_vec(),
+            line_texts,
             ranges,
             rnglists,
             texts,
@@ -261,6 +231,7 @@ pub(crate) fn emit_units(
 {
     let emitter = emitter_of_units(alloc, target, units)?;
     let declarations = emitter.declarations(alloc)?;
+    let line_texts = emitter.line_texts(alloc)?;
     let texts = emitter.texts(alloc)?;
-    emitter.into_sections(alloc, declarations, texts)
+    emitter.into_sections(alloc, declarations, line_texts, texts)
 }

@@ -46,7 +46,6 @@ text_low text st most few =
 
 -- numbers of a call that fit 64 bits
 pub record IsCounted (s : Site) : Type 0 where
-  pub file : s.file + 1 < 2 ^ 64
   pub line : s.line < 2 ^ 64
   pub column : s.column < 2 ^ 64
 
@@ -179,10 +178,10 @@ module _ (e : Encoding) (is_big : Bool) (narrow : e.address_size ≤ 8) where
 
   -- ---- calls
 
-  call_bounded : (names : List (List ℕ)) {m : ℕ} {st : EmittedUnit} (b : Bool) (s : Site)
+  call_bounded : (number : ℕ → ℕ) (low : (i : ℕ) → number i < 2 ^ 64) (names : List (List ℕ)) {m : ℕ} {st : EmittedUnit} (b : Bool) (s : Site)
       → 65 + 9 * length names < 2 ^ 31 → IsCounted s → m + site_most s < 2 ^ 31
-      → IsUnitBounded e is_big m st → IsUnitBounded e is_big (m + site_most s) (with_call names b s st)
-  call_bounded names {m} {st} b s few numbers fits k =
+      → IsUnitBounded e is_big m st → IsUnitBounded e is_big (m + site_most s) (with_call number names b s st)
+  call_bounded number low names {m} {st} b s few numbers fits k =
       let near = origin_few st.encoding names s.name k.size_few in
       let origin_fits : origin_of st.encoding names s.name < 2 ^ 31 = omega arith in
       let origin_wide : origin_of st.encoding names s.name < 256 ^ 4 = omega arith in
@@ -191,31 +190,31 @@ module _ (e : Encoding) (is_big : Bool) (narrow : e.address_size ≤ 8) where
       let list_fits : list_offset st < 2 ^ 31 = omega arith in
       bound_raised
       (entry_bounded
-      (Call b (origin_of st.encoding names s.name) (list_offset st) (s.file + 1) s.line s.column) (
+      (Call b (origin_of st.encoding names s.name) (list_offset st) (number s.file) s.line s.column) (
         (origin_wide, origin_fits),
         (
           (fits_word e.format (list_offset st) list_fits, list_fits, refl),
-          (numbers.file, (numbers.line, (numbers.column, tt))),
+          (low s.file, (numbers.line, (numbers.column, tt))),
         ),
       ) (list_bounded s.ranges k)) (omega arith)
 
-  pub calls_bounded : (names : List (List ℕ)) (cs : Calls) {m : ℕ} {st : EmittedUnit}
+  pub calls_bounded : (number : ℕ → ℕ) (low : (i : ℕ) → number i < 2 ^ 64) (names : List (List ℕ)) (cs : Calls) {m : ℕ} {st : EmittedUnit}
       → 65 + 9 * length names < 2 ^ 31 → AllCounted cs → m + calls_most cs < 2 ^ 31
-      → IsUnitBounded e is_big m st → IsUnitBounded e is_big (m + calls_most cs) (with_calls names cs st)
+      → IsUnitBounded e is_big m st → IsUnitBounded e is_big (m + calls_most cs) (with_calls number names cs st)
   unfolding with_calls AllCounted
-  calls_bounded names no_calls {m} {st} few numbers fits k = bound_raised k (omega arith)
-  calls_bounded names (more_calls site inner others) {m} {st} few numbers fits k =
-      let head = call_bounded names (has_calls inner) site few numbers.0 (omega arith) k in
-      let middle = calls_bounded names inner few numbers.1 (omega arith) head in
+  calls_bounded number low names no_calls {m} {st} few numbers fits k = bound_raised k (omega arith)
+  calls_bounded number low names (more_calls site inner others) {m} {st} few numbers fits k =
+      let head = call_bounded number low names (has_calls inner) site few numbers.0 (omega arith) k in
+      let middle = calls_bounded number low names inner few numbers.1 (omega arith) head in
       let end = end_bounded (has_calls inner) middle in
-      bound_raised (calls_bounded names others few numbers.2 (omega arith) end) (omega arith)
+      bound_raised (calls_bounded number low names others few numbers.2 (omega arith) end) (omega arith)
 
   -- ---- functions
 
-  function_bounded : (names : List (List ℕ)) {m : ℕ} {st : EmittedUnit} (f : FunctionPart)
+  function_bounded : (number : ℕ → ℕ) (low : (i : ℕ) → number i < 2 ^ 64) (names : List (List ℕ)) {m : ℕ} {st : EmittedUnit} (f : FunctionPart)
       → 65 + 9 * length names < 2 ^ 31 → AllCounted f.calls → m + function_most f < 2 ^ 31
-      → IsUnitBounded e is_big m st → IsUnitBounded e is_big (m + function_most f) (with_function names f st)
-  function_bounded names {m} {st} f few numbers fits k =
+      → IsUnitBounded e is_big m st → IsUnitBounded e is_big (m + function_most f) (with_function number names f st)
+  function_bounded number low names {m} {st} f few numbers fits k =
       let name_low = text_low f.name st m k.texts_few in
       let name_fits : text_offset f.name st < 2 ^ 31 = omega arith in
       let list_few = k.ranges_few in
@@ -227,19 +226,19 @@ module _ (e : Encoding) (is_big : Bool) (narrow : e.address_size ≤ 8) where
         (fits_word e.format (text_offset f.name st) name_fits, name_fits),
         ((fits_word e.format (list_offset st) list_fits, list_fits, refl), tt),
       ) (list_bounded f.ranges (name_bounded f.name k))) (omega arith) in
-      bound_raised (end_bounded (has_calls f.calls) (calls_bounded names f.calls few numbers (omega arith) head))
+      bound_raised (end_bounded (has_calls f.calls) (calls_bounded number low names f.calls few numbers (omega arith) head))
       (omega arith)
 
-  pub functions_bounded : (names : List (List ℕ)) (fs : List FunctionPart) {m : ℕ} {st : EmittedUnit}
+  pub functions_bounded : (number : ℕ → ℕ) (low : (i : ℕ) → number i < 2 ^ 64) (names : List (List ℕ)) (fs : List FunctionPart) {m : ℕ} {st : EmittedUnit}
       → 65 + 9 * length names < 2 ^ 31 → AllFunctionsCounted fs
       → m + sum_by function_most fs < 2 ^ 31 → IsUnitBounded e is_big m st
-      → IsUnitBounded e is_big (m + sum_by function_most fs) (with_functions names fs st)
+      → IsUnitBounded e is_big (m + sum_by function_most fs) (with_functions number names fs st)
   unfolding AllFunctionsCounted
-  functions_bounded names [] {m} {st} few numbers fits k = bound_raised k (omega arith)
-  functions_bounded names (f ∷ fs) {m} {st} few numbers fits k =
+  functions_bounded number low names [] {m} {st} few numbers fits k = bound_raised k (omega arith)
+  functions_bounded number low names (f ∷ fs) {m} {st} few numbers fits k =
       let whole = sum_by-cons function_most f fs in
       bound_raised
-      (functions_bounded names fs few numbers.1 (omega arith) (function_bounded names f few numbers.0 (omega arith) k))
+      (functions_bounded number low names fs few numbers.1 (omega arith) (function_bounded number low names f few numbers.0 (omega arith) k))
       (omega arith)
 
   -- ---- abstract functions
@@ -260,10 +259,10 @@ module _ (e : Encoding) (is_big : Bool) (narrow : e.address_size ≤ 8) where
 
   -- ---- a unit
 
-  pub unit_is_bounded : {m : ℕ} {st : EmittedUnit} (line_program : ℕ) (u : UnitPart) → AllFunctionsCounted u.functions
-      → line_program < 2 ^ 31 → m + unit_most u < 2 ^ 31 → IsUnitBounded e is_big m st
-      → IsUnitBounded e is_big (m + unit_most u) (with_unit line_program u st)
-  unit_is_bounded {m} {st} line_program u numbers program_fits fits k =
+  pub unit_is_bounded : {m : ℕ} {st : EmittedUnit} (number : ℕ → ℕ) (line_program : ℕ) (u : UnitPart)
+      → ((i : ℕ) → number i < 2 ^ 64) → AllFunctionsCounted u.functions → line_program < 2 ^ 31 → m + unit_most u < 2 ^ 31 → IsUnitBounded e is_big m st
+      → IsUnitBounded e is_big (m + unit_most u) (with_unit number line_program u st)
+  unit_is_bounded {m} {st} number line_program u low numbers program_fits fits k =
       let name_low = text_low u.name st m k.texts_few in
       let name_fits : text_offset u.name st < 2 ^ 31 = omega arith in
       let after_name = name_bounded u.name k in
@@ -295,5 +294,5 @@ module _ (e : Encoding) (is_big : Bool) (narrow : e.address_size ≤ 8) where
       let few : 65 + 9 * length names < 2 ^ 31 = omega arith in
       bound_raised
       (entry_bounded EndOfChildren tt
-      (functions_bounded names u.functions few numbers (omega arith) (abstract_bounded names (omega arith) root)))
+      (functions_bounded number low names u.functions few numbers (omega arith) (abstract_bounded names (omega arith) root)))
       (omega arith)

@@ -82,10 +82,10 @@ pub record IsWithin (n : ℕ) (r : Result (List ℕ) Error) : Type 0 where
   pub are : r ≡ Ok bytes
   pub few : length bytes ≤ n
 
-bytes_within : (n : ℕ) (bytes : List ℕ) → length bytes ≤ n → IsWithin n (Ok bytes)
+pub bytes_within : (n : ℕ) (bytes : List ℕ) → length bytes ≤ n → IsWithin n (Ok bytes)
 bytes_within n bytes h = record { bytes = bytes; are = refl; few = h }
 
-joined_within : {a b : Result (List ℕ) Error} (m n limit : ℕ) → IsWithin m a → IsWithin n b → m + n ≤ limit
+pub joined_within : {a b : Result (List ℕ) Error} (m n limit : ℕ) → IsWithin m a → IsWithin n b → m + n ≤ limit
     → IsWithin limit (join_bytes a b)
 joined_within {a} {b} m n limit g h fits = record {
   bytes = g.bytes ++ h.bytes;
@@ -93,7 +93,7 @@ joined_within {a} {b} m n limit g h fits = record {
   few = let l = length-append g.bytes h.bytes in let p = g.few in let q = h.few in omega arith;
 }
 
-sized_within : (is_big : Bool) (size n : ℕ) → is_address_size size ≡ true → n < 2 ^ (8 * size)
+pub sized_within : (is_big : Bool) (size n : ℕ) → is_address_size size ≡ true → n < 2 ^ (8 * size)
     → IsWithin 8 (bytes_in_width is_big size n)
 sized_within is_big size n is_size low = record {
   bytes = number_bytes is_big size n;
@@ -109,18 +109,18 @@ address_within is_big size n is_size low =
     joined_within 3 8 11 (bytes_within 3 (0 ∷ (1 + size) ∷ 2 ∷ []) (omega arith))
     (sized_within is_big size n is_size low) (omega arith)
 
-module _ (e : Encoding) (is_big : Bool) (is_size : is_address_size e.address_size ≡ true) where
+module _ (e : Encoding) (is_big : Bool) (is_size : is_address_size e.address_size ≡ true) (place : ℕ → ℕ) where
   rows_within : (m begin offset : ℕ) (previous : LineRow) (rs : List RowPart) (rest : List LineEntry)
       → IsWithin m (entries_bytes constant_of is_big (emitted_rules e) (first_row (emitted_rules e)) rest)
       → IsWithin (160 * length rs + (26 + m))
       (entries_bytes constant_of is_big (emitted_rules e) previous
-      (emitted_rows begin rs ++ EndSequence offset 0 ∷ rest))
+      (emitted_rows place begin rs ++ EndSequence offset 0 ∷ rest))
   rows_within m begin offset previous [] rest h =
       joined_within 26 m _ (bytes_within 26 _ (end_few (emitted_rules e) previous offset 0)) h (omega arith)
   rows_within m begin offset previous (r ∷ rs) rest h =
       joined_within 160 (160 * length rs + (26 + m)) _
-      (bytes_within 160 _ (row_few (emitted_rules e) previous (emitted_row begin r)))
-      (rows_within m begin offset (row_after_row (emitted_row begin r)) rs rest h) (omega arith)
+      (bytes_within 160 _ (row_few (emitted_rules e) previous (emitted_row place begin r)))
+      (rows_within m begin offset (row_after_row (emitted_row place begin r)) rs rest h) (omega arith)
 
   -- a first row whose address is one of the size
   FirstIsLow : List RowPart → Type 0
@@ -131,14 +131,14 @@ module _ (e : Encoding) (is_big : Bool) (is_size : is_address_size e.address_siz
       → IsWithin m (entries_bytes constant_of is_big (emitted_rules e) (first_row (emitted_rules e)) rest)
       → IsWithin ((64 + 160 * length rs) + m)
       (entries_bytes constant_of is_big (emitted_rules e) (first_row (emitted_rules e))
-      (emitted_sequence (record { rows = rs; end = end }) ++ rest))
+      (emitted_sequence place (record { rows = rs; end = end }) ++ rest))
   unfolding FirstIsLow
   sequence_within m end [] rest low h = record { bytes = h.bytes; are = h.are; few = let few = h.few in omega arith }
   sequence_within m end (r ∷ rs) rest low h =
       subst (λ es. IsWithin ((64 + 160 * length (r ∷ rs)) + m)
       (join_bytes (address_entry is_big e.address_size (Ok r.address))
       (entries_bytes constant_of is_big (emitted_rules e) (row_at_address (first_row (emitted_rules e))) es)))
-      (sym (append_assoc (emitted_rows r.address (r ∷ rs)) (EndSequence (end - r.address) 0 ∷ []) rest))
+      (sym (append_assoc (emitted_rows place r.address (r ∷ rs)) (EndSequence (end - r.address) 0 ∷ []) rest))
       (joined_within 11 (160 * length (r ∷ rs) + (26 + m)) _
       (address_within is_big e.address_size r.address is_size low)
       (rows_within m r.address (end - r.address) (row_at_address (first_row (emitted_rules e))) (r ∷ rs) rest h)
@@ -146,13 +146,13 @@ module _ (e : Encoding) (is_big : Bool) (is_size : is_address_size e.address_siz
 
   pub sequences_within : (ss : List SequencePart) → AllCanBuild e.address_size ss
       → IsWithin (sum_by sequence_weight ss)
-      (entries_bytes constant_of is_big (emitted_rules e) (first_row (emitted_rules e)) (emitted_sequences ss))
+      (entries_bytes constant_of is_big (emitted_rules e) (first_row (emitted_rules e)) (emitted_sequences place ss))
   unfolding AllCanBuild CanBuild FirstIsLow
   sequences_within [] all = bytes_within 0 [] (omega arith)
   sequences_within (s ∷ ss) all =
       let known = all.0 in
       subst (λ n. IsWithin n
-      (entries_bytes constant_of is_big (emitted_rules e) (first_row (emitted_rules e)) (emitted_sequences (s ∷ ss))))
+      (entries_bytes constant_of is_big (emitted_rules e) (first_row (emitted_rules e)) (emitted_sequences place (s ∷ ss))))
       (sym (sum_by-cons sequence_weight s ss))
-      (sequence_within (sum_by sequence_weight ss) s.end s.rows (emitted_sequences ss)
+      (sequence_within (sum_by sequence_weight ss) s.end s.rows (emitted_sequences place ss)
       (subst FirstIsLow (sym known.rows) known.ascend.1) (sequences_within ss all.1))

@@ -1,3 +1,6 @@
+pub use Rattle.linemap_emit_units.proofs.UnitProgramsRead
+pub use Rattle.linemap_emit_units.proofs.BuiltUnits
+pub use Rattle.linemap_emit_units.proofs.PlacedFiles
 pub use Rattle.linemap_emit_units.proofs.EmittedRowsBuilt
 pub use Rattle.linemap_emit_units.proofs.EmittedCallLemmas
 pub mod NumberSizes
@@ -5,7 +8,8 @@ pub mod StringSectionSizes
 pub mod InstructionSizes
 pub mod EntryListSizes
 pub mod InlinedNameSizes
-pub mod HeaderSizes
+pub mod FileTableSizes
+pub mod LineProgramSizes
 pub mod EntrySizes
 pub mod SoundUnitFits
 pub mod EmittedUnitSizes

@@ -1,19 +1,18 @@
 -- What no condition refuses of a unit can be emitted.
 use Rattle.std.proofs.Common.{All, ◌≡◌, ℕ, ◌+◌, ◌-◌, ◌<◌, ◌≤◌, ◌^◌, Bool, true, false, ◌||◌, ◌==◌, nat_lt, nat_le, List, [], ◌∷◌, length, map, get_or, arith}
 use Rattle.std.specs.List.{list_any}
-use Rattle.std.proofs.lemmas.Bool.{both_ways, eq-eqb, eqb-false, ltb-false, leb-false, not-true, or_parts}
+use Rattle.std.proofs.lemmas.Bool.{both_ways, eq-eqb, eqb-false, ltb-false, leb-false, not-true, not-false, or_parts}
 use Rattle.std.proofs.lemmas.List.Folds.{list_any_at}
-use Rattle.std.proofs.lemmas.List.Elements.{All-nil, All-cons}
 use Rattle.linemap_emit_units.specs.StringSections.{IsText}
 use Rattle.linemap_emit_units.specs.TableParts.{RangePart, FilePart, Site, Calls, no_calls, more_calls, FunctionPart, UnitPart}
-use Rattle.linemap_emit_units.specs.Conditions.{IsSound, any_call, is_empty_range, range_out_of_bounds, is_out_of_bounds, sequence_out_of_bounds, has_empty_range, has_out_of_bounds, is_bad_number, has_bad_line_or_column, has_bad_file_number, is_bad_text, has_bad_text}
+use Rattle.linemap_emit_units.specs.Conditions.{IsSound, any_call, is_empty_range, range_out_of_bounds, is_out_of_bounds, sequence_out_of_bounds, has_empty_range, has_out_of_bounds, is_bad_number, has_bad_line_or_column, has_bad_file_number, is_bad_text, has_bad_text, is_not_rooted}
 use Rattle.linemap_emit_units.specs.EncodingFits.{least_tombstone, any_address, fits}
-use Rattle.linemap_emit_units.specs.Rule.TheVariants.{EmptyRange, Bounds, LineOrColumn, FileNumber, Text}
+use Rattle.linemap_emit_units.specs.Rule.TheVariants.{EmptyRange, Bounds, LineOrColumn, FileNumber, Text, NotRooted}
 use Rattle.linemap_emit_units.proofs.SoundSequenceLemmas.{is_high}
 use Rattle.linemap_emit_units.proofs.SoundUnits.{sound_rule}
 use Rattle.linemap_emit_units.specs.EmittedRanges.{AllWritable}
-use Rattle.linemap_emit_units.specs.EmittedHeaders.{IsTableText, IsTableText, IsTableFile}
-use Rattle.linemap_emit_units.specs.EmittedPrograms.{directories_of, files_from, files_of}
+use Rattle.linemap_emit_units.specs.FilePaths.{is_rooted}
+use Rattle.linemap_emit_units.specs.EmittedFiles.{IsTableText, AllTableTexts, HasTableTexts}
 use Rattle.linemap_emit_units.specs.InlinedNames.{inlined_names}
 use Rattle.linemap_emit_units.specs.UnitEmission.{CanEmitCalls, CanEmitFunctions, CanEmitUnit}
 use Rattle.linemap_emit_fits.proofs.EntrySizes.{AllCounted, AllFunctionsCounted}
@@ -29,7 +28,7 @@ text_is text good i d within e =
 entry_is : (text : List ℕ) → is_bad_text text ≡ false → IsTableText text
 entry_is text good =
     let parts = or_parts (length text == 0) (list_any (λ b. b == 0) text) good in
-    (eqb-false (length text) 0 parts.0, parts.1)
+    (text_is text good, eqb-false (length text) 0 parts.0)
 
 -- ---- ranges
 
@@ -87,11 +86,10 @@ call_parts test s inner others h =
     let front = or_parts (test s) (any_call test inner) outer.0 in
     record { here = front.0; within = front.1; after = outer.1 }
 
-calls_can : (size files : ℕ) (cs : Calls) → files < 2 ^ 64 → ArePlain size files cs
-    → CanEmitCalls size cs × AllCounted cs
+calls_can : (size files : ℕ) (cs : Calls) → ArePlain size files cs → CanEmitCalls size files cs × AllCounted cs
 unfolding CanEmitCalls AllCounted
-calls_can size files no_calls few plain = (tt, tt)
-calls_can size files (more_calls s inner others) few plain =
+calls_can size files no_calls plain = (tt, tt)
+calls_can size files (more_calls s inner others) plain =
     let a = call_parts (λ s. list_any is_empty_range s.ranges) s inner others plain.empty in
     let b = call_parts (λ s. list_any range_out_of_bounds s.ranges) s inner others plain.bounds in
     let h = call_parts (λ s. list_any (range_is_high size) s.ranges) s inner others plain.fits_size in
@@ -100,9 +98,8 @@ calls_can size files (more_calls s inner others) few plain =
     let t = call_parts (λ c. is_bad_text c.name) s inner others plain.texts in
     let numbers = or_parts (is_bad_number s.line) (is_bad_number s.column) c.here in
     let file = leb-false files s.file d.here in
-    let file_low : s.file + 1 < 2 ^ 64 = omega arith in
     let i =
-    calls_can size files inner few
+    calls_can size files inner
     (record {
       empty = a.within;
       bounds = b.within;
@@ -112,7 +109,7 @@ calls_can size files (more_calls s inner others) few plain =
       texts = t.within;
     }) in
     let o =
-    calls_can size files others few
+    calls_can size files others
     (record {
       empty = a.after;
       bounds = b.after;
@@ -121,9 +118,9 @@ calls_can size files (more_calls s inner others) few plain =
       files_are = d.after;
       texts = t.after;
     }) in (
-      ((text_is s.name t.here, writable size s.ranges a.here b.here h.here), file_low, i.0, o.0),
+      ((text_is s.name t.here, writable size s.ranges a.here b.here h.here), file, i.0, o.0),
       (
-        record { file = file_low; line = number_low s.line numbers.0; column = number_low s.column numbers.1 },
+        record { line = number_low s.line numbers.0; column = number_low s.column numbers.1 },
         i.1,
         o.1,
       ),
@@ -143,11 +140,11 @@ record FunctionsPlain (size files : ℕ) (fs : List FunctionPart) : Type 0 where
   files_are : list_any (λ f. any_call (λ c. nat_le files c.file) f.calls) fs ≡ false
   texts : list_any (λ f. is_bad_text f.name || any_call (λ c. is_bad_text c.name) f.calls) fs ≡ false
 
-functions_can : (size files : ℕ) (fs : List FunctionPart) → files < 2 ^ 64 → FunctionsPlain size files fs
-    → CanEmitFunctions size fs × AllFunctionsCounted fs
+functions_can : (size files : ℕ) (fs : List FunctionPart) → FunctionsPlain size files fs
+    → CanEmitFunctions size files fs × AllFunctionsCounted fs
 unfolding AllFunctionsCounted
-functions_can size files [] few plain = (tt, tt)
-functions_can size files (f ∷ fs) few plain =
+functions_can size files [] plain = (tt, tt)
+functions_can size files (f ∷ fs) plain =
     let a =
     or_parts _ (list_any (λ f. list_any is_empty_range f.ranges
     || any_call (λ s. list_any is_empty_range s.ranges) f.calls) fs) plain.empty in
@@ -173,7 +170,7 @@ functions_can size files (f ∷ fs) few plain =
     h.0 in
     let own_t = or_parts (is_bad_text f.name) (any_call (λ c. is_bad_text c.name) f.calls) t.0 in
     let calls =
-    calls_can size files f.calls few
+    calls_can size files f.calls
     (record {
       empty = own_a.1;
       bounds = own_b.1;
@@ -183,26 +180,22 @@ functions_can size files (f ∷ fs) few plain =
       texts = own_t.1;
     }) in
     let others =
-    functions_can size files fs few
+    functions_can size files fs
     (record { empty = a.1; bounds = b.1; fits_size = h.1; numbers = c.1; files_are = d.1; texts = t.1 }) in
     (((text_is f.name own_t.0, writable size f.ranges own_a.0 own_b.0 own_h.0), calls.0, others.0), (calls.1, others.1))
 
 -- ---- files
 
-files_can : (n : ℕ) (fs : List FilePart) → n + length fs ≤ 2 ^ 64
-    → list_any (λ (f : FilePart). is_bad_text f.directory || is_bad_text f.name) fs ≡ false
-    → All IsTableText (map (λ (f : FilePart). f.directory) fs) × All IsTableFile (files_from n fs)
-files_can n [] few good = (All-nil IsTableText, All-nil IsTableFile)
-files_can n (f ∷ fs) few good =
+files_can : (fs : List FilePart)
+    → list_any (λ (f : FilePart). is_bad_text f.directory || is_bad_text f.name) fs ≡ false → AllTableTexts fs
+unfolding AllTableTexts
+files_can [] good = tt
+files_can (f ∷ fs) good =
     let parts =
     or_parts (is_bad_text f.directory || is_bad_text f.name)
     (list_any (λ (f : FilePart). is_bad_text f.directory || is_bad_text f.name) fs) good in
     let own = or_parts (is_bad_text f.directory) (is_bad_text f.name) parts.0 in
-    let others = files_can (n + 1) fs (omega arith) parts.1 in (
-      All-cons IsTableText f.directory (map (λ (g : FilePart). g.directory) fs) (entry_is f.directory own.0) others.0,
-      All-cons IsTableFile (record { name = f.name; directory = n }) (files_from (n + 1) fs)
-          (entry_is f.name own.1, omega arith) others.1,
-    )
+    (entry_is f.directory own.0, entry_is f.name own.1, files_can fs parts.1)
 
 -- ---- units
 
@@ -214,17 +207,18 @@ pub record IsPlain (size : ℕ) (u : UnitPart) : Type 0 where
   pub numbers : has_bad_line_or_column u ≡ false
   pub files_are : has_bad_file_number u ≡ false
   pub texts : has_bad_text u ≡ false
+  pub rooted : is_not_rooted u ≡ false
 
 -- what can be emitted of it
 pub record CanEmitUnitSequences (size : ℕ) (u : UnitPart) : Type 0 where
   pub can_emit : CanEmitUnit size u
   pub numbers_fit : AllFunctionsCounted u.functions
-  pub all_directories : All IsTableText (directories_of u)
-  pub all_files : All IsTableFile (files_of u)
+  pub table_texts : HasTableTexts u
+  pub rooted : is_rooted u.directory ≡ true
 
-pub plain_can_emit : (size : ℕ) (u : UnitPart) → length u.files < 2 ^ 64 → length (inlined_names u) < 2 ^ 31
-    → IsPlain size u → CanEmitUnitSequences size u
-plain_can_emit size u few few_names plain =
+pub plain_can_emit : (size : ℕ) (u : UnitPart) → length (inlined_names u) < 2 ^ 31 → IsPlain size u
+    → CanEmitUnitSequences size u
+plain_can_emit size u few_names plain =
     let empty = or_parts (list_any is_empty_range u.ranges) _ plain.empty in
     let bounds = or_parts _ (list_any sequence_out_of_bounds u.sequences) plain.bounds in
     let range_bounds = or_parts (list_any range_out_of_bounds u.ranges) _ bounds.0 in
@@ -244,7 +238,7 @@ plain_can_emit size u few few_names plain =
     let own = or_parts _ (list_any (λ (f : FilePart). is_bad_text f.directory || is_bad_text f.name) u.files) texts.0 in
     let names = or_parts (is_bad_text u.directory) (is_bad_text u.name) own.0 in
     let functions =
-    functions_can size (length u.files) u.functions few
+    functions_can size (length u.files) u.functions
     (record {
       empty = empty.1;
       bounds = range_bounds.1;
@@ -253,7 +247,6 @@ plain_can_emit size u few few_names plain =
       files_are = files.1;
       texts = texts.1;
     }) in
-    let tables = files_can 1 u.files (omega arith) own.1 in
     record {
       can_emit = (
         text_is u.directory names.0,
@@ -262,8 +255,12 @@ plain_can_emit size u few few_names plain =
         few_names,
       );
       numbers_fit = functions.1;
-      all_directories = tables.0;
-      all_files = tables.1;
+      table_texts = record {
+        directory = entry_is u.directory names.0;
+        name = entry_is u.name names.1;
+        files = files_can u.files own.1;
+      };
+      rooted = not-false (is_rooted u.directory) plain.rooted;
     }
 
 -- ---- a table
@@ -275,18 +272,27 @@ AllPlain size (u ∷ us) = IsPlain size u × AllPlain size us
 all_plain : (size : ℕ) (us : List UnitPart) → list_any has_empty_range us ≡ false
     → list_any has_out_of_bounds us ≡ false → list_any (any_address (is_high size)) us ≡ false
     → list_any has_bad_line_or_column us ≡ false → list_any has_bad_file_number us ≡ false
-    → list_any has_bad_text us ≡ false → AllPlain size us
+    → list_any has_bad_text us ≡ false → list_any is_not_rooted us ≡ false → AllPlain size us
 unfolding AllPlain
-all_plain size [] a b h c d t = tt
-all_plain size (u ∷ us) a b h c d t =
+all_plain size [] a b h c d t r = tt
+all_plain size (u ∷ us) a b h c d t r =
+    let pr = or_parts (is_not_rooted u) (list_any is_not_rooted us) r in
     let ph = or_parts (any_address (is_high size) u) (list_any (any_address (is_high size)) us) h in
     let pa = or_parts (has_empty_range u) (list_any has_empty_range us) a in
     let pb = or_parts (has_out_of_bounds u) (list_any has_out_of_bounds us) b in
     let pc = or_parts (has_bad_line_or_column u) (list_any has_bad_line_or_column us) c in
     let pd = or_parts (has_bad_file_number u) (list_any has_bad_file_number us) d in
     let pt = or_parts (has_bad_text u) (list_any has_bad_text us) t in (
-      record { empty = pa.0; bounds = pb.0; fits_size = ph.0; numbers = pc.0; files_are = pd.0; texts = pt.0 },
-      all_plain size us pa.1 pb.1 ph.1 pc.1 pd.1 pt.1,
+      record {
+        empty = pa.0;
+        bounds = pb.0;
+        fits_size = ph.0;
+        numbers = pc.0;
+        files_are = pd.0;
+        texts = pt.0;
+        rooted = pr.0;
+      },
+      all_plain size us pa.1 pb.1 ph.1 pc.1 pd.1 pt.1 pr.1,
     )
 
 pub sound_is_plain : (size : ℕ) (us : List UnitPart) → IsSound us → fits size us ≡ true → AllPlain size us
@@ -294,3 +300,4 @@ sound_is_plain size us sound fitting =
     all_plain size us (sound_rule us EmptyRange sound) (sound_rule us Bounds sound)
     (not-true (list_any (any_address (is_high size)) us) fitting) (sound_rule us LineOrColumn sound)
     (sound_rule us FileNumber sound) (sound_rule us Text sound)
+    (sound_rule us NotRooted sound)

@@ -1,3 +1,7 @@
+pub use Rattle.linemap_emit_units.specs.LineStrings
+pub use Rattle.linemap_emit_units.specs.BuiltPrograms
+pub use Rattle.linemap_emit_units.specs.FileId
+pub use Rattle.linemap_emit_units.specs.EmittedFiles
 pub use Rattle.linemap_emit_units.specs.FormatSizes
 pub use Rattle.linemap_emit_units.specs.NumberParsers
 pub use Rattle.linemap_emit_units.specs.Encoding
@@ -16,7 +20,6 @@ pub use Rattle.linemap_emit_units.specs.RowPieces
 pub use Rattle.linemap_emit_units.specs.StringSections
 pub use Rattle.linemap_emit_units.specs.EmittedEntries
 pub use Rattle.linemap_emit_units.specs.EmittedEntryLaws
-pub use Rattle.linemap_emit_units.specs.EmittedHeaders
 pub use Rattle.linemap_emit_units.specs.EmittedRanges
 pub use Rattle.linemap_emit_units.specs.EmittedUnits
 pub use Rattle.linemap_emit_units.specs.WriteResults

@@ -4,7 +4,7 @@
 pub mod fit_laws;
 
 pub use linemap_emit_units::{
-    Encoding, EndianVec, Error, Format, LineEncoding, LineRules, RunTimeEndian, SectionId,
-    UnitEmitter, Writer, entries_of, write_declarations, write_entries, write_lists_header,
-    write_program, write_unit,
+    Encoding, EndianVec, Error, FileId, Format, LineStringTable, RunTimeEndian, SectionId,
+    UnitEmitter, Writer, unit_program, write_declarations, write_lists_header, write_program,
+    write_unit,
 };

@@ -9,7 +9,9 @@ use Rattle.linemap_emit_units.specs.Entry.TheVariants.{CompileUnit, AbstractFunc
 use Rattle.linemap_emit_units.specs.EmittedRanges.{spelled_ranges}
 use Rattle.linemap_emit_units.specs.InlinedNames.{inlined_names}
 use Rattle.linemap_emit_units.specs.UnitEmission.{EmittedUnit, text_offset, list_offset, with_name, with_list, with_entry, has_calls, with_end_of_children, with_abstract_functions, origin_of, with_call, with_calls, with_function_entry, with_function, with_functions, with_unit_entry, with_unit}
-use Rattle.linemap_emit_units.specs.TableEmission.{EmittedTable, program_of, before_entries, after_entries, with_emitted_unit, with_emitted_units}
+use Rattle.linemap_emit_units.specs.TableEmission.{EmittedTable, before_entries, after_entries, with_emitted_unit, with_emitted_units, number_of}
+use Rattle.linemap_emit_units.specs.EmittedPrograms.{line_program_bytes, bytes_if_any}
+use Rattle.linemap_emit_units.proofs.SoundFiles.{unit_texts_extend}
 use Rattle.linemap_emit_units.specs.LookupAgreement.{lookup_range}
 
 -- texts keep their places, and begin where they did
@@ -120,68 +122,70 @@ abstract_grow (name ∷ names) a =
     (grows_on named next (with_abstract_functions names next) (entry_grows (AbstractFunction (text_offset name a)) named)
     (abstract_grow names next))
 
-pub call_grows : (names : List (List ℕ)) (children : Bool) (site : Site) (a : EmittedUnit)
-    → Grows a (with_call names children site a)
-call_grows names children site a =
+pub call_grows : (number : ℕ → ℕ) (names : List (List ℕ)) (children : Bool) (site : Site) (a : EmittedUnit)
+    → Grows a (with_call number names children site a)
+call_grows number names children site a =
     let listed = with_list site.ranges a in
-    let x = Call children (origin_of a.encoding names site.name) (list_offset a) (site.file + 1) site.line site.column in
+    let x = Call children (origin_of a.encoding names site.name) (list_offset a) (number site.file) site.line site.column in
     grows_on a listed (with_entry x listed) (list_grows site.ranges a) (entry_grows x listed)
 
-pub calls_grow : (names : List (List ℕ)) (cs : Calls) (a : EmittedUnit) → Grows a (with_calls names cs a)
+pub calls_grow : (number : ℕ → ℕ) (names : List (List ℕ)) (cs : Calls) (a : EmittedUnit) → Grows a (with_calls number names cs a)
 unfolding with_calls
-calls_grow names no_calls a = grows_by_nothing a
-calls_grow names (more_calls site inner others) a =
-    let head = with_call names (has_calls inner) site a in
-    let within = with_calls names inner head in
+calls_grow number names no_calls a = grows_by_nothing a
+calls_grow number names (more_calls site inner others) a =
+    let head = with_call number names (has_calls inner) site a in
+    let within = with_calls number names inner head in
     let after = with_end_of_children (has_calls inner) within in
-    let whole = with_calls names others after in
-    grows_on a head whole (call_grows names (has_calls inner) site a)
-    (grows_on head within whole (calls_grow names inner head)
-    (grows_on within after whole (end_grows (has_calls inner) within) (calls_grow names others after)))
+    let whole = with_calls number names others after in
+    grows_on a head whole (call_grows number names (has_calls inner) site a)
+    (grows_on head within whole (calls_grow number names inner head)
+    (grows_on within after whole (end_grows (has_calls inner) within) (calls_grow number names others after)))
 
-pub function_grows : (names : List (List ℕ)) (f : FunctionPart) (a : EmittedUnit) → Grows a (with_function names f a)
-function_grows names f a =
+pub function_grows : (number : ℕ → ℕ) (names : List (List ℕ)) (f : FunctionPart) (a : EmittedUnit) → Grows a (with_function number names f a)
+function_grows number names f a =
     let head = with_function_entry f a in
-    let within = with_calls names f.calls head in
-    grows_on a head (with_function names f a)
+    let within = with_calls number names f.calls head in
+    grows_on a head (with_function number names f a)
     (attributes_grow f.name f.ranges (Function (has_calls f.calls) (text_offset f.name a) (list_offset a)) a)
-    (grows_on head within (with_function names f a) (calls_grow names f.calls head)
+    (grows_on head within (with_function number names f a) (calls_grow number names f.calls head)
     (end_grows (has_calls f.calls) within))
 
-pub functions_grow : (names : List (List ℕ)) (fs : List FunctionPart) (a : EmittedUnit)
-    → Grows a (with_functions names fs a)
-functions_grow names [] a = grows_by_nothing a
-functions_grow names (f ∷ fs) a =
-    grows_on a (with_function names f a) (with_functions names fs (with_function names f a)) (function_grows names f a)
-    (functions_grow names fs (with_function names f a))
+pub functions_grow : (number : ℕ → ℕ) (names : List (List ℕ)) (fs : List FunctionPart) (a : EmittedUnit)
+    → Grows a (with_functions number names fs a)
+functions_grow number names [] a = grows_by_nothing a
+functions_grow number names (f ∷ fs) a =
+    grows_on a (with_function number names f a) (with_functions number names fs (with_function number names f a)) (function_grows number names f a)
+    (functions_grow number names fs (with_function number names f a))
 
 -- what is emitted after the entry of a unit
-pub root_grows : (line_program : ℕ) (u : UnitPart) (a : EmittedUnit)
-    → Grows (with_unit_entry line_program u a) (with_unit line_program u a)
-root_grows line_program u a =
+pub root_grows : (number : ℕ → ℕ) (line_program : ℕ) (u : UnitPart) (a : EmittedUnit)
+    → Grows (with_unit_entry line_program u a) (with_unit number line_program u a)
+root_grows number line_program u a =
     let names = inlined_names u in
     let root = with_unit_entry line_program u a in
     let named = with_abstract_functions names root in
-    let after = with_functions names u.functions named in
+    let after = with_functions number names u.functions named in
     grows_on root named (with_entry EndOfChildren after) (abstract_grow names root)
-    (grows_on named after (with_entry EndOfChildren after) (functions_grow names u.functions named)
+    (grows_on named after (with_entry EndOfChildren after) (functions_grow number names u.functions named)
     (entry_grows EndOfChildren after))
 
 -- a unit
-pub unit_grows : (line_program : ℕ) (u : UnitPart) (a : EmittedUnit) → Grows a (with_unit line_program u a)
-unit_grows line_program u a =
+pub unit_grows : (number : ℕ → ℕ) (line_program : ℕ) (u : UnitPart) (a : EmittedUnit) → Grows a (with_unit number line_program u a)
+unit_grows number line_program u a =
     let named = with_name u.name a in
     let root = with_unit_entry line_program u a in
     let x = CompileUnit (text_offset u.name a) (text_offset u.directory named) line_program (list_offset a) in
-    grows_on a root (with_unit line_program u a)
+    grows_on a root (with_unit number line_program u a)
     (grows_on a named root (name_grows u.name a) (attributes_grow u.directory u.ranges x named))
-    (root_grows line_program u a)
+    (root_grows number line_program u a)
 
 -- ---- units one after the other
 
 pub record Extends (a b : EmittedTable) : Type 0 where
   pub more_lines : List ℕ
   pub lines : b.lines ≡ a.lines ++ more_lines
+  pub more_line_texts : List (List ℕ)
+  pub line_texts : b.line_texts ≡ a.line_texts ++ more_line_texts
   pub texts : TextsStay a.texts b.texts
   pub more_ranges : List ℕ
   pub ranges : b.ranges ≡ a.ranges ++ more_ranges
@@ -191,6 +195,8 @@ extends_by_nothing a =
     record {
       more_lines = [];
       lines = sym (append-nil a.lines);
+      more_line_texts = [];
+      line_texts = sym (append-nil a.line_texts);
       texts = λ i t there. (there, refl);
       more_ranges = [];
       ranges = sym (append-nil a.ranges);
@@ -200,6 +206,10 @@ pub extends_on : (a b c : EmittedTable) → Extends a b → Extends b c → Exte
 extends_on a b c g h = record {
   more_lines = g.more_lines ++ h.more_lines;
   lines = h.lines ∙ ap (λ (l : List ℕ). l ++ h.more_lines) g.lines ∙ append_assoc a.lines g.more_lines h.more_lines;
+  more_line_texts = g.more_line_texts ++ h.more_line_texts;
+  line_texts =
+      h.line_texts ∙ ap (λ (l : List (List ℕ)). l ++ h.more_line_texts) g.line_texts
+      ∙ append_assoc a.line_texts g.more_line_texts h.more_line_texts;
   texts = texts_stay_on a.texts b.texts c.texts g.texts h.texts;
   more_ranges = g.more_ranges ++ h.more_ranges;
   ranges =
@@ -209,10 +219,13 @@ extends_on a b c g h = record {
 unit_extends : (e : Encoding) (is_big : Bool) (u : UnitPart) (a : EmittedTable)
     → Extends a (with_emitted_unit e is_big u a)
 unit_extends e is_big u a =
-    let grown = unit_grows (length a.lines) u (before_entries e is_big a) in
+    let grown = unit_grows (number_of e u a) (length a.lines) u (before_entries e is_big a) in
+    let line_texts = unit_texts_extend e u a.line_texts in
     record {
-      more_lines = program_of e is_big u;
+      more_lines = bytes_if_any (line_program_bytes e is_big u a.line_texts);
       lines = refl;
+      more_line_texts = line_texts.more;
+      line_texts = line_texts.are;
       texts = grown.texts;
       more_ranges = grown.more_ranges;
       ranges = grown.ranges;

@@ -61,23 +61,23 @@ entries_below limit e xs wide fit =
 -- ---- the entries
 
 -- what the entries of calls refer to
-unfoldable pub call_refs : List (List ℕ) → Calls → EmittedUnit → CallReferences
-call_refs names no_calls a = no_references
-call_refs names (more_calls site inner others) a =
-    let head = with_call names (has_calls inner) site a in
-    more_references (origin_of a.encoding names site.name) (list_offset a) (site.file + 1) (call_refs names inner head)
-    (call_refs names others (with_end_of_children (has_calls inner) (with_calls names inner head)))
+unfoldable pub call_refs : (ℕ → ℕ) → List (List ℕ) → Calls → EmittedUnit → CallReferences
+call_refs number names no_calls a = no_references
+call_refs number names (more_calls site inner others) a =
+    let head = with_call number names (has_calls inner) site a in
+    more_references (origin_of a.encoding names site.name) (list_offset a) (number site.file) (call_refs number names inner head)
+    (call_refs number names others (with_end_of_children (has_calls inner) (with_calls number names inner head)))
 
-abbrev pub function_refs : List (List ℕ) → FunctionPart → EmittedUnit → FunctionReferences
-function_refs names f a = record {
+abbrev pub function_refs : (ℕ → ℕ) → List (List ℕ) → FunctionPart → EmittedUnit → FunctionReferences
+function_refs number names f a = record {
   name = text_offset f.name a;
   range_list = list_offset a;
-  calls = call_refs names f.calls (with_function_entry f a);
+  calls = call_refs number names f.calls (with_function_entry f a);
 }
 
-unfoldable pub all_refs : List (List ℕ) → List FunctionPart → EmittedUnit → List FunctionReferences
-all_refs names [] a = []
-all_refs names (f ∷ fs) a = function_refs names f a ∷ all_refs names fs (with_function names f a)
+unfoldable pub all_refs : (ℕ → ℕ) → List (List ℕ) → List FunctionPart → EmittedUnit → List FunctionReferences
+all_refs number names [] a = []
+all_refs number names (f ∷ fs) a = function_refs number names f a ∷ all_refs number names fs (with_function number names f a)
 
 -- the names of abstract functions
 unfoldable pub abstract_texts : List (List ℕ) → EmittedUnit → List ℕ
@@ -90,50 +90,50 @@ end_entries : (b : Bool) (a : EmittedUnit) → (with_end_of_children b a).entrie
 end_entries true a = refl
 end_entries false a = sym (append-nil a.entries)
 
-pub call_entries : (names : List (List ℕ)) (cs : Calls) (a : EmittedUnit)
-    → (with_calls names cs a).entries ≡ a.entries ++ entries_of_calls cs (call_refs names cs a)
+pub call_entries : (number : ℕ → ℕ) (names : List (List ℕ)) (cs : Calls) (a : EmittedUnit)
+    → (with_calls number names cs a).entries ≡ a.entries ++ entries_of_calls cs (call_refs number names cs a)
 unfolding with_calls entries_of_calls call_refs
-call_entries names no_calls a = sym (append-nil a.entries)
-call_entries names (more_calls site inner others) a =
-    let head = with_call names (has_calls inner) site a in
-    let within = with_calls names inner head in
+call_entries number names no_calls a = sym (append-nil a.entries)
+call_entries number names (more_calls site inner others) a =
+    let head = with_call number names (has_calls inner) site a in
+    let within = with_calls number names inner head in
     let after = with_end_of_children (has_calls inner) within in
-    let own = entries_of_calls inner (call_refs names inner head) in
+    let own = entries_of_calls inner (call_refs number names inner head) in
     let end = end_of_children (has_calls inner) in
-    let last = entries_of_calls others (call_refs names others after) in
-    let x = Call (has_calls inner) (origin_of a.encoding names site.name) (list_offset a) (site.file + 1) site.line site.column in
-    call_entries names others after
+    let last = entries_of_calls others (call_refs number names others after) in
+    let x = Call (has_calls inner) (origin_of a.encoding names site.name) (list_offset a) (number site.file) site.line site.column in
+    call_entries number names others after
     ∙ ap (λ (l : List Entry). l ++ last) (end_entries (has_calls inner) within
-    ∙ ap (λ (l : List Entry). l ++ end) (call_entries names inner head))
+    ∙ ap (λ (l : List Entry). l ++ end) (call_entries number names inner head))
     ∙ regroup a.entries (x ∷ []) own end last
   where
     regroup : (a x i e o : List Entry) → (((a ++ x) ++ i) ++ e) ++ o ≡ a ++ (x ++ (i ++ (e ++ o)))
     regroup a x i e o = simp append_assoc
 
-function_entries : (names : List (List ℕ)) (f : FunctionPart) (a : EmittedUnit)
-    → (with_function names f a).entries ≡ a.entries ++ entries_of_function f (function_refs names f a)
-function_entries names f a =
+function_entries : (number : ℕ → ℕ) (names : List (List ℕ)) (f : FunctionPart) (a : EmittedUnit)
+    → (with_function number names f a).entries ≡ a.entries ++ entries_of_function f (function_refs number names f a)
+function_entries number names f a =
     let head = with_function_entry f a in
-    let own = entries_of_calls f.calls (call_refs names f.calls head) in
+    let own = entries_of_calls f.calls (call_refs number names f.calls head) in
     let end = end_of_children (has_calls f.calls) in
     let x = Function (has_calls f.calls) (text_offset f.name a) (list_offset a) in
-    end_entries (has_calls f.calls) (with_calls names f.calls head)
-    ∙ ap (λ (l : List Entry). l ++ end) (call_entries names f.calls head)
+    end_entries (has_calls f.calls) (with_calls number names f.calls head)
+    ∙ ap (λ (l : List Entry). l ++ end) (call_entries number names f.calls head)
     ∙ regroup a.entries (x ∷ []) own end
   where
     regroup : (a x i e : List Entry) → ((a ++ x) ++ i) ++ e ≡ a ++ (x ++ (i ++ e))
     regroup a x i e = simp append_assoc
 
-pub functions_entries : (names : List (List ℕ)) (fs : List FunctionPart) (a : EmittedUnit)
-    → (with_functions names fs a).entries ≡ a.entries ++ entries_of_functions fs (all_refs names fs a)
+pub functions_entries : (number : ℕ → ℕ) (names : List (List ℕ)) (fs : List FunctionPart) (a : EmittedUnit)
+    → (with_functions number names fs a).entries ≡ a.entries ++ entries_of_functions fs (all_refs number names fs a)
 unfolding entries_of_functions all_refs
-functions_entries names [] a = sym (append-nil a.entries)
-functions_entries names (f ∷ fs) a =
-    let next = with_function names f a in
-    functions_entries names fs next
-    ∙ ap (λ (l : List Entry). l ++ entries_of_functions fs (all_refs names fs next)) (function_entries names f a)
-    ∙ append_assoc a.entries (entries_of_function f (function_refs names f a))
-    (entries_of_functions fs (all_refs names fs next))
+functions_entries number names [] a = sym (append-nil a.entries)
+functions_entries number names (f ∷ fs) a =
+    let next = with_function number names f a in
+    functions_entries number names fs next
+    ∙ ap (λ (l : List Entry). l ++ entries_of_functions fs (all_refs number names fs next)) (function_entries number names f a)
+    ∙ append_assoc a.entries (entries_of_function f (function_refs number names f a))
+    (entries_of_functions fs (all_refs number names fs next))
 
 pub abstract_entries : (names : List (List ℕ)) (a : EmittedUnit)
     → (with_abstract_functions names a).entries ≡ a.entries ++ map AbstractFunction (abstract_texts names a)
@@ -265,67 +265,59 @@ module _ (e : Encoding) (is_big : Bool) (s : DwarfFile) (last : EmittedUnit) (fi
 
   -- ---- calls
 
-  module _ (names : List (List ℕ)) (all : List Entry)
+  module _ (number : ℕ → ℕ) (counts : (n : ℕ) → file_number e.version (number n) ≡ Some (number n))
+      (names : List (List ℕ)) (all : List Entry)
       (origins : (t : List ℕ) → IsAmong names t → HasOrigin e s all (origin_of e names t) t) where
-    file_counts : (n : ℕ) → file_number e.version (n + 1) ≡ Some (n + 1)
-    file_counts n =
-        ap (λ b. cond (nat_lt e.version 5 && b) None (Some (n + 1))) (ne_eqb (n + 1) 0 (omega arith))
-        ∙ by (nat_lt e.version 5)
-      where
-        by : (b : Bool) → cond {A = Option ℕ} (b && false) None (Some (n + 1)) ≡ Some (n + 1)
-        by true = refl
-        by false = refl
-
-    calls_recorded : (cs : Calls) (a : EmittedUnit) → Grows (with_calls names cs a) last
-        → CanEmitCalls e.address_size cs → NamesAre (IsAmong names) cs
-        → RecordsCalls e s (λ i. i + 1) all cs (call_refs names cs a)
+    calls_recorded : (files : ℕ) (cs : Calls) (a : EmittedUnit) → Grows (with_calls number names cs a) last
+        → CanEmitCalls e.address_size files cs → NamesAre (IsAmong names) cs
+        → RecordsCalls e s number all cs (call_refs number names cs a)
     unfolding with_calls CanEmitCalls NamesAre RecordsCalls call_refs
-    calls_recorded no_calls a g can among = tt
-    calls_recorded (more_calls site inner others) a g can among =
+    calls_recorded files no_calls a g can among = tt
+    calls_recorded files (more_calls site inner others) a g can among =
         let listed = with_list site.ranges a in
-        let head = with_call names (has_calls inner) site a in
-        let within = with_calls names inner head in
+        let head = with_call number names (has_calls inner) site a in
+        let within = with_calls number names inner head in
         let after = with_end_of_children (has_calls inner) within in
-        let whole = with_calls names others after in
-        let after_grows = grows_on after whole last (calls_grow names others after) g in
+        let whole = with_calls number names others after in
+        let after_grows = grows_on after whole last (calls_grow number names others after) g in
         let within_grows = grows_on within after last (end_grows (has_calls inner) within) after_grows in
-        let head_grows = grows_on head within last (calls_grow names inner head) within_grows in
-        let x = Call (has_calls inner) (origin_of a.encoding names site.name) (list_offset a) (site.file + 1) site.line site.column in
+        let head_grows = grows_on head within last (calls_grow number names inner head) within_grows in
+        let x = Call (has_calls inner) (origin_of a.encoding names site.name) (list_offset a) (number site.file) site.line site.column in
         let listed_grows = grows_on listed head last (entry_grows x listed) head_grows in
         let own_encoding : a.encoding ≡ e = sym listed_grows.same_encoding ∙ encoding in (
           record {
             has_origin = subst (λ (c : Encoding). HasOrigin e s all (origin_of c names site.name) site.name)
                 (sym own_encoding) (origins site.name among.0);
             ranges_are = list_there a site.ranges listed_grows can.0.1;
-            file_is = file_counts site.file;
+            file_is = counts site.file;
           },
-          calls_recorded inner head within_grows can.2 among.1,
-          calls_recorded others after g can.3 among.2,
+          calls_recorded files inner head within_grows can.2 among.1,
+          calls_recorded files others after g can.3 among.2,
         )
 
     -- ---- functions
 
-    pub functions_recorded : (fs : List FunctionPart) (a : EmittedUnit) → Grows (with_functions names fs a) last
-        → CanEmitFunctions e.address_size fs → FunctionNamesAre (IsAmong names) fs
-        → AllRecorded e s (λ i. i + 1) all fs (all_refs names fs a)
+    pub functions_recorded : (files : ℕ) (fs : List FunctionPart) (a : EmittedUnit) → Grows (with_functions number names fs a) last
+        → CanEmitFunctions e.address_size files fs → FunctionNamesAre (IsAmong names) fs
+        → AllRecorded e s number all fs (all_refs number names fs a)
     unfolding AllRecorded all_refs
-    functions_recorded [] a g can among = tt
-    functions_recorded (f ∷ fs) a g can among =
+    functions_recorded files [] a g can among = tt
+    functions_recorded files (f ∷ fs) a g can among =
         let named = with_name f.name a in
         let listed = with_list f.ranges named in
         let head = with_function_entry f a in
-        let within = with_calls names f.calls head in
-        let after = with_function names f a in
+        let within = with_calls number names f.calls head in
+        let after = with_function number names f a in
         let x = Function (has_calls f.calls) (text_offset f.name a) (list_offset a) in
         let after_grows =
-        grows_on after (with_functions names fs after) last (functions_grow names fs after) g in
+        grows_on after (with_functions number names fs after) last (functions_grow number names fs after) g in
         let within_grows = grows_on within after last (end_grows (has_calls f.calls) within) after_grows in
-        let head_grows = grows_on head within last (calls_grow names f.calls head) within_grows in
+        let head_grows = grows_on head within last (calls_grow number names f.calls head) within_grows in
         let listed_grows = grows_on listed head last (entry_grows x listed) head_grows in (
           record {
             is_name = text_there a f.name (grows_on named listed last (list_grows f.ranges named) listed_grows);
             ranges_are = list_there named f.ranges listed_grows can.0.1;
-            calls_are = calls_recorded f.calls head within_grows can.1 among.0;
+            calls_are = calls_recorded files f.calls head within_grows can.1 among.0;
           },
-          functions_recorded fs after g can.2 among.1,
+          functions_recorded files fs after g can.2 among.1,
         )

@@ -14,7 +14,7 @@ use Rattle.linemap_emit_units.proofs.InlinedNameLemmas.{unit_texts}
 use Rattle.linemap_emit_units.specs.UnitEmission.{EmittedUnit, has_calls, with_end_of_children, with_abstract_functions, with_call, with_calls, with_function_entry, with_function, with_functions, with_unit_entry, with_unit, with_entry, with_name, text_offset, CanEmitFunctions, CanEmitUnit}
 use Rattle.linemap_emit_units.specs.Entry.TheVariants.{AbstractFunction}
 use Rattle.linemap_emit_calls_laws.specs.RecordedFunctions.{HasTextAt}
-use Rattle.linemap_emit_units.specs.TableEmission.{EmittedTable, before_entries, with_emitted_unit, with_emitted_units}
+use Rattle.linemap_emit_units.specs.TableEmission.{EmittedTable, number_of, before_entries, with_emitted_unit, with_emitted_units}
 use Rattle.linemap_emit_units.specs.FittingUnits.{AllUnitsFit}
 use Rattle.linemap_emit_laws.proofs.EmissionGrowth.{TextsStay}
 use Rattle.linemap_emit_units.specs.BytesAt.{bytes_at}
@@ -33,24 +33,24 @@ closed_holds : (b : Bool) (a : EmittedUnit) → All HasNoZero a.texts → All Ha
 closed_holds true a all = all
 closed_holds false a all = all
 
-calls_hold : (names : List (List ℕ)) (cs : Calls) (a : EmittedUnit) → All HasNoZero a.texts
-    → All HasNoZero (with_calls names cs a).texts
+calls_hold : (number : ℕ → ℕ) (names : List (List ℕ)) (cs : Calls) (a : EmittedUnit) → All HasNoZero a.texts
+    → All HasNoZero (with_calls number names cs a).texts
 unfolding with_calls
-calls_hold names no_calls a all = all
-calls_hold names (more_calls site inner others) a all =
-    let head = with_call names (has_calls inner) site a in
-    let within = with_calls names inner head in
-    calls_hold names others (with_end_of_children (has_calls inner) within)
-    (closed_holds (has_calls inner) within (calls_hold names inner head all))
+calls_hold number names no_calls a all = all
+calls_hold number names (more_calls site inner others) a all =
+    let head = with_call number names (has_calls inner) site a in
+    let within = with_calls number names inner head in
+    calls_hold number names others (with_end_of_children (has_calls inner) within)
+    (closed_holds (has_calls inner) within (calls_hold number names inner head all))
 
-functions_hold : (size : ℕ) (names : List (List ℕ)) (fs : List FunctionPart) (a : EmittedUnit)
-    → CanEmitFunctions size fs → All HasNoZero a.texts → All HasNoZero (with_functions names fs a).texts
-functions_hold size names [] a can all = all
-functions_hold size names (f ∷ fs) a can all =
+functions_hold : (size files : ℕ) (number : ℕ → ℕ) (names : List (List ℕ)) (fs : List FunctionPart) (a : EmittedUnit)
+    → CanEmitFunctions size files fs → All HasNoZero a.texts → All HasNoZero (with_functions number names fs a).texts
+functions_hold size files number names [] a can all = all
+functions_hold size files number names (f ∷ fs) a can all =
     let head = with_function_entry f a in
-    functions_hold size names fs (with_function names f a) can.2
-    (closed_holds (has_calls f.calls) (with_calls names f.calls head)
-    (calls_hold names f.calls head (text_holds a.texts f.name all can.0.0)))
+    functions_hold size files number names fs (with_function number names f a) can.2
+    (closed_holds (has_calls f.calls) (with_calls number names f.calls head)
+    (calls_hold number names f.calls head (text_holds a.texts f.name all can.0.0)))
 
 abstract_hold : (names : List (List ℕ)) (a : EmittedUnit) → All HasNoZero names → All HasNoZero a.texts
     → All HasNoZero (with_abstract_functions names a).texts
@@ -66,11 +66,11 @@ all_texts_hold texts (t ∷ ts) all are =
     all_texts_hold (with_text texts t) ts (text_holds texts t all (All-head HasNoZero t ts are))
     (All-tail HasNoZero t ts are)
 
-unit_holds : (size line_program : ℕ) (u : UnitPart) (a : EmittedUnit) → CanEmitUnit size u → All HasNoZero a.texts
-    → All HasNoZero (with_unit line_program u a).texts
-unit_holds size line_program u a can all =
+unit_holds : (size : ℕ) (number : ℕ → ℕ) (line_program : ℕ) (u : UnitPart) (a : EmittedUnit) → CanEmitUnit size u → All HasNoZero a.texts
+    → All HasNoZero (with_unit number line_program u a).texts
+unit_holds size number line_program u a can all =
     let root = with_unit_entry line_program u a in
-    functions_hold size (inlined_names u) u.functions (with_abstract_functions (inlined_names u) root) can.2
+    functions_hold size (length u.files) number (inlined_names u) u.functions (with_abstract_functions (inlined_names u) root) can.2
     (abstract_hold (inlined_names u) root
     (all_texts_hold [] (called_names u.functions) (All-nil HasNoZero) (unit_texts size u can))
     (text_holds (with_text a.texts u.name) u.directory (text_holds a.texts u.name all can.1.0) can.0))
@@ -81,7 +81,7 @@ unfolding with_emitted_units AllUnitsFit
 all_hold e is_big [] a fit all = all
 all_hold e is_big (u ∷ us) a fit all =
     all_hold e is_big us (with_emitted_unit e is_big u a) fit.1
-    (unit_holds e.address_size (length a.lines) u (before_entries e is_big a) fit.0.can_emit all)
+    (unit_holds e.address_size (number_of e u a) (length a.lines) u (before_entries e is_big a) fit.0.can_emit all)
 
 -- ---- a text that is added is in the section
 

@@ -1,6 +1,5 @@
 -- Units that were emitted say what the table's units say.
 use Rattle.std.proofs.Common.{◌≡◌, ℕ, ◌+◌, ◌≤◌, ◌^◌, Bool, List, [], ◌∷◌, ◌++◌, All, length, map, sym, ap, subst, ◌∙◌, arith, append_assoc}
-use Rattle.std.proofs.lemmas.Bool.{le-leb}
 use Rattle.std.proofs.lemmas.List.Elements.{All-head, All-nil}
 use Rattle.linemap_emit_units.specs.Encoding.{Encoding}
 use Rattle.linemap_emit_units.specs.StringSections.{IsText as HasNoZero, with_text}
@@ -13,19 +12,20 @@ use Rattle.linemap_emit_units.specs.EmittedUnits.{AllSmall}
 use Rattle.linemap_emit_units.specs.EmittedRanges.{lists_start, spelled_ranges}
 use Rattle.linemap_emit_units.proofs.EmittedRowsShown.{sequences_shown}
 use Rattle.linemap_emit_units.specs.EmittedRows.{emitted_rules}
-use Rattle.linemap_emit_units.specs.EmittedPrograms.{emitted_file_texts}
-use Rattle.linemap_emit_units.proofs.EmittedFileTexts.{numbered_again}
+use Rattle.linemap_emit_units.specs.EmittedFiles.{unit_files, unit_file_ids, place_in}
+use Rattle.linemap_emit_units.proofs.EmittedFileTexts.{unit_texts}
+use Rattle.linemap_emit_units.proofs.UnitProgramsRead.{program_rows, lines_are, numbered_are}
 use Rattle.linemap_emit_units.specs.UnitEmission.{EmittedUnit, text_offset, with_name, with_unit_entry}
 use Rattle.linemap_emit_calls_laws.specs.RecordedFunctions.{HasTextAt}
 use Rattle.linemap_emit_laws.proofs.EmittedFunctionUnits.{unit_entries, other_entries, functions_are_recorded}
 use Rattle.linemap_emit_laws.specs.RecordedTables.{RecordsUnit, RecordsUnits, RecordsTable}
 use Rattle.linemap_emit_units.specs.EmittedSections.{HoldTable}
-use Rattle.linemap_emit_units.specs.TableEmission.{EmittedTable, no_units, before_entries, after_entries, with_emitted_unit, with_emitted_units, emitted_table}
+use Rattle.linemap_emit_units.specs.TableEmission.{EmittedTable, no_units, number_of, before_entries, after_entries, with_emitted_unit, with_emitted_units, emitted_table}
 use Rattle.linemap_emit_units.specs.FittingUnits.{IsServed, UnitFits, AllUnitsFit, IsInUtf8, AllInUtf8}
 use Rattle.linemap_emit_laws.proofs.EmissionGrowth.{TextsStay, texts_stay_on, Grows, root_grows, Extends, extends_by_nothing, extends_on, all_extend, entries_of_all, units_are}
 use Rattle.linemap_emit_laws.proofs.EmittedStringLemmas.{text_stays, all_hold, text_is}
 use Rattle.linemap_emit_laws.proofs.EmittedListLemmas.{list_is}
-use Rattle.linemap_emit_laws.proofs.EmittedProgramLemmas.{length_fits, below_limit, program_read, program_is, rows_shown, lines_are}
+use Rattle.linemap_emit_laws.proofs.EmittedProgramLemmas.{length_fits, below_limit, buildable, program_read, program_is, texts_held}
 use Rattle.linemap_emit_units.specs.BytesAt.{bytes_at}
 use Rattle.linemap_emit_units.specs.LookupAgreement.{lookup_range}
 
@@ -66,20 +66,28 @@ unit_recorded e is_big u st final s served wide utf8 fit hold no_zeros extends =
       (grows.more_ranges ++ extends.more_ranges) final.ranges u.ranges served.has_address_size fit.can_emit.1.1
       hold.ranges_is hold.rnglists_is ranges_final encoding low;
   header =
-      program_read e is_big (length st.lines) hold.line_first u fit.instructions directory_there.found name_there.found;
+      program_read e is_big u st served fit (length st.lines) hold.line_first directory_there.found name_there.found;
   header_is =
       program_is e is_big hold.line_first u st s st.lines extends.more_lines directory_there.found
       name_there.found served wide fit (hold.line_is ∙ ap (bytes_at is_big hold.line_first) extends.lines);
-  number = λ i. i + 1;
-  rows = rows_shown e u;
-  files = emitted_file_texts u;
+  number = number_of e u st;
+  rows =
+      program_rows e is_big u st.line_texts fit.program (buildable e served) fit.table_texts fit.no_zeros fit.few_files
+      fit.can_emit_sequences fit.program_is;
+  files = unit_texts u (unit_files e u st.line_texts);
   lines_are =
-      λ facts within. lines_are e is_big (length st.lines) hold.line_first u st s facts directory_there.found
-      name_there.found served wide utf8 fit directory_there.bytes name_there.bytes within;
+      λ facts within. lines_are e is_big u st.line_texts fit.program (buildable e served) fit.table_texts fit.no_zeros
+      fit.few_files fit.can_emit_sequences fit.program_is s facts (length st.lines) (hold.line_first + length st.lines)
+      directory_there.found name_there.found wide
+      (texts_held is_big hold.line_str_first (unit_files e u st.line_texts).line_texts extends.more_line_texts
+      final.line_texts s.sections.debug_line_str hold.line_str_is extends.line_texts) directory_there.bytes
+      name_there.bytes within;
   rows_agree =
-      sequences_shown (emitted_rules e) u.sequences (le-leb e.version 4 served.not_after_4)
+      sequences_shown (emitted_rules e) (place_in (unit_file_ids e u st.line_texts)) (length u.files) u.sequences
       fit.can_emit_sequences.can_show;
-  files_numbered = numbered_again u;
+  files_numbered =
+      numbered_are e is_big u st.line_texts fit.program (buildable e served) fit.table_texts fit.no_zeros fit.few_files
+      fit.can_emit_sequences fit.program_is fit.rooted utf8.0 utf8.1;
   functions_are = functions_are_recorded e is_big u st final s served wide fit hold no_zeros extends;
 }
   where
@@ -90,7 +98,7 @@ unit_recorded e is_big u st final s served wide utf8 fit hold no_zeros extends =
     root = with_unit_entry (length st.lines) u before
 
     grows : Grows root (after_entries e is_big u st)
-    grows = root_grows (length st.lines) u before
+    grows = root_grows (number_of e u st) (length st.lines) u before
 
     name : ℕ
     name = text_offset u.name before
@@ -154,11 +162,10 @@ emission_recorded e is_big us s served wide utf8 fit hold =
     let final = emitted_table e is_big us in
     let whole = units_are e is_big us no_units in
     let no_zeros = all_hold e is_big us no_units fit (All-nil HasNoZero) in
-    let old = served.not_after_4 in
     record {
       encoding_is_written = record {
         not_before_2 = served.not_before_2;
-        not_after_5 = omega arith;
+        not_after_5 = served.not_after_5;
         has_address_size = served.has_address_size;
       };
       units_are_small =

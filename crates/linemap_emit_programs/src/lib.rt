@@ -1,14 +1,12 @@
-//! The line number programs of a table's units, and laws that a reader sees their rows again.
+//! The line number programs of a table's units.
 #![tactic(auto)]
 
-pub mod program_laws;
-pub mod programs;
-pub mod row_entries;
-pub mod row_laws;
+pub mod sequences;
+pub mod unit_programs;
 
-pub use linemap_emit_parts::{
-    Entry, abstract_offset, lists_start, write_declarations, write_lists_header, write_ranges, write_unit,
+pub use gimli_lines_write_program::{FileId, LineProgram, LineStringTable};
+pub use linemap_emit_rows::{
+    Entry, TableCall, TableFunction, TableRange, TableUnit, abstract_offset, lists_start,
+    write_declarations, write_lists_header, write_ranges, write_unit,
 };
-pub use linemap_places_laws::{TableCall, TableFunction, TableRange, TableUnit};
-pub use programs::write_program;
-pub use row_entries::entries_of;
+pub use unit_programs::{UnitProgram, unit_program, write_program};

@@ -40,15 +40,15 @@ closed_keeps : (b : Bool) (st : EmittedUnit) → (with_end_of_children b st).enc
 closed_keeps true st = refl
 closed_keeps false st = refl
 
-pub calls_keep : (names : List (List ℕ)) (cs : Calls) (st : EmittedUnit)
-    → (with_calls names cs st).encoding ≡ st.encoding
+pub calls_keep : (number : ℕ → ℕ) (names : List (List ℕ)) (cs : Calls) (st : EmittedUnit)
+    → (with_calls number names cs st).encoding ≡ st.encoding
 unfolding with_calls
-calls_keep names no_calls st = refl
-calls_keep names (more_calls site inner others) st =
-    let head = with_call names (has_calls inner) site st in
-    calls_keep names others (with_end_of_children (has_calls inner) (with_calls names inner head))
-    ∙ closed_keeps (has_calls inner) (with_calls names inner head)
-    ∙ calls_keep names inner head
+calls_keep number names no_calls st = refl
+calls_keep number names (more_calls site inner others) st =
+    let head = with_call number names (has_calls inner) site st in
+    calls_keep number names others (with_end_of_children (has_calls inner) (with_calls number names inner head))
+    ∙ closed_keeps (has_calls inner) (with_calls number names inner head)
+    ∙ calls_keep number names inner head
 
 pub abstract_keeps : (names : List (List ℕ)) (st : EmittedUnit)
     → (with_abstract_functions names st).encoding ≡ st.encoding
@@ -73,30 +73,30 @@ abstract_emitted names i name offset st st1 st2 final there place named entered 
 -- ---- one call of several
 
 -- the entries of a call, of those in it, and the end of them
-pub call_emitted : (size : ℕ) (names : List (List ℕ)) (c : TableCall) (rest : List TableCall)
+pub call_emitted : (size files : ℕ) (number : ℕ → ℕ) (names : List (List ℕ)) (c : TableCall) (rest : List TableCall)
     (st st1 st2 st3 final : EmittedUnit) (children : Bool)
-    → children ≡ has_calls (call_part c).inner → st1 ≡ with_call names children (call_part c).site st
-    → st2 ≡ with_calls names (calls_part (out-TableCall c).calls.items) st1
+    → children ≡ has_calls (call_part c).inner → st1 ≡ with_call number names children (call_part c).site st
+    → st2 ≡ with_calls number names (calls_part (out-TableCall c).calls.items) st1
     → st3 ≡ with_end_of_children children st2
-    → CanEmitCalls size (calls_part (c ∷ rest)) → NamesAre (IsAmong names) (calls_part (c ∷ rest))
-    → with_calls names (calls_part (c ∷ rest)) st ≡ final
-    → (st3.encoding ≡ st.encoding) × CanEmitCalls size (calls_part rest)
+    → CanEmitCalls size files (calls_part (c ∷ rest)) → NamesAre (IsAmong names) (calls_part (c ∷ rest))
+    → with_calls number names (calls_part (c ∷ rest)) st ≡ final
+    → (st3.encoding ≡ st.encoding) × CanEmitCalls size files (calls_part rest)
     × NamesAre (IsAmong names) (calls_part rest)
-    × (with_calls names (calls_part rest) st3 ≡ final)
+    × (with_calls number names (calls_part rest) st3 ≡ final)
 unfolding with_calls CanEmitCalls NamesAre
-call_emitted size names c rest st st1 st2 st3 final children some head inner end can among whole =
-    let called = with_call names (has_calls (call_part c).inner) (call_part c).site st in
+call_emitted size files number names c rest st st1 st2 st3 final children some head inner end can among whole =
+    let called = with_call number names (has_calls (call_part c).inner) (call_part c).site st in
     let after : st3 ≡ with_end_of_children (has_calls (call_part c).inner)
-    (with_calls names (call_part c).inner called) =
+    (with_calls number names (call_part c).inner called) =
     end ∙ ap (with_end_of_children children)
-    (inner ∙ ap (λ cs. with_calls names cs st1) (sym (inner_is c)) ∙ ap (with_calls names (call_part c).inner) head)
-    ∙ ap (λ b. with_end_of_children b (with_calls names (call_part c).inner
-    (with_call names b (call_part c).site st))) some in
+    (inner ∙ ap (λ cs. with_calls number names cs st1) (sym (inner_is c)) ∙ ap (with_calls number names (call_part c).inner) head)
+    ∙ ap (λ b. with_end_of_children b (with_calls number names (call_part c).inner
+    (with_call number names b (call_part c).site st))) some in
     let same =
     ap (λ x. x.encoding) after
-    ∙ closed_keeps (has_calls (call_part c).inner) (with_calls names (call_part c).inner called)
-    ∙ calls_keep names (call_part c).inner called in
-    (same, can.3, among.2, ap (with_calls names (calls_part rest)) after ∙ whole)
+    ∙ closed_keeps (has_calls (call_part c).inner) (with_calls number names (call_part c).inner called)
+    ∙ calls_keep number names (call_part c).inner called in
+    (same, can.3, among.2, ap (with_calls number names (calls_part rest)) after ∙ whole)
 
 -- the names of one call, and then those of others
 pub call_named : (c : TableCall) (rest : List TableCall) (texts texts1 texts2 final : List (List ℕ))
@@ -117,24 +117,24 @@ call_named c rest texts texts1 texts2 final first inner all whole =
     )
 
 -- the same of a function
-pub function_emitted : (size : ℕ) (names : List (List ℕ)) (f : FunctionPart) (rest : List FunctionPart)
+pub function_emitted : (size files : ℕ) (number : ℕ → ℕ) (names : List (List ℕ)) (f : FunctionPart) (rest : List FunctionPart)
     (st st1 st2 st3 final : EmittedUnit) (children : Bool)
-    → children ≡ has_calls f.calls → st1 ≡ with_function_entry f st → st2 ≡ with_calls names f.calls st1
+    → children ≡ has_calls f.calls → st1 ≡ with_function_entry f st → st2 ≡ with_calls number names f.calls st1
     → st3 ≡ with_end_of_children children st2
-    → CanEmitFunctions size (f ∷ rest) → FunctionNamesAre (IsAmong names) (f ∷ rest)
-    → with_functions names (f ∷ rest) st ≡ final
-    → (st3.encoding ≡ st.encoding) × CanEmitFunctions size rest × FunctionNamesAre (IsAmong names) rest
-    × (with_functions names rest st3 ≡ final)
-function_emitted size names f rest st st1 st2 st3 final children some head inner end can among whole =
-    let after : st3 ≡ with_function names f st =
-    end ∙ ap (with_end_of_children children) (inner ∙ ap (with_calls names f.calls) head)
-    ∙ ap (λ b. with_end_of_children b (with_calls names f.calls (with_function_entry f st))) some in
+    → CanEmitFunctions size files (f ∷ rest) → FunctionNamesAre (IsAmong names) (f ∷ rest)
+    → with_functions number names (f ∷ rest) st ≡ final
+    → (st3.encoding ≡ st.encoding) × CanEmitFunctions size files rest × FunctionNamesAre (IsAmong names) rest
+    × (with_functions number names rest st3 ≡ final)
+function_emitted size files number names f rest st st1 st2 st3 final children some head inner end can among whole =
+    let after : st3 ≡ with_function number names f st =
+    end ∙ ap (with_end_of_children children) (inner ∙ ap (with_calls number names f.calls) head)
+    ∙ ap (λ b. with_end_of_children b (with_calls number names f.calls (with_function_entry f st))) some in
     let same =
     ap (λ x. x.encoding) after
-    ∙ closed_keeps (has_calls f.calls) (with_calls names f.calls (with_function_entry f st))
-    ∙ calls_keep names f.calls (with_function_entry f st) in (
+    ∙ closed_keeps (has_calls f.calls) (with_calls number names f.calls (with_function_entry f st))
+    ∙ calls_keep number names f.calls (with_function_entry f st) in (
       same,
       can.2,
       among.1,
-      ap (with_functions names rest) after ∙ whole,
+      ap (with_functions number names rest) after ∙ whole,
     )

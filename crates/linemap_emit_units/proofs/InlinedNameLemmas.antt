@@ -45,22 +45,22 @@ function_names_are P (f ∷ fs) all = (
   function_names_are P fs (All-right P (call_names f.calls) (called_names fs) all),
 )
 
-pub call_texts : (size : ℕ) (cs : Calls) → CanEmitCalls size cs → All IsText (call_names cs)
+pub call_texts : (size files : ℕ) (cs : Calls) → CanEmitCalls size files cs → All IsText (call_names cs)
 unfolding CanEmitCalls call_names
-call_texts size no_calls can = All-nil IsText
-call_texts size (more_calls site inner others) can =
+call_texts size files no_calls can = All-nil IsText
+call_texts size files (more_calls site inner others) can =
     All-cons IsText site.name (call_names inner ++ call_names others) can.0.0
-    (All-append IsText (call_names inner) (call_names others) (call_texts size inner can.2)
-    (call_texts size others can.3))
+    (All-append IsText (call_names inner) (call_names others) (call_texts size files inner can.2)
+    (call_texts size files others can.3))
 
-function_texts : (size : ℕ) (fs : List FunctionPart) → CanEmitFunctions size fs → All IsText (called_names fs)
-function_texts size [] can = All-nil IsText
-function_texts size (f ∷ fs) can =
-    All-append IsText (call_names f.calls) (called_names fs) (call_texts size f.calls can.1)
-    (function_texts size fs can.2)
+function_texts : (size files : ℕ) (fs : List FunctionPart) → CanEmitFunctions size files fs → All IsText (called_names fs)
+function_texts size files [] can = All-nil IsText
+function_texts size files (f ∷ fs) can =
+    All-append IsText (call_names f.calls) (called_names fs) (call_texts size files f.calls can.1)
+    (function_texts size files fs can.2)
 
 pub unit_texts : (size : ℕ) (u : UnitPart) → CanEmitUnit size u → All IsText (called_names u.functions)
-unit_texts size u can = function_texts size u.functions can.2
+unit_texts size u can = function_texts size (length u.files) u.functions can.2
 
 -- ---- each name is among them
 

@@ -1,3 +1,8 @@
+pub use Rattle.linemap_emit_programs.proofs.BuiltUnits
+pub use Rattle.linemap_emit_programs.proofs.ListPlaces
+pub use Rattle.linemap_emit_programs.proofs.PlacedFiles
+pub use Rattle.linemap_emit_programs.proofs.SoundFiles
+pub use Rattle.linemap_emit_programs.proofs.UnitProgramsRead
 pub use Rattle.gimli_lines_write_tables.proofs.Listings
 pub use Rattle.gimli_lines_write_tables.proofs.NumberRoundTrip
 pub use Rattle.gimli_lines_write_tables.proofs.EntryDecoding
@@ -8,7 +13,6 @@ pub use Rattle.linemap_emit_programs.proofs.Wrapping
 pub use Rattle.linemap_emit_programs.proofs.ArangeSetLemmas
 pub use Rattle.linemap_emit_programs.proofs.TilingLemmas
 pub use Rattle.linemap_emit_programs.proofs.DeclarationsRead
-pub use Rattle.linemap_emit_programs.proofs.EmittedHeadersRead
 pub use Rattle.linemap_emit_programs.proofs.EmittedRangesRead
 pub use Rattle.linemap_emit_programs.proofs.EntryRowsRead
 pub use Rattle.linemap_emit_programs.proofs.EntryListsRead
@@ -16,7 +20,6 @@ pub use Rattle.linemap_emit_programs.proofs.FollowedReads
 pub use Rattle.linemap_emit_programs.proofs.UnitsRead
 pub use Rattle.linemap_emit_programs.proofs.ValuesRead
 pub use Rattle.linemap_emit_programs.proofs.EmittedFileTexts
-pub use Rattle.linemap_emit_programs.proofs.EmittedProgramLines
 pub use Rattle.linemap_emit_programs.proofs.EmittedProgramRows
 pub use Rattle.linemap_emit_programs.proofs.EmittedRowsBuilt
 pub use Rattle.linemap_emit_programs.proofs.EmittedRowsShown

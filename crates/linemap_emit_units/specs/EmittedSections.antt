@@ -17,6 +17,7 @@ pub record SectionBytes : Type 0 where
   pub debug_abbrev : List ℕ
   pub debug_info : List ℕ
   pub debug_line : List ℕ
+  pub debug_line_str : List ℕ
   pub debug_ranges : List ℕ
   pub debug_rnglists : List ℕ
   pub debug_str : List ℕ
@@ -27,6 +28,7 @@ sections_of e is_big st = record {
   debug_abbrev = spelled_declarations e;
   debug_info = spelled_units e is_big st.units;
   debug_line = st.lines;
+  debug_line_str = section_of st.line_texts;
   debug_ranges = if nat_le e.version 4 then st.ranges else [];
   debug_rnglists = if nat_le e.version 4 then [] else spelled_lists e is_big st.ranges;
   debug_str = section_of st.texts;
@@ -42,12 +44,15 @@ pub record HoldBytes (is_big : Bool) (bytes : SectionBytes) (s : DwarfFile) : Ty
   pub abbrev_first : ℕ
   pub info_first : ℕ
   pub line_first : ℕ
+  pub line_str_first : ℕ
   pub ranges_first : ℕ
   pub rnglists_first : ℕ
   pub str_first : ℕ
   pub abbrev_is : s.sections.debug_abbrev ≡ bytes_at is_big abbrev_first bytes.debug_abbrev
   pub info_is : s.sections.debug_info ≡ bytes_at is_big info_first bytes.debug_info
   pub line_is : s.sections.debug_line ≡ bytes_at is_big line_first bytes.debug_line
+  pub line_str_is : s.sections.debug_line_str
+      ≡ bytes_at is_big line_str_first bytes.debug_line_str
   pub ranges_is : s.sections.ranges.debug_ranges ≡ bytes_at is_big ranges_first bytes.debug_ranges
   pub rnglists_is : s.sections.ranges.debug_rnglists
       ≡ bytes_at is_big rnglists_first bytes.debug_rnglists

@@ -10,29 +10,33 @@ use Rattle.linemap_emit_programs.specs.TableWeight.{table_weight}
 use Rattle.linemap_emit_programs.specs.EmittedEntries.{AllFit, attributes_of}
 use Rattle.linemap_emit_programs.specs.EmittedUnits.{spelled_unit_body}
 use Rattle.linemap_emit_units.specs.UnitEmission.{CanEmitUnit}
-use Rattle.linemap_emit_programs.specs.EmittedHeaders.{IsTableText, IsTableFile, spelled_header, spelled_program_body}
-use Rattle.linemap_emit_programs.specs.SoundSequences.{CanEmitSequences, AllCountable}
-use Rattle.linemap_emit_programs.specs.EmittedPrograms.{FilesAreUtf8, directories_of, files_of}
-use Rattle.linemap_emit_units.specs.TableEmission.{EmittedTable, no_units, instructions_of, after_entries, with_emitted_unit}
+use Rattle.gimli_lines_write_tables.specs.StringSections.{IsText, section_of}
+use Rattle.linemap_emit_programs.specs.FilePaths.{is_rooted}
+use Rattle.linemap_emit_programs.specs.EmittedFiles.{HasTableTexts, unit_files}
+use Rattle.linemap_emit_programs.specs.SoundSequences.{CanEmitSequences}
+use Rattle.linemap_emit_programs.specs.EmittedPrograms.{FilesAreUtf8, line_program_bytes}
+use Rattle.linemap_emit_units.specs.TableEmission.{EmittedTable, no_units, after_entries, with_emitted_unit}
 
--- The encodings of a target up to version 4.
+-- The encodings of a target.
 pub record IsServed (e : Encoding) : Type 0 where
   pub not_before_2 : 2 ≤ e.version
-  pub not_after_4 : e.version ≤ 4
+  pub not_after_5 : e.version ≤ 5
   pub has_address_size : is_address_size e.address_size ≡ true
 
--- A unit after others: its texts, ranges and rows can be written, its entries' offsets and the
--- lengths of its headers are below 2^31, and so are the lists with a header.
+-- A unit after others: its texts, ranges and rows can be written, its directory has a root, its
+-- line number program isn't refused, its entries' offsets and the lengths of its headers and texts
+-- are below 2^31, and so are the lists with a header.
 pub record UnitFits (e : Encoding) (is_big : Bool) (u : UnitPart) (st : EmittedTable) : Type 0 where
   pub can_emit : CanEmitUnit e.address_size u
-  pub can_emit_sequences : CanEmitSequences e.address_size u.sequences
-  pub all_directories : All IsTableText (directories_of u)
-  pub all_files : All IsTableFile (files_of u)
-  pub instructions : List ℕ
-  pub instructions_are : instructions_of e is_big u ≡ Ok instructions
-  pub header_small : length (spelled_header e.version (directories_of u) (files_of u)) < 2 ^ 31
-  pub program_small : length
-      (spelled_program_body e is_big (directories_of u) (files_of u) instructions) < 2 ^ 31
+  pub can_emit_sequences : CanEmitSequences e.address_size (length u.files) u.sequences
+  pub table_texts : HasTableTexts u
+  pub rooted : is_rooted u.directory ≡ true
+  pub few_files : length u.files < 2 ^ 31
+  pub no_zeros : All IsText st.line_texts
+  pub program : List ℕ
+  pub program_is : line_program_bytes e is_big u st.line_texts ≡ Ok program
+  pub program_small : length program < 2 ^ 31
+  pub line_texts_small : length (section_of (unit_files e u st.line_texts).line_texts) < 2 ^ 31
   pub entries_fit : All (λ x. AllFit (2 ^ 31) e (attributes_of x))
       (after_entries e is_big u st).entries
   pub lists_small : 8 + length (after_entries e is_big u st).ranges.bytes < 2 ^ 31
@@ -49,8 +53,8 @@ AllUnitsFit e is_big (u ∷ us) st =
 abbrev pub TablesFit : Type 0
 TablesFit =
     (e : Encoding) (is_big : Bool) (us : List UnitPart)
-    → IsServed e → IsSound us → fits e.address_size us ≡ true → AllCountable us
-    → table_weight us < 2 ^ 31 → AllUnitsFit e is_big us no_units
+    → IsServed e → IsSound us → fits e.address_size us ≡ true → table_weight us < 2 ^ 31
+    → AllUnitsFit e is_big us no_units
 
 -- the texts of a unit's directory and files are UTF-8
 abbrev pub IsInUtf8 : UnitPart → Type 0

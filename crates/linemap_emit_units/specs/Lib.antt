@@ -1,3 +1,16 @@
+pub use Rattle.linemap_emit_programs.specs.FileId
+pub use Rattle.linemap_emit_programs.specs.BuiltPrograms
+pub use Rattle.linemap_emit_programs.specs.LineStrings
+pub use Rattle.linemap_emit_programs.specs.FileTables
+pub use Rattle.linemap_emit_programs.specs.UnitBytes
+pub use Rattle.linemap_emit_programs.specs.EntryFields
+pub use Rattle.linemap_emit_programs.specs.HeaderSpelling
+pub use Rattle.linemap_emit_programs.specs.HeaderTexts
+pub use Rattle.linemap_emit_programs.specs.HeaderContents
+pub use Rattle.linemap_emit_programs.specs.HeaderBytes
+pub use Rattle.linemap_emit_programs.specs.ProgramReadBack
+pub use Rattle.linemap_emit_programs.specs.FilePaths
+pub use Rattle.linemap_emit_programs.specs.EmittedFiles
 pub use Rattle.linemap_emit_programs.specs.Contexts
 pub use Rattle.linemap_emit_programs.specs.Lines
 pub use Rattle.linemap_emit_programs.specs.UnitLines
@@ -53,8 +66,6 @@ pub use Rattle.linemap_emit_programs.specs.ListSections
 pub use Rattle.linemap_emit_programs.specs.EmittedEntries
 pub use Rattle.linemap_emit_programs.specs.EmittedEntryLaws
 pub use Rattle.linemap_emit_programs.specs.EmittedEntryRows
-pub use Rattle.linemap_emit_programs.specs.EmittedHeaderLaws
-pub use Rattle.linemap_emit_programs.specs.EmittedHeaders
 pub use Rattle.linemap_emit_programs.specs.EmittedRanges
 pub use Rattle.linemap_emit_programs.specs.EmittedUnits
 pub use Rattle.linemap_emit_programs.specs.WriteResults

@@ -62,20 +62,20 @@ abbrev pub origin_of : Encoding → List (List ℕ) → List ℕ → ℕ
 origin_of e names name = abstract_offset e (text_index names name)
 
 -- the entry of a call of one of these functions: that function's entry, the call's ranges, and
--- where it is called, in files that count from 1
-abbrev pub with_call : List (List ℕ) → Bool → Site → EmittedUnit → EmittedUnit
-with_call names children s st =
+-- where it is called, in a file that has a number
+abbrev pub with_call : (ℕ → ℕ) → List (List ℕ) → Bool → Site → EmittedUnit → EmittedUnit
+with_call number names children s st =
     with_entry
-    (Call children (origin_of st.encoding names s.name) (list_offset st) (s.file + 1) s.line
+    (Call children (origin_of st.encoding names s.name) (list_offset st) (number s.file) s.line
     s.column) (with_list s.ranges st)
 
 -- calls, each with those in it
-unfoldable pub with_calls : List (List ℕ) → Calls → EmittedUnit → EmittedUnit
-with_calls names no_calls st = st
-with_calls names (more_calls site inner others) st =
-    with_calls names others
+unfoldable pub with_calls : (ℕ → ℕ) → List (List ℕ) → Calls → EmittedUnit → EmittedUnit
+with_calls number names no_calls st = st
+with_calls number names (more_calls site inner others) st =
+    with_calls number names others
     (with_end_of_children (has_calls inner)
-    (with_calls names inner (with_call names (has_calls inner) site st)))
+    (with_calls number names inner (with_call number names (has_calls inner) site st)))
 
 -- the entry of a function
 abbrev pub with_function_entry : FunctionPart → EmittedUnit → EmittedUnit
@@ -84,13 +84,15 @@ with_function_entry f st =
     (with_list f.ranges (with_name f.name st))
 
 -- a function with its calls
-abbrev pub with_function : List (List ℕ) → FunctionPart → EmittedUnit → EmittedUnit
-with_function names f st =
-    with_end_of_children (has_calls f.calls) (with_calls names f.calls (with_function_entry f st))
+abbrev pub with_function : (ℕ → ℕ) → List (List ℕ) → FunctionPart → EmittedUnit → EmittedUnit
+with_function number names f st =
+    with_end_of_children (has_calls f.calls)
+    (with_calls number names f.calls (with_function_entry f st))
 
-abbrev pub with_functions : List (List ℕ) → List FunctionPart → EmittedUnit → EmittedUnit
-with_functions names [] st = st
-with_functions names (f ∷ fs) st = with_functions names fs (with_function names f st)
+abbrev pub with_functions : (ℕ → ℕ) → List (List ℕ) → List FunctionPart → EmittedUnit → EmittedUnit
+with_functions number names [] st = st
+with_functions number names (f ∷ fs) st =
+    with_functions number names fs (with_function number names f st)
 
 -- the entry of a unit whose line program is at an offset
 abbrev pub with_unit_entry : ℕ → UnitPart → EmittedUnit → EmittedUnit
@@ -99,12 +101,12 @@ with_unit_entry line_program u st =
     with_entry (CompileUnit (text_offset u.name st) (text_offset u.directory next) line_program
     (list_offset st)) (with_list u.ranges (with_name u.directory next))
 
--- a unit: its entry, those of the functions that are inlined, those of its functions with their
--- calls, and the end of its children
-abbrev pub with_unit : ℕ → UnitPart → EmittedUnit → EmittedUnit
-with_unit line_program u st =
+-- a unit, whose files have numbers: its entry, those of the functions that are inlined, those of
+-- its functions with their calls, and the end of its children
+abbrev pub with_unit : (ℕ → ℕ) → ℕ → UnitPart → EmittedUnit → EmittedUnit
+with_unit number line_program u st =
     with_entry EndOfChildren
-    (with_functions (inlined_names u) u.functions
+    (with_functions number (inlined_names u) u.functions
     (with_abstract_functions (inlined_names u) (with_unit_entry line_program u st)))
 
 -- no current unit
@@ -117,20 +119,21 @@ without_entries st = record st { entries = [] }
 abbrev pub CanEmit : ℕ → List ℕ → List RangePart → Type 0
 CanEmit size name rs = IsText name × AllWritable size (map lookup_range rs)
 
--- the same of calls, each with those in it, whose files have numbers from 1 on
-unfoldable pub CanEmitCalls : ℕ → Calls → Type 0
-CanEmitCalls size no_calls = Unit {0}
-CanEmitCalls size (more_calls site inner others) =
-    CanEmit size site.name site.ranges × (site.file + 1 < 2 ^ 64) × CanEmitCalls size inner
-    × CanEmitCalls size others
+-- the same of calls, each with those in it, in so many files
+unfoldable pub CanEmitCalls : ℕ → ℕ → Calls → Type 0
+CanEmitCalls size files no_calls = Unit {0}
+CanEmitCalls size files (more_calls site inner others) =
+    CanEmit size site.name site.ranges × (site.file < files) × CanEmitCalls size files inner
+    × CanEmitCalls size files others
 
-abbrev pub CanEmitFunctions : ℕ → List FunctionPart → Type 0
-CanEmitFunctions size [] = Unit {0}
-CanEmitFunctions size (f ∷ fs) =
-    CanEmit size f.name f.ranges × CanEmitCalls size f.calls × CanEmitFunctions size fs
+abbrev pub CanEmitFunctions : ℕ → ℕ → List FunctionPart → Type 0
+CanEmitFunctions size files [] = Unit {0}
+CanEmitFunctions size files (f ∷ fs) =
+    CanEmit size f.name f.ranges × CanEmitCalls size files f.calls × CanEmitFunctions size files fs
 
 -- what can be emitted of a unit, in which fewer than 2^31 functions are inlined
 abbrev pub CanEmitUnit : ℕ → UnitPart → Type 0
 CanEmitUnit size u =
-    IsText u.directory × CanEmit size u.name u.ranges × CanEmitFunctions size u.functions
+    IsText u.directory × CanEmit size u.name u.ranges
+    × CanEmitFunctions size (length u.files) u.functions
     × (length (inlined_names u) < 2 ^ 31)

@@ -8,15 +8,17 @@ ghost use Rattle.linemap_emit_programs.specs.TableViews.{range_part, call_part, 
 ghost use Rattle.gimli_lines_write_tables.specs.NumberParsers.{is_address_size};
 ghost use Rattle.linemap_emit_programs.specs.WriteResults.{Appends};
 ghost use Rattle.linemap_emit_programs.specs.EmittedRanges.{AllWritable};
+ghost use Rattle.linemap_emit_programs.specs.EmittedFiles.{file_number};
 ghost use Rattle.linemap_emit_units.specs.UnitEmission.{text_offset, with_name, with_list, list_offset, with_entry, has_calls, with_end_of_children, with_abstract_functions, with_function_entry, with_call, CanEmit, CanEmitCalls, CanEmitFunctions, CanEmitUnit, with_calls, with_function, with_functions, with_unit_entry, with_unit, without_entries};
 ghost use Rattle.linemap_emit_units.specs.InlinedNames.{NamesAre, FunctionNamesAre, IsAmong};
 
+use crate::file_numbers::number_in;
 use crate::inlined_names::{names_of, number_of};
 use gimli_lines_write_tables::{
     Encoding, EndianVec, Error, Range, RunTimeEndian, StringId, StringTable, Writer,
 };
 use linemap_emit_programs::{
-    Entry, TableCall, TableFunction, TableRange, TableUnit, abstract_offset, lists_start,
+    Entry, FileId, TableCall, TableFunction, TableRange, TableUnit, abstract_offset, lists_start,
     write_ranges,
 };
 use std::alloc::Global;
@@ -122,6 +124,8 @@ impl UnitEmitter {
     fn call(
         &mut self,
         alloc: Global,
+        version: u16,
+        files: &[FileId],
         names: &mut StringTable,
         call: &TableCall,
         has_children: bool,
@@ -131,9 +135,10 @@ impl UnitEmitter {
             (call_part call.now).site.ranges }
         requires among { IsAmong names.old (call_part call.now).site.name }
         requires few { length names.old < 2 ^ 31 }
-        requires file { (call_part call.now).site.file + 1 < 2 ^ 64 }
+        requires file { (call_part call.now).site.file < length files.now }
         ensures ok { OnOk result
-            (self.new ≡ with_call names.old has_children (call_part call.now).site self.old) }
+            (self.new ≡ with_call (file_number version files.now) names.old has_children
+            (call_part call.now).site self.old) }
         ensures same { OnOk result (names.new ≡ names.old) }
         ensures refusal { IfErr result (λ e. e ≡ Memory) }
     {
@@ -144,7 +149,7 @@ impl UnitEmitter {
             has_children,
             origin,
             ranges,
-            file: call.file + 1,
+            file: number_in(version, files, call.file),
             line: call.line,
             column: call.column,
         })
@@ -155,22 +160,26 @@ impl UnitEmitter {
     fn calls(
         &mut self,
         alloc: Global,
+        version: u16,
+        files: &[FileId],
         names: &mut StringTable,
         calls: &[TableCall],
     ) -> Result<(), Error>
         requires size { is_address_size self.old.encoding.address_size ≡ true }
-        requires can_emit { CanEmitCalls self.old.encoding.address_size (calls_part calls.now) }
+        requires can_emit { CanEmitCalls self.old.encoding.address_size (length files.now)
+            (calls_part calls.now) }
         requires among { NamesAre (IsAmong names.old) (calls_part calls.now) }
         requires few { length names.old < 2 ^ 31 }
         ensures ok { OnOk result
-            (self.new ≡ with_calls names.old (calls_part calls.now) self.old) }
+            (self.new ≡ with_calls (file_number version files.now) names.old
+            (calls_part calls.now) self.old) }
         ensures same { OnOk result (names.new ≡ names.old) }
         ensures refusal { IfErr result (λ e. e ≡ Memory) }
     {
         for call in calls {
             let has_children = !call.calls.is_empty();
-            self.call(alloc, names, call, has_children)?;
-            self.calls(alloc, names, &call.calls)?;
+            self.call(alloc, version, files, names, call, has_children)?;
+            self.calls(alloc, version, files, names, &call.calls)?;
             self.close(has_children)?;
         }
         Ok(())
@@ -200,22 +209,25 @@ impl UnitEmitter {
     fn functions(
         &mut self,
         alloc: Global,
+        version: u16,
+        files: &[FileId],
         names: &mut StringTable,
         functions: &[TableFunction],
     ) -> Result<(), Error>
         requires size { is_address_size self.old.encoding.address_size ≡ true }
         requires can_emit { CanEmitFunctions self.old.encoding.address_size
-            (map function_part functions.now) }
+            (length files.now) (map function_part functions.now) }
         requires among { FunctionNamesAre (IsAmong names.old) (map function_part functions.now) }
         requires few { length names.old < 2 ^ 31 }
         ensures ok { OnOk result
-            (self.new ≡ with_functions names.old (map function_part functions.now) self.old) }
+            (self.new ≡ with_functions (file_number version files.now) names.old
+            (map function_part functions.now) self.old) }
         ensures refusal { IfErr result (λ e. e ≡ Memory) }
     {
         for function in functions {
             let has_children = !function.calls.is_empty();
             self.function(alloc, function)?;
-            self.calls(alloc, names, &function.calls)?;
+            self.calls(alloc, version, files, names, &function.calls)?;
             self.close(has_children)?;
         }
         Ok(())
@@ -243,17 +255,27 @@ impl UnitEmitter {
     }
 
     /// Adds the entries of a unit, with its texts and range lists. Its line program is at an
-    /// offset.
-    pub fn unit(&mut self, alloc: Global, unit: &TableUnit, line_program: u64) -> Result<(), Error>
+    /// offset, where its files have these ids.
+    pub fn unit(
+        &mut self,
+        alloc: Global,
+        unit: &TableUnit,
+        ids: &[FileId],
+        line_program: u64,
+    ) -> Result<(), Error>
         requires size { is_address_size self.old.encoding.address_size ≡ true }
         requires can_emit { CanEmitUnit self.old.encoding.address_size (unit_part unit.now) }
-        ensures ok { OnOk result (self.new ≡ with_unit line_program (unit_part unit.now) self.old) }
+        requires ids { length ids.now ≡ length (unit_part unit.now).files }
+        ensures ok { OnOk result
+            (self.new ≡ with_unit (file_number self.old.encoding.version ids.now) line_program
+            (unit_part unit.now) self.old) }
         ensures refusal { IfErr result (λ e. e ≡ Memory) }
     {
+        let version = self.encoding.version;
         let mut names = names_of(alloc, &unit.functions)?;
         self.root(alloc, unit, line_program)?;
         self.abstract_functions(alloc, &names)?;
-        self.functions(alloc, &mut names, &unit.functions)?;
+        self.functions(alloc, version, ids, &mut names, &unit.functions)?;
         self.entry(Entry::EndOfChildren)
     }
 

@@ -1,5 +1,5 @@
 -- The encodings that sections are emitted in.
-use Rattle.std.specs.Prelude.{ℕ, ◌&&◌, nat_le, Bool, true, false}
+use Rattle.std.specs.Prelude.{ℕ, Bool, true, false}
 use Rattle.gimli_core_base.specs.declared.common.Format.{Format}
 use Rattle.gimli_core_base.specs.declared.common.Format.TheVariants.{Dwarf32, Dwarf64}
 use Rattle.linemap_check.specs.EncodingFits.{is_target}
@@ -9,7 +9,6 @@ abbrev pub is_64_bit : Format → Bool
 is_64_bit Dwarf32 = false
 is_64_bit Dwarf64 = true
 
--- the targets that are served: those up to version 4
+-- every encoding of a target is served
 abbrev pub is_served : ℕ → Format → ℕ → Bool
-is_served version format address_size =
-    is_target version (is_64_bit format) address_size && nat_le version 4
+is_served version format address_size = is_target version (is_64_bit format) address_size

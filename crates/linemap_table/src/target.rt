@@ -20,9 +20,8 @@ impl Target {
     ghost use Rattle.linemap_check.specs.EncodingFits.{least_tombstone};
     ghost use Rattle.linemap_table.specs.EmissionTargets.{encoding_of, is_big_of};
 
-    /// The target of a version, a format, a size of addresses in bytes, and an order of bytes.
-    /// Versions 2 to 4 are served, version 2 in 32-bit DWARF alone, with addresses of four or eight
-    /// bytes.
+    /// The target of a version, a format, a size of addresses in bytes, and an order of bytes:
+    /// versions 2 to 5, version 2 in 32-bit DWARF alone, with addresses of four or eight bytes.
     pub fn new(version: u16, format: Format, address_size: u8, big_endian: bool) -> Option<Target>
         ensures served { IsSome result ↔ IsTrue (is_served version format address_size) }
         ensures encoding { IfSome result (λ t. encoding_of t
@@ -82,7 +81,6 @@ fn is_served(version: u16, format: Format, address_size: u8) -> bool
         Format::Dwarf32 => false,
         Format::Dwarf64 => true,
     };
-    let is_target = ((version == 2 && !is_64_bit) || (3 <= version && version <= 5))
-        && (address_size == 4 || address_size == 8);
-    is_target && version <= 4
+    ((version == 2 && !is_64_bit) || (3 <= version && version <= 5))
+        && (address_size == 4 || address_size == 8)
 }

@@ -113,6 +113,8 @@ fn frames_are_read_from_the_bytes(rt: HostRuntime) -> Result<(), Fail> {
         (3, Format::Dwarf64, 4, true),
         (4, Format::Dwarf32, 4, true),
         (4, Format::Dwarf64, 8, false),
+        (5, Format::Dwarf32, 8, false),
+        (5, Format::Dwarf64, 4, true),
     ] {
         for (address, frames) in [
             (4100, "main 5:1 "),

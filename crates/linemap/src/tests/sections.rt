@@ -156,6 +156,20 @@ fn sections_in_64_bit_dwarf(rt: HostRuntime) -> Result<(), Fail> {
     Ok(())
 }
 
+// Version 5, 32-bit, addresses of eight bytes, little endian. The bytes are worked out from DWARF 5,
+// 6.2.4, 7.26 and 7.28. The file of the table is the unit's own, number 0.
+#[test]
+fn sections_of_version_5(rt: HostRuntime) -> Result<(), Fail> {
+    let alloc = rt.alloc();
+    let sections = sections_of(alloc, units(alloc)?, (5, Format::Dwarf32, 8, false))?;
+    assert!(rt; holds(&sections, SectionId::DebugLine, LINE_5));
+    assert!(rt; holds(&sections, SectionId::DebugLineStr, b"/w\0a.c\0b.c\0"));
+    assert!(rt; holds(&sections, SectionId::DebugRanges, b""));
+    assert!(rt; holds(&sections, SectionId::DebugRngLists, RANGE_LISTS));
+    assert!(rt; holds(&sections, SectionId::DebugStr, b"a.c\0/w\0f\0main\0b.c\0"));
+    Ok(())
+}
+
 // What is refused for a unit that ends at an address.
 fn refusal_of(
     alloc: Global,
@@ -183,7 +197,8 @@ fn tables_that_fit_targets(rt: HostRuntime) -> Result<(), Fail> {
         (0xffff_fffe, 3, Format::Dwarf64, 8, None),
         (0x2000, 2, Format::Dwarf64, 8, Some("no such target")),
         (0x2000, 1, Format::Dwarf32, 8, Some("no such target")),
-        (0x2000, 5, Format::Dwarf32, 8, Some("no such target")),
+        (0x2000, 5, Format::Dwarf64, 8, None),
+        (0x2000, 6, Format::Dwarf32, 8, Some("no such target")),
         (0x2000, 4, Format::Dwarf32, 2, Some("no such target")),
     ] {
         let found = refusal_of(alloc, end, (version, format, size, true))?;
@@ -205,7 +220,7 @@ const ABBREV: &[u8] = &[
 ];
 
 // The unit of `a.c`, with the abstract function `f`, `main`, and the call in it; that of `b.c`, whose
-// line number program is at 67.
+// line number program is at 64.
 const INFO: &[u8] = &[
     60, 0, 0, 0, 4, 0, 0, 0, 0, 0, 8, //
     1, 0, 0, 0, 0, 4, 0, 0, 0, 0, 0, 0, 0, 0, 0, 0, 0, 0, 0, 0, 0, 0, 0, 0, 0, //
@@ -214,20 +229,20 @@ const INFO: &[u8] = &[
     5, 36, 0, 0, 0, 64, 0, 0, 0, 1, 7, 3, //
     0, 0, //
     33, 0, 0, 0, 4, 0, 0, 0, 0, 0, 8, //
-    1, 14, 0, 0, 0, 4, 0, 0, 0, 67, 0, 0, 0, 0, 0, 0, 0, 0, 0, 0, 0, 96, 0, 0, 0, //
+    1, 14, 0, 0, 0, 4, 0, 0, 0, 64, 0, 0, 0, 0, 0, 0, 0, 0, 0, 0, 0, 96, 0, 0, 0, //
     0,
 ];
 
-// A program for each unit.
+// A program for each unit; its file is in the unit's own directory, which is number 0.
 const LINE: &[u8] = &[
-    63, 0, 0, 0, 4, 0, 30, 0, 0, 0, //
+    60, 0, 0, 0, 4, 0, 27, 0, 0, 0, //
     1, 1, 1, 0xfb, 14, 13, 0, 1, 1, 1, 1, 0, 0, 0, 1, 0, 0, 1, //
-    b'/', b'w', 0, 0, b'a', b'.', b'c', 0, 1, 0, 0, 0, //
+    0, b'a', b'.', b'c', 0, 0, 0, 0, 0, //
     0, 9, 2, 0, 0x10, 0, 0, 0, 0, 0, 0, //
     5, 1, 0x16, 0, 2, 4, 3, 6, 5, 2, 0x4b, 2, 12, 0, 1, 1, //
-    55, 0, 0, 0, 4, 0, 30, 0, 0, 0, //
+    52, 0, 0, 0, 4, 0, 27, 0, 0, 0, //
     1, 1, 1, 0xfb, 14, 13, 0, 1, 1, 1, 1, 0, 0, 0, 1, 0, 0, 1, //
-    b'/', b'w', 0, 0, b'b', b'.', b'c', 0, 1, 0, 0, 0, //
+    0, b'b', b'.', b'c', 0, 0, 0, 0, 0, //
     0, 9, 2, 0, 0x20, 0, 0, 0, 0, 0, 0, //
     5, 1, 0x1a, 2, 4, 0, 1, 1, //
 ];
@@ -255,7 +270,7 @@ const ABBREV_64: &[u8] = &[
     0,
 ];
 
-// The same units; the line number program of the second is at 74.
+// The same units; the line number program of the second is at 71.
 const INFO_64: &[u8] = &[
     0xff, 0xff, 0xff, 0xff, 0, 0, 0, 0, 0, 0, 0, 92, //
     0, 3, 0, 0, 0, 0, 0, 0, 0, 0, 4, //
@@ -267,23 +282,23 @@ const INFO_64: &[u8] = &[
     0, 0, //
     0xff, 0xff, 0xff, 0xff, 0, 0, 0, 0, 0, 0, 0, 49, //
     0, 3, 0, 0, 0, 0, 0, 0, 0, 0, 4, //
-    1, 0, 0, 0, 0, 0, 0, 0, 14, 0, 0, 0, 0, 0, 0, 0, 4, 0, 0, 0, 0, 0, 0, 0, 74, //
+    1, 0, 0, 0, 0, 0, 0, 0, 14, 0, 0, 0, 0, 0, 0, 0, 4, 0, 0, 0, 0, 0, 0, 0, 71, //
     0, 0, 0, 0, 0, 0, 0, 0, 0, 0, 0, 48, //
     0,
 ];
 
 // The same programs.
 const LINE_64: &[u8] = &[
-    0xff, 0xff, 0xff, 0xff, 0, 0, 0, 0, 0, 0, 0, 62, //
-    0, 3, 0, 0, 0, 0, 0, 0, 0, 29, //
+    0xff, 0xff, 0xff, 0xff, 0, 0, 0, 0, 0, 0, 0, 59, //
+    0, 3, 0, 0, 0, 0, 0, 0, 0, 26, //
     1, 1, 0xfb, 14, 13, 0, 1, 1, 1, 1, 0, 0, 0, 1, 0, 0, 1, //
-    b'/', b'w', 0, 0, b'a', b'.', b'c', 0, 1, 0, 0, 0, //
+    0, b'a', b'.', b'c', 0, 0, 0, 0, 0, //
     0, 5, 2, 0, 0, 0x10, 0, //
     5, 1, 0x16, 0, 2, 4, 3, 6, 5, 2, 0x4b, 2, 12, 0, 1, 1, //
-    0xff, 0xff, 0xff, 0xff, 0, 0, 0, 0, 0, 0, 0, 54, //
-    0, 3, 0, 0, 0, 0, 0, 0, 0, 29, //
+    0xff, 0xff, 0xff, 0xff, 0, 0, 0, 0, 0, 0, 0, 51, //
+    0, 3, 0, 0, 0, 0, 0, 0, 0, 26, //
     1, 1, 0xfb, 14, 13, 0, 1, 1, 1, 1, 0, 0, 0, 1, 0, 0, 1, //
-    b'/', b'w', 0, 0, b'b', b'.', b'c', 0, 1, 0, 0, 0, //
+    0, b'b', b'.', b'c', 0, 0, 0, 0, 0, //
     0, 5, 2, 0, 0, 0x20, 0, //
     5, 1, 0x1a, 2, 4, 0, 1, 1, //
 ];
@@ -294,4 +309,29 @@ const RANGES_64: &[u8] = &[
     0, 0, 0x10, 0, 0, 0, 0x10, 0x10, 0, 0, 0, 0, 0, 0, 0, 0, //
     0, 0, 0x10, 4, 0, 0, 0x10, 8, 0, 0, 0, 0, 0, 0, 0, 0, //
     0, 0, 0x20, 0, 0, 0, 0x20, 4, 0, 0, 0, 0, 0, 0, 0, 0, //
+];
+
+// The same programs in version 5, with texts of `.debug_line_str`.
+const LINE_5: &[u8] = &[
+    74, 0, 0, 0, 5, 0, 8, 0, 37, 0, 0, 0, //
+    1, 1, 1, 0xfb, 14, 13, 0, 1, 1, 1, 1, 0, 0, 0, 1, 0, 0, 1, //
+    1, 1, 0x1f, 1, 0, 0, 0, 0, //
+    2, 1, 0x1f, 2, 0x0f, 1, 3, 0, 0, 0, 0, //
+    0, 9, 2, 0, 0x10, 0, 0, 0, 0, 0, 0, //
+    4, 0, 5, 1, 0x16, 0, 2, 4, 3, 6, 5, 2, 0x4b, 2, 12, 0, 1, 1, //
+    66, 0, 0, 0, 5, 0, 8, 0, 37, 0, 0, 0, //
+    1, 1, 1, 0xfb, 14, 13, 0, 1, 1, 1, 1, 0, 0, 0, 1, 0, 0, 1, //
+    1, 1, 0x1f, 1, 0, 0, 0, 0, //
+    2, 1, 0x1f, 2, 0x0f, 1, 7, 0, 0, 0, 0, //
+    0, 9, 2, 0, 0x20, 0, 0, 0, 0, 0, 0, //
+    4, 0, 5, 1, 0x1a, 2, 4, 0, 1, 1, //
+];
+
+// The same ranges in version 5, after a header.
+const RANGE_LISTS: &[u8] = &[
+    80, 0, 0, 0, 5, 0, 8, 0, 0, 0, 0, 0, //
+    6, 0, 0x10, 0, 0, 0, 0, 0, 0, 0x10, 0x10, 0, 0, 0, 0, 0, 0, 0, //
+    6, 0, 0x10, 0, 0, 0, 0, 0, 0, 0x10, 0x10, 0, 0, 0, 0, 0, 0, 0, //
+    6, 4, 0x10, 0, 0, 0, 0, 0, 0, 8, 0x10, 0, 0, 0, 0, 0, 0, 0, //
+    6, 0, 0x20, 0, 0, 0, 0, 0, 0, 4, 0x20, 0, 0, 0, 0, 0, 0, 0, //
 ];

@@ -1,4 +1,4 @@
-use Rattle.std.proofs.Common.{◌≡◌, [], true, map, ap, subst, sym, ◌∙◌}
+use Rattle.std.proofs.Common.{◌≡◌, [], true, length, map, ap, subst, sym, ◌∙◌}
 use Rattle.gimli_lines_write_tables.specs.Encoding.{Encoding}
 use Rattle.gimli_lines_write_tables.specs.NumberParsers.{is_address_size}
 use Rattle.gimli_lines_write_tables.specs.StringSections.{IsText}
@@ -22,11 +22,13 @@ functions-requires-clause-size c =
 
 pub functions-requires-clause-can_emit : goal.functions-requires-clause-can_emit
 functions-requires-clause-can_emit c =
-    subst (λ (e : Encoding). CanEmitFunctions e.address_size (map function_part c.deref-2.result.now))
+    subst (λ (e : Encoding). CanEmitFunctions e.address_size (length c.args.ids.now) (map function_part c.deref-2.result.now))
     (sym (ap (λ x. x.encoding) c.in_ok-abstract_functions.ensures.ok ∙ abstract_keeps c.in_ok-names.names c.root.new.self
     ∙ ap (λ x. x.encoding) c.in_ok-root.ensures.ok))
-    (subst (λ l. CanEmitFunctions c.args.self.now.encoding.address_size (map function_part l))
-    (sym c.deref-2.ensures.value) c.requires.can_emit.2)
+    (subst (λ l. CanEmitFunctions c.args.self.now.encoding.address_size (length c.args.ids.now) (map function_part l))
+    (sym c.deref-2.ensures.value)
+    (subst (λ n. CanEmitFunctions c.args.self.now.encoding.address_size n (unit_part c.args.unit.now).functions)
+    (sym c.requires.ids) c.requires.can_emit.2))
 
 pub functions-requires-clause-among : goal.functions-requires-clause-among
 functions-requires-clause-among c =

@@ -1,5 +1,0 @@
-use Rattle.linemap_emit_programs.proofs.SoundSequenceLemmas.{sound_can_emit as can}
-use Rattle.linemap_emit_programs.proofs.row_laws.sound_can_emit_sequences.Goals as goal
-
-pub returns : goal.returns
-returns c = can
