@@ -5,18 +5,12 @@ ghost use Rattle.examples.specs.SourceLines.{source_line};
 
 use addr2line::Context;
 use gimli_core::{Error, Reader};
-use gimli_dwarf::Dwarf;
-use std::alloc::Global;
 
-/// The source line of an address, from a file's sections, where one is known.
-pub fn source_line<R: Reader>(
-    alloc: Global,
-    sections: Dwarf<R>,
-    address: u64,
-) -> Result<Option<u32>, Error>
-    ensures { ReturnsOrNoMemory result (source_line sections.file address) }
+/// The source line of an address, where one is known. What the context reads on the way it keeps
+/// for later calls.
+pub fn source_line<R: Reader>(context: &mut Context<R>, address: u64) -> Result<Option<u32>, Error>
+    ensures { ReturnsOrNoMemory result (source_line context.old.value.plain.context address) }
 {
-    let mut context = Context::from_dwarf(alloc, sections)?;
     match context.find_location(address) {
         Ok(Some(location)) => Ok(location.line),
         Ok(None) => Ok(None),
