@@ -1,0 +1,4 @@
+int g(int x)
+{
+    return x + 3;
+}

@@ -1,0 +1,99 @@
+//! Answers questions about the addresses of small files. The input is paragraphs of lines, with
+//! empty lines between them; a line that begins with `#` is repeated.
+//!
+//! - `file NAME` or `file NAME LIKE` begins a file, the second with the sections of another.
+//! - `context NAME` begins questions about a file, which are asked in turn in one context.
+//!
+//! Lines with the name of a section and its bytes follow; a line that begins with a space has more
+//! of these. `units COUNT STEP RANGE FUNCTION` makes many units. Then, in a context, there may be a
+//! line `supplement NAME`, and the questions. Each context is made by each of the three
+//! constructors, over borrowed and over shared bytes. A difference between the answers is a fault.
+//!
+//! - `image PATH` begins questions about an ELF file, which a loader reads.
+//! - `bytes PATH` is the same of its bytes in memory.
+//!
+//! Lines may follow with what is changed of the bytes, `patch OFFSET BYTES` and `keep COUNT`; the
+//! path of a supplement, `supplement PATH`; and where split files come from: `files` for the file
+//! system, `split DIRECTORY NAME PATH` for a file that has this name in memory, or `turn PATH` and
+//! `turn memory` for answers in turn, the second "out of memory".
+#![tactic(auto)]
+
+mod answer;
+mod case;
+mod contexts;
+mod data;
+mod files;
+mod frames;
+mod image_case;
+mod loaders;
+mod loads;
+mod mistake;
+mod places;
+mod question;
+mod sources;
+mod units;
+
+use answer::Answer;
+use case::Case;
+use files::File;
+use image_case::{ImageCase, is_about_image};
+use mistake::Mistake;
+use std::alloc::Global;
+use std::io::{BufRead, BufReader};
+use std::rt::Files;
+
+fn main(rt: HostRuntime) -> Result<(), Mistake> {
+    let input = BufReader::new(rt.alloc(), rt.reader())?;
+    let mut files = Vec::new(rt.alloc());
+    let mut paragraph = Vec::new(rt.alloc());
+    for line in input.lines(rt.alloc()) {
+        let line = line?;
+        if line.is_empty() {
+            print!(rt; "{}", answers(&rt, &mut files, &paragraph)?)?;
+            paragraph.clear();
+        } else {
+            paragraph.push(line)?;
+        }
+    }
+    print!(rt; "{}", answers(&rt, &mut files, &paragraph)?)?;
+    Ok(())
+}
+
+// The answers to a paragraph.
+fn answers<R: Files + AllocGlobal>(
+    rt: &R,
+    files: &mut Vec<File>,
+    lines: &[String],
+) -> Result<String, Mistake> {
+    if is_about_image(lines) {
+        answers_about_image(rt, lines)
+    } else {
+        answers_about_file(rt.alloc(), files, lines)
+    }
+}
+
+// A paragraph that makes a file has no answers.
+fn answers_about_file(
+    alloc: Global,
+    files: &mut Vec<File>,
+    lines: &[String],
+) -> Result<String, Mistake> {
+    let case = Case::parse(alloc, files, lines)?;
+    if case.is_file {
+        files.push(case.file)?;
+        return Ok(String::new(alloc));
+    }
+    let mut out = Answer::new(alloc);
+    contexts::answer(alloc, files, &case, &mut out);
+    Ok(out.finish()?)
+}
+
+fn answers_about_image<R: Files + AllocGlobal>(
+    rt: &R,
+    lines: &[String],
+) -> Result<String, Mistake> {
+    let case = ImageCase::parse(rt.alloc(), lines)?;
+    let mut out = Answer::new(rt.alloc());
+    loaders::answer(rt, &case, &mut out);
+    Ok(out.finish()?)
+}
