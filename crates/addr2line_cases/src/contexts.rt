@@ -236,7 +236,7 @@ fn ask_about_loads<R: Reader>(
     }
 }
 
-// The frames of some addresses, if they are the same for all, and else of the first two that differ.
+// The frames of some addresses if they are the same for all, else of the first two that differ.
 fn frames_of_each<R: Reader>(context: &mut Context<R>, steps: Steps, out: &mut Answer) {
     let Ok(first) = text_at(out.alloc, context, steps.first) else {
         return out.refuse(Error::Memory);

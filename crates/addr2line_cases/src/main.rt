@@ -1,13 +1,13 @@
-//! Answers questions about the addresses of small files. The input is paragraphs of lines, with empty
-//! lines between them; a line that begins with `#` is repeated.
+//! Answers questions about the addresses of small files. The input is paragraphs of lines, with
+//! empty lines between them; a line that begins with `#` is repeated.
 //!
 //! - `file NAME` or `file NAME LIKE` begins a file, the second with the sections of another.
 //! - `context NAME` begins questions about a file, which are asked in turn in one context.
 //!
 //! Lines with the name of a section and its bytes follow; a line that begins with a space has more
 //! of these. `units COUNT STEP RANGE FUNCTION` makes many units. Then, in a context, there may be a
-//! line `supplement NAME`, and the questions. Each context is made by each of the three constructors,
-//! over borrowed and over shared bytes, and a difference between their answers is a fault.
+//! line `supplement NAME`, and the questions. Each context is made by each of the three
+//! constructors, over borrowed and over shared bytes. A difference between the answers is a fault.
 //!
 //! - `image PATH` begins questions about an ELF file, which a loader reads.
 //! - `bytes PATH` is the same of its bytes in memory.

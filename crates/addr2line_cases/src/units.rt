@@ -5,9 +5,9 @@ use crate::data::number_of;
 use crate::mistake::Mistake;
 use std::alloc::{AllocError, Global};
 
-/// The units of a line: how many there are, from where to where one is from the next, how many
-/// addresses each has, and how many of these its function `s` has. Before them is a unit over all
-/// of them, with the function `l` over all its addresses.
+/// The units of a line, which has four numbers: how many units there are, the step from one to the
+/// next, how many addresses each has, and how many of these its function `s` has. Before them is a
+/// unit over all of them, with the function `l` over all its addresses.
 pub fn units_of(alloc: Global, words: &str) -> Result<Vec<u8>, Mistake> {
     let mut numbers = [0; 4];
     for (number, word) in numbers.iter_mut().zip(words.split_whitespace()) {
