@@ -2,7 +2,6 @@
 mod answers;
 mod fake;
 mod faults;
-mod frames;
 mod places;
 mod refusals;
 mod rules;
