@@ -27,7 +27,7 @@ pub const BIG: &str = "big";
 pub fn emit_command<'a>(alloc: Global) -> Result<Command<'a>, AllocError>
     ensures { IfOk result (λ command. IsLocalApp command emit_app) }
 {
-    let dwarf = number_option(alloc, DWARF, "4", "Version of DWARF, 2 to 5");
+    let dwarf = number_option(alloc, DWARF, "4", "Version of DWARF");
     let bits = number_option(alloc, BITS, "32", "Format of DWARF, 32 or 64 bits");
     let size = number_option(alloc, SIZE, "8", "Size of an address, 4 or 8 bytes");
     let big = flag(alloc, BIG, "Write the most significant byte first");
@@ -35,7 +35,7 @@ pub fn emit_command<'a>(alloc: Global) -> Result<Command<'a>, AllocError>
         .about("Writes a table as an ELF file with debug information")
         .after_help(
             "Example: write the file, and ask it for an address\n  \
-            linemap emit table.json table.elf --dwarf 5\n  \
+            linemap emit table.json table.elf\n  \
             linemap lookup -e table.elf 0x100f",
         )
         .arg(table_argument(alloc))?
