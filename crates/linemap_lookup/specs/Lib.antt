@@ -1,0 +1,3 @@
+pub mod AddressTexts
+pub mod FrameTexts
+pub mod FramesGot
