@@ -4,7 +4,7 @@ use Rattle.std.specs.Fmt.{digits}
 use Rattle.std.specs.Path.{path_file_name}
 use Rattle.linemap_meaning.specs.AnswerTexts.{discriminator_text, place_text, unknown_text}
 use Rattle.linemap_output.specs.declared.options.Options.{Options}
-use Rattle.addr2line_functions.specs.Lines.{Location}
+use Rattle.addr2line_context.specs.Lines.{Location}
 
 -- ---- addresses
 

@@ -2,8 +2,8 @@
 use Rattle.std.specs.Prelude.{ℕ, List, [], ◌∷◌, ◌++◌, codes, Option, Some, None, if◌then◌else◌}
 use Rattle.std.specs.Str.Lossy.{utf8_lossy}
 use Rattle.addr2line_demangle.specs.LegacyNames.{demangle_or_name}
-use Rattle.addr2line_functions.specs.Frames.{Frame, FunctionName}
-use Rattle.addr2line_functions.specs.Lines.{Location}
+use Rattle.addr2line_context.specs.Frames.{Frame, FunctionName}
+use Rattle.addr2line_context.specs.Lines.{Location}
 use Rattle.linemap_meaning.specs.AnswerTexts.{unknown_text}
 use Rattle.linemap_output.specs.declared.options.Options.{Options}
 use Rattle.linemap_lookup.specs.AddressTexts.{location_text_if_any}
@@ -43,6 +43,11 @@ frame_text o symbol f = frame_line o (symbol_or_function o symbol f.function) f.
 abbrev pub symbol_of_last : Option (List ℕ) → List Frame → Option (List ℕ)
 symbol_of_last symbol [] = symbol
 symbol_of_last symbol (f ∷ fs) = None
+
+-- a frame before another has no symbol's name
+abbrev pub symbol_before : Option Frame → Option (List ℕ) → Option (List ℕ)
+symbol_before None symbol = symbol
+symbol_before (Some f) symbol = None
 
 -- what goes before the frame of a function that a call is inlined into
 abbrev pub inlined_by : Options → List ℕ

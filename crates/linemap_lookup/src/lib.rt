@@ -2,6 +2,10 @@
 //! writers.
 #![tactic(auto)]
 
+mod answer;
+mod engine;
 mod frames;
+mod lookups;
 mod names;
 mod printer;
+mod write;

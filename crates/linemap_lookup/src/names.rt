@@ -4,8 +4,8 @@ ghost use Rattle.std.specs.Prelude.{◌≡◌, ◌++◌, OnOk, None, option_map}
 ghost use Rattle.std.specs.String.{string_bytes};
 ghost use Rattle.linemap_lookup.specs.FrameTexts.{function_text, name_text, symbol_or_function};
 
+use addr2line_context::{FunctionName, Reader};
 use addr2line_demangle::demangle_auto;
-use addr2line_functions::{FunctionName, Reader};
 use linemap_output::Options;
 use std::alloc::{AllocError, Global};
 use std::borrow::CowStr;

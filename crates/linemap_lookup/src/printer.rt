@@ -3,10 +3,10 @@
 ghost use Rattle.std.specs.Prelude.{◌≡◌, ◌++◌, None, OnOk, codes, decimal, option_map, unwrap_or};
 ghost use Rattle.std.specs.String.{string_bytes};
 ghost use Rattle.linemap_meaning.specs.AnswerTexts.{discriminator_text, number_text, place_text, unknown_text};
-ghost use Rattle.addr2line_functions.specs.BorrowedLocations.{location_value};
+ghost use Rattle.addr2line_context.specs.BorrowedLocations.{location_value};
 ghost use Rattle.linemap_lookup.specs.AddressTexts.{address_text, printed_address, last_component, location_text, location_text_if_any, printed_file, statement_text, text_with_column};
 
-use addr2line_functions::Location;
+use addr2line_context::Location;
 use linemap_output::Options;
 use std::alloc::AllocError;
 use std::path::Path;
