@@ -1,9 +1,10 @@
 -- Addresses that are answered and written one after the other.
-use Rattle.std.proofs.Common.{◌≡◌, ◌∙◌, Bool, true, false, List, [], ◌∷◌, ◌++◌, ℕ, Option, Result, map, refl, sym, ap, subst, append-nil}
-use Rattle.std.specs.Prelude.{◌||◌}
+use Rattle.std.proofs.Common.{◌≡◌, ◌∙◌, Bool, true, false, List, [], ◌∷◌, ◌++◌, ℕ, Option, Result, map, Ok, Err, Global, String, string_bytes, ◌+◌, ◌<◌, ◌≤◌, length, take, drop, get_or, inl, inr, refl, sym, ap, subst, append-nil, append_assoc}
+use Rattle.std.specs.Prelude.{◌||◌, IfErr}
 use Rattle.std.specs.List.{FoldsTo, flat_map, list_any}
 use Rattle.std.specs.Io.KnownBytes.{Appends}
-use Rattle.std.proofs.lemmas.List.{map-append}
+use Rattle.std.proofs.lemmas.List.{map-append, take_all, take_more, take-append-drop}
+use Rattle.linemap_meaning.specs.AnswerTexts.{word_address}
 use Rattle.std.proofs.lemmas.Grind.{flat_map-append}
 use Rattle.addr2line_context.specs.Error.{Error}
 use Rattle.addr2line_split.specs.Range.{Range}
@@ -13,6 +14,10 @@ use Rattle.linemap_output.specs.declared.options.Options.{Options}
 use Rattle.linemap_lookup.specs.LookupAnswers.{AddressAnswer, Answer, AnswersAddress, AnswersAddresses, LookupState}
 use Rattle.linemap_lookup.specs.LookupRuns.{Records, Streams, StopsAtAddress, StopsAtAddresses, Writes, WritesAddress, WritesAddresses, answers_together}
 use Rattle.linemap_lookup.proofs.AnswerSteps.{or_false}
+use Rattle.linemap_lookup.specs.LookupRuns.{IsStopped}
+use Rattle.linemap_output.specs.ErrorLine.{EndsAtFault}
+use Rattle.linemap_output.specs.declared.writing.WriteFault.{WriteFault}
+use Rattle.linemap_output.specs.declared.writing.WriteFault.TheVariants.{BrokenPipe, Failed}
 
 -- one more step of a fold
 folds_more : {P A : Type 0} (R : P → A → P → Type 0) (p : P) (xs : List A) (q : P) (x : A) (r : P)
@@ -94,3 +99,42 @@ module _ {S : Type 0} (answers : S → List ℕ → List ℕ → Result (Option 
     written = p;
     stops = q;
   }
+
+-- ---- stops
+
+pub fault_stops : (fault : WriteFault) (old new : Option (List ℕ)) (e : Ended) → EndsAtFault fault old new e
+    → IsStopped e
+fault_stops Failed old new e ends = inr ends.1.1
+fault_stops BrokenPipe old new e ends = inr (ap (λ (x : Ended). x.write) ends.1)
+
+pub if_err : {T E : Type 0} (r : Result T E) {P Q : E → Type 0} → ((e : E) → P e → Q e) → IfErr r P → IfErr r Q
+if_err (Ok x) f p = tt
+if_err (Err e) f p = f e p
+
+-- ---- words
+
+module _ (ws : List (String Global)) where
+  abbrev pub addresses_of : List (String Global) → List (Option ℕ)
+  addresses_of vs = map (λ w. word_address (string_bytes w)) vs
+
+  taken : (i : ℕ) (w : String Global) → i < length ws → w ≡ get_or ws i w → take (i + 1) ws ≡ take i ws ++ w ∷ []
+  taken i w lt at = take_more ws i w lt ∙ ap (λ v. take i ws ++ v ∷ []) (sym at)
+
+  pub words_more : (i : ℕ) (w : String Global) (a : Option ℕ) → i < length ws → w ≡ get_or ws i w
+      → a ≡ word_address (string_bytes w)
+      → addresses_of (take i ws) ++ a ∷ [] ≡ addresses_of (take (i + 1) ws)
+  words_more i w a lt at is =
+      ap (λ x. addresses_of (take i ws) ++ x ∷ []) is
+      ∙ sym (ap addresses_of (taken i w lt at) ∙ map-append (λ v. word_address (string_bytes v)) (take i ws) (w ∷ []))
+
+  pub words_split : (i : ℕ) (w : String Global) (a : Option ℕ) → i < length ws → w ≡ get_or ws i w
+      → a ≡ word_address (string_bytes w)
+      → addresses_of ws ≡ addresses_of (take i ws) ++ a ∷ addresses_of (drop (i + 1) ws)
+  words_split i w a lt at is =
+      sym (ap addresses_of (take-append-drop (i + 1) ws))
+      ∙ map-append (λ v. word_address (string_bytes v)) (take (i + 1) ws) (drop (i + 1) ws)
+      ∙ ap (λ x. x ++ addresses_of (drop (i + 1) ws)) (sym (words_more i w a lt at is))
+      ∙ append_assoc (addresses_of (take i ws)) (a ∷ []) (addresses_of (drop (i + 1) ws))
+
+  pub words_all : (i : ℕ) → length ws ≤ i → addresses_of (take i ws) ≡ addresses_of ws
+  words_all i le = ap addresses_of (take_all i ws le)

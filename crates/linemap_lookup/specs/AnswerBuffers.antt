@@ -61,13 +61,14 @@ pub record GrowsByLookup {S : Type 0}
   pub finds : AnswersIfAny answers o a before found after
   pub grows : Grows old new found
 
--- what is in the buffers, as the answer of an address
-abbrev pub answer_in : Option ℕ → AnswerBuffer → AddressAnswer
-answer_in address b = record {
-  address = address;
-  answer = record {
-    text = string_bytes b.text;
-    errors = string_bytes b.errors;
-    is_memory_refused = b.is_memory_refused;
-  };
+-- what is in the buffers
+abbrev pub answer_of : AnswerBuffer → Answer
+answer_of b = record {
+  text = string_bytes b.text;
+  errors = string_bytes b.errors;
+  is_memory_refused = b.is_memory_refused;
 }
+
+-- as the answer of an address
+abbrev pub answer_in : Option ℕ → AnswerBuffer → AddressAnswer
+answer_in address b = record { address = address; answer = answer_of b }

@@ -5,13 +5,14 @@ ghost use Rattle.std.specs.String.{string_bytes};
 ghost use Rattle.std.specs.Io.KnownBytes.{Appends};
 ghost use Rattle.linemap_meaning.specs.AnswerTexts.{word_address};
 ghost use Rattle.linemap_output.specs.WriterBytes.{AppendsPrefix};
-ghost use Rattle.linemap_lookup.specs.LookupRuns.{Records, StopsAtAddress, StopsAtAddresses, WritesAddress, WritesAddresses};
+ghost use Rattle.linemap_lookup.specs.AnswerBuffers.{answer_of};
+ghost use Rattle.linemap_lookup.specs.LookupRuns.{IsStopped, Records, StopsAtAddress, StopsAtAddresses, Writes, WritesAddress, WritesAddresses};
 
 use crate::answer::AnswerBuffer;
 use crate::engine::Engine;
 use addr2line_context::Range;
 use addr2line_split::SplitSource;
-use linemap_meaning::read_address;
+use linemap_meaning::address::read_address;
 use linemap_output::{Ended, Options, WriteFault, flush, out_of_memory, output_failed, write_text};
 use std::io::Write;
 
@@ -64,6 +65,27 @@ fn report<E: Write>(answer: &AnswerBuffer, err: &mut E, ended: &mut Ended)
     write_errors(&answer.errors, err, ended);
 }
 
+// Writes an answer, and flushes.
+fn write_answer<O: Write, E: Write>(
+    answer: &AnswerBuffer,
+    out: &mut O,
+    err: &mut E,
+    ended: &mut Ended,
+) -> Result<(), Ended>
+    ensures whole { OnOk result (Writes (answer_of answer.now)
+        (record { out = O.contents out.old; err = E.contents err.old })
+        (record { out = O.contents out.new; err = E.contents err.new }) ended.old ended.new) }
+    ensures prefix { AppendsPrefix (O.contents out.old) (O.contents out.new)
+        (string_bytes answer.now.text) }
+    ensures stop { IfErr result IsStopped }
+{
+    report(answer, err, ended);
+    match write_flushed(out, &answer.text) {
+        Ok(()) => Ok(()),
+        Err(fault) => Err(output_failed(err, fault)),
+    }
+}
+
 impl Engine {
     /// Answers an address, writes its answer, and flushes. Error lines go to the error stream,
     /// whose faults are only recorded.
@@ -76,26 +98,21 @@ impl Engine {
         err: &mut E,
         ended: &mut Ended,
     ) -> Result<(), Ended>
-        ensures whole { OnOk result (WritesAddress S.answers question.options.now question.section
+        ensures whole { OnOk result (WritesAddress S.answers question.entry.options.now question.entry.section
             address
             (record { file = self.old.loader; source = source.old })
             (record { file = self.new.loader; source = source.new })
             (record { out = O.contents out.old; err = E.contents err.old })
             (record { out = O.contents out.new; err = E.contents err.new }) ended.old ended.new) }
-        ensures stop { IfErr result (λ stop. StopsAtAddress S.answers question.options.now
-            question.section address
+        ensures stop { IfErr result (λ stop. StopsAtAddress S.answers question.entry.options.now
+            question.entry.section address
             (record { file = self.old.loader; source = source.old })
             (record { out = O.contents out.old; err = E.contents err.old })
             (record { out = O.contents out.new; err = E.contents err.new }) stop) }
     {
-        let answered = self.answer(question.options, question.section, address, source);
-        if answered.is_err() {
-            return Err(out_of_memory(err));
-        }
-        report(&self.answer, err, ended);
-        match write_flushed(out, &self.answer.text) {
-            Ok(()) => Ok(()),
-            Err(fault) => Err(output_failed(err, fault)),
+        match self.answer(question.options, question.section, address, source) {
+            Ok(()) => write_answer(&self.answer, out, err, ended),
+            Err(_) => Err(out_of_memory(err)),
         }
     }
 
@@ -109,14 +126,14 @@ impl Engine {
         err: &mut E,
         ended: &mut Ended,
     ) -> Result<(), Ended>
-        ensures whole { OnOk result (WritesAddresses S.answers question.options.now question.section
+        ensures whole { OnOk result (WritesAddresses S.answers question.entry.options.now question.entry.section
             (map (λ w. word_address (string_bytes w)) words.now)
             (record { file = self.old.loader; source = source.old })
             (record { file = self.new.loader; source = source.new })
             (record { out = O.contents out.old; err = E.contents err.old })
             (record { out = O.contents out.new; err = E.contents err.new }) ended.old ended.new) }
-        ensures stop { IfErr result (λ stop. StopsAtAddresses S.answers question.options.now
-            question.section (map (λ w. word_address (string_bytes w)) words.now)
+        ensures stop { IfErr result (λ stop. StopsAtAddresses S.answers question.entry.options.now
+            question.entry.section (map (λ w. word_address (string_bytes w)) words.now)
             (record { file = self.old.loader; source = source.old })
             (record { out = O.contents out.old; err = E.contents err.old })
             (record { out = O.contents out.new; err = E.contents err.new }) ended.old stop) }
