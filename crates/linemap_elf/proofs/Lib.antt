@@ -1,0 +1,4 @@
+pub mod HeadersRead
+pub mod SectionsFound
+pub mod ImageSizes
+pub mod ImagesRead

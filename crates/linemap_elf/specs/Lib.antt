@@ -1,0 +1,2 @@
+pub mod SpelledImages
+pub mod ImageLaws
