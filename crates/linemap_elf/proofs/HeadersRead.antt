@@ -20,7 +20,7 @@ use Rattle.addr2line_elf.specs.declared.headers.SectionHeader.{SectionHeader}
 use Rattle.addr2line_elf.specs.ElfClasses.{word_size, section_header_size}
 use Rattle.addr2line_elf.specs.ElfHeaders.{file_header, section_header}
 use Rattle.linemap_elf.specs.declared.constants.TheConstants.{EV_CURRENT, ET_EXEC, EM_NONE}
-use Rattle.linemap_elf.specs.SpelledImages.{file_header_size, spelled_identification, spelled_fields, file_header_fields, spelled_section_header, null_header}
+use Rattle.linemap_elf.specs.SpelledImages.{file_header_size, spelled_identification, spelled_fields, file_header_fields, spelled_section_header, FitsHeader, null_header}
 
 -- ---- bytes that are skipped
 
@@ -108,17 +108,6 @@ file_header_again class is_big first offset count low few =
     (again_then _ (again_fixed is_big _ 2 (count - 1) (omega arith)) (λ v. refl)))))))))))
 
 -- ---- section headers
-
--- the fields of a header have room for its numbers
-pub record FitsHeader (class : Class) (h : SectionHeader) : Type 0 where
-  pub name : h.name < 256 ^ 4
-  pub section_type : h.section_type < 256 ^ 4
-  pub flags : h.flags < 256 ^ word_size class
-  pub address : h.address < 256 ^ word_size class
-  pub offset : h.offset < 256 ^ word_size class
-  pub size : h.size < 256 ^ word_size class
-  pub link : h.link < 256 ^ 4
-  pub info : h.info < 256 ^ 4
 
 regroup_fields : (a b c d e f g h i j : List ℕ)
     → a ++ (b ++ (c ++ (d ++ (e ++ (f ++ (g ++ (h ++ (i ++ j))))))))

@@ -23,9 +23,9 @@ use Rattle.addr2line_elf.specs.ElfHeaders.{file_header, section_header, header_a
 use Rattle.addr2line_elf.specs.ImageLoading.{or_truncated, read_in}
 use Rattle.addr2line_elf.specs.ElfImages.{Image, Identification, identification, Sections, section_count, names_index, linked_contents, contents_of, contents, table, sections_of, image_in, image_of, section_named}
 use Rattle.addr2line_elf.specs.ElfSymbols.{symbols_of, symbol_table, symbols_at, section_or}
-use Rattle.linemap_elf.specs.SpelledImages.{file_header_size, spelled_identification, spelled_fields, file_header_fields, spelled_section_header, null_header, NamedBytes, ImageSection, program_section, spelled_name, names_name, spelled_names, names_section, all_sections, header_of, headers_from, body, body_end, table_offset, header_count, padding, spelled_file_header, spelled_table, spelled_image, image_size}
+use Rattle.linemap_elf.specs.SpelledImages.{file_header_size, spelled_identification, spelled_fields, file_header_fields, spelled_section_header, FitsHeader, null_header, NamedBytes, ImageSection, program_section, spelled_name, names_name, spelled_names, names_section, all_sections, header_of, headers_from, body, body_end, table_offset, header_count, padding, spelled_file_header, spelled_table, spelled_image, image_size}
 use Rattle.linemap_elf.specs.ImageLaws.{is_name, ImageFits, bytes_named, HasBytes, HoldsSections}
-use Rattle.linemap_elf.proofs.HeadersRead.{again_skip, file_header_of, file_header_again, FitsHeader, section_header_again, AllFitHeaders, table_again}
+use Rattle.linemap_elf.proofs.HeadersRead.{again_skip, file_header_of, file_header_again, section_header_again, AllFitHeaders, table_again}
 use Rattle.linemap_elf.proofs.SectionsFound.{IsOfContents, contents_are, image_with, section_is, AllOfContents, sections_found, none_of_type, length-headers_from, last_header, all_fit}
 use Rattle.linemap_elf.proofs.ImageSizes.{length-file_header, length-all_sections, multiple_after, before_table, length-before_table, length-table, table_last}
 

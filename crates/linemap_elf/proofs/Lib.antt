@@ -2,3 +2,5 @@ pub mod HeadersRead
 pub mod SectionsFound
 pub mod ImageSizes
 pub mod ImagesRead
+pub mod WrittenParts
+pub mod HeaderLoops

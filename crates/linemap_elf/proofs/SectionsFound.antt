@@ -23,9 +23,9 @@ use Rattle.addr2line_elf.specs.ElfTexts.{text_before_zero, text_at, is_text}
 use Rattle.addr2line_elf.specs.ElfImages.{Image, contents, section_at, section_named, debug_contents, plain_contents}
 use Rattle.gimli_lines_write_bytes.specs.Parsers.{value_of}
 use Rattle.linemap_elf.specs.declared.constants.TheConstants.{ET_EXEC}
-use Rattle.linemap_elf.specs.SpelledImages.{ImageSection, spelled_name, null_header, header_of, headers_from}
+use Rattle.linemap_elf.specs.SpelledImages.{FitsHeader, ImageSection, spelled_name, null_header, header_of, headers_from}
 use Rattle.linemap_elf.specs.ImageLaws.{is_name, bytes_named, HasBytes}
-use Rattle.linemap_elf.proofs.HeadersRead.{again_skip, FitsHeader, AllFitHeaders}
+use Rattle.linemap_elf.proofs.HeadersRead.{again_skip, AllFitHeaders}
 
 -- ---- bytes of a section
 

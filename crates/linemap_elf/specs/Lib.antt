@@ -1,2 +1,3 @@
 pub mod SpelledImages
+pub mod WrittenImages
 pub mod ImageLaws

@@ -1,7 +1,7 @@
 -- The ELF image that holds some sections (System V ABI, "ELF Header" and "Sections"): the file's
 -- header, the sections' bytes one after the other, the names of the sections, and the section
 -- headers.
-use Rattle.std.specs.Prelude.{ℕ, ◌+◌, ◌-◌, ◌*◌, ◌/◌, Bool, List, [], ◌∷◌, ◌++◌, length, map, replicate, codes, flat_map, if◌then◌else◌}
+use Rattle.std.specs.Prelude.{ℕ, ◌+◌, ◌-◌, ◌*◌, ◌/◌, ◌^◌, ◌<◌, Bool, List, [], ◌∷◌, ◌++◌, length, map, replicate, codes, flat_map, if◌then◌else◌}
 use Rattle.gimli_lines_write_bytes.specs.Fixed.{number_bytes}
 use Rattle.addr2line_elf.specs.declared.class.Class.{Class}
 use Rattle.addr2line_elf.specs.declared.class.Class.TheVariants.{Elf32, Elf64}
@@ -74,6 +74,17 @@ section_header_fields class alignment h =
 abbrev pub spelled_section_header : Class → Bool → ℕ → SectionHeader → List ℕ
 spelled_section_header class is_big alignment h =
     spelled_fields is_big (section_header_fields class alignment h)
+
+-- the fields of a header have room for its numbers
+pub record FitsHeader (class : Class) (h : SectionHeader) : Type 0 where
+  pub name : h.name < 256 ^ 4
+  pub section_type : h.section_type < 256 ^ 4
+  pub flags : h.flags < 256 ^ word_size class
+  pub address : h.address < 256 ^ word_size class
+  pub offset : h.offset < 256 ^ word_size class
+  pub size : h.size < 256 ^ word_size class
+  pub link : h.link < 256 ^ 4
+  pub info : h.info < 256 ^ 4
 
 -- the header at index 0, of no section
 abbrev pub null_header : SectionHeader

@@ -2,4 +2,14 @@
 #![tactic(auto)]
 
 pub mod constants;
+pub mod field;
+mod headers;
+mod image;
 pub mod laws;
+pub mod section;
+mod sections;
+pub mod writer;
+
+pub use addr2line_elf::class::Class;
+pub use image::write_image;
+pub use section::Section;
