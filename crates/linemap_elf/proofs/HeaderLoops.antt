@@ -1,7 +1,6 @@
 -- How far the section headers are written.
-use Rattle.std.proofs.Common.{◌≡◌, ℕ, ◌+◌, ◌++◌, ◌∷◌, [], Bool, List, drop, map, length}
+use Rattle.std.proofs.Common.{◌≡◌, ℕ, ◌+◌, ◌++◌, ◌∷◌, [], List, drop, map, length}
 use Rattle.std.specs.Prelude.{flat_map}
-use Rattle.addr2line_elf.specs.declared.class.Class.{Class}
 use Rattle.linemap_elf.specs.SpelledImages.{file_header_size, spelled_section_header, NamedBytes, program_section, names_section, all_sections, headers_from}
 use Rattle.linemap_elf.specs.WrittenImages.{ImageBytes, names_joined, bytes_joined}
 

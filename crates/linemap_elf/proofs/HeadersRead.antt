@@ -1,13 +1,12 @@
 -- The headers of an image are read again.
-use Rattle.std.proofs.Common.{◌≡◌, ℕ, suc, ◌+◌, ◌-◌, ◌*◌, ◌<◌, ◌≤◌, ◌^◌, Bool, true, false, cond, List, [], ◌∷◌, ◌++◌, length, Result, Ok, Err, refl, sym, ap, subst, ◌∙◌, arith, append_assoc, append-nil}
+use Rattle.std.proofs.Common.{◌≡◌, ℕ, suc, ◌+◌, ◌-◌, ◌*◌, ◌<◌, ◌≤◌, ◌^◌, Bool, cond, List, [], ◌∷◌, ◌++◌, length, Result, Ok, Err, refl, sym, ap, subst, ◌∙◌, arith, append_assoc, append-nil}
 use Rattle.std.specs.Prelude.{flat_map}
 use Rattle.std.proofs.lemmas.Bool.{le-ltb}
 use Rattle.std.proofs.lemmas.List.{length-append}
 use Rattle.gimli_lines_write_bytes.specs.Error.{Error}
 use Rattle.gimli_lines_write_bytes.specs.View.{View, after, unexpected_end}
-use Rattle.gimli_lines_write_bytes.specs.Parsers.{Parser, ◌>>=◌, proceed, give, skip}
+use Rattle.gimli_lines_write_bytes.specs.Parsers.{Parser, skip}
 use Rattle.gimli_lines_write_bytes.specs.Repetition.{times}
-use Rattle.gimli_lines_write_bytes.specs.NumberParsers.{fixed}
 use Rattle.gimli_lines_write_bytes.specs.Fixed.{number_bytes}
 use Rattle.gimli_lines_write_bytes.specs.BytesAt.{bytes_at}
 use Rattle.gimli_lines_write_bytes.proofs.NumberRoundTrip.{length-spelled}

@@ -1,6 +1,6 @@
 -- How many bytes the parts of an image have.
-use Rattle.std.proofs.Common.{◌≡◌, ℕ, ◌+◌, ◌-◌, ◌*◌, ◌/◌, ◌≤◌, Bool, true, false, List, [], ◌∷◌, ◌++◌, length, map, sum_by, refl, sym, ap, ◌∙◌, arith, suc, append_assoc}
-use Rattle.std.specs.Prelude.{flat_map, replicate}
+use Rattle.std.proofs.Common.{◌≡◌, ℕ, ◌+◌, ◌-◌, ◌*◌, ◌≤◌, Bool, List, [], ◌∷◌, ◌++◌, length, map, sum_by, refl, sym, ap, ◌∙◌, arith, suc, append_assoc}
+use Rattle.std.specs.Prelude.{flat_map}
 use Rattle.std.proofs.lemmas.List.{length-append, length-map, length-replicate}
 use Rattle.std.proofs.lemmas.List.Sums.{sum_by-cons}
 use Rattle.std.proofs.Math.Nat.{add-mul, suc-mul}
@@ -10,7 +10,7 @@ use Rattle.addr2line_elf.specs.declared.class.Class.{Class}
 use Rattle.addr2line_elf.specs.declared.class.Class.TheVariants.{Elf32, Elf64}
 use Rattle.addr2line_elf.specs.declared.headers.SectionHeader.{SectionHeader}
 use Rattle.addr2line_elf.specs.ElfClasses.{section_header_size}
-use Rattle.linemap_elf.specs.SpelledImages.{Field, spelled_fields, file_header_size, spelled_identification, file_header_fields, section_header_fields, spelled_section_header, null_header, NamedBytes, ImageSection, program_section, names_section, all_sections, headers_from, body, body_end, next_multiple_of_8, table_offset, header_count, padding, spelled_file_header, spelled_table, spelled_image, image_size}
+use Rattle.linemap_elf.specs.SpelledImages.{Field, spelled_fields, file_header_size, spelled_identification, file_header_fields, section_header_fields, spelled_section_header, null_header, NamedBytes, program_section, names_section, all_sections, headers_from, body, body_end, next_multiple_of_8, table_offset, header_count, padding, spelled_file_header, spelled_table, spelled_image, image_size}
 use Rattle.linemap_elf.proofs.SectionsFound.{length-headers_from}
 
 -- ---- headers

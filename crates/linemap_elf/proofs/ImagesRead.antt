@@ -1,7 +1,7 @@
 -- An image that is written is read again.
-use Rattle.std.proofs.Common.{◌≡◌, ℕ, suc, ◌+◌, ◌-◌, ◌*◌, ◌<◌, ◌≤◌, ◌^◌, Bool, true, false, cond, eqb, List, [], ◌∷◌, ◌++◌, length, map, Option, Some, None, Result, Ok, Err, not, refl, sym, ap, ◌∙◌, arith, append_assoc, append-nil}
-use Rattle.std.specs.Prelude.{◌&&◌, flat_map}
-use Rattle.std.specs.List.{list_any, list_all, find, slice_get}
+use Rattle.std.proofs.Common.{◌≡◌, ℕ, suc, ◌+◌, ◌-◌, ◌<◌, ◌≤◌, ◌^◌, Bool, true, false, cond, eqb, List, [], ◌∷◌, ◌++◌, length, map, Option, None, Result, Ok, Err, refl, sym, ap, ◌∙◌, arith, append_assoc, append-nil}
+use Rattle.std.specs.Prelude.{flat_map}
+use Rattle.std.specs.List.{list_all, find, slice_get}
 use Rattle.std.proofs.lemmas.Bool.{ne_eqb, eq-eqb, and_parts}
 use Rattle.std.proofs.lemmas.List.{length-append, length-map}
 use Rattle.std.proofs.lemmas.List.Concat.{flat_map-append}
@@ -11,7 +11,7 @@ use Rattle.gimli_lines_write_bytes.specs.Parsers.{Parser, value_of}
 use Rattle.gimli_lines_write_bytes.specs.Results.{◌>>=◌}
 use Rattle.gimli_lines_write_bytes.specs.Repetition.{times}
 use Rattle.gimli_lines_write_bytes.specs.BytesAt.{bytes_at}
-use Rattle.gimli_lines_write_bytes.proofs.FollowedReads.{Again, again_onward, again_then}
+use Rattle.gimli_lines_write_bytes.proofs.FollowedReads.{Again, again_onward}
 use Rattle.addr2line_elf.specs.declared.class.Class.{Class}
 use Rattle.addr2line_elf.specs.declared.class.Class.TheVariants.{Elf32, Elf64}
 use Rattle.addr2line_elf.specs.declared.error.LoadError.{LoadError}
@@ -21,13 +21,13 @@ use Rattle.addr2line_elf.specs.declared.headers.SectionHeader.{SectionHeader}
 use Rattle.addr2line_elf.specs.ElfClasses.{word_size, section_header_size}
 use Rattle.addr2line_elf.specs.ElfHeaders.{file_header, section_header, header_at, headers_at}
 use Rattle.addr2line_elf.specs.ImageLoading.{or_truncated, read_in}
-use Rattle.addr2line_elf.specs.ElfImages.{Image, Identification, identification, Sections, section_count, names_index, linked_contents, contents_of, contents, table, sections_of, image_in, image_of, section_named}
-use Rattle.addr2line_elf.specs.ElfSymbols.{symbols_of, symbol_table, symbols_at, section_or}
-use Rattle.linemap_elf.specs.SpelledImages.{file_header_size, spelled_identification, spelled_fields, file_header_fields, spelled_section_header, FitsHeader, null_header, NamedBytes, ImageSection, program_section, spelled_name, names_name, spelled_names, names_section, all_sections, header_of, headers_from, body, body_end, table_offset, header_count, padding, spelled_file_header, spelled_table, spelled_image, image_size}
+use Rattle.addr2line_elf.specs.ElfImages.{Image, Identification, identification, Sections, section_count, names_index, linked_contents, contents_of, contents, table, sections_of, image_in, image_of}
+use Rattle.addr2line_elf.specs.ElfSymbols.{symbols_of, symbols_at, section_or}
+use Rattle.linemap_elf.specs.SpelledImages.{file_header_size, spelled_identification, spelled_fields, file_header_fields, spelled_section_header, FitsHeader, null_header, NamedBytes, ImageSection, program_section, spelled_name, names_section, all_sections, header_of, headers_from, body, body_end, table_offset, header_count, padding, spelled_file_header, spelled_table, spelled_image}
 use Rattle.linemap_elf.specs.ImageLaws.{is_name, ImageFits, bytes_named, HasBytes, HoldsSections}
 use Rattle.linemap_elf.proofs.HeadersRead.{again_skip, file_header_of, file_header_again, section_header_again, AllFitHeaders, table_again}
 use Rattle.linemap_elf.proofs.SectionsFound.{IsOfContents, contents_are, image_with, section_is, AllOfContents, sections_found, none_of_type, length-headers_from, last_header, all_fit}
-use Rattle.linemap_elf.proofs.ImageSizes.{length-file_header, length-all_sections, multiple_after, before_table, length-before_table, length-table, table_last}
+use Rattle.linemap_elf.proofs.ImageSizes.{length-file_header, length-all_sections, multiple_after, before_table, length-before_table, table_last}
 
 -- ---- the identification
 

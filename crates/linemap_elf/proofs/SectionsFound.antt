@@ -1,12 +1,12 @@
 -- The sections of an image are found by their names.
-use Rattle.std.proofs.Common.{◌≡◌, ℕ, suc, ◌+◌, ◌<◌, ◌≤◌, Bool, true, false, cond, eqb, ltb, List, [], ◌∷◌, ◌++◌, length, take, drop, Option, Some, None, Result, Ok, Err, not, ◌⊎◌, inl, inr, refl, sym, ap, subst, ◌∙◌, arith, append_assoc, add-one}
+use Rattle.std.proofs.Common.{◌≡◌, ℕ, suc, ◌+◌, ◌<◌, ◌≤◌, Bool, true, false, cond, eqb, List, [], ◌∷◌, ◌++◌, length, take, Option, Some, None, Result, Ok, Err, inl, inr, refl, sym, ap, subst, ◌∙◌, arith, append_assoc}
 use Rattle.std.specs.Prelude.{◌^◌, flat_map, nat_eq, option_map, bit_and}
-use Rattle.std.specs.List.{list_any, list_all, position, position_or_len, find, slice_get}
+use Rattle.std.specs.List.{list_any, position, position_or_len, find, slice_get}
 use Rattle.std.specs.Cmp.Lexicographic.{pointwise}
 use Rattle.std.proofs.lemmas.Bool.{le-ltb, lt-ltb, not-true}
 use Rattle.std.proofs.lemmas.List.{length-append, take_at, drop_at}
 use Rattle.std.proofs.lemmas.List.Folds.{find_at}
-use Rattle.std.proofs.lemmas.Option.{slice_get_within, slice_get_cases}
+use Rattle.std.proofs.lemmas.Option.{slice_get_cases}
 use Rattle.gimli_lines_write_bytes.specs.Error.{Error}
 use Rattle.gimli_lines_write_bytes.specs.View.{View, prefix, unexpected_end}
 use Rattle.gimli_lines_write_bytes.specs.Parsers.{proceed, truncate, here, index_or_end, skip}
@@ -23,8 +23,8 @@ use Rattle.addr2line_elf.specs.ElfTexts.{text_before_zero, text_at, is_text}
 use Rattle.addr2line_elf.specs.ElfImages.{Image, contents, section_at, section_named, debug_contents, plain_contents}
 use Rattle.gimli_lines_write_bytes.specs.Parsers.{value_of}
 use Rattle.linemap_elf.specs.declared.constants.TheConstants.{ET_EXEC}
-use Rattle.linemap_elf.specs.SpelledImages.{FitsHeader, ImageSection, spelled_name, null_header, header_of, headers_from}
-use Rattle.linemap_elf.specs.ImageLaws.{is_name, bytes_named, HasBytes}
+use Rattle.linemap_elf.specs.SpelledImages.{ImageSection, spelled_name, null_header, header_of, headers_from}
+use Rattle.linemap_elf.specs.ImageLaws.{is_name, bytes_named}
 use Rattle.linemap_elf.proofs.HeadersRead.{again_skip, AllFitHeaders}
 
 -- ---- bytes of a section

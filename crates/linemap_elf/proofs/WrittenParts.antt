@@ -1,15 +1,13 @@
 -- The parts of an image as they are written.
-use Rattle.std.proofs.Common.{◌≡◌, ℕ, zero, suc, ◌+◌, ◌-◌, ◌*◌, ◌/◌, ◌<◌, ◌≤◌, ◌^◌, Bool, List, [], ◌∷◌, ◌++◌, length, map, take, drop, get_or, refl, sym, ap, ◌∙◌, arith, append_assoc, append-nil}
+use Rattle.std.proofs.Common.{◌≡◌, ℕ, zero, suc, ◌+◌, ◌*◌, ◌<◌, ◌≤◌, ◌^◌, Bool, List, [], ◌∷◌, ◌++◌, length, map, take, drop, get_or, refl, sym, ap, ◌∙◌, arith, append_assoc, append-nil}
 use Rattle.std.specs.Prelude.{flat_map, replicate}
 use Rattle.std.proofs.lemmas.List.{length-append, drop_more}
 use Rattle.std.proofs.lemmas.List.Concat.{flat_map-append}
 use Rattle.std.proofs.lemmas.List.Folds.{flat_map-map}
-use Rattle.std.proofs.Math.Nat.{add-mul}
 use Rattle.addr2line_elf.specs.declared.class.Class.{Class}
 use Rattle.addr2line_elf.specs.declared.class.Class.TheVariants.{Elf32, Elf64}
-use Rattle.addr2line_elf.specs.declared.headers.SectionHeader.{SectionHeader}
 use Rattle.addr2line_elf.specs.ElfClasses.{word_size, section_header_size}
-use Rattle.linemap_elf.specs.SpelledImages.{file_header_size, spelled_section_header, FitsHeader, NamedBytes, ImageSection, program_section, spelled_name, names_name, names_section, all_sections, header_of, headers_from, body, body_end, table_offset, header_count, image_size}
+use Rattle.linemap_elf.specs.SpelledImages.{file_header_size, spelled_section_header, FitsHeader, NamedBytes, ImageSection, program_section, spelled_name, names_name, names_section, header_of, headers_from, body, body_end, table_offset, header_count, image_size}
 use Rattle.linemap_elf.specs.WrittenImages.{ImageBytes, append, bytes_joined, names_joined}
 use Rattle.linemap_elf.specs.ImageLaws.{ImageFits}
 use Rattle.linemap_elf.proofs.ImageSizes.{multiple_after}

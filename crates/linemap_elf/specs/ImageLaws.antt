@@ -1,5 +1,5 @@
 -- An image that is written is read again.
-use Rattle.std.specs.Prelude.{◌≡◌, ℕ, ◌+◌, ◌<◌, ◌^◌, ◌==◌, nat_eq, not, Bool, true, List, [], ◌∷◌, length, Result, Ok, if◌then◌else◌}
+use Rattle.std.specs.Prelude.{◌≡◌, ℕ, ◌<◌, ◌^◌, ◌==◌, nat_eq, not, Bool, true, List, [], ◌∷◌, length, Ok, if◌then◌else◌}
 use Rattle.std.specs.List.{list_any, list_all}
 use Rattle.std.specs.Cmp.Lexicographic.{pointwise}
 use Rattle.gimli_lines_write_bytes.specs.BytesAt.{bytes_at}

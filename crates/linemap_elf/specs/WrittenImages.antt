@@ -1,5 +1,5 @@
 -- What has been written of an image.
-use Rattle.std.specs.Prelude.{ℕ, ◌+◌, ◌<◌, ◌≤◌, ◌^◌, Bool, List, [], ◌++◌, length, flat_map}
+use Rattle.std.specs.Prelude.{ℕ, Bool, List, ◌++◌, flat_map}
 use Rattle.addr2line_elf.specs.declared.class.Class.{Class}
 use Rattle.linemap_elf.specs.declared.field.Field as declared
 use Rattle.linemap_elf.specs.declared.field.Field.TheVariants.{Half, Word, Xword}

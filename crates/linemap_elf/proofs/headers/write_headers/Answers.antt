@@ -1,10 +1,10 @@
-use Rattle.std.proofs.Common.{◌≡◌, ℕ, length, drop, sym, ap, subst, arith}
+use Rattle.std.proofs.Common.{◌≡◌, length, drop, sym, ap, subst, arith}
 use Rattle.std.proofs.lemmas.List.{drop_all}
 use Rattle.addr2line_elf.specs.declared.class.Class.{Class}
 use Rattle.addr2line_elf.specs.declared.headers.SectionHeader.{SectionHeader}
 use Rattle.linemap_elf.specs.SpelledImages.{FitsHeader}
 use Rattle.linemap_elf.specs.WrittenImages.{bytes_joined, names_joined}
-use Rattle.linemap_elf.proofs.WrittenParts.{names_more, bytes_more, is_bounded, fits_section, length_names_section}
+use Rattle.linemap_elf.proofs.WrittenParts.{names_more, bytes_more, is_bounded, fits_section}
 use Rattle.linemap_elf.proofs.headers.write_headers.Goals as goal
 
 pub write_header-requires-clause-fits : goal.write_header-requires-clause-fits

@@ -1,4 +1,4 @@
-use Rattle.std.proofs.Common.{List, ℕ, sym, subst}
+use Rattle.std.proofs.Common.{sym, subst}
 use Rattle.std.proofs.lemmas.Result.{IfOk-weaker}
 use Rattle.gimli_lines_write_bytes.specs.ByteOrders.{is_big_endian}
 use Rattle.linemap_elf.specs.SpelledImages.{all_sections}
