@@ -1,3 +1,13 @@
 pub mod LoadedFiles
 pub mod FileLoads
 pub mod SourceAnswers
+pub use Rattle.addr2line_context.specs.Contexts
+pub use Rattle.addr2line_context.specs.DwarfFiles
+pub use Rattle.addr2line_context.specs.Results
+pub use Rattle.addr2line_context.specs.Error
+pub use Rattle.addr2line_split.specs.ElfDebugSections
+pub use Rattle.addr2line_split.specs.ElfImages
+pub use Rattle.addr2line_split.specs.ElfSymbols
+pub use Rattle.addr2line_split.specs.ImageFiles
+pub use Rattle.addr2line_split.specs.LoadError
+pub use Rattle.addr2line_split.specs.SectionLoading
