@@ -37,7 +37,7 @@ use Rattle.linemap_emit_units.proofs.Wrapping.{at_most_eight}
 use Rattle.linemap_emit_fits.specs.EmissionBounds.{IsTableBounded, sections_size}
 use Rattle.linemap_emit_fits.proofs.NumberSizes.{length-unsigned, length-cond}
 use Rattle.linemap_emit_fits.proofs.StringSectionSizes.{section_grows}
-use Rattle.linemap_emit_fits.proofs.FileTableSizes.{unit_both}
+use Rattle.linemap_emit_fits.proofs.FileTableSizes.{unit_both, unit_old}
 use Rattle.linemap_emit_fits.proofs.EntryListSizes.{ranges_few, entry_few, fields_few}
 use Rattle.linemap_emit_fits.proofs.InlinedNameSizes.{name_most, names_most, names_few, site_most, calls_most, function_most, unit_split}
 use Rattle.linemap_emit_fits.proofs.SoundUnitFits.{CanEmitUnitSequences, plain_can_emit, AllPlain, sound_is_plain}
@@ -224,6 +224,19 @@ module _ (e : Encoding) (is_big : Bool) (served : IsServed e) where
       (unit_added m u st rows.0 can bounded here summed) in
       let few = rest.few in
       record { few = omega arith }
+
+-- up to version 4 `.debug_line_str` has no text
+units_old : (e : Encoding) (is_big : Bool) (us : List UnitPart) (st : EmittedTable) → nat_le e.version 4 ≡ true
+    → (with_emitted_units e is_big us st).line_texts ≡ st.line_texts
+unfolding with_emitted_units
+units_old e is_big [] st old = refl
+units_old e is_big (u ∷ us) st old =
+    units_old e is_big us (with_emitted_unit e is_big u st) old ∙ unit_old e u st.line_texts old
+
+pub no_line_texts : (e : Encoding) (is_big : Bool) (us : List UnitPart) → nat_le e.version 4 ≡ true
+    → (emitted_sections e is_big us).debug_line_str ≡ []
+unfolding section_of
+no_line_texts e is_big us old = ap section_of (units_old e is_big us no_units old)
 
 -- ---- declarations
 

@@ -151,3 +151,22 @@ unit_both e u line_texts =
     let two = line_texts_grow e.version u.name (table_after e.version u.directory line_texts) in
     let all = files_both u.files (first_unit_files e u line_texts) in
     omega arith
+
+-- ---- up to version 4 no text is in `.debug_line_str`
+
+old_texts : (fs : List FilePart) (st : EmittedFiles) → nat_le st.tables.version 4 ≡ true
+    → (with_table_files fs st).line_texts ≡ st.line_texts
+unfolding with_table_files
+old_texts [] st old = refl
+old_texts (f ∷ fs) st old =
+    let after = table_after st.tables.version f.directory st.line_texts in
+    old_texts fs (with_table_file f st) old ∙ ap (λ (b : Bool). cond b after (with_text after f.name)) old
+    ∙ ap (λ (b : Bool). cond b st.line_texts (with_text st.line_texts f.directory)) old
+
+pub unit_old : (e : Encoding) (u : UnitPart) (line_texts : List (List ℕ)) → nat_le e.version 4 ≡ true
+    → (unit_files e u line_texts).line_texts ≡ line_texts
+unit_old e u line_texts old =
+    let after = table_after e.version u.directory line_texts in
+    old_texts u.files (first_unit_files e u line_texts) old
+    ∙ ap (λ (b : Bool). cond b after (with_text after u.name)) old
+    ∙ ap (λ (b : Bool). cond b line_texts (with_text line_texts u.directory)) old

@@ -32,11 +32,12 @@ use Rattle.linemap_image.specs.ImageAnswers.{FileAnswers}
 pub record IsOfVersion (version : ℕ) (bytes : SectionBytes) : Type 0 where
   pub no_lists : nat_le version 4 ≡ true → bytes.debug_rnglists ≡ []
   pub no_ranges : nat_le version 4 ≡ false → bytes.debug_ranges ≡ []
+  pub no_line_texts : nat_le version 4 ≡ true → bytes.debug_line_str ≡ []
 
 -- ---- sections by name
 
 -- the sections up to version 4, or those of version 5
-abbrev sections_by : SectionBytes → Bool → List NamedBytes
+abbrev pub sections_by : SectionBytes → Bool → List NamedBytes
 sections_by bytes b =
     map (section_of bytes)
     (cond b (DebugAbbrev ∷ DebugInfo ∷ DebugLine ∷ DebugRanges ∷ DebugStr ∷ [])
@@ -74,6 +75,11 @@ lists_found : (bytes : SectionBytes) (b : Bool) → (b ≡ true → bytes.debug_
     → found bytes DebugRngLists b ≡ bytes.debug_rnglists
 lists_found bytes true none = sym (none refl)
 lists_found bytes false none = refl
+
+line_str_found : (bytes : SectionBytes) (b : Bool) → (b ≡ true → bytes.debug_line_str ≡ [])
+    → found bytes DebugLineStr b ≡ bytes.debug_line_str
+line_str_found bytes true none = sym (none refl)
+line_str_found bytes false none = refl
 
 -- ---- the file of an image's sections
 
@@ -125,6 +131,7 @@ module _ (e : Encoding) (is_big : Bool) (bytes : SectionBytes) (file : List ℕ)
       let abbrev_ = held.each (name_of DebugAbbrev) in
       let info = held.each (name_of DebugInfo) in
       let line = held.each (name_of DebugLine) in
+      let line_str = held.each (name_of DebugLineStr) in
       let ranges = held.each (name_of DebugRanges) in
       let lists = held.each (name_of DebugRngLists) in
       let str = held.each (name_of DebugStr) in
@@ -133,6 +140,7 @@ module _ (e : Encoding) (is_big : Bool) (bytes : SectionBytes) (file : List ℕ)
         abbrev_first = abbrev_.first;
         info_first = info.first;
         line_first = line.first;
+        line_str_first = line_str.first;
         ranges_first = ranges.first;
         rnglists_first = lists.first;
         str_first = str.first;
@@ -142,6 +150,9 @@ module _ (e : Encoding) (is_big : Bool) (bytes : SectionBytes) (file : List ℕ)
             ∙ ap (λ (xs : List ℕ). bytes_at is_big info.first xs) (info_found bytes old);
         line_is = ap bytes_or_none line.section_is
             ∙ ap (λ (xs : List ℕ). bytes_at is_big line.first xs) (line_found bytes old);
+        line_str_is = ap bytes_or_none line_str.section_is
+            ∙ ap (λ (xs : List ℕ). bytes_at is_big line_str.first xs)
+            (line_str_found bytes old version.no_line_texts);
         ranges_is = ap bytes_or_none ranges.section_is
             ∙ ap (λ (xs : List ℕ). bytes_at is_big ranges.first xs) (ranges_found bytes old version.no_ranges);
         rnglists_is = ap bytes_or_none lists.section_is
