@@ -83,6 +83,15 @@ line_str_found bytes false none = refl
 
 -- ---- the file of an image's sections
 
+-- the section of a name, or none
+abbrev named_or_none : Image → List ℕ → Bool → Result View LoadError
+named_or_none image name b = cond b (section_named name image) (Ok (prefix 0 image.file))
+
+is_ok : (image : Image) (name : List ℕ) (b : Bool) → (v : View) × (section_named name image ≡ Ok v)
+    → named_or_none image name b ≡ Ok (bytes_or_none (named_or_none image name b))
+is_ok image name true is = is.1 ∙ ap (λ (r : Result View LoadError). Ok (bytes_or_none r)) (sym is.1)
+is_ok image name false is = refl
+
 module _ (image : Image) where
   -- a section's bytes
   abbrev view_of : SectionId → View
@@ -91,16 +100,7 @@ module _ (image : Image) where
   -- each section is read that has a name
   section_ok : ((name : List ℕ) → (v : View) × (section_named name image ≡ Ok v)) → (id : SectionId)
       → main_section id image ≡ Ok (view_of id)
-  section_ok each_named id = by (is_read id)
-    where
-      abbrev either : Bool → Result View LoadError
-      either b = cond b (section_named (name_of id) image) (Ok (prefix 0 image.file))
-
-      by : (b : Bool) → either b ≡ Ok (bytes_or_none (either b))
-      by true =
-          let is = (each_named (name_of id)).1 in
-          is ∙ ap (λ (r : Result View LoadError). Ok (bytes_or_none r)) (sym is)
-      by false = refl
+  section_ok each_named id = is_ok image (name_of id) (is_read id) (each_named (name_of id))
 
   each_ok : ((id : SectionId) → main_section id image ≡ Ok (view_of id)) → (ids : List SectionId)
       → each (λ id. main_section id image) ids ≡ Ok (map view_of ids)

@@ -6,7 +6,7 @@ use Rattle.linemap_emit.specs.TableUnits.{units_of}
 use Rattle.linemap_emit.specs.TableWeight.{table_weight}
 use Rattle.linemap_image.proofs.LoadedImages.{IsOfVersion, file_answers}
 use Rattle.linemap_image.proofs.ImageBounds.{of_version, image_fits}
-use Rattle.linemap_image.proofs.emit.emit.Goals as goal
+use Rattle.linemap_image.proofs.table_image.emit.Goals as goal
 
 -- what isn't refused as too large is light
 light : {A E : Type 0} (x : A) (e : E) (w : ℕ) → (Ok {E = E} x ≡ Err e) ↔ (2 ^ 31 ≤ w) → w < 2 ^ 31
