@@ -19,12 +19,18 @@ use Rattle.linemap_emit.specs.TableParts.{UnitPart}
 use Rattle.linemap_image.specs.TableImages.{class_of, section_of, image_sections}
 use Rattle.linemap_image.proofs.LoadedImages.{IsOfVersion, sections_by}
 
+nothing_if : (b : Bool) (xs : List ℕ) → b ≡ true → cond b [] xs ≡ []
+nothing_if b xs is = ap (λ (c : Bool). cond c [] xs) is
+
+nothing_unless : (b : Bool) (xs : List ℕ) → b ≡ false → cond b xs [] ≡ []
+nothing_unless b xs is = ap (λ (c : Bool). cond c xs []) is
+
 -- what is emitted is of its version
 pub of_version : (e : Encoding) (is_big : Bool) (us : List UnitPart)
     → IsOfVersion e.version (emitted_sections e is_big us)
 of_version e is_big us = record {
-  no_lists = λ h. ap (λ (b : Bool). cond b [] _) h;
-  no_ranges = λ h. ap (λ (b : Bool). cond b _ []) h;
+  no_lists = λ h. nothing_if (nat_le e.version 4) _ h;
+  no_ranges = λ h. nothing_unless (nat_le e.version 4) _ h;
   no_line_texts = no_line_texts e is_big us;
 }
 

@@ -9,7 +9,7 @@ ghost use Rattle.linemap_emit.specs.EmittedSections.{emitted_sections};
 ghost use Rattle.linemap_emit.specs.TableUnits.{units_of};
 ghost use Rattle.linemap_emit.specs.TableWeight.{table_weight};
 ghost use Rattle.linemap_image.specs.ImageAnswers.{FileAnswers};
-ghost use Rattle.linemap_image.specs.TableImages.{class_of, section_of, image_sections, emitted_image};
+ghost use Rattle.linemap_image.specs.TableImages.{class_of, image_sections, emitted_image};
 
 use gimli_core_base::SectionId;
 use linemap_elf::{Class, Section, write_image};
@@ -47,12 +47,17 @@ fn image_of(alloc: Global, sections: &Sections, target: Target) -> Result<Vec<u8
 {
     let encoding = target.encoding();
     let class = class_of(encoding.address_size);
-    let abbrev = section_of(sections, SectionId::DebugAbbrev);
-    let info = section_of(sections, SectionId::DebugInfo);
-    let line = section_of(sections, SectionId::DebugLine);
-    let str = section_of(sections, SectionId::DebugStr);
+    let abbrev = sections.get(SectionId::DebugAbbrev);
+    let abbrev = Section::new(SectionId::DebugAbbrev.name(), abbrev);
+    let info = sections.get(SectionId::DebugInfo);
+    let info = Section::new(SectionId::DebugInfo.name(), info);
+    let line = sections.get(SectionId::DebugLine);
+    let line = Section::new(SectionId::DebugLine.name(), line);
+    let str = sections.get(SectionId::DebugStr);
+    let str = Section::new(SectionId::DebugStr.name(), str);
     if encoding.version <= 4 {
-        let ranges = section_of(sections, SectionId::DebugRanges);
+        let ranges = sections.get(SectionId::DebugRanges);
+        let ranges = Section::new(SectionId::DebugRanges.name(), ranges);
         return write_image(
             alloc,
             class,
@@ -60,8 +65,10 @@ fn image_of(alloc: Global, sections: &Sections, target: Target) -> Result<Vec<u8
             &[abbrev, info, line, ranges, str],
         );
     }
-    let line_str = section_of(sections, SectionId::DebugLineStr);
-    let lists = section_of(sections, SectionId::DebugRngLists);
+    let line_str = sections.get(SectionId::DebugLineStr);
+    let line_str = Section::new(SectionId::DebugLineStr.name(), line_str);
+    let lists = sections.get(SectionId::DebugRngLists);
+    let lists = Section::new(SectionId::DebugRngLists.name(), lists);
     write_image(
         alloc,
         class,
@@ -79,11 +86,4 @@ fn class_of(address_size: u8) -> Class
     } else {
         Class::Elf64
     }
-}
-
-// A section by its name.
-fn section_of(sections: &Sections, id: SectionId) -> Section<'_>
-    ensures { result ≡ section_of sections.now id }
-{
-    Section::new(id.name(), sections.get(id))
 }
