@@ -11,7 +11,7 @@ use Rattle.linemap_emit_units.specs.Format.TheVariants.{Dwarf32, Dwarf64}
 use Rattle.linemap_emit_units.specs.StringSections.{IsText, section_of}
 use Rattle.linemap_emit_units.specs.Conditions.{IsSound}
 use Rattle.linemap_emit_units.specs.EncodingFits.{fits}
-use Rattle.linemap_emit_units.specs.TableParts.{RangePart, Site, Calls, no_calls, more_calls, FunctionPart, UnitPart}
+use Rattle.linemap_emit_units.specs.TableParts.{RangePart, Calls, no_calls, more_calls, FunctionPart, UnitPart}
 use Rattle.linemap_emit_units.specs.TableWeight.{file_weight, function_weight, sequence_weight, unit_weight, table_weight}
 use Rattle.linemap_emit_units.specs.Declarations.{Attribute, Declaration}
 use Rattle.linemap_emit_units.specs.Fixed.{number_bytes}

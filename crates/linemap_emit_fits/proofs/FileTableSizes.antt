@@ -4,7 +4,7 @@ use Rattle.std.specs.Prelude.{nat_le}
 use Rattle.std.specs.List.{list_any}
 use Rattle.std.proofs.lemmas.List.Sums.{sum_by-cons, sum_by-append}
 use Rattle.linemap_emit_units.specs.Encoding.{Encoding}
-use Rattle.linemap_emit_units.specs.StringSections.{same_bytes, with_item, with_text, text_index, section_of}
+use Rattle.linemap_emit_units.specs.StringSections.{with_item, with_text, text_index, section_of}
 use Rattle.linemap_emit_units.specs.LineStrings.{table_after}
 use Rattle.linemap_emit_units.specs.FileTables.{Text, in_header, of_strings, of_line_strings, File, is_same, is_same_file}
 use Rattle.linemap_emit_units.specs.TableParts.{FilePart, UnitPart}
