@@ -117,14 +117,16 @@ abstract_grow (name ∷ names) a =
     let named = with_name name a in
     let next = with_entry (AbstractFunction (text_offset name a)) named in
     grows_on a named (with_abstract_functions names next) (name_grows name a)
-    (grows_on named next (with_abstract_functions names next) (entry_grows (AbstractFunction (text_offset name a)) named)
+    (grows_on named next (with_abstract_functions names next) (entry_grows (AbstractFunction
+    (text_offset name a)) named)
     (abstract_grow names next))
 
 pub call_grows : (names : List (List ℕ)) (children : Bool) (site : Site) (a : EmittedUnit)
     → Grows a (with_call names children site a)
 call_grows names children site a =
     let listed = with_list site.ranges a in
-    let x = Call children (origin_of a.encoding names site.name) (list_offset a) (site.file + 1) site.line site.column in
+    let x = Call children (origin_of a.encoding names site.name) (list_offset a)
+    (site.file + 1) site.line site.column in
     grows_on a listed (with_entry x listed) (list_grows site.ranges a) (entry_grows x listed)
 
 pub calls_grow : (names : List (List ℕ)) (cs : Calls) (a : EmittedUnit) → Grows a (with_calls names cs a)

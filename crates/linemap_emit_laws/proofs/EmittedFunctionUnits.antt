@@ -1,5 +1,5 @@
 -- The entries of a unit that was emitted say what the functions of the table's unit say.
-use Rattle.std.proofs.Common.{◌≡◌, ℕ, ◌+◌, ◌*◌, ◌≤◌, ◌^◌, Bool, List, [], ◌∷◌, ◌++◌, All, length, map, refl, sym, ap, subst, ◌∙◌, arith, append_assoc}
+use Rattle.std.proofs.Common.{◌≡◌, ℕ, ◌+◌, ◌≤◌, ◌^◌, Bool, List, [], ◌∷◌, ◌++◌, All, length, map, refl, ap, subst, ◌∙◌, arith, append_assoc}
 use Rattle.linemap_emit_units.specs.Encoding.{Encoding}
 use Rattle.linemap_emit_units.specs.StringSections.{IsText as HasNoZero, text_index}
 use Rattle.linemap_emit_units.proofs.SectionTexts.{added_text-index}
@@ -12,7 +12,7 @@ use Rattle.linemap_emit_units.specs.EmittedEntryLaws.{AllEntriesFit}
 use Rattle.linemap_emit_units.specs.EmittedEntryRows.{spelled_entries}
 use Rattle.linemap_emit_units.specs.EmittedUnits.{entries_start, abstract_offset}
 use Rattle.linemap_emit_units.specs.InlinedNames.{inlined_names, IsAmong}
-use Rattle.linemap_emit_units.specs.UnitEmission.{EmittedUnit, text_offset, list_offset, with_name, with_entry, with_abstract_functions, with_functions, with_unit_entry, origin_of}
+use Rattle.linemap_emit_units.specs.UnitEmission.{EmittedUnit, text_offset, list_offset, with_name, with_abstract_functions, with_functions, with_unit_entry, origin_of}
 use Rattle.linemap_emit_units.specs.EmittedSections.{HoldTable}
 use Rattle.linemap_emit_units.specs.TableEmission.{EmittedTable, before_entries, after_entries, with_emitted_unit}
 use Rattle.linemap_emit_units.specs.FittingUnits.{IsServed, UnitFits}
@@ -69,7 +69,8 @@ module _ (e : Encoding) (is_big : Bool) (u : UnitPart) (st : EmittedTable) where
         abstract_names = abstract_texts (inlined_names u) root;
         refs = all_refs (inlined_names u) u.functions named;
         entries_are = refl;
-        fit = entries_below s.offset_limit e all wide (subst (λ (l : List Entry). AllEntriesFit (2 ^ 31) e l) unit_entries fit.entries_fit);
+        fit = entries_below s.offset_limit e all wide (subst (λ (l : List Entry). AllEntriesFit
+            (2 ^ 31) e l) unit_entries fit.entries_fit);
         are_recorded =
             functions_recorded e is_big s last final hold no_zeros served.has_address_size encoding order extends.texts
             extends.more_ranges extends.ranges (inlined_names u) all origins u.functions named
@@ -105,5 +106,6 @@ module _ (e : Encoding) (is_big : Bool) (u : UnitPart) (st : EmittedTable) where
           let same : 0 + i ≡ i = omega arith in
           subst (λ n. HasOrigin e s all (abstract_offset e n) t) same
           (origin_there e is_big s last final hold no_zeros served.has_address_size encoding order extends.texts
-          extends.more_ranges extends.ranges all (inlined_names u) root (root_entry ∷ []) rest 0 i t refl place named_grows
+          extends.more_ranges extends.ranges all (inlined_names u) root
+          (root_entry ∷ []) rest 0 i t refl place named_grows
           (added_text-index (inlined_names u) t among))

@@ -204,8 +204,8 @@ const ABBREV: &[u8] = &[
     0,
 ];
 
-// The unit of `a.c`, with the abstract function `f`, `main`, and the call in it; that of `b.c`, whose
-// line number program is at 67.
+// The unit of `a.c`, with the abstract function `f`, `main`, and the call in it; that of `b.c`,
+// whose line number program is at 67.
 const INFO: &[u8] = &[
     60, 0, 0, 0, 4, 0, 0, 0, 0, 0, 8, //
     1, 0, 0, 0, 0, 4, 0, 0, 0, 0, 0, 0, 0, 0, 0, 0, 0, 0, 0, 0, 0, 0, 0, 0, 0, //
