@@ -14,5 +14,3 @@ pub mod EntryListsRead
 pub mod UnitsRead
 pub mod AppendedWrites
 pub mod EmittedRangesRead
-pub mod HeaderTextsRead
-pub mod EmittedHeadersRead

@@ -21,5 +21,3 @@ pub mod EmittedUnits
 pub mod EmittedEntryLaws
 pub mod EmittedRanges
 pub mod EmittedRangeLaws
-pub mod EmittedHeaders
-pub mod EmittedHeaderLaws

@@ -1,11 +1,9 @@
-//! Units with their entries, range lists and headers of line programs as they are written, and laws
-//! that they are read again.
+//! Units with their entries and range lists as they are written, and laws that they are read again.
 #![tactic(auto)]
 
 pub mod declarations;
 pub mod entries;
 pub mod entry_laws;
-pub mod header_laws;
 pub mod range_laws;
 pub mod range_lists;
 pub mod units;

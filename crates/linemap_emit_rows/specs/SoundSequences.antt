@@ -1,5 +1,5 @@
 -- The sequences of a sound table can be written as programs with addresses of a size that it fits.
-use Rattle.std.specs.Prelude.{◌≡◌, ℕ, ◌<◌, ◌^◌, true, List, [], ◌∷◌, length}
+use Rattle.std.specs.Prelude.{◌≡◌, ℕ, true, List, [], ◌∷◌, length}
 use Rattle.linemap_places_laws.specs.TableParts.{SequencePart, UnitPart}
 use Rattle.linemap_places_laws.specs.Conditions.{IsSound}
 use Rattle.linemap_places_laws.specs.EncodingFits.{fits}
@@ -9,11 +9,6 @@ use Rattle.linemap_emit_rows.specs.EmittedRows.{AllSequences, AllCanBuild}
 pub record CanEmitSequences (size files : ℕ) (ss : List SequencePart) : Type 0 where
   pub can_build : AllCanBuild size ss
   pub can_show : AllSequences files ss
-
--- each unit has fewer files than 2^64
-unfoldable pub AllCountable : List UnitPart → Type 0
-AllCountable [] = Unit {0}
-AllCountable (u ∷ us) = (length u.files < 2 ^ 64) × AllCountable us
 
 unfoldable pub AllCanEmitSequences : ℕ → List UnitPart → Type 0
 AllCanEmitSequences size [] = Unit {0}
