@@ -69,6 +69,14 @@ one_by_one-append R [] xs' (y ∷ ys) ys' h k = absurd h
 one_by_one-append R (x ∷ xs) xs' [] ys' h k = absurd h
 one_by_one-append R (x ∷ xs) xs' (y ∷ ys) ys' h k = (h.0, one_by_one-append R xs xs' ys ys' h.1 k)
 
+-- listings one after the other, with an item before each of two
+joined : {S A : Type 0} (l0 l1 l2 l3 l4 : Listing S A) (x y : A) (xs ys : List A) → l0 ≡ prepend (x ∷ []) l1
+    → l1 ≡ prepend xs l2 → l2 ≡ prepend (y ∷ []) l3 → l3 ≡ prepend ys l4 → l0 ≡ prepend (x ∷ (xs ++ (y ∷ ys))) l4
+joined {S} {A} l0 l1 l2 l3 l4 x y xs ys g h k m =
+    g ∙ ap (λ (l : Listing S A). prepend (x ∷ []) l) (h ∙ ap (λ (l : Listing S A). prepend xs l)
+    (k ∙ ap (λ (l : Listing S A). prepend (y ∷ []) l) m)
+    ∙ ap (λ (zs : List A). record { items = zs; ending = l4.ending }) (sym (append_assoc xs (y ∷ ys) l4.items)))
+
 none_or_none : {A : Type 0} (b : Bool) → cond {A = List A} b [] [] ≡ []
 none_or_none true = refl
 none_or_none false = refl
@@ -105,7 +113,8 @@ module _ (limit : ℕ) (e : Encoding) (is_big : Bool) (end_offset : ℕ) (is_siz
         row-choice limit chosen (walk_before_entries d first (x ∷ xs))
         (walk_at e end_offset (depth_after (pos d) (declaration_of e x))
         (bytes_at is_big (first + length (spelled_entry e is_big x)) (spelled_entries e is_big xs)))
-        (row_here d x xs) (row_again limit e end_offset (pos d) is_big first x (spelled_entries e is_big xs) is_size fit)
+        (row_here d x xs) (row_again limit e end_offset (pos d) is_big first x
+        (spelled_entries e is_big xs) is_size fit)
 
     -- an entry below a function, with those that enclose it
     abbrev pub nested_entry : ℕ → Entry → List Entry → List Row → NestedEntry
@@ -232,7 +241,8 @@ module _ (limit : ℕ) (e : Encoding) (is_big : Bool) (end_offset : ℕ) (is_siz
           ap (λ b. each (call_of u naming) (cond (not b && is_inlined here.row.tag)
           (here ∷ filter is_call items) (filter is_call items))) plain
           ∙ ap (λ b. each (call_of u naming) (cond b (here ∷ filter is_call items) (filter is_call items))) inlined
-          ∙ ap (λ n. and_then (call_at u naming n here.row) (λ y. and_then (each (call_of u naming) (filter is_call items))
+          ∙ ap (λ n. and_then (call_at u naming n here.row) (λ y. and_then (each (call_of u naming)
+          (filter is_call items))
           (λ ys. Ok (y ∷ ys)))) above
           ∙ ap (λ q. and_then q (λ y. and_then (each (call_of u naming) (filter is_call items))
           (λ ys. Ok (y ∷ ys)))) is
@@ -264,14 +274,16 @@ module _ (limit : ℕ) (e : Encoding) (is_big : Bool) (end_offset : ℕ) (is_siz
       }
       calls_read (more_calls site no_calls others) no_references k first before rest recorded fit low plain above =
           absurd recorded
-      calls_read (more_calls site (more_calls site' inner others') others) no_references k first before rest recorded fit
+      calls_read (more_calls site (more_calls site' inner others') others) no_references k first before rest recorded
+          fit
           low plain above = absurd recorded
       calls_read (more_calls site no_calls others) (more_references origin range_list file within after) k first before
           rest recorded fit low plain above =
           let x = Call false origin range_list file site.line site.column in
           let xs = entries_of_calls others after ++ rest in
           let r = row_here (k + 1) x xs in
-          let tests = or_parts (has_bad_number site || any_call has_bad_number no_calls) (any_call has_bad_number others) low in
+          let tests = or_parts (has_bad_number site || any_call has_bad_number no_calls)
+          (any_call has_bad_number others) low in
           let own = or_parts (has_bad_number site) (any_call has_bad_number no_calls) tests.0 in
           let here = reads site origin range_list file recorded.0 own.0 false k xs in
           let level : pos (k + 1) ≤ℤ pos (k + 1) = omega (arith, ints) in
@@ -305,7 +317,8 @@ module _ (limit : ℕ) (e : Encoding) (is_big : Bool) (end_offset : ℕ) (is_siz
           append_assoc own_entries (EndOfChildren ∷ last) rest in
           let fits : Entry → Type 0 = λ y. AllFit limit e (attributes_of y) in
           let tail_fit = All-tail fits x (own_entries ++ (EndOfChildren ∷ last)) fit in
-          let tests = or_parts (has_bad_number site || any_call has_bad_number inner) (any_call has_bad_number others) low in
+          let tests = or_parts (has_bad_number site || any_call has_bad_number inner)
+          (any_call has_bad_number others) low in
           let own = or_parts (has_bad_number site) (any_call has_bad_number inner) tests.0 in
           let here = reads site origin range_list file recorded.0 own.0 true k xs in
           let level : pos (k + 1) ≤ℤ pos (k + 1) = omega (arith, ints) in
@@ -336,21 +349,23 @@ module _ (limit : ℕ) (e : Encoding) (is_big : Bool) (end_offset : ℕ) (is_siz
             before = later.before;
             below =
                 ap (λ (l : List Entry). entries_below limit (inside (k + 1) first (x ∷ l) before)) regroup
-                ∙ call_opens k first before origin range_list file site.line site.column xs
-                (All-head fits x (own_entries ++ (EndOfChildren ∷ last)) fit) plain
-                ∙ ap (λ (l : Listing FunctionWalk NestedEntry). prepend (nested_entry (k + 1) x xs before ∷ []) l)
-                (middle.below
-                ∙ ap (λ (l : Listing FunctionWalk NestedEntry). prepend middle.items l)
-                (children_end (k + 1) middle.next_first middle.before (last ++ rest)
-                ∙ ap (λ (l : Listing FunctionWalk NestedEntry). prepend (end ∷ []) l) later.below)
-                ∙ ap (λ (l : List NestedEntry). record {
-                  items = l;
-                  ending = (entries_below limit (inside (k + 1) later.next_first rest later.before)).ending;
-                }) (sym (append_assoc middle.items (end ∷ later.items)
-                (entries_below limit (inside (k + 1) later.next_first rest later.before)).items)));
+                ∙ joined (entries_below limit (inside (k + 1) first (x ∷ xs) before))
+                (entries_below limit
+                (inside (k + 1 + 1) (first + length (spelled_entry e is_big x)) xs (r ∷ before)))
+                (entries_below limit
+                (inside (k + 1 + 1) middle.next_first (EndOfChildren ∷ (last ++ rest)) middle.before))
+                (entries_below limit
+                (inside (k + 1) (middle.next_first + length (spelled_entry e is_big EndOfChildren)) (last ++ rest)
+                (null ∷ middle.before)))
+                (entries_below limit (inside (k + 1) later.next_first rest later.before))
+                (nested_entry (k + 1) x xs before) end middle.items later.items
+                (call_opens k first before origin range_list file site.line site.column xs
+                (All-head fits x (own_entries ++ (EndOfChildren ∷ last)) fit) plain)
+                middle.below (children_end (k + 1) middle.next_first middle.before (last ++ rest)) later.below;
             keeps = λ d h. later.keeps d h ∙ kept d h;
             flat = here.0 ∷ (middle.flat ++ later.flat);
-            each_is = one_call k x xs before (middle.items ++ (end ∷ later.items)) here.0 (middle.flat ++ later.flat) refl
+            each_is = one_call k x xs before (middle.items ++ (end ∷ later.items)) here.0
+                (middle.flat ++ later.flat) refl
                 plain above here.1
                 (ap (each (call_of u naming)) (filter-append is_call middle.items (end ∷ later.items)
                 ∙ ap (λ l. filter is_call middle.items ++ l)

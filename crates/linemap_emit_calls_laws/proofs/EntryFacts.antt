@@ -78,7 +78,8 @@ module _ (e : Encoding) (s : DwarfFile) (f : UnitFacts) (main : s.sections.file_
 
     -- ---- calls
 
-    pub call_read : (depth offset : ℕ) (row_depth : ℤ) (has_children : Bool) (origin range_list file number line column : ℕ)
+    pub call_read : (depth offset : ℕ) (row_depth : ℤ) (has_children : Bool)
+        (origin range_list file number line column : ℕ)
         (rs : List RangePart) (name : View) → follow (unit_reference origin) ≡ Ok (Some name)
         → HasListAt e s range_list rs → file_number f.header.encoding.version file ≡ Some number
         → line < 2 ^ 32 → column < 2 ^ 32
@@ -93,7 +94,8 @@ module _ (e : Encoding) (s : DwarfFile) (f : UnitFacts) (main : s.sections.file_
           line = line;
           column = column;
         })
-    call_read depth offset row_depth has_children origin range_list file number line column rs name named list_is file_is'
+    call_read depth offset row_depth has_children origin range_list file number line column rs name named list_is
+        file_is'
         line_low column_low =
         ap (λ named. and_then (and_then (and_then named (λ name. Ok (record { name = name; ranges = no_fact ∷ [] })))
         (λ more. call_facts u naming more (second ∷ last))) finish) named

@@ -321,7 +321,10 @@ module _ (e : Encoding) (is_big : Bool) (s : DwarfFile) (offset first : ℕ) (al
         next = others.next;
         are = λ more h.
             ap (λ (l : List Entry). each (function_of unit) (rows_from d l)) grouped
-            ∙ ap (λ (q : Result (List Range) Error). and_then (and_then q (λ rs. Ok (record { offset = g.offset; ranges = rs })))
+            ∙ ap (λ (q : Result (List Range) Error). and_then (and_then q (λ rs. Ok (record {
+              offset = g.offset;
+              ranges = rs;
+            })))
             (λ y. and_then (each (function_of unit) (rows_from d1 ((own ++ end) ++ tail))) (λ ys. Ok (y ∷ ys))))
             (function_ranges e s facts main encoding low (has_calls f.calls) refs.name refs.range_list f.ranges
             recorded.0.ranges_are)
@@ -345,7 +348,8 @@ module _ (e : Encoding) (is_big : Bool) (s : DwarfFile) (offset first : ℕ) (al
         → each (function_of unit) (rows_from d xs) ≡ Ok (gs ++ more)
     have_none : filter has_range gs ≡ []
 
-  abstract_read : (names : List ℕ) (d : ℤ) (rest : List Entry) → AbstractRead d (map AbstractFunction names ++ rest) rest
+  abstract_read : (names : List ℕ) (d : ℤ) (rest : List Entry)
+      → AbstractRead d (map AbstractFunction names ++ rest) rest
   abstract_read [] d rest = record { gs = []; are = λ more h. h; have_none = refl }
   abstract_read (n ∷ names) d rest =
       let others = abstract_read names d rest in
@@ -377,17 +381,20 @@ module _ (e : Encoding) (is_big : Bool) (s : DwarfFile) (offset first : ℕ) (al
       let abstracts = map AbstractFunction recorded.abstract_names in
       let own = entries_of_functions fs recorded.refs in
       let end = EndOfChildren ∷ [] in
-      let same : all ≡ root ∷ (abstracts ++ (own ++ end)) = are ∙ ap (λ (l : List Entry). root ∷ l) recorded.entries_are in
+      let same : all ≡ root ∷ (abstracts ++ (own ++ end)) = are
+      ∙ ap (λ (l : List Entry). root ∷ l) recorded.entries_are in
       let d1 = depth_after (pos 0) (declaration_of e root) in
       let fits_here : AllEntriesFit limit e (root ∷ (abstracts ++ (own ++ end))) =
       subst (λ (l : List Entry). AllEntriesFit limit e l) same fit in
       let fits_own =
-      All-left fits own end (All-right fits abstracts (own ++ end) (All-tail fits root (abstracts ++ (own ++ end)) fits_here))
+      All-left fits own end (All-right fits abstracts (own ++ end) (All-tail fits root (abstracts ++
+      (own ++ end)) fits_here))
       in
       let empty = abstract_read recorded.abstract_names d1 (own ++ end) in
       let read =
       functions_read fs recorded.refs d1 (root ∷ abstracts) end same
-      (subst (λ (l : List Entry). AllRecorded e s number l fs recorded.refs) (sym are) recorded.are_recorded) fits_own some
+      (subst (λ (l : List Entry). AllRecorded e s number l fs recorded.refs)
+      (sym are) recorded.are_recorded) fits_own some
       plain in
       let found : each (function_of unit) (rows_from (pos 0) all) ≡ Ok (empty.gs ++ (read.gs ++ [])) =
       ap (λ (l : List Entry). each (function_of unit) (rows_from (pos 0) l)) same

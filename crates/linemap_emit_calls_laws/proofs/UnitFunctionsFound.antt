@@ -43,12 +43,14 @@ pub functions_found : (e : Encoding) (is_big : Bool) (s : DwarfFile) (offset fir
     (naming_of_holder known h)
 functions_found e is_big s offset first name directory line_program range_list others b unit_name unit_directory header
     known h number u w main encoding low holds ranges numbers recorded =
-    let calls_plain = or_parts _ (list_any (λ f. any_call (λ c. is_bad_number c.line || is_bad_number c.column) f.calls) u.functions) numbers in
+    let calls_plain = or_parts _ (list_any (λ f. any_call
+    (λ c. is_bad_number c.line || is_bad_number c.column) f.calls) u.functions) numbers in
     let some =
     or_parts (length u.ranges == 0)
     (list_any (λ f. (length f.ranges == 0) || any_call (λ c. length c.ranges == 0) f.calls) u.functions) ranges in
     let read =
-    unit_functions_read e is_big s offset first (CompileUnit name directory line_program range_list ∷ others) b unit_name
+    unit_functions_read e is_big s offset first
+    (CompileUnit name directory line_program range_list ∷ others) b unit_name
     unit_directory header known h number w.has_address_size recorded.fit main encoding low holds u.functions name
     directory line_program range_list others refl recorded
     (first_fails (λ (f : FunctionPart). length f.ranges == 0)

@@ -49,7 +49,8 @@ end_of_children false = []
 unfoldable pub entries_of_calls : Calls → CallReferences → List Entry
 entries_of_calls no_calls refs = []
 entries_of_calls (more_calls site inner others) no_references = []
-entries_of_calls (more_calls site inner others) (more_references origin range_list file within after) =
+entries_of_calls (more_calls site inner others)
+    (more_references origin range_list file within after) =
     Call (has_calls inner) origin range_list file site.line site.column
     ∷ (entries_of_calls inner within
     ++ (end_of_children (has_calls inner) ++ entries_of_calls others after))

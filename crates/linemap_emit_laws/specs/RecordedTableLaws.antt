@@ -20,7 +20,8 @@ use Rattle.linemap_emit_calls_laws.specs.LookupFrameLaws.{FrameAgrees}
 use Rattle.linemap_emit_laws.specs.RecordedTables.{RecordsTable}
 
 -- the frames of an address are found without a load, and agree one by one with the table's
-pub record FramesFound (c : FileContext) (us : List UnitPart) (answers : FirstAnswers) (a : ℕ) : Type 0
+pub record FramesFound (c : FileContext) (us : List UnitPart) (answers : FirstAnswers)
+    (a : ℕ) : Type 0
   where
     pub list : List Frame
     pub are_frames : frames c (naming_in c) answers a ≡ output (Ok list)
@@ -56,7 +57,8 @@ pub record SameFrame (f g : Frame) : Type 0 where
   pub same_name : name_bytes f ≡ name_bytes g
   pub same_place : f.location ≡ g.location
 
--- Two files that answer the same table, in whatever encodings, answer alike, under all first answers.
+-- Two files that answer the same table, in whatever encodings, answer alike, under all first
+-- answers.
 abbrev pub AnswersAgree : Type 0
 AnswersAgree =
     (s t : DwarfFile) (us : List UnitPart) (x : AnswersTable s us) (y : AnswersTable t us)

@@ -122,7 +122,8 @@ value_again limit e is_big first name (udata n) is_size fits =
     number_again limit e is_big first name 0x0f n unsigned (unsigned_data n) (unsigned_string n) refl (λ v. refl)
     (again_unsigned is_big first n fits) (number_means limit e name n e.format)
 value_again limit e is_big first name (ref4 n) is_size fits =
-    number_again limit e is_big first name 0x13 n (fixed 4) (unit_reference n) (number_bytes is_big 4 n) refl (λ v. refl)
+    number_again limit e is_big first name 0x13 n (fixed 4) (unit_reference n) (number_bytes is_big 4 n) refl
+    (λ v. refl)
     (again_fixed is_big first 4 n fits.0) (reference_means limit e name n e.format fits.1)
 value_again limit e is_big first name (sec_offset n) is_size fits = by_version (nat_le e.version 3) refl
   where

@@ -1,6 +1,6 @@
 -- Calls, one level at a time.
 use Rattle.std.proofs.Math.Seq.{drop-cons}
-use Rattle.std.proofs.Common.{◌≡◌, ℕ, suc, ◌+◌, ◌<◌, drop, get_or, Bool, true, false, not, eqb, List, [], ◌∷◌, ◌++◌, All, length, slice_get, Some, ap, refl, sym, subst, ◌∙◌, arith}
+use Rattle.std.proofs.Common.{◌≡◌, ℕ, suc, ◌+◌, ◌<◌, drop, get_or, Bool, true, false, not, eqb, List, [], ◌∷◌, length, slice_get, Some, ap, refl, sym, ◌∙◌, arith}
 use Rattle.std.proofs.lemmas.Bool.{ne_eqb}
 use Rattle.std.proofs.lemmas.Option.{slice_get_within, get_or_from_slice_get}
 use Rattle.linemap_emit_programs.specs.TableViews.{call_part, calls_part}
@@ -64,7 +64,8 @@ pub abstract_emitted : (names : List (List ℕ)) (i : ℕ) (name : List ℕ) (of
     → with_abstract_functions (drop (i + 1) names) st2 ≡ final
 abstract_emitted names i name offset st st1 st2 final there place named entered whole =
     let here =
-    from_here names i name (slice_get_within names i name there) (sym (get_or_from_slice_get names i name name there)) in
+    from_here names i name (slice_get_within names i name there) (sym
+    (get_or_from_slice_get names i name name there)) in
     ap (with_abstract_functions (drop (i + 1) names))
     (entered ∙ ap (λ (o : ℕ). with_entry (AbstractFunction o) st1) place
     ∙ ap (with_entry (AbstractFunction (text_offset name st))) named)

@@ -1,5 +1,5 @@
 -- The names of the functions that are inlined into those of a unit.
-use Rattle.std.proofs.Common.{◌≡◌, ℕ, ◌≤◌, Bool, true, false, ◌||◌, List, [], ◌∷◌, ◌++◌, All, length, flat_map, refl, sym, ap, subst, ◌∙◌}
+use Rattle.std.proofs.Common.{◌≡◌, ℕ, Bool, true, false, ◌||◌, List, [], ◌∷◌, ◌++◌, All, refl, sym, ap, subst, ◌∙◌}
 use Rattle.std.specs.List.{list_any}
 use Rattle.std.proofs.lemmas.List.Elements.{All-nil, All-cons, All-head, All-tail, All-append}
 use Rattle.std.proofs.lemmas.List.Folds.{list_any-append}
@@ -21,7 +21,8 @@ pub All-right : {X : Type 0} (P : X → Type 0) (xs ys : List X) → All P (xs +
 All-right P [] ys all = all
 All-right P (x ∷ xs) ys all = All-right P xs ys (All-tail P x (xs ++ ys) all)
 
-pub with_texts-append : (texts xs ys : List (List ℕ)) → with_texts texts (xs ++ ys) ≡ with_texts (with_texts texts xs) ys
+pub with_texts-append : (texts xs ys : List (List ℕ))
+    → with_texts texts (xs ++ ys) ≡ with_texts (with_texts texts xs) ys
 with_texts-append texts [] ys = refl
 with_texts-append texts (x ∷ xs) ys = with_texts-append (with_text texts x) xs ys
 
