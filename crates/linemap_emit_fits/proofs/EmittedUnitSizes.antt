@@ -49,13 +49,13 @@ module _ (e : Encoding) (is_big : Bool) (served : IsServed e) where
   -- ---- a unit
 
   -- fewer files than the weight counts
-  files_few : (fs : List FilePart) → 256 * length fs ≤ sum_by file_weight fs
+  pub files_few : (fs : List FilePart) → 256 * length fs ≤ sum_by file_weight fs
   files_few [] = omega arith
   files_few (f ∷ fs) =
       let rest = files_few fs in let whole = sum_by-cons file_weight f fs in omega arith
 
   -- its line number program
-  program_bounded : (m : ℕ) (u : UnitPart) (st : EmittedTable)
+  pub program_bounded : (m : ℕ) (u : UnitPart) (st : EmittedTable)
       → CanEmitSequences e.address_size (length u.files) u.sequences → CanEmitUnitSequences e.address_size u
       → IsTableBounded m st → m + unit_weight u < 2 ^ 31
       → IsWithin (124 + tables_size (unit_files e u st.line_texts) + sum_by sequence_weight u.sequences)
@@ -99,7 +99,7 @@ module _ (e : Encoding) (is_big : Bool) (served : IsServed e) where
         entries_small = omega arith;
       }
 
-  unit_bounded : (m : ℕ) (u : UnitPart) (st : EmittedTable)
+  pub unit_bounded : (m : ℕ) (u : UnitPart) (st : EmittedTable)
       → CanEmitSequences e.address_size (length u.files) u.sequences → CanEmitUnitSequences e.address_size u
       → IsTableBounded m st → m + unit_weight u < 2 ^ 31
       → IsTableBounded (m + unit_weight u) (with_emitted_unit e is_big u st)

@@ -1,10 +1,10 @@
 -- How many bytes the directories and files of a unit take, and the texts of `.debug_line_str`.
-use Rattle.std.proofs.Common.{◌≡◌, ℕ, ◌+◌, ◌*◌, ◌≤◌, Bool, true, false, cond, List, [], ◌∷◌, ◌++◌, length, sum_by, ap, arith}
+use Rattle.std.proofs.Common.{◌≡◌, ℕ, ◌+◌, ◌*◌, ◌≤◌, Bool, true, false, cond, List, [], ◌∷◌, ◌++◌, length, sum_by, refl, ap, ◌∙◌, arith}
 use Rattle.std.specs.Prelude.{nat_le}
 use Rattle.std.specs.List.{list_any}
 use Rattle.std.proofs.lemmas.List.Sums.{sum_by-cons, sum_by-append}
 use Rattle.linemap_emit_units.specs.Encoding.{Encoding}
-use Rattle.linemap_emit_units.specs.StringSections.{same_bytes, with_item, with_text, text_index, section_of}
+use Rattle.linemap_emit_units.specs.StringSections.{with_item, with_text, text_index, section_of}
 use Rattle.linemap_emit_units.specs.LineStrings.{table_after}
 use Rattle.linemap_emit_units.specs.FileTables.{Text, in_header, of_strings, of_line_strings, File, is_same, is_same_file}
 use Rattle.linemap_emit_units.specs.TableParts.{FilePart, UnitPart}
@@ -119,3 +119,54 @@ unit_texts_grow e u line_texts =
     let two = line_texts_grow e.version u.name (table_after e.version u.directory line_texts) in
     let rest = file_texts_grow u.files (first_unit_files e u line_texts) in
     omega arith
+
+-- ---- both
+
+files_both : (fs : List FilePart) (st : EmittedFiles)
+    → tables_size (with_table_files fs st) + length (section_of (with_table_files fs st).line_texts)
+    ≤ tables_size st + length (section_of st.line_texts) + sum_by file_weight fs
+unfolding with_table_files
+files_both [] st = omega arith
+files_both (f ∷ fs) st =
+    let after = with_directory_text f.directory st in
+    let directory = text_in st.tables.version st.line_texts f.directory in
+    let file = named_file (directory_number f.directory st) f.name after in
+    let d = item_few text_size is_same st.tables.directories directory in
+    let n = item_few file_size is_same_file st.tables.files file in
+    let ds = text_few st.tables.version st.line_texts f.directory in
+    let ns = text_few st.tables.version after.line_texts f.name in
+    let one = line_texts_grow st.tables.version f.directory st.line_texts in
+    let two = line_texts_grow st.tables.version f.name after.line_texts in
+    let rest = files_both fs (with_table_file f st) in
+    let whole = sum_by-cons file_weight f fs in
+    omega arith
+
+-- the tables of a unit, and the texts of `.debug_line_str` after it
+pub unit_both : (e : Encoding) (u : UnitPart) (line_texts : List (List ℕ))
+    → tables_size (unit_files e u line_texts) + length (section_of (unit_files e u line_texts).line_texts)
+    ≤ length (section_of line_texts) + (48 + 2 * length u.directory + 2 * length u.name + sum_by file_weight u.files)
+unit_both e u line_texts =
+    let first = first_size e u line_texts in
+    let one = line_texts_grow e.version u.directory line_texts in
+    let two = line_texts_grow e.version u.name (table_after e.version u.directory line_texts) in
+    let all = files_both u.files (first_unit_files e u line_texts) in
+    omega arith
+
+-- ---- up to version 4 no text is in `.debug_line_str`
+
+old_texts : (fs : List FilePart) (st : EmittedFiles) → nat_le st.tables.version 4 ≡ true
+    → (with_table_files fs st).line_texts ≡ st.line_texts
+unfolding with_table_files
+old_texts [] st old = refl
+old_texts (f ∷ fs) st old =
+    let after = table_after st.tables.version f.directory st.line_texts in
+    old_texts fs (with_table_file f st) old ∙ ap (λ (b : Bool). cond b after (with_text after f.name)) old
+    ∙ ap (λ (b : Bool). cond b st.line_texts (with_text st.line_texts f.directory)) old
+
+pub unit_old : (e : Encoding) (u : UnitPart) (line_texts : List (List ℕ)) → nat_le e.version 4 ≡ true
+    → (unit_files e u line_texts).line_texts ≡ line_texts
+unit_old e u line_texts old =
+    let after = table_after e.version u.directory line_texts in
+    old_texts u.files (first_unit_files e u line_texts) old
+    ∙ ap (λ (b : Bool). cond b after (with_text after u.name)) old
+    ∙ ap (λ (b : Bool). cond b line_texts (with_text line_texts u.directory)) old

@@ -13,3 +13,4 @@ pub mod LineProgramSizes
 pub mod EntrySizes
 pub mod SoundUnitFits
 pub mod EmittedUnitSizes
+pub mod EmissionSums

@@ -1,7 +1,13 @@
 -- Bounds of what is emitted.
-use Rattle.std.specs.Prelude.{ℕ, ◌≤◌, ◌^◌, Bool, All, length}
+use Rattle.std.specs.Prelude.{◌≡◌, ℕ, ◌+◌, ◌<◌, ◌≤◌, ◌^◌, Bool, true, List, All, length}
 use Rattle.linemap_emit_units.specs.Encoding.{Encoding}
 use Rattle.linemap_emit_units.specs.StringSections.{IsText, section_of}
+use Rattle.linemap_emit_units.specs.Conditions.{IsSound}
+use Rattle.linemap_emit_units.specs.EncodingFits.{fits}
+use Rattle.linemap_emit_units.specs.TableParts.{UnitPart}
+use Rattle.linemap_emit_units.specs.TableWeight.{table_weight}
+use Rattle.linemap_emit_units.specs.EmittedSections.{SectionBytes, emitted_sections}
+use Rattle.linemap_emit_units.specs.FittingUnits.{IsServed}
 use Rattle.linemap_emit_units.specs.EmittedEntries.{AllFit, attributes_of}
 use Rattle.linemap_emit_units.specs.EmittedEntryRows.{spelled_entries}
 use Rattle.linemap_emit_units.specs.UnitEmission.{EmittedUnit}
@@ -25,3 +31,17 @@ pub record IsTableBounded (most : ℕ) (st : EmittedTable) : Type 0 where
   pub texts_few : length (section_of st.texts) ≤ most
   pub ranges_few : length st.ranges ≤ most
   pub no_zeros : All IsText st.line_texts
+
+-- how many bytes sections have together
+abbrev pub sections_size : SectionBytes → ℕ
+sections_size s =
+    length s.debug_abbrev + length s.debug_info + length s.debug_line + length s.debug_line_str
+    + length s.debug_ranges + length s.debug_rnglists + length s.debug_str
+
+-- What is emitted of a sound table has no more bytes than the table weighs, where that is below
+-- 2^31.
+abbrev pub WeightBoundsSize : Type 0
+WeightBoundsSize =
+    (e : Encoding) (is_big : Bool) (us : List UnitPart)
+    → IsServed e → IsSound us → fits e.address_size us ≡ true → table_weight us < 2 ^ 31
+    → sections_size (emitted_sections e is_big us) ≤ table_weight us

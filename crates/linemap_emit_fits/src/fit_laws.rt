@@ -2,8 +2,14 @@
 //! proved.
 
 ghost use Rattle.linemap_emit_units.specs.FittingUnits.{TablesFit};
+ghost use Rattle.linemap_emit_fits.specs.EmissionBounds.{WeightBoundsSize};
 
 /// What is emitted of a sound table fits where the table's weight is below 2^31.
 pub fn tables_fit()
     ensures { TablesFit }
+{}
+
+/// The sections of a sound table have no more bytes, together, than the table weighs.
+pub fn weight_bounds_size()
+    ensures { WeightBoundsSize }
 {}
