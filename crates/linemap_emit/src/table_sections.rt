@@ -5,6 +5,7 @@ ghost use Rattle.linemap_table.specs.TableWeight.{table_weight};
 ghost use Rattle.linemap_table.specs.TableUnits.{units_of};
 ghost use Rattle.linemap_table.specs.EncodingFits.{fits};
 ghost use Rattle.linemap_table.specs.EmissionTargets.{encoding_of, is_big_of};
+ghost use Rattle.linemap_emit_fits.specs.EmissionBounds.{sections_size};
 ghost use Rattle.linemap_emit_fits.specs.EmittedSections.{emitted_sections};
 ghost use Rattle.linemap_emit.specs.SectionAnswers.{AreAnswers};
 
@@ -26,6 +27,7 @@ pub fn emit_sections(alloc: Global, table: &Table, target: Target) -> Result<Sec
     ensures sections { IfOk result
         (λ s. s ≡ emitted_sections (encoding_of target) (is_big_of target)
         (units_of table.now)) }
+    ensures small { IfOk result (λ s. sections_size s ≤ table_weight (units_of table.now)) }
     ensures answers { IfOk result (λ s. AreAnswers (is_big_of target) s (units_of table.now)) }
 {
     if table.weight() >= WEIGHT_LIMIT {

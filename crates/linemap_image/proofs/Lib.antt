@@ -1,0 +1,2 @@
+pub mod LoadedImages
+pub mod ImageBounds

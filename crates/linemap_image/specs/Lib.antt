@@ -1,0 +1,2 @@
+pub mod TableImages
+pub mod ImageAnswers

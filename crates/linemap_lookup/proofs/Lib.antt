@@ -1,0 +1,4 @@
+pub mod HexadecimalTexts
+pub mod FrameSteps
+pub mod AnswerSteps
+pub mod RunSteps

@@ -1,0 +1,6 @@
+pub mod AddressTexts
+pub mod FrameTexts
+pub mod FramesGot
+pub mod LookupAnswers
+pub mod AnswerBuffers
+pub mod LookupRuns

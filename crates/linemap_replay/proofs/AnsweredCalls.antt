@@ -1,0 +1,99 @@
+-- Calls on a context, one after the other.
+use Rattle.std.proofs.Common.{◌≡◌, ℕ, ◌+◌, ◌<◌, ◌≤◌, List, [], ◌∷◌, ◌++◌, map, length, drop, get_or, Option, refl, sym, ap, ◌∙◌, append_assoc, append-nil}
+use Rattle.std.proofs.lemmas.List.{drop_all, map-append}
+use Rattle.addr2line_context.specs.AnsweredContexts.{AnsweredContext}
+use Rattle.addr2line_context.specs.ContextNames.{naming_in}
+use Rattle.addr2line_context.specs.Contexts.{FileContext}
+use Rattle.addr2line_context.specs.DwarfFiles.{DwarfFile}
+use Rattle.addr2line_context.specs.Histories.{ContextCall, CallAnswer, ContextState, call, history_from}
+use Rattle.linemap_replay.specs.declared.answer.Answer.{Answer}
+use Rattle.linemap_replay.specs.declared.call.Call.{Call}
+use Rattle.linemap_replay.specs.OwnedAnswers.{CopiedAnswer, answer_of, copied_answer}
+use Rattle.linemap_replay.specs.Replays.{context_call, call_on, state_of, state_after, replayed}
+use Rattle.linemap_replay.proofs.AnsweredPlaces.{items_at}
+
+-- what the calls that are left answer and leave
+abbrev answers_left : FileContext → List ContextCall → ContextState → List CopiedAnswer
+answers_left c ks s = map copied_answer (history_from c (naming_in c) ks s)
+
+abbrev state_left : FileContext → List ContextCall → ContextState → ContextState
+state_left c ks s = state_after c (naming_in c) ks s
+
+module _ (files : List (Option DwarfFile)) (start : AnsweredContext) (calls : List Call) where
+  abbrev calls_from : ℕ → List ContextCall
+  calls_from i = map (context_call files) (drop i calls)
+
+  -- The answers to the calls before a number, and those of the others, are all; and the others leave what all do.
+  pub record AnsweredBefore (v : AnsweredContext) (tokens : List ℕ) (found : List Answer) (i : ℕ) : Type 0 where
+    pub plain : v.plain ≡ start.plain
+    pub answers :
+        map answer_of found ++ answers_left start.plain (calls_from i) (state_of v tokens)
+        ≡ replayed start (map (context_call files) calls)
+    pub state :
+        state_left start.plain (calls_from i) (state_of v tokens)
+        ≡ state_left start.plain (map (context_call files) calls) (state_of start [])
+
+  pub none_before : (found : List Answer) (tokens : List ℕ) → found ≡ [] → tokens ≡ [] → AnsweredBefore start tokens found 0
+  none_before found tokens nothing none = record {
+    plain = refl;
+    answers =
+        ap (λ (xs : List Answer). map answer_of xs
+        ++ answers_left start.plain (map (context_call files) calls) (state_of start tokens)) nothing
+        ∙ ap (λ (ns : List ℕ). answers_left start.plain (map (context_call files) calls) (state_of start ns)) none;
+    state = ap (λ (ns : List ℕ). state_left start.plain (map (context_call files) calls) (state_of start ns)) none;
+  }
+
+  module _ (v new : AnsweredContext) (tokens later : List ℕ) (found : List Answer) (i : ℕ) (k : Call) (answer : Answer)
+      (lt : i < length calls) (at : k ≡ get_or calls i k) (before : AnsweredBefore v tokens found i)
+      (copy : answer_of answer ≡ copied_answer (call_on v tokens (context_call files k)).0)
+      (left : state_of new later ≡ (call_on v tokens (context_call files k)).1)
+      (plain : new.plain ≡ v.plain) where
+    abbrev here : CallAnswer × ContextState
+    here = call start.plain (naming_in start.plain) (context_call files k) (state_of v tokens)
+
+    same_call : call_on v tokens (context_call files k) ≡ here
+    same_call = ap (λ c. call c (naming_in c) (context_call files k) (state_of v tokens)) before.plain
+
+    first_call : calls_from i ≡ context_call files k ∷ calls_from (i + 1)
+    first_call = ap (map (context_call files)) (items_at calls i k lt at)
+
+    abbrev rest : ContextState → List CopiedAnswer
+    rest s = answers_left start.plain (calls_from (i + 1)) s
+
+    pub one_more_call : (pushed : List Answer) → pushed ≡ found ++ answer ∷ []
+        → AnsweredBefore new later pushed (i + 1)
+    one_more_call pushed is = record {
+      plain = plain ∙ before.plain;
+      answers =
+          ap (λ (xs : List Answer). map answer_of xs ++ rest (state_of new later)) is
+          ∙ ap (λ xs. xs ++ rest (state_of new later)) (map-append answer_of found (answer ∷ []))
+          ∙ append_assoc (map answer_of found) (answer_of answer ∷ []) (rest (state_of new later))
+          ∙ ap (λ x. map answer_of found ++ x ∷ rest (state_of new later))
+          (copy ∙ ap (λ (r : CallAnswer × ContextState). copied_answer r.0) same_call)
+          ∙ ap (λ s. map answer_of found ++ copied_answer here.0 ∷ rest s)
+          (left ∙ ap (λ (r : CallAnswer × ContextState). r.1) same_call)
+          ∙ ap (λ ks. map answer_of found ++ answers_left start.plain ks (state_of v tokens)) (sym first_call)
+          ∙ before.answers;
+      state =
+          ap (λ s. state_left start.plain (calls_from (i + 1)) s)
+          (left ∙ ap (λ (r : CallAnswer × ContextState). r.1) same_call)
+          ∙ ap (λ ks. state_left start.plain ks (state_of v tokens)) (sym first_call)
+          ∙ before.state;
+    }
+
+  module _ (v : AnsweredContext) (tokens : List ℕ) (found : List Answer) (i : ℕ) (ended : length calls ≤ i)
+      (before : AnsweredBefore v tokens found i) where
+    none_left : calls_from i ≡ []
+    none_left = ap (map (context_call files)) (drop_all i calls ended)
+
+    pub all_answers : map answer_of found ≡ replayed start (map (context_call files) calls)
+    all_answers =
+        sym (append-nil (map answer_of found))
+        ∙ ap (λ ks. map answer_of found ++ answers_left start.plain ks (state_of v tokens)) (sym none_left)
+        ∙ before.answers
+
+    pub last_state : v.answers
+        ≡ (state_left start.plain (map (context_call files) calls) (state_of start [])).answers
+    last_state =
+        ap (λ (s : ContextState). s.answers)
+        (ap (λ ks. state_left start.plain ks (state_of v tokens)) (sym none_left) ∙ before.state)

@@ -1,0 +1,5 @@
+pub mod AnsweredPlaces
+pub mod AnsweredCalls
+pub mod CopiedAnswers
+pub mod AnsweredTokens
+pub mod CopiedStretches

@@ -1,0 +1,26 @@
+use Rattle.std.proofs.Common.{◌≡◌, sym, ap, Result}
+use Rattle.addr2line_context.specs.Error.{Error}
+use Rattle.addr2line_context.specs.FirstAnswers.{FirstAnswers}
+use Rattle.addr2line_context.specs.ContextNames.{naming_in}
+use Rattle.addr2line_context.specs.Histories.{calls_or_refusal, parse_all}
+use Rattle.linemap_replay.proofs.CopiedAnswers.{completion_copy, if_completed, parsed}
+use Rattle.linemap_replay.proofs.parses.read_calls.Goals as goal
+
+pub returns-clause-answer : goal.returns-clause-answer
+returns-clause-answer g c =
+    let old = c.args.context.now.value in
+    let parse = calls_or_refusal c.args.context.now.value.plain (naming_in c.args.context.now.value.plain) in
+    completion_copy c.parse_inlined_functions.result (parse_all old.plain parse old.answers).0 c.complete.result
+    (λ other. ap (λ (x : Result (Unit {0}) Error × FirstAnswers). x.0)
+    (parsed old.plain parse c.parse_inlined_functions.result old.answers c.parse_inlined_functions.new.self.value.answers
+    c.parse_inlined_functions.ensures.calls other)) c.complete.ensures
+
+pub returns-clause-left : goal.returns-clause-left
+returns-clause-left g c =
+    let old = c.args.context.now.value in
+    let parse = calls_or_refusal c.args.context.now.value.plain (naming_in c.args.context.now.value.plain) in
+    if_completed c.parse_inlined_functions.result c.complete.result
+    (c.parse_inlined_functions.new.self.value.answers ≡ (parse_all old.plain parse old.answers).1)
+    (λ other. sym (ap (λ (x : Result (Unit {0}) Error × FirstAnswers). x.1)
+    (parsed old.plain parse c.parse_inlined_functions.result old.answers c.parse_inlined_functions.new.self.value.answers
+    c.parse_inlined_functions.ensures.calls other))) c.complete.ensures

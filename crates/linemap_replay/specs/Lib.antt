@@ -1,0 +1,4 @@
+pub mod OwnedAnswers
+pub mod Replays
+pub mod Outcomes
+pub mod StretchEnds

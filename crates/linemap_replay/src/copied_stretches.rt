@@ -1,0 +1,52 @@
+//! Copies of stretches.
+
+ghost use Rattle.std.specs.Prelude.{map};
+ghost use Rattle.addr2line_context.specs.Histories.{stretches_answer};
+ghost use Rattle.addr2line_context.specs.RangeItems.{stretch_of_item};
+ghost use Rattle.linemap_replay.specs.Outcomes.{CopiesOrNoMemory};
+ghost use Rattle.linemap_replay.specs.OwnedAnswers.{stretch_of, answer_of, copied_answer};
+ghost use Rattle.linemap_replay.specs.StretchEnds.{EndsBy};
+
+use crate::answer::{Answer, OwnedStretch};
+use crate::copies::copy_location;
+use addr2line_context::{Error, Location, LocationRangeIter, Reader};
+use std::alloc::Global;
+
+fn copy_stretch(alloc: Global, item: (u64, u64, Location<'_>)) -> Result<OwnedStretch, Error>
+    ensures { CopiesOrNoMemory stretch_of result (stretch_of_item item.entry) }
+{
+    let (address, length, location) = item;
+    Ok(OwnedStretch {
+        address,
+        length,
+        location: copy_location(alloc, location)?,
+    })
+}
+
+// These stretches, and the refusal that ends them, unless it is out of memory.
+fn end_by(copies: Vec<OwnedStretch>, error: Error) -> Result<Answer, Error>
+    ensures { EndsBy (map stretch_of copies.items) error result }
+{
+    match error {
+        Error::Memory => Err(Error::Memory),
+        _ => Ok(Answer::Range(copies, Some(error))),
+    }
+}
+
+// Copies of the stretches that are left, and the refusal that ends them, if one does.
+pub(crate) fn copy_stretches<R: Reader>(
+    alloc: Global,
+    stretches: LocationRangeIter<'_, R>,
+) -> Result<Answer, Error>
+    ensures { CopiesOrNoMemory answer_of result (copied_answer (stretches_answer stretches.entry)) }
+{
+    let mut stretches = stretches;
+    let mut copies = Vec::new(alloc);
+    loop {
+        match stretches.next() {
+            Ok(Some(item)) => copies.push(copy_stretch(alloc, item)?)?,
+            Ok(None) => return Ok(Answer::Range(copies, None)),
+            Err(error) => return end_by(copies, error),
+        }
+    }
+}

@@ -1,0 +1,21 @@
+//! Calls on one context, one after the other, and their answers as copies that borrow nothing.
+#![tactic(auto)]
+
+pub mod answer;
+pub mod call;
+mod completions;
+mod copied_frames;
+mod copied_stretches;
+mod copies;
+mod history;
+mod loads;
+mod lookups;
+mod parses;
+mod tokens;
+
+pub use answer::{Answer, OwnedFrame, OwnedLocation, OwnedName, OwnedStretch, OwnedUnit};
+pub use call::Call;
+pub use history::replay;
+
+#[cfg(test)]
+mod tests;
