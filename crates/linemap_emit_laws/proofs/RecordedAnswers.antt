@@ -1,5 +1,5 @@
 -- What is answered over sections that say what a table says.
-use Rattle.std.proofs.Common.{Bool, List, []}
+use Rattle.std.proofs.Common.{ℕ, Bool, List, []}
 use Rattle.linemap_emit_units.specs.Encoding.{Encoding}
 use Rattle.linemap_emit_units.specs.DwarfFiles.{DwarfFile}
 use Rattle.linemap_emit_units.specs.Contexts.{ranges_of, lines_of}

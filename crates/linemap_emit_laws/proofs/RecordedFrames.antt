@@ -1,5 +1,5 @@
 -- The frames that are found over sections that say what a table says.
-use Rattle.std.proofs.Common.{◌≡◌, ℕ, ◌+◌, Bool, false, List, [], ◌∷◌, All, Contains, length, map, Option, Some, None, Result, Ok, refl, sym, ap, subst, ◌∙◌}
+use Rattle.std.proofs.Common.{◌≡◌, ℕ, ◌+◌, Bool, false, List, [], ◌∷◌, All, Contains, length, map, Option, Some, None, option_map, Result, Ok, refl, sym, ap, subst, ◌∙◌}
 use Rattle.std.specs.List.{list_any}
 use Rattle.std.proofs.lemmas.Bool.{or_parts}
 use Rattle.std.proofs.lemmas.List.Elements.{All-nil, All-cons, All-head, All-tail, All-contains_itself}
@@ -11,9 +11,9 @@ use Rattle.linemap_emit_units.specs.DwarfFileType.TheVariants.{Main}
 use Rattle.linemap_emit_units.specs.Encoding.{Encoding}
 use Rattle.linemap_emit_units.specs.Results.{and_then}
 use Rattle.linemap_emit_units.specs.DwarfFiles.{DwarfFile}
-use Rattle.linemap_emit_units.specs.UnitFacts.{UnitFacts, in_file}
+use Rattle.linemap_emit_units.specs.UnitFacts.{UnitFacts, UnitInFile, in_file}
 use Rattle.linemap_emit_units.specs.Lines.{Lines, sequences_of_rows}
-use Rattle.linemap_emit_units.specs.Contexts.{Context, FileContext, ranges_of}
+use Rattle.linemap_emit_units.specs.Contexts.{Context, ContextUnit, FileContext, ranges_of}
 use Rattle.linemap_emit_units.specs.TableParts.{UnitPart}
 use Rattle.linemap_emit_units.specs.Meaning as table
 use Rattle.linemap_emit_units.specs.Conditions.{has_no_range, has_bad_line_or_column, IsSound}
@@ -24,9 +24,9 @@ use Rattle.linemap_emit_units.specs.EmittedUnits.{IsWritten, unit_for, spelled_u
 use Rattle.linemap_emit_units.specs.LookupAgreement.{lookup_range, UnitAgrees}
 use Rattle.linemap_emit_calls_laws.specs.Frames.{Frame, FunctionAt, function_of_offset_if_any, frames_of}
 use Rattle.linemap_emit_calls_laws.specs.FirstAnswers.{FirstAnswers, output}
-use Rattle.linemap_emit_calls_laws.specs.Functions.{Function as FoundFunction, function_at}
-use Rattle.linemap_emit_calls_laws.specs.InlinedCalls.{calls_of_function}
-use Rattle.linemap_emit_calls_laws.specs.Lookups.{FunctionsUnit}
+use Rattle.linemap_emit_calls_laws.specs.Functions.{Function as FoundFunction, function_at, functions_of_unit}
+use Rattle.linemap_emit_calls_laws.specs.InlinedCalls.{Naming, calls_of_function}
+use Rattle.linemap_emit_calls_laws.specs.Lookups.{FunctionsUnit, frames}
 use Rattle.linemap_emit_calls_laws.specs.ContextNames.{known_units, holding_unit, naming_in}
 use Rattle.linemap_emit_calls_laws.specs.CallAgreement.{OneByOne}
 use Rattle.linemap_emit_calls_laws.specs.LookupFrameLaws.{FrameAgrees, UnitFramesAgree, UnitAnswerAgrees}
