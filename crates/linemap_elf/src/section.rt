@@ -5,7 +5,7 @@ use std::marker::Model;
 /// A section: its name, and its bytes.
 #[derive(Debug, Drop)]
 pub struct Section<'a> {
-    name: &'a str,
+    name: &'static str,
     bytes: &'a [u8],
 }
 
@@ -21,14 +21,14 @@ impl<'a> Section<'a> {
     ghost use Rattle.std.specs.Prelude.{◌≡◌};
 
     /// The section of a name.
-    pub fn new(name: &'a str, bytes: &'a [u8]) -> Self
+    pub fn new(name: &'static str, bytes: &'a [u8]) -> Self
         ensures { result ≡ record { name = name.now; bytes = bytes.now } }
     {
         Section { name, bytes }
     }
 
     /// Its name.
-    pub fn name(&self) -> &'a str
+    pub fn name(&self) -> &'static str
         ensures { result.now ≡ self.now.name }
     {
         self.name
