@@ -227,29 +227,24 @@ class Process:
 
     def __init__(self, words, text, seconds, megabytes, folder):
         self.is_late = False
-        began = time.monotonic()
         with open(f"{folder}/out", "w+b") as out, open(f"{folder}/err", "w+b") as err, open(f"{folder}/in", "w+b") as given:
             given.write(text)
             given.seek(0)
-            # (by way of a shell: a process begins with the peak memory of the one that starts it)
-            shell = ["sh", "-c", 'ulimit -c 0; "$0" "$@"; exit $?', *words]
-            run = subprocess.Popen(shell, stdin=given, stdout=out, stderr=err, cwd=folder, start_new_session=True)
-            while True:
-                pid, status, usage = os.wait4(run.pid, os.WNOHANG)
-                if pid:
-                    break
-                if time.monotonic() - began > seconds:
-                    self.is_late = True
-                    os.killpg(run.pid, signal.SIGKILL)
-                    pid, status, usage = os.wait4(run.pid, 0)
-                    break
-                time.sleep(0.002)
-            run.returncode = 0
+            # (by way of `time`: a process begins with the peak memory of the one that starts it, which here is large)
+            timed = ["/usr/bin/time", "-q", "-f", "%M", "-o", "memory", *words]
+            run = subprocess.Popen(timed, stdin=given, stdout=out, stderr=err, cwd=folder, start_new_session=True)
+            try:
+                run.wait(seconds)
+            except subprocess.TimeoutExpired:
+                self.is_late = True
+                os.killpg(run.pid, signal.SIGKILL)
+                run.wait()
             out.seek(0)
             err.seek(0)
             self.out, self.err = out.read().decode("utf-8", "replace"), err.read().decode("utf-8", "replace")
-        self.status = os.waitstatus_to_exitcode(status)
-        self.memory = usage.ru_maxrss / 1024
+        self.status = run.returncode
+        with open(f"{folder}/memory", encoding="utf-8") as file:
+            self.memory = 0 if self.is_late else int(file.read().split()[-1]) / 1024
         self.is_big = self.memory > megabytes
 
     def fault(self, statuses=(0,)):

@@ -2,7 +2,7 @@
 """Debug information made to be slow to read: images by kind, and what reading them costs.
 
 usage: bench/hostile.py list
-       bench/hostile.py make KIND COUNT FILE
+       bench/hostile.py make KIND COUNT FILE      and print the addresses that are asked for
        bench/hostile.py measure [KIND..]
 
 Each kind is made at half its count and at its whole one, so that the growth shows: twice the count should take about
@@ -384,9 +384,7 @@ def run(words, limit):
     """The seconds and the megabytes that a process takes, and its status; none where it takes too long."""
     began = time.monotonic()
     with open(os.devnull, "w+b") as nothing:
-        # (by way of a shell: a process begins with the peak memory of the one that starts it)
-        shell = ["sh", "-c", '"$0" "$@"; exit $?', *words]
-        child = subprocess.Popen(shell, stdin=nothing, stdout=nothing, stderr=nothing, start_new_session=True)
+        child = subprocess.Popen(words, stdin=nothing, stdout=nothing, stderr=nothing, start_new_session=True)
         while True:
             pid, status, usage = os.wait4(child.pid, os.WNOHANG)
             if pid:
@@ -420,12 +418,11 @@ def measure(names):
         for name in names:
             kind, sizes, lists = BY_NAME[name], [], []
             for part in (2, 1):
-                sections, asked = kind(max(2, int(KINDS[kind] * scale / part)))
-                path = f"{folder}/{part}"
-                with open(path, "wb") as file:
-                    file.write(elf(sections))
+                path, count = f"{folder}/{part}", max(2, int(KINDS[kind] * scale / part))
+                # (by a process of its own, since those that are measured begin with the peak memory of this one)
+                made = subprocess.run([sys.executable, __file__, "make", name, str(count), path], check=True, stdout=subprocess.PIPE)
                 sizes.append((path, os.path.getsize(path)))
-                lists.append([f"{it:x}" for it in asked])
+                lists.append(made.stdout.decode().split())
             for what in "frames", "all":
                 found = []
                 for program in programs.values():
@@ -442,8 +439,10 @@ def main():
         for name, kind in BY_NAME.items():
             print(f"{name:24} {KINDS[kind]:9,}  {kind.__doc__}")
     elif len(words) == 4 and words[0] == "make" and words[1] in BY_NAME:
+        sections, asked = BY_NAME[words[1]](int(words[2]))
         with open(words[3], "wb") as file:
-            file.write(elf(BY_NAME[words[1]](int(words[2]))[0]))
+            file.write(elf(sections))
+        print(*[f"{it:x}" for it in asked])
     elif words[:1] == ["measure"] and all(it in BY_NAME for it in words[1:]):
         measure(words[1:] or list(BY_NAME))
     else:
