@@ -1,5 +1,5 @@
 -- The image of few enough sections fits the fields of its headers.
-use Rattle.std.proofs.Common.{◌≡◌, ℕ, ◌+◌, ◌*◌, ◌/◌, ◌<◌, ◌≤◌, ◌^◌, Bool, true, false, cond, List, [], ◌∷◌, ◌++◌, length, map, refl, sym, ap, ◌∙◌, arith}
+use Rattle.std.proofs.Common.{◌≡◌, ℕ, ◌+◌, ◌*◌, ◌/◌, ◌<◌, ◌≤◌, ◌^◌, Bool, true, false, cond, List, [], ◌∷◌, ◌++◌, length, map, refl, sym, ap, subst, ◌∙◌, arith}
 use Rattle.std.specs.Prelude.{nat_le, ◌==◌}
 use Rattle.std.specs.List.{list_all, sum_by}
 use Rattle.std.proofs.lemmas.List.Concat.{length-flat_map}
@@ -17,7 +17,7 @@ use Rattle.linemap_emit.specs.EmittedSections.{SectionBytes, emitted_sections}
 use Rattle.linemap_emit.proofs.EmissionSums.{no_line_texts}
 use Rattle.linemap_emit.specs.TableParts.{UnitPart}
 use Rattle.linemap_image.specs.TableImages.{class_of, section_of, image_sections}
-use Rattle.linemap_image.proofs.LoadedImages.{IsOfVersion, sections_by}
+use Rattle.linemap_image.proofs.LoadedImages.{IsOfVersion, sections_by, of_image}
 
 nothing_if : (b : Bool) (xs : List ℕ) → b ≡ true → cond b [] xs ≡ []
 nothing_if b xs is = ap (λ (c : Bool). cond c [] xs) is
@@ -67,14 +67,19 @@ size_fits bytes Elf32 false small = let whole = body_few bytes false in omega ar
 size_fits bytes Elf64 true small = let whole = body_few bytes true in omega arith
 size_fits bytes Elf64 false small = let whole = body_few bytes false in omega arith
 
+fits_by : (bytes : SectionBytes) (class : Class) (b : Bool) → sections_size bytes < 2 ^ 31
+    → ImageFits class (sections_by bytes b)
+fits_by bytes class b small =
+    let names = names_few bytes b in
+    record {
+      are_names = are_names bytes b;
+      few = few bytes b;
+      names_fit = omega arith;
+      size_fits = size_fits bytes class b small;
+    }
+
 pub image_fits : (e : Encoding) (bytes : SectionBytes) → sections_size bytes < 2 ^ 31
     → ImageFits (class_of e.address_size) (image_sections e bytes)
 image_fits e bytes small =
-    let old = nat_le e.version 4 in
-    let names = names_few bytes old in
-    record {
-      are_names = are_names bytes old;
-      few = few bytes old;
-      names_fit = omega arith;
-      size_fits = size_fits bytes (class_of e.address_size) old small;
-    }
+    subst (λ (ss : List NamedBytes). ImageFits (class_of e.address_size) ss) (sym (of_image e bytes))
+    (fits_by bytes (class_of e.address_size) (nat_le e.version 4) small)

@@ -1,5 +1,5 @@
 -- An image that holds a table's sections is loaded, and answers the table.
-use Rattle.std.proofs.Common.{◌≡◌, ℕ, ◌<◌, ◌≤◌, ◌^◌, Bool, true, false, cond, List, [], ◌∷◌, map, length, Option, Some, None, Result, Ok, Err, refl, sym, ap, ◌∙◌, arith}
+use Rattle.std.proofs.Common.{◌≡◌, ℕ, ◌<◌, ◌≤◌, ◌^◌, Bool, true, false, cond, List, [], ◌∷◌, map, length, Option, Some, None, Result, Ok, Err, refl, sym, ap, subst, ◌∙◌, arith}
 use Rattle.std.specs.Prelude.{nat_le}
 use Rattle.gimli_core_base.specs.View.{View, prefix, bytes_left}
 use Rattle.gimli_core_base.specs.declared.common.Encoding.{Encoding}
@@ -25,7 +25,7 @@ use Rattle.linemap_emit.specs.EmittedSections.{SectionBytes, HoldBytes}
 use Rattle.linemap_emit.specs.RecordedTableLaws.{AnswersTable}
 use Rattle.linemap_emit.specs.SectionAnswers.{AreAnswers}
 use Rattle.linemap_emit.specs.TableParts.{UnitPart}
-use Rattle.linemap_image.specs.TableImages.{section_of, image_sections}
+use Rattle.linemap_image.specs.TableImages.{section_of, section_ids, image_sections}
 use Rattle.linemap_image.specs.ImageAnswers.{FileAnswers}
 
 -- what is emitted up to version 4 has no lists of version 5, and the other way round
@@ -81,6 +81,12 @@ line_str_found : (bytes : SectionBytes) (b : Bool) → (b ≡ true → bytes.deb
 line_str_found bytes true none = sym (none refl)
 line_str_found bytes false none = refl
 
+-- an image's sections are these
+pub of_image : (e : Encoding) (bytes : SectionBytes)
+    → image_sections e bytes ≡ sections_by bytes (nat_le e.version 4)
+  unfolding section_ids
+of_image e bytes = refl
+
 -- ---- the file of an image's sections
 
 -- the section of a name, or none
@@ -114,7 +120,7 @@ module _ (image : Image) where
 
 module _ (e : Encoding) (is_big : Bool) (bytes : SectionBytes) (file : List ℕ) (us : List UnitPart)
     (version : IsOfVersion e.version bytes)
-    (held : HoldsSections is_big (all_sections (image_sections e bytes)) file)
+    (held : HoldsSections is_big (all_sections (sections_by bytes (nat_le e.version 4))) file)
     (answers : AreAnswers is_big bytes us) where
   abbrev image : Image
   image = held.image
@@ -194,11 +200,18 @@ module _ (e : Encoding) (is_big : Bool) (bytes : SectionBytes) (file : List ℕ)
       ap (λ (r : Result Image LoadError). r >>= λ i. parts_of i None >>= λ ps. Ok (file_of_parts i ps)) held.image_is
       ∙ ap (λ (r : Result FileParts LoadError). r >>= λ ps. Ok (file_of_parts image ps)) parts_are
 
-  pub file_answers : FileAnswers file us
-  file_answers = record {
+  answered : FileAnswers file us
+  answered = record {
     loaded = file_of_parts image parts;
     is_loaded = loaded_is;
     no_symbols = refl;
     answers = table_answers;
     context_is = refl;
   }
+
+pub file_answers : (e : Encoding) (is_big : Bool) (bytes : SectionBytes) (file : List ℕ) (us : List UnitPart)
+    → IsOfVersion e.version bytes → HoldsSections is_big (all_sections (image_sections e bytes)) file
+    → AreAnswers is_big bytes us → FileAnswers file us
+file_answers e is_big bytes file us version held answers =
+    answered e is_big bytes file us version
+    (subst (λ (ss : List NamedBytes). HoldsSections is_big (all_sections ss) file) (of_image e bytes) held) answers

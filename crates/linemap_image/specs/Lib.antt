@@ -1,2 +1,14 @@
+pub use Rattle.gimli_core_base.specs.declared.common.Encoding
+pub use Rattle.gimli_core_base.specs.declared.common.Format
+pub use Rattle.linemap_emit.specs.EmissionTargets
+pub use Rattle.linemap_emit.specs.EmittedSections
+pub use Rattle.linemap_emit.specs.EncodingFits
+pub use Rattle.linemap_emit.specs.TableErrorCodes
+pub use Rattle.linemap_emit.specs.TableError
+pub use Rattle.linemap_emit.specs.TableInText
+pub use Rattle.linemap_emit.specs.TableParts
+pub use Rattle.linemap_emit.specs.TableWeight
+pub use Rattle.linemap_emit.specs.TargetEncodings
+pub use Rattle.linemap_emit.specs.declared.error.EmitError
 pub mod TableImages
 pub mod ImageAnswers

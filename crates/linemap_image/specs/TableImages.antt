@@ -16,7 +16,7 @@ class_of size = if size == 4 then Elf32 else Elf64
 
 -- the sections of a version, in order; from version 5 on line number programs have texts of their
 -- own, and range lists another section
-abbrev pub section_ids : ℕ → List SectionId
+unfoldable pub section_ids : ℕ → List SectionId
 section_ids version =
     if nat_le version 4 then DebugAbbrev ∷ DebugInfo ∷ DebugLine ∷ DebugRanges ∷ DebugStr ∷ []
     else DebugAbbrev ∷ DebugInfo ∷ DebugLine ∷ DebugLineStr ∷ DebugRngLists ∷ DebugStr ∷ []
@@ -25,10 +25,13 @@ section_ids version =
 abbrev pub section_of : SectionBytes → SectionId → NamedBytes
 section_of bytes id = record { name = name_of id; bytes = bytes_of id bytes }
 
+abbrev pub named_sections : SectionBytes → List SectionId → List NamedBytes
+named_sections bytes ids = map (section_of bytes) ids
+
 abbrev pub image_sections : Encoding → SectionBytes → List NamedBytes
-image_sections e bytes = map (section_of bytes) (section_ids e.version)
+image_sections e bytes = named_sections bytes (section_ids e.version)
 
 -- the image that holds them
-abbrev pub emitted_image : Encoding → Bool → SectionBytes → List ℕ
+unfoldable pub emitted_image : Encoding → Bool → SectionBytes → List ℕ
 emitted_image e is_big bytes =
     spelled_image (class_of e.address_size) is_big (image_sections e bytes)

@@ -3,4 +3,6 @@
 
 mod table_image;
 
+pub use gimli_core_base::Format;
+pub use linemap_emit::{EmitError, Table, TableError, Target, read_address};
 pub use table_image::emit;

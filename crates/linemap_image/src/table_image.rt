@@ -9,12 +9,31 @@ ghost use Rattle.linemap_emit.specs.EmittedSections.{emitted_sections};
 ghost use Rattle.linemap_emit.specs.TableUnits.{units_of};
 ghost use Rattle.linemap_emit.specs.TableWeight.{table_weight};
 ghost use Rattle.linemap_image.specs.ImageAnswers.{FileAnswers};
-ghost use Rattle.linemap_image.specs.TableImages.{class_of, image_sections, emitted_image};
+ghost use Rattle.linemap_image.specs.TableImages.{class_of, section_ids, named_sections, image_sections, emitted_image};
 
 use gimli_core_base::SectionId;
 use linemap_elf::{Class, Section, write_image};
 use linemap_emit::{EmitError, Sections, Table, Target, emit_sections};
 use std::alloc::{AllocError, Global};
+
+// The sections of an image up to version 4, in their order.
+const SECTIONS_TO_VERSION_4: [SectionId; 5] = [
+    SectionId::DebugAbbrev,
+    SectionId::DebugInfo,
+    SectionId::DebugLine,
+    SectionId::DebugRanges,
+    SectionId::DebugStr,
+];
+
+// The sections of an image from version 5 on, in their order.
+const SECTIONS_FROM_VERSION_5: [SectionId; 6] = [
+    SectionId::DebugAbbrev,
+    SectionId::DebugInfo,
+    SectionId::DebugLine,
+    SectionId::DebugLineStr,
+    SectionId::DebugRngLists,
+    SectionId::DebugStr,
+];
 
 /// The image of a table, for a target that it fits (`Table::fits`): an ELF file with the sections
 /// of `emit_sections`. A table whose weight is 2^31 or more is refused before any memory is taken;
@@ -47,34 +66,36 @@ fn image_of(alloc: Global, sections: &Sections, target: Target) -> Result<Vec<u8
 {
     let encoding = target.encoding();
     let class = class_of(encoding.address_size);
-    let abbrev = sections.get(SectionId::DebugAbbrev);
-    let abbrev = Section::new(SectionId::DebugAbbrev.name(), abbrev);
-    let info = sections.get(SectionId::DebugInfo);
-    let info = Section::new(SectionId::DebugInfo.name(), info);
-    let line = sections.get(SectionId::DebugLine);
-    let line = Section::new(SectionId::DebugLine.name(), line);
-    let str = sections.get(SectionId::DebugStr);
-    let str = Section::new(SectionId::DebugStr.name(), str);
-    if encoding.version <= 4 {
-        let ranges = sections.get(SectionId::DebugRanges);
-        let ranges = Section::new(SectionId::DebugRanges.name(), ranges);
-        return write_image(
-            alloc,
-            class,
-            target.endian(),
-            &[abbrev, info, line, ranges, str],
-        );
+    let named = named_sections(alloc, sections, encoding.version)?;
+    write_image(alloc, class, target.endian(), &named)
+}
+
+// The sections of an image, with their names.
+fn named_sections<'a>(
+    alloc: Global,
+    sections: &'a Sections,
+    version: u16,
+) -> Result<Vec<Section<'a>>, AllocError>
+    ensures { IfOk result (λ named. named.items
+        ≡ named_sections sections.now (section_ids version)) }
+{
+    let mut named = Vec::new(alloc);
+    for id in section_ids(version) {
+        named.push(Section::new(id.name(), sections.get(*id)))?;
     }
-    let line_str = sections.get(SectionId::DebugLineStr);
-    let line_str = Section::new(SectionId::DebugLineStr.name(), line_str);
-    let lists = sections.get(SectionId::DebugRngLists);
-    let lists = Section::new(SectionId::DebugRngLists.name(), lists);
-    write_image(
-        alloc,
-        class,
-        target.endian(),
-        &[abbrev, info, line, line_str, lists, str],
-    )
+    Ok(named)
+}
+
+// The sections of an image, in their order.
+#[tactic(auto, unfolding(crate::specs::TableImages::section_ids))]
+fn section_ids(version: u16) -> &'static [SectionId]
+    ensures { result.now ≡ section_ids version }
+{
+    if version <= 4 {
+        &SECTIONS_TO_VERSION_4
+    } else {
+        &SECTIONS_FROM_VERSION_5
+    }
 }
 
 // The class of an image whose addresses have a number of bytes.
