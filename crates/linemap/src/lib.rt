@@ -2,8 +2,7 @@
 //! units, asked for addresses, and emitted as debug information.
 #![tactic(auto)]
 
-pub use linemap_commands::{cannot_load, cannot_write, emission, emit, no_such_target, target_of};
-pub use linemap_lookup::{FileSource, LoadError, read_file, run};
+pub use linemap_commands::{cannot_write, emission, emit, no_such_target, target_of};
 pub use linemap_replay::{
     Answer, Call, OwnedFrame, OwnedLocation, OwnedName, OwnedStretch, OwnedUnit, replay,
 };
@@ -12,7 +11,7 @@ pub use linemap_text::{
     TableRange, TableRow, TableSequence, TableUnit, Target, ask, cannot_read, emit_sections,
     out_of_memory, words_not_text,
 };
-pub use linemap_words::{Options, Request, WordsError, explain, read_words};
+pub use linemap_words::{Request, WordsError, explain, read_words};
 
 #[cfg(test)]
 mod tests;

@@ -1,7 +1,7 @@
 //! The error lines of files and targets.
 
 ghost use Rattle.std.specs.Prelude.{◌≡◌, [], codes, false};
-ghost use Rattle.linemap_output.specs.ErrorLine.{EndsAtRead, Fails, error_line};
+ghost use Rattle.linemap_output.specs.ErrorLine.{Fails, error_line};
 ghost use Rattle.linemap_commands.specs.Reports.{EndsAtTarget};
 
 use linemap_output::{Ended, fail};
@@ -14,17 +14,6 @@ pub fn cannot_write<W: Write>(err: &mut W, path: &str) -> Ended
     ensures memory { result.memory ≡ false }
 {
     fail(err, "cannot write ", path)
-}
-
-/// Ends with status 1 and the line for debug information of a file that can't be read.
-pub fn cannot_load<W: Write>(err: &mut W) -> Ended
-    ensures { EndsAtRead 1 (error_line (codes "failed to load debug info: ") (codes "L2"))
-        (W.contents err.old) (W.contents err.new) result }
-{
-    Ended {
-        read: true,
-        ..fail(err, "failed to load debug info: ", "L2")
-    }
 }
 
 /// Ends with status 2 and the line for numbers that are no target.

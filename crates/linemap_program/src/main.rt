@@ -2,11 +2,10 @@
 #![tactic(auto)]
 
 use linemap::{
-    FileSource, LoadError, Options, Request, Target, ask, cannot_load, cannot_read, cannot_write,
-    emission, explain, no_such_target, out_of_memory, read_file, read_words, run, target_of,
-    words_not_text,
+    Request, Target, ask, cannot_read, cannot_write, emission, explain, no_such_target,
+    out_of_memory, read_words, target_of, words_not_text,
 };
-use std::io::{BufReader, BufWriter, ErrorKind, Lock, Write};
+use std::io::{BufWriter, ErrorKind, Lock, Write};
 use std::process::ExitCode;
 use std::rt::{Env, Files};
 use std::{env, fs, io};
@@ -21,7 +20,7 @@ fn main(rt: HostRuntime) -> ExitCode {
 }
 
 // Does what the words of the command line ask for, and returns the exit status.
-fn start<R: Env + Files + Input + AllocGlobal, O: Write, E: Write>(
+fn start<R: Env + Files + AllocGlobal, O: Write, E: Write>(
     rt: &R,
     out: &mut O,
     err: &mut E,
@@ -40,7 +39,7 @@ fn words_of<R: Env + AllocGlobal>(rt: &R) -> io::Result<Vec<String>> {
 }
 
 // Does what the words ask for, or explains why they are no request.
-fn obey<R: Files + Input + AllocGlobal, O: Write, E: Write>(
+fn obey<R: Files + AllocGlobal, O: Write, E: Write>(
     rt: &R,
     words: &[String],
     out: &mut O,
@@ -61,7 +60,6 @@ fn obey<R: Files + Input + AllocGlobal, O: Write, E: Write>(
             Some(target) => emit_table(rt, &table, &out, target, err),
             None => no_such_target(err).status,
         },
-        Ok(Request::Lookup { exe, sup, options }) => look_up(rt, &exe, sup, &options, out, err),
         Err(error) => explain(rt.alloc(), &error, out, err).status,
     }
 }
@@ -113,51 +111,5 @@ fn emit_table<R: Files + AllocGlobal, E: Write>(
         Ok(()) => 0,
         Err(error) if error.kind() == ErrorKind::OutOfMemory => out_of_memory(err).status,
         Err(_) => cannot_write(err, out).status,
-    }
-}
-
-// Looks addresses up in a file.
-fn look_up<R: Files + Input + AllocGlobal, O: Write, E: Write>(
-    rt: &R,
-    exe: &str,
-    sup: Option<String>,
-    options: &Options,
-    out: &mut O,
-    err: &mut E,
-) -> u8 {
-    let image = match read_file(rt, exe) {
-        Ok(image) => image,
-        Err(error) => return refuse(err, error),
-    };
-    let supplement = match sup {
-        Some(path) => match read_file(rt, path.as_str()) {
-            Ok(bytes) => Some(bytes),
-            Err(error) => return refuse(err, error),
-        },
-        None => None,
-    };
-    let mut lines = match BufReader::new(rt.alloc(), rt.reader()) {
-        Ok(lines) => lines,
-        Err(_) => return out_of_memory(err).status,
-    };
-    let source = FileSource::new(rt);
-    run(
-        rt.alloc(),
-        options,
-        image,
-        supplement,
-        source,
-        &mut lines,
-        out,
-        err,
-    )
-    .status
-}
-
-// Ends after a file that is not read.
-fn refuse<E: Write>(err: &mut E, error: LoadError) -> u8 {
-    match error {
-        LoadError::Memory => out_of_memory(err).status,
-        _ => cannot_load(err).status,
     }
 }

@@ -1,17 +1,16 @@
 -- How a request relates to the matches that `clap` finds.
-use Rattle.std.specs.Prelude.{◌≡◌, ◌≢◌, ◌⊎◌, ◌<◌, ◌^◌, ℕ, List, [], Bool, false, Option, None, Some, IsSome, IsSomeAnd, IsTrue, ⊤, Vec, String, codes, map, option_map, string_bytes}
+use Rattle.std.specs.Prelude.{◌≡◌, ◌≢◌, ◌⊎◌, ◌<◌, ◌^◌, ℕ, List, [], Bool, false, Option, None, Some, IsSomeAnd, ⊤, Vec, String, codes, map, string_bytes}
 use Rattle.std.specs.declared.alloc.Global.{Global}
 use Rattle.std.specs.Option.{option_map_or}
 use Rattle.std.specs.Str.{bytes_eq}
 use Rattle.std.specs.Str.Parse.{IsNumeral, digits_value, without_leading_plus}
 use Rattle.clap.specs.Words.{IsAmong, Kinds, Row, Text, all_of, first_of, kind_of, one_of}
 use Rattle.clap.specs.declared.error.ErrorKind.{ErrorKind}
-use Rattle.clap.specs.declared.error.ErrorKind.TheVariants.{ArgumentConflict, MissingRequiredArgument, OutOfMemory}
-use Rattle.linemap_output.specs.declared.options.Options.{Options}
+use Rattle.clap.specs.declared.error.ErrorKind.TheVariants.{MissingRequiredArgument, OutOfMemory}
 use Rattle.linemap_words.specs.declared.request.Mismatch.{Mismatch}
-use Rattle.linemap_words.specs.declared.request.Mismatch.TheVariants.{NoMemory, Missing, Conflict}
+use Rattle.linemap_words.specs.declared.request.Mismatch.TheVariants.{NoMemory, Missing}
 use Rattle.linemap_words.specs.declared.request.Request.{Request}
-use Rattle.linemap_words.specs.declared.request.Request.TheVariants.{Ask, Emit, Lookup}
+use Rattle.linemap_words.specs.declared.request.Request.TheVariants.{Ask, Emit}
 use Rattle.linemap_words.specs.declared.request.WordsError.{WordsError}
 use Rattle.linemap_words.specs.declared.request.WordsError.TheVariants.{Memory, Fault}
 
@@ -36,20 +35,6 @@ LacksNumber id rows = (number : ℕ) → number < 2 ^ 16 → HasNumber id rows n
 abbrev pub texts_of : Vec (String Global) Global → List Text
 texts_of texts = map string_bytes texts.items
 
--- the options of `lookup` are what the matches hold
-pub record AreOptionsOf (options : Options) (rows : List Row) : Type 0 where
-  pub section : first_of (codes "section") rows ≡ option_map string_bytes options.section
-  pub all : options.all ≡ is_set (codes "all") rows
-  pub functions : options.functions ≡ is_set (codes "functions") rows
-  pub pretty : options.pretty ≡ is_set (codes "pretty-print") rows
-  pub inlines : options.inlines ≡ is_set (codes "inlines") rows
-  pub addresses : options.addresses ≡ is_set (codes "addresses") rows
-  pub basenames : options.basenames ≡ is_set (codes "basenames") rows
-  pub demangle : options.demangle ≡ is_set (codes "demangle") rows
-  pub llvm : options.llvm ≡ is_set (codes "llvm") rows
-  pub statements : options.statements ≡ is_set (codes "statements") rows
-  pub words : all_of (codes "words") rows ≡ option_map texts_of options.words
-
 -- the request has the subcommand's name and what its matches hold
 abbrev pub IsRequestOf : Request → Text × List Row → Type 0
 IsRequestOf (Ask table words) matches = (matches.0 ≡ codes "ask")
@@ -60,12 +45,6 @@ IsRequestOf (Emit table out dwarf bits size big) matches = (matches.0 ≡ codes 
     × (first_of (codes "out") matches.1 ≡ Some (string_bytes out))
     × HasNumber (codes "dwarf") matches.1 dwarf × HasNumber (codes "bits") matches.1 bits
     × HasNumber (codes "size") matches.1 size × (big ≡ is_set (codes "big") matches.1)
-IsRequestOf (Lookup exe sup options) matches = (matches.0 ≡ codes "lookup")
-    × (first_of (codes "exe") matches.1 ≡ Some (string_bytes exe))
-    × (first_of (codes "sup") matches.1 ≡ option_map string_bytes sup)
-    × AreOptionsOf options matches.1
-    -- all addresses are asked for alone
-    × (IsTrue options.all → options.words ≡ None)
 
 -- an error of the parse is out of memory, or a fault of that kind
 abbrev pub IsFault : WordsError → ErrorKind → Type 0
@@ -87,23 +66,15 @@ abbrev pub LacksRequest : Option (Text × List Row) → Type 0
 LacksRequest None = ⊤
 LacksRequest (Some matches) = (matches.0 ≡ codes "ask" → LacksAsk matches.1)
     × (matches.0 ≡ codes "emit" → LacksEmit matches.1)
-    × (matches.0 ≡ codes "lookup" → first_of (codes "exe") matches.1 ≡ None)
-
--- all addresses are asked for, and some too
-abbrev pub HasConflict : Text × List Row → Type 0
-HasConflict matches = (matches.0 ≡ codes "lookup") × IsTrue (is_set (codes "all") matches.1)
-    × IsSome (all_of (codes "words") matches.1)
 
 -- why matches are no request
 abbrev pub IsMismatch : Mismatch → Option (Text × List Row) → Type 0
 IsMismatch NoMemory matches = ⊤
 IsMismatch Missing matches = LacksRequest matches
-IsMismatch Conflict matches = IsSomeAnd matches HasConflict
 
 -- out of memory; or a fault of a kind that the parse has; or the parse has none, and its matches
--- lack a request, or are in conflict
+-- lack a request
 abbrev pub IsRefusal : WordsError → Kinds → Option (Text × List Row) → Type 0
 IsRefusal Memory kinds matches = ⊤
-IsRefusal (Fault error) kinds matches = IsAmong (kind_of error) kinds ⊎ ((kinds ≡ [])
-    × (((kind_of error ≡ MissingRequiredArgument) × LacksRequest matches)
-    ⊎ ((kind_of error ≡ ArgumentConflict) × IsSomeAnd matches HasConflict)))
+IsRefusal (Fault error) kinds matches = IsAmong (kind_of error) kinds
+    ⊎ ((kinds ≡ []) × (kind_of error ≡ MissingRequiredArgument) × LacksRequest matches)

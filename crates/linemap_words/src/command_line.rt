@@ -6,15 +6,10 @@ ghost use Rattle.linemap_words.specs.CommandLine.{addresses_rule, linemap_app, t
 mod ask;
 mod emit;
 mod flags;
-mod lookup;
 
 pub use ask::ask_command;
 use clap::{Arg, ArgAction, Command};
 pub use emit::{BIG, BITS, DWARF, OUT, SIZE, emit_command};
-pub use lookup::{
-    ADDRESSES, ALL, BASENAMES, DEMANGLE, EXE, FUNCTIONS, INLINES, LLVM, PRETTY, SECTION,
-    STATEMENTS, SUP, lookup_command,
-};
 use std::alloc::{AllocError, Global};
 
 /// The identifier of the table's path among the matches.
@@ -29,18 +24,16 @@ pub fn linemap_command<'a>(alloc: Global) -> Result<Command<'a>, AllocError>
 {
     let ask = ask_command(alloc)?;
     let emit = emit_command(alloc)?;
-    let lookup = lookup_command(alloc)?;
     // The same name wherever the executable is.
     let command = Command::new(alloc, "linemap").bin_name("linemap")?;
     command
         .about("Answers which source line an address belongs to")
         .after_help(
-            "Example: the line of an address in a program, and of one in a table\n  \
-            linemap lookup -e ./a.out 0x1139\n  \
-            linemap ask table.json 0x100f",
+            "Example: the line of an address in a table, and the table as an ELF file\n  \
+            linemap ask table.json 0x100f\n  \
+            linemap emit table.json table.elf",
         )
         .subcommand_required(true)
-        .subcommand(lookup)?
         .subcommand(ask)?
         .subcommand(emit)
 }

@@ -8,5 +8,4 @@ mod matches;
 mod request;
 
 pub use explanation::explain;
-pub use linemap_output::Options;
 pub use request::{Request, WordsError, read_words};

@@ -2,16 +2,12 @@
 ghost use Rattle.std.specs.Prelude.{◌≡◌, IfOk, IfErr, IsSomeAnd, Some, map, codes, string_bytes};
 ghost use Rattle.clap.specs.Words.{fault_of, found_of, kind_of, rows_of, subcommand_of, subcommand_rows_of};
 ghost use Rattle.linemap_words.specs.CommandLine.{linemap_app};
-ghost use Rattle.linemap_words.specs.WordsRequest.{AreOptionsOf, IsFault, IsMismatch, IsRefusal, IsRequestOf};
+ghost use Rattle.linemap_words.specs.WordsRequest.{IsFault, IsMismatch, IsRefusal, IsRequestOf};
 
-use crate::command_line::{
-    ADDRESSES, ALL, BASENAMES, BIG, BITS, DEMANGLE, DWARF, EXE, FUNCTIONS, INLINES, LLVM, OUT,
-    PRETTY, SECTION, SIZE, STATEMENTS, SUP, TABLE, WORDS, linemap_command, lookup_command,
-};
+use crate::command_line::{BIG, BITS, DWARF, OUT, SIZE, TABLE, WORDS, linemap_command};
 use crate::matches::{is_set, number_at, text_at, texts_at};
 use clap::error::ErrorKind;
 use clap::{ArgMatches, Command};
-use linemap_output::Options;
 use std::alloc::{AllocError, Global};
 use thiserror::Error;
 
@@ -39,15 +35,6 @@ pub enum Request {
         size: u16,
         /// Whether the most significant byte comes first.
         big: bool,
-    },
-    /// Look addresses up in an ELF file with debug information.
-    Lookup {
-        /// The path of the file.
-        exe: String,
-        /// The path of its supplementary file.
-        sup: Option<String>,
-        /// What is printed, and for which addresses.
-        options: Options,
     },
 }
 
@@ -79,8 +66,6 @@ enum Mismatch {
     NoMemory,
     // No subcommand, or an argument that it requires isn't there.
     Missing,
-    // All addresses are asked for, and some too.
-    Conflict,
 }
 
 impl From<AllocError> for Mismatch {
@@ -136,7 +121,6 @@ pub fn read_words(alloc: Global, words: &[String]) -> Result<Request, WordsError
         Ok(request) => Ok(request),
         Err(Mismatch::NoMemory) => Err(WordsError::Memory),
         Err(Mismatch::Missing) => Err(error_of(missing(&mut command)?)),
-        Err(Mismatch::Conflict) => Err(error_of(conflict(alloc)?)),
     }
 }
 
@@ -158,15 +142,6 @@ fn missing(command: &mut Command<'_>) -> Result<clap::Error, AllocError>
     command.error(ErrorKind::MissingRequiredArgument, "no request")
 }
 
-// The error of matches of `lookup` that ask for all addresses and for some.
-fn conflict(alloc: Global) -> Result<clap::Error, AllocError>
-    ensures { IfOk result (λ error. kind_of error ≡ ErrorKind.ArgumentConflict) }
-{
-    let mut command = lookup_command(alloc)?.bin_name("linemap lookup")?;
-    let message = "the argument '--all' cannot be used with '[ADDR]...'";
-    command.error(ErrorKind::ArgumentConflict, message)
-}
-
 // The request of the subcommand that was parsed.
 fn request_in(alloc: Global, matches: &ArgMatches<'_>) -> Result<Request, Mismatch>
     ensures request { IfOk result
@@ -177,7 +152,6 @@ fn request_in(alloc: Global, matches: &ArgMatches<'_>) -> Result<Request, Mismat
         Some((name, matches)) => match name {
             "ask" => ask_request(alloc, matches),
             "emit" => emit_request(alloc, matches),
-            "lookup" => lookup_request(alloc, matches),
             _ => Err(Mismatch::Missing),
         },
         None => Err(Mismatch::Missing),
@@ -210,40 +184,5 @@ fn emit_request(alloc: Global, matches: &ArgMatches<'_>) -> Result<Request, Mism
         bits: number_at(matches, BITS).ok_or(Mismatch::Missing)?,
         size: number_at(matches, SIZE).ok_or(Mismatch::Missing)?,
         big: is_set(matches, BIG),
-    })
-}
-
-// The request of the matches of `lookup`.
-fn lookup_request(alloc: Global, matches: &ArgMatches<'_>) -> Result<Request, Mismatch>
-    ensures request { IfOk result
-        (λ request. IsRequestOf request (codes "lookup", rows_of (found_of matches.now))) }
-    ensures refusal { IfErr result
-        (λ why. IsMismatch why (Some (codes "lookup", rows_of (found_of matches.now)))) }
-{
-    let options = options_in(alloc, matches)?;
-    let exe = text_at(alloc, matches, EXE)?.ok_or(Mismatch::Missing)?;
-    let sup = text_at(alloc, matches, SUP)?;
-    if options.all && options.words.is_some() {
-        return Err(Mismatch::Conflict);
-    }
-    Ok(Request::Lookup { exe, sup, options })
-}
-
-// The options of the matches of `lookup`.
-fn options_in(alloc: Global, matches: &ArgMatches<'_>) -> Result<Options, AllocError>
-    ensures { IfOk result (λ options. AreOptionsOf options (rows_of (found_of matches.now))) }
-{
-    Ok(Options {
-        section: text_at(alloc, matches, SECTION)?,
-        all: is_set(matches, ALL),
-        functions: is_set(matches, FUNCTIONS),
-        pretty: is_set(matches, PRETTY),
-        inlines: is_set(matches, INLINES),
-        addresses: is_set(matches, ADDRESSES),
-        basenames: is_set(matches, BASENAMES),
-        demangle: is_set(matches, DEMANGLE),
-        llvm: is_set(matches, LLVM),
-        statements: is_set(matches, STATEMENTS),
-        words: texts_at(alloc, matches, WORDS)?,
     })
 }

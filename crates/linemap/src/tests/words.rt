@@ -45,29 +45,9 @@ fn a_request_for_an_image(rt: HostRuntime) -> Result<(), Fail> {
 }
 
 #[test]
-fn a_request_for_lookups(rt: HostRuntime) -> Result<(), Fail> {
-    let alloc = rt.alloc();
-    let words = [
-        "linemap", "lookup", "-e", "a.out", "-fipCa", "-j.text", "0x10", "20",
-    ];
-    let Request::Lookup { exe, sup, options } = read_words(alloc, &copies_of(alloc, &words)?)?
-    else {
-        return Err(Fail::from("another request"));
-    };
-    assert_eq!(rt; exe.as_str(), "a.out");
-    assert!(rt; sup.is_none());
-    assert!(rt; options.section.is_some_and(|name| name.as_str() == ".text"));
-    assert!(rt; options.functions && options.inlines && options.pretty);
-    assert!(rt; options.demangle && options.addresses);
-    assert!(rt; !options.all && !options.basenames && !options.llvm && !options.statements);
-    assert!(rt; options.words.is_some_and(|words| words.len() == 2));
-    Ok(())
-}
-
-#[test]
 fn refused_command_lines(rt: HostRuntime) -> Result<(), Fail> {
     let alloc = rt.alloc();
-    let table: [(&[&str], u8, bool); 13] = [
+    let table: [(&[&str], u8, bool); 10] = [
         (&["linemap"], 2, false),
         (&["linemap", "ask"], 2, false),
         (&["linemap", "ask", "a.json"], 2, false),
@@ -82,13 +62,6 @@ fn refused_command_lines(rt: HostRuntime) -> Result<(), Fail> {
             false,
         ),
         (&["linemap", "emit", "--help"], 0, true),
-        (&["linemap", "lookup"], 2, false),
-        (
-            &["linemap", "lookup", "-e", "a.out", "--all", "0x10"],
-            2,
-            false,
-        ),
-        (&["linemap", "lookup", "--help"], 0, true),
     ];
     for (words, status, is_help) in table {
         let count = words.len();

@@ -34,9 +34,9 @@ pub fn emit_command<'a>(alloc: Global) -> Result<Command<'a>, AllocError>
     Command::new(alloc, "emit")
         .about("Writes a table as an ELF file with debug information")
         .after_help(
-            "Example: write the file, and ask it for an address\n  \
+            "Example: write the file, and ask another program for an address in it\n  \
             linemap emit table.json table.elf\n  \
-            linemap lookup -e table.elf 0x100f",
+            addr2line -e table.elf -fi 0x100f",
         )
         .arg(table_argument(alloc))?
         .arg(out_argument(alloc))?

@@ -1,7 +1,7 @@
 //! Options that take no value, and options that take one.
 ghost use Rattle.std.specs.Prelude.{◌≡◌, Some, false};
 ghost use Rattle.clap.specs.Words.{rule_of};
-ghost use Rattle.linemap_words.specs.CommandLine.{flag_rule, number_rule, option_rule, with_short};
+ghost use Rattle.linemap_words.specs.CommandLine.{flag_rule, number_rule, option_rule};
 
 use clap::{Arg, ArgAction, value_parser};
 use std::alloc::Global;
@@ -15,14 +15,6 @@ pub fn flag<'a>(alloc: Global, name: &'a str, help: &'a str) -> Arg<'a>
         .long(name)
         .help(help)
         .action(ArgAction::SetTrue)
-}
-
-/// The option `--name`, with a short name too.
-pub fn short_flag<'a>(alloc: Global, name: &'a str, short: char, help: &'a str) -> Arg<'a>
-    ensures rule { rule_of result ≡ with_short short (flag_rule name.entry.now) }
-    ensures local { result.global ≡ false }
-{
-    flag(alloc, name, help).short(short)
 }
 
 /// The option `--name VALUE`, which takes any text.

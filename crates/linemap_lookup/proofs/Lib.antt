@@ -1,4 +1,0 @@
-pub mod HexadecimalTexts
-pub mod FrameSteps
-pub mod AnswerSteps
-pub mod RunSteps
