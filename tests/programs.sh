@@ -1,8 +1,7 @@
 #!/usr/bin/env bash
 # Runs the program's subcommands as a user does, over files, pipes, a full disk and a closed pipe, and compares what it
-# prints with programs.txt and, where there is binutils' addr2line, with programs-binutils.txt. There a line `$ ..` is what the shell runs;
-# then comes what goes to the standard output, what goes to the error stream, each line after `! `, and the exit status
-# after `= `.
+# prints with programs.txt. There a line `$ ..` is what the shell runs; then comes what goes to the standard output, what
+# goes to the error stream, each line after `! `, and the exit status after `= `.
 #
 #     tests/programs.sh [PROGRAM]      PROGRAM is ../linemap where none is given
 set -uo pipefail
@@ -74,23 +73,6 @@ cases() {
     case_of 'linemap look'
 }
 
-# What binutils' addr2line reads in images.
-read_by_binutils() {
-    case_of 'addr2line -e c.elf -fi 0x1018 0xfff'
-    case_of 'addr2line -e 2.elf -fi 1018'
-    case_of 'addr2line -e 5.elf -fi 1018'
-}
-
-# Compares what a group of cases prints with a file.
-compare() {
-    "$1" > "$work/printed"
-    diff -u "$here/$2" "$work/printed" || return 1
-    echo "$(grep -c '^\$' "$work/printed") cases, as in $2"
-}
-
-failed=0
-compare cases programs.txt || failed=1
-if type addr2line >/dev/null 2>&1; then
-    compare read_by_binutils programs-binutils.txt || failed=1
-fi
-exit "$failed"
+cases > "$work/printed"
+diff -u "$here/programs.txt" "$work/printed" || exit 1
+echo "$(grep -c '^\$' "$work/printed") cases, as in programs.txt"

@@ -34,9 +34,9 @@ pub fn emit_command<'a>(alloc: Global) -> Result<Command<'a>, AllocError>
     Command::new(alloc, "emit")
         .about("Writes a table as an ELF file with debug information")
         .after_help(
-            "Example: write the file, and ask another program for an address in it\n  \
+            "Example: write the file, and print its lines with another program\n  \
             linemap emit table.json table.elf\n  \
-            addr2line -e table.elf -fi 0x100f",
+            readelf --debug-dump=decodedline table.elf",
         )
         .arg(table_argument(alloc))?
         .arg(out_argument(alloc))?
