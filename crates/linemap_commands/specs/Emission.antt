@@ -1,5 +1,5 @@
 -- What `emit` makes of a text, and how it reports that it makes nothing.
-use Rattle.std.specs.Prelude.{◌≡◌, ◌≢◌, ◌^◌, ℕ, List, [], Bool, true, false, ⊤, Option, Some, None, Result, Ok, Err, codes, nat_lt, if◌then◌else◌}
+use Rattle.std.specs.Prelude.{◌≡◌, ◌≢◌, ◌^◌, ℕ, List, [], Bool, true, false, Option, Some, None, Result, Ok, Err, codes, nat_lt, if◌then◌else◌}
 use Rattle.linemap_image.specs.ImageAnswers.{FileAnswers}
 use Rattle.linemap_image.specs.TableImages.{emitted_image}
 use Rattle.linemap_image.specs.Encoding.{Encoding}
@@ -8,7 +8,7 @@ use Rattle.linemap_image.specs.EmittedSections.{emitted_sections}
 use Rattle.linemap_image.specs.EmitError.{EmitError}
 use Rattle.linemap_image.specs.EmitError.TheVariants.{Memory as NoRoom, TooLarge as TooHeavy}
 use Rattle.linemap_output.specs.declared.ended.Ended.{Ended}
-use Rattle.linemap_output.specs.ErrorLine.{EndsOutOfMemory, Fails, error_line}
+use Rattle.linemap_output.specs.ErrorLine.{Fails, error_line}
 use Rattle.linemap_image.specs.TableErrorCodes.{table_error_code}
 use Rattle.linemap_image.specs.TableError.{TableError}
 use Rattle.linemap_image.specs.TableError.TheVariants.{Memory as NoMemory}
