@@ -3,9 +3,9 @@
 
 usage: bench/fuzz.py MINUTES [FOLDER]
 
-The seeds are what is emitted of tables, in each of the 28 targets, the files of addr2line_cases, and the images of FOLDER. They are mutated: bits are
-flipped, bytes cut out, put in and copied from other seeds, numbers set to extremes. Two things are done with them, in
-turn, until the time is up:
+The seeds are what is emitted of tables, in each of the 28 targets, the files of addr2line_cases, and the images of
+FOLDER. They are mutated: bits are flipped, bytes cut out, put in and copied from other seeds, numbers set to extremes.
+Two things are done with them, in turn, until the time is up:
 
 - sections: thousands of files go through one process of `addr2line_cases`, each through both readers and all three
   constructors; what it answers must be what tests/model.py computes.
