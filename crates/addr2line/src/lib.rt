@@ -4,13 +4,12 @@
 #![tactic(auto)]
 
 pub use addr2line_context::{
-    Context, FindFrames, FindUnit, Frame, FrameIter, FunctionName, Lines, Location,
-    LocationRangeIter, LookupContinuation, LookupResult, ResUnit, Runs, SplitDwarfLoad, UnitLines,
-    UnitToken,
+    Context, FindFrames, FindUnit, Frame, FrameIter, FunctionName, Location, LocationRangeIter,
+    LookupContinuation, LookupResult, Runs, SplitDwarfLoad, UnitLines, UnitToken,
 };
 pub use addr2line_demangle::{demangle, demangle_auto};
-pub use addr2line_elf::{Elf, LoadError, Symbol, Symbols};
-pub use addr2line_functions::{DebugFile, HasUnit, HoldingUnit, KnownUnits, Names, UnitNames};
+pub use addr2line_elf::{LoadError, Symbol};
+pub use addr2line_index::{Probed, Probes};
 pub use addr2line_loader::Loader;
 pub use addr2line_split::{FileSource, MapSource, SplitFile, SplitSource, load_split};
 

@@ -7,6 +7,7 @@ pub enum Facility {
     Numbers,
     Widths,
     Bases,
+    SectionNames,
     Sections,
     Units,
     Entries,
@@ -19,7 +20,7 @@ pub enum Facility {
     Unknown,
 }
 
-const OPERATIONS: [(Facility, &[&str]); 13] = [
+const OPERATIONS: [(Facility, &[&str]); 14] = [
     (Facility::Refusals, &["refusals"]),
     (
         Facility::Numbers,
@@ -28,6 +29,7 @@ const OPERATIONS: [(Facility, &[&str]); 13] = [
             "uleb128_of",
             "sleb128_of",
             "usual_line_encoding",
+            "sizes_of_format",
             "offsets_of_32_bits",
             "offsets_of_64_bits",
             "offsets",
@@ -41,12 +43,15 @@ const OPERATIONS: [(Facility, &[&str]); 13] = [
             "address_size",
             "address",
             "offset",
+            "length",
+            "word",
             "offset_of_2_bytes",
             "initial_length",
         ],
     ),
     (Facility::Widths, &["width_of_forms"]),
     (Facility::Bases, &["default_bases"]),
+    (Facility::SectionNames, &["section_names"]),
     (
         Facility::Sections,
         &[
@@ -64,6 +69,7 @@ const OPERATIONS: [(Facility, &[&str]); 13] = [
         &[
             "units",
             "unit",
+            "size_of_header",
             "tombstone",
             "arange_sets",
             "aranges",
@@ -103,6 +109,8 @@ const OPERATIONS: [(Facility, &[&str]); 13] = [
         Facility::Lines,
         &[
             "line_header",
+            "line_parameters",
+            "line_lists",
             "line_files",
             "line_formats",
             "line_rows",

@@ -17,6 +17,8 @@ pub fn answer<R: Reader>(alloc: Global, case: &Case, sections: Sections<R>, out:
     match header(alloc, case, sections) {
         Ok(header) => match case.operation.as_str() {
             "line_header" => line_header(&header, out),
+            "line_parameters" => parameters(&header, out),
+            "line_lists" => lists(&header, out),
             "line_files" => files(&header, out),
             "line_formats" => formats(&header, out),
             "line_rows" => rows(header, out),
@@ -58,6 +60,27 @@ fn line_header<R: Reader>(header: &LineProgramHeader<R>, out: &mut Answer) {
     match header.raw_program_buf() {
         Ok(program) => out.bytes(&program),
         Err(error) => out.refuse(error),
+    }
+}
+
+// What special opcodes and addresses depend on.
+fn parameters<R: Reader>(header: &LineProgramHeader<R>, out: &mut Answer) {
+    out.word(&header.minimum_instruction_length());
+    out.word(&header.maximum_operations_per_instruction());
+    out.word(&header.default_is_stmt());
+    out.word(&header.line_base());
+    out.code(&header.line_range());
+}
+
+// How many directories and files are listed, and how directories are described.
+fn lists<R: Reader>(header: &LineProgramHeader<R>, out: &mut Answer) {
+    out.word(&header.include_directories().len());
+    out.code(&header.file_names().len());
+    for format in header.directory_entry_format() {
+        out.text("[");
+        out.word(&format.content_type);
+        out.code(&format.form);
+        out.text("]");
     }
 }
 

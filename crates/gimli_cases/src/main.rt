@@ -112,6 +112,7 @@ fn dispatch<R: Reader>(alloc: Global, case: &Case, sections: Sections<R>, out: &
         Facility::Numbers => numbers::answer(case, sections.first, out),
         Facility::Widths => sections::widths(case, out),
         Facility::Bases => sections::default_bases(case, out),
+        Facility::SectionNames => sections::names::<R>(out),
         Facility::Sections => sections::answer(alloc, case, sections, out),
         Facility::Units => units::answer(case, sections.first, out),
         Facility::Entries => units::answer_about_entries(alloc, case, sections, out),

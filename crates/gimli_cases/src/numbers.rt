@@ -2,7 +2,7 @@
 
 use crate::answer::Answer;
 use crate::case::Case;
-use gimli_core::{Error, Leb128, LineEncoding, Reader, ReaderOffset, leb128};
+use gimli_core::{Error, Format, Leb128, LineEncoding, Reader, ReaderOffset, leb128};
 
 /// Answers a question about numbers and texts.
 pub fn answer<R: Reader>(case: &Case, mut reader: R, out: &mut Answer) {
@@ -11,6 +11,7 @@ pub fn answer<R: Reader>(case: &Case, mut reader: R, out: &mut Answer) {
         "uleb128_of" => string_of(Leb128::unsigned(case.value), out),
         "sleb128_of" => string_of(Leb128::signed(case.signed), out),
         "usual_line_encoding" => out.code(&LineEncoding::default()),
+        "sizes_of_format" => sizes(case.format, out),
         "offsets_of_32_bits" => offsets::<u32>(case.value, out),
         "offsets_of_64_bits" => offsets::<u64>(case.value, out),
         "offsets" => offsets::<usize>(case.value, out),
@@ -43,6 +44,8 @@ fn read_sized<R: Reader>(case: &Case, reader: &mut R, out: &mut Answer) -> bool 
         "address_size" => out.outcome(reader.read_address_size()),
         "address" => out.outcome(reader.read_address(case.address_size)),
         "offset" => out.outcome(number_of(reader.read_offset(case.format))),
+        "length" => out.outcome(number_of(reader.read_length(case.format))),
+        "word" => out.outcome(number_of(reader.read_word(case.format))),
         "offset_of_2_bytes" => out.outcome(number_of(reader.read_sized_offset(2))),
         "initial_length" => initial_length(reader, out),
         _ => false,
@@ -127,6 +130,12 @@ fn string_of(string: Leb128, out: &mut Answer) {
     out.text(", ");
     out.value(&string.len());
     out.text(" bytes");
+}
+
+// The bytes of an initial length and of an offset.
+fn sizes(format: Format, out: &mut Answer) {
+    out.word(&format.initial_length_size());
+    out.code(&format.word_size());
 }
 
 // A number of each width, -2 and 5 more, and a wide number.

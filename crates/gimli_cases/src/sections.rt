@@ -6,7 +6,7 @@ use gimli_core::{
     Abbreviation, Abbreviations, AddrHeader, DebugAbbrev, DebugAbbrevOffset, DebugAddr,
     DebugAddrBase, DebugAddrIndex, DebugLineStr, DebugLineStrOffset, DebugLocListsBase,
     DebugRngListsBase, DebugStr, DebugStrOffset, DebugStrOffsets, DebugStrOffsetsBase,
-    DebugStrOffsetsIndex, DefaultBase, DwForm, DwarfFileType, Error, Reader, ReaderOffset,
+    DebugStrOffsetsIndex, DefaultBase, DwForm, DwarfFileType, Error, Reader, ReaderOffset, Section,
 };
 use std::alloc::Global;
 
@@ -85,6 +85,14 @@ fn same_abbreviation<R: Reader>(alloc: Global, one: R, other: R, out: &mut Answe
         (Err(error), _) => out.refuse(error),
         (_, Err(error)) => out.refuse(error),
     }
+}
+
+/// The names of a section that split files have too, and of one that they don't.
+pub fn names<R: Reader>(out: &mut Answer) {
+    out.word(&DebugStrOffsets::<R>::section_name());
+    out.word(&DebugStrOffsets::<R>::dwo_section_name());
+    out.word(&DebugAddr::<R>::section_name());
+    out.code(&DebugAddr::<R>::dwo_section_name());
 }
 
 /// The bytes of the values of the forms, where the encoding decides them.

@@ -16,6 +16,7 @@ pub fn answer<R: Reader>(case: &Case, section: R, out: &mut Answer) {
     match case.operation.as_str() {
         "units" => units(section, out),
         "unit" => one_unit(&unit(case, section), out),
+        "size_of_header" => size_of_header(&unit(case, section), out),
         "tombstone" => tombstone(case, &unit(case, section), out),
         "arange_sets" => arange_sets(section, out),
         "aranges" => aranges(pairs(case, section), out),
@@ -80,6 +81,17 @@ fn header<R: Reader>(unit: &UnitHeader<R>, out: &mut Answer) {
     out.word(&unit.root_offset().0);
     out.bytes(unit.entries_reader());
     out.text("]");
+}
+
+// The bytes of a unit's header, by its kind and by where its entries begin.
+fn size_of_header<R: Reader>(unit: &Result<UnitHeader<R>, Error>, out: &mut Answer) {
+    match unit {
+        Ok(unit) => {
+            out.word(&unit.size_of_header());
+            out.code(&unit.header_size());
+        }
+        Err(error) => out.refuse(*error),
+    }
 }
 
 fn tombstone<R: Reader>(case: &Case, unit: &Result<UnitHeader<R>, Error>, out: &mut Answer) {
@@ -220,7 +232,7 @@ fn read_all<R: Reader>(alloc: Global, entries: &mut EntriesRaw<'_, R>, out: &mut
             break;
         }
         match entries.read_entry(&mut entry) {
-            Ok(is_present) => row(&entry, is_present, out),
+            Ok(is_present) => row(&entry, is_present && !entry.is_null(), out),
             Err(error) => {
                 out.refuse(error);
                 break;

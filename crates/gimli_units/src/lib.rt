@@ -5,14 +5,13 @@
 pub use gimli_units_entries::{
     ArangeEntry, ArangeEntryIter, ArangeHeader, ArangeHeaderIter, Attribute, AttributeValue,
     DebugAranges, DebugInfo, DebugInfoUnitHeadersIter, DebuggingInformationEntry, EntriesRaw,
-    OffsetInSection, OffsetInUnit, Spelling, UnitEntries, UnitHeader, UnitType, entries_raw,
-    parse_attribute, skip_attributes, spelling_of,
+    OffsetInSection, OffsetInUnit, UnitEntries, UnitHeader, UnitType, entries_raw, parse_attribute,
+    skip_attributes,
 };
 pub use gimli_units_lists::{
     DebugInfoOffset, DebugLoc, DebugLocLists, DebugRanges, DebugRngLists, Expression, ListsHeader,
     LocListIter, LocationListEntry, LocationLists, Range, RangeLists, RawLocListEntry,
-    RawLocListIter, RawRngListEntry, RawRngListIter, RngListIter, UnitOffset, greatest_address,
-    least_tombstone, wrapping_sum,
+    RawLocListIter, RawRngListEntry, RawRngListIter, RngListIter, UnitOffset,
 };
 
 /// What holds of the definitions, as contracts.

@@ -1,7 +1,7 @@
 -- A refused table's error line.
 use Rattle.std.proofs.Common.{◌≡◌, ℕ, List, Option, false, codes, sym, subst}
-use Rattle.linemap_emit.specs.TableError.{TableError}
-use Rattle.linemap_emit.specs.TableErrorCodes.{table_error_code}
+use Rattle.linemap_image.specs.TableError.{TableError}
+use Rattle.linemap_image.specs.TableErrorCodes.{table_error_code}
 use Rattle.linemap_output.specs.ErrorLine.{Fails, error_line}
 use Rattle.linemap_output.specs.declared.ended.Ended.{Ended}
 use Rattle.linemap_commands.specs.Emission.{Reports}

@@ -1,19 +1,19 @@
 -- What `emit` makes of a text, and how it reports that it makes nothing.
-use Rattle.std.specs.Prelude.{◌≡◌, ◌≢◌, ◌^◌, ℕ, List, [], Bool, true, false, ⊤, Option, Some, None, Result, Ok, Err, codes, nat_lt, if◌then◌else◌}
+use Rattle.std.specs.Prelude.{◌≡◌, ◌≢◌, ◌^◌, ℕ, List, [], Bool, true, false, Option, Some, None, Result, Ok, Err, codes, nat_lt, if◌then◌else◌}
 use Rattle.linemap_image.specs.ImageAnswers.{FileAnswers}
 use Rattle.linemap_image.specs.TableImages.{emitted_image}
-use Rattle.gimli_core_base.specs.declared.common.Encoding.{Encoding}
-use Rattle.linemap_emit.specs.EncodingFits.{fits}
-use Rattle.linemap_emit.specs.EmittedSections.{emitted_sections}
-use Rattle.linemap_emit.specs.declared.error.EmitError.{EmitError}
-use Rattle.linemap_emit.specs.declared.error.EmitError.TheVariants.{Memory as NoRoom, TooLarge as TooHeavy}
+use Rattle.linemap_image.specs.Encoding.{Encoding}
+use Rattle.linemap_image.specs.EncodingFits.{fits}
+use Rattle.linemap_image.specs.EmittedSections.{emitted_sections}
+use Rattle.linemap_image.specs.EmitError.{EmitError}
+use Rattle.linemap_image.specs.EmitError.TheVariants.{Memory as NoRoom, TooLarge as TooHeavy}
 use Rattle.linemap_output.specs.declared.ended.Ended.{Ended}
-use Rattle.linemap_output.specs.ErrorLine.{EndsOutOfMemory, Fails, error_line}
-use Rattle.linemap_emit.specs.TableErrorCodes.{table_error_code}
-use Rattle.linemap_emit.specs.TableError.{TableError}
-use Rattle.linemap_emit.specs.TableError.TheVariants.{Memory as NoMemory}
-use Rattle.linemap_emit.specs.TableParts.{UnitPart}
-use Rattle.linemap_emit.specs.TableWeight.{table_weight}
+use Rattle.linemap_output.specs.ErrorLine.{Fails, error_line}
+use Rattle.linemap_image.specs.TableErrorCodes.{table_error_code}
+use Rattle.linemap_image.specs.TableError.{TableError}
+use Rattle.linemap_image.specs.TableError.TheVariants.{Memory as NoMemory}
+use Rattle.linemap_image.specs.TableParts.{UnitPart}
+use Rattle.linemap_image.specs.TableWeight.{table_weight}
 use Rattle.linemap_commands.specs.declared.images.Refusal.{Refusal}
 use Rattle.linemap_commands.specs.declared.images.Refusal.TheVariants.{Memory, Table, DoesNotFit, TooLarge}
 

@@ -1,9 +1,9 @@
 -- The targets that a command line names.
 use Rattle.std.specs.Prelude.{ℕ, ◌==◌, Bool, false, Option, None, Some, if◌then◌else◌}
 use Rattle.std.specs.Option.{option_map_or}
-use Rattle.linemap_emit.specs.TargetEncodings.{is_served}
-use Rattle.gimli_core_base.specs.declared.common.Format.{Format}
-use Rattle.gimli_core_base.specs.declared.common.Format.TheVariants.{Dwarf32, Dwarf64}
+use Rattle.linemap_image.specs.TargetEncodings.{is_served}
+use Rattle.linemap_image.specs.Format.{Format}
+use Rattle.linemap_image.specs.Format.TheVariants.{Dwarf32, Dwarf64}
 
 -- the format of a number of bits
 abbrev pub format_of : ℕ → Option Format

@@ -2,12 +2,11 @@
 
 ghost use Rattle.std.specs.Prelude.{◌≡◌, IfErr, IfOk, OnOk};
 ghost use Rattle.std.specs.Io.KnownBytes.{Keeps};
-ghost use Rattle.linemap_emit.specs.EmissionTargets.{encoding_of, is_big_of};
-ghost use Rattle.linemap_emit.specs.TableInText.{table_in};
+ghost use Rattle.linemap_image.specs.EmissionTargets.{encoding_of, is_big_of};
+ghost use Rattle.linemap_image.specs.TableInText.{table_in};
 ghost use Rattle.linemap_commands.specs.Emission.{EndsRefused, IsImage, Refuses, Reports};
 
-use linemap_emit::{EmitError, Table, TableError, Target};
-use linemap_image::emit;
+use linemap_image::{EmitError, Table, TableError, Target, emit};
 use linemap_output::{Ended, fail, out_of_memory};
 use std::alloc::Global;
 use std::io::Write;

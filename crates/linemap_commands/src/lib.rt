@@ -7,5 +7,6 @@ mod reports;
 mod targets;
 
 pub use images::emission;
+pub use linemap_image::emit;
 pub use reports::{cannot_load, cannot_write, no_such_target};
 pub use targets::target_of;

@@ -1,11 +1,10 @@
 //! The target that a command line names.
 
 ghost use Rattle.std.specs.Prelude.{◌≡◌, ◌↔◌, IsSome, IsTrue, IfSome, Some};
-ghost use Rattle.linemap_emit.specs.EmissionTargets.{encoding_of, is_big_of};
+ghost use Rattle.linemap_image.specs.EmissionTargets.{encoding_of, is_big_of};
 ghost use Rattle.linemap_commands.specs.Targets.{format_of, is_target};
 
-use gimli_core_base::Format;
-use linemap_emit::Target;
+use linemap_image::{Format, Target};
 
 /// The target of a version of DWARF, the bits of its format, the bytes of an address and an order
 /// of bytes, if tables are emitted for it.

@@ -1,3 +1,4 @@
+pub use Rattle.linemap_emit_laws.proofs.LookupsWithoutLoads
 pub use Rattle.linemap_emit_fits.proofs.EmissionSums
 pub mod SectionAnswerLemmas
 pub mod ServedEncodings

@@ -1,4 +1,7 @@
 pub use Rattle.linemap_emit_laws.specs.RecordedTableLaws
+pub use Rattle.linemap_emit_laws.specs.CallAgreement
+pub use Rattle.linemap_emit_laws.specs.LookupFrameLaws
+pub use Rattle.linemap_emit_laws.specs.LookupStretches
 pub use Rattle.linemap_emit_fits.specs.ByteOrders
 pub use Rattle.linemap_emit_fits.specs.BytesAt
 pub use Rattle.linemap_emit_fits.specs.EmissionBounds

@@ -1,3 +1,4 @@
+pub use Rattle.addr2line_spec.proofs.LookupsWithoutLoads
 pub mod RecordedUnitFacts
 pub mod RecordedContexts
 pub mod RecordedFrames

@@ -6,14 +6,14 @@ use linemap::{
     emission, explain, no_such_target, out_of_memory, read_file, read_words, run, target_of,
     words_not_text,
 };
-use std::io::{BufReader, BufWriter, ErrorKind, Write};
+use std::io::{BufReader, BufWriter, ErrorKind, Lock, Write};
 use std::process::ExitCode;
 use std::rt::{Env, Files};
 use std::{env, fs, io};
 
 fn main(rt: HostRuntime) -> ExitCode {
     let mut err = rt.stderr();
-    let status = match BufWriter::new(rt.alloc(), rt.stdout()) {
+    let status = match BufWriter::new(rt.alloc(), rt.stdout().lock()) {
         Ok(mut out) => start(&rt, &mut out, &mut err),
         Err(_) => out_of_memory(&mut err).status,
     };

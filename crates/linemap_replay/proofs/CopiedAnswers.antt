@@ -1,13 +1,12 @@
 -- Copies of what calls answer.
-use Rattle.std.proofs.Common.{◌≡◌, ◌≢◌, ◌⊎◌, inl, inr, ℕ, List, take, Result, Ok, Err, OnOk, sym, ap, ◌∙◌}
+use Rattle.std.proofs.Common.{◌≡◌, ◌≢◌, inl, inr, Result, Ok, Err, OnOk, sym, ap, ◌∙◌}
 use Rattle.addr2line_context.specs.Calls.{ReturnsOrNoMemory}
 use Rattle.addr2line_context.specs.ContextParses.{ParsesOrNoMemory}
 use Rattle.addr2line_context.specs.Contexts.{ContextUnit, FileContext}
 use Rattle.addr2line_context.specs.Error.{Error}
 use Rattle.addr2line_context.specs.Error.TheVariants.{Memory}
 use Rattle.addr2line_context.specs.FirstAnswers.{FirstAnswer, FirstAnswers, Lookup, output}
-use Rattle.addr2line_context.specs.Frames.{Frame}
-use Rattle.addr2line_context.specs.Histories.{CallAnswer, frames_answer, completion, answer_or_suspension, parse_all}
+use Rattle.addr2line_context.specs.Histories.{CallAnswer, completion, answer_or_suspension, parse_all}
 use Rattle.addr2line_context.specs.LoadAnswers.{AnswersOrNoMemory}
 use Rattle.addr2line_context.specs.UnitLookups.{IsPending}
 use Rattle.linemap_replay.specs.declared.answer.Answer.{Answer}

@@ -3,3 +3,5 @@ pub mod AnsweredCalls
 pub mod CopiedAnswers
 pub mod AnsweredTokens
 pub mod CopiedStretches
+pub mod NoLoads
+pub mod TableCalls

@@ -2,3 +2,4 @@ pub mod OwnedAnswers
 pub mod Replays
 pub mod Outcomes
 pub mod StretchEnds
+pub mod TableHistories

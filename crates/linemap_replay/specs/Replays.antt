@@ -1,12 +1,14 @@
 -- Calls on a context that name the answers to loads by their places in a list.
-use Rattle.std.specs.Prelude.{ℕ, List, [], ◌∷◌, map, slice_get, Option, option_and_then, Result}
+use Rattle.std.specs.Prelude.{ℕ, ◌≤◌, All, List, [], ◌∷◌, map, slice_get, Option, option_and_then, Result}
 use Rattle.addr2line_context.specs.DwarfFiles.{DwarfFile}
 use Rattle.addr2line_context.specs.AnsweredContexts.{AnsweredContext}
+use Rattle.addr2line_context.specs.ContextCosts.{runs_of_unit}
 use Rattle.addr2line_context.specs.ContextNames.{naming_in}
 use Rattle.addr2line_context.specs.Contexts.{FileContext}
 use Rattle.addr2line_context.specs.Error.{Error}
 use Rattle.addr2line_context.specs.FirstAnswers.{SplitLoad, FirstAnswers, Lookup}
 use Rattle.addr2line_context.specs.Frames.{Frame}
+use Rattle.addr2line_context.specs.ResolvedUnits.{ResolvedUnit}
 use Rattle.addr2line_context.specs.UnitFacts.{UnitInFile}
 use Rattle.addr2line_context.specs.Lookups.{Namings, frames, unit}
 use Rattle.addr2line_context.specs.Histories.{ContextCall, find_location, find_frames, find_unit, find_location_range, preload_units, answer_token, parse_lines, parse_functions, parse_inlined_functions, CallAnswer, ContextState, call, history_from}
@@ -68,3 +70,9 @@ replayed c ks =
 -- the first answers that they leave there
 abbrev pub answers_after : AnsweredContext → List ContextCall → FirstAnswers
 answers_after c ks = (state_after c.plain (naming_in c.plain) ks (state_of c [])).answers
+
+-- ---- runs
+
+-- the line number program of each unit was run once at most
+abbrev pub AreRunOnce : List ResolvedUnit → Type 0
+AreRunOnce us = All (λ u. runs_of_unit u ≤ 1) us

@@ -4,7 +4,7 @@ ghost use Rattle.std.specs.Prelude.{◌≡◌, OnOk, IfErr, map, option_map};
 ghost use Rattle.addr2line_context.specs.KeptUnits.{KeepsMore};
 ghost use Rattle.linemap_replay.specs.Outcomes.{CopiesOrNoMemory};
 ghost use Rattle.linemap_replay.specs.OwnedAnswers.{answer_of, copied_answer};
-ghost use Rattle.linemap_replay.specs.Replays.{context_call, call_on, state_of, token_of, replayed, answers_after};
+ghost use Rattle.linemap_replay.specs.Replays.{AreRunOnce, context_call, call_on, state_of, token_of, replayed, answers_after};
 
 use crate::answer::Answer;
 use crate::call::Call;
@@ -51,11 +51,13 @@ fn answer_call<R: Reader>(
     }
 }
 
+#[tactic(auto, using(crate::proofs::AnsweredCalls::run_once))]
 /// The answers of calls on a context, in their order, as copies. Each call is answered as the
 /// context's own method answers it after those before. A lookup that waits for a load is resumed
 /// with the answers at the call's places in turn, and dropped where there are no more of them; the
 /// answers that were taken stay. The only error is out of memory: the context then has the answers
-/// taken so far, and can be used again.
+/// taken so far, and can be used again. The line number program of a unit is run once at most, also
+/// over several lists of calls.
 pub fn replay<R: Reader>(
     alloc: Global,
     context: &mut Context<R>,
@@ -68,7 +70,8 @@ pub fn replay<R: Reader>(
     ensures left { OnOk result (context.new.value.answers ≡ answers_after context.old.value
         (map (context_call (map (option_map (λ f. f.value.file)) answers.now)) calls.now)) }
     ensures plain { context.new.value.plain ≡ context.old.value.plain }
-    ensures runs { KeepsMore context.old.units context.new.units }
+    ensures kept { KeepsMore context.old.units context.new.units }
+    ensures once { AreRunOnce context.new.units }
 {
     let mut found = Vec::new(alloc);
     let mut loads = Vec::new(alloc);

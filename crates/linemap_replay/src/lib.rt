@@ -11,11 +11,10 @@ mod history;
 mod loads;
 mod lookups;
 mod parses;
+pub mod table_laws;
 mod tokens;
 
+pub use addr2line_context::{DwLang, DwarfFileType, DwoId, Error};
 pub use answer::{Answer, OwnedFrame, OwnedLocation, OwnedName, OwnedStretch, OwnedUnit};
 pub use call::Call;
 pub use history::replay;
-
-#[cfg(test)]
-mod tests;

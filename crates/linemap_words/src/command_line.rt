@@ -34,6 +34,11 @@ pub fn linemap_command<'a>(alloc: Global) -> Result<Command<'a>, AllocError>
     let command = Command::new(alloc, "linemap").bin_name("linemap")?;
     command
         .about("Answers which source line an address belongs to")
+        .after_help(
+            "Example: the line of an address in a program, and of one in a table\n  \
+            linemap lookup -e ./a.out 0x1139\n  \
+            linemap ask table.json 0x100f",
+        )
         .subcommand_required(true)
         .subcommand(lookup)?
         .subcommand(ask)?

@@ -1,7 +1,8 @@
 //! Small files by hand, of both classes and in both orders (System V ABI).
 
-use crate::{Elf, LoadError, Symbol};
+use crate::{LoadError, Symbol};
 use addr2line_context::{Error, Reader, ReaderOffsetId, RunTimeEndian, SectionId};
+use addr2line_elf::Elf;
 use bytes::Bytes;
 use std::alloc::{AllocError, Global};
 use std::test::Fail;

@@ -1,10 +1,10 @@
 //! Functions and calls of small units. The bytes are written by hand from the standard.
 
 use super::files::{EMPTY, File, Question, Slice, answer};
-use crate::{DebugFile, HoldingUnit, KnownUnits, UnitNames};
 use addr2line_context::{Dwarf, Error, ReaderOffsetId, Unit, UnitOffset, UnitRef};
 use addr2line_functions::{
-    Call, FunctionCalls, Functions, Probes, calls_of_function, functions_of_unit,
+    Call, DebugFile, FunctionCalls, Functions, HoldingUnit, KnownUnits, Probes, UnitNames,
+    calls_of_function, functions_of_unit,
 };
 use std::alloc::Global;
 use std::test::Fail;

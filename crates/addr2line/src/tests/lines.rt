@@ -1,9 +1,9 @@
 //! Lines of rows, and lines of units, in the layouts of DWARF 4, 6.2.4 and 7.5, and DWARF 5, 6.2.4.
 
 use super::files::{EMPTY, File, Question, Slice, answer};
-use crate::{Lines, Location, Runs, UnitLines};
+use crate::{Location, Runs, UnitLines};
 use addr2line_context::{Error, LinesBuilder, ReaderOffsetId, UnitRef};
-use addr2line_index::{LineIndex, Probes, ProgramRow};
+use addr2line_index::{LineIndex, Lines, Probes, ProgramRow};
 use std::alloc::Global;
 use std::test::Fail;
 

@@ -1,9 +1,8 @@
 //! Names in small files by hand, in the layouts of DWARF 4, 7.5.
 
 use super::files::{EMPTY, File, Slice, load};
-use crate::{DebugFile, HoldingUnit, KnownUnits};
 use addr2line_context::{Dwarf, EndianSlice, Error, LittleEndian, Unit, UnitOffset, UnitRef};
-use addr2line_functions::UnitEntries;
+use addr2line_functions::{DebugFile, HoldingUnit, KnownUnits, UnitEntries};
 use std::alloc::Global;
 use std::test::Fail;
 

@@ -45,15 +45,21 @@ pub const LLVM: &str = "llvm";
 /// The option to mark rows that are no statements.
 pub const STATEMENTS: &str = "statements";
 
-const NOTES: &str = "Example: function, file and line of two addresses, and the calls inlined there
+const NOTES: &str = "Example: the functions and lines of two addresses, with inlined calls
   linemap lookup -e ./a.out -fipC 0x1139 0x1150
 
-Without addresses they are read from the standard input, one a line.
+Without addresses, they are read from the standard input, one a line.
 
-A file with compressed debug sections is refused with L6. Decompress it first:
-  objcopy --decompress-debug-sections IN OUT
-A file that needs relocation, as an object file (.o) does, is refused with L7.
-Link it first, and look into the program.";
+The program must have been compiled with debug information, as by gcc -g.
+Where it can't be used, one of these is printed:
+  L2  the file can't be read
+  L3  it is no ELF file
+  L4  ELF files of its kind are not supported
+  L5  it is cut short
+  L6  its debug sections are compressed. Decompress them first:
+      objcopy --decompress-debug-sections IN OUT
+  L7  it isn't linked yet, as an object file (.o): link it, and use the result
+  L8  its debug information can't be read";
 
 /// `lookup -e FILE [OPTIONS] [ADDR..]`.
 pub fn lookup_command<'a>(alloc: Global) -> Result<Command<'a>, AllocError>
@@ -65,7 +71,7 @@ pub fn lookup_command<'a>(alloc: Global) -> Result<Command<'a>, AllocError>
     let command = with_sources(alloc, command)?;
     let command = with_details(alloc, command)?;
     let llvm = flag(alloc, LLVM, "Print as llvm-symbolizer does, with columns");
-    let statements = flag(alloc, STATEMENTS, "Mark places that are no statements");
+    let statements = flag(alloc, STATEMENTS, "Mark lines where no statement begins");
     command
         .arg(llvm)?
         .arg(statements)?
@@ -78,7 +84,7 @@ fn with_sources<'a>(alloc: Global, command: Command<'a>) -> Result<Command<'a>, 
     ensures { IfOk result (λ r. IsLocalApp r (with_source_rules (app_of command.entry))) }
 {
     let sup = text_option(alloc, SUP, "FILE", "The program's supplementary debug file");
-    let all = flag(alloc, ALL, "Ask for every address where a place begins");
+    let all = flag(alloc, ALL, "Look up every address where a line begins");
     command
         .arg(exe_argument(alloc))?
         .arg(sup)?
@@ -115,13 +121,18 @@ fn with_details<'a>(alloc: Global, command: Command<'a>) -> Result<Command<'a>, 
     requires { (fields_of command).has_globals ≡ false }
     ensures { IfOk result (λ r. IsLocalApp r (with_detail_rules (app_of command.entry))) }
 {
-    let functions = short_flag(alloc, FUNCTIONS, 'f', "Print the function, too");
-    let pretty = short_flag(alloc, PRETTY, 'p', "Print all of an address on one line");
+    let functions = short_flag(alloc, FUNCTIONS, 'f', "Print the function too");
+    let pretty = short_flag(
+        alloc,
+        PRETTY,
+        'p',
+        "Print each function with its line on one line",
+    );
     let inlines = short_flag(
         alloc,
         INLINES,
         'i',
-        "Print the calls that are inlined there, too",
+        "Print the functions that it is inlined into too",
     );
     let addresses = short_flag(alloc, ADDRESSES, 'a', "Print the address first");
     let basenames = short_flag(

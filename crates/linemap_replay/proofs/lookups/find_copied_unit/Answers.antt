@@ -1,4 +1,4 @@
-use Rattle.std.proofs.Common.{refl, sym, ap, ◌∙◌, subst, map, Option, None, option_map, Ok, Err}
+use Rattle.std.proofs.Common.{refl, ap, ◌∙◌, subst, map, None, option_map, Ok}
 use Rattle.addr2line_context.specs.FrameLoads.{TellsWaiting, FindsUnitAt}
 use Rattle.addr2line_context.specs.Histories.{unit_answer}
 use Rattle.addr2line_context.specs.ResolvedUnits.{value_of_unit}

@@ -1,8 +1,8 @@
-use Rattle.std.proofs.Common.{◌≡◌, List, ap, ◌∙◌, map, subst}
+use Rattle.std.proofs.Common.{ap, ◌∙◌, map, subst}
 use Rattle.std.proofs.lemmas.Result.{on_ok_weaker}
 use Rattle.addr2line_context.specs.SettledLookups.{loads_in}
 use Rattle.linemap_replay.specs.Outcomes.{CopiesOrNoMemory}
-use Rattle.linemap_replay.specs.OwnedAnswers.{CopiedAnswer, answer_of}
+use Rattle.linemap_replay.specs.OwnedAnswers.{answer_of}
 use Rattle.linemap_replay.specs.Replays.{token_of}
 use Rattle.linemap_replay.proofs.AnsweredTokens.{never_refused, never_ok, preload_copy, preload_tokens}
 use Rattle.linemap_replay.proofs.tokens.preload.Goals as goal

@@ -1,4 +1,4 @@
-use Rattle.std.proofs.Common.{◌<◌, ◌^◌, ℕ, List, Result, IfSome, IsSomeAnd, subst}
+use Rattle.std.proofs.Common.{◌<◌, ◌^◌, ℕ, IfSome, IsSomeAnd, subst}
 use Rattle.std.specs.Str.Parse.{ExplainsUnsignedError, HasUnsignedDigitsIfOk, ParsesUnsigned}
 use Rattle.clap.specs.Words.{found_of}
 use Rattle.clap.proofs.WalkLemmas.{one_text-rows}

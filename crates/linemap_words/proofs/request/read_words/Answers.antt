@@ -1,4 +1,4 @@
-use Rattle.std.proofs.Common.{◌≡◌, ◌∙◌, sym, ap, subst, inl, inr, List, Option, map, string_bytes}
+use Rattle.std.proofs.Common.{◌∙◌, sym, ap, subst, inl, inr, List, Option, map, string_bytes}
 use Rattle.clap.specs.Words.{HasKind, IsAmong, Kinds, Row, Text, fault_of, is_simple_and_free, kind_of}
 use Rattle.clap.specs.declared.error.Error.{Error}
 use Rattle.linemap_words.specs.CommandLine.{linemap_app}

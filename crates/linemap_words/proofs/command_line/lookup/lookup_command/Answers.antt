@@ -1,7 +1,6 @@
-use Rattle.std.proofs.Common.{◌≡◌, ◌∙◌, ap, false, codes}
+use Rattle.std.proofs.Common.{◌≡◌, ◌∙◌, ap, codes}
 use Rattle.clap.specs.Simple.{app_of_fields}
 use Rattle.clap.specs.Words.{app_of, new_app}
-use Rattle.clap.specs.declared.builder.command.Command.TheViews.{out-Command as fields_of}
 use Rattle.linemap_words.specs.CommandLine.{IsLocalApp, with_detail_rules, with_source_rules}
 use Rattle.linemap_words.proofs.CommandLemmas.{with_argument, with_last_argument}
 use Rattle.linemap_words.proofs.command_line.lookup.lookup_command.Goals as goal
