@@ -1,22 +1,20 @@
 -- The image of few enough sections fits the fields of its headers.
-use Rattle.std.proofs.Common.{◌≡◌, ℕ, ◌+◌, ◌*◌, ◌/◌, ◌<◌, ◌≤◌, ◌^◌, Bool, true, false, cond, List, [], ◌∷◌, ◌++◌, length, map, refl, sym, ap, subst, ◌∙◌, arith}
-use Rattle.std.specs.Prelude.{nat_le, ◌==◌}
-use Rattle.std.specs.List.{list_all, sum_by}
+use Rattle.std.proofs.Common.{◌≡◌, ℕ, ◌+◌, ◌<◌, ◌≤◌, ◌^◌, Bool, true, false, cond, List, [], length, refl, sym, ap, subst, arith}
+use Rattle.std.specs.Prelude.{nat_le}
+use Rattle.std.specs.List.{list_all}
 use Rattle.std.proofs.lemmas.List.Concat.{length-flat_map}
 use Rattle.gimli_core_base.specs.declared.common.Encoding.{Encoding}
-use Rattle.gimli_core_base.specs.declared.common.SectionId.TheVariants.{DebugAbbrev, DebugInfo, DebugLine, DebugLineStr, DebugRanges, DebugRngLists, DebugStr}
 use Rattle.linemap_elf.specs.Class.{Class}
 use Rattle.linemap_elf.specs.Class.TheVariants.{Elf32, Elf64}
 use Rattle.linemap_elf.specs.ElfClasses.{word_size}
 use Rattle.linemap_elf.specs.ImageLaws.{is_name, ImageFits}
 use Rattle.linemap_elf.specs.SpelledImages.{NamedBytes, names_section, header_count, body, image_size}
-use Rattle.linemap_elf.specs.WrittenImages.{bytes_joined}
 use Rattle.linemap_elf.proofs.WrittenParts.{length_body}
 use Rattle.linemap_emit.specs.EmissionBounds.{sections_size}
 use Rattle.linemap_emit.specs.EmittedSections.{SectionBytes, emitted_sections}
 use Rattle.linemap_emit.proofs.EmissionSums.{no_line_texts}
 use Rattle.linemap_emit.specs.TableParts.{UnitPart}
-use Rattle.linemap_image.specs.TableImages.{class_of, section_of, image_sections}
+use Rattle.linemap_image.specs.TableImages.{class_of, image_sections}
 use Rattle.linemap_image.proofs.LoadedImages.{IsOfVersion, sections_by, of_image}
 
 nothing_if : (b : Bool) (xs : List ℕ) → b ≡ true → cond b [] xs ≡ []

@@ -1,25 +1,25 @@
 -- An image that holds a table's sections is loaded, and answers the table.
-use Rattle.std.proofs.Common.{◌≡◌, ℕ, ◌<◌, ◌≤◌, ◌^◌, Bool, true, false, cond, List, [], ◌∷◌, map, length, Option, Some, None, Result, Ok, Err, refl, sym, ap, subst, ◌∙◌, arith}
+use Rattle.std.proofs.Common.{◌≡◌, ℕ, Bool, true, false, cond, List, [], ◌∷◌, map, length, None, Result, Ok, refl, sym, ap, subst, ◌∙◌, arith}
 use Rattle.std.specs.Prelude.{nat_le}
 use Rattle.gimli_core_base.specs.View.{View, prefix, bytes_left}
 use Rattle.gimli_core_base.specs.declared.common.Encoding.{Encoding}
 use Rattle.gimli_core_base.specs.declared.common.SectionId.{SectionId}
 use Rattle.gimli_core_base.specs.declared.common.SectionId.TheVariants.{DebugAbbrev, DebugAranges, DebugInfo, DebugLine, DebugLineStr, DebugRanges, DebugRngLists, DebugStr}
 use Rattle.gimli_core_base.specs.SectionNames.{name_of}
-use Rattle.addr2line_loader.specs.Contexts.{Context, FileContext, file_context, context}
+use Rattle.addr2line_loader.specs.Contexts.{Context, FileContext, file_context}
 use Rattle.addr2line_loader.specs.DwarfFiles.{DwarfFile}
 use Rattle.addr2line_loader.specs.Error.{Error}
 use Rattle.addr2line_loader.specs.Results.{and_then, each, ◌>>=◌}
 use Rattle.addr2line_loader.specs.LoadError.{LoadError}
-use Rattle.addr2line_loader.specs.ElfImages.{Image, image_of, section_named}
-use Rattle.addr2line_loader.specs.ElfSymbols.{NamedSymbol, symbols_of}
+use Rattle.addr2line_loader.specs.ElfImages.{Image, section_named}
+use Rattle.addr2line_loader.specs.ElfSymbols.{NamedSymbol}
 use Rattle.addr2line_loader.specs.ElfDebugSections.{is_read, main_section}
 use Rattle.addr2line_loader.specs.ImageFiles.{offset_limit, bytes_or_none, main_file}
 use Rattle.addr2line_loader.specs.SectionLoading.{load_order}
 use Rattle.addr2line_loader.specs.SectionLoading as sections
-use Rattle.addr2line_loader.specs.LoadedFiles.{LoadedFile, or_load_error, FileParts, parts_with, parts_of, file_of_parts, loaded_file}
+use Rattle.addr2line_loader.specs.LoadedFiles.{or_load_error, FileParts, parts_with, parts_of, file_of_parts, loaded_file}
 use Rattle.linemap_elf.specs.SpelledImages.{NamedBytes, all_sections}
-use Rattle.linemap_elf.specs.ImageLaws.{bytes_named, HasBytes, HoldsSections}
+use Rattle.linemap_elf.specs.ImageLaws.{bytes_named, HoldsSections}
 use Rattle.linemap_emit.specs.BytesAt.{bytes_at}
 use Rattle.linemap_emit.specs.EmittedSections.{SectionBytes, HoldBytes}
 use Rattle.linemap_emit.specs.RecordedTableLaws.{AnswersTable}
@@ -84,7 +84,7 @@ line_str_found bytes false none = refl
 -- an image's sections are these
 pub of_image : (e : Encoding) (bytes : SectionBytes)
     → image_sections e bytes ≡ sections_by bytes (nat_le e.version 4)
-  unfolding section_ids
+unfolding section_ids
 of_image e bytes = refl
 
 -- ---- the file of an image's sections

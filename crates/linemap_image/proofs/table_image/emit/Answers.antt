@@ -1,4 +1,4 @@
-use Rattle.std.proofs.Common.{◌≡◌, ℕ, ◌<◌, ◌≤◌, ◌^◌, Result, Ok, Err, subst, sym, inl, inr, arith}
+use Rattle.std.proofs.Common.{ℕ, ◌<◌, ◌≤◌, ◌^◌, subst, sym, inl, inr, arith}
 use Rattle.std.specs.Prelude.{◌↔◌}
 use Rattle.std.proofs.lemmas.Bool.{cases_lt}
 use Rattle.linemap_emit.specs.EmissionTargets.{encoding_of, is_big_of}
@@ -9,16 +9,14 @@ use Rattle.linemap_image.proofs.ImageBounds.{of_version, image_fits}
 use Rattle.linemap_image.proofs.table_image.emit.Goals as goal
 
 -- what isn't refused as too large is light
-light : {A E : Type 0} (x : A) (e : E) (w : ℕ) → (Ok {E = E} x ≡ Err e) ↔ (2 ^ 31 ≤ w) → w < 2 ^ 31
-light {A} {E} x e w iff = elim (cases_lt w (2 ^ 31)) [ inl h ↦ h | inr h ↦ absurd (never (iff.1 h)) ]
-  where
-    never : Ok {E = E} x ≡ Err e → ⊥
-    never h = absurd cc
+light : {Refused : Type 0} (w : ℕ) → (Refused → ⊥) → Refused ↔ (2 ^ 31 ≤ w) → w < 2 ^ 31
+light w never iff = elim (cases_lt w (2 ^ 31)) [ inl h ↦ h | inr h ↦ absurd (never (iff.1 h)) ]
 
 pub image_of-requires : goal.image_of-requires
 image_of-requires c =
     let e = encoding_of c.args.target in
-    let w : table_weight (units_of c.args.table.now) < 2 ^ 31 = light _ _ _ c.in_ok-sections.ensures.too_large in
+    let w : table_weight (units_of c.args.table.now) < 2 ^ 31 =
+    light _ (λ refused. cc) c.in_ok-sections.ensures.too_large in
     let small = c.in_ok-sections.ensures.small in
     image_fits e c.in_ok-sections.sections (omega arith)
 
