@@ -8,5 +8,7 @@ mod frames;
 pub mod loader;
 mod parts;
 mod sections;
+pub mod stretches;
 
 pub use loader::Loader;
+pub use stretches::LinesBetween;
