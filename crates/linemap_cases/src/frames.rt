@@ -23,11 +23,7 @@ pub fn answer(text: &[u8], question: &Question<'_>, out: &mut Answer) {
 }
 
 // The image of the table in a text, or why there is none.
-fn image_of(
-    alloc: Global,
-    text: &[u8],
-    question: &Question<'_>,
-) -> Result<Vec<u8>, &'static str> {
+fn image_of(alloc: Global, text: &[u8], question: &Question<'_>) -> Result<Vec<u8>, &'static str> {
     match Table::read(alloc, text) {
         Ok(table) if !table.fits(&question.target) => Err("does not fit"),
         Ok(table) => match emit(alloc, &table, question.target) {
