@@ -4,7 +4,6 @@ mod fake;
 mod faults;
 mod places;
 mod refusals;
-mod replays;
 mod rules;
 mod sections;
 mod tables;

@@ -1,4 +1,3 @@
 pub mod CommandLine
-pub mod Explain
 pub mod WordsRequest
 pub mod WordsStatus

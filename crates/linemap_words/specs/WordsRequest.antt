@@ -1,80 +1,38 @@
 -- How a request relates to the matches that `clap` finds.
-use Rattle.std.specs.Prelude.{◌≡◌, ◌≢◌, ◌⊎◌, ◌<◌, ◌^◌, ℕ, List, [], Bool, false, Option, None, Some, IsSomeAnd, ⊤, Vec, String, codes, map, string_bytes}
-use Rattle.std.specs.declared.alloc.Global.{Global}
-use Rattle.std.specs.Option.{option_map_or}
-use Rattle.std.specs.Str.{bytes_eq}
-use Rattle.std.specs.Str.Parse.{IsNumeral, digits_value, without_leading_plus}
-use Rattle.clap.specs.Words.{IsAmong, Kinds, Row, Text, all_of, first_of, kind_of, one_of}
+use Rattle.std.specs.Prelude.{◌≡◌, ◌≢◌, ◌⊎◌, List, [], Option, None, Some, IsSomeAnd, ⊤, codes, map, string_bytes}
+use Rattle.clap.specs.Words.{IsAmong, Kinds, Row, Text, all_of, first_of, kind_of}
 use Rattle.clap.specs.declared.error.ErrorKind.{ErrorKind}
-use Rattle.clap.specs.declared.error.ErrorKind.TheVariants.{MissingRequiredArgument, OutOfMemory}
-use Rattle.linemap_words.specs.declared.request.Mismatch.{Mismatch}
-use Rattle.linemap_words.specs.declared.request.Mismatch.TheVariants.{NoMemory, Missing}
+use Rattle.clap.specs.declared.error.ErrorKind.TheVariants.{OutOfMemory}
 use Rattle.linemap_words.specs.declared.request.Request.{Request}
-use Rattle.linemap_words.specs.declared.request.Request.TheVariants.{Ask, Emit}
+use Rattle.linemap_words.specs.declared.request.Request.TheVariants.{Ask}
 use Rattle.linemap_words.specs.declared.request.WordsError.{WordsError}
 use Rattle.linemap_words.specs.declared.request.WordsError.TheVariants.{Memory, Fault}
-
--- the flag is among the matches
-abbrev pub is_set : Text → List Row → Bool
-is_set id rows = option_map_or (λ text. bytes_eq text (codes "true")) (first_of id rows) false
-
--- the text is a decimal numeral of the number, and may begin with a plus
-abbrev pub IsDecimal : Text → ℕ → Type 0
-IsDecimal text number = IsNumeral 10 (without_leading_plus text)
-    × (digits_value 10 (without_leading_plus text) ≡ number)
-
--- the option has this number
-abbrev pub HasNumber : Text → List Row → ℕ → Type 0
-HasNumber id rows number = IsSomeAnd (one_of id rows) (λ text. IsDecimal text number)
-
--- the option has no number of 16 bits
-abbrev pub LacksNumber : Text → List Row → Type 0
-LacksNumber id rows = (number : ℕ) → number < 2 ^ 16 → HasNumber id rows number → ⊥
-
--- the texts of a list
-abbrev pub texts_of : Vec (String Global) Global → List Text
-texts_of texts = map string_bytes texts.items
 
 -- the request has the subcommand's name and what its matches hold
 abbrev pub IsRequestOf : Request → Text × List Row → Type 0
 IsRequestOf (Ask table words) matches = (matches.0 ≡ codes "ask")
     × (first_of (codes "table") matches.1 ≡ Some (string_bytes table))
-    × (all_of (codes "words") matches.1 ≡ Some (texts_of words))
-IsRequestOf (Emit table out dwarf bits size big) matches = (matches.0 ≡ codes "emit")
-    × (first_of (codes "table") matches.1 ≡ Some (string_bytes table))
-    × (first_of (codes "out") matches.1 ≡ Some (string_bytes out))
-    × HasNumber (codes "dwarf") matches.1 dwarf × HasNumber (codes "bits") matches.1 bits
-    × HasNumber (codes "size") matches.1 size × (big ≡ is_set (codes "big") matches.1)
+    × (all_of (codes "addresses") matches.1 ≡ Some (map string_bytes words.items))
 
 -- an error of the parse is out of memory, or a fault of that kind
 abbrev pub IsFault : WordsError → ErrorKind → Type 0
 IsFault Memory kind = kind ≡ OutOfMemory
 IsFault (Fault error) kind = (kind_of error ≡ kind) × (kind ≢ OutOfMemory)
 
--- the matches of `ask` lack an argument that it requires
-abbrev pub LacksAsk : List Row → Type 0
-LacksAsk rows = (first_of (codes "table") rows ≡ None) ⊎ (all_of (codes "words") rows ≡ None)
-
--- the matches of `emit` lack an argument that it requires, or a number
-abbrev pub LacksEmit : List Row → Type 0
-LacksEmit rows = (first_of (codes "table") rows ≡ None) ⊎ ((first_of (codes "out") rows ≡ None)
-    ⊎ (LacksNumber (codes "dwarf") rows ⊎ (LacksNumber (codes "bits") rows
-    ⊎ LacksNumber (codes "size") rows)))
-
 -- the matches name no subcommand of the program, or lack an argument that it requires
 abbrev pub LacksRequest : Option (Text × List Row) → Type 0
 LacksRequest None = ⊤
-LacksRequest (Some matches) = (matches.0 ≡ codes "ask" → LacksAsk matches.1)
-    × (matches.0 ≡ codes "emit" → LacksEmit matches.1)
+LacksRequest (Some matches) = (matches.0 ≢ codes "ask")
+    ⊎ ((first_of (codes "table") matches.1 ≡ None) ⊎ (all_of (codes "addresses") matches.1 ≡ None))
 
--- why matches are no request
-abbrev pub IsMismatch : Mismatch → Option (Text × List Row) → Type 0
-IsMismatch NoMemory matches = ⊤
-IsMismatch Missing matches = LacksRequest matches
+-- the request that the matches hold, or none where they lack one
+abbrev pub HoldsRequest : Option Request → Option (Text × List Row) → Type 0
+HoldsRequest None matches = LacksRequest matches
+HoldsRequest (Some request) matches = IsSomeAnd matches (IsRequestOf request)
 
 -- out of memory; or a fault of a kind that the parse has; or the parse has none, and its matches
 -- lack a request
 abbrev pub IsRefusal : WordsError → Kinds → Option (Text × List Row) → Type 0
 IsRefusal Memory kinds matches = ⊤
-IsRefusal (Fault error) kinds matches = IsAmong (kind_of error) kinds
-    ⊎ ((kinds ≡ []) × (kind_of error ≡ MissingRequiredArgument) × LacksRequest matches)
+IsRefusal (Fault error) kinds matches =
+    IsAmong (kind_of error) kinds ⊎ ((kinds ≡ []) × LacksRequest matches)

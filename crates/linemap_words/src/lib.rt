@@ -1,11 +1,7 @@
-//! The command line of the program `linemap`, read by `clap`, and what is printed where it is no
-//! request.
+//! The command line of the program `linemap`, read by `clap`.
 #![tactic(auto)]
 
 mod command_line;
-mod explanation;
-mod matches;
 mod request;
 
-pub use explanation::explain;
 pub use request::{Request, WordsError, read_words};

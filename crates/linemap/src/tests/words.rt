@@ -10,9 +10,7 @@ use std::test::Fail;
 fn a_request(rt: HostRuntime) -> Result<(), Fail> {
     let alloc = rt.alloc();
     let words = copies_of(alloc, &["linemap", "ask", "a.json", "0x100f", "+5"])?;
-    let Request::Ask { table, words } = read_words(alloc, &words)? else {
-        return Err(Fail::from("another request"));
-    };
+    let Request::Ask { table, words } = read_words(alloc, &words)?;
     assert_eq!(rt; table.as_str(), "a.json");
     assert_eq!(rt; words.len(), 2);
     assert_eq!(rt; words[0].as_str(), "0x100f");
@@ -21,33 +19,9 @@ fn a_request(rt: HostRuntime) -> Result<(), Fail> {
 }
 
 #[test]
-fn a_request_for_an_image(rt: HostRuntime) -> Result<(), Fail> {
-    let alloc = rt.alloc();
-    let words = [
-        "linemap", "emit", "a.json", "a.elf", "--dwarf", "65535", "--size=4", "--big",
-    ];
-    let Request::Emit {
-        table,
-        out,
-        dwarf,
-        bits,
-        size,
-        big,
-    } = read_words(alloc, &copies_of(alloc, &words)?)?
-    else {
-        return Err(Fail::from("another request"));
-    };
-    assert_eq!(rt; table.as_str(), "a.json");
-    assert_eq!(rt; out.as_str(), "a.elf");
-    assert_eq!(rt; (dwarf, bits, size), (65535, 32, 4));
-    assert!(rt; big);
-    Ok(())
-}
-
-#[test]
 fn refused_command_lines(rt: HostRuntime) -> Result<(), Fail> {
     let alloc = rt.alloc();
-    let table: [(&[&str], u8, bool); 10] = [
+    let table: [(&[&str], u8, bool); 7] = [
         (&["linemap"], 2, false),
         (&["linemap", "ask"], 2, false),
         (&["linemap", "ask", "a.json"], 2, false),
@@ -55,13 +29,6 @@ fn refused_command_lines(rt: HostRuntime) -> Result<(), Fail> {
         (&["linemap", "show", "a.json", "1"], 2, false),
         (&["linemap", "--help"], 0, true),
         (&["linemap", "ask", "--help"], 0, true),
-        (&["linemap", "emit", "a.json"], 2, false),
-        (
-            &["linemap", "emit", "a.json", "a.elf", "--dwarf", "65536"],
-            2,
-            false,
-        ),
-        (&["linemap", "emit", "--help"], 0, true),
     ];
     for (words, status, is_help) in table {
         let count = words.len();

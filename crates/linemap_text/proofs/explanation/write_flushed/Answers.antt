@@ -1,5 +1,5 @@
 use Rattle.linemap_output.proofs.WritingLemmas.{appends_then_keeps, prefix_whole}
-use Rattle.linemap_words.proofs.explanation.write_flushed.Goals as goal
+use Rattle.linemap_text.proofs.explanation.write_flushed.Goals as goal
 
 pub returns-clause-prefix : goal.returns-clause-prefix
 returns-clause-prefix g c =

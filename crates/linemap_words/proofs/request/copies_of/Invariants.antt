@@ -1,5 +1,5 @@
 use Rattle.std.proofs.Common.{◌≡◌, map, take, string_bytes}
-use Rattle.linemap_words.proofs.matches.copies_of.Given as goal
+use Rattle.linemap_words.proofs.request.copies_of.Given as goal
 
 -- the copies are those of the texts so far
 abbrev pub invariant-loop-text : goal.invariant-loop-text

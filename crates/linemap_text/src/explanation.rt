@@ -2,10 +2,10 @@
 ghost use Rattle.std.specs.Io.KnownBytes.{Appends};
 ghost use Rattle.std.specs.Prelude.{OnOk};
 ghost use Rattle.linemap_output.specs.WriterBytes.{AppendsPrefix};
-ghost use Rattle.linemap_words.specs.Explain.{Explains, PrintsHelp, PrintsMistake};
+ghost use Rattle.linemap_text.specs.Explain.{Explains, PrintsHelp, PrintsMistake};
 
-use crate::request::WordsError;
 use linemap_output::{Ended, WriteFault, flush, out_of_memory, output_failed, write_text};
+use linemap_words::WordsError;
 use std::alloc::Global;
 use std::io::Write;
 

@@ -1,3 +1,0 @@
-pub mod Emission
-pub mod Reports
-pub mod Targets

@@ -1,3 +1,0 @@
-mod CommandLemmas
-mod NumberLemmas
-mod SimpleCommand
