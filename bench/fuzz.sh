@@ -5,5 +5,5 @@
 set -euo pipefail
 top="$(dirname "$(dirname "$(readlink -f "$0")")")"
 [ -n "${CASES:-}" ] || "$top/tools/build" addr2line_cases
-[ -n "${LINEMAP:-}" ] || "$top/tools/build"
+export LINEMAP= SECTIONS="${SECTIONS:-$top/crates/addr2line_cases/data}"
 exec nice python3 "$top/bench/fuzz.py" "$@"

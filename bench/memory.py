@@ -42,11 +42,8 @@ def paragraphs(*headings):
 
 
 # What is run: the program's words, and its input.
-EMIT = [LINEMAP, "emit", f"{TOP}/examples/c.json", "c.elf"]
 RUNS = {
     "ask": ([LINEMAP, "ask", f"{TOP}/examples/c.json", "0x100f", "0x1018", "zz"], ""),
-    "emit": (EMIT, ""),
-    "emit-5": ([*EMIT, "--dwarf", "5", "--bits", "64", "--size", "4", "--big"], ""),
     "contexts": ([CASES], lambda: paragraphs("# Frames have the places that call", "# And in version 5", "# Calls in one another")),
     "loads": ([CASES], lambda: paragraphs(
         "# A lookup that is dropped answers nothing. The first answer counts, and an answer to a unit that is decided",
