@@ -4,20 +4,17 @@ use Rattle.std.specs.Prelude.{◌||◌, IfErr}
 use Rattle.std.specs.List.{FoldsTo, flat_map, list_any}
 use Rattle.std.specs.Io.KnownBytes.{Appends}
 use Rattle.std.proofs.lemmas.List.{map-append, take_all, take_more, take-append-drop}
-use Rattle.linemap_meaning.specs.AnswerTexts.{word_address}
 use Rattle.std.proofs.lemmas.Grind.{flat_map-append}
 use Rattle.addr2line_context.specs.Error.{Error}
 use Rattle.addr2line_split.specs.Range.{Range}
-use Rattle.linemap_output.proofs.WritingLemmas.{appends_more, appends_nothing, keeps_same}
+use Rattle.linemap_meaning.specs.AnswerTexts.{word_address}
+use Rattle.linemap_output.specs.ErrorLine.{EndsOutOfMemory}
+use Rattle.linemap_output.proofs.WritingLemmas.{appends_more, appends_nothing, keeps_same, prefix_none}
 use Rattle.linemap_output.specs.declared.ended.Ended.{Ended}
 use Rattle.linemap_output.specs.declared.options.Options.{Options}
 use Rattle.linemap_lookup.specs.LookupAnswers.{AddressAnswer, Answer, AnswersAddress, AnswersAddresses, LookupState}
-use Rattle.linemap_lookup.specs.LookupRuns.{Records, Streams, StopsAtAddress, StopsAtAddresses, Writes, WritesAddress, WritesAddresses, answers_together}
+use Rattle.linemap_lookup.specs.LookupRuns.{Records, Stops, StopsAmong, StopsBefore, Streams, Writes, WritesAddress, WritesAddresses, answers_together, nothing, with_flags}
 use Rattle.linemap_lookup.proofs.AnswerSteps.{or_false}
-use Rattle.linemap_lookup.specs.LookupRuns.{IsStopped}
-use Rattle.linemap_output.specs.ErrorLine.{EndsAtFault}
-use Rattle.linemap_output.specs.declared.writing.WriteFault.{WriteFault}
-use Rattle.linemap_output.specs.declared.writing.WriteFault.TheVariants.{BrokenPipe, Failed}
 
 -- one more step of a fold
 folds_more : {P A : Type 0} (R : P → A → P → Type 0) (p : P) (xs : List A) (q : P) (x : A) (r : P)
@@ -86,26 +83,34 @@ module _ {S : Type 0} (answers : S → List ℕ → List ℕ → Result (Option 
 
   pub stops_after : (done rest all : List (Option ℕ)) (a : Option ℕ) (s t : LookupState S) (old mid new : Streams)
       (e f stop : Ended) → all ≡ done ++ a ∷ rest → WritesAddresses answers o section done s t old mid e f
-      → StopsAtAddress answers o section a t mid new stop
-      → StopsAtAddresses answers o section all s old new e stop
+      → StopsBefore answers o section (a ∷ []) t mid new f stop
+      → StopsAmong answers o section all s old new e stop
   stops_after done rest all a s t old mid new e f stop is p q = record {
-    done = done;
-    next = a;
-    rest = rest;
+    first = done;
+    rest = a ∷ rest;
     are_addresses = is;
     state = t;
     streams = mid;
     ended = f;
     written = p;
-    stops = q;
+    stops = record { partial = q.partial; is_answer = q.is_answer; stops = q.stops };
   }
 
 -- ---- stops
 
-pub fault_stops : (fault : WriteFault) (old new : Option (List ℕ)) (e : Ended) → EndsAtFault fault old new e
-    → IsStopped e
-fault_stops Failed old new e ends = inr ends.1.1
-fault_stops BrokenPipe old new e ends = inr (ap (λ (x : Ended). x.write) ends.1)
+-- out of memory, before anything of an answer is written
+pub stops_out_of_memory : (out old new : Option (List ℕ)) (ended last : Ended) → EndsOutOfMemory old new last
+    → Stops nothing (record { out = out; err = old }) (record { out = out; err = new }) ended (with_flags ended last)
+stops_out_of_memory out old new ended last ends = record {
+  mid = old;
+  noted = ended;
+  last = last;
+  out = prefix_none out out [] (keeps_same out);
+  err = λ _. appends_nothing old old (keeps_same old);
+  flags = record { memory = sym (or_false ended.memory); write = λ w. w; status = refl; read = refl };
+  reports = inl ends;
+  end = refl;
+}
 
 pub if_err : {T E : Type 0} (r : Result T E) {P Q : E → Type 0} → ((e : E) → P e → Q e) → IfErr r P → IfErr r Q
 if_err (Ok x) f p = tt
@@ -113,10 +118,15 @@ if_err (Err e) f p = f e p
 
 -- ---- words
 
-module _ (ws : List (String Global)) where
-  abbrev pub addresses_of : List (String Global) → List (Option ℕ)
-  addresses_of vs = map (λ w. word_address (string_bytes w)) vs
+-- the addresses that words write
+abbrev pub addresses_of : List (String Global) → List (Option ℕ)
+addresses_of ws = map word_address (map string_bytes ws)
 
+addresses_append : (vs ws : List (String Global)) → addresses_of (vs ++ ws) ≡ addresses_of vs ++ addresses_of ws
+addresses_append vs ws =
+    ap (map word_address) (map-append string_bytes vs ws) ∙ map-append word_address (map string_bytes vs) (map string_bytes ws)
+
+module _ (ws : List (String Global)) where
   taken : (i : ℕ) (w : String Global) → i < length ws → w ≡ get_or ws i w → take (i + 1) ws ≡ take i ws ++ w ∷ []
   taken i w lt at = take_more ws i w lt ∙ ap (λ v. take i ws ++ v ∷ []) (sym at)
 
@@ -125,14 +135,14 @@ module _ (ws : List (String Global)) where
       → addresses_of (take i ws) ++ a ∷ [] ≡ addresses_of (take (i + 1) ws)
   words_more i w a lt at is =
       ap (λ x. addresses_of (take i ws) ++ x ∷ []) is
-      ∙ sym (ap addresses_of (taken i w lt at) ∙ map-append (λ v. word_address (string_bytes v)) (take i ws) (w ∷ []))
+      ∙ sym (ap addresses_of (taken i w lt at) ∙ addresses_append (take i ws) (w ∷ []))
 
   pub words_split : (i : ℕ) (w : String Global) (a : Option ℕ) → i < length ws → w ≡ get_or ws i w
       → a ≡ word_address (string_bytes w)
       → addresses_of ws ≡ addresses_of (take i ws) ++ a ∷ addresses_of (drop (i + 1) ws)
   words_split i w a lt at is =
       sym (ap addresses_of (take-append-drop (i + 1) ws))
-      ∙ map-append (λ v. word_address (string_bytes v)) (take (i + 1) ws) (drop (i + 1) ws)
+      ∙ addresses_append (take (i + 1) ws) (drop (i + 1) ws)
       ∙ ap (λ x. x ++ addresses_of (drop (i + 1) ws)) (sym (words_more i w a lt at is))
       ∙ append_assoc (addresses_of (take i ws)) (a ∷ []) (addresses_of (drop (i + 1) ws))
 

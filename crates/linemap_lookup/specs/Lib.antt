@@ -3,4 +3,6 @@ pub mod FrameTexts
 pub mod FramesGot
 pub mod LookupAnswers
 pub mod AnswerBuffers
+pub mod LineReads
 pub mod LookupRuns
+pub mod Programs

@@ -54,6 +54,18 @@ fn push_end(text: &mut String, options: &Options) -> Result<(), AllocError>
 }
 
 impl Engine {
+    /// A loaded file, with buffers without room.
+    pub fn new(alloc: Global, loader: Loader) -> Engine
+        ensures { result.loader ≡ loader }
+    {
+        Engine {
+            alloc,
+            loader,
+            symbol: String::new(alloc),
+            answer: AnswerBuffer::new(alloc),
+        }
+    }
+
     // Appends the frames of an address, by the name of the symbol that holds it.
     fn answer_frames<S: SplitSource>(
         &mut self,

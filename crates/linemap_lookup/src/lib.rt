@@ -2,10 +2,17 @@
 //! writers.
 #![tactic(auto)]
 
+mod all;
 mod answer;
 mod engine;
 mod frames;
+mod lines;
 mod lookups;
 mod names;
 mod printer;
+mod program;
 mod write;
+mod write_lines;
+
+pub use addr2line_split::{FileSource, LoadError, SplitSource, read_file};
+pub use program::run;

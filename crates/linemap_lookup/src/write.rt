@@ -1,12 +1,12 @@
 //! How answers are written, one after the other.
 
-ghost use Rattle.std.specs.Prelude.{◌≡◌, false, IfErr, map, OnOk};
+ghost use Rattle.std.specs.Prelude.{◌≡◌, false, IfErr, map, OnOk, Some, [], ◌∷◌};
 ghost use Rattle.std.specs.String.{string_bytes};
 ghost use Rattle.std.specs.Io.KnownBytes.{Appends};
 ghost use Rattle.linemap_meaning.specs.AnswerTexts.{word_address};
 ghost use Rattle.linemap_output.specs.WriterBytes.{AppendsPrefix};
 ghost use Rattle.linemap_lookup.specs.AnswerBuffers.{answer_of};
-ghost use Rattle.linemap_lookup.specs.LookupRuns.{IsStopped, Records, StopsAtAddress, StopsAtAddresses, Writes, WritesAddress, WritesAddresses};
+ghost use Rattle.linemap_lookup.specs.LookupRuns.{Records, Stops, StopsAmong, StopsBefore, Writes, WritesAddress, WritesAddresses, with_flags};
 
 use crate::answer::AnswerBuffer;
 use crate::engine::Engine;
@@ -65,6 +65,18 @@ fn report<E: Write>(answer: &AnswerBuffer, err: &mut E, ended: &mut Ended)
     write_errors(&answer.errors, err, ended);
 }
 
+// An end, with the flags that were set before.
+pub(crate) fn with_flags(earlier: Ended, last: Ended) -> Ended
+    ensures { result ≡ with_flags earlier last }
+{
+    Ended {
+        status: last.status,
+        memory: earlier.memory || last.memory,
+        read: earlier.read || last.read,
+        write: earlier.write || last.write,
+    }
+}
+
 // Writes an answer, and flushes.
 fn write_answer<O: Write, E: Write>(
     answer: &AnswerBuffer,
@@ -75,14 +87,14 @@ fn write_answer<O: Write, E: Write>(
     ensures whole { OnOk result (Writes (answer_of answer.now)
         (record { out = O.contents out.old; err = E.contents err.old })
         (record { out = O.contents out.new; err = E.contents err.new }) ended.old ended.new) }
-    ensures prefix { AppendsPrefix (O.contents out.old) (O.contents out.new)
-        (string_bytes answer.now.text) }
-    ensures stop { IfErr result IsStopped }
+    ensures stop { IfErr result (Stops (answer_of answer.now)
+        (record { out = O.contents out.old; err = E.contents err.old })
+        (record { out = O.contents out.new; err = E.contents err.new }) ended.old) }
 {
     report(answer, err, ended);
     match write_flushed(out, &answer.text) {
         Ok(()) => Ok(()),
-        Err(fault) => Err(output_failed(err, fault)),
+        Err(fault) => Err(with_flags(*ended, output_failed(err, fault))),
     }
 }
 
@@ -98,21 +110,21 @@ impl Engine {
         err: &mut E,
         ended: &mut Ended,
     ) -> Result<(), Ended>
-        ensures whole { OnOk result (WritesAddress S.answers question.entry.options.now question.entry.section
-            address
+        ensures whole { OnOk result (WritesAddress S.answers question.entry.options.now
+            question.entry.section address
             (record { file = self.old.loader; source = source.old })
             (record { file = self.new.loader; source = source.new })
             (record { out = O.contents out.old; err = E.contents err.old })
             (record { out = O.contents out.new; err = E.contents err.new }) ended.old ended.new) }
-        ensures stop { IfErr result (λ stop. StopsAtAddress S.answers question.entry.options.now
-            question.entry.section address
+        ensures stop { IfErr result (StopsBefore S.answers question.entry.options.now
+            question.entry.section (address ∷ [])
             (record { file = self.old.loader; source = source.old })
             (record { out = O.contents out.old; err = E.contents err.old })
-            (record { out = O.contents out.new; err = E.contents err.new }) stop) }
+            (record { out = O.contents out.new; err = E.contents err.new }) ended.old) }
     {
         match self.answer(question.options, question.section, address, source) {
             Ok(()) => write_answer(&self.answer, out, err, ended),
-            Err(_) => Err(out_of_memory(err)),
+            Err(_) => Err(with_flags(*ended, out_of_memory(err))),
         }
     }
 
@@ -126,20 +138,48 @@ impl Engine {
         err: &mut E,
         ended: &mut Ended,
     ) -> Result<(), Ended>
-        ensures whole { OnOk result (WritesAddresses S.answers question.entry.options.now question.entry.section
-            (map (λ w. word_address (string_bytes w)) words.now)
+        ensures whole { OnOk result (WritesAddresses S.answers question.entry.options.now
+            question.entry.section (map word_address (map string_bytes words.now))
             (record { file = self.old.loader; source = source.old })
             (record { file = self.new.loader; source = source.new })
             (record { out = O.contents out.old; err = E.contents err.old })
             (record { out = O.contents out.new; err = E.contents err.new }) ended.old ended.new) }
-        ensures stop { IfErr result (λ stop. StopsAtAddresses S.answers question.entry.options.now
-            question.entry.section (map (λ w. word_address (string_bytes w)) words.now)
+        ensures stop { IfErr result (StopsAmong S.answers question.entry.options.now
+            question.entry.section (map word_address (map string_bytes words.now))
             (record { file = self.old.loader; source = source.old })
             (record { out = O.contents out.old; err = E.contents err.old })
-            (record { out = O.contents out.new; err = E.contents err.new }) ended.old stop) }
+            (record { out = O.contents out.new; err = E.contents err.new }) ended.old) }
     {
         for word in words {
             self.write(question, read_address(word), source, out, err, ended)?;
+        }
+        Ok(())
+    }
+
+    /// Answers addresses, one after the other, as `write` does.
+    pub fn write_addresses<S: SplitSource, O: Write, E: Write>(
+        &mut self,
+        question: Question<'_>,
+        addresses: &[u64],
+        source: &mut S,
+        out: &mut O,
+        err: &mut E,
+        ended: &mut Ended,
+    ) -> Result<(), Ended>
+        ensures whole { OnOk result (WritesAddresses S.answers question.entry.options.now
+            question.entry.section (map Some addresses.now)
+            (record { file = self.old.loader; source = source.old })
+            (record { file = self.new.loader; source = source.new })
+            (record { out = O.contents out.old; err = E.contents err.old })
+            (record { out = O.contents out.new; err = E.contents err.new }) ended.old ended.new) }
+        ensures stop { IfErr result (StopsAmong S.answers question.entry.options.now
+            question.entry.section (map Some addresses.now)
+            (record { file = self.old.loader; source = source.old })
+            (record { out = O.contents out.old; err = E.contents err.old })
+            (record { out = O.contents out.new; err = E.contents err.new }) ended.old) }
+    {
+        for address in addresses {
+            self.write(question, Some(*address), source, out, err, ended)?;
         }
         Ok(())
     }

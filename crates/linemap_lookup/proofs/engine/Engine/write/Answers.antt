@@ -1,8 +1,8 @@
-use Rattle.std.proofs.Common.{[], inl, inr, refl}
-use Rattle.linemap_output.proofs.WritingLemmas.{keeps_same, prefix_none}
+use Rattle.std.proofs.Common.{inl, inr, refl, subst, sym}
 use Rattle.linemap_lookup.specs.AnswerBuffers.{answer_of}
+use Rattle.linemap_lookup.specs.LookupRuns.{Stops, nothing}
 use Rattle.linemap_lookup.proofs.FrameSteps.{on_ok}
-use Rattle.linemap_lookup.proofs.RunSteps.{if_err}
+use Rattle.linemap_lookup.proofs.RunSteps.{if_err, stops_out_of_memory}
 use Rattle.linemap_lookup.proofs.engine.Engine.write.Goals as goal
 
 pub returns-in-Ok-clause-whole : goal.returns-in-Ok-clause-whole
@@ -14,20 +14,17 @@ returns-in-Ok-clause-whole g c =
 pub returns-in-Ok-clause-stop : goal.returns-in-Ok-clause-stop
 returns-in-Ok-clause-stop g c =
     if_err c.write_answer.result
-    (λ e stopped. record {
-      text = (answer_of c.answer.new.self.answer).text;
-      is_answer = inr (
-        answer_of c.answer.new.self.answer,
-        (record { file = c.answer.new.self.loader; source = c.answer.new.source }, (c.in-Ok.ensures, refl)),
-      );
-      out = c.write_answer.ensures.prefix;
-      stopped = stopped;
+    (λ e stops. record {
+      partial = answer_of c.answer.new.self.answer;
+      is_answer = inr (record { file = c.answer.new.self.loader; source = c.answer.new.source }, c.in-Ok.ensures);
+      stops = stops;
     }) c.write_answer.ensures.stop
 
 pub returns-in-Err-clause-stop : goal.returns-in-Err-clause-stop
 returns-in-Err-clause-stop g c = record {
-  text = [];
+  partial = nothing;
   is_answer = inl refl;
-  out = prefix_none _ _ [] (keeps_same (g.O.Write.contents c.args.out.now));
-  stopped = inl c.out_of_memory.ensures.1;
+  stops =
+      subst (Stops nothing _ _ _) (sym c.with_flags.ensures)
+      (stops_out_of_memory _ _ _ c.args.ended.now c.out_of_memory.result c.out_of_memory.ensures);
 }
