@@ -2,47 +2,38 @@
 """The sections that are emitted of examples/c.json, in version 4 and in version 5, cut at every length.
 
 Of .debug_info and .debug_line, whose contents begin with their length, there are also the cuts at which that length is
-set to what is left, so that the cut is met further on. The cases are the end of crates/addr2line_cases/stdin, after the files c_of_4 and c_of_5, which hold the sections; the
-answers are the end of its stdout. They are computed by model.py, and never taken from the program.
+set to what is left, so that the cut is met further on. The cases are the end of crates/addr2line_cases/stdin, after the
+files c_of_4 and c_of_5, which hold the sections; the answers are the end of its stdout. They are computed by model.py,
+and never taken from the program.
 
     tests/damaged.py            compares both files with the cases and the answers
     tests/damaged.py write      writes them there
     tests/damaged.py sections   compares the sections with those that ./linemap emits
 """
-import os
 import subprocess
 import sys
 import tempfile
 
 sys.dont_write_bytecode = True
-from model import Model
+import cases
+from cases import CRATE, MADE, TOP
 from images import sections_of
+from model import Model
 
-TOP = os.path.dirname(os.path.dirname(os.path.abspath(__file__)))
-CRATE = f"{TOP}/crates/addr2line_cases"
 FILES = "c_of_4", "c_of_5"
 # The sections that are one unit, in 32-bit DWARF: a length of four bytes, and as many more.
 UNITS = "info", "line"
-# The first line of the cases, in both files.
-HEADING = "# Sections cut at every length: the cases and answers from here on are made by tests/damaged.py"
 
 
 def files():
-    """The sections of the files, as the cases have them."""
-    found = {}
-    with open(f"{CRATE}/stdin", encoding="utf-8") as cases:
-        for paragraph in cases.read().split("\n\n"):
-            # (a line that begins with a space goes on with the one before it)
-            lines = [it for it in paragraph.replace("\n ", " ").splitlines() if not it.startswith("#")]
-            word, _, name = lines[0].partition(" ") if lines else ("", "", "")
-            if word == "file" and name in FILES:
-                found[name] = {it.split()[0]: bytes.fromhex("".join(it.split()[1:])) for it in lines[1:]}
-    return found
+    """The files, by name, and their sections."""
+    found = cases.files()
+    return [(name, found[name]) for name in FILES]
 
 
 def cuts():
     """For each file, section and length the file's name, the section's, and all sections."""
-    for name, sections in files().items():
+    for name, sections in files():
         for section, whole in sections.items():
             for length in range(len(whole)):
                 yield name, section, {**sections, section: whole[:length]}
@@ -69,21 +60,21 @@ def answers(sections):
 
 def ends():
     """The end of both files."""
-    cases = [HEADING, *(case(*it) for it in cuts())]
-    found = [HEADING, *(answers(sections) for _, _, sections in cuts())]
-    # (the heading is a line of the first case)
-    return {"stdin": "\n\n".join(cases).replace("\n\n", "\n", 1) + "\n", "stdout": "\n\n".join(found).replace("\n\n", "\n", 1) + "\n\n"}
+    made = [case(*it) for it in cuts()], [answers(sections) for _, _, sections in cuts()]
+    # (the heading is a line of the first of them)
+    asked, found = (f"{MADE}\n" + "\n\n".join(it) + "\n" for it in made)
+    return {"stdin": asked, "stdout": f"{found}\n"}
 
 
 def compare(is_written):
     status = 0
     for name, end in ends().items():
         with open(f"{CRATE}/{name}", encoding="utf-8") as file:
-            before, _, now = file.read().partition(HEADING)
+            before, _, now = file.read().partition(MADE)
         if is_written:
             with open(f"{CRATE}/{name}", "w", encoding="utf-8") as file:
                 file.write(before + end)
-        elif HEADING + now != end:
+        elif MADE + now != end:
             print(f"{CRATE}/{name}: other cases or answers")
             status = 1
     print(f"{sum(1 for _ in cuts())} cuts")
@@ -92,7 +83,7 @@ def compare(is_written):
 
 def compare_sections():
     status = 0
-    for name, sections in files().items():
+    for name, sections in files():
         with tempfile.TemporaryDirectory() as folder:
             words = ["emit", f"{TOP}/examples/c.json", f"{folder}/image", "--dwarf", name[-1]]
             subprocess.run([f"{TOP}/linemap", *words], check=True)

@@ -1,12 +1,11 @@
 """ELF images of debug information, taken apart and put together."""
 import struct
 
-# The sections that lookups read, by the names that the cases have for them.
-NAMES = "abbrev", "addr", "aranges", "info", "line", "line_str", "ranges", "rnglists", "str", "str_offsets"
+from cases import NAMES
 
 
 def sections_of(image):
-    """Whether an image is big endian, and its debug sections: from their names to their bytes and their places."""
+    """Whether an image is big endian, and its debug sections: from their names, as in the cases, to their bytes and places."""
     wide, big = image[4] == 2, image[5] == 2
     order = ">" if big else "<"
     # the places of: the section headers; the size, count and names' index of these

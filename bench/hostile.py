@@ -1,0 +1,439 @@
+#!/usr/bin/env python3
+"""Debug information made to be slow to read: images by kind, and what reading them costs.
+
+usage: bench/hostile.py list
+       bench/hostile.py make KIND COUNT FILE
+       bench/hostile.py measure [KIND..]
+
+Each kind is made at half its count and at its whole one, so that the growth shows: twice the count should take about
+twice the time and the memory. What is run is `linemap lookup -e IMAGE -f -i` with addresses, and `--all`; where PEER
+names a program with the same words, such as one over Rust's addr2line, it is run too. LINEMAP names other words than
+those of the built program. SCALE makes all counts larger or smaller, LIMIT bounds the seconds of a run (60).
+"""
+import os
+import signal
+import subprocess
+import sys
+import tempfile
+import time
+
+sys.dont_write_bytecode = True
+TOP = os.path.dirname(os.path.dirname(os.path.abspath(__file__)))
+sys.path.insert(0, f"{TOP}/tests")
+from images import image_of
+
+LOW = 0x1000
+
+
+# ---- parts, in version 4, 32-bit DWARF, with addresses of four bytes, little endian (7.5, 7.24, 7.25)
+
+
+def word(number):
+    return number.to_bytes(4, "little")
+
+
+def leb(number):
+    text = b""
+    while number > 127:
+        text += bytes([number & 127 | 128])
+        number >>= 7
+    return text + bytes([number])
+
+
+def sleb(number):
+    text = b""
+    while not -64 <= number < 64:
+        text += bytes([number & 127 | 128])
+        number >>= 7
+    return text + bytes([number & 127])
+
+
+def unit(entries, abbreviations=0):
+    return word(7 + len(entries)) + b"\4\0" + word(abbreviations) + b"\4" + entries
+
+
+UNIT_HEADER = 11
+NAME, STMT_LIST, LOW_PC, HIGH_PC, RANGES, ORIGIN, IMPORT, CALL_LINE = 0x03, 0x10, 0x11, 0x12, 0x55, 0x31, 0x18, 0x59
+DWO_ID, DWO_NAME = 0x2131, 0x2130
+ADDR, DATA4, DATA8, DATA1, STRING, STRP, REF4, REF_ADDR, OFFSET, PRESENT = 1, 6, 7, 11, 8, 14, 0x13, 0x10, 0x17, 0x19
+COMPILE, PARTIAL, SUBPROGRAM, INLINED, IMPORTED = 0x11, 0x3c, 0x2e, 0x1d, 0x3d
+PLACE = (LOW_PC, ADDR), (HIGH_PC, DATA4)
+
+
+def declaration(code, tag, *attributes, children=False):
+    return leb(code) + leb(tag) + bytes([children]) + b"".join(leb(name) + leb(form) for name, form in attributes) + b"\0\0"
+
+
+def place(low, size):
+    return word(low) + word(size)
+
+
+def program(instructions, files=(b"a.c",), directories=()):
+    """A line number program whose special opcodes move the address by 1 and the line by 0, from 13 on (6.2.4)."""
+    tables = b"".join(it + b"\0" for it in directories) + b"\0" + b"".join(it + b"\0\0\0\0" for it in files) + b"\0"
+    header = b"\1\1\1\0\4\x0d" + bytes([0, 1, 1, 1, 1, 0, 0, 0, 1, 0, 0, 1]) + tables
+    body = b"\4\0" + word(len(header)) + header + instructions
+    return word(len(body)) + body
+
+
+ROW = bytes([13 + 4])
+
+
+def set_address(address):
+    return b"\0\5\2" + word(address)
+
+
+END = b"\0\1\1"
+
+
+# ---- kinds: from a count to the sections and the addresses that are asked for
+
+
+def shared_program(count):
+    """Units that share a line number program of as many rows, and have no ranges but its own."""
+    abbrev = declaration(1, COMPILE, (STMT_LIST, OFFSET))
+    return {"abbrev": abbrev + b"\0", "info": unit(b"\1" + word(0)) * count,
+            "line": program(set_address(LOW) + ROW * count + END)}, [LOW + 1]
+
+
+def shared_ranges(count):
+    """Units that share a list of as many ranges."""
+    abbrev = declaration(1, COMPILE, (RANGES, OFFSET))
+    ranges = b"".join(word(LOW + 2 * it) + word(LOW + 2 * it + 1) for it in range(count)) + b"\0" * 8
+    return {"abbrev": abbrev + b"\0", "info": unit(b"\1" + word(0)) * count, "ranges": ranges}, [LOW + 1]
+
+
+def abbreviation_tails(count):
+    """Units whose tables of abbreviations are the tails of one list."""
+    parts = [declaration(it + 1, COMPILE) for it in range(count)]
+    info, offset = b"", 0
+    units = []
+    for it in range(count):
+        units.append(unit(leb(it + 1), offset))
+        offset += len(parts[it])
+    return {"abbrev": b"".join(parts) + b"\0", "info": b"".join(units)}, [LOW]
+
+
+def nested_calls(count):
+    """Calls in one another."""
+    abbrev = (declaration(1, COMPILE, *PLACE, children=True) + declaration(2, SUBPROGRAM, *PLACE, children=True)
+              + declaration(3, INLINED, *PLACE, (NAME, STRING), (CALL_LINE, DATA1), children=True))
+    entries = b"\1" + place(LOW, 99) + b"\2" + place(LOW, 99) + (b"\3" + place(LOW, 99) + b"f\0\1") * count + b"\0" * (count + 2)
+    return {"abbrev": abbrev + b"\0", "info": unit(entries)}, [LOW + 1]
+
+
+def overlapping_calls(count):
+    """Calls side by side, each range in the one before it."""
+    abbrev = (declaration(1, COMPILE, *PLACE, children=True) + declaration(2, SUBPROGRAM, *PLACE, children=True)
+              + declaration(3, INLINED, *PLACE))
+    calls = b"".join(b"\3" + place(LOW + it, 2 * (count - it)) for it in range(count))
+    entries = b"\1" + place(LOW, 2 * count) + b"\2" + place(LOW, 2 * count) + calls + b"\0\0"
+    return {"abbrev": abbrev + b"\0", "info": unit(entries)}, spread(LOW, 2 * count)
+
+
+def spread(low, size, count=200):
+    return sorted({low + size * it // count for it in range(count)})
+
+
+def sequences(count):
+    """Sequences side by side in one unit."""
+    abbrev = declaration(1, COMPILE, (STMT_LIST, OFFSET), *PLACE)
+    rows = b"".join(set_address(LOW + 4 * it) + ROW + b"\2\3" + END for it in range(count))
+    return {"abbrev": abbrev + b"\0", "info": unit(b"\1" + word(0) + place(LOW, 4 * count)), "line": program(rows)}, spread(LOW, 4 * count)
+
+
+def equal_sequences(count):
+    """Sequences of one range."""
+    abbrev = declaration(1, COMPILE, (STMT_LIST, OFFSET), *PLACE)
+    rows = (set_address(LOW) + ROW + b"\2\3" + END) * count
+    return {"abbrev": abbrev + b"\0", "info": unit(b"\1" + word(0) + place(LOW, 4)), "line": program(rows)}, spread(LOW, 4)
+
+
+def rows(count):
+    """Rows of one sequence."""
+    abbrev = declaration(1, COMPILE, (STMT_LIST, OFFSET), *PLACE)
+    line = program(set_address(LOW) + ROW * count + END)
+    return {"abbrev": abbrev + b"\0", "info": unit(b"\1" + word(0) + place(LOW, count)), "line": line}, spread(LOW, count)
+
+
+def rows_back(count):
+    """Rows of one sequence whose addresses fall: each is set below the one before it, and so hidden."""
+    abbrev = declaration(1, COMPILE, (STMT_LIST, OFFSET), *PLACE)
+    line = program(set_address(LOW + count) + b"".join(ROW + set_address(LOW + count - it) for it in range(count)) + END)
+    return {"abbrev": abbrev + b"\0", "info": unit(b"\1" + word(0) + place(LOW, 2 * count)), "line": line}, spread(LOW, 2 * count)
+
+
+def aranges(count):
+    """Units whose ranges are in .debug_aranges."""
+    abbrev = declaration(1, COMPILE, (NAME, STRING))
+    one = unit(b"\1a\0")
+    sets = b"".join(word(28) + b"\2\0" + word(it * len(one)) + b"\4\0" + b"\0" * 4 + word(LOW + 2 * it) + word(2) + b"\0" * 8
+                    for it in range(count))
+    return {"abbrev": abbrev + b"\0", "info": one * count, "aranges": sets}, spread(LOW, 2 * count)
+
+
+def aranges_of_one(count):
+    """Sets of address ranges of one unit, beside as many units."""
+    sections, asked = aranges(count)
+    one = b"".join(word(28) + b"\2\0" + word(0) + b"\4\0" + b"\0" * 4 + word(LOW + 2 * it) + word(2) + b"\0" * 8 for it in range(count))
+    return {**sections, "aranges": one}, asked
+
+
+def linked_units(count):
+    """Units with a function each, whose name is asked of the next unit."""
+    abbrev = (declaration(1, COMPILE, *PLACE, children=True) + declaration(2, SUBPROGRAM, *PLACE, (ORIGIN, REF_ADDR)))
+    size = UNIT_HEADER + 9 + 13 + 1
+    units = [unit(b"\1" + place(LOW + it, 1) + b"\2" + place(LOW + it, 1) + word((it + 1) % count * size + UNIT_HEADER + 9) + b"\0")
+             for it in range(count)]
+    return {"abbrev": abbrev + b"\0", "info": b"".join(units)}, spread(LOW, count)
+
+
+def reference_chains(count):
+    """Functions of one unit, each of which has the name of the next one."""
+    abbrev = declaration(1, COMPILE, *PLACE, children=True) + declaration(2, SUBPROGRAM, *PLACE, (ORIGIN, REF4))
+    first = UNIT_HEADER + 9
+    functions = b"".join(b"\2" + place(LOW + it, 1) + word(first + 13 * ((it + 1) % count)) for it in range(count))
+    return {"abbrev": abbrev + b"\0", "info": unit(b"\1" + place(LOW, count) + functions + b"\0")}, spread(LOW, count)
+
+
+def functions(count):
+    """Functions, and as many sequences."""
+    sections, asked = sequences(count)
+    abbrev = (declaration(1, COMPILE, (STMT_LIST, OFFSET), *PLACE, children=True) + declaration(2, SUBPROGRAM, *PLACE, (NAME, STRING)))
+    entries = b"\1" + word(0) + place(LOW, 4 * count) + b"".join(b"\2" + place(LOW + 4 * it, 4) + b"f\0" for it in range(count)) + b"\0"
+    return {**sections, "abbrev": abbrev + b"\0", "info": unit(entries)}, asked
+
+
+def overlapping_functions(count):
+    """Functions of one unit, each range in the one before it."""
+    abbrev = declaration(1, COMPILE, *PLACE, children=True) + declaration(2, SUBPROGRAM, *PLACE)
+    entries = b"".join(b"\2" + place(LOW + it, 2 * (count - it)) for it in range(count))
+    return {"abbrev": abbrev + b"\0", "info": unit(b"\1" + place(LOW, 2 * count) + entries + b"\0")}, spread(LOW, 2 * count)
+
+
+def partial_units(count):
+    """Partial units, and as many units that import them."""
+    abbrev = (declaration(1, COMPILE, *PLACE, children=True) + declaration(2, IMPORTED, (IMPORT, REF_ADDR))
+              + declaration(3, PARTIAL, children=True) + declaration(4, SUBPROGRAM, (NAME, STRING))
+              + declaration(5, SUBPROGRAM, *PLACE, (ORIGIN, REF_ADDR)))
+    partial = unit(b"\3\4f\0\0")
+    units = [unit(b"\1" + place(LOW + it, 1) + b"\2" + word(len(partial) * it + UNIT_HEADER) + b"\5" + place(LOW + it, 1)
+                  + word(len(partial) * it + UNIT_HEADER + 1) + b"\0") for it in range(count)]
+    return {"abbrev": abbrev + b"\0", "info": partial * count + b"".join(units)}, spread(LOW, count)
+
+
+def overlapping_units(count):
+    """Units, each range in the one before it, none of which knows anything."""
+    abbrev = declaration(1, COMPILE, *PLACE)
+    return {"abbrev": abbrev + b"\0", "info": b"".join(unit(b"\1" + place(LOW + it, 2 * (count - it))) for it in range(count))}, [LOW + count]
+
+
+def abbreviations(count):
+    """Abbreviations of one table, their codes ascending."""
+    abbrev = b"".join(declaration(it + 1, COMPILE, *PLACE) for it in range(count))
+    return {"abbrev": abbrev + b"\0", "info": unit(b"\1" + place(LOW, 9))}, [LOW]
+
+
+def falling_abbreviations(count):
+    """The same, their codes falling."""
+    abbrev = b"".join(declaration(count - it, COMPILE, *PLACE) for it in range(count))
+    return {"abbrev": abbrev + b"\0", "info": unit(b"\1" + place(LOW, 9))}, [LOW]
+
+
+def mixed_abbreviations(count):
+    """The same, their codes in no order."""
+    abbrev = b"".join(declaration(1 + it * 7919 % count, COMPILE, *PLACE) for it in range(count))
+    return {"abbrev": abbrev + b"\0", "info": unit(b"\1" + place(LOW, 9))}, [LOW]
+
+
+def shared_abbreviations(count):
+    """Units with one table of as many abbreviations."""
+    abbrev = b"".join(declaration(it + 1, COMPILE) for it in range(count))
+    return {"abbrev": abbrev + b"\0", "info": unit(b"\1") * count}, [LOW]
+
+
+def long_directory(count):
+    """Files whose texts begin with a directory as long as there are files."""
+    abbrev = declaration(1, COMPILE, (0x1b, STRP), (STMT_LIST, OFFSET), *PLACE)
+    line = program(set_address(LOW) + ROW * 8 + END, [b"a"] * count)
+    return {"abbrev": abbrev + b"\0", "info": unit(b"\1" + word(0) + word(0) + place(LOW, 8)), "line": line,
+            "str": b"/" + b"d" * 5 * count + b"\0"}, [LOW]
+
+
+def long_name(count):
+    """Calls of one long name, as long as there are calls."""
+    abbrev = (declaration(1, COMPILE, *PLACE, children=True) + declaration(2, SUBPROGRAM, *PLACE, children=True)
+              + declaration(3, INLINED, *PLACE, (NAME, STRP)))
+    calls = b"".join(b"\3" + place(LOW + it, 1) + word(0) for it in range(count))
+    entries = b"\1" + place(LOW, count) + b"\2" + place(LOW, count) + calls + b"\0\0"
+    return {"abbrev": abbrev + b"\0", "info": unit(entries), "str": b"n" * 13 * count + b"\0"}, [LOW]
+
+
+def empty_attributes(count):
+    """Entries of one byte, whose declaration has as many attributes that take none."""
+    abbrev = declaration(1, COMPILE, *PLACE, children=True) + declaration(2, 0x34, *[(0x3f, PRESENT)] * count)
+    return {"abbrev": abbrev + b"\0", "info": unit(b"\1" + place(LOW, 9) + b"\2" * 2 * count + b"\0")}, [LOW]
+
+
+def repeated_ranges(count):
+    """A unit that has one range many times, and as many rows."""
+    sections, asked = rows(count)
+    abbrev = declaration(1, COMPILE, (STMT_LIST, OFFSET), (RANGES, OFFSET))
+    ranges = (word(LOW) + word(LOW + count)) * count + b"\0" * 8
+    return {**sections, "abbrev": abbrev + b"\0", "info": unit(b"\1" + word(0) + word(0)), "ranges": ranges}, asked
+
+
+def skeletons(count):
+    """Units over one address, each with a split file that isn't there."""
+    abbrev = declaration(1, COMPILE, *PLACE, (DWO_NAME, STRING), (DWO_ID, DATA8))
+    return {"abbrev": abbrev + b"\0", "info": b"".join(unit(b"\1" + place(LOW, 9) + b"no\0" + word(it) * 2) for it in range(count))}, [LOW]
+
+
+def indirect_forms(count):
+    """Functions that refer to one entry, whose value has a form as long as there are functions."""
+    abbrev = (declaration(1, COMPILE, *PLACE, children=True) + declaration(2, SUBPROGRAM, *PLACE, (ORIGIN, REF4))
+              + declaration(3, 0x34, (0x3f, 0x16), (NAME, STRING)))
+    target = UNIT_HEADER + 9 + 13 * count
+    entries = b"".join(b"\2" + place(LOW + it, 1) + word(target) for it in range(count)) + b"\3" + b"\x16" * 13 * count + b"\x0b\0f\0\0"
+    return {"abbrev": abbrev + b"\0", "info": unit(b"\1" + place(LOW, count) + entries)}, spread(LOW, count)
+
+
+def symbols(count):
+    """Symbols, each in the one before it."""
+    entries = b"\0" * 24 + b"".join(word(1) + b"\2\0\1\0" + (LOW + it).to_bytes(8, "little") + (2 * (count - it)).to_bytes(8, "little")
+                                    for it in range(count))
+    return {"symbols": (entries, b"\0s\0")}, spread(LOW, 2 * count)
+
+
+def symbol_names(count):
+    """Symbols of one name, as long as there are symbols."""
+    entries = b"\0" * 24 + b"".join(word(1) + b"\2\0\1\0" + (LOW + it).to_bytes(8, "little") + b"\1" + b"\0" * 7 for it in range(count))
+    return {"symbols": (entries, b"\0" + b"s" * 24 * count + b"\0")}, spread(LOW, count)
+
+
+def section_names(count):
+    """Sections of one name, as long as there are sections."""
+    return {"names": count}, [LOW]
+
+
+# The counts are such that each image has about a megabyte, or less where that took long once.
+KINDS = {shared_program: 3600, shared_ranges: 15_000, abbreviation_tails: 17_000, nested_calls: 20_000, overlapping_calls: 20_000,
+         sequences: 100_000, equal_sequences: 100_000, rows: 1_000_000, rows_back: 100_000, aranges: 20_000, aranges_of_one: 20_000,
+         linked_units: 16_000, reference_chains: 50_000, functions: 8_000, overlapping_functions: 50_000, partial_units: 10_000,
+         overlapping_units: 20_000, abbreviations: 1_000_000, falling_abbreviations: 1_000_000, mixed_abbreviations: 1_000_000,
+         shared_abbreviations: 20_000, long_directory: 10_000, long_name: 20_000, empty_attributes: 20_000, repeated_ranges: 10_000,
+         skeletons: 10_000, indirect_forms: 20_000, symbols: 50_000, symbol_names: 20_000, section_names: 16_000}
+BY_NAME = {it.__name__.replace("_", "-"): it for it in KINDS}
+
+
+# ---- images
+
+
+def elf(sections):
+    if "symbols" in sections:
+        return image_with_symbols(*sections["symbols"])
+    if "names" in sections:
+        return image_with_names(sections["names"])
+    return image_of(sections, True, False)
+
+
+def header(kind, name, place, size, link=0, entry=0):
+    numbers = (name, 4), (kind, 4), (0, 8), (0, 8), (place, 8), (size, 8), (link, 4), (0, 4), (1, 8), (entry, 8)
+    return b"".join(number.to_bytes(width, "little") for number, width in numbers)
+
+
+def file_header(table, count, names):
+    fields = (2, 2), (62, 2), (1, 4), (0, 8), (0, 8), (table, 8), (0, 4), (64, 2), (0, 2), (0, 2), (64, 2), (count, 2), (names, 2)
+    return b"\x7fELF\2\1\1" + b"\0" * 9 + b"".join(number.to_bytes(width, "little") for number, width in fields)
+
+
+def image_with_symbols(entries, strings):
+    names = b"\0"
+    body = entries + strings + names
+    headers = [header(0, 0, 0, 0), header(2, 0, 64, len(entries), 2, 24), header(3, 0, 64 + len(entries), len(strings)),
+               header(3, 0, 64 + len(entries) + len(strings), len(names))]
+    return file_header(64 + len(body), len(headers), 3) + body + b"".join(headers)
+
+
+def image_with_names(count):
+    names = b"\0" + b"n" * 64 * count
+    headers = [header(0, 0, 0, 0)] + [header(1, 1, 64, 0)] * count + [header(3, 0, 64, len(names))]
+    return file_header(64 + len(names), len(headers), len(headers) - 1) + names + b"".join(headers)
+
+
+# ---- measuring
+
+
+def run(words, limit):
+    """The seconds and the megabytes that a process takes, and its status; none where it takes too long."""
+    began = time.monotonic()
+    with open(os.devnull, "w+b") as nothing:
+        # (by way of a shell: a process begins with the peak memory of the one that starts it)
+        shell = ["sh", "-c", '"$0" "$@"; exit $?', *words]
+        child = subprocess.Popen(shell, stdin=nothing, stdout=nothing, stderr=nothing, start_new_session=True)
+        while True:
+            pid, status, usage = os.wait4(child.pid, os.WNOHANG)
+            if pid:
+                break
+            if time.monotonic() - began > limit:
+                os.killpg(child.pid, signal.SIGKILL)
+                os.wait4(child.pid, 0)
+                child.returncode = 0
+                return None
+            time.sleep(0.002)
+    child.returncode = 0
+    return usage.ru_utime + usage.ru_stime, usage.ru_maxrss / 1024, os.waitstatus_to_exitcode(status)
+
+
+def text_of(one, two):
+    """What two runs took, the second at twice the count, and the growth."""
+    if one is None or two is None:
+        return f"{'too long' if one is None else f'{one[0]:.2f} s, twice the count too long':>36}"
+    growth = two[0] / max(one[0], 0.01)
+    status = "" if two[2] == 0 else f" status {two[2]}"
+    return f"{two[0]:8.2f} s {two[1]:7.0f} MB {growth:5.1f} x{status:>10}"
+
+
+def measure(names):
+    own = os.environ.get("LINEMAP", f"{TOP}/crates/linemap_program/out/linemap_program lookup").split()
+    peer = os.environ.get("PEER", "").split()
+    limit, scale = float(os.environ.get("LIMIT", 60)), float(os.environ.get("SCALE", 1))
+    programs = {"own": own, **({"peer": peer} if peer else {})}
+    print(f"{'kind':24} {'KB':>6} {'asked':8} " + " ".join(f"{it + ': seconds, memory, growth':36}" for it in programs))
+    with tempfile.TemporaryDirectory() as folder:
+        for name in names:
+            kind, sizes, lists = BY_NAME[name], [], []
+            for part in (2, 1):
+                sections, asked = kind(max(2, int(KINDS[kind] * scale / part)))
+                path = f"{folder}/{part}"
+                with open(path, "wb") as file:
+                    file.write(elf(sections))
+                sizes.append((path, os.path.getsize(path)))
+                lists.append([f"{it:x}" for it in asked])
+            for what in "frames", "all":
+                found = []
+                for program in programs.values():
+                    words = [[*program, "-e", path, *(["-f", "-i", *asked] if what == "frames" else ["--all"])]
+                             for (path, _), asked in zip(sizes, lists)]
+                    one = run(words[0], limit)
+                    found.append(text_of(one, one and run(words[1], limit)))
+                print(f"{name:24} {sizes[1][1] // 1000:6} {what:8} " + " ".join(f"{it:36}" for it in found), flush=True)
+
+
+def main():
+    words = sys.argv[1:]
+    if words == ["list"]:
+        for name, kind in BY_NAME.items():
+            print(f"{name:24} {KINDS[kind]:9,}  {kind.__doc__}")
+    elif len(words) == 4 and words[0] == "make" and words[1] in BY_NAME:
+        with open(words[3], "wb") as file:
+            file.write(elf(BY_NAME[words[1]](int(words[2]))[0]))
+    elif words[:1] == ["measure"] and all(it in BY_NAME for it in words[1:]):
+        measure(words[1:] or list(BY_NAME))
+    else:
+        return __doc__
+    return 0
+
+
+if __name__ == "__main__":
+    sys.exit(main())
