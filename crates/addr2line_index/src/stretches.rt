@@ -124,7 +124,7 @@ fn reaching<'a>(
 // order.
 fn in_order<'a>(sequences: Vec<&'a LineSequence>) -> Result<Vec<&'a LineSequence>, Error>
     ensures ok { IfOk result (λ sorted. map (λ s. s.now) sorted.items
-        ≡ in_order starts_after (map (λ s. s.now) sequences.items)) }
+        ≡ in_order starts_after (map (λ s. s.now) sequences.entry.items)) }
     ensures refusal { IfErr result (λ e. e ≡ Memory) }
 {
     let mut sorted = sequences;

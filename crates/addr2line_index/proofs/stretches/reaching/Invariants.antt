@@ -5,7 +5,7 @@ use Rattle.addr2line_index.proofs.stretches.reaching.Given as goal
 
 abbrev pub invariant-loop-left : goal.invariant-loop-left
 invariant-loop-left l =
-    map (λ s. s.now) l.found.items ++ filter (reaches l.low l.high) (map (λ s. s.now) l.left)
+    map (λ s. s.now) l.found.items ++ filter (reaches l.low l.high) l.left
     ≡ filter (reaches l.low l.high) l.sequences
 
 abbrev pub decreases-loop-left : goal.decreases-loop-left
