@@ -1,6 +1,6 @@
 -- Rows between two ends: parts of lists, one element on.
 use Rattle.std.proofs.Common.{◌≡◌, ℕ, suc, zero, ◌+◌, ◌-◌, Bool, true, false, cond, nat_lt, List, [], ◌∷◌, ◌++◌, length, length-drop, map, filter, flat_map, take, drop, refl, sym, ap, ◌∙◌, arith, append_assoc, append-nil}
-use Rattle.std.specs.Prelude.{◌==◌, ◌&&◌, ◌||◌}
+use Rattle.std.specs.Prelude.{◌==◌, ◌&&◌, ◌||◌, Result, Ok, Err, IfOk}
 use Rattle.std.specs.Cmp.{IsStrictWeakOrder}
 use Rattle.std.specs.List.{prefix_len, take_while}
 use Rattle.std.proofs.lemmas.Bool.Decides.{nat_tests}
@@ -61,6 +61,11 @@ pub reaching_in_order : (keep : Sequence → Bool) (ss : List Sequence)
 reaching_in_order keep ss =
     ap (filter keep) (in_order-filter (starts_before (λ s. s)) (starts_is_order (λ s. s)) keep ss)
     ∙ filter_twice keep (in_order starts_after ss)
+
+-- what follows from the value, where there is one
+pub if_ok-follows : {T E : Type 0} {P Q : T → Type 0} (r : Result T E) → ((x : T) → P x → Q x) → IfOk r P → IfOk r Q
+if_ok-follows (Ok x) f h = f x h
+if_ok-follows (Err e) f h = tt
 
 -- what is joined of those that pass a test
 abbrev pub parts_of_filter : {X A : Type 0} → (X → Bool) → (X → List A) → List X → List A

@@ -95,7 +95,10 @@ fn push_sequence<'a>(
 fn compare(first: &LineSequence, second: &LineSequence) -> Ordering
     ensures { is_lt result ≡ starts_after second.now first.now }
 {
-    first.start.cmp(&second.start).then(first.end.cmp(&second.end))
+    first
+        .start
+        .cmp(&second.start)
+        .then(first.end.cmp(&second.end))
 }
 
 // The sequences that reach between two ends.
