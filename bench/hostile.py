@@ -142,6 +142,21 @@ def sequences(count):
     return {"abbrev": abbrev + b"\0", "info": unit(b"\1" + word(0) + place(LOW, 4 * count)), "line": program(rows)}, spread(LOW, 4 * count)
 
 
+def falling_sequences(count):
+    """The same, each below the one before it."""
+    abbrev = declaration(1, COMPILE, (STMT_LIST, OFFSET), *PLACE)
+    rows = b"".join(set_address(LOW + 4 * it) + ROW + b"\2\3" + END for it in reversed(range(count)))
+    return {"abbrev": abbrev + b"\0", "info": unit(b"\1" + word(0) + place(LOW, 4 * count)), "line": program(rows)}, spread(LOW, 4 * count)
+
+
+def ranges_and_sequences(count):
+    """A unit with ranges, and a sequence for each, as where each function is in a section of its own."""
+    sections, asked = sequences(count)
+    abbrev = declaration(1, COMPILE, (STMT_LIST, OFFSET), (RANGES, OFFSET))
+    ranges = b"".join(word(LOW + 4 * it) + word(LOW + 4 * it + 4) for it in range(count)) + b"\0" * 8
+    return {**sections, "abbrev": abbrev + b"\0", "info": unit(b"\1" + word(0) + word(0)), "ranges": ranges}, asked
+
+
 def equal_sequences(count):
     """Sequences of one range."""
     abbrev = declaration(1, COMPILE, (STMT_LIST, OFFSET), *PLACE)
@@ -318,7 +333,8 @@ def section_names(count):
 
 # The counts are such that each image has about a megabyte, or less where that took long once.
 KINDS = {shared_program: 3600, shared_ranges: 15_000, abbreviation_tails: 17_000, nested_calls: 20_000, overlapping_calls: 20_000,
-         sequences: 100_000, equal_sequences: 100_000, rows: 1_000_000, rows_back: 100_000, aranges: 20_000, aranges_of_one: 20_000,
+         sequences: 100_000, falling_sequences: 100_000, ranges_and_sequences: 8_000,
+         equal_sequences: 100_000, rows: 1_000_000, rows_back: 100_000, aranges: 20_000, aranges_of_one: 20_000,
          linked_units: 16_000, reference_chains: 50_000, functions: 8_000, overlapping_functions: 50_000, partial_units: 10_000,
          overlapping_units: 20_000, abbreviations: 1_000_000, falling_abbreviations: 1_000_000, mixed_abbreviations: 1_000_000,
          shared_abbreviations: 20_000, long_directory: 10_000, long_name: 20_000, empty_attributes: 20_000, repeated_ranges: 10_000,
