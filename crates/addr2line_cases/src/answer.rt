@@ -1,6 +1,7 @@
 //! Answers as they are written.
 
 use addr2line_context::{Error, Reader};
+use addr2line_split::LoadError;
 use std::alloc::{AllocError, Global};
 use std::fmt;
 
@@ -63,6 +64,14 @@ impl Answer {
             self.is_short_of_memory = true;
         } else {
             self.print(error);
+        }
+    }
+
+    /// A refusal of an image other than "out of memory".
+    pub fn refuse_image(&mut self, error: &LoadError) {
+        match error {
+            LoadError::Memory | LoadError::Dwarf(Error::Memory) => self.is_short_of_memory = true,
+            _ => self.value(error),
         }
     }
 

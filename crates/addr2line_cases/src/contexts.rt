@@ -181,11 +181,35 @@ fn answer_line<R: Reader>(
     if !matches!(asked.question, Question::Heading) {
         out.text(": ");
         match context {
-            Ok(context) => ask(context, asked.question, named, out),
+            Ok(context) => ask_up_to_twice(context, asked.question, named, out),
             Err(error) => out.refuse(*error),
         }
     }
     out.text("\n");
+}
+
+// A question that memory was short for is asked again.
+fn ask_up_to_twice<R: Reader>(
+    context: &mut Context<R>,
+    question: Question,
+    named: &[Sections<R>],
+    out: &mut Answer,
+) {
+    match asked_once(context, question, named, out.alloc) {
+        Ok(text) => out.text(&text),
+        Err(_) => ask(context, question, named, out),
+    }
+}
+
+fn asked_once<R: Reader>(
+    context: &mut Context<R>,
+    question: Question,
+    named: &[Sections<R>],
+    alloc: Global,
+) -> Result<String, AllocError> {
+    let mut out = Answer::new(alloc);
+    ask(context, question, named, &mut out);
+    out.finish()
 }
 
 fn ask<R: Reader>(

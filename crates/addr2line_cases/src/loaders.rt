@@ -16,11 +16,11 @@ pub fn answer<R: Files + AllocGlobal>(rt: &R, case: &ImageCase, out: &mut Answer
         Source::Files => ask_all(rt, &mut loader, case, &mut FileSource::new(rt), out),
         Source::Names => match sources::map_of(rt, case) {
             Ok(mut source) => ask_all(rt, &mut loader, case, &mut source, out),
-            Err(error) => out.value(&error),
+            Err(error) => out.refuse_image(&error),
         },
         Source::Turns => match sources::turns_of(rt, case) {
             Ok(mut source) => ask_all(rt, &mut loader, case, &mut source, out),
-            Err(error) => out.value(&error),
+            Err(error) => out.refuse_image(&error),
         },
     }
     out.text("\n");
@@ -97,9 +97,33 @@ fn answer_line<S: SplitSource>(
 ) {
     out.text(": ");
     match loader {
-        Ok(loader) => ask(loader, asked, source, out),
-        Err(error) => out.value(error),
+        Ok(loader) => ask_up_to_twice(loader, asked, source, out),
+        Err(error) => out.refuse_image(error),
     }
+}
+
+// A question that memory was short for is asked again.
+fn ask_up_to_twice<S: SplitSource>(
+    loader: &mut Loader,
+    asked: &ImageAsked,
+    source: &mut S,
+    out: &mut Answer,
+) {
+    match asked_once(loader, asked, source, out.alloc) {
+        Ok(text) => out.text(&text),
+        Err(_) => ask(loader, asked, source, out),
+    }
+}
+
+fn asked_once<S: SplitSource>(
+    loader: &mut Loader,
+    asked: &ImageAsked,
+    source: &mut S,
+    alloc: Global,
+) -> Result<String, AllocError> {
+    let mut out = Answer::new(alloc);
+    ask(loader, asked, source, &mut out);
+    out.finish()
 }
 
 fn ask<S: SplitSource>(loader: &mut Loader, asked: &ImageAsked, source: &mut S, out: &mut Answer) {
@@ -172,7 +196,7 @@ fn prefixes<R: Files + AllocGlobal>(rt: &R, case: &ImageCase, out: &mut Answer) 
             out.text(" of ");
             out.value(&image.len());
         }
-        Err(error) => out.value(&error),
+        Err(error) => out.refuse_image(&error),
     }
 }
 

@@ -6,12 +6,14 @@ use addr2line_split::{LoadError, MapSource, SplitFile, SplitSource};
 use bytes::Bytes;
 use std::alloc::{AllocError, Global};
 use std::fs;
+use std::io::ErrorKind;
 use std::rt::Files;
 
 /// The bytes of a file.
 pub fn read<R: Files + AllocGlobal>(rt: &R, path: &str) -> Result<Vec<u8>, LoadError> {
     match fs::read(rt, path) {
         Ok(bytes) => Ok(bytes),
+        Err(error) if error.kind() == ErrorKind::OutOfMemory => Err(LoadError::Memory),
         Err(_) => Err(LoadError::Io),
     }
 }
