@@ -64,10 +64,10 @@ shrinks : (limit : ℕ) → Shrinks size (entry_below limit)
 shrinks limit = record { smaller = λ i n le. shrinks_by limit i n (int_lt (pos 0) i.walk.depth) le }
 
 -- the walk after an entry, and the entry with those that it is in
-abbrev walk_after : FunctionWalk → Row → Walk → FunctionWalk
+abbrev pub walk_after : FunctionWalk → Row → Walk → FunctionWalk
 walk_after i r w = record { walk = w; before = r ∷ i.before }
 
-abbrev below_of : FunctionWalk → Row → NestedEntry
+abbrev pub below_of : FunctionWalk → Row → NestedEntry
 below_of i r = record { row = r; outer = enclosing_rows i.walk.depth i.before }
 
 below_there : (limit : ℕ) (i : FunctionWalk) → pos 0 <ℤ i.walk.depth
@@ -77,7 +77,7 @@ below_there limit i some =
     ap (λ b. cond b (entry_of_row i (row_choosing limit (is_call_in (enclosing_rows i.walk.depth i.before)) i.walk))
     (Ok (None, i))) (lt_from (pos 0) i.walk.depth some)
 
-entries-next : (limit : ℕ) (i : FunctionWalk) (r : Row) (w : Walk) → pos 0 <ℤ i.walk.depth
+pub entries-next : (limit : ℕ) (i : FunctionWalk) (r : Row) (w : Walk) → pos 0 <ℤ i.walk.depth
     → row_choosing limit (is_call_in (enclosing_rows i.walk.depth i.before)) i.walk ≡ Ok (r, w)
     → entries_below limit i ≡ prepend (below_of i r ∷ []) (entries_below limit (walk_after i r w))
 unfolding entries_below
@@ -93,7 +93,7 @@ entries-fault limit i e some h =
     listing_next (shrinks limit) i
     ∙ ap (λ x. next_item x (listing_in size (entry_below limit))) (below_there limit i some ∙ ap (entry_of_row i) h)
 
-entries-end : (limit : ℕ) (i : FunctionWalk) → i.walk.depth ≤ℤ pos 0 → entries_below limit i ≡ no_items (Ok i)
+pub entries-end : (limit : ℕ) (i : FunctionWalk) → i.walk.depth ≤ℤ pos 0 → entries_below limit i ≡ no_items (Ok i)
 unfolding entries_below
 entries-end limit i low =
     listing_next (shrinks limit) i

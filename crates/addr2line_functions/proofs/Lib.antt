@@ -1,5 +1,6 @@
 pub use Rattle.addr2line_units.proofs.UnitAnswers
 pub use Rattle.addr2line_units.proofs.UnitViews
+pub use Rattle.addr2line_units.proofs.EntryLevels
 pub use Rattle.addr2line_units.proofs.PendingLoads
 pub mod RangeNumbers
 pub mod PairNumbers

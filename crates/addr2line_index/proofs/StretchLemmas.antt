@@ -1,10 +1,15 @@
 -- Rows between two ends: parts of lists, one element on.
 use Rattle.std.proofs.Common.{◌≡◌, ℕ, suc, zero, ◌+◌, ◌-◌, Bool, true, false, cond, nat_lt, List, [], ◌∷◌, ◌++◌, length, length-drop, map, filter, flat_map, take, drop, refl, sym, ap, ◌∙◌, arith, append_assoc, append-nil}
-use Rattle.std.specs.List.{prefix_len, take_while, insert}
+use Rattle.std.specs.Prelude.{◌==◌, ◌&&◌, ◌||◌, Result, Ok, Err, IfOk}
+use Rattle.std.specs.Cmp.{IsStrictWeakOrder}
+use Rattle.std.specs.List.{prefix_len, take_while}
+use Rattle.std.proofs.lemmas.Bool.Decides.{nat_tests}
 use Rattle.std.proofs.lemmas.List.{take_all}
 use Rattle.std.proofs.lemmas.List.Sums.{take_while-cons}
-use Rattle.addr2line_spec.specs.Orders.{put_in_order, in_order}
-use Rattle.addr2line_spec.specs.Lines.{LineRow, Sequence, rows_to, stretches_of, sequence_between, reaches}
+use Rattle.addr2line_spec.specs.Orders.{in_order}
+use Rattle.addr2line_spec.specs.Lines.{LineRow, Sequence, rows_to, stretches_of, sequence_between, reaches, starts_after}
+use Rattle.addr2line_spec.proofs.PendingLoads.{filter_twice}
+use Rattle.addr2line_index.proofs.SortedOrder.{in_order-filter}
 
 -- ---- rows
 
@@ -30,46 +35,37 @@ between_from files low high s first e h =
 
 -- ---- order
 
-pub put_in_order-insert : {X : Type 0} (comes_after : X → X → Bool) (x : X) (ys : List X)
-    → insert ys (prefix_len (comes_after x) ys) x ≡ put_in_order comes_after x ys
-put_in_order-insert comes_after x [] = refl
-put_in_order-insert comes_after x (y ∷ ys) =
-    elim (comes_after x y) as (λ b. insert (y ∷ ys) (cond b (1 + prefix_len (comes_after x) ys) 0) x
-    ≡ cond b (y ∷ put_in_order comes_after x ys) (x ∷ y ∷ ys)) [
-      | true ↦
-          let one : 1 + prefix_len (comes_after x) ys ≡ suc (prefix_len (comes_after x) ys) = omega arith in
-          ap (λ n. insert (y ∷ ys) n x) one ∙ ap (λ l. y ∷ l) (put_in_order-insert comes_after x ys)
-      | false ↦ refl
-    ]
+starts_one_way : (a e b f : ℕ) → (nat_lt a b || (b == a && nat_lt e f)) ≡ true
+    → (nat_lt b a || (a == b && nat_lt f e)) ≡ false
+starts_one_way a e b f h = grind (arith, nat_tests)
 
-insert-map : {X Y : Type 0} (f : X → Y) (xs : List X) (i : ℕ) (x : X)
-    → map f (insert xs i x) ≡ insert (map f xs) i (f x)
-insert-map f xs zero x = refl
-insert-map f [] (suc i) x = refl
-insert-map f (y ∷ ys) (suc i) x = ap (λ l. f y ∷ l) (insert-map f ys i x)
+starts_chain : (a e b f c g : ℕ) → (nat_lt a b || (b == a && nat_lt e f)) ≡ false
+    → (nat_lt b c || (c == b && nat_lt f g)) ≡ false
+    → (nat_lt a c || (c == a && nat_lt e g)) ≡ false
+starts_chain a e b f c g h k = grind (arith, nat_tests)
 
-pub insert-in_order : {X Y : Type 0} (f : X → Y) (comes_after : Y → Y → Bool) (xs : List X) (i : ℕ) (x : X)
-    → i ≡ prefix_len (comes_after (f x)) (map f xs) → map f (insert xs i x) ≡ put_in_order comes_after (f x) (map f xs)
-insert-in_order f comes_after xs i x e =
-    insert-map f xs i x ∙ ap (λ n. insert (map f xs) n (f x)) e ∙ put_in_order-insert comes_after (f x) (map f xs)
+-- sequences by their starts and ends, through a view
+abbrev pub starts_before : {X : Type 0} → (X → Sequence) → X → X → Bool
+starts_before view x y = starts_after (view y) (view x)
 
--- some put in order before others, which are in order
-abbrev pub insert_all : {X : Type 0} → (X → X → Bool) → List X → List X → List X
-insert_all comes_after [] sorted = sorted
-insert_all comes_after (x ∷ xs) sorted = put_in_order comes_after x (insert_all comes_after xs sorted)
+pub starts_is_order : {X : Type 0} (view : X → Sequence) → IsStrictWeakOrder (starts_before view)
+starts_is_order view = record {
+  one_way = λ x y h. starts_one_way (view x).start (view x).end (view y).start (view y).end h;
+  chain = λ x y z h k.
+      starts_chain (view x).start (view x).end (view y).start (view y).end (view z).start (view z).end h k;
+}
 
-pub insert_all-append : {X : Type 0} (comes_after : X → X → Bool) (xs : List X) (x : X) (sorted : List X)
-    → insert_all comes_after (xs ++ x ∷ []) sorted ≡ insert_all comes_after xs (put_in_order comes_after x sorted)
-insert_all-append comes_after [] x sorted = refl
-insert_all-append comes_after (y ∷ ys) x sorted =
-    ap (put_in_order comes_after y) (insert_all-append comes_after ys x sorted)
+-- what reaches between two ends, in order, is found among what does
+pub reaching_in_order : (keep : Sequence → Bool) (ss : List Sequence)
+    → filter keep (in_order starts_after (filter keep ss)) ≡ filter keep (in_order starts_after ss)
+reaching_in_order keep ss =
+    ap (filter keep) (in_order-filter (starts_before (λ s. s)) (starts_is_order (λ s. s)) keep ss)
+    ∙ filter_twice keep (in_order starts_after ss)
 
-pub insert_all-nil : {X : Type 0} (comes_after : X → X → Bool) (xs : List X)
-    → insert_all comes_after xs [] ≡ in_order comes_after xs
-insert_all-nil comes_after [] = refl
-insert_all-nil comes_after (x ∷ xs) = ap (put_in_order comes_after x) (insert_all-nil comes_after xs)
-
--- ---- lists joined
+-- what follows from the value, where there is one
+pub if_ok-follows : {T E : Type 0} {P Q : T → Type 0} (r : Result T E) → ((x : T) → P x → Q x) → IfOk r P → IfOk r Q
+if_ok-follows (Ok x) f h = f x h
+if_ok-follows (Err e) f h = tt
 
 -- what is joined of those that pass a test
 abbrev pub parts_of_filter : {X A : Type 0} → (X → Bool) → (X → List A) → List X → List A

@@ -1,7 +1,8 @@
 //! The rows between two ends.
 
-ghost use Rattle.std.specs.Prelude.{◌≡◌, ◌≤◌, ◌-◌, ◌++◌, ◌∷◌, length, [], map, filter, flat_map, nat_lt, OnOk, IfOk, IfErr, if◌then◌else◌};
-ghost use Rattle.std.specs.List.{prefix_len, take_while};
+ghost use Rattle.std.specs.Prelude.{◌≡◌, ◌-◌, ◌++◌, ◌∷◌, length, [], map, filter, flat_map, nat_lt, OnOk, IfOk, IfErr, if◌then◌else◌};
+ghost use Rattle.std.specs.List.{take_while};
+ghost use Rattle.std.specs.Ordering.{is_lt};
 ghost use Rattle.addr2line_spec.specs.Error.TheVariants.{Memory};
 ghost use Rattle.addr2line_spec.specs.Orders.{in_order};
 ghost use Rattle.addr2line_spec.specs.Lines.{next_address, stretches_of, sequence_between, starts_after, reaches, lines_between};
@@ -12,6 +13,7 @@ use crate::location::LineStretch;
 use crate::sequence::{LineRow, LineSequence, rows_to};
 use addr2line_spec::Error;
 use std::alloc::Global;
+use std::cmp::Ordering;
 
 // Where a row ends, from the rows after it.
 fn next_address(rows: &[LineRow], end: u64) -> u64
@@ -89,48 +91,51 @@ fn push_sequence<'a>(
     }
 }
 
-// Whether a sequence starts after another, or with it and ends after it.
-fn starts_after(sequence: &LineSequence, other: &LineSequence) -> bool
-    ensures { result ≡ starts_after sequence.now other.now }
+// How the second of two sequences compares to the first: by their starts, and then by their ends.
+fn compare(first: &LineSequence, second: &LineSequence) -> Ordering
+    ensures { is_lt result ≡ starts_after second.now first.now }
 {
-    other.start < sequence.start || (sequence.start == other.start && other.end < sequence.end)
+    first
+        .start
+        .cmp(&second.start)
+        .then(first.end.cmp(&second.end))
 }
 
-// Where a sequence belongs among sequences in order.
-fn insertion_index(sorted: &[&LineSequence], sequence: &LineSequence) -> usize
-    ensures counted { result
-        ≡ prefix_len (starts_after sequence.now) (map (λ s. s.now) sorted.now) }
-    ensures within { result ≤ length sorted.now }
-{
-    let mut left = sorted;
-    let mut count = 0;
-    while let [other, rest @ ..] = left {
-        if !starts_after(sequence, other) {
-            return count;
-        }
-        count += 1;
-        left = rest;
-    }
-    count
-}
-
-// The sequences by their starts, those of one start by their ends, and those of one end in their
-// old order.
-fn in_order<'a>(
+// The sequences that reach between two ends.
+fn reaching<'a>(
     alloc: Global,
     sequences: &'a [LineSequence],
+    low: u64,
+    high: u64,
 ) -> Result<Vec<&'a LineSequence>, Error>
     ensures ok { IfOk result
-        (λ sorted. map (λ s. s.now) sorted.items ≡ in_order starts_after sequences.now) }
+        (λ found. map (λ s. s.now) found.items ≡ filter (reaches low high) sequences.now) }
     ensures refusal { IfErr result (λ e. e ≡ Memory) }
 {
-    let mut sorted = Vec::new(alloc);
+    let mut found = Vec::new(alloc);
     let mut left = sequences;
-    while let Some((last, rest)) = left.split_last() {
-        let place = insertion_index(sorted.as_slice(), last);
-        sorted.insert(place, last)?;
+    while let [sequence, rest @ ..] = left {
+        if sequence.start < high && low < sequence.end {
+            found.push(sequence)?;
+        }
         left = rest;
     }
+    Ok(found)
+}
+
+// Sequences by their starts, those of one start by their ends, and those of one end in their old
+// order.
+fn in_order<'a>(sequences: Vec<&'a LineSequence>) -> Result<Vec<&'a LineSequence>, Error>
+    ensures ok { IfOk result (λ sorted. map (λ s. s.now) sorted.items
+        ≡ in_order starts_after (map (λ s. s.now) sequences.entry.items)) }
+    ensures refusal { IfErr result (λ e. e ≡ Memory) }
+{
+    let mut sorted = sequences;
+    sorted.sort_by(
+        |first: &&LineSequence, second: &&LineSequence| -> Ordering
+            ensures { is_lt result ≡ starts_after second.now.now first.now.now }
+        { compare(first, second) },
+    )?;
     Ok(sorted)
 }
 
@@ -170,7 +175,8 @@ impl Lines {
             (λ found. map stretch_of found.items ≡ lines_between self.now low high) }
         ensures refusal { IfErr result (λ e. e ≡ Memory) }
     {
-        let sorted = in_order(alloc, self.sequences())?;
+        let found = reaching(alloc, self.sequences(), low, high)?;
+        let sorted = in_order(found)?;
         stretches(alloc, self, sorted.as_slice(), low, high)
     }
 }

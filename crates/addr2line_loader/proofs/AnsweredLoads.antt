@@ -59,7 +59,8 @@ module _ {S : Type 0} (answers : S → List ℕ → List ℕ → Result (Option 
     abbrev pub AnsweredTo : LoadState S → Type 0
     AnsweredTo after = (files : List (Option DwarfFile)) × AnswersLoads answers c a old files after
 
-    module _ (other : FileContext) (same : other ≡ c) (last mid : LoadState S) (is : mid ≡ last) (loads : AnsweredTo last)
+    module _ (other : FileContext) (same : other ≡ c) (last mid : LoadState S) (is : mid ≡ last)
+        (loads : AnsweredTo last)
         (after : LoadState S) where
       one_more : (file : Option DwarfFile) → AnswersLoad answers other a mid file after → AnsweredTo after
       one_more file load =

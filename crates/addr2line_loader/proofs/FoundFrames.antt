@@ -21,7 +21,8 @@ module _ {S F : Type 0} (answers : S → List ℕ → List ℕ → Result (Optio
       (same : answered.plain ≡ inside.context)
       (all : AnswersAllOrNoMemory answers inside.context a (load_state inside source) (Ok tt)
       (record { answers = answered.answers; source = source_after }))
-      (plain : FileContext) (first : FirstAnswers) (plain_is : plain ≡ answered.plain) (first_is : first ≡ answered.answers)
+      (plain : FileContext) (first : FirstAnswers) (plain_is : plain ≡ answered.plain)
+      (first_is : first ≡ answered.answers)
       (r : Result F Error) (found : GivesDecided see r (frames_in answered a)) where
     abbrev asked : FirstAnswers → LoadState S
     asked x = record { answers = x; source = source_after }
@@ -32,7 +33,8 @@ module _ {S F : Type 0} (answers : S → List ℕ → List ℕ → Result (Optio
         subst (λ x. FindsFrames answers a see x source r (with_context inside plain first) source_after) is (record {
           same = ap (λ x. with_context inside x first) (plain_is ∙ same);
           finds =
-              finds_decided answers a inside.context (load_state inside source) see (asked answered.answers) (asked first)
+              finds_decided answers a inside.context (load_state inside source) see (asked answered.answers)
+              (asked first)
               (ap asked first_is) all r
               (subst (λ x. GivesDecided see r (frames_by_answers x a answered.answers)) same found);
         })

@@ -143,8 +143,9 @@ impl<R: Reader, P: LineProgram<R> + Drop> LineRows<R, P> {
         }
     }
 
-    // Executes instructions up to the next row that is shown, and says whether there is one; else up
-    // to the first whose operands aren't numbers or that is refused, or to the end of the program.
+    // Executes instructions up to the next row that is shown, and says whether there is one; else
+    // up to the first whose operands aren't numbers or that is refused, or to the end of the
+    // program.
     fn run_to_row(&mut self) -> bool
         ensures { RunsToRow R.Offset.limit result self.old self.new }
     {

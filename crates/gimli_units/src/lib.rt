@@ -17,7 +17,7 @@ pub use gimli_units_lists::{
 /// What holds of the definitions, as contracts.
 pub mod laws {
     pub use gimli_units_entries::{
-        bytes_are_small_numbers, entry_laws as entries, skipping_follows_reading,
+        bytes_are_small_numbers, entry_laws as entries, skipping_follows_reading, skips_by_runs,
     };
 }
 

@@ -21,7 +21,7 @@ pub use gimli_core_base::{
     SectionId,
 };
 pub use gimli_units_forms::attribute::bytes_are_small_numbers;
-pub use gimli_units_forms::skipping::skipping_follows_reading;
+pub use gimli_units_forms::skipping::{skipping_follows_reading, skips_by_runs};
 pub use gimli_units_forms::{
     Attribute, AttributeValue, Spelling, parse_attribute, skip_attributes, spelling_of,
 };

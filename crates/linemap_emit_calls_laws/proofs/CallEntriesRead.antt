@@ -28,7 +28,7 @@ use Rattle.addr2line_functions.specs.InlinedCalls.{Call as FoundCall, FunctionWa
 use Rattle.linemap_frames_laws.specs.CallAgreement.{OneByOne, CallAgrees, CallsAgree, calls_at_depth}
 use Rattle.linemap_emit_calls_laws.specs.RecordedFunctions.{CallReferences, no_references, more_references, entries_of_calls, RecordsCall, RecordsCalls}
 use Rattle.linemap_emit_calls_laws.proofs.EntryDepths.{deeper, less_deep, enclosing-same, enclosing-more}
-use Rattle.linemap_emit_calls_laws.proofs.EntriesBelow.{entries-next}
+use Rattle.addr2line_functions.proofs.CallEntrySteps.{entries-next}
 
 -- ---- lists
 

@@ -1,14 +1,9 @@
 -- The depths of entries, and the entries that enclose one of a depth.
-use Rattle.std.proofs.Common.{◌≡◌, ℕ, ◌+◌, ℤ, pos, ◌+ℤ◌, ◌-ℤ◌, ◌≤ℤ◌, ◌<ℤ◌, int_lt, true, false, cond, List, ◌∷◌, ap, arith}
+use Rattle.std.proofs.Common.{◌≡◌, ℕ, ◌+◌, ℤ, pos, ◌+ℤ◌, ◌-ℤ◌, ◌≤ℤ◌, ◌<ℤ◌, cond, List, ◌∷◌, ap, arith}
 use Rattle.std.proofs.lemmas.Int.{ints}
 use Rattle.addr2line_functions.specs.EntryRows.{Row}
 use Rattle.addr2line_functions.specs.InlinedCalls.{enclosing_rows}
-
-pub lt_from : (a b : ℤ) → a <ℤ b → int_lt a b ≡ true
-lt_from a b h = grind (arith, ints)
-
-pub not_lt_from : (a b : ℤ) → b ≤ℤ a → int_lt a b ≡ false
-not_lt_from a b h = grind (arith, ints)
+use Rattle.addr2line_functions.proofs.EntryLevels.{lt_from, not_lt_from}
 
 pub deeper : (n : ℕ) → (pos n +ℤ pos 1) ≡ pos (n + 1)
 deeper n = omega (arith, ints)

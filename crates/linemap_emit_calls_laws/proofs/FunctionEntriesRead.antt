@@ -44,7 +44,7 @@ use Rattle.linemap_frames_laws.specs.CallAgreement.{CallsAgree, EntryAgrees, Fun
 use Rattle.linemap_emit_calls_laws.specs.RecordedFunctions.{CallReferences, no_references, more_references, FunctionReferences, end_of_children, entries_of_calls, entries_of_function, entries_of_functions, RecordsCalls, RecordsFunction, AllRecorded, RecordsFunctions}
 use Rattle.linemap_emit_calls_laws.specs.FunctionLaws.{written_facts}
 use Rattle.linemap_emit_calls_laws.proofs.EntryDepths.{deeper}
-use Rattle.linemap_emit_calls_laws.proofs.EntriesBelow.{entries-end}
+use Rattle.addr2line_functions.proofs.CallEntrySteps.{entries-end}
 use Rattle.linemap_emit_calls_laws.proofs.EntryFacts.{function_ranges, function_name, call_read}
 use Rattle.linemap_emit_calls_laws.proofs.OriginNames.{origin_name}
 use Rattle.linemap_emit_calls_laws.proofs.CallEntriesRead.{ReadsCalls, calls_read, children_end, inside, nested_entry, no_call, filter-append}

@@ -2,7 +2,6 @@ pub use Rattle.linemap_frames_laws.proofs.AgreeingFunctions
 pub use Rattle.linemap_frames_laws.proofs.AgreeingFrames
 pub use Rattle.linemap_frames_laws.proofs.TableFrames
 pub mod EntryDepths
-pub mod EntriesBelow
 pub mod EntryFacts
 pub mod OriginNames
 pub mod CallEntriesRead

@@ -26,7 +26,8 @@ loop-context-preserved g c =
       answers_more g.S.SplitSource.answers c.args.probe c.args.context.now.value.plain
           (record { answers = c.args.context.now.value.answers; source = c.args.source.now })
           c.frames_wait.new.context.value.plain same _ _
-          (ap asked (ap (λ (x : AnsweredContext). x.answers) c.frames_wait.ensures.after.value)) c.loop-context.invariant.1 _
+          (ap asked (ap (λ (x : AnsweredContext). x.answers) c.frames_wait.ensures.after.value))
+          c.loop-context.invariant.1 _
           c.in_ok-answer_next.ensures.loads,
     )
 
@@ -39,7 +40,8 @@ returns-in_err-answer_next-clause-loads g c =
     (record { answers = c.args.context.now.value.answers; source = c.args.source.now })
     c.frames_wait.new.context.value.plain
     (ap (λ (x : AnsweredContext). x.plain) c.frames_wait.ensures.after.value ∙ c.loop-context.invariant.0) _ _
-    (ap asked (ap (λ (x : AnsweredContext). x.answers) c.frames_wait.ensures.after.value)) c.loop-context.invariant.1 _ _
+    (ap asked (ap (λ (x : AnsweredContext). x.answers) c.frames_wait.ensures.after.value))
+    c.loop-context.invariant.1 _ _
     c.in_err-answer_next.ensures.loads)
 
 pub returns-clause-loads : goal.returns-clause-loads

@@ -33,8 +33,8 @@ returns-clause-loads g c =
     let is = first_load_is c.args.context.now.value c.args.probe c.requires c.in_ok-load.load c.in_ok-load.ensures in
     let got = c.in_ok-file.ensures.file in
     let file = option_map (λ d. d.value.file) c.in_ok-file.file in
-    answers_one g.S.SplitSource.answers c.args.probe c.args.context.now.value c.answer_first.new.context.value c.args.source.now
-    c.load_split.new.source file c.requires
+    answers_one g.S.SplitSource.answers c.args.probe c.args.context.now.value c.answer_first.new.context.value
+    c.args.source.now c.load_split.new.source file c.requires
     (subst (λ l. GetsFile g.S.SplitSource.answers l c.args.source.now (Ok file) c.load_split.new.source) (sym is)
     (subst (λ f. GetsFile g.S.SplitSource.answers c.in_ok-load.load c.args.source.now f c.load_split.new.source) got.2
     got.1))
@@ -42,5 +42,6 @@ returns-clause-loads g c =
 
 pub returns-clause-fewer : goal.returns-clause-fewer
 returns-clause-fewer g c =
-    fewer_loads_of_frames c.args.context.now.value c.answer_first.new.context.value c.args.probe c.answer_first.result c.requires
+    fewer_loads_of_frames c.args.context.now.value c.answer_first.new.context.value c.args.probe c.answer_first.result
+    c.requires
     c.answer_first.ensures.fewer

@@ -10,5 +10,5 @@ pub returns : goal.returns
 returns c =
     rw list_any_map
     (any_from_yields_List
-    (λ x. let y = sequence_part x in list_any (λ r. nat_le c.args.limit r.address) y.rows || nat_le c.args.limit y.end) _ _ _ c.any.ensures.ran
-    (YieldsList-from_slice c.args.sequences.now cc) (λ x b q k. search (rules, tests)))
+    (λ x. let y = sequence_part x in list_any (λ r. nat_le c.args.limit r.address) y.rows || nat_le c.args.limit y.end)
+    _ _ _ c.any.ensures.ran (YieldsList-from_slice c.args.sequences.now cc) (λ x b q k. search (rules, tests)))

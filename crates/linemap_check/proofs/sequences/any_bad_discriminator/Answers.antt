@@ -10,5 +10,6 @@ use Rattle.linemap_check.proofs.sequences.any_bad_discriminator.Goals as goal
 pub returns : goal.returns
 returns c =
     rw list_any_map
-    (any_from_yields_List (λ x. let y = sequence_part x in list_any (λ r. is_bad_discriminator r.discriminator) y.rows) _
-    _ _ c.any.ensures.ran (YieldsList-from_slice c.args.sequences.now cc) (λ x b q k. search (rules, tests)))
+    (any_from_yields_List
+    (λ x. let y = sequence_part x in list_any (λ r. is_bad_discriminator r.discriminator) y.rows)
+    _ _ _ c.any.ensures.ran (YieldsList-from_slice c.args.sequences.now cc) (λ x b q k. search (rules, tests)))

@@ -19,7 +19,8 @@ returns g c =
               answers = c.self.inside.context.value.answers;
             })
             c.answer_loads.new.context.value c.answer_loads.new.source c.answer_loads.ensures.plain
-            c.in_ok-answer_loads.ensures.loads left.value.plain left.value.answers (ap (λ (x : AnsweredContext). x.plain) rest.value)
+            c.in_ok-answer_loads.ensures.loads left.value.plain left.value.answers
+            (ap (λ (x : AnsweredContext). x.plain) rest.value)
             (ap (λ (x : AnsweredContext). x.answers) rest.value) _
             c.find_decided_frames.ensures.found c.args.self.now c.self.view_is,
       ),
