@@ -3,18 +3,20 @@
 
 usage: bench/fuzz.py MINUTES [FOLDER]
 
-The seeds are what is emitted of tables, in each of the 28 targets, the files of addr2line_cases, and the images of
-FOLDER. They are mutated: bits are flipped, bytes cut out, put in and copied from other seeds, numbers set to extremes.
-Two things are done with them, in turn, until the time is up:
+The seeds are what is emitted of tables, in each of the 28 targets, the files of addr2line_cases, and the images of FOLDER. They are mutated: bits are
+flipped, bytes cut out, put in and copied from other seeds, numbers set to extremes. Three things are done with them, in
+turn, until the time is up:
 
 - sections: thousands of files go through one process of `addr2line_cases`, each through both readers and all three
   constructors; what it answers must be what tests/model.py computes.
 - images: the same for images in memory, through a loader. Where the image is whole and its sections alone are damaged,
   the answers must be the model's.
+- lookup: `linemap lookup` reads the image of a file, and its answers must be the model's too.
 
 A process may take 10 seconds for a file, and 30 times its size and 100 MB; it must end with status 0 or 1. What doesn't
 hold is written to the folder FINDS (./finds where it isn't set), and counted. The variable SEED begins elsewhere.
-CASES and LINEMAP name other programs; where LINEMAP is empty, the seeds come from SECTIONS, a folder of images.
+CASES and LINEMAP name other programs; where LINEMAP is empty there are no lookups, and the seeds come from SECTIONS, a
+folder of images.
 """
 import itertools
 import json
@@ -260,7 +262,7 @@ class Fuzzer:
         self.seeds, self.folder, self.random = [*{it.image: it for it in seeds}.values()], folder, random
         self.small = [it for it in self.seeds if it.is_small]
         self.little = [it for it in self.small if not it.big]
-        self.ran = dict.fromkeys(("sections", "images"), 0)
+        self.ran = dict.fromkeys(("sections", "images", "lookups"), 0)
         self.finds = 0
 
     def find(self, why, text, *files):
@@ -357,8 +359,33 @@ class Fuzzer:
             return [(it, f"L8 {model.made.args[0]}") for it, _ in asked]
         return asked
 
+    def lookups(self):
+        """Damaged images, each through the program."""
+        for _ in range(20):
+            is_whole = self.random.randrange(2)
+            seed = self.random.choice(self.small if is_whole else self.seeds)
+            image = mutate(self.random, seed.image, [it.image for it in self.random.sample(self.seeds, 2)])
+            if is_whole:
+                image = image_of(damaged(self.random, seed, self.small), seed.wide, seed.big)
+            with open(f"{self.folder}/image", "wb") as file:
+                file.write(image)
+            asked = addresses(self.random, seed)
+            words = [LINEMAP, "lookup", "-e", "image", "-a", "-f", "-i", *(f"{it:x}" for it in asked)]
+            most = MEGABYTES + FACTOR * len(image) / 1e6
+            run = Process(words, b"", SECONDS, most, self.folder)
+            all_ = Process([LINEMAP, "lookup", "-e", "image", "--all"], b"", SECONDS, most, self.folder)
+            why = run.fault((0, 1)) or all_.fault((0, 1))
+            if not why and is_whole:
+                wanted = program_answer(model_of(image), asked)
+                if (run.status, run.out) != wanted:
+                    why = f"answered\n{run.out}\nand not\n{wanted[1]}"
+            if why:
+                self.find(why, " ".join(words).encode(), image)
+            self.ran["lookups"] += 1
+
     def run(self):
-        for step in itertools.cycle((self.sections, self.images)):
+        steps = [self.sections, self.images] + ([self.lookups] if LINEMAP else [])
+        for step in itertools.cycle(steps):
             step()
             if time.monotonic() > self.end:
                 return
@@ -383,6 +410,30 @@ def questions(model, asked, is_loader=False):
         found.append((f"unit {asked[0]:#x}", model.unit(asked[0])))
         found += [("lines", model.all_lines()), ("functions", model.all_functions()), ("calls", model.all_calls())]
     return found
+
+
+def program_answer(model, asked):
+    """The status and the output of `lookup -a -f -i`, where there are no symbols."""
+    if isinstance(model.made, Refused):
+        return 1, ""
+    text = ""
+    for address in asked:
+        text += f"0x{address:016x}\n"
+        try:
+            frames = model.find_frames(address)
+        except Refused:
+            frames = []
+        for name, _, place in frames or [(None, None, None)]:
+            text += ("??" if name is None else name.decode("utf-8", "replace")) + "\n" + location_line(place) + "\n"
+    return 0, text
+
+
+def location_line(place):
+    if place is None:
+        return "??:0"
+    file, line, _, _, discriminator = place
+    text = f"{'??' if file is None else file.decode()}:{'?' if line is None else line}"
+    return text + (f" (discriminator {discriminator})" if discriminator else "")
 
 
 def main():

@@ -24,8 +24,8 @@ pub use Rattle.linemap_text.specs.SectionAnswers
 pub use Rattle.linemap_text.specs.SectionBytesById
 pub use Rattle.linemap_text.specs.ErrorLine
 pub use Rattle.linemap_text.specs.WriterBytes
-pub use Rattle.linemap_text.specs.CommandLine
-pub use Rattle.linemap_text.specs.WordsRequest
-pub use Rattle.linemap_text.specs.WordsStatus
+pub use Rattle.linemap_words.specs.CommandLine
+pub use Rattle.linemap_words.specs.WordsRequest
+pub use Rattle.linemap_words.specs.WordsStatus
 pub use Rattle.linemap_text.specs.Ask
-pub use Rattle.linemap_text.specs.Explain
+pub use Rattle.linemap_words.specs.Explain

@@ -2,11 +2,17 @@
 //! units, asked for addresses, and emitted as debug information.
 #![tactic(auto)]
 
-pub use linemap_text::{
-    EmitError, Ended, Request, Rule, Sections, Table, TableCall, TableError, TableFile,
-    TableFunction, TableRange, TableRow, TableSequence, TableUnit, Target, WordsError, ask,
-    cannot_read, emit_sections, explain, out_of_memory, read_words, words_not_text,
+pub use linemap_commands::{cannot_load, cannot_write, emission, emit, no_such_target, target_of};
+pub use linemap_lookup::{FileSource, LoadError, read_file, run};
+pub use linemap_replay::{
+    Answer, Call, OwnedFrame, OwnedLocation, OwnedName, OwnedStretch, OwnedUnit, replay,
 };
+pub use linemap_text::{
+    EmitError, Ended, Rule, Sections, Table, TableCall, TableError, TableFile, TableFunction,
+    TableRange, TableRow, TableSequence, TableUnit, Target, ask, cannot_read, emit_sections,
+    out_of_memory, words_not_text,
+};
+pub use linemap_words::{Options, Request, WordsError, explain, read_words};
 
 #[cfg(test)]
 mod tests;

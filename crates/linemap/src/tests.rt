@@ -4,6 +4,7 @@ mod fake;
 mod faults;
 mod places;
 mod refusals;
+mod replays;
 mod rules;
 mod sections;
 mod tables;

@@ -4,10 +4,12 @@
 
 mod ended;
 mod error_line;
+pub mod options;
 mod writing;
 
 pub use ended::Ended;
 pub use error_line::{
     cannot_read, fail, out_of_memory, output_failed, words_not_text, write_error_line,
 };
+pub use options::Options;
 pub use writing::{MAX_INTERRUPTIONS, WriteFault, flush, write_bytes, write_text};

@@ -1,20 +1,31 @@
 //! The program `linemap`: command line, files and streams round the crate of that name.
 #![tactic(auto)]
 
-use linemap::{Request, ask, cannot_read, explain, out_of_memory, read_words, words_not_text};
-use std::io::{ErrorKind, Write};
+use linemap::{
+    FileSource, LoadError, Options, Request, Target, ask, cannot_load, cannot_read, cannot_write,
+    emission, explain, no_such_target, out_of_memory, read_file, read_words, run, target_of,
+    words_not_text,
+};
+use std::io::{BufReader, BufWriter, ErrorKind, Lock, Write};
 use std::process::ExitCode;
 use std::rt::{Env, Files};
 use std::{env, fs, io};
 
 fn main(rt: HostRuntime) -> ExitCode {
-    let mut out = rt.stdout();
     let mut err = rt.stderr();
-    ExitCode::from(run(&rt, &mut out, &mut err))
+    let status = match BufWriter::new(rt.alloc(), rt.stdout().lock()) {
+        Ok(mut out) => start(&rt, &mut out, &mut err),
+        Err(_) => out_of_memory(&mut err).status,
+    };
+    ExitCode::from(status)
 }
 
 // Does what the words of the command line ask for, and returns the exit status.
-fn run<R: Env + Files + AllocGlobal, O: Write, E: Write>(rt: &R, out: &mut O, err: &mut E) -> u8 {
+fn start<R: Env + Files + Input + AllocGlobal, O: Write, E: Write>(
+    rt: &R,
+    out: &mut O,
+    err: &mut E,
+) -> u8 {
     match words_of(rt) {
         Ok(words) => obey(rt, &words, out, err),
         Err(error) if error.kind() == ErrorKind::OutOfMemory => out_of_memory(err).status,
@@ -29,29 +40,124 @@ fn words_of<R: Env + AllocGlobal>(rt: &R) -> io::Result<Vec<String>> {
 }
 
 // Does what the words ask for, or explains why they are no request.
-fn obey<R: Files + AllocGlobal, O: Write, E: Write>(
+fn obey<R: Files + Input + AllocGlobal, O: Write, E: Write>(
     rt: &R,
     words: &[String],
     out: &mut O,
     err: &mut E,
 ) -> u8 {
     match read_words(rt.alloc(), words) {
-        Ok(Request::Ask { table, words }) => ask_file(rt, &table, &words, out, err),
+        Ok(Request::Ask { table, words }) => ask_table(rt, &table, &words, out, err),
+        Ok(
+            Request::Emit {
+                table,
+                out,
+                dwarf,
+                bits,
+                size,
+                big,
+            },
+        ) => match target_of(dwarf, bits, size, big) {
+            Some(target) => emit_table(rt, &table, &out, target, err),
+            None => no_such_target(err).status,
+        },
+        Ok(Request::Lookup { exe, sup, options }) => look_up(rt, &exe, sup, &options, out, err),
         Err(error) => explain(rt.alloc(), &error, out, err).status,
     }
 }
 
+// The text of a table's file, or the status after an error line.
+fn text_of<R: Files + AllocGlobal, E: Write>(
+    rt: &R,
+    table: &str,
+    err: &mut E,
+) -> Result<Vec<u8>, u8> {
+    match fs::read(rt, table) {
+        Ok(text) => Ok(text),
+        Err(error) if error.kind() == ErrorKind::OutOfMemory => Err(out_of_memory(err).status),
+        Err(_) => Err(cannot_read(err, table).status),
+    }
+}
+
 // Answers the words by the table in a file.
-fn ask_file<R: Files + AllocGlobal, O: Write, E: Write>(
+fn ask_table<R: Files + AllocGlobal, O: Write, E: Write>(
     rt: &R,
     table: &str,
     words: &[String],
     out: &mut O,
     err: &mut E,
 ) -> u8 {
-    match fs::read(rt, table) {
+    match text_of(rt, table, err) {
         Ok(text) => ask(rt.alloc(), &text, words, out, err).status,
+        Err(status) => status,
+    }
+}
+
+// Writes the image of the table in a file. The image is whole before its file is made.
+fn emit_table<R: Files + AllocGlobal, E: Write>(
+    rt: &R,
+    table: &str,
+    out: &str,
+    target: Target,
+    err: &mut E,
+) -> u8 {
+    let text = match text_of(rt, table, err) {
+        Ok(text) => text,
+        Err(status) => return status,
+    };
+    let image = match emission(rt.alloc(), &text, target, err) {
+        Ok(image) => image,
+        Err(ended) => return ended.status,
+    };
+    match fs::write(rt, out, &image) {
+        Ok(()) => 0,
         Err(error) if error.kind() == ErrorKind::OutOfMemory => out_of_memory(err).status,
-        Err(_) => cannot_read(err, table).status,
+        Err(_) => cannot_write(err, out).status,
+    }
+}
+
+// Looks addresses up in a file.
+fn look_up<R: Files + Input + AllocGlobal, O: Write, E: Write>(
+    rt: &R,
+    exe: &str,
+    sup: Option<String>,
+    options: &Options,
+    out: &mut O,
+    err: &mut E,
+) -> u8 {
+    let image = match read_file(rt, exe) {
+        Ok(image) => image,
+        Err(error) => return refuse(err, error),
+    };
+    let supplement = match sup {
+        Some(path) => match read_file(rt, path.as_str()) {
+            Ok(bytes) => Some(bytes),
+            Err(error) => return refuse(err, error),
+        },
+        None => None,
+    };
+    let mut lines = match BufReader::new(rt.alloc(), rt.reader()) {
+        Ok(lines) => lines,
+        Err(_) => return out_of_memory(err).status,
+    };
+    let source = FileSource::new(rt);
+    run(
+        rt.alloc(),
+        options,
+        image,
+        supplement,
+        source,
+        &mut lines,
+        out,
+        err,
+    )
+    .status
+}
+
+// Ends after a file that is not read.
+fn refuse<E: Write>(err: &mut E, error: LoadError) -> u8 {
+    match error {
+        LoadError::Memory => out_of_memory(err).status,
+        _ => cannot_load(err).status,
     }
 }

@@ -24,10 +24,6 @@ pub use Rattle.linemap_emit.specs.ShapeFaults
 pub use Rattle.linemap_emit.specs.TableErrorCodes
 pub use Rattle.linemap_emit.specs.TableInText
 pub use Rattle.linemap_emit.specs.TableUnits
-pub use Rattle.linemap_words.specs.CommandLine
-pub use Rattle.linemap_words.specs.WordsRequest
-pub use Rattle.linemap_words.specs.WordsStatus
 pub mod Ask
-pub mod Explain
 pub mod WordTexts
 pub mod WordLaws

@@ -2,7 +2,6 @@
 #![tactic(auto)]
 
 mod engine;
-mod explanation;
 pub mod section_readers;
 mod stops;
 pub mod table_contexts;
@@ -11,13 +10,11 @@ pub mod word_lines;
 
 pub use addr2line_context::{Context, Dwarf, EndianSlice, Error, Format, RunTimeEndian, SectionId};
 pub use engine::ask;
-pub use explanation::explain;
 pub use linemap_emit::{
     EmitError, Rule, Sections, Table, TableCall, TableError, TableFile, TableFunction, TableRange,
     TableRow, TableSequence, TableUnit, Target, emit_sections,
 };
 pub use linemap_output::{Ended, cannot_read, out_of_memory, words_not_text};
-pub use linemap_words::{Request, WordsError, read_words};
 pub use section_readers::dwarf_of;
 pub use table_contexts::context_of;
 pub use word_lines::{place_line, word_line};

@@ -1,3 +1,4 @@
 pub mod CommandLine
+pub mod Explain
 pub mod WordsRequest
 pub mod WordsStatus

@@ -1,38 +1,109 @@
 -- How a request relates to the matches that `clap` finds.
-use Rattle.std.specs.Prelude.{◌≡◌, ◌≢◌, ◌⊎◌, List, [], Option, None, Some, IsSomeAnd, ⊤, codes, map, string_bytes}
-use Rattle.clap.specs.Words.{IsAmong, Kinds, Row, Text, all_of, first_of, kind_of}
+use Rattle.std.specs.Prelude.{◌≡◌, ◌≢◌, ◌⊎◌, ◌<◌, ◌^◌, ℕ, List, [], Bool, false, Option, None, Some, IsSome, IsSomeAnd, IsTrue, ⊤, Vec, String, codes, map, option_map, string_bytes}
+use Rattle.std.specs.declared.alloc.Global.{Global}
+use Rattle.std.specs.Option.{option_map_or}
+use Rattle.std.specs.Str.{bytes_eq}
+use Rattle.std.specs.Str.Parse.{IsNumeral, digits_value, without_leading_plus}
+use Rattle.clap.specs.Words.{IsAmong, Kinds, Row, Text, all_of, first_of, kind_of, one_of}
 use Rattle.clap.specs.declared.error.ErrorKind.{ErrorKind}
-use Rattle.clap.specs.declared.error.ErrorKind.TheVariants.{OutOfMemory}
+use Rattle.clap.specs.declared.error.ErrorKind.TheVariants.{ArgumentConflict, MissingRequiredArgument, OutOfMemory}
+use Rattle.linemap_output.specs.declared.options.Options.{Options}
+use Rattle.linemap_words.specs.declared.request.Mismatch.{Mismatch}
+use Rattle.linemap_words.specs.declared.request.Mismatch.TheVariants.{NoMemory, Missing, Conflict}
 use Rattle.linemap_words.specs.declared.request.Request.{Request}
-use Rattle.linemap_words.specs.declared.request.Request.TheVariants.{Ask}
+use Rattle.linemap_words.specs.declared.request.Request.TheVariants.{Ask, Emit, Lookup}
 use Rattle.linemap_words.specs.declared.request.WordsError.{WordsError}
 use Rattle.linemap_words.specs.declared.request.WordsError.TheVariants.{Memory, Fault}
+
+-- the flag is among the matches
+abbrev pub is_set : Text → List Row → Bool
+is_set id rows = option_map_or (λ text. bytes_eq text (codes "true")) (first_of id rows) false
+
+-- the text is a decimal numeral of the number, and may begin with a plus
+abbrev pub IsDecimal : Text → ℕ → Type 0
+IsDecimal text number = IsNumeral 10 (without_leading_plus text)
+    × (digits_value 10 (without_leading_plus text) ≡ number)
+
+-- the option has this number
+abbrev pub HasNumber : Text → List Row → ℕ → Type 0
+HasNumber id rows number = IsSomeAnd (one_of id rows) (λ text. IsDecimal text number)
+
+-- the option has no number of 16 bits
+abbrev pub LacksNumber : Text → List Row → Type 0
+LacksNumber id rows = (number : ℕ) → number < 2 ^ 16 → HasNumber id rows number → ⊥
+
+-- the texts of a list
+abbrev pub texts_of : Vec (String Global) Global → List Text
+texts_of texts = map string_bytes texts.items
+
+-- the options of `lookup` are what the matches hold
+pub record AreOptionsOf (options : Options) (rows : List Row) : Type 0 where
+  pub section : first_of (codes "section") rows ≡ option_map string_bytes options.section
+  pub all : options.all ≡ is_set (codes "all") rows
+  pub functions : options.functions ≡ is_set (codes "functions") rows
+  pub pretty : options.pretty ≡ is_set (codes "pretty-print") rows
+  pub inlines : options.inlines ≡ is_set (codes "inlines") rows
+  pub addresses : options.addresses ≡ is_set (codes "addresses") rows
+  pub basenames : options.basenames ≡ is_set (codes "basenames") rows
+  pub demangle : options.demangle ≡ is_set (codes "demangle") rows
+  pub llvm : options.llvm ≡ is_set (codes "llvm") rows
+  pub statements : options.statements ≡ is_set (codes "statements") rows
+  pub words : all_of (codes "words") rows ≡ option_map texts_of options.words
 
 -- the request has the subcommand's name and what its matches hold
 abbrev pub IsRequestOf : Request → Text × List Row → Type 0
 IsRequestOf (Ask table words) matches = (matches.0 ≡ codes "ask")
     × (first_of (codes "table") matches.1 ≡ Some (string_bytes table))
-    × (all_of (codes "addresses") matches.1 ≡ Some (map string_bytes words.items))
+    × (all_of (codes "words") matches.1 ≡ Some (texts_of words))
+IsRequestOf (Emit table out dwarf bits size big) matches = (matches.0 ≡ codes "emit")
+    × (first_of (codes "table") matches.1 ≡ Some (string_bytes table))
+    × (first_of (codes "out") matches.1 ≡ Some (string_bytes out))
+    × HasNumber (codes "dwarf") matches.1 dwarf × HasNumber (codes "bits") matches.1 bits
+    × HasNumber (codes "size") matches.1 size × (big ≡ is_set (codes "big") matches.1)
+IsRequestOf (Lookup exe sup options) matches = (matches.0 ≡ codes "lookup")
+    × (first_of (codes "exe") matches.1 ≡ Some (string_bytes exe))
+    × (first_of (codes "sup") matches.1 ≡ option_map string_bytes sup)
+    × AreOptionsOf options matches.1
+    -- all addresses are asked for alone
+    × (IsTrue options.all → options.words ≡ None)
 
 -- an error of the parse is out of memory, or a fault of that kind
 abbrev pub IsFault : WordsError → ErrorKind → Type 0
 IsFault Memory kind = kind ≡ OutOfMemory
 IsFault (Fault error) kind = (kind_of error ≡ kind) × (kind ≢ OutOfMemory)
 
+-- the matches of `ask` lack an argument that it requires
+abbrev pub LacksAsk : List Row → Type 0
+LacksAsk rows = (first_of (codes "table") rows ≡ None) ⊎ (all_of (codes "words") rows ≡ None)
+
+-- the matches of `emit` lack an argument that it requires, or a number
+abbrev pub LacksEmit : List Row → Type 0
+LacksEmit rows = (first_of (codes "table") rows ≡ None) ⊎ ((first_of (codes "out") rows ≡ None)
+    ⊎ (LacksNumber (codes "dwarf") rows ⊎ (LacksNumber (codes "bits") rows
+    ⊎ LacksNumber (codes "size") rows)))
+
 -- the matches name no subcommand of the program, or lack an argument that it requires
 abbrev pub LacksRequest : Option (Text × List Row) → Type 0
 LacksRequest None = ⊤
-LacksRequest (Some matches) = (matches.0 ≢ codes "ask")
-    ⊎ ((first_of (codes "table") matches.1 ≡ None) ⊎ (all_of (codes "addresses") matches.1 ≡ None))
+LacksRequest (Some matches) = (matches.0 ≡ codes "ask" → LacksAsk matches.1)
+    × (matches.0 ≡ codes "emit" → LacksEmit matches.1)
+    × (matches.0 ≡ codes "lookup" → first_of (codes "exe") matches.1 ≡ None)
 
--- the request that the matches hold, or none where they lack one
-abbrev pub HoldsRequest : Option Request → Option (Text × List Row) → Type 0
-HoldsRequest None matches = LacksRequest matches
-HoldsRequest (Some request) matches = IsSomeAnd matches (IsRequestOf request)
+-- all addresses are asked for, and some too
+abbrev pub HasConflict : Text × List Row → Type 0
+HasConflict matches = (matches.0 ≡ codes "lookup") × IsTrue (is_set (codes "all") matches.1)
+    × IsSome (all_of (codes "words") matches.1)
+
+-- why matches are no request
+abbrev pub IsMismatch : Mismatch → Option (Text × List Row) → Type 0
+IsMismatch NoMemory matches = ⊤
+IsMismatch Missing matches = LacksRequest matches
+IsMismatch Conflict matches = IsSomeAnd matches HasConflict
 
 -- out of memory; or a fault of a kind that the parse has; or the parse has none, and its matches
--- lack a request
+-- lack a request, or are in conflict
 abbrev pub IsRefusal : WordsError → Kinds → Option (Text × List Row) → Type 0
 IsRefusal Memory kinds matches = ⊤
-IsRefusal (Fault error) kinds matches =
-    IsAmong (kind_of error) kinds ⊎ ((kinds ≡ []) × LacksRequest matches)
+IsRefusal (Fault error) kinds matches = IsAmong (kind_of error) kinds ⊎ ((kinds ≡ [])
+    × (((kind_of error ≡ MissingRequiredArgument) × LacksRequest matches)
+    ⊎ ((kind_of error ≡ ArgumentConflict) × IsSomeAnd matches HasConflict)))

@@ -1,38 +1,48 @@
 //! The program's command and its subcommands, for `clap`.
 ghost use Rattle.std.specs.Prelude.{◌≡◌, IfOk, false};
 ghost use Rattle.clap.specs.Words.{app_of, rule_of};
-ghost use Rattle.linemap_words.specs.CommandLine.{IsLocalApp, addresses_rule, ask_app, linemap_app, table_rule};
+ghost use Rattle.linemap_words.specs.CommandLine.{addresses_rule, linemap_app, table_rule};
 
+mod ask;
+mod emit;
+mod flags;
+mod lookup;
+
+pub use ask::ask_command;
 use clap::{Arg, ArgAction, Command};
+pub use emit::{BIG, BITS, DWARF, OUT, SIZE, emit_command};
+pub use lookup::{
+    ADDRESSES, ALL, BASENAMES, DEMANGLE, EXE, FUNCTIONS, INLINES, LLVM, PRETTY, SECTION,
+    STATEMENTS, SUP, lookup_command,
+};
 use std::alloc::{AllocError, Global};
 
 /// The identifier of the table's path among the matches.
 pub const TABLE: &str = "table";
 
-/// The identifier of the addresses among the matches.
-pub const ADDRESSES: &str = "addresses";
+/// The identifier of the addresses, as they are written, among the matches.
+pub const WORDS: &str = "words";
 
 /// The command of the whole program: a subcommand is required.
 pub fn linemap_command<'a>(alloc: Global) -> Result<Command<'a>, AllocError>
     ensures { IfOk result (λ command. app_of command ≡ linemap_app) }
 {
     let ask = ask_command(alloc)?;
+    let emit = emit_command(alloc)?;
+    let lookup = lookup_command(alloc)?;
     // The same name wherever the executable is.
     let command = Command::new(alloc, "linemap").bin_name("linemap")?;
     command
         .about("Answers which source line an address belongs to")
+        .after_help(
+            "Example: the line of an address in a program, and of one in a table\n  \
+            linemap lookup -e ./a.out 0x1139\n  \
+            linemap ask table.json 0x100f",
+        )
         .subcommand_required(true)
-        .subcommand(ask)
-}
-
-// `ask TABLE ADDR..`: at least one address.
-fn ask_command<'a>(alloc: Global) -> Result<Command<'a>, AllocError>
-    ensures { IfOk result (λ command. IsLocalApp command ask_app) }
-{
-    let command = Command::new(alloc, "ask").about("Prints a line for each address of a table");
-    command
-        .arg(table_argument(alloc))?
-        .arg(addresses_argument(alloc))
+        .subcommand(lookup)?
+        .subcommand(ask)?
+        .subcommand(emit)
 }
 
 // The path of a table's file.
@@ -47,15 +57,14 @@ fn table_argument<'a>(alloc: Global) -> Arg<'a>
         .action(ArgAction::Set)
 }
 
-// The addresses, one or more.
+// The addresses, of which none need to be there.
 fn addresses_argument<'a>(alloc: Global) -> Arg<'a>
     ensures rule { rule_of result ≡ addresses_rule }
     ensures local { result.global ≡ false }
 {
-    Arg::new(alloc, ADDRESSES)
+    Arg::new(alloc, WORDS)
         .value_name("ADDR")
-        .help("Hexadecimal addresses")
-        .required(true)
+        .help("Hexadecimal addresses, with or without 0x")
         .num_args(1..)
         .action(ArgAction::Append)
 }

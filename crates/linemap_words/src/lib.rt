@@ -1,7 +1,12 @@
-//! The command line of the program `linemap`, read by `clap`.
+//! The command line of the program `linemap`, read by `clap`, and what is printed where it is no
+//! request.
 #![tactic(auto)]
 
 mod command_line;
+mod explanation;
+mod matches;
 mod request;
 
+pub use explanation::explain;
+pub use linemap_output::Options;
 pub use request::{Request, WordsError, read_words};

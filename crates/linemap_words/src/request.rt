@@ -2,11 +2,16 @@
 ghost use Rattle.std.specs.Prelude.{◌≡◌, IfOk, IfErr, IsSomeAnd, Some, map, codes, string_bytes};
 ghost use Rattle.clap.specs.Words.{fault_of, found_of, kind_of, rows_of, subcommand_of, subcommand_rows_of};
 ghost use Rattle.linemap_words.specs.CommandLine.{linemap_app};
-ghost use Rattle.linemap_words.specs.WordsRequest.{HoldsRequest, IsFault, IsRefusal, IsRequestOf};
+ghost use Rattle.linemap_words.specs.WordsRequest.{AreOptionsOf, IsFault, IsMismatch, IsRefusal, IsRequestOf};
 
-use crate::command_line::{ADDRESSES, TABLE, linemap_command};
-use clap::ArgMatches;
+use crate::command_line::{
+    ADDRESSES, ALL, BASENAMES, BIG, BITS, DEMANGLE, DWARF, EXE, FUNCTIONS, INLINES, LLVM, OUT,
+    PRETTY, SECTION, SIZE, STATEMENTS, SUP, TABLE, WORDS, linemap_command, lookup_command,
+};
+use crate::matches::{is_set, number_at, text_at, texts_at};
 use clap::error::ErrorKind;
+use clap::{ArgMatches, Command};
+use linemap_output::Options;
 use std::alloc::{AllocError, Global};
 use thiserror::Error;
 
@@ -19,6 +24,30 @@ pub enum Request {
         table: String,
         /// The addresses as they were written.
         words: Vec<String>,
+    },
+    /// Write a table as an ELF file with debug information.
+    Emit {
+        /// The path of the table's file.
+        table: String,
+        /// The path of the file to be written.
+        out: String,
+        /// The version of DWARF.
+        dwarf: u16,
+        /// The bits of the format, 32 or 64 for any that is written.
+        bits: u16,
+        /// The bytes of an address, 4 or 8 for any that is written.
+        size: u16,
+        /// Whether the most significant byte comes first.
+        big: bool,
+    },
+    /// Look addresses up in an ELF file with debug information.
+    Lookup {
+        /// The path of the file.
+        exe: String,
+        /// The path of its supplementary file.
+        sup: Option<String>,
+        /// What is printed, and for which addresses.
+        options: Options,
     },
 }
 
@@ -40,6 +69,27 @@ impl From<AllocError> for WordsError {
 
     fn from(_error: AllocError) -> WordsError {
         WordsError::Memory
+    }
+}
+
+// Why matches are no request.
+#[derive(Clone, Copy, Debug)]
+enum Mismatch {
+    // Out of memory.
+    NoMemory,
+    // No subcommand, or an argument that it requires isn't there.
+    Missing,
+    // All addresses are asked for, and some too.
+    Conflict,
+}
+
+impl From<AllocError> for Mismatch {
+    ghost use Rattle.linemap_words.specs.declared.request.Mismatch.TheVariants.{NoMemory};
+
+    ghost from_gives = { λ _ e. e ≡ NoMemory };
+
+    fn from(_error: AllocError) -> Mismatch {
+        Mismatch::NoMemory
     }
 }
 
@@ -67,6 +117,7 @@ impl WordsError {
     }
 }
 
+#[tactic(auto, using(crate::proofs::SimpleCommand::is_simple, crate::proofs::SimpleCommand::is_free))]
 /// Reads the words of a command line, of which the first is the program's name. Its answers take
 /// memory for copies of the words.
 pub fn read_words(alloc: Global, words: &[String]) -> Result<Request, WordsError>
@@ -81,28 +132,11 @@ pub fn read_words(alloc: Global, words: &[String]) -> Result<Request, WordsError
         Ok(matches) => matches,
         Err(error) => return Err(error_of(error)),
     };
-    match request_in(alloc, &matches)? {
-        Some(request) => Ok(request),
-        None => {
-            let kind = ErrorKind::MissingRequiredArgument;
-            Err(error_of(command.error(kind, "no request")?))
-        }
-    }
-}
-
-// The request of the subcommand that was parsed, or none where the matches lack a part of it.
-fn request_in(alloc: Global, matches: &ArgMatches<'_>) -> Result<Option<Request>, AllocError>
-    ensures { IfOk result (λ request. HoldsRequest request (subcommand_rows_of matches.now)) }
-{
-    match matches.subcommand() {
-        Some((name, matches)) => {
-            if name == "ask" {
-                ask_request(alloc, matches)
-            } else {
-                Ok(None)
-            }
-        }
-        None => Ok(None),
+    match request_in(alloc, &matches) {
+        Ok(request) => Ok(request),
+        Err(Mismatch::NoMemory) => Err(WordsError::Memory),
+        Err(Mismatch::Missing) => Err(error_of(missing(&mut command)?)),
+        Err(Mismatch::Conflict) => Err(error_of(conflict(alloc)?)),
     }
 }
 
@@ -117,30 +151,99 @@ fn error_of(error: clap::Error) -> WordsError
     }
 }
 
-// The request of the matches of `ask`.
-fn ask_request(alloc: Global, matches: &ArgMatches<'_>) -> Result<Option<Request>, AllocError>
-    ensures { IfOk result (λ request.
-        HoldsRequest request (Some (codes "ask", rows_of (found_of matches.now)))) }
+// The error of matches that lack a request.
+fn missing(command: &mut Command<'_>) -> Result<clap::Error, AllocError>
+    ensures { IfOk result (λ error. kind_of error ≡ ErrorKind.MissingRequiredArgument) }
 {
-    let table = match matches.get_str(TABLE) {
-        Some(table) => String::from_str(alloc, table)?,
-        None => return Ok(None),
-    };
-    let words = match matches.get_strs(ADDRESSES) {
-        Some(addresses) => copies_of(alloc, addresses)?,
-        None => return Ok(None),
-    };
-    Ok(Some(Request::Ask { table, words }))
+    command.error(ErrorKind::MissingRequiredArgument, "no request")
 }
 
-// Copies of the texts.
-fn copies_of(alloc: Global, texts: &[&str]) -> Result<Vec<String>, AllocError>
-    ensures { IfOk result
-        (λ copies. map string_bytes copies.items ≡ map (λ text. text.now) texts.now) }
+// The error of matches of `lookup` that ask for all addresses and for some.
+fn conflict(alloc: Global) -> Result<clap::Error, AllocError>
+    ensures { IfOk result (λ error. kind_of error ≡ ErrorKind.ArgumentConflict) }
 {
-    let mut copies = Vec::new(alloc);
-    for text in texts {
-        copies.push(String::from_str(alloc, text)?)?;
+    let mut command = lookup_command(alloc)?.bin_name("linemap lookup")?;
+    let message = "the argument '--all' cannot be used with '[ADDR]...'";
+    command.error(ErrorKind::ArgumentConflict, message)
+}
+
+// The request of the subcommand that was parsed.
+fn request_in(alloc: Global, matches: &ArgMatches<'_>) -> Result<Request, Mismatch>
+    ensures request { IfOk result
+        (λ request. IsSomeAnd (subcommand_rows_of matches.now) (IsRequestOf request)) }
+    ensures refusal { IfErr result (λ why. IsMismatch why (subcommand_rows_of matches.now)) }
+{
+    match matches.subcommand() {
+        Some((name, matches)) => match name {
+            "ask" => ask_request(alloc, matches),
+            "emit" => emit_request(alloc, matches),
+            "lookup" => lookup_request(alloc, matches),
+            _ => Err(Mismatch::Missing),
+        },
+        None => Err(Mismatch::Missing),
     }
-    Ok(copies)
+}
+
+// The request of the matches of `ask`.
+fn ask_request(alloc: Global, matches: &ArgMatches<'_>) -> Result<Request, Mismatch>
+    ensures request { IfOk result
+        (λ request. IsRequestOf request (codes "ask", rows_of (found_of matches.now))) }
+    ensures refusal { IfErr result
+        (λ why. IsMismatch why (Some (codes "ask", rows_of (found_of matches.now)))) }
+{
+    let table = text_at(alloc, matches, TABLE)?.ok_or(Mismatch::Missing)?;
+    let words = texts_at(alloc, matches, WORDS)?.ok_or(Mismatch::Missing)?;
+    Ok(Request::Ask { table, words })
+}
+
+// The request of the matches of `emit`.
+fn emit_request(alloc: Global, matches: &ArgMatches<'_>) -> Result<Request, Mismatch>
+    ensures request { IfOk result
+        (λ request. IsRequestOf request (codes "emit", rows_of (found_of matches.now))) }
+    ensures refusal { IfErr result
+        (λ why. IsMismatch why (Some (codes "emit", rows_of (found_of matches.now)))) }
+{
+    Ok(Request::Emit {
+        table: text_at(alloc, matches, TABLE)?.ok_or(Mismatch::Missing)?,
+        out: text_at(alloc, matches, OUT)?.ok_or(Mismatch::Missing)?,
+        dwarf: number_at(matches, DWARF).ok_or(Mismatch::Missing)?,
+        bits: number_at(matches, BITS).ok_or(Mismatch::Missing)?,
+        size: number_at(matches, SIZE).ok_or(Mismatch::Missing)?,
+        big: is_set(matches, BIG),
+    })
+}
+
+// The request of the matches of `lookup`.
+fn lookup_request(alloc: Global, matches: &ArgMatches<'_>) -> Result<Request, Mismatch>
+    ensures request { IfOk result
+        (λ request. IsRequestOf request (codes "lookup", rows_of (found_of matches.now))) }
+    ensures refusal { IfErr result
+        (λ why. IsMismatch why (Some (codes "lookup", rows_of (found_of matches.now)))) }
+{
+    let options = options_in(alloc, matches)?;
+    let exe = text_at(alloc, matches, EXE)?.ok_or(Mismatch::Missing)?;
+    let sup = text_at(alloc, matches, SUP)?;
+    if options.all && options.words.is_some() {
+        return Err(Mismatch::Conflict);
+    }
+    Ok(Request::Lookup { exe, sup, options })
+}
+
+// The options of the matches of `lookup`.
+fn options_in(alloc: Global, matches: &ArgMatches<'_>) -> Result<Options, AllocError>
+    ensures { IfOk result (λ options. AreOptionsOf options (rows_of (found_of matches.now))) }
+{
+    Ok(Options {
+        section: text_at(alloc, matches, SECTION)?,
+        all: is_set(matches, ALL),
+        functions: is_set(matches, FUNCTIONS),
+        pretty: is_set(matches, PRETTY),
+        inlines: is_set(matches, INLINES),
+        addresses: is_set(matches, ADDRESSES),
+        basenames: is_set(matches, BASENAMES),
+        demangle: is_set(matches, DEMANGLE),
+        llvm: is_set(matches, LLVM),
+        statements: is_set(matches, STATEMENTS),
+        words: texts_at(alloc, matches, WORDS)?,
+    })
 }

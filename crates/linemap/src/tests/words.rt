@@ -10,7 +10,9 @@ use std::test::Fail;
 fn a_request(rt: HostRuntime) -> Result<(), Fail> {
     let alloc = rt.alloc();
     let words = copies_of(alloc, &["linemap", "ask", "a.json", "0x100f", "+5"])?;
-    let Request::Ask { table, words } = read_words(alloc, &words)?;
+    let Request::Ask { table, words } = read_words(alloc, &words)? else {
+        return Err(Fail::from("another request"));
+    };
     assert_eq!(rt; table.as_str(), "a.json");
     assert_eq!(rt; words.len(), 2);
     assert_eq!(rt; words[0].as_str(), "0x100f");
@@ -19,9 +21,53 @@ fn a_request(rt: HostRuntime) -> Result<(), Fail> {
 }
 
 #[test]
+fn a_request_for_an_image(rt: HostRuntime) -> Result<(), Fail> {
+    let alloc = rt.alloc();
+    let words = [
+        "linemap", "emit", "a.json", "a.elf", "--dwarf", "65535", "--size=4", "--big",
+    ];
+    let Request::Emit {
+        table,
+        out,
+        dwarf,
+        bits,
+        size,
+        big,
+    } = read_words(alloc, &copies_of(alloc, &words)?)?
+    else {
+        return Err(Fail::from("another request"));
+    };
+    assert_eq!(rt; table.as_str(), "a.json");
+    assert_eq!(rt; out.as_str(), "a.elf");
+    assert_eq!(rt; (dwarf, bits, size), (65535, 32, 4));
+    assert!(rt; big);
+    Ok(())
+}
+
+#[test]
+fn a_request_for_lookups(rt: HostRuntime) -> Result<(), Fail> {
+    let alloc = rt.alloc();
+    let words = [
+        "linemap", "lookup", "-e", "a.out", "-fipCa", "-j.text", "0x10", "20",
+    ];
+    let Request::Lookup { exe, sup, options } = read_words(alloc, &copies_of(alloc, &words)?)?
+    else {
+        return Err(Fail::from("another request"));
+    };
+    assert_eq!(rt; exe.as_str(), "a.out");
+    assert!(rt; sup.is_none());
+    assert!(rt; options.section.is_some_and(|name| name.as_str() == ".text"));
+    assert!(rt; options.functions && options.inlines && options.pretty);
+    assert!(rt; options.demangle && options.addresses);
+    assert!(rt; !options.all && !options.basenames && !options.llvm && !options.statements);
+    assert!(rt; options.words.is_some_and(|words| words.len() == 2));
+    Ok(())
+}
+
+#[test]
 fn refused_command_lines(rt: HostRuntime) -> Result<(), Fail> {
     let alloc = rt.alloc();
-    let table: [(&[&str], u8, bool); 7] = [
+    let table: [(&[&str], u8, bool); 13] = [
         (&["linemap"], 2, false),
         (&["linemap", "ask"], 2, false),
         (&["linemap", "ask", "a.json"], 2, false),
@@ -29,6 +75,20 @@ fn refused_command_lines(rt: HostRuntime) -> Result<(), Fail> {
         (&["linemap", "show", "a.json", "1"], 2, false),
         (&["linemap", "--help"], 0, true),
         (&["linemap", "ask", "--help"], 0, true),
+        (&["linemap", "emit", "a.json"], 2, false),
+        (
+            &["linemap", "emit", "a.json", "a.elf", "--dwarf", "65536"],
+            2,
+            false,
+        ),
+        (&["linemap", "emit", "--help"], 0, true),
+        (&["linemap", "lookup"], 2, false),
+        (
+            &["linemap", "lookup", "-e", "a.out", "--all", "0x10"],
+            2,
+            false,
+        ),
+        (&["linemap", "lookup", "--help"], 0, true),
     ];
     for (words, status, is_help) in table {
         let count = words.len();

@@ -1,10 +1,11 @@
-use Rattle.std.proofs.Common.{◌≡◌, ◌∙◌, refl, sym, ap, subst, true, inl, inr, List, Option, map, string_bytes}
+use Rattle.std.proofs.Common.{◌∙◌, sym, ap, subst, inl, inr, List, Option, map, string_bytes}
 use Rattle.clap.specs.Words.{HasKind, IsAmong, Kinds, Row, Text, fault_of, is_simple_and_free, kind_of}
 use Rattle.clap.specs.declared.error.Error.{Error}
 use Rattle.linemap_words.specs.CommandLine.{linemap_app}
 use Rattle.linemap_words.specs.WordsRequest.{IsFault, IsRefusal}
 use Rattle.linemap_words.specs.declared.request.WordsError.{WordsError}
 use Rattle.linemap_words.specs.declared.request.WordsError.TheVariants.{Memory, Fault}
+use Rattle.linemap_words.proofs.SimpleCommand.{is_free}
 use Rattle.linemap_words.proofs.request.read_words.Goals as goal
 
 -- a fault of the parse is a refusal
@@ -20,9 +21,8 @@ fault_refuses kinds matches e has (Fault error) is = elim has [
 pub returns-in-Err-clause-refusal : goal.returns-in-Err-clause-refusal
 returns-in-Err-clause-refusal c =
     let app = c.in_ok-command.ensures in
-    let free : is_simple_and_free linemap_app ≡ true = refl in
     let words = map string_bytes c.args.words.now in
     let has =
     subst (λ a. HasKind (fault_of a words) c.in-Err.error) app
-    (c.in-Err.ensures.kinds (ap is_simple_and_free app ∙ free)) in
+    (c.in-Err.ensures.kinds (ap is_simple_and_free app ∙ is_free)) in
     fault_refuses (fault_of linemap_app words) _ c.in-Err.error has c.error_of.result c.error_of.ensures

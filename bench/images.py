@@ -1,0 +1,297 @@
+#!/usr/bin/env python3
+"""Shows that other tools read the images that `linemap emit` writes.
+
+It writes an image of each table for each of the 28 targets: of examples/a.json and examples/c.json, and of generated tables with
+several units, functions and calls of several ranges, nested calls, names that calls share, rows of several files, hidden statements and
+discriminators. What `readelf` and `llvm-dwarfdump` list and `llvm-symbolizer` answers must be what the table says. It stops at the first
+difference, and prints a line for each target, and then what was compared.
+
+Usage: bench/images.py [EMIT ..]    EMIT writes an image, as `linemap emit` does, which is the command if none is given
+"""
+import itertools
+import json
+import os
+import re
+import subprocess
+import sys
+import tempfile
+
+TOP = os.path.dirname(os.path.dirname(os.path.abspath(__file__)))
+TARGETS = [
+    (version, bits, size, order)
+    for version, bits, size, order in itertools.product((2, 3, 4, 5), (32, 64), (4, 8), ("little", "big"))
+    if (version, bits) != (2, 64)
+]
+
+
+# ---- tables
+
+
+def row(address, file, line, column, **more):
+    return {"address": address, "file": file, "line": line, "column": column, **more}
+
+
+def call(name, ranges, line, calls=(), file=0):
+    return {"name": name, "ranges": ranges, "file": file, "line": line, "column": line % 70 + 1, "calls": list(calls)}
+
+
+def nested(depth):
+    """One function, with calls nested to a depth that are each four bytes shorter than the one around them."""
+    calls = []
+    for level in reversed(range(depth)):
+        calls = [call(f"level_{level}", [[0x1000 + 4 * level + 4, 0x2000 - 4 * level - 4]], level + 1, calls)]
+    rows = [row(0x1000 + 16 * n, 0, n + 1, n % 90 + 1) for n in range(256)]
+    return {"units": [{
+        "directory": "/build", "name": "deep.c", "ranges": [[0x1000, 0x2000]], "files": [{"directory": "src", "name": "deep.c"}],
+        "functions": [{"name": "outermost", "ranges": [[0x1000, 0x2000]], "calls": calls}], "sequences": [{"rows": rows, "end": 0x2000}],
+    }]}
+
+
+def unit(number, base):
+    """A unit with two ranges and a sequence in each; its functions have one range in each of them, and so have their calls."""
+    low, high = base, base + 0x8000
+    files = [
+        {"directory": "src", "name": f"file{number}.c"},
+        {"directory": "/usr/include", "name": "shared.h"},
+        {"directory": f"/build/unit{number}", "name": "main.c"},
+    ]
+    functions = []
+    for f in range(8):
+        near, far = low + 0x100 * f, high + 0x100 * f
+        inner = call("shared", [[near + 0x20, near + 0x30], [far + 0x28, far + 0x2c]], 3 * f + 1, file=1)
+        outer = call(f"outer_{f}", [[near + 0x10, near + 0x40], [far + 0x20, far + 0x40]], 100000 * f + 7, [inner])
+        last = call("shared", [[near + 0x80, near + 0x90]], 2 ** 20 + f, file=2)
+        functions.append({"name": f"function_{number}_{f}", "ranges": [[near, near + 0x100], [far, far + 0x80]], "calls": [outer, last]})
+    sequences = []
+    for begin in (high, low):
+        rows = [row(begin + 4 * n, n % 3, 1 + n * 1237 % 65537, n * 31 % 400 + 1, statement=n % 5 != 2, discriminator=n % 7) for n in range(256)]
+        sequences.append({"rows": rows, "end": begin + 0x900})
+    return {"directory": f"/build/unit{number}", "name": "main.c", "ranges": [[low, low + 0x900], [high, high + 0x900]], "files": files,
+            "functions": functions, "sequences": sequences}
+
+
+def tables():
+    made = {name: json.load(open(f"{TOP}/examples/{name}.json")) for name in ("a", "c")}
+    made["nested"] = nested(50)
+    made["units"] = {"units": [unit(n, 0x10000 * (n + 1)) for n in range(6)]}
+    return made
+
+
+# ---- what a table says
+
+
+def holds(ranges, address):
+    return any(begin <= address < end for begin, end in ranges)
+
+
+def path_of(unit, number):
+    file = unit["files"][number]
+    return os.path.join(unit["directory"], file["directory"], file["name"])
+
+
+def rows_of(table):
+    """The rows in the order of the table, with the end of each sequence: address, file, line, column, discriminator, statement."""
+    for unit in table["units"]:
+        for sequence in unit["sequences"]:
+            for r in sequence["rows"]:
+                place = (path_of(unit, r["file"]), r["line"], r["column"])
+                yield (r["address"], *place, r.get("discriminator", 0), r.get("statement", True))
+            yield (sequence["end"], "end")
+
+
+def entries_of(table):
+    """The functions and calls of each unit, as they are nested: depth, name, ranges, and where the call is."""
+
+    def calls(unit, depth, those):
+        for c in those:
+            yield (depth, c["name"], c["ranges"], (path_of(unit, c["file"]), c["line"], c["column"]))
+            yield from calls(unit, depth + 1, c["calls"])
+
+    for unit in table["units"]:
+        yield (0, unit["name"], unit["ranges"], unit["directory"])
+        for function in unit["functions"]:
+            yield (1, function["name"], function["ranges"], None)
+            yield from calls(unit, 2, function["calls"])
+
+
+def frames_at(table, address):
+    """The frames of an address, the innermost first: name, file, line, column."""
+    unit = next(u for u in table["units"] if holds(u["ranges"], address))
+    sequence = next(s for s in unit["sequences"] if s["rows"][0]["address"] <= address < s["end"])
+    last = [r for r in sequence["rows"] if r["address"] <= address][-1]
+    place = (path_of(unit, last["file"]), last["line"], last["column"])
+    function = next((f for f in unit["functions"] if holds(f["ranges"], address)), None)
+    if function is None:
+        return [("", *place)]
+    frames, below = [], function
+    while below is not None:
+        inner = next((c for c in below["calls"] if holds(c["ranges"], address)), None)
+        site = place if inner is None else (path_of(unit, inner["file"]), inner["line"], inner["column"])
+        frames.insert(0, (below["name"], *site))
+        below = inner
+    return frames
+
+
+def addresses_of(table):
+    """The ends of all rows, functions and calls, and the addresses before and between, where a row is."""
+    found = set()
+
+    def add(part):
+        for begin, end in part["ranges"]:
+            found.update((begin, (begin + end) // 2, end - 1, end, begin - 1))
+        for c in part.get("calls", part.get("functions", [])):
+            add(c)
+
+    for unit in table["units"]:
+        add(unit)
+        for sequence in unit["sequences"]:
+            found.update(r["address"] for r in sequence["rows"])
+    covered = [(s["rows"][0]["address"], s["end"]) for u in table["units"] for s in u["sequences"]]
+    return sorted(a for a in found if holds(covered, a))
+
+
+# ---- what the tools say
+
+
+def said(*words, text=None):
+    """What a tool prints. Its complaints stop the comparison, except that the image is of no machine."""
+    run = subprocess.run(words, input=text, stdout=subprocess.PIPE, stderr=subprocess.PIPE, text=True)
+    complaints = [line for line in run.stderr.splitlines() if line and "No available targets are compatible" not in line]
+    if run.returncode or complaints:
+        sys.exit(f"{' '.join(words)}: status {run.returncode}\n{run.stdout[-2000:]}\n" + "\n".join(complaints))
+    return run.stdout
+
+
+def same(what, found, wanted):
+    found, wanted = list(found), list(wanted)
+    if found != wanted:
+        first = next((p for p in itertools.zip_longest(found, wanted) if p[0] != p[1]), None)
+        sys.exit(f"{what}: {len(found)} found, {len(wanted)} in the table; found and wanted: {first}")
+    return len(wanted)
+
+
+def check_readelf_rows(image, table):
+    found = []
+    for line in said("readelf", "--debug-dump=decodedline", image).splitlines():
+        m = re.match(r"(\S+)\s+(\d+)\s+(0x[0-9a-f]+)(?:\[\d+\])?(?:\s+\d+)?(\s+x)?", line)
+        if m:
+            found.append((int(m[3], 16), m[1], int(m[2]), bool(m[4])))
+    wanted = [(r[0], os.path.basename(r[1]), r[2], r[5]) for r in rows_of(table) if r[1] != "end"]
+    return same("readelf, rows", found, wanted)
+
+
+def check_readelf_entries(image, table):
+    """Names by their offsets, since a call refers to the entry that names it, and then depth, name, line and column of each."""
+    entries = []
+    for line in said("readelf", "--debug-dump=info", image).splitlines():
+        head = re.match(r"\s*<(\d+)><([0-9a-f]+)>: Abbrev Number: \d+ \(DW_TAG_(\w+)\)", line)
+        if head:
+            entries.append({"depth": int(head[1]), "at": int(head[2], 16), "tag": head[3]})
+        value = re.match(r"\s*<[0-9a-f]+>\s+DW_AT_(\w+)\s*:\s*(?:\([^:]*: [^)]*\): )?(.*?)\s*$", line)
+        if value:
+            entries[-1][value[1]] = value[2]
+    names = {e["at"]: e.get("name") for e in entries}
+    found = []
+    for e in entries:
+        if e["tag"] == "inlined_subroutine":
+            origin = int(e["abstract_origin"].strip("<>"), 16)
+            found.append((e["depth"], names[origin], int(e["call_line"]), int(e["call_column"])))
+        elif "ranges" in e:
+            found.append((e["depth"], e["name"], None, None))
+    wanted = [(d, n, site[1] if d > 1 else None, site[2] if d > 1 else None) for d, n, _, site in entries_of(table)]
+    return same("readelf, entries", found, wanted)
+
+
+def check_dwarfdump_rows(image, table):
+    """All rows, with their files in full."""
+    rows, units = [], iter(table["units"])
+    for line in said("llvm-dwarfdump", "--debug-line", image).splitlines():
+        if line.startswith("debug_line["):
+            unit, files, directories = next(units), {}, {0: None}
+        elif m := re.match(r"include_directories\[\s*(\d+)\] = \"(.*)\"", line):
+            directories[int(m[1])] = m[2]
+        elif m := re.match(r"file_names\[\s*(\d+)\]:", line):
+            number = int(m[1])
+        elif m := re.match(r"\s+name: \"(.*)\"", line):
+            name = m[1]
+        elif m := re.match(r"\s+dir_index: (\d+)", line):
+            files[number] = os.path.join(unit["directory"], directories[int(m[1])] or "", name)
+        elif m := re.match(r"(0x[0-9a-f]+)\s+(\d+)\s+(\d+)\s+(\d+)\s+0\s+(\d+)(.*)", line):
+            address = int(m[1], 16)
+            place = (files[int(m[4])], int(m[2]), int(m[3]))
+            rows.append((address, "end") if "end_sequence" in m[6] else (address, *place, int(m[5]), "is_stmt" in m[6]))
+    return same("llvm-dwarfdump, rows", rows, rows_of(table))
+
+
+def check_dwarfdump_entries(image, table):
+    entries = []
+    for line in said("llvm-dwarfdump", "--debug-info", image).splitlines():
+        if m := re.match(r"0x[0-9a-f]+:( +)DW_TAG_(\w+)", line):
+            entries.append({"depth": len(m[1]) // 2, "ranges": []})
+        elif m := re.match(r"\s+DW_AT_(\w+)\s+\((.*?)\)?$", line):
+            if m[1] != "ranges":
+                entries[-1][m[1]] = m[2]
+        elif m := re.match(r"\s+\[(0x[0-9a-f]+), (0x[0-9a-f]+)\)", line):
+            entries[-1]["ranges"].append([int(m[1], 16), int(m[2], 16)])
+    found = []
+    for e in entries:
+        if not e["ranges"]:
+            continue
+        text = re.search(r'"(.*)"', e.get("name") or e["abstract_origin"])[1]
+        if "call_line" in e:
+            site = (e["call_file"].strip('"'), int(e["call_line"]), int(e["call_column"]))
+        else:
+            site = e["comp_dir"].strip('"') if "comp_dir" in e else None
+        found.append((e["depth"], text, e["ranges"], site))
+    return same("llvm-dwarfdump, entries", found, entries_of(table))
+
+
+def check_symbolizer(image, table):
+    addresses = addresses_of(table)
+    text = "".join(f"{a:#x}\n" for a in addresses)
+    found = []
+    for line in said("llvm-symbolizer", "--inlines", "--output-style=JSON", f"--obj={image}", text=text).splitlines():
+        answer = json.loads(line)
+        frames = [(s["FunctionName"], s["FileName"], s["Line"], s["Column"]) for s in answer["Symbol"]]
+        found.append((int(answer["Address"], 16), frames))
+    return same("llvm-symbolizer, frames", found, ((a, frames_at(table, a)) for a in addresses))
+
+
+def check_verify(image, _table):
+    if "No errors." not in said("llvm-dwarfdump", "--verify", image):
+        sys.exit("llvm-dwarfdump --verify: errors")
+    return 1
+
+
+CHECKS = {
+    "rows of readelf": check_readelf_rows,
+    "entries of readelf": check_readelf_entries,
+    "images without errors for llvm-dwarfdump": check_verify,
+    "rows of llvm-dwarfdump": check_dwarfdump_rows,
+    "entries of llvm-dwarfdump": check_dwarfdump_entries,
+    "addresses of llvm-symbolizer": check_symbolizer,
+}
+
+
+def main():
+    emit = sys.argv[1:] or [f"{TOP}/linemap", "emit"]
+    counts = dict.fromkeys(CHECKS, 0)
+    with tempfile.TemporaryDirectory() as folder:
+        paths = {}
+        for name, table in tables().items():
+            paths[name] = f"{folder}/{name}.json"
+            json.dump(table, open(paths[name], "w"))
+        for version, bits, size, order in TARGETS:
+            for name, table in tables().items():
+                image = f"{folder}/{name}.elf"
+                options = ["--dwarf", str(version), "--bits", str(bits), "--size", str(size)]
+                subprocess.run(emit + [paths[name], image] + options + ["--big"] * (order == "big"), check=True)
+                for check, function in CHECKS.items():
+                    counts[check] += function(image, table)
+            print(f"version {version}, {bits}-bit DWARF, addresses of {size} bytes, {order} endian: as the tables say", flush=True)
+    print(f"{len(TARGETS)} targets, {len(TARGETS) * len(paths)} images")
+    for check, count in counts.items():
+        print(f"{count} {check}")
+
+
+main()

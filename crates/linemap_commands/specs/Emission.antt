@@ -1,0 +1,76 @@
+-- What `emit` makes of a text, and how it reports that it makes nothing.
+use Rattle.std.specs.Prelude.{◌≡◌, ◌≢◌, ◌^◌, ℕ, List, [], Bool, true, false, Option, Some, None, Result, Ok, Err, codes, nat_lt, if◌then◌else◌}
+use Rattle.linemap_image.specs.ImageAnswers.{FileAnswers}
+use Rattle.linemap_image.specs.TableImages.{emitted_image}
+use Rattle.linemap_image.specs.Encoding.{Encoding}
+use Rattle.linemap_image.specs.EncodingFits.{fits}
+use Rattle.linemap_image.specs.EmittedSections.{emitted_sections}
+use Rattle.linemap_image.specs.EmitError.{EmitError}
+use Rattle.linemap_image.specs.EmitError.TheVariants.{Memory as NoRoom, TooLarge as TooHeavy}
+use Rattle.linemap_output.specs.declared.ended.Ended.{Ended}
+use Rattle.linemap_output.specs.ErrorLine.{Fails, error_line}
+use Rattle.linemap_image.specs.TableErrorCodes.{table_error_code}
+use Rattle.linemap_image.specs.TableError.{TableError}
+use Rattle.linemap_image.specs.TableError.TheVariants.{Memory as NoMemory}
+use Rattle.linemap_image.specs.TableParts.{UnitPart}
+use Rattle.linemap_image.specs.TableWeight.{table_weight}
+use Rattle.linemap_commands.specs.declared.images.Refusal.{Refusal}
+use Rattle.linemap_commands.specs.declared.images.Refusal.TheVariants.{Memory, Table, DoesNotFit, TooLarge}
+
+-- ---- what is refused
+
+-- the refusal of a text, memory aside: it isn't a table, the table doesn't fit, or weighs 2^31 or
+-- more
+abbrev pub refusal_of : Encoding → Result (List UnitPart) TableError → Option Refusal
+refusal_of e (Err error) = Some (Table error)
+refusal_of e (Ok units) = if fits e.address_size units
+    then (if nat_lt (table_weight units) (2 ^ 31) then None else Some TooLarge)
+    else Some DoesNotFit
+
+-- out of memory is not a refusal of the table
+abbrev pub table_refusal : TableError → Refusal
+table_refusal NoMemory = Memory
+table_refusal e = Table e
+
+-- a table that is too large is not out of memory
+abbrev pub emission_refusal : EmitError → Refusal
+emission_refusal NoRoom = Memory
+emission_refusal TooHeavy = TooLarge
+
+-- the refusal is out of memory, or the text's own
+abbrev pub Refuses : Encoding → Result (List UnitPart) TableError → Refusal → Type 0
+Refuses e table refusal = refusal ≢ Memory → refusal_of e table ≡ Some refusal
+
+-- ---- what is made
+
+-- the bytes are the image of the table, which nothing refuses, and loaded they answer the table
+abbrev pub IsImage : Encoding → Bool → Result (List UnitPart) TableError → List ℕ → Type 0
+IsImage e is_big (Err error) bytes = ⊥
+IsImage e is_big (Ok units) bytes = (refusal_of e (Ok units) ≡ None)
+    × (bytes ≡ emitted_image e is_big (emitted_sections e is_big units)) × FileAnswers bytes units
+
+-- ---- how a refusal is reported
+
+-- the error line of a refusal
+abbrev pub refusal_line : Refusal → List ℕ
+refusal_line Memory = error_line (codes "out of memory") []
+refusal_line (Table error) = error_line (codes "table refused: ") (table_error_code error)
+refusal_line DoesNotFit = error_line (codes "table does not fit the target") []
+refusal_line TooLarge = error_line (codes "emit refused: ") (codes "M2")
+
+-- only out of memory sets its flag
+abbrev pub is_memory : Refusal → Bool
+is_memory Memory = true
+is_memory _ = false
+
+-- an error line and status 1
+abbrev pub Reports : Refusal → Option (List ℕ) → Option (List ℕ) → Ended → Type 0
+Reports refusal old new e =
+    Fails (refusal_line refusal) old new e × (e.memory ≡ is_memory refusal)
+
+-- the text's refusal is reported, or out of memory
+pub record EndsRefused (encoding : Encoding) (table : Result (List UnitPart) TableError)
+    (old new : Option (List ℕ)) (e : Ended) : Type 0 where
+  pub why : Refusal
+  pub refuses : Refuses encoding table why
+  pub reports : Reports why old new e

@@ -1,0 +1,12 @@
+//! What the subcommands of the program do with values: the target of the numbers of a command line,
+//! the image of a text, and the error lines of files.
+#![tactic(auto)]
+
+mod images;
+mod reports;
+mod targets;
+
+pub use images::emission;
+pub use linemap_image::emit;
+pub use reports::{cannot_load, cannot_write, no_such_target};
+pub use targets::target_of;

@@ -1,0 +1,191 @@
+-- The addresses in lines that are read and answered one after the other.
+use Rattle.std.proofs.Common.{◌≡◌, ◌∙◌, Bool, true, false, List, [], ◌∷◌, ◌++◌, ℕ, Option, Some, None, Result, All, map, inl, inr, refl, sym, ap, subst, append-nil, append_assoc, true≢false}
+use Rattle.std.specs.Str.{IsUtf8}
+use Rattle.std.specs.Str.Lines.{lines}
+use Rattle.std.specs.Io.KnownBytes.{Consumes}
+use Rattle.std.proofs.KnownBytes.{Consumes-trans, Consumes-nil}
+use Rattle.std.proofs.lemmas.List.{map-append}
+use Rattle.std.proofs.lemmas.List.Elements.{All-append, All-cons, All-nil}
+use Rattle.addr2line_context.specs.Error.{Error}
+use Rattle.addr2line_split.specs.Range.{Range}
+use Rattle.linemap_meaning.specs.AnswerTexts.{word_address}
+use Rattle.linemap_output.specs.ErrorLine.{EndsOutOfMemory}
+use Rattle.linemap_output.specs.declared.ended.Ended.{Ended}
+use Rattle.linemap_output.specs.declared.options.Options.{Options}
+use Rattle.linemap_lookup.specs.LineReads.{AsksLines, IsWholeInput, ReadsLines, Takes, TakesLine, TakesNoLine, YieldsAddress}
+use Rattle.linemap_lookup.specs.LookupAnswers.{LookupState}
+use Rattle.linemap_lookup.specs.LookupRuns.{AnswersAll, AnswersSome, Stops, StopsBefore, Streams, WritesAddress, WritesAddresses, nothing, with_flags}
+use Rattle.linemap_lookup.specs.declared.lines.LineBuffer.{LineBuffer}
+use Rattle.linemap_lookup.proofs.LineParts.{whole_after}
+use Rattle.linemap_lookup.proofs.RunSteps.{stops_after, stops_out_of_memory, writes_more, writes_none}
+
+-- ---- lines
+
+-- these lines are read so far, and what follows is more lines
+pub record ReadsSoFar (old now : Option (List ℕ)) (b : LineBuffer) (ls : List (List ℕ)) : Type 0 where
+  pub taken : List ℕ
+  pub consumes : Consumes old now taken
+  pub are_lines : lines taken ≡ ls
+  pub are_texts : All IsUtf8 ls
+  pub more : b.is_at_end ≡ false → (rest : List ℕ) → lines (taken ++ rest) ≡ ls ++ lines rest
+  pub all : b.is_at_end ≡ true → IsWholeInput old taken
+
+pub reads_none : (old : Option (List ℕ)) (b : LineBuffer) → b.is_at_end ≡ false → ReadsSoFar old old b []
+reads_none old b is = record {
+  taken = [];
+  consumes = Consumes-nil old;
+  are_lines = refl;
+  are_texts = All-nil IsUtf8;
+  more = λ _ rest. refl;
+  all = λ ends. absurd (true≢false (sym ends ∙ is));
+}
+
+pub reads_more : (a b c : Option (List ℕ)) (before after : LineBuffer) (ls : List (List ℕ)) (line : List ℕ)
+    → ReadsSoFar a b before ls → TakesLine b c line after.is_at_end → before.is_at_end ≡ false
+    → ReadsSoFar a c after (ls ++ line ∷ [])
+reads_more a b c before after ls line so_far next unfinished = record {
+  taken = so_far.taken ++ next.taken;
+  consumes = Consumes-trans a b c so_far.taken next.taken so_far.consumes next.consumes;
+  are_lines = so_far.more unfinished next.taken ∙ ap (λ l. ls ++ l) next.is_line;
+  are_texts = All-append IsUtf8 ls (line ∷ []) so_far.are_texts (All-cons IsUtf8 line [] next.is_text (All-nil IsUtf8));
+  more = λ not rest.
+      ap lines (append_assoc so_far.taken next.taken rest) ∙ so_far.more unfinished (next.taken ++ rest)
+      ∙ ap (λ l. ls ++ l) (next.first not rest) ∙ sym (append_assoc ls (line ∷ []) (lines rest));
+  all = λ ends. whole_after a b so_far.taken next.taken so_far.consumes (next.last ends);
+}
+
+-- those that are read, and whatever was read of the next
+pub reads_some : (a b c : Option (List ℕ)) (buffer : LineBuffer) (ls : List (List ℕ)) → ReadsSoFar a b buffer ls
+    → Takes b c → ReadsLines a c ls true
+reads_some a b c buffer ls so_far takes = record {
+  taken = so_far.taken;
+  rest = takes.0;
+  consumes = Consumes-trans a b c so_far.taken takes.0 so_far.consumes takes.1;
+  are_lines = so_far.are_lines;
+  are_texts = so_far.are_texts;
+  all = λ no. absurd (true≢false no);
+}
+
+whole_then_nothing : (a b : Option (List ℕ)) (buffer : LineBuffer) (ls : List (List ℕ)) (so_far : ReadsSoFar a b buffer ls)
+    (is_at_end : Bool) → buffer.is_at_end ≡ is_at_end → (buffer.is_at_end ≡ false → IsWholeInput b [])
+    → IsWholeInput a so_far.taken
+whole_then_nothing a b buffer ls so_far true ends none = so_far.all ends
+whole_then_nothing a b buffer ls so_far false unfinished none =
+    subst (IsWholeInput a) (append-nil so_far.taken)
+    (whole_after a b so_far.taken [] so_far.consumes (none unfinished))
+
+-- all of them
+pub reads_all : (a b c : Option (List ℕ)) (before after : LineBuffer) (ls : List (List ℕ)) → ReadsSoFar a b before ls
+    → TakesNoLine b c before after → ReadsLines a c ls after.has_failed
+reads_all a b c before after ls so_far none = record {
+  taken = so_far.taken;
+  rest = none.rest;
+  consumes = Consumes-trans a b c so_far.taken none.rest so_far.consumes none.consumes;
+  are_lines = so_far.are_lines;
+  are_texts = so_far.are_texts;
+  all = λ clear. whole_then_nothing a b before ls so_far before.is_at_end refl (none.none clear).1;
+}
+
+-- ---- answers
+
+module _ {S : Type 0} (answers : S → List ℕ → List ℕ → Result (Option (List ℕ)) Error → S → Type 0)
+    (o : Options) (section : Option Range) where
+  -- the lines that are read so far are answered
+  pub record AnswersSoFar (a b : Option (List ℕ)) (buffer : LineBuffer) (s t : LookupState S) (old now : Streams)
+      (e f : Ended) : Type 0 where
+    pub ls : List (List ℕ)
+    pub reads : ReadsSoFar a b buffer ls
+    pub writes : WritesAddresses answers o section (map word_address ls) s t old now e f
+
+  pub lines_none : (a : Option (List ℕ)) (buffer : LineBuffer) (s : LookupState S) (streams : Streams) (e : Ended)
+      → buffer.is_at_end ≡ false → AnswersSoFar a a buffer s s streams streams e e
+  lines_none a buffer s streams e is = record {
+    ls = [];
+    reads = reads_none a buffer is;
+    writes = writes_none answers o section s streams e;
+  }
+
+  with_line : (ls : List (List ℕ)) (line : List ℕ) (address : Option ℕ) → address ≡ word_address line
+      → map word_address ls ++ address ∷ [] ≡ map word_address (ls ++ line ∷ [])
+  with_line ls line address is =
+      ap (λ x. map word_address ls ++ x ∷ []) is ∙ sym (map-append word_address ls (line ∷ []))
+
+  pub lines_more : (a b c : Option (List ℕ)) (before after : LineBuffer) (s t u : LookupState S)
+      (old mid new : Streams) (e f g : Ended) (next : Option (Option ℕ)) (address : Option ℕ)
+      → AnswersSoFar a b before s t old mid e f → YieldsAddress b c before after next → next ≡ Some address
+      → WritesAddress answers o section address t u mid new f g → AnswersSoFar a c after s u old new e g
+  lines_more a b c before after s t u old mid new e f g next address so_far yields is writes =
+      let line = subst (YieldsAddress b c before after) is yields in
+      record {
+        ls = so_far.ls ++ line.0 ∷ [];
+        reads = reads_more a b c before after so_far.ls line.0 so_far.reads line.1 line.3;
+        writes =
+            subst (λ xs. WritesAddresses answers o section xs s u old new e g) (with_line so_far.ls line.0 address line.2)
+            (writes_more answers o section (map word_address so_far.ls) address s t u old mid new e f g so_far.writes
+            writes);
+      }
+
+  -- the program stops at a line
+  pub lines_stop : (a b c : Option (List ℕ)) (before after : LineBuffer) (s t : LookupState S)
+      (old mid new : Streams) (e f stop : Ended) (next : Option (Option ℕ)) (address : Option ℕ)
+      → AnswersSoFar a b before s t old mid e f → YieldsAddress b c before after next → next ≡ Some address
+      → StopsBefore answers o section (address ∷ []) t mid new f stop
+      → AnswersSome answers o section (AsksLines a c) s old new e stop
+  lines_stop a b c before after s t old mid new e f stop next address so_far yields is stops =
+      let line = subst (YieldsAddress b c before after) is yields in
+      record {
+        addresses = map word_address (so_far.ls ++ line.0 ∷ []);
+        is_cut = true;
+        are_asked = (
+          so_far.ls ++ line.0 ∷ [],
+          reads_some a c c after _ (reads_more a b c before after so_far.ls line.0 so_far.reads line.1 line.3)
+              ([], Consumes-nil c),
+          refl,
+        );
+        stops =
+            stops_after answers o section (map word_address so_far.ls) [] _ address s t old mid new e f stop
+            (sym (with_line so_far.ls line.0 address line.2)) so_far.writes stops;
+      }
+
+  -- or before one, out of memory
+  pub lines_out_of_memory : (a b c : Option (List ℕ)) (buffer : LineBuffer) (s t : LookupState S) (old : Streams)
+      (out mid err : Option (List ℕ)) (e f last : Ended)
+      → AnswersSoFar a b buffer s t old (record { out = out; err = mid }) e f → Takes b c → EndsOutOfMemory mid err last
+      → AnswersSome answers o section (AsksLines a c) s old (record { out = out; err = err }) e (with_flags f last)
+  lines_out_of_memory a b c buffer s t old out mid err e f last so_far takes ends = record {
+    addresses = map word_address so_far.ls;
+    is_cut = true;
+    are_asked = (so_far.ls, reads_some a b c buffer so_far.ls so_far.reads takes, refl);
+    stops = record {
+      first = map word_address so_far.ls;
+      rest = [];
+      are_addresses = sym (append-nil (map word_address so_far.ls));
+      state = t;
+      streams = record { out = out; err = mid };
+      ended = f;
+      written = so_far.writes;
+      stops = record {
+        partial = nothing;
+        is_answer = inl refl;
+        stops = stops_out_of_memory out mid err f last ends;
+      };
+    };
+  }
+
+  -- all are answered
+  pub lines_end : (a b c : Option (List ℕ)) (before after : LineBuffer) (s t : LookupState S) (old new : Streams)
+      (e f : Ended) (next : Option (Option ℕ)) → AnswersSoFar a b before s t old new e f
+      → YieldsAddress b c before after next → next ≡ None
+      → AnswersAll answers o section (AsksLines a c) s old new e (record f { read = after.has_failed })
+  lines_end a b c before after s t old new e f next so_far yields is = record {
+    addresses = map word_address so_far.ls;
+    are_asked = (
+      so_far.ls,
+      reads_all a b c before after so_far.ls so_far.reads (subst (YieldsAddress b c before after) is yields),
+      refl,
+    );
+    after = t;
+    noted = f;
+    writes = so_far.writes;
+    end = refl;
+  }

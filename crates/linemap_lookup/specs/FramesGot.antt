@@ -1,0 +1,33 @@
+-- Frames that are taken one after the other, until there is none or memory for one is refused.
+use Rattle.std.specs.Prelude.{◌≡◌, ℕ, Bool, true, false, List, [], ◌∷◌, ◌++◌, Option, Some, None}
+use Rattle.addr2line_context.specs.Frames.{Frame}
+use Rattle.linemap_output.specs.declared.options.Options.{Options}
+use Rattle.linemap_lookup.specs.FrameTexts.{frames_text, outer_frames_text}
+
+-- these are the first of the frames, and all of them unless one was refused
+pub record AreGot (all got : List Frame) (is_refused : Bool) : Type 0 where
+  pub rest : List Frame
+  pub whole : got ++ rest ≡ all
+  pub ends : is_refused ≡ false → rest ≡ []
+
+-- The next of the frames that are left, or none: then none is left, or one was refused.
+abbrev pub TakesNext : {A : Type 0} → (A → Frame) → Option A → List Frame → Bool → List Frame
+    → Bool → Type 0
+TakesNext see (Some x) old old_refused new new_refused =
+    (old ≡ see x ∷ new) × (new_refused ≡ old_refused)
+TakesNext see None old old_refused new new_refused =
+    (new ≡ old) × AreGot new [] new_refused
+
+-- the text grows by that of a frame after the first, and of those after it that were got
+pub record PrintsOuter (o : Options) (symbol : Option (List ℕ)) (f : Frame) (left : List Frame)
+    (is_refused : Bool) (old new : List ℕ) : Type 0 where
+  pub got : List Frame
+  pub are_got : AreGot left got is_refused
+  pub text : new ≡ old ++ outer_frames_text o symbol (f ∷ got)
+
+-- the text grows by that of all frames that were got
+pub record PrintsFrames (o : Options) (symbol : Option (List ℕ)) (all : List Frame)
+    (is_refused : Bool) (old new : List ℕ) : Type 0 where
+  pub got : List Frame
+  pub are_got : AreGot all got is_refused
+  pub text : new ≡ old ++ frames_text o symbol got

@@ -1,0 +1,8 @@
+pub mod AddressTexts
+pub mod FrameTexts
+pub mod FramesGot
+pub mod LookupAnswers
+pub mod AnswerBuffers
+pub mod LineReads
+pub mod LookupRuns
+pub mod Programs

@@ -1,0 +1,90 @@
+//! All addresses of a file at which a place begins.
+
+ghost use Rattle.std.specs.Prelude.{◌≡◌, ◌-◌, ◌^◌, Err, IfErr, IfOk, Ok, OnOk, codes, option_map};
+ghost use Rattle.addr2line_context.specs.Calls.{ReturnsAsOrNoMemory};
+ghost use Rattle.addr2line_context.specs.Contexts.{stretches};
+ghost use Rattle.gimli_core_base.specs.ErrorText.{error_text};
+ghost use Rattle.linemap_lookup.specs.Programs.{RefusesBy, all_if_asked, begins_of, is_above, or_line};
+
+use addr2line_context::{Error, LocationRangeIter, Reader};
+use addr2line_loader::Loader;
+use linemap_output::{Ended, Options, fail, out_of_memory};
+use std::alloc::Global;
+use std::io::Write;
+
+// Whether an address is above the last one, if there is one.
+fn is_above(last: Option<u64>, address: u64) -> bool
+    ensures { result ≡ is_above last address }
+{
+    match last {
+        Some(last) => last < address,
+        None => true,
+    }
+}
+
+// The addresses at which stretches begin, those that are above all before them.
+fn begins_of<R: Reader>(
+    alloc: Global,
+    stretches: LocationRangeIter<'_, R>,
+) -> Result<Vec<u64>, Error>
+    ensures { ReturnsAsOrNoMemory (λ addresses. addresses.items) result
+        (begins_of stretches.entry) }
+{
+    let mut stretches = stretches;
+    let mut addresses = Vec::new(alloc);
+    let mut last = None;
+    'stretch: while let Some((address, _, _)) = stretches.next()? {
+        if is_above(last, address) {
+            addresses.push(address)?;
+            last = Some(address);
+        }
+    }
+    Ok(addresses)
+}
+
+// All addresses. The lines of all units are read, unless they are kept, and kept.
+fn all_addresses(alloc: Global, loader: &mut Loader) -> Result<Vec<u64>, Error>
+    ensures addresses { ReturnsAsOrNoMemory (λ addresses. addresses.items) result
+        (begins_of (stretches loader.old.context.context 0 (2 ^ 64 - 1))) }
+    ensures same { loader.new ≡ loader.old }
+{
+    let lines = loader.read_lines_between(0, u64::MAX)?;
+    begins_of(alloc, lines.stretches())
+}
+
+// Reports that not all addresses are found.
+fn all_refused<E: Write>(alloc: Global, error: Error, err: &mut E) -> Ended
+    ensures { RefusesBy (or_line (codes "failed to find all addresses: ") error_text
+        (Err error)) (E.contents err.old) (E.contents err.new) result }
+{
+    match format!(in alloc; "{error}") {
+        Ok(text) => fail(err, "failed to find all addresses: ", &text),
+        Err(_) => out_of_memory(err),
+    }
+}
+
+/// All addresses, if they are asked for.
+pub(crate) fn find_all<E: Write>(
+    alloc: Global,
+    loader: &mut Loader,
+    options: &Options,
+    err: &mut E,
+) -> Result<Option<Vec<u64>>, Ended>
+    ensures all { IfOk result (λ all.
+        all_if_asked options.now.all loader.old.context.context
+        ≡ Ok (option_map (λ addresses. addresses.items) all)) }
+    ensures same { OnOk result (err.new ≡ err.old) }
+    ensures file { loader.new ≡ loader.old }
+    ensures refusal { IfErr result (RefusesBy
+        (all_if_asked options.now.all loader.old.context.context)
+        (E.contents err.old) (E.contents err.new)) }
+{
+    if !options.all {
+        return Ok(None);
+    }
+    match all_addresses(alloc, loader) {
+        Ok(addresses) => Ok(Some(addresses)),
+        Err(Error::Memory) => Err(out_of_memory(err)),
+        Err(error) => Err(all_refused(alloc, error, err)),
+    }
+}

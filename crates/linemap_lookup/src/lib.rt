@@ -1,0 +1,18 @@
+//! The program `lookup`: the places and functions of addresses in an ELF file, over any readers and
+//! writers.
+#![tactic(auto)]
+
+mod all;
+mod answer;
+mod engine;
+mod frames;
+mod lines;
+mod lookups;
+mod names;
+mod printer;
+mod program;
+mod write;
+mod write_lines;
+
+pub use addr2line_split::{FileSource, LoadError, SplitSource, read_file};
+pub use program::run;

@@ -1,0 +1,186 @@
+//! How answers are written, one after the other.
+
+ghost use Rattle.std.specs.Prelude.{◌≡◌, false, IfErr, map, OnOk, Some, [], ◌∷◌};
+ghost use Rattle.std.specs.String.{string_bytes};
+ghost use Rattle.std.specs.Io.KnownBytes.{Appends};
+ghost use Rattle.linemap_meaning.specs.AnswerTexts.{word_address};
+ghost use Rattle.linemap_output.specs.WriterBytes.{AppendsPrefix};
+ghost use Rattle.linemap_lookup.specs.AnswerBuffers.{answer_of};
+ghost use Rattle.linemap_lookup.specs.LookupRuns.{Records, Stops, StopsAmong, StopsBefore, Writes, WritesAddress, WritesAddresses, with_flags};
+
+use crate::answer::AnswerBuffer;
+use crate::engine::Engine;
+use addr2line_context::Range;
+use addr2line_split::SplitSource;
+use linemap_meaning::address::read_address;
+use linemap_output::{Ended, Options, WriteFault, flush, out_of_memory, output_failed, write_text};
+use std::io::Write;
+
+/// What is asked of each address: the options, and the section that addresses count from.
+#[derive(Clone, Copy)]
+pub(crate) struct Question<'o> {
+    pub options: &'o Options,
+    pub section: Option<Range>,
+}
+
+// Writes a text, and flushes.
+fn write_flushed<W: Write>(out: &mut W, text: &str) -> Result<(), WriteFault>
+    ensures whole { OnOk result (Appends (W.contents out.old) (W.contents out.new) text.now) }
+    ensures prefix { AppendsPrefix (W.contents out.old) (W.contents out.new) text.now }
+{
+    write_text(out, text)?;
+    flush(out)
+}
+
+// Writes the error lines of an answer, and records a fault of the error stream.
+fn write_errors<E: Write>(errors: &str, err: &mut E, ended: &mut Ended)
+    ensures err { ended.new.write ≡ false
+        → Appends (E.contents err.old) (E.contents err.new) errors.now }
+    ensures flags { Records ended.old ended.new false }
+{
+    if errors.is_empty() {
+        return;
+    }
+    if write_flushed(err, errors).is_err() {
+        ended.write = true;
+    }
+}
+
+// Records that memory was refused, if it was.
+fn record_memory(is_refused: bool, ended: &mut Ended)
+    ensures { Records ended.old ended.new is_refused }
+{
+    if is_refused {
+        ended.memory = true;
+    }
+}
+
+// Records whether memory was refused, and writes the error lines of an answer.
+fn report<E: Write>(answer: &AnswerBuffer, err: &mut E, ended: &mut Ended)
+    ensures err { ended.new.write ≡ false
+        → Appends (E.contents err.old) (E.contents err.new) (string_bytes answer.now.errors) }
+    ensures flags { Records ended.old ended.new answer.now.is_memory_refused }
+{
+    record_memory(answer.is_memory_refused, ended);
+    write_errors(&answer.errors, err, ended);
+}
+
+// An end, with the flags that were set before.
+pub(crate) fn with_flags(earlier: Ended, last: Ended) -> Ended
+    ensures { result ≡ with_flags earlier last }
+{
+    Ended {
+        status: last.status,
+        memory: earlier.memory || last.memory,
+        read: earlier.read || last.read,
+        write: earlier.write || last.write,
+    }
+}
+
+// Writes an answer, and flushes.
+fn write_answer<O: Write, E: Write>(
+    answer: &AnswerBuffer,
+    out: &mut O,
+    err: &mut E,
+    ended: &mut Ended,
+) -> Result<(), Ended>
+    ensures whole { OnOk result (Writes (answer_of answer.now)
+        (record { out = O.contents out.old; err = E.contents err.old })
+        (record { out = O.contents out.new; err = E.contents err.new }) ended.old ended.new) }
+    ensures stop { IfErr result (Stops (answer_of answer.now)
+        (record { out = O.contents out.old; err = E.contents err.old })
+        (record { out = O.contents out.new; err = E.contents err.new }) ended.old) }
+{
+    report(answer, err, ended);
+    match write_flushed(out, &answer.text) {
+        Ok(()) => Ok(()),
+        Err(fault) => Err(with_flags(*ended, output_failed(err, fault))),
+    }
+}
+
+impl Engine {
+    /// Answers an address, writes its answer, and flushes. Error lines go to the error stream,
+    /// whose faults are only recorded.
+    pub fn write<S: SplitSource, O: Write, E: Write>(
+        &mut self,
+        question: Question<'_>,
+        address: Option<u64>,
+        source: &mut S,
+        out: &mut O,
+        err: &mut E,
+        ended: &mut Ended,
+    ) -> Result<(), Ended>
+        ensures whole { OnOk result (WritesAddress S.answers question.entry.options.now
+            question.entry.section address
+            (record { file = self.old.loader; source = source.old })
+            (record { file = self.new.loader; source = source.new })
+            (record { out = O.contents out.old; err = E.contents err.old })
+            (record { out = O.contents out.new; err = E.contents err.new }) ended.old ended.new) }
+        ensures stop { IfErr result (StopsBefore S.answers question.entry.options.now
+            question.entry.section (address ∷ [])
+            (record { file = self.old.loader; source = source.old })
+            (record { out = O.contents out.old; err = E.contents err.old })
+            (record { out = O.contents out.new; err = E.contents err.new }) ended.old) }
+    {
+        match self.answer(question.options, question.section, address, source) {
+            Ok(()) => write_answer(&self.answer, out, err, ended),
+            Err(_) => Err(with_flags(*ended, out_of_memory(err))),
+        }
+    }
+
+    /// Answers words, one after the other, as `write` does.
+    pub fn write_words<S: SplitSource, O: Write, E: Write>(
+        &mut self,
+        question: Question<'_>,
+        words: &[String],
+        source: &mut S,
+        out: &mut O,
+        err: &mut E,
+        ended: &mut Ended,
+    ) -> Result<(), Ended>
+        ensures whole { OnOk result (WritesAddresses S.answers question.entry.options.now
+            question.entry.section (map word_address (map string_bytes words.now))
+            (record { file = self.old.loader; source = source.old })
+            (record { file = self.new.loader; source = source.new })
+            (record { out = O.contents out.old; err = E.contents err.old })
+            (record { out = O.contents out.new; err = E.contents err.new }) ended.old ended.new) }
+        ensures stop { IfErr result (StopsAmong S.answers question.entry.options.now
+            question.entry.section (map word_address (map string_bytes words.now))
+            (record { file = self.old.loader; source = source.old })
+            (record { out = O.contents out.old; err = E.contents err.old })
+            (record { out = O.contents out.new; err = E.contents err.new }) ended.old) }
+    {
+        for word in words {
+            self.write(question, read_address(word), source, out, err, ended)?;
+        }
+        Ok(())
+    }
+
+    /// Answers addresses, one after the other, as `write` does.
+    pub fn write_addresses<S: SplitSource, O: Write, E: Write>(
+        &mut self,
+        question: Question<'_>,
+        addresses: &[u64],
+        source: &mut S,
+        out: &mut O,
+        err: &mut E,
+        ended: &mut Ended,
+    ) -> Result<(), Ended>
+        ensures whole { OnOk result (WritesAddresses S.answers question.entry.options.now
+            question.entry.section (map Some addresses.now)
+            (record { file = self.old.loader; source = source.old })
+            (record { file = self.new.loader; source = source.new })
+            (record { out = O.contents out.old; err = E.contents err.old })
+            (record { out = O.contents out.new; err = E.contents err.new }) ended.old ended.new) }
+        ensures stop { IfErr result (StopsAmong S.answers question.entry.options.now
+            question.entry.section (map Some addresses.now)
+            (record { file = self.old.loader; source = source.old })
+            (record { out = O.contents out.old; err = E.contents err.old })
+            (record { out = O.contents out.new; err = E.contents err.new }) ended.old) }
+    {
+        for address in addresses {
+            self.write(question, Some(*address), source, out, err, ended)?;
+        }
+        Ok(())
+    }
+}

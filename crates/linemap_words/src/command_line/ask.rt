@@ -1,0 +1,22 @@
+//! The subcommand `ask`.
+ghost use Rattle.std.specs.Prelude.{IfOk};
+ghost use Rattle.linemap_words.specs.CommandLine.{IsLocalApp, ask_app};
+
+use super::{addresses_argument, table_argument};
+use clap::Command;
+use std::alloc::{AllocError, Global};
+
+/// `ask TABLE ADDR..`: at least one address.
+pub fn ask_command<'a>(alloc: Global) -> Result<Command<'a>, AllocError>
+    ensures { IfOk result (λ command. IsLocalApp command ask_app) }
+{
+    let addresses = addresses_argument(alloc).required(true);
+    Command::new(alloc, "ask")
+        .about("Prints the source line of each address of a table")
+        .after_help(
+            "Example: the source line of one address\n  \
+            linemap ask table.json 0x100f",
+        )
+        .arg(table_argument(alloc))?
+        .arg(addresses)
+}

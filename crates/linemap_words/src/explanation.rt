@@ -1,0 +1,62 @@
+//! What is printed for a command line that is no request.
+ghost use Rattle.std.specs.Io.KnownBytes.{Appends};
+ghost use Rattle.std.specs.Prelude.{OnOk};
+ghost use Rattle.linemap_output.specs.WriterBytes.{AppendsPrefix};
+ghost use Rattle.linemap_words.specs.Explain.{Explains, PrintsHelp, PrintsMistake};
+
+use crate::request::WordsError;
+use linemap_output::{Ended, WriteFault, flush, out_of_memory, output_failed, write_text};
+use std::alloc::Global;
+use std::io::Write;
+
+/// Prints the help that a command line asks for to `out`, with status 0, or what is wrong with it
+/// to `err`, with status 2. A fault of `out` is reported to `err`, as by `ask`.
+pub fn explain<O: Write, E: Write>(
+    alloc: Global,
+    error: &WordsError,
+    out: &mut O,
+    err: &mut E,
+) -> Ended
+    ensures { Explains error.now (O.contents out.old) (O.contents out.new)
+        (E.contents err.old) (E.contents err.new) result }
+{
+    let WordsError::Fault(_) = error else {
+        return out_of_memory(err);
+    };
+    match format!(in alloc; "{error}") {
+        Ok(text) if error.is_help() => print_help(&text, out, err),
+        Ok(text) => print_mistake(&text, err),
+        Err(_) => out_of_memory(err),
+    }
+}
+
+// Prints help to the output.
+fn print_help<O: Write, E: Write>(text: &str, out: &mut O, err: &mut E) -> Ended
+    ensures { PrintsHelp text.now (O.contents out.old) (O.contents out.new)
+        (E.contents err.old) (E.contents err.new) result }
+{
+    match write_flushed(out, text) {
+        Ok(()) => Ended::with_status(0),
+        Err(fault) => output_failed(err, fault),
+    }
+}
+
+// Prints what is wrong with a command line to the error stream.
+fn print_mistake<E: Write>(text: &str, err: &mut E) -> Ended
+    ensures { PrintsMistake text.now (E.contents err.old) (E.contents err.new) result }
+{
+    let ended = Ended::with_status(2);
+    match write_flushed(err, text) {
+        Ok(()) => ended,
+        Err(_) => ended.with_write_fault(),
+    }
+}
+
+// Writes a text, and flushes.
+fn write_flushed<W: Write>(out: &mut W, text: &str) -> Result<(), WriteFault>
+    ensures whole { OnOk result (Appends (W.contents out.old) (W.contents out.new) text.now) }
+    ensures prefix { AppendsPrefix (W.contents out.old) (W.contents out.new) text.now }
+{
+    write_text(out, text)?;
+    flush(out)
+}
