@@ -146,7 +146,8 @@ module _ {S : Type 0} (answers : S → List ℕ → List ℕ → Result (Option 
   by_frames a file file_after source source_after old new asks grows =
       let before : LookupState S = record { file = file; source = source } in
       let after : LookupState S = record { file = file_after; source = source_after } in
-      let x = frames_answer o a (option_map symbol_name (symbol_at a file.symbols)) grows.found grows.got grows.is_refused in
+      let symbol = option_map symbol_name (symbol_at a file.symbols) in
+      let x = frames_answer o a symbol grows.found grows.got grows.is_refused in
       record {
         found = x;
         finds =

@@ -104,7 +104,9 @@ looked_up (Some r) (Some a) = if nat_lt a (r.end - r.begin) then Some (r.begin +
 abbrev pub with_address : Options → Option ℕ → Answer → Answer
 with_address o address x =
     record x {
-      text = address_text o (unwrap_or address 0) ++ (x.text ++ (if o.llvm then codes "\n" else []));
+      text =
+          address_text o (unwrap_or address 0)
+          ++ (x.text ++ (if o.llvm then codes "\n" else []));
     }
 
 -- an address as it was written, if it can be read, and its answer

@@ -11,8 +11,8 @@ use std::alloc::{AllocError, Global};
 use std::io::{BufRead, Error, ErrorKind};
 use std::str;
 
-/// The number of times that a reader is asked. Another time would be a fault.
-pub(crate) const MAX_TRIES: u64 = 1 << 40;
+// How many times a reader is asked. Another time would be a fault.
+const MAX_TRIES: u64 = u64::MAX;
 
 /// Why no line is read.
 #[derive(Clone, Copy, Debug, PartialEq, Eq)]
