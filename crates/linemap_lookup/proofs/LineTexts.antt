@@ -79,7 +79,7 @@ pub yields : (a b : Option (List ℕ)) (before mid after : LineBuffer) (found : 
 yields a b before mid after None reads some has unfinished failed fewer = record {
   rest = mid.line.items;
   consumes = reads.consumes;
-  none = λ clear. absurd (true≢false (sym has ∙ clear));
+  none = λ clear. absurd (true≢false (sym has.0 ∙ clear));
 }
 yields a b before mid after (Some address) reads some has unfinished failed fewer =
     let same : after ≡ mid = has.2 in

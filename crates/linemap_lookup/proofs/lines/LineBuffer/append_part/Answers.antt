@@ -38,4 +38,4 @@ returns-in_ok-extend_from_slice-in-Ok-clause-taken g c =
 pub returns-in-Err-clause-part : goal.returns-in-Err-clause-part
 returns-in-Err-clause-part g c =
     after_interruption _ _ _ _ c.count_interruption.result c.fill_buf.follows.holds-at-none.0
-    c.count_interruption.ensures
+    c.count_interruption.ensures.same
