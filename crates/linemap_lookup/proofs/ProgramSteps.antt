@@ -1,20 +1,24 @@
 -- From the steps of the program to what it prints.
 use Rattle.std.proofs.Common.{◌≡◌, ◌∙◌, Bool, true, false, List, [], ℕ, Option, Some, None, Result, Ok, Err, map, Global, String, string_bytes, inl, inr, refl, sym, ap, subst, true≢false}
-use Rattle.std.specs.Prelude.{◌||◌, option_map}
+use Rattle.std.specs.Prelude.{◌-◌, ◌^◌, ◌||◌, codes, option_map}
 use Rattle.std.specs.Io.KnownBytes.{Appends, Keeps}
+use Rattle.gimli_core_base.specs.ErrorText.{error_text}
+use Rattle.addr2line_context.specs.Contexts.{Context, stretches}
 use Rattle.addr2line_context.specs.Error.{Error}
 use Rattle.addr2line_context.specs.Results.{and_then}
+use Rattle.addr2line_split.specs.ElfImages.{Image, section_range}
 use Rattle.addr2line_split.specs.Range.{Range}
+use Rattle.addr2line_loader.specs.LoadedFiles.{LoadedFile, range_of}
 use Rattle.linemap_meaning.specs.AnswerTexts.{word_address}
-use Rattle.linemap_output.specs.ErrorLine.{EndsAtFault}
+use Rattle.linemap_output.specs.ErrorLine.{EndsAtFault, EndsOutOfMemory, Fails, error_line}
 use Rattle.linemap_output.specs.declared.ended.Ended.{Ended}
 use Rattle.linemap_output.specs.declared.options.Options.{Options}
 use Rattle.linemap_output.specs.declared.writing.WriteFault.{WriteFault}
 use Rattle.linemap_output.specs.declared.writing.WriteFault.TheVariants.{BrokenPipe, Failed}
-use Rattle.linemap_output.proofs.WritingLemmas.{appends_nothing}
+use Rattle.linemap_output.proofs.WritingLemmas.{appends_nothing, keeps_same}
 use Rattle.linemap_lookup.specs.LookupAnswers.{Answer, LookupState}
 use Rattle.linemap_lookup.specs.LookupRuns.{AnswersAll, AnswersSome, ReportsStop, Stops, StopsAmong, Streams, WritesAddresses}
-use Rattle.linemap_lookup.specs.Programs.{Asks, Outcome, Prints, Question, RefusesBy, Runs, RunsOn, answered}
+use Rattle.linemap_lookup.specs.Programs.{Asks, Outcome, Prints, Question, RefusesBy, RefusesOrNoMemory, Runs, RunsOn, all_if_asked, answered, begins_of, or_line, question_of, range_or_line, section_if_any}
 
 -- ---- flags
 
@@ -22,7 +26,8 @@ or_true : (a b : Bool) → b ≡ true → (a || b) ≡ true
 or_true true b is = refl
 or_true false b is = is
 
-fault_writes : (fault : WriteFault) (old new : Option (List ℕ)) (e : Ended) → EndsAtFault fault old new e → e.write ≡ true
+fault_writes : (fault : WriteFault) (old new : Option (List ℕ)) (e : Ended) → EndsAtFault fault old new e
+    → e.write ≡ true
 fault_writes Failed old new e ends = ends.2
 fault_writes BrokenPipe old new e ends = ap (λ (x : Ended). x.write) ends.1
 
@@ -39,6 +44,55 @@ no_stop x old new ended e stops memory write = at stops.reports
         true≢false
         (sym (ap (λ (y : Ended). y.write) stops.end
         ∙ or_true stops.noted.write stops.last.write (fault_writes fault.0 _ _ stops.last fault.1)) ∙ write)
+
+-- ---- refusals
+
+module _ (old new : Option (List ℕ)) (e : Ended) where
+  -- the line of a refusal is written, with its text
+  pub line_written : (message detail text : List ℕ) → detail ≡ text → Fails (error_line message detail) old new e
+      → e.memory ≡ false → RefusesOrNoMemory (error_line message text) old new e
+  line_written message detail text is fails memory =
+      inr (subst (λ d. Fails (error_line message d) old new e) is fails, memory)
+
+  -- what is asked is refused with this line
+  pub refused_with : {A : Type 0} (asked : Result A (List ℕ)) (line : List ℕ) → asked ≡ Err line
+      → RefusesOrNoMemory line old new e → RefusesBy asked old new e
+  refused_with asked line is (inl stop) = inl stop
+  refused_with asked line is (inr refuses) = inr (line, is, refuses)
+
+  -- all addresses are refused
+  pub all_refused_with : (is_asked : Bool) (c : Context) (f : Error) → is_asked ≡ true
+      → begins_of (stretches c 0 (2 ^ 64 - 1)) ≡ Err f
+      → RefusesOrNoMemory (error_line (codes "failed to find all addresses: ") (error_text f)) old new e
+      → RefusesBy (all_if_asked is_asked c) old new e
+  all_refused_with is_asked c f is refused =
+      refused_with (all_if_asked is_asked c) (error_line (codes "failed to find all addresses: ") (error_text f))
+      (ap (λ b. all_if_asked b c) is
+      ∙ ap (λ r. and_then (or_line (codes "failed to find all addresses: ") error_text r) (λ all. Ok (Some all))) refused)
+
+  -- there is no section of a name
+  pub section_missing : (asked : Option (List ℕ)) (image : Image) (name : List ℕ) (found : Option Range)
+      → asked ≡ Some name → found ≡ option_map range_of (section_range name image) → found ≡ None
+      → Fails (error_line (codes "cannot find section ") name) old new e → e.memory ≡ false
+      → RefusesBy (section_if_any asked image) old new e
+  section_missing asked image name found is is_found none fails memory =
+      inr
+      (error_line (codes "cannot find section ") name,
+      ap (λ a. section_if_any a image) is ∙ ap (range_or_line name) (sym is_found ∙ none), (fails, memory))
+
+-- all addresses are found
+pub all_found : (is_asked : Bool) (c : Context) (all : List ℕ) → is_asked ≡ true
+    → begins_of (stretches c 0 (2 ^ 64 - 1)) ≡ Ok all → all_if_asked is_asked c ≡ Ok (Some all)
+all_found is_asked c all is found =
+    ap (λ b. all_if_asked b c) is
+    ∙ ap (λ r. and_then (or_line (codes "failed to find all addresses: ") error_text r) (λ all. Ok (Some all))) found
+
+-- there is a section of a name
+pub section_there : (asked : Option (List ℕ)) (image : Image) (name : List ℕ) (found : Option Range) (range : Range)
+    → asked ≡ Some name → found ≡ option_map range_of (section_range name image) → found ≡ Some range
+    → section_if_any asked image ≡ Ok (Some range)
+section_there asked image name found range is is_found some =
+    ap (λ a. section_if_any a image) is ∙ ap (range_or_line name) (sym is_found ∙ some)
 
 module _ {S : Type 0} (answers : S → List ℕ → List ℕ → Result (Option (List ℕ)) Error → S → Type 0)
     (o : Options) (source : S) (input_old input_new : Option (List ℕ)) where
@@ -67,6 +121,7 @@ module _ {S : Type 0} (answers : S → List ℕ → List ℕ → Result (Option 
           are_addresses = all.writes.are_addresses;
           after = all.after;
           answer_them = all.writes.answer_them;
+          none_refused = sym (ap (λ (x : Ended). x.memory) all.end ∙ writes.flags.memory) ∙ memory;
           is_outcome = refl;
         },
         writes.out,
@@ -94,6 +149,36 @@ module _ {S : Type 0} (answers : S → List ℕ → List ℕ → Result (Option 
       → Runs answers o source input_old input_new (and_then asked rest) old new e
   asked_first asked x rest old new e is runs =
       subst (λ r. Runs answers o source input_old input_new (and_then r rest) old new e) (sym is) runs
+
+  -- ---- a file
+
+  module _ (file : LoadedFile) (old new : Streams) (e : Ended) where
+    -- what is asked of it is refused by its section
+    pub section_refused : RefusesBy (section_if_any (option_map string_bytes o.section) file.image) old.err new.err e
+        → Keeps old.out new.out → Runs answers o source input_old input_new (question_of o file) old new e
+    section_refused refuses kept =
+        refused_first (section_if_any (option_map string_bytes o.section) file.image) _ old new e refuses kept
+
+    -- or by all of its addresses
+    pub all_refused : (section : Option Range)
+        → section_if_any (option_map string_bytes o.section) file.image ≡ Ok section
+        → RefusesBy (all_if_asked o.all file.context.context) old.err new.err e → Keeps old.out new.out
+        → Runs answers o source input_old input_new (question_of o file) old new e
+    all_refused section is refuses kept =
+        asked_first (section_if_any (option_map string_bytes o.section) file.image) section _ old new e is
+        (refused_first (all_if_asked o.all file.context.context)
+        (λ all. Ok (record { file = file; section = section; all = all })) old new e refuses kept)
+
+    -- or it is answered
+    pub file_answered : (section : Option Range) (all : Option (List ℕ))
+        → section_if_any (option_map string_bytes o.section) file.image ≡ Ok section
+        → all_if_asked o.all file.context.context ≡ Ok all
+        → RunsOn answers o source input_old input_new (Ok (record { file = file; section = section; all = all })) old new e
+        → Runs answers o source input_old input_new (question_of o file) old new e
+    file_answered section all is all_is runs =
+        asked_first (section_if_any (option_map string_bytes o.section) file.image) section _ old new e is
+        (asked_first (all_if_asked o.all file.context.context) all
+        (λ all. Ok (record { file = file; section = section; all = all })) old new e all_is (inr runs))
 
   -- ---- addresses
 

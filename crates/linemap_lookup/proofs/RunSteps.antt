@@ -124,7 +124,8 @@ addresses_of ws = map word_address (map string_bytes ws)
 
 addresses_append : (vs ws : List (String Global)) → addresses_of (vs ++ ws) ≡ addresses_of vs ++ addresses_of ws
 addresses_append vs ws =
-    ap (map word_address) (map-append string_bytes vs ws) ∙ map-append word_address (map string_bytes vs) (map string_bytes ws)
+    ap (map word_address) (map-append string_bytes vs ws)
+    ∙ map-append word_address (map string_bytes vs) (map string_bytes ws)
 
 module _ (ws : List (String Global)) where
   taken : (i : ℕ) (w : String Global) → i < length ws → w ≡ get_or ws i w → take (i + 1) ws ≡ take i ws ++ w ∷ []
