@@ -1,6 +1,6 @@
 -- From the steps of the program to what it prints.
 use Rattle.std.proofs.Common.{◌≡◌, ◌∙◌, Bool, true, false, List, [], ℕ, Option, Some, None, Result, Ok, Err, map, Global, String, string_bytes, inl, inr, refl, sym, ap, subst, true≢false}
-use Rattle.std.specs.Prelude.{◌-◌, ◌^◌, ◌||◌, codes, option_map}
+use Rattle.std.specs.Prelude.{◌-◌, ◌^◌, ◌||◌, Vec, codes, option_map}
 use Rattle.std.specs.Io.KnownBytes.{Appends, Keeps}
 use Rattle.gimli_core_base.specs.ErrorText.{error_text}
 use Rattle.addr2line_context.specs.Contexts.{Context, stretches}
@@ -16,9 +16,10 @@ use Rattle.linemap_output.specs.declared.options.Options.{Options}
 use Rattle.linemap_output.specs.declared.writing.WriteFault.{WriteFault}
 use Rattle.linemap_output.specs.declared.writing.WriteFault.TheVariants.{BrokenPipe, Failed}
 use Rattle.linemap_output.proofs.WritingLemmas.{appends_nothing, keeps_same}
+use Rattle.linemap_lookup.specs.LineReads.{AsksLines}
 use Rattle.linemap_lookup.specs.LookupAnswers.{Answer, LookupState}
 use Rattle.linemap_lookup.specs.LookupRuns.{AnswersAll, AnswersSome, ReportsStop, Stops, StopsAmong, Streams, WritesAddresses}
-use Rattle.linemap_lookup.specs.Programs.{Asks, Outcome, Prints, Question, RefusesBy, RefusesOrNoMemory, Runs, RunsOn, all_if_asked, answered, begins_of, or_line, question_of, range_or_line, section_if_any}
+use Rattle.linemap_lookup.specs.Programs.{Asks, Outcome, Prints, Question, RefusesBy, RefusesOrNoMemory, Runs, RunsOn, all_if_asked, answered, begins_of, or_line, question_of, range_or_line, section_if_any, words_of}
 
 -- ---- flags
 
@@ -76,9 +77,11 @@ module _ (old new : Option (List ℕ)) (e : Ended) where
       → Fails (error_line (codes "cannot find section ") name) old new e → e.memory ≡ false
       → RefusesBy (section_if_any asked image) old new e
   section_missing asked image name found is is_found none fails memory =
-      inr
-      (error_line (codes "cannot find section ") name,
-      ap (λ a. section_if_any a image) is ∙ ap (range_or_line name) (sym is_found ∙ none), (fails, memory))
+      inr (
+        error_line (codes "cannot find section ") name,
+        ap (λ a. section_if_any a image) is ∙ ap (range_or_line name) (sym is_found ∙ none),
+        (fails, memory),
+      )
 
 -- all addresses are found
 pub all_found : (is_asked : Bool) (c : Context) (all : List ℕ) → is_asked ≡ true
@@ -182,43 +185,76 @@ module _ {S : Type 0} (answers : S → List ℕ → List ℕ → Result (Option 
 
   -- ---- addresses
 
-  module _ (section : Option Range) (before after : LookupState S) (old new : Streams) (ended e : Ended) where
+  -- what is asked for is the same
+  asked_as : (all all_asked : Option (List ℕ)) (words words_asked : Option (List (List ℕ))) → all_asked ≡ all
+      → words_asked ≡ words → {P : (Bool → List (Option ℕ) → Type 0) → Type 0}
+      → P (Asks all words input_old input_new) → P (Asks all_asked words_asked input_old input_new)
+  asked_as all all_asked words words_asked all_is words_are {P} is =
+      subst (λ a. P (Asks a words_asked input_old input_new)) (sym all_is)
+      (subst (λ ws. P (Asks all ws input_old input_new)) (sym words_are) is)
+
+  module _ (section : Option Range) (before : LookupState S) (old new : Streams) (ended e : Ended)
+      (all : Option (List ℕ)) (words : Option (List (List ℕ))) where
+    abbrev All : (Bool → List (Option ℕ) → Type 0) → Type 0
+    All asks = AnswersAll answers o section asks before old new ended e
+
+    abbrev First : (Bool → List (Option ℕ) → Type 0) → Type 0
+    First asks = AnswersSome answers o section asks before old new ended e
+
     -- all of the addresses of a file
-    pub all_answered : (all : List ℕ) (words : Option (List (List ℕ))) → input_new ≡ input_old → ended.read ≡ false
-        → WritesAddresses answers o section (map Some all) before after old new ended e
-        → AnswersAll answers o section (Asks (Some all) words input_old input_new) before old new ended e
-    all_answered all words same clear writes = record {
-      addresses = map Some all;
-      are_asked = (refl, same, writes.writes.flags.read ∙ clear);
-      after = after;
-      noted = e;
-      writes = writes;
-      end = refl;
-    }
+    pub all_answered : (list : List ℕ) (after : LookupState S) → all ≡ Some list → input_new ≡ input_old
+        → ended.read ≡ false → WritesAddresses answers o section (map Some list) before after old new ended e
+        → All (Asks all words input_old input_new)
+    all_answered list after is same clear writes =
+        asked_as (Some list) all words words is refl {P = All} (record {
+          addresses = map Some list;
+          are_asked = (refl, same, writes.writes.flags.read ∙ clear);
+          after = after;
+          noted = e;
+          writes = writes;
+          end = refl;
+        })
+
+    pub some_of_all : (list : List ℕ) → all ≡ Some list → input_new ≡ input_old
+        → StopsAmong answers o section (map Some list) before old new ended e → First (Asks all words input_old input_new)
+    some_of_all list is same stops =
+        asked_as (Some list) all words words is refl {P = First}
+        (record { addresses = map Some list; is_cut = false; are_asked = (refl, same, refl); stops = stops })
 
     -- those of words
-    pub words_answered : (words : List (List ℕ)) → input_new ≡ input_old → ended.read ≡ false
-        → WritesAddresses answers o section (map word_address words) before after old new ended e
-        → AnswersAll answers o section (Asks None (Some words) input_old input_new) before old new ended e
-    words_answered words same clear writes = record {
-      addresses = map word_address words;
-      are_asked = (refl, same, writes.writes.flags.read ∙ clear);
-      after = after;
-      noted = e;
-      writes = writes;
-      end = refl;
-    }
+    pub words_answered : (ws : List (List ℕ)) (after : LookupState S) → all ≡ None → words ≡ Some ws
+        → input_new ≡ input_old → ended.read ≡ false
+        → WritesAddresses answers o section (map word_address ws) before after old new ended e
+        → All (Asks all words input_old input_new)
+    words_answered ws after none is same clear writes =
+        asked_as None all (Some ws) words none is {P = All} (record {
+          addresses = map word_address ws;
+          are_asked = (refl, same, writes.writes.flags.read ∙ clear);
+          after = after;
+          noted = e;
+          writes = writes;
+          end = refl;
+        })
 
-  pub some_of_all : (section : Option Range) (before : LookupState S) (old new : Streams) (ended e : Ended)
-      (all : List ℕ) (words : Option (List (List ℕ))) → input_new ≡ input_old
-      → StopsAmong answers o section (map Some all) before old new ended e
-      → AnswersSome answers o section (Asks (Some all) words input_old input_new) before old new ended e
-  some_of_all section before old new ended e all words same stops =
-      record { addresses = map Some all; is_cut = false; are_asked = (refl, same, refl); stops = stops }
+    pub some_of_words : (ws : List (List ℕ)) → all ≡ None → words ≡ Some ws → input_new ≡ input_old
+        → StopsAmong answers o section (map word_address ws) before old new ended e
+        → First (Asks all words input_old input_new)
+    some_of_words ws none is same stops =
+        asked_as None all (Some ws) words none is {P = First}
+        (record { addresses = map word_address ws; is_cut = false; are_asked = (refl, same, refl); stops = stops })
 
-  pub some_of_words : (section : Option Range) (before : LookupState S) (old new : Streams) (ended e : Ended)
-      (words : List (List ℕ)) → input_new ≡ input_old
-      → StopsAmong answers o section (map word_address words) before old new ended e
-      → AnswersSome answers o section (Asks None (Some words) input_old input_new) before old new ended e
-  some_of_words section before old new ended e words same stops =
-      record { addresses = map word_address words; is_cut = false; are_asked = (refl, same, refl); stops = stops }
+    -- those of lines
+    pub lines_answered : all ≡ None → words ≡ None → All (AsksLines input_old input_new)
+        → All (Asks all words input_old input_new)
+    lines_answered none no_words is = asked_as None all None words none no_words {P = All} is
+
+    pub some_of_lines : all ≡ None → words ≡ None → First (AsksLines input_old input_new)
+        → First (Asks all words input_old input_new)
+    some_of_lines none no_words is = asked_as None all None words none no_words {P = First} is
+
+-- the words of options
+pub words_are : (o : Options) (ws : Vec (String Global) Global) (items : List (String Global)) → o.words ≡ Some ws
+    → items ≡ ws.items → words_of o ≡ Some (map string_bytes items)
+words_are o ws items is same =
+    ap (option_map (λ (v : Vec (String Global) Global). map string_bytes v.items)) is
+    ∙ ap (λ xs. Some (map string_bytes xs)) (sym same)

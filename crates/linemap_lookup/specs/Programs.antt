@@ -102,7 +102,7 @@ RefusesBy asked old new e =
 
 -- the words of the options, if there are any
 abbrev pub words_of : Options → Option (List (List ℕ))
-words_of o = option_map (λ ws. map string_bytes ws) o.words
+words_of o = option_map (λ ws. map string_bytes ws.items) o.words
 
 -- The addresses that are asked for: all, those of words, or those of the lines that are read,
 -- which end where a read fails.

@@ -168,6 +168,28 @@ impl Engine {
     }
 }
 
+// Loads a file, and answers what is asked of it.
+fn answer_image<S: SplitSource, R: BufRead, O: Write, E: Write>(
+    alloc: Global,
+    options: &Options,
+    image: Bytes,
+    supplement: Option<Bytes>,
+    source: &mut S,
+    lines: &mut R,
+    out: &mut O,
+    err: &mut E,
+) -> Ended
+    ensures { Runs S.answers options.now source.old (R.remaining lines.old)
+        (R.remaining lines.new) (question options.now image supplement)
+        (record { out = O.contents out.old; err = E.contents err.old })
+        (record { out = O.contents out.new; err = E.contents err.new }) result }
+{
+    match load(alloc, image, supplement, err) {
+        Ok(loader) => Engine::new(alloc, loader).run(options, source, lines, out, err),
+        Err(ended) => ended,
+    }
+}
+
 /// Answers the addresses that the options ask for: all at which a place of the file begins, or
 /// those of words, or else those of lines, each as soon as its line is read, until the input ends,
 /// a read fails or a line is no text. The output is flushed after each answer. Loads are answered
@@ -194,11 +216,14 @@ pub fn run<S: SplitSource + Drop, R: BufRead, O: Write, E: Write>(
         (record { out = O.contents out.new; err = E.contents err.new }) result }
 {
     let mut source = source;
-    match load(alloc, image, supplement, err) {
-        Ok(loader) => {
-            let mut engine = Engine::new(alloc, loader);
-            engine.run(options, &mut source, lines, out, err)
-        }
-        Err(ended) => ended,
-    }
+    answer_image(
+        alloc,
+        options,
+        image,
+        supplement,
+        &mut source,
+        lines,
+        out,
+        err,
+    )
 }
