@@ -12,7 +12,7 @@ use Rattle.addr2line_split.specs.Range.{Range}
 use Rattle.linemap_output.specs.declared.options.Options.{Options}
 use Rattle.linemap_lookup.specs.AddressTexts.{address_text, location_text_if_any}
 use Rattle.linemap_lookup.specs.FrameTexts.{frames_text}
-use Rattle.linemap_lookup.specs.FramesGot.{AreGot, PrintsFrames}
+use Rattle.linemap_lookup.specs.FirstFrames.{AreFirstFrames, PrintsFrames}
 use Rattle.linemap_lookup.specs.AnswerBuffers.{Grows, GrowsByFound, GrowsByFrames, GrowsByLookup, GrowsByPlace, GrowsByRefusal, answer_in}
 use Rattle.linemap_lookup.specs.LookupAnswers.{Answer, AnswersAddress, AnswersLookup, LookupState, asks_frames, frames_answer, looked_up, no_answer, place_answer, refusal_line, with_address}
 use Rattle.linemap_lookup.specs.declared.answer.AnswerBuffer.{AnswerBuffer}
@@ -45,16 +45,16 @@ grows_more old mid new x t grows text errors memory = record {
 
 -- ---- frames
 
--- frames that were all got
+-- frames that were all read
 pub found_all : (o : Options) (a : ℕ) (symbol : Option (List ℕ)) (all : List Frame) (old new : AnswerBuffer)
     (is_refused : Bool) → PrintsFrames o symbol all is_refused (string_bytes old.text) (string_bytes new.text)
     → is_refused ≡ false → new.errors ≡ old.errors → new.is_memory_refused ≡ old.is_memory_refused
     → GrowsByFound o a symbol all old new
 found_all o a symbol all old new is_refused prints none errors memory = record {
-  got = prints.got;
+  frames = prints.frames;
   is_refused = false;
-  are_got = subst (AreGot all prints.got) none prints.are_got;
-  grows = grows_text old new (frames_text o symbol prints.got) prints.text errors memory;
+  are_first = subst (AreFirstFrames all prints.frames) none prints.are_first;
+  grows = grows_text old new (frames_text o symbol prints.frames) prints.text errors memory;
 }
 
 -- frames, and then the refusal of the next one
@@ -64,9 +64,9 @@ pub found_some : (o : Options) (a : ℕ) (symbol : Option (List ℕ)) (all : Lis
     → GrowsByRefusal mid new (codes "failed to get next frame for ") a Memory
     → GrowsByFound o a symbol all old new
 found_some o a symbol all old mid new is_refused prints some errors memory refused = record {
-  got = prints.got;
+  frames = prints.frames;
   is_refused = true;
-  are_got = subst (AreGot all prints.got) some prints.are_got;
+  are_first = subst (AreFirstFrames all prints.frames) some prints.are_first;
   grows = record {
     text = refused.text ∙ append-nil (string_bytes mid.text) ∙ prints.text;
     errors =
@@ -115,9 +115,9 @@ module _ {S : Type 0} (answers : S → List ℕ → List ℕ → Result (Option 
   frames_found a see symbol file source f file_after source_after old new finds grows = record {
     found = Ok (see f);
     finds = finds_list a see file source f file_after source_after finds;
-    got = grows.got;
+    frames = grows.frames;
     is_refused = grows.is_refused;
-    are_got = grows.are_got;
+    are_first = grows.are_first;
     grows = grows.grows;
   }
 
@@ -129,9 +129,9 @@ module _ {S : Type 0} (answers : S → List ℕ → List ℕ → Result (Option 
   frames_refused a see symbol file source e file_after source_after old new finds grows = record {
     found = Err e;
     finds = finds_refusal a see file source e file_after source_after finds;
-    got = [];
+    frames = [];
     is_refused = false;
-    are_got = record { rest = []; whole = refl; ends = λ _. refl };
+    are_first = record { rest = []; whole = refl; ends = λ _. refl };
     grows = grows;
   }
 
@@ -146,7 +146,8 @@ module _ {S : Type 0} (answers : S → List ℕ → List ℕ → Result (Option 
   by_frames a file file_after source source_after old new asks grows =
       let before : LookupState S = record { file = file; source = source } in
       let after : LookupState S = record { file = file_after; source = source_after } in
-      let x = frames_answer o a (option_map symbol_name (symbol_at a file.symbols)) grows.found grows.got grows.is_refused in
+      let symbol = option_map symbol_name (symbol_at a file.symbols) in
+      let x = frames_answer o a symbol grows.found grows.frames grows.is_refused in
       record {
         found = x;
         finds =
@@ -154,9 +155,9 @@ module _ {S : Type 0} (answers : S → List ℕ → List ℕ → Result (Option 
             (record {
               found = grows.found;
               finds = grows.finds;
-              got = grows.got;
+              frames = grows.frames;
               is_refused = grows.is_refused;
-              are_got = grows.are_got;
+              are_first = grows.are_first;
               answer = refl;
             });
         grows = grows.grows;

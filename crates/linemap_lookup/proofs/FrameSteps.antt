@@ -3,7 +3,7 @@ use Rattle.std.proofs.Common.{◌≡◌, ◌∙◌, Bool, true, false, List, [],
 use Rattle.std.specs.Prelude.{OnOk, if◌then◌else◌}
 use Rattle.addr2line_context.specs.Frames.{Frame}
 use Rattle.linemap_output.specs.declared.options.Options.{Options}
-use Rattle.linemap_lookup.specs.FramesGot.{AreGot, PrintsFrames, PrintsOuter, TakesNext}
+use Rattle.linemap_lookup.specs.FirstFrames.{AreFirstFrames, PrintsFrames, PrintsOuter, TakesNext}
 use Rattle.linemap_lookup.specs.FrameTexts.{frame_text, inlined_by, frames_text, outer_frames_text, symbol_before, symbol_of_last}
 
 module _ (o : Options) (symbol : Option (List ℕ)) where
@@ -33,7 +33,7 @@ first_is f g fs gs is = (ap (head_or f) is, ap tail is)
     tail (x ∷ xs) = xs
 
 module _ (o : Options) (symbol : Option (List ℕ)) (first : Frame) (others : List Frame) (before : List ℕ) where
-  -- The frames before this one are printed; where there is none, all that were got are.
+  -- The frames before this one are printed; where there is none, all that were read are.
   abbrev pub IsAt : Option Frame → List Frame → Bool → List ℕ → Type 0
   IsAt (Some f) left is_refused now =
       (fs : List Frame) × (fs ++ f ∷ left ≡ first ∷ others) × (now ≡ before ++ outer_frames_text o None fs)
@@ -57,15 +57,15 @@ module _ (o : Options) (symbol : Option (List ℕ)) (first : Frame) (others : Li
   all_printed [] f rest s after whole ends text =
       let is = first_is f first rest others whole in
       record {
-        got = [];
-        are_got = record { rest = rest; whole = is.1; ends = ends };
+        frames = [];
+        are_first = record { rest = rest; whole = is.1; ends = ends };
         text = subst (λ g. after ≡ before ++ outer_frames_text o symbol (g ∷ [])) is.0 text;
       }
   all_printed (g ∷ gs) f rest s after whole ends text =
       let is = first_is g first (gs ++ f ∷ rest) others whole in
       record {
-        got = gs ++ f ∷ [];
-        are_got = record { rest = rest; whole = append_assoc gs (f ∷ []) rest ∙ is.1; ends = ends };
+        frames = gs ++ f ∷ [];
+        are_first = record { rest = rest; whole = append_assoc gs (f ∷ []) rest ∙ is.1; ends = ends };
         text = subst (λ h. after ≡ before ++ outer_frames_text o symbol (h ∷ (gs ++ f ∷ []))) is.0 text;
       }
 
@@ -99,9 +99,9 @@ module _ (o : Options) (symbol : Option (List ℕ)) (first : Frame) (others : Li
   at_end current left r now at is = subst (λ x. IsAt x left r now) is at
 
 module _ (o : Options) (symbol : Option (List ℕ)) (first : Frame) (old mid : List ℕ) where
-  abbrev frames_with : (got : List Frame) → Bool → List ℕ
-  frames_with got b = frame_text o (symbol_of_last symbol got) first
-      ++ (if b then outer_frames_text o symbol got else [])
+  abbrev frames_with : (frames : List Frame) → Bool → List ℕ
+  frames_with frames b = frame_text o (symbol_of_last symbol frames) first
+      ++ (if b then outer_frames_text o symbol frames else [])
 
   -- the first frame alone
   only_first : (second : Option Frame) (name : Option (List ℕ)) (left more : List Frame) (r s : Bool)
@@ -109,8 +109,8 @@ module _ (o : Options) (symbol : Option (List ℕ)) (first : Frame) (old mid : L
       → mid ≡ old ++ frame_text o name first → ((f : Frame) → second ≡ Some f → o.inlines ≡ false)
       → PrintsFrames o symbol (first ∷ left) s old mid
   only_first None name left more r s takes named text alone = record {
-    got = first ∷ [];
-    are_got = record {
+    frames = first ∷ [];
+    are_first = record {
       rest = takes.1.rest;
       whole = ap (λ t. first ∷ t) (takes.1.whole ∙ takes.0);
       ends = takes.1.ends;
@@ -125,8 +125,8 @@ module _ (o : Options) (symbol : Option (List ℕ)) (first : Frame) (old mid : L
       nothing true = refl
       nothing false = refl
   only_first (Some f) name left more r s takes named text alone = record {
-    got = first ∷ left;
-    are_got = record { rest = []; whole = append-nil (first ∷ left); ends = λ _. refl };
+    frames = first ∷ left;
+    are_first = record { rest = []; whole = append-nil (first ∷ left); ends = λ _. refl };
     text =
         text ∙ ap (λ n. old ++ frame_text o n first) named
         ∙ ap (λ t. old ++ t) (sym (append-nil (frame_text o None first)))
@@ -156,18 +156,18 @@ module _ (o : Options) (symbol : Option (List ℕ)) (first : Frame) (old mid : L
       let taken = subst (λ x. TakesNext (λ y. y) x left r more s) is takes in
       let no_name = named ∙ ap (λ x. symbol_before x symbol) is in
       record {
-        got = first ∷ f ∷ outer.got;
-        are_got = record {
-          rest = outer.are_got.rest;
-          whole = ap (λ l. first ∷ f ∷ l) outer.are_got.whole ∙ ap (λ l. first ∷ l) (sym taken.0);
-          ends = outer.are_got.ends;
+        frames = first ∷ f ∷ outer.frames;
+        are_first = record {
+          rest = outer.are_first.rest;
+          whole = ap (λ l. first ∷ f ∷ l) outer.are_first.whole ∙ ap (λ l. first ∷ l) (sym taken.0);
+          ends = outer.are_first.ends;
         };
         text =
             outer.text
-            ∙ ap (λ m. m ++ outer_frames_text o symbol (f ∷ outer.got))
+            ∙ ap (λ m. m ++ outer_frames_text o symbol (f ∷ outer.frames))
             (text ∙ ap (λ n. old ++ frame_text o n first) no_name)
-            ∙ append_assoc old (frame_text o None first) (outer_frames_text o symbol (f ∷ outer.got))
-            ∙ ap (λ b. old ++ frames_with (f ∷ outer.got) b) (sym inlines);
+            ∙ append_assoc old (frame_text o None first) (outer_frames_text o symbol (f ∷ outer.frames))
+            ∙ ap (λ b. old ++ frames_with (f ∷ outer.frames) b) (sym inlines);
       }
 
 pub on_ok : {T E : Type 0} (r : Result T E) {P Q : Type 0} → (P → Q) → OnOk r P → OnOk r Q

@@ -1,5 +1,5 @@
 -- Parts of a line, one after the other.
-use Rattle.std.proofs.Common.{◌≡◌, ◌≢◌, ◌∙◌, ℕ, ◌+◌, ◌-◌, ◌<◌, ◌≤◌, Bool, true, false, List, [], ◌∷◌, ◌++◌, All, length, take, Option, None, Some, IfSome, cond, refl, sym, ap, subst, arith, eqb, eq-eqb, eqb-true, get_or, true≢false, append_assoc, take_all, length-take-le, append-nil, Result, Ok, Err}
+use Rattle.std.proofs.Common.{◌≡◌, ◌≢◌, ◌∙◌, ℕ, ◌+◌, ◌-◌, ◌<◌, ◌≤◌, Bool, true, false, List, [], ◌∷◌, ◌++◌, All, length, take, Option, None, Some, IfSome, cond, refl, sym, ap, subst, arith, eq-eqb, get_or, true≢false, take_all, length-take-le, append-nil, Result, Ok, Err}
 use Rattle.std.specs.Prelude.{◌==◌, ◌||◌, ◌&&◌, nat_lt, OnOk}
 use Rattle.std.proofs.lemmas.Bool.{lt-ltb}
 use Rattle.std.proofs.lemmas.List.Quantifiers.{position-Some}
@@ -15,7 +15,7 @@ use Rattle.std.specs.List.{position, position_or_len}
 use Rattle.std.specs.Io.{StartsWith, StopsAt}
 use Rattle.std.specs.Io.BufRead.{DropsConsumable, ends_with_byte}
 use Rattle.std.specs.Io.KnownBytes.{Consumes, Keeps}
-use Rattle.linemap_lookup.specs.LineReads.{AppendsPart, IsPartOfLine, IsWholeInput, ReadsLine, is_whole, line_feed}
+use Rattle.linemap_lookup.specs.LineReads.{AppendsPart, IsPartOfLine, IsWholeInput, is_whole, line_feed}
 use Rattle.linemap_lookup.specs.declared.lines.LineBuffer.{LineBuffer}
 
 is_line_feed : ℕ → Bool
@@ -57,7 +57,7 @@ part_all bytes is =
     let le = all_before bytes _ refl is in
     record {
       prefix = sym (take-length bytes);
-      one_end = StopsAt-of_All bytes line_feed 
+      one_end = StopsAt-of_All bytes line_feed
           (λ k d l. other (get_or bytes k d) (fails_before_first (λ b. b == line_feed) bytes k d (omega arith)));
       some = λ some. some;
     }
@@ -108,10 +108,13 @@ next_part a b c first old mid new so_far unfinished fewer same part =
     let open_mid : mid.is_at_end ≡ false = ap (λ (x : LineBuffer). x.is_at_end) same ∙ closed.0 in
     let less : new.tries_left < first.tries_left = omega (arith, part.same.0, so_far.no_more) in
     record {
-      consumes = subst (Consumes a c) (sym items) (Consumes-trans a b c old.line.items part.part so_far.consumes part.consumes);
+      consumes =
+          subst (Consumes a c) (sym items)
+          (Consumes-trans a b c old.line.items part.part so_far.consumes part.consumes);
       one_end =
           subst (λ l. StopsAt l line_feed) (sym items)
-          (StopsAt-append old.line.items part.part line_feed (others old.line.items so_far.one_end closed.1) part.one_end);
+          (StopsAt-append old.line.items part.part line_feed (others old.line.items so_far.one_end closed.1)
+          part.one_end);
       end = λ ends.
           subst (IsWholeInput a) (sym items)
           (whole_after a b old.line.items part.part so_far.consumes (part.end ends open_mid));

@@ -66,9 +66,9 @@ reads_some a b c buffer ls so_far takes = record {
   all = λ no. absurd (true≢false no);
 }
 
-whole_then_nothing : (a b : Option (List ℕ)) (buffer : LineBuffer) (ls : List (List ℕ)) (so_far : ReadsSoFar a b buffer ls)
-    (is_at_end : Bool) → buffer.is_at_end ≡ is_at_end → (buffer.is_at_end ≡ false → IsWholeInput b [])
-    → IsWholeInput a so_far.taken
+whole_then_nothing : (a b : Option (List ℕ)) (buffer : LineBuffer) (ls : List (List ℕ))
+    (so_far : ReadsSoFar a b buffer ls) (is_at_end : Bool) → buffer.is_at_end ≡ is_at_end
+    → (buffer.is_at_end ≡ false → IsWholeInput b []) → IsWholeInput a so_far.taken
 whole_then_nothing a b buffer ls so_far true ends none = so_far.all ends
 whole_then_nothing a b buffer ls so_far false unfinished none =
     subst (IsWholeInput a) (append-nil so_far.taken)
@@ -110,49 +110,62 @@ module _ {S : Type 0} (answers : S → List ℕ → List ℕ → Result (Option 
   with_line ls line address is =
       ap (λ x. map word_address ls ++ x ∷ []) is ∙ sym (map-append word_address ls (line ∷ []))
 
-  pub lines_more : (a b c : Option (List ℕ)) (before after : LineBuffer) (s t u : LookupState S)
-      (old mid new : Streams) (e f g : Ended) (next : Option (Option ℕ)) (address : Option ℕ)
-      → AnswersSoFar a b before s t old mid e f → YieldsAddress b c before after next → next ≡ Some address
-      → WritesAddress answers o section address t u mid new f g → AnswersSoFar a c after s u old new e g
-  lines_more a b c before after s t u old mid new e f g next address so_far yields is writes =
+  -- an address is answered on the same error stream
+  written_from : (a : Option ℕ) (t u : LookupState S) (out err same : Option (List ℕ)) (new : Streams) (f g : Ended)
+      → same ≡ err → WritesAddress answers o section a t u (record { out = out; err = same }) new f g
+      → WritesAddress answers o section a t u (record { out = out; err = err }) new f g
+  written_from a t u out err same new f g is writes =
+      subst (λ (x : Option (List ℕ)). WritesAddress answers o section a t u (record { out = out; err = x }) new f g) is
+      writes
+
+  pub lines_more : (a b c : Option (List ℕ)) (before after : LineBuffer) (s t u : LookupState S) (old : Streams)
+      (out err same : Option (List ℕ)) (new : Streams) (e f g : Ended) (next : Option (Option ℕ)) (address : Option ℕ)
+      → AnswersSoFar a b before s t old (record { out = out; err = err }) e f → same ≡ err
+      → YieldsAddress b c before after next → next ≡ Some address
+      → WritesAddress answers o section address t u (record { out = out; err = same }) new f g
+      → AnswersSoFar a c after s u old new e g
+  lines_more a b c before after s t u old out err same new e f g next address so_far kept yields is writes =
       let line = subst (YieldsAddress b c before after) is yields in
+      let done = map word_address so_far.ls in
       record {
         ls = so_far.ls ++ line.0 ∷ [];
         reads = reads_more a b c before after so_far.ls line.0 so_far.reads line.1 line.3;
         writes =
-            subst (λ xs. WritesAddresses answers o section xs s u old new e g) (with_line so_far.ls line.0 address line.2)
-            (writes_more answers o section (map word_address so_far.ls) address s t u old mid new e f g so_far.writes
-            writes);
+            subst (λ xs. WritesAddresses answers o section xs s u old new e g)
+            (with_line so_far.ls line.0 address line.2)
+            (writes_more answers o section done address s t u old (record { out = out; err = err }) new e f g
+            so_far.writes (written_from address t u out err same new f g kept writes));
       }
 
   -- the program stops at a line
-  pub lines_stop : (a b c : Option (List ℕ)) (before after : LineBuffer) (s t : LookupState S)
-      (old mid new : Streams) (e f stop : Ended) (next : Option (Option ℕ)) (address : Option ℕ)
-      → AnswersSoFar a b before s t old mid e f → YieldsAddress b c before after next → next ≡ Some address
-      → StopsBefore answers o section (address ∷ []) t mid new f stop
+  pub lines_stop : (a b c : Option (List ℕ)) (before after : LineBuffer) (s t : LookupState S) (old : Streams)
+      (out err same : Option (List ℕ)) (new : Streams) (e f stop : Ended) (next : Option (Option ℕ))
+      (address : Option ℕ) → AnswersSoFar a b before s t old (record { out = out; err = err }) e f → same ≡ err
+      → YieldsAddress b c before after next → next ≡ Some address
+      → StopsBefore answers o section (address ∷ []) t (record { out = out; err = same }) new f stop
       → AnswersSome answers o section (AsksLines a c) s old new e stop
-  lines_stop a b c before after s t old mid new e f stop next address so_far yields is stops =
+  lines_stop a b c before after s t old out err same new e f stop next address so_far kept yields is stops =
       let line = subst (YieldsAddress b c before after) is yields in
+      let done = map word_address so_far.ls in
+      let reads = reads_more a b c before after so_far.ls line.0 so_far.reads line.1 line.3 in
       record {
         addresses = map word_address (so_far.ls ++ line.0 ∷ []);
         is_cut = true;
-        are_asked = (
-          so_far.ls ++ line.0 ∷ [],
-          reads_some a c c after _ (reads_more a b c before after so_far.ls line.0 so_far.reads line.1 line.3)
-              ([], Consumes-nil c),
-          refl,
-        );
+        are_asked = (so_far.ls ++ line.0 ∷ [], reads_some a c c after _ reads ([], Consumes-nil c), refl);
         stops =
-            stops_after answers o section (map word_address so_far.ls) [] _ address s t old mid new e f stop
-            (sym (with_line so_far.ls line.0 address line.2)) so_far.writes stops;
+            stops_after answers o section done [] _ address s t old (record { out = out; err = err }) new e f stop
+            (sym (with_line so_far.ls line.0 address line.2)) so_far.writes
+            (subst (λ (x : Option (List ℕ)).
+            StopsBefore answers o section (address ∷ []) t (record { out = out; err = x }) new f stop) kept stops);
       }
 
   -- or before one, out of memory
   pub lines_out_of_memory : (a b c : Option (List ℕ)) (buffer : LineBuffer) (s t : LookupState S) (old : Streams)
-      (out mid err : Option (List ℕ)) (e f last : Ended)
-      → AnswersSoFar a b buffer s t old (record { out = out; err = mid }) e f → Takes b c → EndsOutOfMemory mid err last
-      → AnswersSome answers o section (AsksLines a c) s old (record { out = out; err = err }) e (with_flags f last)
-  lines_out_of_memory a b c buffer s t old out mid err e f last so_far takes ends = record {
+      (out mid err : Option (List ℕ)) (e f stop : Ended)
+      → AnswersSoFar a b buffer s t old (record { out = out; err = mid }) e f → Takes b c
+      → (last : Ended) × EndsOutOfMemory mid err last × (stop ≡ with_flags f last)
+      → AnswersSome answers o section (AsksLines a c) s old (record { out = out; err = err }) e stop
+  lines_out_of_memory a b c buffer s t old out mid err e f stop so_far takes ends = record {
     addresses = map word_address so_far.ls;
     is_cut = true;
     are_asked = (so_far.ls, reads_some a b c buffer so_far.ls so_far.reads takes, refl);
@@ -167,17 +180,23 @@ module _ {S : Type 0} (answers : S → List ℕ → List ℕ → Result (Option 
       stops = record {
         partial = nothing;
         is_answer = inl refl;
-        stops = stops_out_of_memory out mid err f last ends;
+        stops =
+            subst
+            (λ (x : Ended).
+            Stops nothing (record { out = out; err = mid }) (record { out = out; err = err }) f x)
+            (sym ends.2) (stops_out_of_memory out mid err f ends.0 ends.1);
       };
     };
   }
 
   -- all are answered
-  pub lines_end : (a b c : Option (List ℕ)) (before after : LineBuffer) (s t : LookupState S) (old new : Streams)
-      (e f : Ended) (next : Option (Option ℕ)) → AnswersSoFar a b before s t old new e f
+  pub lines_end : (a b c : Option (List ℕ)) (before after : LineBuffer) (s t : LookupState S) (old : Streams)
+      (out err same : Option (List ℕ)) (e f : Ended) (next : Option (Option ℕ))
+      → AnswersSoFar a b before s t old (record { out = out; err = err }) e f → same ≡ err
       → YieldsAddress b c before after next → next ≡ None
-      → AnswersAll answers o section (AsksLines a c) s old new e (record f { read = after.has_failed })
-  lines_end a b c before after s t old new e f next so_far yields is = record {
+      → AnswersAll answers o section (AsksLines a c) s old (record { out = out; err = same }) e
+      (record f { read = after.has_failed })
+  lines_end a b c before after s t old out err same e f next so_far kept yields is = record {
     addresses = map word_address so_far.ls;
     are_asked = (
       so_far.ls,
@@ -186,6 +205,10 @@ module _ {S : Type 0} (answers : S → List ℕ → List ℕ → Result (Option 
     );
     after = t;
     noted = f;
-    writes = so_far.writes;
+    writes =
+        subst
+        (λ (x : Option (List ℕ)).
+        WritesAddresses answers o section (map word_address so_far.ls) s t old (record { out = out; err = x }) e f)
+        (sym kept) so_far.writes;
     end = refl;
   }

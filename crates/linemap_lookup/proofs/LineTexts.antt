@@ -1,5 +1,5 @@
 -- The lines of what is taken of an input.
-use Rattle.std.proofs.Common.{◌≡◌, ◌≢◌, ◌∙◌, ℕ, ◌+◌, ◌-◌, ◌<◌, ◌≤◌, Bool, true, false, List, [], ◌∷◌, ◌++◌, All, length, take, Option, None, Some, cond, refl, sym, ap, subst, arith, eqb, eq-eqb, eqb-true, get_or, ne_eqb, append_assoc, append-nil, take_all, true≢false}
+use Rattle.std.proofs.Common.{◌≡◌, ◌≢◌, ◌∙◌, ℕ, ◌+◌, ◌-◌, ◌<◌, Bool, true, false, List, [], ◌∷◌, ◌++◌, All, length, take, Option, None, Some, cond, refl, sym, ap, arith, eqb-true, get_or, ne_eqb, append_assoc, append-nil, take_all, true≢false}
 use Rattle.std.specs.Prelude.{◌==◌, ◌||◌}
 use Rattle.std.specs.Str.Lines.{lines, lines_of_parts, strip_carriage_return}
 use Rattle.std.specs.List.{slice_split}
@@ -7,7 +7,7 @@ use Rattle.std.specs.Io.{StopsAt}
 use Rattle.std.specs.Io.BufRead.{ends_with_byte, strip_last}
 use Rattle.std.proofs.lemmas.List.{take_more}
 use Rattle.std.proofs.lemmas.List.Splits.{length-slice_split, slice_split_at, slice_split_none}
-use Rattle.linemap_lookup.specs.LineReads.{HasAddress, ReadsLine, YieldsAddress, carriage_return, is_whole, line_feed, without_end}
+use Rattle.linemap_lookup.specs.LineReads.{HasAddress, ReadsLine, YieldsAddress, carriage_return, line_feed, without_end}
 use Rattle.linemap_lookup.specs.declared.lines.LineBuffer.{LineBuffer}
 use Rattle.linemap_lookup.proofs.LineParts.{last_byte, others}
 
@@ -30,7 +30,8 @@ body_and_end [] ends = absurd (let no : true ≡ false = sym ends in cc)
 body_and_end (x ∷ xs) ends =
     let all = x ∷ xs in
     sym (take_all (length all - 1 + 1) all (omega arith)) ∙ take_more all (length all - 1) 0 (omega arith)
-    ∙ ap (λ y. take (length all - 1) all ++ y ∷ []) (eqb-true (get_or all (length all - 1) 0) line_feed (sym (last_byte line_feed x xs) ∙ ends))
+    ∙ ap (λ y. take (length all - 1) all ++ y ∷ [])
+    (eqb-true (get_or all (length all - 1) 0) line_feed (sym (last_byte line_feed x xs) ∙ ends))
 
 stripped : (xs : List ℕ) → ends_with_byte line_feed xs ≡ true
     → strip_carriage_return (take (length xs - 1) xs) ≡ without_end xs
@@ -78,7 +79,7 @@ pub yields : (a b : Option (List ℕ)) (before mid after : LineBuffer) (found : 
 yields a b before mid after None reads some has unfinished failed fewer = record {
   rest = mid.line.items;
   consumes = reads.consumes;
-  none = λ clear. absurd (true≢false (sym has ∙ clear));
+  none = λ clear. absurd (true≢false (sym has.0 ∙ clear));
 }
 yields a b before mid after (Some address) reads some has unfinished failed fewer =
     let same : after ≡ mid = has.2 in

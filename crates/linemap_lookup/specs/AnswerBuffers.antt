@@ -9,7 +9,7 @@ use Rattle.addr2line_context.specs.Lines.{Location}
 use Rattle.addr2line_loader.specs.LoadedFiles.{LoadedFile}
 use Rattle.addr2line_loader.specs.SourceAnswers.{FindsFrames}
 use Rattle.linemap_output.specs.declared.options.Options.{Options}
-use Rattle.linemap_lookup.specs.FramesGot.{AreGot}
+use Rattle.linemap_lookup.specs.FirstFrames.{AreFirstFrames}
 use Rattle.linemap_lookup.specs.LookupAnswers.{AddressAnswer, Answer, AnswersIfAny, LookupState, found_or, frames_answer, is_memory, place_answer, refusal_line}
 use Rattle.linemap_lookup.specs.declared.answer.AnswerBuffer.{AnswerBuffer}
 
@@ -35,10 +35,10 @@ pub record GrowsByPlace (o : Options) (a : ℕ) (file : LoadedFile) (old new : A
 -- They grow by the answer of frames that were found, until one is refused.
 pub record GrowsByFound (o : Options) (a : ℕ) (symbol : Option (List ℕ)) (all : List Frame)
     (old new : AnswerBuffer) : Type 0 where
-  pub got : List Frame
+  pub frames : List Frame
   pub is_refused : Bool
-  pub are_got : AreGot all got is_refused
-  pub grows : Grows old new (frames_answer o a symbol (Ok all) got is_refused)
+  pub are_first : AreFirstFrames all frames is_refused
+  pub grows : Grows old new (frames_answer o a symbol (Ok all) frames is_refused)
 
 -- They grow by the answer of frames.
 pub record GrowsByFrames {S : Type 0}
@@ -47,10 +47,10 @@ pub record GrowsByFrames {S : Type 0}
     (old new : AnswerBuffer) (file_after : LoadedFile) (source_after : S) : Type 0 where
   pub found : Result (List Frame) Error
   pub finds : FindsFrames answers a (λ fs. fs) file source found file_after source_after
-  pub got : List Frame
+  pub frames : List Frame
   pub is_refused : Bool
-  pub are_got : AreGot (found_or [] found) got is_refused
-  pub grows : Grows old new (frames_answer o a symbol found got is_refused)
+  pub are_first : AreFirstFrames (found_or [] found) frames is_refused
+  pub grows : Grows old new (frames_answer o a symbol found frames is_refused)
 
 -- They grow by the answer of an address that is looked up, or of none.
 pub record GrowsByLookup {S : Type 0}

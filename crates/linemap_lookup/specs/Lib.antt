@@ -1,6 +1,6 @@
 pub mod AddressTexts
 pub mod FrameTexts
-pub mod FramesGot
+pub mod FirstFrames
 pub mod LookupAnswers
 pub mod AnswerBuffers
 pub mod LineReads

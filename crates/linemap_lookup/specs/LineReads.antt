@@ -62,7 +62,8 @@ pub record ReadsLine (old new : Option (List ℕ)) (b : LineBuffer) : Type 0 whe
 
 -- the address in a line, which is text; or the line is no text, which is a fault
 abbrev pub HasAddress : LineBuffer → LineBuffer → Option (Option ℕ) → Type 0
-HasAddress before after None = after.has_failed ≡ true
+HasAddress before after None =
+    (after.has_failed ≡ true) × (IsUtf8 (without_end before.line.items) → ⊥)
 HasAddress before after (Some a) =
     IsUtf8 (without_end before.line.items) × (a ≡ word_address (without_end before.line.items))
     × (after ≡ before)

@@ -17,7 +17,7 @@ use Rattle.linemap_output.specs.ErrorLine.{error_line}
 use Rattle.linemap_output.specs.declared.options.Options.{Options}
 use Rattle.linemap_lookup.specs.AddressTexts.{address_text, hexadecimal, location_text_if_any}
 use Rattle.linemap_lookup.specs.FrameTexts.{frames_text}
-use Rattle.linemap_lookup.specs.FramesGot.{AreGot}
+use Rattle.linemap_lookup.specs.FirstFrames.{AreFirstFrames}
 
 -- what is printed, to the output and to the error stream, and whether memory was refused
 pub record Answer : Type 0 where
@@ -63,11 +63,11 @@ abbrev pub next_refusal_line : ℕ → Bool → List ℕ
 next_refusal_line a false = []
 next_refusal_line a true = refusal_line (codes "failed to get next frame for ") a Memory
 
--- the frames that were got, with the refusal of all or of the next one
+-- the frames that were read, with the refusal of all or of the next one
 abbrev pub frames_answer : Options → ℕ → Option (List ℕ) → Result (List Frame) Error → List Frame
     → Bool → Answer
-frames_answer o a symbol found got is_refused = record {
-  text = frames_text o symbol got;
+frames_answer o a symbol found frames is_refused = record {
+  text = frames_text o symbol frames;
   errors = refusal_line_if_any (codes "failed to find frames for ") a found
       ++ next_refusal_line a is_refused;
   is_memory_refused = is_memory_refused found || is_refused;
@@ -104,7 +104,9 @@ looked_up (Some r) (Some a) = if nat_lt a (r.end - r.begin) then Some (r.begin +
 abbrev pub with_address : Options → Option ℕ → Answer → Answer
 with_address o address x =
     record x {
-      text = address_text o (unwrap_or address 0) ++ (x.text ++ (if o.llvm then codes "\n" else []));
+      text =
+          address_text o (unwrap_or address 0)
+          ++ (x.text ++ (if o.llvm then codes "\n" else []));
     }
 
 -- an address as it was written, if it can be read, and its answer
@@ -128,11 +130,11 @@ pub record AnswersFrames {S : Type 0}
     pub found : Result (List Frame) Error
     pub finds : FindsFrames answers a (λ fs. fs) before.file before.source found after.file
         after.source
-    pub got : List Frame
+    pub frames : List Frame
     pub is_refused : Bool
-    pub are_got : AreGot (found_or [] found) got is_refused
+    pub are_first : AreFirstFrames (found_or [] found) frames is_refused
     pub answer : x ≡ frames_answer o a (option_map symbol_name (symbol_at a before.file.symbols))
-        found got is_refused
+        found frames is_refused
 
 module _ {S : Type 0} (answers : S → List ℕ → List ℕ → Result (Option (List ℕ)) Error → S → Type 0)
     (o : Options) where

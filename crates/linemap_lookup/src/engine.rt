@@ -93,7 +93,8 @@ impl Engine {
 
     // Appends what is printed where nothing is looked up.
     fn answer_nothing(&mut self, options: &Options) -> Result<(), AllocError>
-        ensures answer { OnOk result (Grows self.old.answer self.new.answer (no_answer options.now)) }
+        ensures answer { OnOk result
+            (Grows self.old.answer self.new.answer (no_answer options.now)) }
         ensures same { self.new.loader ≡ self.old.loader }
     {
         if asks_frames(options) {

@@ -5,7 +5,7 @@ ghost use Rattle.std.specs.String.{string_bytes};
 ghost use Rattle.addr2line_context.specs.BorrowedFrames.{frames_left};
 ghost use Rattle.addr2line_context.specs.BorrowedLocations.{location_value};
 ghost use Rattle.linemap_lookup.specs.FrameTexts.{frame_line, frame_text, frames_text, inlined_by, symbol_before, symbol_or_function};
-ghost use Rattle.linemap_lookup.specs.FramesGot.{PrintsFrames, PrintsOuter, TakesNext};
+ghost use Rattle.linemap_lookup.specs.FirstFrames.{PrintsFrames, PrintsOuter, TakesNext};
 
 use crate::names::push_name;
 use crate::printer::push_place;

@@ -1,6 +1,7 @@
 //! The addresses in the lines of a reader.
 
-ghost use Rattle.std.specs.Prelude.{◌≡◌, ◌<◌, ◌==◌, false, IfOk, OnOk};
+ghost use Rattle.std.specs.Prelude.{◌≡◌, ◌<◌, ◌≤◌, ◌==◌, false, IfErr, IfOk, OnOk};
+ghost use Rattle.std.specs.IoError.{error_kind};
 ghost use Rattle.std.specs.Io.BufRead.{ends_with_byte, strip_last};
 ghost use Rattle.std.specs.List.{position};
 ghost use Rattle.linemap_lookup.specs.LineReads.{AppendsPart, HasAddress, IsPartOfLine, ReadsLine, Takes, YieldsAddress, is_whole, line_feed, without_end};
@@ -11,8 +12,8 @@ use std::alloc::{AllocError, Global};
 use std::io::{BufRead, Error, ErrorKind};
 use std::str;
 
-/// The number of times that a reader is asked. Another time would be a fault.
-pub(crate) const MAX_TRIES: u64 = 1 << 40;
+// How many times a reader is asked. Another time would be a fault.
+const MAX_TRIES: u64 = u64::MAX;
 
 /// Why no line is read.
 #[derive(Clone, Copy, Debug, PartialEq, Eq)]
@@ -115,9 +116,13 @@ impl LineBuffer {
         self.is_at_end || has_end(&self.line)
     }
 
-    // Counts an interruption in a row. Any other error is a fault.
+    // Counts an interruption in a row. Any other error is a fault, and so are too many of these.
     fn count_interruption(&mut self, error: &Error) -> Result<(), LineFault>
-        ensures { self.new ≡ record self.old { interruptions = self.new.interruptions } }
+        ensures again { OnOk result (error_kind error.now ≡ ErrorKind.Interrupted) }
+        ensures fault { IfErr result (λ fault. (fault ≡ LineFault.Read)
+            × (error_kind error.now ≡ ErrorKind.Interrupted
+            → MAX_INTERRUPTIONS ≤ self.new.interruptions)) }
+        ensures same { self.new ≡ record self.old { interruptions = self.new.interruptions } }
     {
         self.interruptions = self.interruptions.saturating_add(1);
         if error.kind() == ErrorKind::Interrupted && self.interruptions < MAX_INTERRUPTIONS {

@@ -11,5 +11,5 @@ returns-then-is_refused g c =
 
 pub returns-else-is_refused : goal.returns-else-is_refused
 returns-else-is_refused g c =
-    found_all c.args.options.now c.args.address _ _ c.args.answer.now _ _ c.in_ok-is_refused.ensures c.if-is_refused.false
-    refl refl
+    found_all c.args.options.now c.args.address _ _ c.args.answer.now _ _ c.in_ok-is_refused.ensures
+    c.if-is_refused.false refl refl

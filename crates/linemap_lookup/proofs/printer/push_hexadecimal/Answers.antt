@@ -15,4 +15,5 @@ is_printed o a old new r is done =
 pub returns-else-options : goal.returns-else-options
 returns-else-options c =
     let h = rw c.laid_out.ensures at (rw c.in_radix-else-options.ensures at c.write-else-options.ensures.bytes) in
-    is_printed c.args.options.now c.args.address _ _ _ c.if-options.false (rw (padded_to_16 (digits 16 false c.args.address)) at h)
+    is_printed c.args.options.now c.args.address _ _ _ c.if-options.false
+    (rw (padded_to_16 (digits 16 false c.args.address)) at h)

@@ -22,4 +22,5 @@ returns-in-None g c =
     (sym c.in-None.is ∙ c.looked_up.ensures)
     (on_ok c.answer_nothing.result
     (λ grows. by_none g.S.SplitSource.answers c.args.options.now c.args.self.now.loader
-    c.answer_nothing.new.self.loader c.args.source.now c.args.self.now.answer c.answer_nothing.new.self.answer c.answer_nothing.ensures.same grows) c.answer_nothing.ensures.answer)
+    c.answer_nothing.new.self.loader c.args.source.now c.args.self.now.answer c.answer_nothing.new.self.answer
+    c.answer_nothing.ensures.same grows) c.answer_nothing.ensures.answer)

@@ -15,5 +15,6 @@ pub returns-else-asks_frames : goal.returns-else-asks_frames
 returns-else-asks_frames g c =
     on_ok c.answer_place.result
     (λ grows. by_place g.S.SplitSource.answers c.args.options.now c.args.address c.args.self.now.loader
-    c.answer_place.new.loader c.args.source.now c.args.self.now.answer c.answer_place.new.answer (sym c.asks_frames.ensures ∙ c.if-asks_frames.false)
+    c.answer_place.new.loader c.args.source.now c.args.self.now.answer c.answer_place.new.answer
+    (sym c.asks_frames.ensures ∙ c.if-asks_frames.false)
     c.answer_place.ensures.same grows) c.answer_place.ensures.answer

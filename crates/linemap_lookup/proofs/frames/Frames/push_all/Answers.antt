@@ -17,6 +17,7 @@ pub returns-in-Some-2 : goal.returns-in-Some-2
 returns-in-Some-2 g c =
     on_ok c.push_outer.result
     (λ outer. first_and_outer c.args.options.now (option_map (λ s. s.now) c.args.symbol) c.args.first.now
-    (string_bytes c.args.text.now) (string_bytes c.push_frame.new.text) c.next-second.result c.in-Some.field-0 _ _ _ _ _ _ _ c.in-Some.is
+    (string_bytes c.args.text.now) (string_bytes c.push_frame.new.text) c.next-second.result c.in-Some.field-0
+    _ _ _ _ _ _ _ c.in-Some.is
     c.next-second.ensures c.symbol_before.ensures c.in_ok-push_frame.ensures c.if-not-options.false outer)
     c.push_outer.ensures
