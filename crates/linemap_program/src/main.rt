@@ -1,11 +1,10 @@
-//! The program `linemap`: command line, files and streams round the crate of that name.
+//! The program `linemap`: command line, files and streams around what its crates do with values.
 #![tactic(auto)]
 
-use linemap::{
-    FileSource, LoadError, Options, Request, Target, ask, cannot_load, cannot_read, cannot_write,
-    emission, explain, no_such_target, out_of_memory, read_file, read_words, run, target_of,
-    words_not_text,
-};
+use linemap_commands::{cannot_load, cannot_write, emission, no_such_target, target_of};
+use linemap_lookup::{FileSource, LoadError, read_file, run};
+use linemap_text::{Target, ask, cannot_read, out_of_memory, words_not_text};
+use linemap_words::{Options, Request, explain, read_words};
 use std::io::{BufReader, BufWriter, ErrorKind, Lock, Write};
 use std::process::ExitCode;
 use std::rt::{Env, Files};

@@ -1,6 +1,7 @@
 -- The program's command line, as the contracts of `clap` have it.
-use Rattle.std.specs.Prelude.{◌≡◌, ℕ, ◌∷◌, [], Some, true, false, codes, pos, slice_index_or}
-use Rattle.clap.specs.Words.{App, Rule, Text, app_of, new_app, new_rule, with_rule, with_subcommand}
+use Rattle.std.specs.Prelude.{◌≡◌, ℕ, List, ◌∷◌, [], Some, true, false, codes, pos, slice_index_or, ⊤}
+use Rattle.clap.specs.Words.{App, Rule, Text, app_of, new_app, new_rule, rule_of, with_rule, with_subcommand}
+use Rattle.clap.specs.declared.builder.arg.Arg.{Arg}
 use Rattle.clap.specs.declared.builder.command.Command.{Command}
 use Rattle.clap.specs.declared.builder.command.Command.TheViews.{out-Command as fields_of}
 use Rattle.clap.specs.declared.builder.value_parser.ValueParser.TheVariants.{Signed}
@@ -11,6 +12,14 @@ use Rattle.clap.specs.declared.builder.ArgAction.TheVariants.{Append, Set, SetTr
 -- the command is read as this application, and no argument of it is global
 abbrev pub IsLocalApp : Command → App → Type 0
 IsLocalApp command app = (app_of command ≡ app) × ((fields_of command).has_globals ≡ false)
+
+-- the arguments are read by these rules, and none of them is global
+abbrev pub HaveRules : List Arg → List Rule → Type 0
+HaveRules [] [] = ⊤
+HaveRules (argument ∷ arguments) (rule ∷ rules) =
+    (rule_of argument ≡ rule) × (argument.global ≡ false) × HaveRules arguments rules
+HaveRules [] (rule ∷ rules) = ⊥
+HaveRules (argument ∷ arguments) [] = ⊥
 
 -- a positional word that is required
 abbrev pub word_rule : Text → Rule
@@ -68,46 +77,51 @@ exe_rule = record (with_short (letter (codes "e")) (option_rule (codes "exe"))) 
 abbrev pub section_rule : Rule
 section_rule = with_short (letter (codes "j")) (option_rule (codes "section"))
 
+-- the command has these arguments too, in turn
+abbrev pub with_rules : App → List Rule → App
+with_rules app [] = app
+with_rules app (rule ∷ rules) = with_rules (with_rule app rule) rules
+
 -- `ask TABLE ADDR..`
 abbrev pub ask_app : App
-ask_app =
-    with_rule (with_rule (new_app (codes "ask")) table_rule)
-    (record addresses_rule { required = true })
+ask_app = with_rules (new_app (codes "ask"))
+    (table_rule ∷ record addresses_rule { required = true } ∷ [])
 
--- `emit TABLE OUT [--dwarf N] [--bits N] [--size N] [--big]`
+-- `TABLE OUT [--dwarf N] [--bits N] [--size N] [--big]`
+abbrev pub emit_rules : List Rule
+emit_rules = table_rule
+    ∷ out_rule
+    ∷ number_rule (codes "dwarf") (codes "4")
+    ∷ number_rule (codes "bits") (codes "32")
+    ∷ number_rule (codes "size") (codes "8")
+    ∷ flag_rule (codes "big")
+    ∷ []
+
+-- `emit TABLE OUT [OPTIONS]`
 abbrev pub emit_app : App
-emit_app =
-    let files = with_rule (with_rule (new_app (codes "emit")) table_rule) out_rule in
-    let dwarf = with_rule files (number_rule (codes "dwarf") (codes "4")) in
-    let bits = with_rule dwarf (number_rule (codes "bits") (codes "32")) in
-    let size = with_rule bits (number_rule (codes "size") (codes "8")) in
-    with_rule size (flag_rule (codes "big"))
+emit_app = with_rules (new_app (codes "emit")) emit_rules
 
 -- `-e FILE [--sup FILE] [-j NAME] [--all]`
-abbrev pub with_source_rules : App → App
-with_source_rules app =
-    let exe = with_rule app exe_rule in
-    let sup = with_rule exe (option_rule (codes "sup")) in
-    let section = with_rule sup section_rule in
-    with_rule section (flag_rule (codes "all"))
+abbrev pub source_rules : List Rule
+source_rules = exe_rule ∷ option_rule (codes "sup") ∷ section_rule ∷ flag_rule (codes "all") ∷ []
 
--- `[-f] [-p] [-i] [-a] [-s] [-C]`
-abbrev pub with_detail_rules : App → App
-with_detail_rules app =
-    let functions = with_rule app (short_flag_rule (codes "f") (codes "functions")) in
-    let pretty = with_rule functions (short_flag_rule (codes "p") (codes "pretty-print")) in
-    let inlines = with_rule pretty (short_flag_rule (codes "i") (codes "inlines")) in
-    let addresses = with_rule inlines (short_flag_rule (codes "a") (codes "addresses")) in
-    let basenames = with_rule addresses (short_flag_rule (codes "s") (codes "basenames")) in
-    with_rule basenames (short_flag_rule (codes "C") (codes "demangle"))
+-- `[-f] [-p] [-i] [-a] [-s] [-C] [--llvm] [--statements]`
+abbrev pub detail_rules : List Rule
+detail_rules = short_flag_rule (codes "f") (codes "functions")
+    ∷ short_flag_rule (codes "p") (codes "pretty-print")
+    ∷ short_flag_rule (codes "i") (codes "inlines")
+    ∷ short_flag_rule (codes "a") (codes "addresses")
+    ∷ short_flag_rule (codes "s") (codes "basenames")
+    ∷ short_flag_rule (codes "C") (codes "demangle")
+    ∷ flag_rule (codes "llvm")
+    ∷ flag_rule (codes "statements")
+    ∷ []
 
 -- `lookup -e FILE [OPTIONS] [ADDR..]`
 abbrev pub lookup_app : App
 lookup_app =
-    let options = with_detail_rules (with_source_rules (new_app (codes "lookup"))) in
-    let llvm = with_rule options (flag_rule (codes "llvm")) in
-    let statements = with_rule llvm (flag_rule (codes "statements")) in
-    with_rule statements addresses_rule
+    let sources = with_rules (new_app (codes "lookup")) source_rules in
+    with_rule (with_rules sources detail_rules) addresses_rule
 
 -- the subcommands, of which one is required
 unfoldable pub linemap_app : App

@@ -107,3 +107,9 @@ IsRefusal Memory kinds matches = ⊤
 IsRefusal (Fault error) kinds matches = IsAmong (kind_of error) kinds ⊎ ((kinds ≡ [])
     × (((kind_of error ≡ MissingRequiredArgument) × LacksRequest matches)
     ⊎ ((kind_of error ≡ ArgumentConflict) × IsSomeAnd matches HasConflict)))
+
+-- the error refuses a command line whose parse has no fault, and whose matches are no request for
+-- this reason
+abbrev pub RefusesAfter : Mismatch → WordsError → Type 0
+RefusesAfter why error = (kinds : Kinds) (matches : Option (Text × List Row))
+    → kinds ≡ [] → IsMismatch why matches → IsRefusal error kinds matches

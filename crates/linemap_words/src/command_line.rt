@@ -1,6 +1,6 @@
 //! The program's command and its subcommands, for `clap`.
-ghost use Rattle.std.specs.Prelude.{◌≡◌, IfOk, false};
-ghost use Rattle.clap.specs.Words.{app_of, rule_of};
+ghost use Rattle.std.specs.Prelude.{◌≡◌, IfOk, IsOkAnd, false};
+ghost use Rattle.clap.specs.Words.{AddsSubcommand, app_of, rule_of};
 ghost use Rattle.linemap_words.specs.CommandLine.{addresses_rule, linemap_app, table_rule};
 
 mod ask;
@@ -27,22 +27,30 @@ pub const WORDS: &str = "words";
 pub fn linemap_command<'a>(alloc: Global) -> Result<Command<'a>, AllocError>
     ensures { IfOk result (λ command. app_of command ≡ linemap_app) }
 {
-    let ask = ask_command(alloc)?;
-    let emit = emit_command(alloc)?;
-    let lookup = lookup_command(alloc)?;
     // The same name wherever the executable is.
     let command = Command::new(alloc, "linemap").bin_name("linemap")?;
-    command
+    let command = command
         .about("Answers which source line an address belongs to")
         .after_help(
             "Example: the line of an address in a program, and of one in a table\n  \
             linemap lookup -e ./a.out 0x1139\n  \
             linemap ask table.json 0x100f",
         )
-        .subcommand_required(true)
-        .subcommand(lookup)?
-        .subcommand(ask)?
-        .subcommand(emit)
+        .subcommand_required(true);
+    let command = with_subcommand(command, lookup_command(alloc))?;
+    let command = with_subcommand(command, ask_command(alloc))?;
+    with_subcommand(command, emit_command(alloc))
+}
+
+// A command with a subcommand, where memory for that was there.
+fn with_subcommand<'a>(
+    command: Command<'a>,
+    subcommand: Result<Command<'a>, AllocError>,
+) -> Result<Command<'a>, AllocError>
+    ensures { IfOk result (λ new. IsOkAnd subcommand.entry
+        (λ subcommand. AddsSubcommand command.entry subcommand new)) }
+{
+    command.subcommand(subcommand?)
 }
 
 // The path of a table's file.

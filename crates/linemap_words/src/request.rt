@@ -1,8 +1,8 @@
 //! What the words of a command line ask for.
 ghost use Rattle.std.specs.Prelude.{◌≡◌, IfOk, IfErr, IsSomeAnd, Some, map, codes, string_bytes};
-ghost use Rattle.clap.specs.Words.{fault_of, found_of, kind_of, rows_of, subcommand_of, subcommand_rows_of};
+ghost use Rattle.clap.specs.Words.{app_of, fault_of, found_of, kind_of, rows_of, subcommand_of, subcommand_rows_of};
 ghost use Rattle.linemap_words.specs.CommandLine.{linemap_app};
-ghost use Rattle.linemap_words.specs.WordsRequest.{AreOptionsOf, IsFault, IsMismatch, IsRefusal, IsRequestOf};
+ghost use Rattle.linemap_words.specs.WordsRequest.{AreOptionsOf, IsFault, IsMismatch, IsRefusal, IsRequestOf, RefusesAfter};
 
 use crate::command_line::{
     ADDRESSES, ALL, BASENAMES, BIG, BITS, DEMANGLE, DWARF, EXE, FUNCTIONS, INLINES, LLVM, OUT,
@@ -117,7 +117,6 @@ impl WordsError {
     }
 }
 
-#[tactic(auto, using(crate::proofs::SimpleCommand::is_simple, crate::proofs::SimpleCommand::is_free))]
 /// Reads the words of a command line, of which the first is the program's name. Its answers take
 /// memory for copies of the words.
 pub fn read_words(alloc: Global, words: &[String]) -> Result<Request, WordsError>
@@ -128,15 +127,44 @@ pub fn read_words(alloc: Global, words: &[String]) -> Result<Request, WordsError
         (subcommand_of linemap_app (map string_bytes words.now))) }
 {
     let mut command = linemap_command(alloc)?;
-    let matches = match command.try_get_matches_from_mut(words) {
-        Ok(matches) => matches,
-        Err(error) => return Err(error_of(error)),
+    read_by(alloc, &mut command, words)
+}
+
+#[tactic(auto, using(crate::proofs::SimpleCommand::is_simple, crate::proofs::SimpleCommand::is_free))]
+// Reads the words by the program's command.
+fn read_by<'a>(
+    alloc: Global,
+    command: &mut Command<'a>,
+    words: &'a [String],
+) -> Result<Request, WordsError>
+    requires { app_of command.old ≡ linemap_app }
+    ensures request { IfOk result (λ request. IsSomeAnd
+        (subcommand_of linemap_app (map string_bytes words.now)) (IsRequestOf request)) }
+    ensures refusal { IfErr result (λ error. IsRefusal error
+        (fault_of linemap_app (map string_bytes words.now))
+        (subcommand_of linemap_app (map string_bytes words.now))) }
+{
+    match command.try_get_matches_from_mut(words) {
+        Ok(matches) => match request_in(alloc, &matches) {
+            Ok(request) => Ok(request),
+            Err(mismatch) => Err(refusal_of(alloc, command, mismatch)),
+        },
+        Err(error) => Err(error_of(error)),
+    }
+}
+
+// Why the words are no request, where their matches are none.
+fn refusal_of(alloc: Global, command: &mut Command<'_>, mismatch: Mismatch) -> WordsError
+    ensures { RefusesAfter mismatch result }
+{
+    let error = match mismatch {
+        Mismatch::NoMemory => return WordsError::Memory,
+        Mismatch::Missing => missing(command),
+        Mismatch::Conflict => conflict(alloc),
     };
-    match request_in(alloc, &matches) {
-        Ok(request) => Ok(request),
-        Err(Mismatch::NoMemory) => Err(WordsError::Memory),
-        Err(Mismatch::Missing) => Err(error_of(missing(&mut command)?)),
-        Err(Mismatch::Conflict) => Err(error_of(conflict(alloc)?)),
+    match error {
+        Ok(error) => error_of(error),
+        Err(_) => WordsError::Memory,
     }
 }
 

@@ -11,12 +11,12 @@ pub fn ask_command<'a>(alloc: Global) -> Result<Command<'a>, AllocError>
     ensures { IfOk result (λ command. IsLocalApp command ask_app) }
 {
     let addresses = addresses_argument(alloc).required(true);
+    let arguments = vec![in alloc; table_argument(alloc), addresses]?;
     Command::new(alloc, "ask")
         .about("Prints the source line of each address of a table")
         .after_help(
             "Example: the source line of one address\n  \
             linemap ask table.json 0x100f",
         )
-        .arg(table_argument(alloc))?
-        .arg(addresses)
+        .args(arguments)
 }

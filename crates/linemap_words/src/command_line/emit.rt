@@ -27,10 +27,14 @@ pub const BIG: &str = "big";
 pub fn emit_command<'a>(alloc: Global) -> Result<Command<'a>, AllocError>
     ensures { IfOk result (λ command. IsLocalApp command emit_app) }
 {
-    let dwarf = number_option(alloc, DWARF, "4", "Version of DWARF");
-    let bits = number_option(alloc, BITS, "32", "Format of DWARF, 32 or 64 bits");
-    let size = number_option(alloc, SIZE, "8", "Size of an address, 4 or 8 bytes");
-    let big = flag(alloc, BIG, "Write the most significant byte first");
+    let arguments = vec![in alloc;
+        table_argument(alloc),
+        out_argument(alloc),
+        number_option(alloc, DWARF, "4", "Version of DWARF"),
+        number_option(alloc, BITS, "32", "Format of DWARF, 32 or 64 bits"),
+        number_option(alloc, SIZE, "8", "Size of an address, 4 or 8 bytes"),
+        flag(alloc, BIG, "Write the most significant byte first"),
+    ]?;
     Command::new(alloc, "emit")
         .about("Writes a table as an ELF file with debug information")
         .after_help(
@@ -38,12 +42,7 @@ pub fn emit_command<'a>(alloc: Global) -> Result<Command<'a>, AllocError>
             linemap emit table.json table.elf\n  \
             linemap lookup -e table.elf 0x100f",
         )
-        .arg(table_argument(alloc))?
-        .arg(out_argument(alloc))?
-        .arg(dwarf)?
-        .arg(bits)?
-        .arg(size)?
-        .arg(big)
+        .args(arguments)
 }
 
 // The path of the file to be written.

@@ -1,8 +1,7 @@
 //! The subcommand `lookup`.
 ghost use Rattle.std.specs.Prelude.{◌≡◌, IfOk, false};
-ghost use Rattle.clap.specs.Words.{app_of, rule_of};
-ghost use Rattle.clap.specs.declared.builder.command.Command.TheViews.{out-Command as fields_of};
-ghost use Rattle.linemap_words.specs.CommandLine.{IsLocalApp, exe_rule, lookup_app, section_rule, with_detail_rules, with_source_rules};
+ghost use Rattle.clap.specs.Words.{rule_of};
+ghost use Rattle.linemap_words.specs.CommandLine.{HaveRules, IsLocalApp, detail_rules, exe_rule, lookup_app, section_rule, source_rules};
 
 use super::addresses_argument;
 use super::flags::{flag, short_flag, text_option};
@@ -65,31 +64,27 @@ Where it can't be used, one of these is printed:
 pub fn lookup_command<'a>(alloc: Global) -> Result<Command<'a>, AllocError>
     ensures { IfOk result (λ command. IsLocalApp command lookup_app) }
 {
-    let command = Command::new(alloc, "lookup")
+    let sources = source_arguments(alloc)?;
+    let details = detail_arguments(alloc)?;
+    Command::new(alloc, "lookup")
         .about("Prints the source line of each address of a program")
-        .after_help(NOTES);
-    let command = with_sources(alloc, command)?;
-    let command = with_details(alloc, command)?;
-    let llvm = flag(alloc, LLVM, "Print as llvm-symbolizer does, with columns");
-    let statements = flag(alloc, STATEMENTS, "Mark lines where no statement begins");
-    command
-        .arg(llvm)?
-        .arg(statements)?
+        .after_help(NOTES)
+        .args(sources)?
+        .args(details)?
         .arg(addresses_argument(alloc))
 }
 
 // The options of what is looked into, and at which addresses.
-fn with_sources<'a>(alloc: Global, command: Command<'a>) -> Result<Command<'a>, AllocError>
-    requires { (fields_of command).has_globals ≡ false }
-    ensures { IfOk result (λ r. IsLocalApp r (with_source_rules (app_of command.entry))) }
+fn source_arguments<'a>(alloc: Global) -> Result<Vec<Arg<'a>>, AllocError>
+    ensures { IfOk result (λ arguments. HaveRules arguments.items source_rules) }
 {
-    let sup = text_option(alloc, SUP, "FILE", "The program's supplementary debug file");
-    let all = flag(alloc, ALL, "Look up every address where a line begins");
-    command
-        .arg(exe_argument(alloc))?
-        .arg(sup)?
-        .arg(section_argument(alloc))?
-        .arg(all)
+    let arguments = vec![in alloc;
+        exe_argument(alloc),
+        text_option(alloc, SUP, "FILE", "The program's supplementary debug file"),
+        section_argument(alloc),
+        flag(alloc, ALL, "Look up every address where a line begins"),
+    ]?;
+    Ok(arguments)
 }
 
 // The path of the file that is looked into.
@@ -117,36 +112,33 @@ fn section_argument<'a>(alloc: Global) -> Arg<'a>
 }
 
 // The options of what is printed of an address.
-fn with_details<'a>(alloc: Global, command: Command<'a>) -> Result<Command<'a>, AllocError>
-    requires { (fields_of command).has_globals ≡ false }
-    ensures { IfOk result (λ r. IsLocalApp r (with_detail_rules (app_of command.entry))) }
+fn detail_arguments<'a>(alloc: Global) -> Result<Vec<Arg<'a>>, AllocError>
+    ensures { IfOk result (λ arguments. HaveRules arguments.items detail_rules) }
 {
-    let functions = short_flag(alloc, FUNCTIONS, 'f', "Print the function too");
-    let pretty = short_flag(
-        alloc,
-        PRETTY,
-        'p',
-        "Print each function with its line on one line",
-    );
-    let inlines = short_flag(
-        alloc,
-        INLINES,
-        'i',
-        "Print the functions that it is inlined into too",
-    );
-    let addresses = short_flag(alloc, ADDRESSES, 'a', "Print the address first");
-    let basenames = short_flag(
-        alloc,
-        BASENAMES,
-        's',
-        "Print files without their directories",
-    );
-    let demangle = short_flag(alloc, DEMANGLE, 'C', "Demangle the names of functions");
-    command
-        .arg(functions)?
-        .arg(pretty)?
-        .arg(inlines)?
-        .arg(addresses)?
-        .arg(basenames)?
-        .arg(demangle)
+    let arguments = vec![in alloc;
+        short_flag(alloc, FUNCTIONS, 'f', "Print the function too"),
+        short_flag(
+            alloc,
+            PRETTY,
+            'p',
+            "Print each function with its line on one line"
+        ),
+        short_flag(
+            alloc,
+            INLINES,
+            'i',
+            "Print the functions that it is inlined into too"
+        ),
+        short_flag(alloc, ADDRESSES, 'a', "Print the address first"),
+        short_flag(
+            alloc,
+            BASENAMES,
+            's',
+            "Print files without their directories"
+        ),
+        short_flag(alloc, DEMANGLE, 'C', "Demangle the names of functions"),
+        flag(alloc, LLVM, "Print as llvm-symbolizer does, with columns"),
+        flag(alloc, STATEMENTS, "Mark lines where no statement begins"),
+    ]?;
+    Ok(arguments)
 }

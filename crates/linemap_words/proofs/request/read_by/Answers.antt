@@ -6,7 +6,7 @@ use Rattle.linemap_words.specs.WordsRequest.{IsFault, IsRefusal}
 use Rattle.linemap_words.specs.declared.request.WordsError.{WordsError}
 use Rattle.linemap_words.specs.declared.request.WordsError.TheVariants.{Memory, Fault}
 use Rattle.linemap_words.proofs.SimpleCommand.{is_free}
-use Rattle.linemap_words.proofs.request.read_words.Goals as goal
+use Rattle.linemap_words.proofs.request.read_by.Goals as goal
 
 -- a fault of the parse is a refusal
 fault_refuses : (kinds : Kinds) (matches : Option (Text × List Row)) (e : Error) → HasKind kinds e →
@@ -18,9 +18,9 @@ fault_refuses kinds matches e has (Fault error) is = elim has [
   | inr among ↦ inl (subst (λ k. IsAmong k kinds) (sym is.0) among)
 ]
 
-pub returns-in-Err-clause-refusal : goal.returns-in-Err-clause-refusal
-returns-in-Err-clause-refusal c =
-    let app = c.in_ok-command.ensures in
+pub returns-clause-refusal : goal.returns-clause-refusal
+returns-clause-refusal c =
+    let app = c.requires in
     let words = map string_bytes c.args.words.now in
     let has =
     subst (λ a. HasKind (fault_of a words) c.in-Err.error) app
