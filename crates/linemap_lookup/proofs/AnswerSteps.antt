@@ -6,7 +6,7 @@ use Rattle.addr2line_context.specs.Error.{Error}
 use Rattle.addr2line_context.specs.Error.TheVariants.{Memory}
 use Rattle.addr2line_context.specs.Frames.{Frame}
 use Rattle.addr2line_loader.specs.LoadedFiles.{LoadedFile, symbol_name}
-use Rattle.addr2line_loader.specs.SourceAnswers.{FindsAsOrNoMemory, FindsFrames}
+use Rattle.addr2line_loader.specs.SourceAnswers.{FindsFrames}
 use Rattle.addr2line_split.specs.ElfSymbols.{symbol_at}
 use Rattle.addr2line_split.specs.Range.{Range}
 use Rattle.linemap_output.specs.declared.options.Options.{Options}

@@ -3,8 +3,8 @@ use Rattle.std.proofs.Common.{◌≡◌, ◌∙◌, Bool, true, false, List, [],
 use Rattle.std.specs.Prelude.{OnOk, if◌then◌else◌}
 use Rattle.addr2line_context.specs.Frames.{Frame}
 use Rattle.linemap_output.specs.declared.options.Options.{Options}
-use Rattle.linemap_lookup.specs.FirstFrames.{AreFirstFrames, PrintsFrames, PrintsOuter, TakesNext}
-use Rattle.linemap_lookup.specs.FrameTexts.{frame_text, inlined_by, frames_text, outer_frames_text, symbol_before, symbol_of_last}
+use Rattle.linemap_lookup.specs.FirstFrames.{PrintsFrames, PrintsOuter, TakesNext}
+use Rattle.linemap_lookup.specs.FrameTexts.{frame_text, inlined_by, outer_frames_text, symbol_before, symbol_of_last}
 
 module _ (o : Options) (symbol : Option (List ℕ)) where
   -- a frame after those that others follow

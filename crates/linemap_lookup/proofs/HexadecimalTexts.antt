@@ -1,5 +1,5 @@
 -- What a format writes of an address in 16 digits.
-use Rattle.std.proofs.Common.{◌≡◌, ◌∙◌, ℕ, ◌-◌, ◌^◌, false, List, [], ◌∷◌, ◌++◌, length, replicate, ap, append-nil, arith}
+use Rattle.std.proofs.Common.{◌≡◌, ◌∙◌, ℕ, ◌-◌, ◌^◌, false, List, [], ◌++◌, length, replicate, ap, append-nil, arith}
 use Rattle.std.specs.Fmt.{char_count, padded_integral, format_spec}
 
 no_less : (n : ℕ) → n - 0 - 0 ≡ n

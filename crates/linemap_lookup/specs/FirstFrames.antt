@@ -1,5 +1,5 @@
 -- Frames that are taken one after the other, until there is none or memory for one is refused.
-use Rattle.std.specs.Prelude.{◌≡◌, ℕ, Bool, true, false, List, [], ◌∷◌, ◌++◌, Option, Some, None}
+use Rattle.std.specs.Prelude.{◌≡◌, ℕ, Bool, false, List, [], ◌∷◌, ◌++◌, Option, Some, None}
 use Rattle.addr2line_context.specs.Frames.{Frame}
 use Rattle.linemap_output.specs.declared.options.Options.{Options}
 use Rattle.linemap_lookup.specs.FrameTexts.{frames_text, outer_frames_text}

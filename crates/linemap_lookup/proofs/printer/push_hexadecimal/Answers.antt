@@ -1,4 +1,4 @@
-use Rattle.std.proofs.Common.{◌≡◌, ◌++◌, ℕ, List, Result, false, codes, rules, arith, ap, sym, subst}
+use Rattle.std.proofs.Common.{◌≡◌, ◌++◌, ℕ, List, Result, false, sym, subst}
 use Rattle.std.specs.Prelude.{OnOk, if◌then◌else◌}
 use Rattle.std.specs.Fmt.{digits}
 use Rattle.linemap_lookup.specs.AddressTexts.{hexadecimal, hexadecimal_16, printed_address}

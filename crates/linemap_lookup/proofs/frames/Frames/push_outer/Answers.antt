@@ -1,7 +1,7 @@
 use Rattle.std.proofs.Common.{option_map, refl}
 use Rattle.std.specs.String.{string_bytes}
 use Rattle.addr2line_context.specs.BorrowedFrames.{frames_left}
-use Rattle.linemap_lookup.proofs.FrameSteps.{at_first, at_step, at_end}
+use Rattle.linemap_lookup.proofs.FrameSteps.{at_first, at_step}
 use Rattle.linemap_lookup.proofs.frames.Frames.push_outer.Goals as goal
 
 pub frame-init : goal.frame-init
