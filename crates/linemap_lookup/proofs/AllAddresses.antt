@@ -14,14 +14,16 @@ pub record TakesSoFar (taken : List ℕ) (last : Option ℕ) (left all : Listing
   pub addresses : taken ++ ascending_after last (addresses_of left) ≡ ascending_after None (addresses_of all)
   pub ending : left.ending ≡ all.ending
 
-module _ (taken : List ℕ) (last : Option ℕ) (old all : Listing (Unit {0}) Stretch) (so_far : TakesSoFar taken last old all) where
+module _ (taken : List ℕ) (last : Option ℕ) (old all : Listing (Unit {0}) Stretch)
+    (so_far : TakesSoFar taken last old all) where
   by_first : (b : Bool) (a : ℕ) (new : Listing (Unit {0}) Stretch) → is_above last a ≡ b
       → addresses_of old ≡ a ∷ addresses_of new
       → ascending_after last (addresses_of old)
       ≡ cond b (a ∷ ascending_after (Some a) (addresses_of new)) (ascending_after last (addresses_of new))
   by_first b a new above is =
       ap (ascending_after last) is
-      ∙ ap (λ t. cond t (a ∷ ascending_after (Some a) (addresses_of new)) (ascending_after last (addresses_of new))) above
+      ∙ ap (λ t. cond t (a ∷ ascending_after (Some a) (addresses_of new)) (ascending_after last (addresses_of new)))
+      above
 
   first_is : (s : Stretch) (a : ℕ) (new : Listing (Unit {0}) Stretch) → old ≡ prepend (s ∷ []) new → s.address ≡ a
       → addresses_of old ≡ a ∷ addresses_of new

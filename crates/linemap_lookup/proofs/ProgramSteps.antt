@@ -1,20 +1,20 @@
 -- From the steps of the program to what it prints.
 use Rattle.std.proofs.Common.{◌≡◌, ◌∙◌, Bool, true, false, List, [], ℕ, Option, Some, None, Result, Ok, Err, map, Global, String, string_bytes, inl, inr, refl, sym, ap, subst, true≢false}
-use Rattle.std.specs.Prelude.{◌||◌, option_map}
-use Rattle.std.specs.Io.KnownBytes.{Appends, Keeps}
+use Rattle.std.specs.Prelude.{◌||◌, Vec, option_map}
+use Rattle.std.specs.Io.KnownBytes.{Appends}
 use Rattle.addr2line_context.specs.Error.{Error}
-use Rattle.addr2line_context.specs.Results.{and_then}
 use Rattle.addr2line_split.specs.Range.{Range}
 use Rattle.linemap_meaning.specs.AnswerTexts.{word_address}
-use Rattle.linemap_output.specs.ErrorLine.{EndsAtFault}
+use Rattle.linemap_output.specs.ErrorLine.{EndsAtFault, Fails, error_line}
 use Rattle.linemap_output.specs.declared.ended.Ended.{Ended}
 use Rattle.linemap_output.specs.declared.options.Options.{Options}
 use Rattle.linemap_output.specs.declared.writing.WriteFault.{WriteFault}
 use Rattle.linemap_output.specs.declared.writing.WriteFault.TheVariants.{BrokenPipe, Failed}
 use Rattle.linemap_output.proofs.WritingLemmas.{appends_nothing}
+use Rattle.linemap_lookup.specs.LineReads.{AsksLines}
 use Rattle.linemap_lookup.specs.LookupAnswers.{Answer, LookupState}
-use Rattle.linemap_lookup.specs.LookupRuns.{AnswersAll, AnswersSome, ReportsStop, Stops, StopsAmong, Streams, WritesAddresses}
-use Rattle.linemap_lookup.specs.Programs.{Asks, Outcome, Prints, Question, RefusesBy, Runs, RunsOn, answered}
+use Rattle.linemap_lookup.specs.LookupRuns.{AnswersAll, ReportsStop, Stops, Streams, WritesAddresses}
+use Rattle.linemap_lookup.specs.Programs.{Asks, Outcome, Prints, Question, RefusesOrNoMemory, Runs, answered, words_of}
 
 -- ---- flags
 
@@ -22,7 +22,8 @@ or_true : (a b : Bool) → b ≡ true → (a || b) ≡ true
 or_true true b is = refl
 or_true false b is = is
 
-fault_writes : (fault : WriteFault) (old new : Option (List ℕ)) (e : Ended) → EndsAtFault fault old new e → e.write ≡ true
+fault_writes : (fault : WriteFault) (old new : Option (List ℕ)) (e : Ended) → EndsAtFault fault old new e
+    → e.write ≡ true
 fault_writes Failed old new e ends = ends.2
 fault_writes BrokenPipe old new e ends = ap (λ (x : Ended). x.write) ends.1
 
@@ -39,6 +40,15 @@ no_stop x old new ended e stops memory write = at stops.reports
         true≢false
         (sym (ap (λ (y : Ended). y.write) stops.end
         ∙ or_true stops.noted.write stops.last.write (fault_writes fault.0 _ _ stops.last fault.1)) ∙ write)
+
+-- ---- refusals
+
+module _ (old new : Option (List ℕ)) (e : Ended) where
+  -- the line of a refusal is written, with its text
+  pub line_written : (message detail text : List ℕ) → detail ≡ text → Fails (error_line message detail) old new e
+      → e.memory ≡ false → RefusesOrNoMemory (error_line message text) old new e
+  line_written message detail text is fails memory =
+      inr (subst (λ d. Fails (error_line message d) old new e) is fails, memory)
 
 module _ {S : Type 0} (answers : S → List ℕ → List ℕ → Result (Option (List ℕ)) Error → S → Type 0)
     (o : Options) (source : S) (input_old input_new : Option (List ℕ)) where
@@ -67,6 +77,7 @@ module _ {S : Type 0} (answers : S → List ℕ → List ℕ → Result (Option 
           are_addresses = all.writes.are_addresses;
           after = all.after;
           answer_them = all.writes.answer_them;
+          none_refused = sym (ap (λ (x : Ended). x.memory) all.end ∙ writes.flags.memory) ∙ memory;
           is_outcome = refl;
         },
         writes.out,
@@ -76,64 +87,60 @@ module _ {S : Type 0} (answers : S → List ℕ → List ℕ → Result (Option 
   prints (Ok q) old new e (inr (inr some)) memory write =
       absurd (no_stop some.stops.stops.partial _ new _ e some.stops.stops.stops memory write)
 
-  -- ---- what is asked
-
-  -- a refusal of what is asked first
-  pub refused_first : {A : Type 0} (asked : Result A (List ℕ)) (rest : A → Result Question (List ℕ))
-      (old new : Streams) (e : Ended) → RefusesBy asked old.err new.err e → Keeps old.out new.out
-      → Runs answers o source input_old input_new (and_then asked rest) old new e
-  refused_first asked rest old new e (inl stop) kept = inl (stop, kept)
-  refused_first asked rest old new e (inr refused) kept =
-      inr
-      (subst (λ r. RunsOn answers o source input_old input_new (and_then r rest) old new e) (sym refused.1)
-      (refused.2, kept))
-
-  -- what is asked first is there
-  pub asked_first : {A : Type 0} (asked : Result A (List ℕ)) (x : A) (rest : A → Result Question (List ℕ))
-      (old new : Streams) (e : Ended) → asked ≡ Ok x → Runs answers o source input_old input_new (rest x) old new e
-      → Runs answers o source input_old input_new (and_then asked rest) old new e
-  asked_first asked x rest old new e is runs =
-      subst (λ r. Runs answers o source input_old input_new (and_then r rest) old new e) (sym is) runs
-
   -- ---- addresses
 
-  module _ (section : Option Range) (before after : LookupState S) (old new : Streams) (ended e : Ended) where
+  module _ (section : Option Range) (before : LookupState S) (old new : Streams) (ended e : Ended)
+      (all : Option (List ℕ)) (words : Option (List (List ℕ))) where
+    -- what is asked for is the same
+    asked_as : (all_asked : Option (List ℕ)) (words_asked : Option (List (List ℕ))) → all ≡ all_asked
+        → words ≡ words_asked
+        → AnswersAll answers o section (Asks all_asked words_asked input_old input_new) before old new ended e
+        → AnswersAll answers o section (Asks all words input_old input_new) before old new ended e
+    asked_as all_asked words_asked all_is words_are answered =
+        subst (λ a. AnswersAll answers o section (Asks a words input_old input_new) before old new ended e) (sym all_is)
+        (subst (λ ws. AnswersAll answers o section (Asks all_asked ws input_old input_new) before old new ended e)
+        (sym words_are) answered)
+
     -- all of the addresses of a file
-    pub all_answered : (all : List ℕ) (words : Option (List (List ℕ))) → input_new ≡ input_old → ended.read ≡ false
-        → WritesAddresses answers o section (map Some all) before after old new ended e
-        → AnswersAll answers o section (Asks (Some all) words input_old input_new) before old new ended e
-    all_answered all words same clear writes = record {
-      addresses = map Some all;
-      are_asked = (refl, same, writes.writes.flags.read ∙ clear);
-      after = after;
-      noted = e;
-      writes = writes;
-      end = refl;
-    }
+    pub all_answered : (list : List ℕ) (after : LookupState S) → all ≡ Some list → input_new ≡ input_old
+        → ended.read ≡ false → WritesAddresses answers o section (map Some list) before after old new ended e
+        → AnswersAll answers o section (Asks all words input_old input_new) before old new ended e
+    all_answered list after is same clear writes =
+        asked_as (Some list) words is refl
+        (record {
+          addresses = map Some list;
+          are_asked = (refl, same, writes.writes.flags.read ∙ clear);
+          after = after;
+          noted = e;
+          writes = writes;
+          end = refl;
+        })
 
     -- those of words
-    pub words_answered : (words : List (List ℕ)) → input_new ≡ input_old → ended.read ≡ false
-        → WritesAddresses answers o section (map word_address words) before after old new ended e
-        → AnswersAll answers o section (Asks None (Some words) input_old input_new) before old new ended e
-    words_answered words same clear writes = record {
-      addresses = map word_address words;
-      are_asked = (refl, same, writes.writes.flags.read ∙ clear);
-      after = after;
-      noted = e;
-      writes = writes;
-      end = refl;
-    }
+    pub words_answered : (ws : List (List ℕ)) (after : LookupState S) → all ≡ None → words ≡ Some ws
+        → input_new ≡ input_old → ended.read ≡ false
+        → WritesAddresses answers o section (map word_address ws) before after old new ended e
+        → AnswersAll answers o section (Asks all words input_old input_new) before old new ended e
+    words_answered ws after none is same clear writes =
+        asked_as None (Some ws) none is
+        (record {
+          addresses = map word_address ws;
+          are_asked = (refl, same, writes.writes.flags.read ∙ clear);
+          after = after;
+          noted = e;
+          writes = writes;
+          end = refl;
+        })
 
-  pub some_of_all : (section : Option Range) (before : LookupState S) (old new : Streams) (ended e : Ended)
-      (all : List ℕ) (words : Option (List (List ℕ))) → input_new ≡ input_old
-      → StopsAmong answers o section (map Some all) before old new ended e
-      → AnswersSome answers o section (Asks (Some all) words input_old input_new) before old new ended e
-  some_of_all section before old new ended e all words same stops =
-      record { addresses = map Some all; is_cut = false; are_asked = (refl, same, refl); stops = stops }
+    -- those of lines
+    pub lines_answered : all ≡ None → words ≡ None
+        → AnswersAll answers o section (AsksLines input_old input_new) before old new ended e
+        → AnswersAll answers o section (Asks all words input_old input_new) before old new ended e
+    lines_answered none no_words answered = asked_as None None none no_words answered
 
-  pub some_of_words : (section : Option Range) (before : LookupState S) (old new : Streams) (ended e : Ended)
-      (words : List (List ℕ)) → input_new ≡ input_old
-      → StopsAmong answers o section (map word_address words) before old new ended e
-      → AnswersSome answers o section (Asks None (Some words) input_old input_new) before old new ended e
-  some_of_words section before old new ended e words same stops =
-      record { addresses = map word_address words; is_cut = false; are_asked = (refl, same, refl); stops = stops }
+-- the words of options
+pub words_are : (o : Options) (ws : Vec (String Global) Global) (items : List (String Global)) → o.words ≡ Some ws
+    → items ≡ ws.items → words_of o ≡ Some (map string_bytes items)
+words_are o ws items is same =
+    ap (option_map (λ (v : Vec (String Global) Global). map string_bytes v.items)) is
+    ∙ ap (λ xs. Some (map string_bytes xs)) (sym same)

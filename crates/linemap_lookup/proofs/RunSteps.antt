@@ -1,5 +1,5 @@
 -- Addresses that are answered and written one after the other.
-use Rattle.std.proofs.Common.{◌≡◌, ◌∙◌, Bool, true, false, List, [], ◌∷◌, ◌++◌, ℕ, Option, Result, map, Ok, Err, Global, String, string_bytes, ◌+◌, ◌<◌, ◌≤◌, length, take, drop, get_or, inl, inr, refl, sym, ap, subst, append-nil, append_assoc}
+use Rattle.std.proofs.Common.{◌≡◌, ◌∙◌, Bool, true, false, List, [], ◌∷◌, ◌++◌, ℕ, Option, Some, Result, map, Ok, Err, Global, String, string_bytes, ◌+◌, ◌<◌, ◌≤◌, length, take, drop, get_or, inl, inr, refl, sym, ap, subst, append-nil, append_assoc}
 use Rattle.std.specs.Prelude.{◌||◌, IfErr}
 use Rattle.std.specs.List.{FoldsTo, flat_map, list_any}
 use Rattle.std.specs.Io.KnownBytes.{Appends}
@@ -124,7 +124,8 @@ addresses_of ws = map word_address (map string_bytes ws)
 
 addresses_append : (vs ws : List (String Global)) → addresses_of (vs ++ ws) ≡ addresses_of vs ++ addresses_of ws
 addresses_append vs ws =
-    ap (map word_address) (map-append string_bytes vs ws) ∙ map-append word_address (map string_bytes vs) (map string_bytes ws)
+    ap (map word_address) (map-append string_bytes vs ws)
+    ∙ map-append word_address (map string_bytes vs) (map string_bytes ws)
 
 module _ (ws : List (String Global)) where
   taken : (i : ℕ) (w : String Global) → i < length ws → w ≡ get_or ws i w → take (i + 1) ws ≡ take i ws ++ w ∷ []
@@ -148,3 +149,18 @@ module _ (ws : List (String Global)) where
 
   pub words_all : (i : ℕ) → length ws ≤ i → addresses_of (take i ws) ≡ addresses_of ws
   words_all i le = ap addresses_of (take_all i ws le)
+
+-- ---- addresses
+
+module _ (list : List ℕ) where
+  pub addresses_more : (i : ℕ) → i < length list
+      → map Some (take i list) ++ Some (get_or list i 0) ∷ [] ≡ map Some (take (i + 1) list)
+  addresses_more i lt =
+      sym (ap (map Some) (take_more list i 0 lt) ∙ map-append Some (take i list) (get_or list i 0 ∷ []))
+
+  pub addresses_split : (i : ℕ) → i < length list
+      → map Some list ≡ map Some (take i list) ++ Some (get_or list i 0) ∷ map Some (drop (i + 1) list)
+  addresses_split i lt =
+      sym (ap (map Some) (take-append-drop (i + 1) list)) ∙ map-append Some (take (i + 1) list) (drop (i + 1) list)
+      ∙ ap (λ x. x ++ map Some (drop (i + 1) list)) (sym (addresses_more i lt))
+      ∙ append_assoc (map Some (take i list)) (Some (get_or list i 0) ∷ []) (map Some (drop (i + 1) list))

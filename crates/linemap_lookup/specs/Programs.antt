@@ -88,6 +88,10 @@ question o image supplement = do
 abbrev pub Refuses : List ℕ → Option (List ℕ) → Option (List ℕ) → Ended → Type 0
 Refuses line old new e = Fails line old new e × (e.memory ≡ false)
 
+-- or out of memory is reported
+abbrev pub RefusesOrNoMemory : List ℕ → Option (List ℕ) → Option (List ℕ) → Ended → Type 0
+RefusesOrNoMemory line old new e = EndsOutOfMemory old new e ⊎ Refuses line old new e
+
 -- the refusal of what is asked is reported, or out of memory is
 abbrev pub RefusesBy : {A : Type 0} → Result A (List ℕ) → Option (List ℕ) → Option (List ℕ) → Ended
     → Type 0
@@ -98,13 +102,14 @@ RefusesBy asked old new e =
 
 -- the words of the options, if there are any
 abbrev pub words_of : Options → Option (List (List ℕ))
-words_of o = option_map (λ ws. map string_bytes ws) o.words
+words_of o = option_map (λ ws. map string_bytes ws.items) o.words
 
 -- The addresses that are asked for: all, those of words, or those of the lines that are read,
 -- which end where a read fails.
 abbrev pub Asks : Option (List ℕ) → Option (List (List ℕ)) → Option (List ℕ) → Option (List ℕ)
     → Bool → List (Option ℕ) → Type 0
-Asks (Some all) words old new is_cut addresses = (addresses ≡ map Some all) × (new ≡ old) × (is_cut ≡ false)
+Asks (Some all) words old new is_cut addresses =
+    (addresses ≡ map Some all) × (new ≡ old) × (is_cut ≡ false)
 Asks None (Some words) old new is_cut addresses =
     (addresses ≡ map word_address words) × (new ≡ old) × (is_cut ≡ false)
 Asks None None old new is_cut addresses = AsksLines old new is_cut addresses
@@ -131,7 +136,8 @@ module _ {S : Type 0} (answers : S → List ℕ → List ℕ → Result (Option 
   abbrev pub first_state : LoadedFile → LookupState S
   first_state file = record { file = file; source = source }
 
-  -- The answers to the addresses that are asked for, one after the other.
+  -- The answers to the addresses that are asked for, one after the other. Memory is refused for
+  -- none of them.
   pub record PrintsAnswers (q : Question) (is_cut : Bool) (p : Outcome) : Type 0 where
     pub addresses : List (Option ℕ)
     pub are_asked : Asks q.all (words_of o) input_old input_new is_cut addresses
@@ -139,6 +145,7 @@ module _ {S : Type 0} (answers : S → List ℕ → List ℕ → Result (Option 
     pub are_addresses : map (λ x. x.address) xs ≡ addresses
     pub after : LookupState S
     pub answer_them : AnswersAddresses answers o q.section (first_state q.file) xs after
+    pub none_refused : (answers_together xs).is_memory_refused ≡ false
     pub is_outcome : p ≡ answered xs
 
   -- those, or the line of a refusal alone

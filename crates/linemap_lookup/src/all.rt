@@ -1,10 +1,11 @@
 //! All addresses of a file at which a place begins.
 
-ghost use Rattle.std.specs.Prelude.{◌≡◌, ◌-◌, ◌^◌, Err, IfErr, IfOk, Ok, OnOk, codes, option_map};
+ghost use Rattle.std.specs.Prelude.{◌≡◌, ◌-◌, ◌^◌, IfErr, IfOk, Ok, OnOk, codes, option_map};
 ghost use Rattle.addr2line_context.specs.Calls.{ReturnsAsOrNoMemory};
 ghost use Rattle.addr2line_context.specs.Contexts.{stretches};
 ghost use Rattle.gimli_core_base.specs.ErrorText.{error_text};
-ghost use Rattle.linemap_lookup.specs.Programs.{RefusesBy, all_if_asked, begins_of, is_above, or_line};
+ghost use Rattle.linemap_output.specs.ErrorLine.{error_line};
+ghost use Rattle.linemap_lookup.specs.Programs.{RefusesBy, RefusesOrNoMemory, all_if_asked, begins_of, is_above};
 
 use addr2line_context::{Error, LocationRangeIter, Reader};
 use addr2line_loader::Loader;
@@ -54,8 +55,9 @@ fn all_addresses(alloc: Global, loader: &mut Loader) -> Result<Vec<u64>, Error>
 
 // Reports that not all addresses are found.
 fn all_refused<E: Write>(alloc: Global, error: Error, err: &mut E) -> Ended
-    ensures { RefusesBy (or_line (codes "failed to find all addresses: ") error_text
-        (Err error)) (E.contents err.old) (E.contents err.new) result }
+    ensures { RefusesOrNoMemory
+        (error_line (codes "failed to find all addresses: ") (error_text error))
+        (E.contents err.old) (E.contents err.new) result }
 {
     match format!(in alloc; "{error}") {
         Ok(text) => fail(err, "failed to find all addresses: ", &text),

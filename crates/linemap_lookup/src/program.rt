@@ -1,12 +1,13 @@
 //! The program `lookup`, from an image to the answers.
 
-ghost use Rattle.std.specs.Prelude.{◌≡◌, Err, IfErr, IfOk, Ok, OnOk, codes, false, option_map};
+ghost use Rattle.std.specs.Prelude.{◌≡◌, IfErr, IfOk, Ok, OnOk, codes, false, option_map};
 ghost use Rattle.std.specs.String.{string_bytes};
 ghost use Rattle.std.specs.Io.KnownBytes.{Appends};
 ghost use Rattle.addr2line_loader.specs.LoadedFiles.{loaded_file};
 ghost use Rattle.addr2line_split.specs.LoadErrors.{text_of};
+ghost use Rattle.linemap_output.specs.ErrorLine.{error_line};
 ghost use Rattle.linemap_lookup.specs.LookupRuns.{AnswersAll, AnswersSome};
-ghost use Rattle.linemap_lookup.specs.Programs.{Asks, Outcome, Prints, RefusesBy, Runs, RunsOn, or_line, question, question_of, section_if_any, words_of};
+ghost use Rattle.linemap_lookup.specs.Programs.{Asks, Outcome, Prints, RefusesBy, RefusesOrNoMemory, Runs, RunsOn, or_line, question, question_of, section_if_any, words_of};
 
 use crate::all::find_all;
 use crate::engine::Engine;
@@ -21,8 +22,9 @@ use std::io::{BufRead, Write};
 
 // Reports that a file isn't loaded.
 fn load_refused<E: Write>(alloc: Global, error: LoadError, err: &mut E) -> Ended
-    ensures { RefusesBy (or_line (codes "failed to load debug info: ") text_of
-        (Err error)) (E.contents err.old) (E.contents err.new) result }
+    ensures { RefusesOrNoMemory
+        (error_line (codes "failed to load debug info: ") (text_of error))
+        (E.contents err.old) (E.contents err.new) result }
 {
     match format!(in alloc; "{error}") {
         Ok(text) => fail(err, "failed to load debug info: ", &text),
@@ -166,10 +168,33 @@ impl Engine {
     }
 }
 
-/// Answers the addresses that the options ask for: those of words, or else those of lines, each as
-/// soon as its line is read, until the input ends, a read fails or a line is no text. The output is
-/// flushed after each answer. Loads are answered by the source's split files. What is refused has
-/// an error line. A fault of the error stream only sets `write` in the result.
+// Loads a file, and answers what is asked of it.
+fn answer_image<S: SplitSource, R: BufRead, O: Write, E: Write>(
+    alloc: Global,
+    options: &Options,
+    image: Bytes,
+    supplement: Option<Bytes>,
+    source: &mut S,
+    lines: &mut R,
+    out: &mut O,
+    err: &mut E,
+) -> Ended
+    ensures { Runs S.answers options.now source.old (R.remaining lines.old)
+        (R.remaining lines.new) (question options.now image supplement)
+        (record { out = O.contents out.old; err = E.contents err.old })
+        (record { out = O.contents out.new; err = E.contents err.new }) result }
+{
+    match load(alloc, image, supplement, err) {
+        Ok(loader) => Engine::new(alloc, loader).run(options, source, lines, out, err),
+        Err(ended) => ended,
+    }
+}
+
+/// Answers the addresses that the options ask for: all at which a place of the file begins, or
+/// those of words, or else those of lines, each as soon as its line is read, until the input ends,
+/// a read fails or a line is no text. The output is flushed after each answer. Loads are answered
+/// by the source's split files. Each refusal has an error line; after that of an address the next
+/// one is answered. A fault of the error stream only sets `write` in the result.
 pub fn run<S: SplitSource + Drop, R: BufRead, O: Write, E: Write>(
     alloc: Global,
     options: &Options,
@@ -191,11 +216,14 @@ pub fn run<S: SplitSource + Drop, R: BufRead, O: Write, E: Write>(
         (record { out = O.contents out.new; err = E.contents err.new }) result }
 {
     let mut source = source;
-    match load(alloc, image, supplement, err) {
-        Ok(loader) => {
-            let mut engine = Engine::new(alloc, loader);
-            engine.run(options, &mut source, lines, out, err)
-        }
-        Err(ended) => ended,
-    }
+    answer_image(
+        alloc,
+        options,
+        image,
+        supplement,
+        &mut source,
+        lines,
+        out,
+        err,
+    )
 }

@@ -7,7 +7,7 @@ use Rattle.linemap_lookup.proofs.engine.Engine.write_words.Given as goal
 abbrev pub invariant-loop-word : goal.invariant-loop-word
 invariant-loop-word g l =
     WritesAddresses g.S.SplitSource.answers l.question.options.now l.question.section
-    (addresses_of l.words (take l.word-index l.words))
+    (addresses_of (take l.word-index l.words))
     (record { file = l.fn.self.loader; source = l.fn.source })
     (record { file = l.self.loader; source = l.source })
     (record { out = g.O.Write.contents l.fn.out; err = g.E.Write.contents l.fn.err })
