@@ -193,8 +193,8 @@ fn answer_image<S: SplitSource, R: BufRead, O: Write, E: Write>(
 /// Answers the addresses that the options ask for: all at which a place of the file begins, or
 /// those of words, or else those of lines, each as soon as its line is read, until the input ends,
 /// a read fails or a line is no text. The output is flushed after each answer. Loads are answered
-/// by the source's split files. Each refusal has an error line; that of an address is no end. A
-/// fault of the error stream only sets `write` in the result.
+/// by the source's split files. Each refusal has an error line; after that of an address the next
+/// one is answered. A fault of the error stream only sets `write` in the result.
 pub fn run<S: SplitSource + Drop, R: BufRead, O: Write, E: Write>(
     alloc: Global,
     options: &Options,
