@@ -94,10 +94,6 @@ module _ (o : Options) (symbol : Option (List ℕ)) (first : Frame) (others : Li
       at_next f next left more r s now after (subst (λ x. IsAt x left r now) is at) takes
       (text ∙ ap (λ n. now ++ (inlined_by o ++ frame_text o n f)) named)
 
-  pub at_end : (current : Option Frame) (left : List Frame) (r : Bool) (now : List ℕ) → IsAt current left r now
-      → current ≡ None → PrintsOuter o symbol first others r before now
-  at_end current left r now at is = subst (λ x. IsAt x left r now) is at
-
 module _ (o : Options) (symbol : Option (List ℕ)) (first : Frame) (old mid : List ℕ) where
   abbrev frames_with : (frames : List Frame) → Bool → List ℕ
   frames_with frames b = frame_text o (symbol_of_last symbol frames) first
