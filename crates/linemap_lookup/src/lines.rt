@@ -13,7 +13,7 @@ use std::io::{BufRead, Error, ErrorKind};
 use std::str;
 
 // How many times a reader is asked. Another time would be a fault.
-const MAX_TRIES: u64 = u64::MAX;
+const MAX_TRIES: u64 = 1 << 40;
 
 /// Why no line is read.
 #[derive(Clone, Copy, Debug, PartialEq, Eq)]
