@@ -120,10 +120,24 @@ impl<R: Reader> LineInstructions<R> {
         ensures { ReadsAsOrEndsOrNoMemory (option_map (line_instruction R.view)) result self.old
             self.new (next_instruction R.Offset.limit header.now self.old) }
     {
-        if let Some((instruction, len)) = self.peek(header) {
-            self.skip(len);
-            return Ok(Some(line_instruction_of(instruction)));
+        match self.peek(header) {
+            Some((instruction, len)) => {
+                self.skip(len);
+                Ok(Some(line_instruction_of(instruction)))
+            }
+            None => self.take_next(header),
         }
+    }
+
+    // The same, whatever the operands are. What a function keeps in memory is cleared where it
+    // begins, so instructions whose operands are numbers are faster without this.
+    fn take_next(
+        &mut self,
+        header: &LineProgramHeader<R>,
+    ) -> Result<Option<LineInstruction<R>>, Error>
+        ensures { ReadsAsOrEndsOrNoMemory (option_map (line_instruction R.view)) result self.old
+            self.new (next_instruction R.Offset.limit header.now self.old) }
+    {
         match self.read_next(header) {
             Ok(None) => Ok(None),
             Ok(Some((instruction, rest))) => {

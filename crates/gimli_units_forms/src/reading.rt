@@ -18,12 +18,12 @@ use gimli_core_abbrev::{
     DW_FORM_data4, DW_FORM_data8, DW_FORM_exprloc, DW_FORM_flag, DW_FORM_flag_present,
     DW_FORM_implicit_const, DW_FORM_indirect, DW_FORM_line_strp, DW_FORM_loclistx,
     DW_FORM_ref_addr, DW_FORM_ref_sig8, DW_FORM_ref_sup4, DW_FORM_ref_sup8, DW_FORM_ref_udata,
-    DW_FORM_ref1, DW_FORM_ref2, DW_FORM_ref4, DW_FORM_ref8, DW_FORM_rnglistx, DW_FORM_sec_offset,
-    DW_FORM_strp, DW_FORM_strp_sup, DW_FORM_strx, DW_FORM_strx1, DW_FORM_strx2, DW_FORM_strx3,
-    DW_FORM_strx4, DW_FORM_udata, DebugAddrIndex, DebugInfoOffset, DebugLineStrOffset,
-    DebugLocListsIndex, DebugRngListsIndex, DebugStrOffset, DebugStrOffsetsIndex,
-    DebugTypeSignature, DwAt, DwForm, Encoding, EndianSlice, Error, Expression, Format, Reader,
-    ReaderOffset, UnitOffset,
+    DW_FORM_ref1, DW_FORM_ref2, DW_FORM_ref4, DW_FORM_ref8, DW_FORM_rnglistx, DW_FORM_sdata,
+    DW_FORM_sec_offset, DW_FORM_string, DW_FORM_strp, DW_FORM_strp_sup, DW_FORM_strx,
+    DW_FORM_strx1, DW_FORM_strx2, DW_FORM_strx3, DW_FORM_strx4, DW_FORM_udata, DebugAddrIndex,
+    DebugInfoOffset, DebugLineStrOffset, DebugLocListsIndex, DebugRngListsIndex, DebugStrOffset,
+    DebugStrOffsetsIndex, DebugTypeSignature, DwAt, DwForm, Encoding, EndianSlice, Error,
+    Expression, Format, Reader, ReaderOffset, UnitOffset,
 };
 
 // Whether data of a form stands for an offset: data of an offset's width, under `DW_AT_stmt_list`
@@ -122,6 +122,7 @@ pub(crate) fn read_fixed<R: Reader>(reader: &mut R, width: u8) -> Result<u64, Er
         1 => u64::from(reader.read_u8()?),
         2 => u64::from(reader.read_u16()?),
         4 => u64::from(reader.read_u32()?),
+        8 => reader.read_u64()?,
         _ => reader.read_uint(usize::from(width))?,
     })
 }
@@ -202,6 +203,7 @@ fn read_text<R: Reader>(place: &mut EndianSlice<'_, R::Endian>, reader: &R) -> R
 
 // The value of a form that isn't `DW_FORM_indirect`, at a place in a reader.
 #[tactic(auto, using(crate::proofs::SpellingWidths::fixed_is_narrow, crate::proofs::SpellingWidths::block_is_narrow), unfolding(crate::specs::AttributeReading::value))]
+#[inline(always)]
 fn read_value<R: Reader>(
     place: &mut EndianSlice<'_, R::Endian>,
     reader: &R,
@@ -243,25 +245,80 @@ fn read_value<R: Reader>(
     }
 }
 
-// An expression of a form. The commonest forms are constants in it, so that each has code of its
-// own, and what is made of its value is made at once.
+// The attribute that a declaration describes, in a form that isn't `DW_FORM_indirect`.
+#[inline(always)]
+fn attribute_of<R: Reader>(
+    place: &mut EndianSlice<'_, R::Endian>,
+    reader: &R,
+    encoding: Encoding,
+    specification: AttributeSpecification,
+    form: DwForm,
+) -> Result<Attribute<R>, Error>
+    requires { IsAfter (R.view reader.now) place.old }
+    ensures value { ReturnsAsOrNoMemory
+        (λ a. (raw_attribute_of R.view R.Offset.count a, place.new)) result
+        (attribute_in_form R.Offset.limit encoding (attribute_view specification) form.0
+        place.old) }
+    ensures free { IsTrue R.copies_freely
+        → ReturnsAs (λ a. (raw_attribute_of R.view R.Offset.count a, place.new)) result
+        (attribute_in_form R.Offset.limit encoding (attribute_view specification) form.0
+        place.old) }
+{
+    let name = specification.name();
+    let value = read_value(place, reader, encoding, specification, form)?;
+    Ok(Attribute { name, form, value })
+}
+
+// The same at the end of a list, where it is made.
+#[inline(always)]
+fn push_value<R: Reader>(
+    attributes: &mut Vec<Attribute<R>>,
+    place: &mut EndianSlice<'_, R::Endian>,
+    reader: &R,
+    encoding: Encoding,
+    specification: AttributeSpecification,
+    form: DwForm,
+) -> Result<(), Error>
+    requires { IsAfter (R.view reader.now) place.old }
+    ensures value { ReturnsAsOrNoMemory
+        (λ _. (map (raw_attribute_of R.view R.Offset.count) attributes.new.items, place.new)) result
+        (map_value
+        (λ a. map (raw_attribute_of R.view R.Offset.count) attributes.old.items ++ a ∷ [])
+        (attribute_in_form R.Offset.limit encoding (attribute_view specification) form.0)
+        place.old) }
+    ensures refusal { OnErr result (attributes.new.items ≡ attributes.old.items) }
+{
+    let name = specification.name();
+    let value = read_value(place, reader, encoding, specification, form)?;
+    attributes.push(Attribute { name, form, value })?;
+    Ok(())
+}
+
+// A call that takes a form. The commonest forms are constants in it, so that each has code of its
+// own. What a function keeps in memory is cleared where it begins: so each of them calls a
+// function, and clears only what that one keeps.
 macro_rules! at_form {
-    ($form:ident => $made:expr) => {
+    ($form:ident => $call:expr) => {
         match $form {
-            DW_FORM_addr => at_form!($form = DW_FORM_addr, $made),
-            DW_FORM_data1 => at_form!($form = DW_FORM_data1, $made),
-            DW_FORM_data2 => at_form!($form = DW_FORM_data2, $made),
-            DW_FORM_data4 => at_form!($form = DW_FORM_data4, $made),
-            DW_FORM_ref4 => at_form!($form = DW_FORM_ref4, $made),
-            DW_FORM_udata => at_form!($form = DW_FORM_udata, $made),
-            DW_FORM_strp => at_form!($form = DW_FORM_strp, $made),
-            DW_FORM_sec_offset => at_form!($form = DW_FORM_sec_offset, $made),
-            _ => $made,
+            DW_FORM_addr => at_form!($form = DW_FORM_addr, $call),
+            DW_FORM_data1 => at_form!($form = DW_FORM_data1, $call),
+            DW_FORM_data2 => at_form!($form = DW_FORM_data2, $call),
+            DW_FORM_data4 => at_form!($form = DW_FORM_data4, $call),
+            DW_FORM_data8 => at_form!($form = DW_FORM_data8, $call),
+            DW_FORM_sdata => at_form!($form = DW_FORM_sdata, $call),
+            DW_FORM_udata => at_form!($form = DW_FORM_udata, $call),
+            DW_FORM_string => at_form!($form = DW_FORM_string, $call),
+            DW_FORM_strp => at_form!($form = DW_FORM_strp, $call),
+            DW_FORM_ref4 => at_form!($form = DW_FORM_ref4, $call),
+            DW_FORM_sec_offset => at_form!($form = DW_FORM_sec_offset, $call),
+            DW_FORM_exprloc => at_form!($form = DW_FORM_exprloc, $call),
+            DW_FORM_flag_present => at_form!($form = DW_FORM_flag_present, $call),
+            _ => $call,
         }
     };
-    ($form:ident = $constant:ident, $made:expr) => {{
+    ($form:ident = $constant:ident, $call:expr) => {{
         let $form = $constant;
-        $made
+        $call
     }};
 }
 
@@ -284,11 +341,7 @@ fn attribute_in_form<R: Reader>(
         (attribute_in_form R.Offset.limit encoding (attribute_view specification) form.0
         place.old) }
 {
-    let name = specification.name();
-    at_form!(form => {
-        let value = read_value(place, reader, encoding, specification, form)?;
-        Ok(Attribute { name, form, value })
-    })
+    at_form!(form => attribute_of(place, reader, encoding, specification, form))
 }
 
 // The same at the end of a list, where it is made.
@@ -310,12 +363,7 @@ fn push_in_form<R: Reader>(
         place.old) }
     ensures refusal { OnErr result (attributes.new.items ≡ attributes.old.items) }
 {
-    let name = specification.name();
-    at_form!(form => {
-        let value = read_value(place, reader, encoding, specification, form)?;
-        attributes.push(Attribute { name, form, value })?;
-        Ok(())
-    })
+    at_form!(form => push_value(attributes, place, reader, encoding, specification, form))
 }
 
 // The attribute that a declaration describes, at a place in a reader.
