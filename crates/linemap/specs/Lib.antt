@@ -29,3 +29,10 @@ pub use Rattle.linemap_words.specs.WordsRequest
 pub use Rattle.linemap_words.specs.WordsStatus
 pub use Rattle.linemap_text.specs.Ask
 pub use Rattle.linemap_words.specs.Explain
+pub use Rattle.linemap_commands.specs.Emission
+pub use Rattle.linemap_commands.specs.Reports
+pub use Rattle.linemap_commands.specs.Targets
+pub use Rattle.linemap_replay.specs.OwnedAnswers
+pub use Rattle.linemap_replay.specs.Replays
+pub use Rattle.linemap_replay.specs.TableHistories
+pub use Rattle.linemap_lookup.specs.Programs
