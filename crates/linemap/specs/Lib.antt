@@ -29,11 +29,8 @@ pub use Rattle.linemap_words.specs.WordsRequest
 pub use Rattle.linemap_words.specs.WordsStatus
 pub use Rattle.linemap_text.specs.Ask
 pub use Rattle.linemap_words.specs.Explain
-<<<<<<< HEAD
 pub use Rattle.linemap_commands.specs.ImageAnswers
 pub use Rattle.linemap_commands.specs.TableImages
-=======
->>>>>>> h3n
 pub use Rattle.linemap_commands.specs.Emission
 pub use Rattle.linemap_commands.specs.Reports
 pub use Rattle.linemap_commands.specs.Targets
