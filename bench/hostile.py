@@ -6,9 +6,9 @@ usage: bench/hostile.py list
        bench/hostile.py measure [KIND..]
 
 Each kind is made at half its count and at its whole one, so that the growth shows: twice the count should take about
-twice the time and the memory. What is run is `addr2line_bench`, for the frames of some addresses and for the places of
-all; where PEER names a program that takes `-e IMAGE -f -i` with addresses, and `--all`, such as one over Rust's
-addr2line, it is run too. SCALE makes all counts larger or smaller, LIMIT bounds the seconds of a run (60).
+twice the time and the memory. What is run is `linemap lookup -e IMAGE -f -i` with addresses, and `--all`; where PEER
+names a program with the same words, such as one over Rust's addr2line, it is run too. LINEMAP names other words than
+those of the built program. SCALE makes all counts larger or smaller, LIMIT bounds the seconds of a run (60).
 """
 import os
 import signal
@@ -22,7 +22,6 @@ TOP = os.path.dirname(os.path.dirname(os.path.abspath(__file__)))
 sys.path.insert(0, f"{TOP}/tests")
 from images import image_of
 
-OWN = f"{TOP}/crates/addr2line_bench/out/addr2line_bench"
 LOW = 0x1000
 
 
@@ -409,17 +408,11 @@ def text_of(one, two):
     return f"{two[0]:8.2f} s {two[1]:7.0f} MB {growth:5.1f} x{status:>10}"
 
 
-def words_of(program, path, asked, what):
-    """The command line for an image, whose addresses are in the file next to it too."""
-    if program:
-        return [*program, "-e", path, *(["-f", "-i", *asked] if what == "frames" else ["--all"])]
-    return [OWN, path, "slice", *(["frames", f"{path}.asked"] if what == "frames" else ["all"])]
-
-
 def measure(names):
+    own = os.environ.get("LINEMAP", f"{TOP}/crates/linemap_program/out/linemap_program lookup").split()
     peer = os.environ.get("PEER", "").split()
     limit, scale = float(os.environ.get("LIMIT", 60)), float(os.environ.get("SCALE", 1))
-    programs = {"own": [], **({"peer": peer} if peer else {})}
+    programs = {"own": own, **({"peer": peer} if peer else {})}
     print(f"{'kind':24} {'KB':>6} {'asked':8} " + " ".join(f"{it + ': seconds, memory, growth':36}" for it in programs))
     with tempfile.TemporaryDirectory() as folder:
         for name in names:
@@ -430,12 +423,11 @@ def measure(names):
                 made = subprocess.run([sys.executable, __file__, "make", name, str(count), path], check=True, stdout=subprocess.PIPE)
                 sizes.append((path, os.path.getsize(path)))
                 lists.append(made.stdout.decode().split())
-                with open(f"{path}.asked", "w", encoding="ascii") as file:
-                    print(*lists[-1], sep="\n", file=file)
             for what in "frames", "all":
                 found = []
                 for program in programs.values():
-                    words = [words_of(program, path, asked, what) for (path, _), asked in zip(sizes, lists)]
+                    words = [[*program, "-e", path, *(["-f", "-i", *asked] if what == "frames" else ["--all"])]
+                             for (path, _), asked in zip(sizes, lists)]
                     one = run(words[0], limit)
                     found.append(text_of(one, one and run(words[1], limit)))
                 print(f"{name:24} {sizes[1][1] // 1000:6} {what:8} " + " ".join(f"{it:36}" for it in found), flush=True)

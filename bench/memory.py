@@ -3,9 +3,10 @@
 
 usage: bench/memory.py [CASE..]
 
-Each run must end as it does with ample memory, or say why not on the error stream: with status 1 and the beginning of
-that output. The program `addr2line_cases` asks a question again where memory was short for it, so there a run that ends
-with status 0 has given all answers, over contexts that met a refusal, as over others.
+Each run must end as it does with ample memory, or say why not on the error stream: with status 1 and the beginning of that
+output, or, where `lookup` goes on, with a line for each address that is refused. The program `addr2line_cases` asks a
+question again where memory was short for it, so there a run that ends with status 0 has given all answers, over contexts
+that met a refusal, as over others.
 
 CASES and LINEMAP name other programs than the built ones. It needs a C compiler, for refuse.c.
 """
@@ -42,8 +43,16 @@ def paragraphs(*headings):
 
 
 # What is run: the program's words, and its input.
+EMIT = [LINEMAP, "emit", f"{TOP}/examples/c.json", "c.elf"]
 RUNS = {
     "ask": ([LINEMAP, "ask", f"{TOP}/examples/c.json", "0x100f", "0x1018", "zz"], ""),
+    "emit": (EMIT, ""),
+    "emit-5": ([*EMIT, "--dwarf", "5", "--bits", "64", "--size", "4", "--big"], ""),
+    "lookup": ([LINEMAP, "lookup", "-e", "given.elf", "-a", "-f", "-i", "-C", "0x1018", "0x100f", "0xfff"], ""),
+    "lookup-lines": ([LINEMAP, "lookup", "-e", "given.elf", "-a", "-p"], "0x1018\nzz\n0x100f\n"),
+    "lookup-all": ([LINEMAP, "lookup", "-e", "given.elf", "--all"], ""),
+    "lookup-symbols": ([LINEMAP, "lookup", "-e", f"{DATA}/symbols.elf", "-f", "0x1004", "0x1008"], ""),
+    "lookup-split": ([LINEMAP, "lookup", "-e", f"{DATA}/split.elf", "-f", "-i", "0x1000", "0x1003"], ""),
     "contexts": ([CASES], lambda: paragraphs("# Frames have the places that call", "# And in version 5", "# Calls in one another")),
     "loads": ([CASES], lambda: paragraphs(
         "# A lookup that is dropped answers nothing. The first answer counts, and an answer to a unit that is decided",
@@ -112,6 +121,8 @@ def main():
         os.mkdir(f"{folder}/run")
         for name in os.listdir(DATA):
             os.symlink(f"{DATA}/{name}", f"{folder}/run/{name}")
+        if any(it.startswith("lookup") for it in names):
+            subprocess.run([LINEMAP, "emit", f"{TOP}/examples/c.json", f"{folder}/run/given.elf"], check=True)
         ended = [sweep(it, folder) for it in names]
     return 0 if all(ended) else 1
 
