@@ -2,10 +2,10 @@
 
 use crate::data::bytes_of;
 use crate::files::{File, file_number, section_of};
-use crate::mistake::Mistake;
 use crate::question::{Question, question_of};
 use crate::units::units_of;
 use addr2line_context::SectionId;
+use case_text::Mistake;
 use std::alloc::Global;
 
 /// A question, and its line.

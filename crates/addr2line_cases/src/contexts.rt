@@ -1,11 +1,11 @@
 //! Contexts of files, and what is asked of them.
 
-use crate::answer::Answer;
 use crate::case::{Asked, Case};
 use crate::files::{Borrowed, File, Sections, borrowed, borrowed_files, shared, shared_files};
 use crate::question::{Question, Steps};
 use crate::{frames, loads, places};
 use addr2line_context::{Context, Dwarf, Error, Reader, SectionId};
+use case_text::Answer;
 use std::alloc::{AllocError, Global};
 use std::rc::Rc;
 
@@ -205,9 +205,9 @@ fn ask<R: Reader>(
             context.find_location_range(low, high),
             out,
         ),
-        Question::Lines => out.outcome(context.parse_lines()),
-        Question::Functions => out.outcome(context.parse_functions()),
-        Question::Calls => out.outcome(context.parse_inlined_functions()),
+        Question::Lines => out.done(context.parse_lines()),
+        Question::Functions => out.done(context.parse_functions()),
+        Question::Calls => out.done(context.parse_inlined_functions()),
         Question::HasUnit(number) => loads::has_unit(context, number, out),
         _ => ask_about_loads(context, question, named, out),
     }

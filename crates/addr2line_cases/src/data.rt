@@ -1,6 +1,6 @@
 //! Bytes and numbers as they are written.
 
-use crate::mistake::Mistake;
+use case_text::Mistake;
 use std::alloc::Global;
 
 /// The bytes of some words: digits in hexadecimal, or a text in quotes, which a zero byte follows.

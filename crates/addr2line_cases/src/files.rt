@@ -1,8 +1,8 @@
 //! Files, as the bytes of their sections.
 
-use crate::mistake::Mistake;
 use addr2line_context::{Dwarf, EndianBytes, EndianSlice, Error, LittleEndian, Reader, SectionId};
 use bytes::Bytes;
+use case_text::Mistake;
 use std::alloc::{AllocError, Global};
 
 /// A file: its name, and the sections that it has.

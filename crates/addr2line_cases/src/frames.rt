@@ -1,8 +1,8 @@
 //! Frames, and the names of their functions.
 
-use crate::answer::Answer;
 use crate::places::place;
 use addr2line_context::{Context, Error, Frame, FrameIter, FunctionName, Reader};
+use case_text::Answer;
 
 /// The frames of an address, where each load is answered by no file.
 pub fn frames_at<R: Reader>(context: &mut Context<R>, probe: u64, out: &mut Answer) {

@@ -1,7 +1,7 @@
 //! Paragraphs about images, which are files of the folder that the program runs in.
 
 use crate::data::{bytes_of, number_of};
-use crate::mistake::Mistake;
+use case_text::Mistake;
 use std::alloc::Global;
 use std::str::SplitWhitespace;
 

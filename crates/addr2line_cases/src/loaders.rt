@@ -1,11 +1,11 @@
 //! Loaders of images, and what is asked of them.
 
-use crate::answer::Answer;
 use crate::image_case::{ImageAsked, ImageCase, ImageQuestion, Patch, Source};
 use crate::{frames, places, sources};
 use addr2line_loader::Loader;
 use addr2line_split::{FileSource, LoadError, SplitSource, Symbol};
 use bytes::Bytes;
+use case_text::Answer;
 use std::alloc::Global;
 use std::rt::Files;
 

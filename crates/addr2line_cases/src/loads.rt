@@ -1,11 +1,11 @@
 //! Loads of split files, and lookups that wait for them.
 
-use crate::answer::Answer;
 use crate::frames::frames;
 use addr2line_context::{
     Context, Dwarf, Error, LookupContinuation, LookupResult, Reader, SplitDwarfLoad, UnitRef,
     UnitToken,
 };
+use case_text::Answer;
 use std::rc::Rc;
 
 /// Sections that answer a load, or why they can't be had; none for no file.
@@ -48,7 +48,7 @@ pub fn answer<R: Reader>(
 ) {
     let token = UnitToken::new(usize::try_from(number).unwrap_or(usize::MAX));
     match file {
-        Ok(file) => out.outcome(context.answer_load(token, file)),
+        Ok(file) => out.done(context.answer_load(token, file)),
         Err(error) => out.refuse(error),
     }
 }

@@ -18,7 +18,6 @@
 //! `turn memory` for answers in turn, the second "out of memory".
 #![tactic(auto)]
 
-mod answer;
 mod case;
 mod contexts;
 mod data;
@@ -27,17 +26,15 @@ mod frames;
 mod image_case;
 mod loaders;
 mod loads;
-mod mistake;
 mod places;
 mod question;
 mod sources;
 mod units;
 
-use answer::Answer;
 use case::Case;
+use case_text::{Answer, Mistake};
 use files::File;
 use image_case::{ImageCase, is_about_image};
-use mistake::Mistake;
 use std::alloc::Global;
 use std::io::{BufRead, BufReader};
 use std::rt::Files;

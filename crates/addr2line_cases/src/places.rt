@@ -1,7 +1,7 @@
 //! Places and stretches.
 
-use crate::answer::Answer;
 use addr2line_context::{Error, Location, LocationRangeIter, Reader};
+use case_text::Answer;
 
 /// A place: its file, line and column, `?` for each that isn't known, and what else is recorded.
 pub fn place(place: Option<&Location<'_>>, out: &mut Answer) {

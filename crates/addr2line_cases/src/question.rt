@@ -2,7 +2,7 @@
 
 use crate::data::number_of;
 use crate::files::{File, file_number};
-use crate::mistake::Mistake;
+use case_text::Mistake;
 use std::str::SplitWhitespace;
 
 /// What is asked of a context. A file that answers a load is one by its number, or none.

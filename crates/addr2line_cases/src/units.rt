@@ -2,7 +2,7 @@
 //! abbreviations code 1 has low_pc and high_pc, code 2 a name and the same.
 
 use crate::data::number_of;
-use crate::mistake::Mistake;
+use case_text::Mistake;
 use std::alloc::{AllocError, Global};
 
 /// The units of a line, which has four numbers: how many units there are, the step from one to the

@@ -1,8 +1,8 @@
 //! Attributes (DWARF 5, 7.5.4 to 7.5.6).
 
-use crate::answer::Answer;
 use crate::case::Case;
 use crate::sections::Sections;
+use case_text::Answer;
 use gimli_core::{DebugStr, DwForm, Error, Reader, ReaderOffset};
 use gimli_units::{Attribute, AttributeValue, parse_attribute, skip_attributes};
 use std::alloc::Global;

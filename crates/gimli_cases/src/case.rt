@@ -1,39 +1,12 @@
 //! Questions as they are written.
 
+use case_text::Mistake;
 use gimli_core::{
     AttributeSpecification, DW_FORM_implicit_const, DwAt, DwForm, Encoding, Error, Format,
     ReaderOffset, RunTimeEndian,
 };
 use gimli_lines::write;
-use std::alloc::{AllocError, AllocFailed, Global};
-use std::io;
-
-/// Why the program ends early.
-#[derive(Debug, Drop)]
-pub enum Mistake {
-    Memory,
-    Input,
-    /// A word of a question that is none.
-    Word,
-}
-
-impl From<AllocError> for Mistake {
-    fn from(_refused: AllocError) -> Mistake {
-        Mistake::Memory
-    }
-}
-
-impl<T: Drop> From<AllocFailed<T>> for Mistake {
-    fn from(_refused: AllocFailed<T>) -> Mistake {
-        Mistake::Memory
-    }
-}
-
-impl From<io::Error> for Mistake {
-    fn from(_refused: io::Error) -> Mistake {
-        Mistake::Input
-    }
-}
+use std::alloc::Global;
 
 /// A question: an operation, its numbers and its sections. A number that isn't given is 0.
 #[derive(Drop)]

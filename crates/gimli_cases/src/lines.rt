@@ -1,9 +1,9 @@
 //! Line number programs (DWARF 4, 6.2; DWARF 5, 6.2).
 
-use crate::answer::Answer;
 use crate::attributes;
 use crate::case::Case;
 use crate::sections::Sections;
+use case_text::Answer;
 use gimli_core::{DebugLineOffset, Error, Reader};
 use gimli_lines::{
     ColumnType, CompleteLineProgram, DebugLine, FileEntry, IncompleteLineProgram, LineInstruction,

@@ -1,8 +1,8 @@
 //! Range lists and location lists (DWARF 4, 2.6.2 and 2.17.3; DWARF 5, 7.25, 7.28 and 7.29).
 
-use crate::answer::Answer;
 use crate::case::Case;
 use crate::sections::Sections;
+use case_text::Answer;
 use gimli_core::{
     DebugAddr, DebugAddrBase, DebugLocListsBase, DebugLocListsIndex, DebugRngListsBase,
     DebugRngListsIndex, Error, LocationListsOffset, RangeListsOffset, Reader, ReaderOffset,

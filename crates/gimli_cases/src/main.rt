@@ -4,7 +4,6 @@
 //! `#` is a heading.
 #![tactic(auto)]
 
-mod answer;
 mod attributes;
 mod case;
 mod facility;
@@ -16,9 +15,9 @@ mod sections;
 mod units;
 mod writing;
 
-use answer::Answer;
 use bytes::Bytes;
-use case::{Case, Mistake};
+use case::Case;
+use case_text::{Answer, Mistake};
 use facility::{Facility, facility_of};
 use gimli_core::{
     BigEndian, EndianBytes, EndianSlice, Endianity, LittleEndian, Reader, ReaderOffsetId,

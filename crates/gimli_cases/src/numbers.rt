@@ -1,7 +1,7 @@
 //! Numbers and texts (DWARF 5, 7.4 to 7.6).
 
-use crate::answer::Answer;
 use crate::case::Case;
+use case_text::Answer;
 use gimli_core::{Error, Format, Leb128, LineEncoding, Reader, ReaderOffset, leb128};
 
 /// Answers a question about numbers and texts.

@@ -1,6 +1,6 @@
 //! The refusals of the reading crates.
 
-use crate::answer::Answer;
+use case_text::Answer;
 use gimli_core::{DwForm, DwLle, DwRle, DwUt, Error, ReaderOffsetId};
 
 // All refusals, in the order of their numbers.

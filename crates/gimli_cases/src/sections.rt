@@ -1,7 +1,7 @@
 //! Abbreviations, strings and addresses (DWARF 5, 7.5.3, 7.26 and 7.27).
 
-use crate::answer::Answer;
 use crate::case::Case;
+use case_text::Answer;
 use gimli_core::{
     Abbreviation, Abbreviations, AddrHeader, DebugAbbrev, DebugAbbrevOffset, DebugAddr,
     DebugAddrBase, DebugAddrIndex, DebugLineStr, DebugLineStrOffset, DebugLocListsBase,

@@ -1,9 +1,9 @@
 //! Headers, address ranges and entries (DWARF 5, 7.5 and 6.1.2).
 
-use crate::answer::Answer;
 use crate::attributes;
 use crate::case::Case;
 use crate::sections::{Sections, table};
+use case_text::Answer;
 use gimli_core::{Abbreviations, DebugAbbrev, DebugArangesOffset, Error, Reader, ReaderOffset};
 use gimli_units::{
     ArangeEntry, ArangeEntryIter, ArangeHeader, DebugAranges, DebugInfo, DebugInfoOffset,

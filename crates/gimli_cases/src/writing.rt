@@ -1,7 +1,7 @@
 //! Numbers, addresses and lengths as they are written (DWARF 5, 7.4 to 7.6).
 
-use crate::answer::Answer;
 use crate::case::Case;
+use case_text::Answer;
 use gimli_core::{Endianity, SectionId};
 use gimli_lines::write::{Address, EndianVec, Error, Writer};
 use std::alloc::Global;

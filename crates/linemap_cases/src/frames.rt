@@ -1,11 +1,11 @@
 //! The frames of an address, from the image of a table.
 
-use crate::answer::Answer;
 use crate::question::{Change, Question};
 use addr2line_context::{Frame, FrameIter, Location, Reader};
 use addr2line_loader::Loader;
 use addr2line_split::MapSource;
 use bytes::Bytes;
+use case_text::Answer;
 use linemap_image::{Table, emit};
 use std::alloc::Global;
 

@@ -9,11 +9,10 @@
 //! VERSION, BITS and SIZE are decimal, the other numbers are hexadecimal.
 #![tactic(auto)]
 
-mod answer;
 mod frames;
 mod question;
 
-use answer::Answer;
+use case_text::Answer;
 use question::{Question, question_in};
 use std::io::{BufRead, BufReader};
 use std::rt::Files;

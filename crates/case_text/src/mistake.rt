@@ -1,11 +1,14 @@
-//! Why the program ends early.
+//! Why a program ends early.
 
 use std::alloc::{AllocError, AllocFailed};
 use std::io;
 
+/// Why a program ends early.
 #[derive(Debug, Drop)]
 pub enum Mistake {
+    /// Memory was refused.
     Memory,
+    /// The input can't be read, or isn't text.
     Input,
     /// A word that means nothing where it is.
     Word,

@@ -1,11 +1,11 @@
 //! Answers as they are written.
 
-use addr2line_context::{Error, Reader};
+use gimli_core::{Error, Reader};
 use std::alloc::{AllocError, Global};
 use std::fmt;
 
-/// The text of answers. Its calls never fail, so that the code that writes has one way through it;
-/// where memory is short, `finish` says so.
+/// The text of an answer. Its calls never fail, so that the code that writes has one way through
+/// it; where memory is short, `finish` says so.
 #[derive(Drop)]
 pub struct Answer {
     pub alloc: Global,
@@ -36,6 +36,13 @@ impl Answer {
         }
     }
 
+    /// A text if a condition holds.
+    pub fn text_if(&mut self, holds: bool, text: &str) {
+        if holds {
+            self.text(text);
+        }
+    }
+
     /// A value for readers.
     pub fn value<T: fmt::Display>(&mut self, value: &T) {
         if write!(self.text, "{value}").is_err() {
@@ -50,11 +57,26 @@ impl Answer {
         }
     }
 
+    /// A value as it is written in code, and a space.
+    pub fn word<T: fmt::Debug>(&mut self, value: &T) {
+        self.code(value);
+        self.text(" ");
+    }
+
     /// A number in hexadecimal.
     pub fn hex(&mut self, number: u64) {
         if write!(self.text, "{number:#x}").is_err() {
             self.is_short_of_memory = true;
         }
+    }
+
+    /// Two numbers in hexadecimal, in brackets.
+    pub fn pair(&mut self, first: u64, second: u64) {
+        self.text("[");
+        self.hex(first);
+        self.text(" ");
+        self.hex(second);
+        self.text("]");
     }
 
     /// A refusal other than "out of memory".
@@ -73,11 +95,50 @@ impl Answer {
         self.code(&error);
     }
 
+    /// A value or a refusal; whether it is a value.
+    pub fn outcome<T: fmt::Display + Drop>(&mut self, outcome: Result<T, Error>) -> bool {
+        match outcome {
+            Ok(value) => {
+                self.value(&value);
+                true
+            }
+            Err(error) => {
+                self.refuse(error);
+                false
+            }
+        }
+    }
+
     /// That something was done, or a refusal.
-    pub fn outcome(&mut self, outcome: Result<(), Error>) {
+    pub fn done(&mut self, outcome: Result<(), Error>) {
         match outcome {
             Ok(()) => self.text("done"),
             Err(error) => self.refuse(error),
+        }
+    }
+
+    /// A number, `?` for none.
+    pub fn number(&mut self, number: Option<u32>) {
+        match number {
+            Some(number) => self.value(&number),
+            None => self.text("?"),
+        }
+    }
+
+    /// Bytes in hexadecimal.
+    pub fn digits(&mut self, bytes: &[u8]) {
+        match hex::encode(self.alloc, bytes) {
+            Ok(digits) => self.text(&digits),
+            Err(_) => self.is_short_of_memory = true,
+        }
+    }
+
+    /// The bytes left, in hexadecimal, `-` for none.
+    pub fn bytes<R: Reader>(&mut self, reader: &R) {
+        if reader.is_empty() {
+            self.text("-");
+        } else {
+            self.digits(reader.as_bytes());
         }
     }
 
@@ -94,6 +155,14 @@ impl Answer {
         match reader {
             Some(reader) => self.lossy(reader),
             None => self.text("-"),
+        }
+    }
+
+    /// The bytes left as a text, or a refusal.
+    pub fn text_of<R: Reader>(&mut self, text: Result<R, Error>) {
+        match text {
+            Ok(text) => self.lossy(&text),
+            Err(error) => self.refuse(error),
         }
     }
 }
