@@ -1,5 +1,8 @@
 pub mod Loads
 pub mod CountedReads
+pub mod TextLemmas
+pub mod NameLemmas
+pub mod NamePartLemmas
 pub mod SymbolNames
 pub mod FirstHighestSymbol
 pub mod SectionTableRoom

@@ -6,6 +6,7 @@ pub mod ElfTexts
 pub mod ElfImages
 pub mod SymbolEntries
 pub mod ElfSymbols
+pub mod NameParts
 pub mod SymbolStretches
 pub mod SymbolSweeps
 pub mod ElfDebugSections

@@ -17,7 +17,7 @@ use crate::identification::identify;
 use crate::reading::{in_file, nothing_of};
 use crate::symbols::{Symbols, symbol_table};
 use crate::table::{contents, linked_contents, parse_file_header, parse_sections};
-use crate::texts::text_at;
+use crate::texts::is_text_at;
 use bytes::Bytes;
 use gimli_core_readers::{EndianBytes, Reader, RunTimeEndian};
 use std::alloc::Global;
@@ -118,7 +118,7 @@ impl Elf {
 
     /// The symbols that have a name and are defined in the file, data and functions. Takes memory
     /// for a list of all symbols, and for stretches of addresses, at most two for each symbol. It
-    /// reads each name and sorts the symbols.
+    /// reads the section of names once and sorts the symbols.
     #[tactic(auto, using(crate::proofs::Loads::of_returned, crate::proofs::Loads::of_read))]
     pub fn symbols(&self, alloc: Global) -> Result<Symbols, LoadError>
         ensures { LoadsOrNoMemory result (symbols_of self.now) }
@@ -151,14 +151,11 @@ impl Elf {
             .position(|section| self.is_named(section, name))
     }
 
-    // Whether a section has a name.
+    // Whether a section has a name. It looks at no more bytes than the name has, and one.
     fn is_named(&self, section: &SectionHeader, name: &[u8]) -> bool
         ensures { result ≡ is_text (name_of section.now self.now) name.now }
     {
-        match text_at(self.names.as_bytes(), section.name) {
-            Some(text) => text == name,
-            None => false,
-        }
+        is_text_at(self.names.as_bytes(), section.name, name)
     }
 
     // The bytes of a section that is read as debugging information.

@@ -11,6 +11,7 @@ pub mod error;
 pub mod headers;
 mod identification;
 pub mod laws;
+mod names;
 mod reading;
 mod stretch;
 mod sweep;

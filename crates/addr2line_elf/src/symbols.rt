@@ -1,6 +1,6 @@
 //! The symbols of an image, and the one of an address.
 
-ghost use Rattle.std.specs.Prelude.{◌≡◌, ◌==◌, filter, option_map};
+ghost use Rattle.std.specs.Prelude.{◌≡◌, ◌==◌, filter, option_map, OnOk, IfErr};
 ghost use Rattle.std.specs.List.{find};
 ghost use Rattle.gimli_core_readers.specs.Parsers.{value_of};
 ghost use Rattle.gimli_core_readers.specs.Calls.{ReturnsAsOrNoMemory};
@@ -10,12 +10,14 @@ ghost use Rattle.addr2line_elf.specs.ImageLoading.{LoadsAsOrNoMemory, LoadsOrNoM
 ghost use Rattle.addr2line_elf.specs.ElfTexts.{text_at};
 ghost use Rattle.addr2line_elf.specs.ElfSymbols.{is_defined, as_name, symbol_of, symbol_table, section_or, entries_in, symbols_in, symbol_at};
 ghost use Rattle.addr2line_elf.specs.SymbolStretches.{is_named};
+ghost use Rattle.addr2line_elf.specs.declared.error.LoadError.TheVariants.{Memory};
 
 use crate::class::Class;
 use crate::constants::{SHN_UNDEF, SHT_DYNSYM, SHT_SYMTAB, STT_FUNC};
 use crate::entries::SymbolEntry;
 use crate::error::LoadError;
 use crate::headers::SectionHeader;
+use crate::names::NameTable;
 use crate::reading::{in_file, input_of};
 use crate::stretch::{SymbolStretch, entry_at};
 use crate::sweep::stretches_of;
@@ -98,8 +100,8 @@ impl Symbols {
         }
     }
 
-    /// The symbols of a table, with their names. Each name is checked once, and the entries are
-    /// sorted by their addresses.
+    /// The symbols of a table, with their names. The section of names is read once, however many
+    /// symbols share a name, and the entries are sorted by their addresses.
     pub(crate) fn read(
         alloc: Global,
         class: Class,
@@ -109,7 +111,7 @@ impl Symbols {
         ensures { LoadsOrNoMemory result (symbols_in class table.now texts) }
     {
         let mut entries = read_entries(alloc, class, table)?;
-        keep_named(&mut entries, texts.as_bytes());
+        keep_named(alloc, &mut entries, texts.as_bytes())?;
         let appearance = Snapshot::of(&entries);
         let stretches = stretches_of(alloc, entries)?;
         Ok(Symbols {
@@ -129,15 +131,26 @@ impl Symbols {
     }
 }
 
-// Removes the entries that have no symbol.
-fn keep_named(entries: &mut Vec<SymbolEntry>, texts: &[u8])
-    ensures { entries.new.items ≡ filter (is_named texts.now) entries.old.items }
+// Removes the entries that have no symbol. The only refusal is out of memory.
+fn keep_named(alloc: Global, entries: &mut Vec<SymbolEntry>, texts: &[u8]) -> Result<(), LoadError>
+    ensures ok { OnOk result (entries.new.items
+        ≡ filter (is_named texts.now) entries.old.items) }
+    ensures refusal { IfErr result (λ e. e ≡ Memory) }
 {
+    let names = NameTable::read(alloc, texts)?;
     entries.retain(
         |entry: &SymbolEntry| -> bool
-            ensures { result ≡ is_named texts.entry.now entry.now }
-        { symbol_of(texts, entry).is_some() },
+            ensures { result ≡ is_named names.entry entry.now }
+        { is_named(&names, entry) },
     );
+    Ok(())
+}
+
+// Whether an entry has a symbol.
+fn is_named(names: &NameTable<'_>, entry: &SymbolEntry) -> bool
+    ensures { result ≡ is_named names.now entry.now }
+{
+    is_defined(entry) && names.begins_at(entry.name)
 }
 
 // As many entries as a table has room for.

@@ -10,7 +10,7 @@ invariant_of-result c =
     let kept = c.keep_named.new.entries.items in
     let stretches = c.in_ok-stretches.stretches.items in
     let is : kept ≡ filter (is_named texts) entries =
-    c.keep_named.ensures ∙ ap (λ t. filter (is_named t) entries) c.as_bytes.ensures.value in
+    c.in_ok-keep_named.ensures.ok ∙ ap (λ t. filter (is_named t) entries) c.as_bytes.ensures.value in
     subst (λ v. IsDivided texts v.items stretches) (sym c.of-appearance.ensures)
     (c.in_ok-stretches.ensures.ok texts (subst (AreNamed texts) (sym is) (named_kept texts entries)))
 
@@ -20,5 +20,5 @@ returns c =
     let entries = c.in_ok-entries.entries.items in
     read_kept c.args.class c.args.table.now c.args.texts entries c.of-appearance.result.value.items
     c.in_ok-entries.ensures
-    (ap (λ v. v.items) c.of-appearance.ensures ∙ c.keep_named.ensures
+    (ap (λ v. v.items) c.of-appearance.ensures ∙ c.in_ok-keep_named.ensures.ok
     ∙ ap (λ t. filter (is_named t) entries) c.as_bytes.ensures.value)
