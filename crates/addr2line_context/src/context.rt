@@ -90,9 +90,10 @@ impl<R: Reader> Context<R> {
     }
 
     /// The context of a file's sections, which it keeps. The lines of a unit are read here only
-    /// where its ranges are those of its lines. Refused, besides out of memory, by a header of
-    /// `.debug_aranges`, by the first fault in `.debug_info`, of a unit's ranges or of a header, or
-    /// by a header of the supplement, in this order.
+    /// where its ranges are those of its lines. A table of abbreviations is read once for each unit
+    /// that has it, unless it is in the file's cache (`populate_abbreviations_cache`). Refused,
+    /// besides out of memory, by a header of `.debug_aranges`, by the first fault in `.debug_info`,
+    /// of a unit's ranges or of a header, or by a header of the supplement, in this order.
     pub fn from_arc_dwarf(alloc: Global, sections: Rc<Dwarf<R>>) -> Result<Self, Error>
         ensures context { ReturnsAsOrNoMemory (λ c. c.value.plain) result
             (file_context sections.value.file) }

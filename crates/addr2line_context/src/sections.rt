@@ -8,15 +8,16 @@ ghost use Rattle.addr2line_context.specs.MainFiles.{main_file};
 
 use crate::context::Context;
 use addr2line_lookups::{
-    AbbreviationsCache, DebugAbbrev, DebugAddr, DebugAranges, DebugInfo, DebugLine, DebugLineStr,
-    DebugRanges, DebugRngLists, DebugStr, DebugStrOffsets, Dwarf, DwarfFileType, Error,
-    LocationLists, RangeLists, Reader,
+    AbbreviationsCache, AbbreviationsCacheStrategy, DebugAbbrev, DebugAddr, DebugAranges,
+    DebugInfo, DebugLine, DebugLineStr, DebugRanges, DebugRngLists, DebugStr, DebugStrOffsets,
+    Dwarf, DwarfFileType, Error, LocationLists, RangeLists, Reader,
 };
 use std::alloc::Global;
 
 impl<R: Reader> Context<R> {
     /// The context of a main file without a supplement, from its sections; a copy of the last is
-    /// used for each that isn't named.
+    /// used for each that isn't named. A table of abbreviations that several units share is read
+    /// once.
     pub fn from_sections(
         alloc: Global,
         debug_abbrev: DebugAbbrev<R>,
@@ -37,7 +38,7 @@ impl<R: Reader> Context<R> {
             (R.view default_section))) }
         ensures answers { IfOk result (λ c. HasNoAnswers c.value) }
     {
-        let sections = Dwarf {
+        let mut sections = Dwarf {
             debug_abbrev,
             debug_addr,
             debug_aranges,
@@ -56,6 +57,7 @@ impl<R: Reader> Context<R> {
             sup: None,
             abbreviations_cache: AbbreviationsCache::new(alloc),
         };
+        sections.populate_abbreviations_cache(alloc, AbbreviationsCacheStrategy::Duplicates)?;
         Context::from_dwarf(alloc, sections)
     }
 }
