@@ -13,15 +13,17 @@ turn, until the time is up:
   the answers must be the model's.
 - lookup: `linemap lookup` reads the image of a file, and its answers must be the model's too.
 
-A process may take 10 seconds for a file, and 30 times its size and 100 MB; it must end with status 0 or 1. What doesn't
-hold is written to the folder FINDS (./finds where it isn't set), and counted. The variable SEED begins elsewhere.
+A process may take 10 seconds of a processor for a file, and 30 times its size and 100 MB; it must end with status 0 or 1.
+What doesn't hold is written to the folder FINDS (./finds where it isn't set), and counted. The variable SEED begins elsewhere.
 CASES and LINEMAP name other programs; where LINEMAP is empty there are no lookups, and the seeds come from SECTIONS, a
 folder of images.
 """
 import itertools
 import json
+import math
 import os
 import random
+import resource
 import shutil
 import signal
 import subprocess
@@ -223,18 +225,21 @@ def addresses(random, seed):
 
 
 class Process:
-    """A process that was run over input: its status, its output, and its greatest memory."""
+    """A process that was run over input: its status, its output, and its greatest memory. It is late after some seconds of a
+    processor, or where it waits for much longer."""
 
     def __init__(self, words, text, seconds, megabytes, folder):
         self.is_late = False
+        limit = math.ceil(seconds)
         with open(f"{folder}/out", "w+b") as out, open(f"{folder}/err", "w+b") as err, open(f"{folder}/in", "w+b") as given:
             given.write(text)
             given.seek(0)
             # (by way of `time`: a process begins with the peak memory of the one that starts it, which here is large)
             timed = ["/usr/bin/time", "-q", "-f", "%M", "-o", "memory", *words]
-            run = subprocess.Popen(timed, stdin=given, stdout=out, stderr=err, cwd=folder, start_new_session=True)
+            run = subprocess.Popen(timed, stdin=given, stdout=out, stderr=err, cwd=folder, start_new_session=True,
+                                   preexec_fn=lambda: resource.setrlimit(resource.RLIMIT_CPU, (limit, limit + 1)))
             try:
-                run.wait(seconds)
+                run.wait(100 * seconds)
             except subprocess.TimeoutExpired:
                 self.is_late = True
                 os.killpg(run.pid, signal.SIGKILL)
@@ -243,6 +248,7 @@ class Process:
             err.seek(0)
             self.out, self.err = out.read().decode("utf-8", "replace"), err.read().decode("utf-8", "replace")
         self.status = run.returncode
+        self.is_late |= self.status in (128 + signal.SIGXCPU, 128 + signal.SIGKILL)
         with open(f"{folder}/memory", encoding="utf-8") as file:
             self.memory = 0 if self.is_late else int(file.read().split()[-1]) / 1024
         self.is_big = self.memory > megabytes

@@ -1,16 +1,19 @@
 #!/usr/bin/env python3
-"""Debug information made to be slow to read: images by kind, and what reading them costs.
+"""Debug information made to be slow to read, and tables made to be slow to emit: files by kind, and what they cost.
 
 usage: bench/hostile.py list
        bench/hostile.py make KIND COUNT FILE      and print the addresses that are asked for
        bench/hostile.py measure [KIND..]
 
 Each kind is made at half its count and at its whole one, so that the growth shows: twice the count should take about
-twice the time and the memory. What is run is `linemap lookup -e IMAGE -f -i` with addresses, and `--all`; where PEER
-names a program with the same words, such as one over Rust's addr2line, it is run too. LINEMAP names other words than
+twice the time and the memory. What is run on an image is `linemap lookup -e IMAGE -f -i` with addresses, and `--all`; where
+PEER names a program with the same words, such as one over Rust's addr2line, it is run too. On a table it is `linemap ask`
+with addresses, and `linemap emit`. LINEMAP names other words than
 those of the built program. SCALE makes all counts larger or smaller, LIMIT bounds the seconds of a run (60).
 """
+import json
 import os
+import random
 import signal
 import subprocess
 import sys
@@ -342,6 +345,82 @@ KINDS = {shared_program: 3600, shared_ranges: 15_000, abbreviation_tails: 17_000
 BY_NAME = {it.__name__.replace("_", "-"): it for it in KINDS}
 
 
+# ---- tables: from a count to the units and the addresses that are asked for
+
+
+def table_unit(low, high, **parts):
+    return {"directory": "/w", "name": "a.c", "ranges": [[low, high]], "files": [{"directory": "src", "name": "a.c"}], "functions": [],
+            "sequences": [], **parts}
+
+
+def table_row(address, line=1):
+    return {"address": address, "file": 0, "line": line, "column": 1}
+
+
+def table_rows(count):
+    """Rows of one sequence."""
+    rows = [table_row(LOW + it, it + 1) for it in range(count)]
+    return [table_unit(LOW, LOW + count, sequences=[{"rows": rows, "end": LOW + count}])], spread(LOW, count)
+
+
+def shuffled(count, seed=1):
+    order = list(range(count))
+    random.Random(seed).shuffle(order)
+    return order
+
+
+def table_sequences(count):
+    """Sequences of one row each, in no order."""
+    sequences = [{"rows": [table_row(LOW + 4 * it)], "end": LOW + 4 * it + 4} for it in shuffled(count)]
+    return [table_unit(LOW, LOW + 4 * count, sequences=sequences)], spread(LOW, 4 * count)
+
+
+def table_units(count):
+    """Units, in no order."""
+    return [table_unit(LOW + 4 * it, LOW + 4 * it + 4) for it in shuffled(count)], spread(LOW, 4 * count)
+
+
+def table_ranges(count):
+    """A function of as many ranges, in no order."""
+    function = {"name": "f", "ranges": [[LOW + 4 * it, LOW + 4 * it + 2] for it in shuffled(count)], "calls": []}
+    return [table_unit(LOW, LOW + 4 * count, functions=[function])], spread(LOW, 4 * count)
+
+
+def table_nested_calls(count):
+    """Calls nested fifty deep, as often as makes that many."""
+    def call(low, depth):
+        return {"name": f"f{depth}", "ranges": [[low, low + 2]], "file": 0, "line": 1, "column": 1, "calls": [call(low, depth - 1)] if depth else []}
+
+    functions = [{"name": "f", "ranges": [[LOW + 4 * it, LOW + 4 * it + 2]], "calls": [call(LOW + 4 * it, 49)]} for it in range(count // 50)]
+    return [table_unit(LOW, LOW + 4 * count, functions=functions)], spread(LOW, 4 * (count // 50))
+
+
+def table_names(count):
+    """Calls of names that differ in their ends alone, each as long as a hundredth of their number."""
+    calls = [{"name": f"{'n' * (count // 100)}{it}", "ranges": [[LOW + 4 * it, LOW + 4 * it + 2]], "file": 0, "line": 1, "column": 1, "calls": []}
+             for it in range(count)]
+    function = {"name": "f", "ranges": [[LOW, LOW + 4 * count]], "calls": calls}
+    return [table_unit(LOW, LOW + 4 * count, functions=[function])], spread(LOW, 4 * count)
+
+
+def table_files(count):
+    """Files of directories that differ in their ends alone."""
+    files = [{"directory": f"{'d' * 60}/{it}", "name": "a.c"} for it in range(count)]
+    rows = [{"address": LOW + it, "file": it, "line": 1, "column": 1} for it in range(count)]
+    return [table_unit(LOW, LOW + count, files=files, sequences=[{"rows": rows, "end": LOW + count}])], spread(LOW, count)
+
+
+def table_brackets(count):
+    """Brackets in one another, which are no table."""
+    return "[" * count + "]" * count, [LOW]
+
+
+TABLES = {table_rows: 100_000, table_sequences: 20_000, table_units: 20_000, table_ranges: 20_000, table_nested_calls: 50_000,
+          table_names: 10_000, table_files: 20_000, table_brackets: 1_000_000}
+KINDS.update(TABLES)
+BY_NAME.update({it.__name__.replace("_", "-"): it for it in TABLES})
+
+
 # ---- images
 
 
@@ -408,11 +487,21 @@ def text_of(one, two):
     return f"{two[0]:8.2f} s {two[1]:7.0f} MB {growth:5.1f} x{status:>10}"
 
 
+def words_for(what, path, asked):
+    """What is asked of a file, after the program, and of an image after the subcommand too."""
+    if what == "ask":
+        return ["ask", path, *asked]
+    if what == "emit":
+        return ["emit", path, os.devnull]
+    return ["-e", path, *(["-f", "-i", *asked] if what == "frames" else ["--all"])]
+
+
 def measure(names):
     own = os.environ.get("LINEMAP", f"{TOP}/crates/linemap_program/out/linemap_program lookup").split()
     peer = os.environ.get("PEER", "").split()
     limit, scale = float(os.environ.get("LIMIT", 60)), float(os.environ.get("SCALE", 1))
     programs = {"own": own, **({"peer": peer} if peer else {})}
+    table_programs = {"own": own[:-1]}
     print(f"{'kind':24} {'KB':>6} {'asked':8} " + " ".join(f"{it + ': seconds, memory, growth':36}" for it in programs))
     with tempfile.TemporaryDirectory() as folder:
         for name in names:
@@ -423,11 +512,11 @@ def measure(names):
                 made = subprocess.run([sys.executable, __file__, "make", name, str(count), path], check=True, stdout=subprocess.PIPE)
                 sizes.append((path, os.path.getsize(path)))
                 lists.append(made.stdout.decode().split())
-            for what in "frames", "all":
+            is_table = kind in TABLES
+            for what in ("ask", "emit") if is_table else ("frames", "all"):
                 found = []
-                for program in programs.values():
-                    words = [[*program, "-e", path, *(["-f", "-i", *asked] if what == "frames" else ["--all"])]
-                             for (path, _), asked in zip(sizes, lists)]
+                for program in (table_programs if is_table else programs).values():
+                    words = [[*program, *words_for(what, path, asked)] for (path, _), asked in zip(sizes, lists)]
                     one = run(words[0], limit)
                     found.append(text_of(one, one and run(words[1], limit)))
                 print(f"{name:24} {sizes[1][1] // 1000:6} {what:8} " + " ".join(f"{it:36}" for it in found), flush=True)
@@ -439,9 +528,12 @@ def main():
         for name, kind in BY_NAME.items():
             print(f"{name:24} {KINDS[kind]:9,}  {kind.__doc__}")
     elif len(words) == 4 and words[0] == "make" and words[1] in BY_NAME:
-        sections, asked = BY_NAME[words[1]](int(words[2]))
+        made, asked = BY_NAME[words[1]](int(words[2]))
         with open(words[3], "wb") as file:
-            file.write(elf(sections))
+            if BY_NAME[words[1]] not in TABLES:
+                file.write(elf(made))
+            else:
+                file.write((made if isinstance(made, str) else json.dumps({"units": made}, separators=(",", ":"))).encode())
         print(*[f"{it:x}" for it in asked])
     elif words[:1] == ["measure"] and all(it in BY_NAME for it in words[1:]):
         measure(words[1:] or list(BY_NAME))
