@@ -1,5 +1,7 @@
 //! Streams that end in a fault.
 
+ghost use Rattle.std.specs.Prelude.{◌≡◌, IfOk};
+
 use std::alloc::Global;
 use std::io;
 use std::io::{ErrorKind, Read, Write};
@@ -14,7 +16,10 @@ pub enum Fault {
 }
 
 impl Fault {
-    fn ending(self) -> io::Result<usize> {
+    // The answer of a call that fails: an error, or that it took nothing.
+    fn ending(self) -> io::Result<usize>
+        ensures { IfOk result (λ count. count ≡ 0) }
+    {
         match self {
             Fault::Kind(kind) => Err(kind.into()),
             Fault::Nothing => Ok(0),
