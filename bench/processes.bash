@@ -32,11 +32,15 @@ measure() { # CASE ROUNDS SECONDS
     rm "$work/commands"
 }
 
-# Says where two programs answer differently.
+# Says where two programs answer differently, but for discriminators, which not all of them print.
 compare() { # CASE THEIRS OURS
     local lines
-    lines="$(diff "$2" "$3" | grep -c '^[<>]' || true)"
+    lines="$(diff <(plain "$2") <(plain "$3") | grep -c '^[<>]' || true)"
     [ "$lines" = 0 ] || echo "$1: $lines lines of ${3##*/} and ${2##*/} differ"
+}
+
+plain() { # ANSWERS
+    sed 's/ (discriminator [0-9]*)$//' "$1"
 }
 
 # Prints a line for each case and program: milliseconds of processor time and MiB, each with its multiple of what the
