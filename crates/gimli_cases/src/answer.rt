@@ -1,6 +1,7 @@
 //! Answers as they are written.
 
 use gimli_core::{Error, Reader};
+use gimli_lines::write;
 use std::alloc::{AllocError, Global};
 use std::fmt;
 
@@ -11,6 +12,14 @@ pub struct Answer {
     alloc: Global,
     text: String,
     is_short_of_memory: bool,
+    has_asked_again: bool,
+}
+
+/// A whole answer, and whether a call was made again for it after memory was refused.
+#[derive(Drop)]
+pub struct WholeAnswer {
+    pub text: String,
+    pub is_second: bool,
 }
 
 impl Answer {
@@ -19,15 +28,24 @@ impl Answer {
             alloc,
             text: String::new(alloc),
             is_short_of_memory: false,
+            has_asked_again: false,
         }
     }
 
-    pub fn finish(self) -> Result<String, AllocError> {
+    pub fn finish(self) -> Result<WholeAnswer, AllocError> {
         if self.is_short_of_memory {
             Err(AllocError)
         } else {
-            Ok(self.text)
+            Ok(WholeAnswer {
+                text: self.text,
+                is_second: self.has_asked_again,
+            })
         }
+    }
+
+    /// Records that a call is made again, on what it left when memory was refused.
+    pub fn ask_again(&mut self) {
+        self.has_asked_again = true;
     }
 
     pub fn text(&mut self, text: &str) {
@@ -85,6 +103,17 @@ impl Answer {
             self.is_short_of_memory = true;
         } else {
             self.print(error);
+        }
+    }
+
+    /// A refusal of a call that writes, other than "out of memory".
+    pub fn refuse_to_write(&mut self, error: write::Error) {
+        if matches!(error, write::Error::Memory) {
+            self.is_short_of_memory = true;
+        } else {
+            self.value(&error);
+            self.text(" ");
+            self.code(&error);
         }
     }
 

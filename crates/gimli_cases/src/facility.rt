@@ -17,10 +17,11 @@ pub enum Facility {
     ListsHeader,
     Lines,
     Writing,
+    Programs,
     Unknown,
 }
 
-const OPERATIONS: [(Facility, &[&str]); 14] = [
+const OPERATIONS: [(Facility, &[&str]); 15] = [
     (Facility::Refusals, &["refusals"]),
     (
         Facility::Numbers,
@@ -136,6 +137,7 @@ const OPERATIONS: [(Facility, &[&str]); 14] = [
             "write_bytes",
         ],
     ),
+    (Facility::Programs, &["line_program"]),
 ];
 
 /// What an operation is about.

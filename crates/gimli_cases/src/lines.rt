@@ -21,7 +21,7 @@ pub fn answer<R: Reader>(alloc: Global, case: &Case, sections: Sections<R>, out:
             "line_lists" => lists(&header, out),
             "line_files" => files(&header, out),
             "line_formats" => formats(&header, out),
-            "line_rows" => rows(header, out),
+            "line_rows" | "line_program" => rows(header, out),
             "line_instructions" => instructions(&header, out),
             _ => sequences(alloc, header, out),
         },

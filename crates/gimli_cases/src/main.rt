@@ -1,7 +1,8 @@
 //! Answers questions about DWARF bytes, one a line: the name of an operation, the numbers that it
 //! needs, and after a colon the sections that it reads, in hexadecimal. Each question is answered
 //! twice, from borrowed and from shared bytes, and a difference is a fault. A line that begins with
-//! `#` is a heading.
+//! `#` is a heading. A question for which memory is refused is asked again, and its answer begins
+//! with `E1, then`.
 #![tactic(auto)]
 
 mod answer;
@@ -11,12 +12,13 @@ mod facility;
 mod lines;
 mod lists;
 mod numbers;
+mod programs;
 mod refusals;
 mod sections;
 mod units;
 mod writing;
 
-use answer::Answer;
+use answer::{Answer, WholeAnswer};
 use bytes::Bytes;
 use case::{Case, Mistake};
 use facility::{Facility, facility_of};
@@ -44,17 +46,48 @@ fn main(rt: HostRuntime) -> Result<(), Mistake> {
 // The answer to a question, which both readers have to give.
 fn answer_line(alloc: Global, line: &str) -> Result<String, Mistake> {
     let case = Case::parse(alloc, line)?;
-    let borrowed = answer_borrowed(alloc, &case)?;
-    let shared = answer_shared(alloc, &case)?;
+    let borrowed = match answer_borrowed(alloc, &case) {
+        Err(_) => second(answer_borrowed(alloc, &case)),
+        first => first,
+    };
+    let shared = match answer_shared(alloc, &case) {
+        Err(_) => second(answer_shared(alloc, &case)),
+        first => first,
+    };
+    match (borrowed, shared) {
+        (Ok(borrowed), Ok(shared)) => Ok(answer_of_both(alloc, &borrowed, &shared)?),
+        _ => Err(Mistake::Memory),
+    }
+}
+
+// The answer to a question that is asked again.
+fn second(answer: Result<WholeAnswer, AllocError>) -> Result<WholeAnswer, AllocError> {
+    match answer {
+        Ok(answer) => Ok(WholeAnswer {
+            text: answer.text,
+            is_second: true,
+        }),
+        Err(error) => Err(error),
+    }
+}
+
+fn answer_of_both(
+    alloc: Global,
+    borrowed: &WholeAnswer,
+    shared: &WholeAnswer,
+) -> Result<String, AllocError> {
+    let is_second = borrowed.is_second || shared.is_second;
+    let before = if is_second { "E1, then " } else { "" };
+    let (borrowed, shared) = (borrowed.text.as_str(), shared.text.as_str());
     if borrowed == shared {
-        Ok(borrowed)
+        format!(in alloc; "{before}{borrowed}")
     } else {
-        Ok(format!(in alloc; "fault: {borrowed} if borrowed, {shared} if shared")?)
+        format!(in alloc; "fault: {borrowed} if borrowed, {shared} if shared")
     }
 }
 
 // The answer from borrowed bytes, whose order is a type.
-fn answer_borrowed(alloc: Global, case: &Case) -> Result<String, AllocError> {
+fn answer_borrowed(alloc: Global, case: &Case) -> Result<WholeAnswer, AllocError> {
     if case.is_big {
         answer_with(alloc, case, borrowed_sections(case, BigEndian))
     } else {
@@ -76,7 +109,7 @@ fn borrowed_reader<E: Endianity>(case: &Case, number: usize, order: E) -> Endian
 }
 
 // The answer from shared bytes, whose order is a value.
-fn answer_shared(alloc: Global, case: &Case) -> Result<String, AllocError> {
+fn answer_shared(alloc: Global, case: &Case) -> Result<WholeAnswer, AllocError> {
     let sections = Sections {
         first: shared_reader(alloc, case, 0)?,
         second: shared_reader(alloc, case, 1)?,
@@ -99,7 +132,7 @@ fn answer_with<R: Reader>(
     alloc: Global,
     case: &Case,
     sections: Sections<R>,
-) -> Result<String, AllocError> {
+) -> Result<WholeAnswer, AllocError> {
     let mut out = Answer::new(alloc);
     dispatch(alloc, case, sections, &mut out);
     out.finish()
@@ -122,6 +155,7 @@ fn dispatch<R: Reader>(alloc: Global, case: &Case, sections: Sections<R>, out: &
         Facility::ListsHeader => lists::lists_header(sections.first, out),
         Facility::Lines => lines::answer(alloc, case, sections, out),
         Facility::Writing => writing::answer(alloc, case, sections.first.endian(), out),
+        Facility::Programs => programs::answer(alloc, case, sections.first.endian(), out),
         Facility::Unknown => out.text("no such operation"),
     }
 }

@@ -17,9 +17,7 @@ pub fn answer<E: Endianity>(alloc: Global, case: &Case, order: E, out: &mut Answ
     out.digits(w.slice());
     if let Err(error) = outcome {
         out.text(" ");
-        out.value(&error);
-        out.text(" ");
-        out.code(&error);
+        out.refuse_to_write(error);
     }
 }
 
