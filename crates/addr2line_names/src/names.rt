@@ -49,8 +49,8 @@ impl<'a, R: Reader, U: HasUnit<R>> KnownUnits<'a, R, U> {
         }
     }
 
-    /// Units in the order of their offsets, as a section has them. A reference by an offset of it is
-    /// followed by a bisection.
+    /// Units in the order of their offsets, as a section has them. A reference by an offset of it
+    /// is followed by a bisection.
     pub fn in_order(units: &'a [U], supplement_units: &'a [Unit<R>]) -> Self
         requires units { AreInOrder (map U.facts units.now) }
         requires supplement { AreInOrder supplement_units.now }
