@@ -1,5 +1,6 @@
 pub mod ContextParts
 pub mod NewContexts
+pub mod UnitsInOrder
 pub mod ContextLoads
 pub mod KeptUnits
 pub mod ContextWalks

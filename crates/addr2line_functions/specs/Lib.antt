@@ -1,5 +1,6 @@
 pub use Rattle.addr2line_names.specs.EntryNamings
 pub use Rattle.addr2line_names.specs.EntryReferences
+pub use Rattle.addr2line_names.specs.OrderedUnits
 pub use Rattle.addr2line_names.specs.FunctionNames
 pub use Rattle.addr2line_units.specs.BorrowedLocations
 pub use Rattle.addr2line_units.specs.NumberedRanges
