@@ -54,7 +54,8 @@ in_order n (u ∷ us) h (suc i) (suc j) d le below = in_order (unit_offset u) us
 -- ---- the units of a section
 
 abbrev TileFrom : ℕ → View → ℕ → List DebugUnit → Result View Error → Type 0
-TileFrom limit section offset hs ending = Tile (unit limit) (λ u. u.offset) length_including_self section offset hs ending
+TileFrom limit section offset hs ending =
+    Tile (unit limit) (λ u. u.offset) length_including_self section offset hs ending
 
 -- those that a function makes of headers, if they keep the header
 module _ (f : DebugUnit → Option UnitFacts)
@@ -72,7 +73,8 @@ module _ (f : DebugUnit → Option UnitFacts)
       by (Some u) is rest =
           let here : unit_offset u ≡ offset = ap (λ (x : DebugUnit). x.offset) (keeps h u is) ∙ t.0 in (
             omega (arith, here),
-            begin_earlier (unit_offset u) (offset + length_including_self h) (filter_map f hs) (omega (arith, here)) rest,
+            begin_earlier (unit_offset u) (offset + length_including_self h) (filter_map f hs) (omega (arith, here))
+                rest,
           )
 
 -- ---- headers

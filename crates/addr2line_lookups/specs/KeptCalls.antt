@@ -43,7 +43,8 @@ calls_among known v n = do
 abbrev pub HoldsCalls : KnownUnits → ResolvedUnit → Type 0
 HoldsCalls known u = (n : ℕ) → IsKeptOf (calls_among known u.value n) (kept_at u.calls n)
 
--- the same of each unit; and the units that references may lead to are in the order of their offsets
+-- The calls that are kept of each unit are those, and the units that references may lead to are in
+-- the order of their offsets.
 pub record HoldCalls (known : KnownUnits) (us : List ResolvedUnit) : Type 0 where
   pub calls : All (HoldsCalls known) us
   pub order : AreKnownInOrder known
