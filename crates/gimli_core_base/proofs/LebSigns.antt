@@ -1,5 +1,5 @@
 -- The sign of a LEB128 string.
-use Rattle.std.proofs.Common.{◌≡◌, ℕ, zero, suc, ◌+◌, ◌-◌, ◌*◌, ◌^◌, ◌<◌, ◌≤◌, ◌%◌, true, false, leb, List, [], ◌∷◌, ◌++◌, length, get_or, take, drop, Ok, Err, refl, sym, ap, subst, ◌∙◌, arith, inl, inr}
+use Rattle.std.proofs.Common.{◌≡◌, ℕ, zero, suc, ◌+◌, ◌-◌, ◌*◌, ◌^◌, ◌<◌, ◌≤◌, ◌/◌, ◌%◌, true, false, leb, List, [], ◌∷◌, ◌++◌, length, get_or, take, drop, Ok, Err, refl, sym, ap, subst, ◌∙◌, arith, inl, inr}
 use Rattle.std.specs.Prelude.{◌≢◌, ℤ, pos, negsuc, ◌-ℤ◌, FitsSigned}
 use mir.Val.{to_z}
 use Rattle.std.specs.Int.{w64}
@@ -51,15 +51,33 @@ pub record IsHalf (half n : ℕ) : Type 0 where
   pub two_halves : 2 * half ≡ 128 ^ n
   pub fits : half ≤ 2 ^ 62
 
-pub half_is : (n sum : ℕ) → n ≤ 9 → 128 ^ n ≤ 2 * sum → sum < 128 ^ n → IsHalf (1 * 2 ^ (7 * n - 1) % 2 ^ 64) n
-half_is zero sum short set digits = absurd (omega arith)
-half_is (suc n) sum short set digits =
+half_is : (n : ℕ) → 0 < n → n ≤ 9 → IsHalf (1 * 2 ^ (7 * n - 1) % 2 ^ 64) n
+half_is zero some short = absurd (omega arith)
+half_is (suc n) some short =
     let top : 2 ^ (7 * suc n - 1) ≤ 2 ^ 62 = pow-le-pow_right {n = 2} (omega arith) {i = 7 * suc n - 1} {j = 62}
     (omega arith) in
     let one : 7 * suc n ≡ suc (7 * suc n - 1) = omega arith in
     let twice : 128 ^ suc n ≡ 2 * 2 ^ (7 * suc n - 1) = pow128 (suc n) ∙ ap (λ (e : ℕ). 2 ^ e) one
     ∙ pow-succ' 2 (7 * suc n - 1) in
     record { two_halves = omega (arith, top, twice); fits = omega (arith, top) }
+
+-- half of what a number is less: none where bit 6 of the last byte is clear
+pub record IsSign (half last n : ℕ) : Type 0 where
+  pub clear : last < 64 → half ≡ 0
+  pub set : 64 ≤ last → 2 * half ≡ 128 ^ n
+  pub fits : half ≤ 2 ^ 62
+
+pub sign_is : (bit last n : ℕ) → bit ≡ last / 64 → last < 128 → 0 < n → n ≤ 9
+    → IsSign (bit * 2 ^ (7 * n - 1) % 2 ^ 64) last n
+sign_is bit last n is is_last some short = elim (cases_lt last 64) [
+  | inl low ↦
+      let none : bit ≡ 0 = omega (arith, is) in
+      rw none (record { clear = λ _. omega arith; set = λ high. absurd (omega arith); fits = omega arith })
+  | inr high ↦
+      let one : bit ≡ 1 = omega (arith, is) in
+      let half = half_is n some short in
+      rw one (record { clear = λ low. absurd (omega arith); set = λ _. half.two_halves; fits = half.fits })
+]
 
 pub nine_sevens : (n : ℕ) → n ≤ 9 → 128 ^ n ≤ 2 ^ 63
 nine_sevens n short =
@@ -68,16 +86,17 @@ nine_sevens n short =
 
 -- ---- a string that ends at place i, short of the tenth byte
 
-pub positive_ends : (bytes : List ℕ) (i next : ℕ) → i < length bytes → NextDigit bytes i next → get_or bytes i 0 < 64
-    → bounded_string 10 bytes ≡ Ok (take (i + 1) bytes) → Ok (to_z w64 next, i + 1) ≡ signed_at bytes
-positive_ends bytes i next inside digit low found =
-    let is_z : to_z w64 next ≡ signed_number (take (i + 1) bytes) =
-    to_z_pos w64 next digit.fits ∙ ap pos digit.number
+positive_ends : (bytes : List ℕ) (i next : ℕ) (z : ℤ) → i < length bytes → NextDigit bytes i next
+    → get_or bytes i 0 < 64 → bounded_string 10 bytes ≡ Ok (take (i + 1) bytes) → z ≡ pos next
+    → Ok (z, i + 1) ≡ signed_at bytes
+positive_ends bytes i next z inside digit low found z-is =
+    let is_z : z ≡ signed_number (take (i + 1) bytes) =
+    z-is ∙ ap pos digit.number
     ∙ sym (rw (take_at_place bytes i inside)
     (signed_number-positive (take i bytes) (get_or bytes i 0) (omega arith))) in
-    signed_ends bytes (take (i + 1) bytes) (to_z w64 next) (i + 1) found is_z
+    signed_ends bytes (take (i + 1) bytes) z (i + 1) found is_z
     (sym (length-take-le (i + 1) bytes (omega arith)))
-    (rw (to_z_pos w64 next digit.fits) (record { sfits = digit.fits }))
+    (rw z-is (record { sfits = digit.fits }))
 
 -- bit 6 is worth half of what the bytes are
 pub bit_6 : (bytes : List ℕ) (i next : ℕ) → i < length bytes → NextDigit bytes i next → 64 ≤ get_or bytes i 0
@@ -90,7 +109,7 @@ bit_6 bytes i next inside digit set last =
     let worth : 64 * 128 ^ i ≤ b % 128 * 128 ^ i = mul-le-mul_right (128 ^ i) (omega arith) in
     omega (arith, sum, worth, next_power i)
 
-pub negative_ends : (bytes : List ℕ) (i next : ℕ) (z : ℤ) → i < length bytes → i ≤ 8 → NextDigit bytes i next
+negative_ends : (bytes : List ℕ) (i next : ℕ) (z : ℤ) → i < length bytes → i ≤ 8 → NextDigit bytes i next
     → 64 ≤ get_or bytes i 0 → get_or bytes i 0 < 128 → bounded_string 10 bytes ≡ Ok (take (i + 1) bytes)
     → z ≡ pos next -ℤ pos (128 ^ (i + 1)) → Ok (z, i + 1) ≡ signed_at bytes
 negative_ends bytes i next z inside short digit set last found z-is =
@@ -102,6 +121,15 @@ negative_ends bytes i next z inside short digit set last found z-is =
     let whole = nine_sevens (i + 1) (omega arith) in
     signed_ends bytes (take (i + 1) bytes) z (i + 1) found is_z (sym len)
     (omega (arith, ints, z-is, whole, digit.below))
+
+pub string_ends : (bytes : List ℕ) (i next : ℕ) (z : ℤ) → i < length bytes → i ≤ 8 → NextDigit bytes i next
+    → get_or bytes i 0 < 128 → bounded_string 10 bytes ≡ Ok (take (i + 1) bytes)
+    → (get_or bytes i 0 < 64 → z ≡ pos next) → (64 ≤ get_or bytes i 0 → z ≡ pos next -ℤ pos (128 ^ (i + 1)))
+    → Ok (z, i + 1) ≡ signed_at bytes
+string_ends bytes i next z inside short digit last found clear set = elim (cases_lt (get_or bytes i 0) 64) [
+  | inl low ↦ positive_ends bytes i next z inside digit low found (clear low)
+  | inr high ↦ negative_ends bytes i next z inside short digit high last found (set high)
+]
 
 -- ---- the tenth byte
 
