@@ -5,6 +5,7 @@ use gimli_core::{
     ReaderOffset, RunTimeEndian,
 };
 use gimli_lines::write;
+use hex::FromHexError;
 use std::alloc::{AllocError, AllocFailed, Global};
 use std::io;
 
@@ -30,8 +31,21 @@ impl<T: Drop> From<AllocFailed<T>> for Mistake {
 }
 
 impl From<io::Error> for Mistake {
-    fn from(_refused: io::Error) -> Mistake {
-        Mistake::Input
+    fn from(error: io::Error) -> Mistake {
+        if error.kind() == io::ErrorKind::OutOfMemory {
+            Mistake::Memory
+        } else {
+            Mistake::Input
+        }
+    }
+}
+
+impl From<FromHexError> for Mistake {
+    fn from(error: FromHexError) -> Mistake {
+        match error {
+            FromHexError::OutOfMemory => Mistake::Memory,
+            _ => Mistake::Word,
+        }
     }
 }
 
@@ -218,5 +232,5 @@ fn bytes_of(alloc: Global, word: &str) -> Result<Vec<u8>, Mistake> {
     if word == "-" {
         return Ok(Vec::new(alloc));
     }
-    hex::decode(alloc, word).map_err(|_| Mistake::Word)
+    Ok(hex::decode(alloc, word)?)
 }
