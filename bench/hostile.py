@@ -206,6 +206,16 @@ def linked_units(count):
     return {"abbrev": abbrev + b"\0", "info": b"".join(units)}, spread(LOW, count)
 
 
+def names_far_back(count):
+    """Calls of one function whose names are in the first of as many units."""
+    abbrev = (declaration(1, COMPILE, *PLACE, children=True) + declaration(2, SUBPROGRAM, *PLACE, children=True)
+              + declaration(3, INLINED, *PLACE, (ORIGIN, REF_ADDR)) + declaration(4, COMPILE, children=True)
+              + declaration(5, SUBPROGRAM, (NAME, STRING)))
+    calls = b"".join(b"\3" + place(LOW + it, 1) + word(UNIT_HEADER + 1) for it in range(count))
+    last = unit(b"\1" + place(LOW, count) + b"\2" + place(LOW, count) + calls + b"\0\0")
+    return {"abbrev": abbrev + b"\0", "info": unit(b"\4\5f\0\0") * count + last}, spread(LOW, count)
+
+
 def reference_chains(count):
     """Functions of one unit, each of which has the name of the next one."""
     abbrev = declaration(1, COMPILE, *PLACE, children=True) + declaration(2, SUBPROGRAM, *PLACE, (ORIGIN, REF4))
@@ -338,7 +348,7 @@ def section_names(count):
 KINDS = {shared_program: 3600, shared_ranges: 15_000, abbreviation_tails: 17_000, nested_calls: 20_000, overlapping_calls: 20_000,
          sequences: 100_000, falling_sequences: 100_000, ranges_and_sequences: 8_000,
          equal_sequences: 100_000, rows: 1_000_000, rows_back: 100_000, aranges: 20_000, aranges_of_one: 20_000,
-         linked_units: 16_000, reference_chains: 50_000, functions: 8_000, overlapping_functions: 50_000, partial_units: 10_000,
+         linked_units: 16_000, names_far_back: 20_000, reference_chains: 50_000, functions: 8_000, overlapping_functions: 50_000, partial_units: 10_000,
          overlapping_units: 20_000, abbreviations: 1_000_000, falling_abbreviations: 1_000_000, mixed_abbreviations: 1_000_000,
          shared_abbreviations: 20_000, long_directory: 10_000, long_name: 20_000, empty_attributes: 20_000, repeated_ranges: 10_000,
          skeletons: 10_000, indirect_forms: 20_000, symbols: 50_000, symbol_names: 20_000, section_names: 16_000}

@@ -37,4 +37,6 @@ pub use Rattle.linemap_commands.specs.Targets
 pub use Rattle.linemap_replay.specs.OwnedAnswers
 pub use Rattle.linemap_replay.specs.Replays
 pub use Rattle.linemap_replay.specs.TableHistories
-pub use Rattle.linemap_lookup.specs.Programs
+pub use Rattle.linemap_lookup_laws.specs.Programs
+pub use Rattle.linemap_lookup_laws.specs.TableTexts
+pub use Rattle.linemap_lookup_laws.specs.TableTextLaws

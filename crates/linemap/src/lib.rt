@@ -3,7 +3,9 @@
 #![tactic(auto)]
 
 pub use linemap_commands::{cannot_load, cannot_write, emission, emit, no_such_target, target_of};
-pub use linemap_lookup::{FileSource, LoadError, read_file, run};
+pub use linemap_lookup_laws::{
+    Error, FileSource, LoadError, MapSource, SplitSource, read_file, run, table_printed,
+};
 pub use linemap_replay::{
     Answer, Call, OwnedFrame, OwnedLocation, OwnedName, OwnedStretch, OwnedUnit, replay,
 };

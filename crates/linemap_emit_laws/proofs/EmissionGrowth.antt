@@ -1,5 +1,5 @@
 -- What is emitted only grows: texts keep their places, and bytes and entries go after those before.
-use Rattle.std.proofs.Common.{◌≡◌, ℕ, ◌+◌, Bool, true, false, List, [], ◌∷◌, ◌++◌, length, map, slice_get, Some, refl, sym, ap, ◌∙◌, append_assoc, append-nil}
+use Rattle.std.proofs.Common.{◌≡◌, ℕ, Bool, true, false, List, [], ◌∷◌, ◌++◌, length, map, slice_get, Some, refl, sym, ap, ◌∙◌, append_assoc, append-nil}
 use Rattle.linemap_emit_units.specs.Encoding.{Encoding}
 use Rattle.linemap_emit_units.specs.StringSections.{offset_of}
 use Rattle.linemap_emit_units.proofs.SectionTexts.{stays}

@@ -1,8 +1,6 @@
 -- What is emitted of a unit's functions and calls says what they say.
-use Rattle.std.proofs.Common.{◌≡◌, ℕ, zero, suc, ◌+◌, ◌*◌, ◌<◌, ◌≤◌, ◌^◌, Bool, true, false, cond, eqb, List, [], ◌∷◌, ◌++◌, All, length, map, slice_get, Option, Some, None, Ok, refl, sym, ap, subst, ◌∙◌, arith, append_assoc, append-nil}
-use Rattle.std.specs.Prelude.{nat_lt, ◌&&◌}
+use Rattle.std.proofs.Common.{◌≡◌, ℕ, zero, suc, ◌+◌, ◌*◌, ◌≤◌, ◌^◌, Bool, true, false, List, [], ◌∷◌, ◌++◌, All, length, map, slice_get, Some, Ok, refl, sym, ap, subst, ◌∙◌, arith, append_assoc, append-nil}
 use Rattle.std.proofs.Math.Nat.{add-mul}
-use Rattle.std.proofs.lemmas.Bool.{ne_eqb}
 use Rattle.std.proofs.lemmas.List.{length-append}
 use Rattle.std.proofs.lemmas.List.Concat.{flat_map-append}
 use Rattle.std.proofs.lemmas.List.Elements.{All-weaker}
@@ -12,27 +10,25 @@ use Rattle.linemap_emit_units.specs.Fixed.{number_bytes}
 use Rattle.linemap_emit_units.specs.Spelling.{unsigned_within}
 use Rattle.linemap_emit_units.specs.NumberParsers.{is_address_size}
 use Rattle.linemap_emit_units.proofs.NumberRoundTrip.{length-spelled}
-use Rattle.linemap_emit_units.proofs.SectionTexts.{added_text-index}
-use Rattle.linemap_emit_units.specs.BytesAt.{bytes_at}
-use Rattle.linemap_emit_units.specs.StringSections.{IsText as HasNoZero, with_text, text_index, section_of}
+use Rattle.linemap_emit_units.specs.StringSections.{IsText as HasNoZero, with_text}
 use Rattle.linemap_emit_units.specs.Attributes.{ranges_of_list}
 use Rattle.linemap_emit_units.specs.DwarfFiles.{DwarfFile}
-use Rattle.linemap_emit_units.specs.TableParts.{RangePart, Site, Calls, no_calls, more_calls, FunctionPart, UnitPart}
+use Rattle.linemap_emit_units.specs.TableParts.{RangePart, Calls, no_calls, more_calls, FunctionPart}
 use Rattle.linemap_emit_units.specs.Entry.{Entry}
-use Rattle.linemap_emit_units.specs.Entry.TheVariants.{CompileUnit, AbstractFunction, Function, Call, EndOfChildren}
+use Rattle.linemap_emit_units.specs.Entry.TheVariants.{CompileUnit, AbstractFunction, Function, Call}
 use Rattle.linemap_emit_units.specs.EmittedEntries.{EmittedAttribute, EmittedValue, strp, sec_offset, addr, udata, ref4, Fits, AllFit, attributes_of, spelled_entry}
 use Rattle.linemap_emit_units.specs.EmittedEntryRows.{spelled_entries}
 use Rattle.linemap_emit_units.specs.EmittedEntryLaws.{AllEntriesFit}
 use Rattle.linemap_emit_units.specs.EmittedRanges.{AllWritable, lists_start, spelled_ranges}
 use Rattle.linemap_emit_units.specs.EmittedUnits.{entries_start, root_size, abstract_size, abstract_offset}
-use Rattle.linemap_emit_units.specs.InlinedNames.{call_names, called_names, inlined_names, NamesAre, FunctionNamesAre, IsAmong}
+use Rattle.linemap_emit_units.specs.InlinedNames.{NamesAre, FunctionNamesAre, IsAmong}
 use Rattle.linemap_emit_units.specs.UnitEmission.{EmittedUnit, text_offset, list_offset, with_name, with_list, with_entry, has_calls, with_end_of_children, with_abstract_functions, origin_of, with_call, with_calls, with_function_entry, with_function, with_functions, CanEmitCalls, CanEmitFunctions}
 use Rattle.linemap_emit_units.specs.EmittedSections.{HoldTable}
 use Rattle.linemap_emit_units.specs.TableEmission.{EmittedTable}
 use Rattle.linemap_emit_units.specs.LookupAgreement.{lookup_range}
 use Rattle.linemap_emit_calls_laws.specs.InlinedCalls.{file_number}
-use Rattle.linemap_emit_calls_laws.specs.RecordedFunctions.{HasTextAt, HasListAt, CallReferences, no_references, more_references, FunctionReferences, end_of_children, entries_of_calls, entries_of_function, entries_of_functions, HasOrigin, RecordsCall, RecordsCalls, RecordsFunction, AllRecorded}
-use Rattle.linemap_emit_laws.proofs.EmissionGrowth.{TextsStay, texts_stay_on, Grows, grows_on, name_grows, list_grows, entry_grows, end_grows, attributes_grow, call_grows, calls_grow, function_grows, functions_grow, abstract_grow}
+use Rattle.linemap_emit_calls_laws.specs.RecordedFunctions.{HasTextAt, HasListAt, CallReferences, no_references, more_references, FunctionReferences, end_of_children, entries_of_calls, entries_of_function, entries_of_functions, HasOrigin, RecordsCalls, AllRecorded}
+use Rattle.linemap_emit_laws.proofs.EmissionGrowth.{TextsStay, texts_stay_on, Grows, grows_on, list_grows, entry_grows, end_grows, calls_grow, functions_grow, abstract_grow}
 use Rattle.linemap_emit_laws.proofs.EmittedStringLemmas.{text_is}
 use Rattle.linemap_emit_laws.proofs.EmittedListLemmas.{list_is}
 

@@ -1,5 +1,5 @@
 -- The entries of a unit that was emitted say what the functions of the table's unit say.
-use Rattle.std.proofs.Common.{◌≡◌, ℕ, ◌+◌, ◌*◌, ◌<◌, ◌≤◌, ◌%◌, ◌^◌, ◌≢◌, ◌==◌, ◌&&◌, Bool, true, false, cond, Option, Some, None, nat_lt, nat_le, List, [], ◌∷◌, ◌++◌, All, length, map, refl, sym, ap, subst, ◌∙◌, arith, append_assoc}
+use Rattle.std.proofs.Common.{◌≡◌, ℕ, ◌+◌, ◌<◌, ◌≤◌, ◌%◌, ◌^◌, ◌≢◌, ◌==◌, ◌&&◌, Bool, true, false, cond, Option, Some, None, nat_lt, nat_le, List, [], ◌∷◌, ◌++◌, All, length, map, refl, ap, subst, ◌∙◌, arith, append_assoc}
 use Rattle.std.proofs.Math.Nat.{mod-eq_of_lt}
 use Rattle.std.proofs.lemmas.Bool.{ne_eqb, leb-false, le-ltb}
 use Rattle.linemap_emit_units.specs.Encoding.{Encoding}
@@ -14,7 +14,7 @@ use Rattle.linemap_emit_units.specs.EmittedEntryLaws.{AllEntriesFit}
 use Rattle.linemap_emit_units.specs.EmittedEntryRows.{spelled_entries}
 use Rattle.linemap_emit_units.specs.EmittedUnits.{entries_start, abstract_offset}
 use Rattle.linemap_emit_units.specs.InlinedNames.{inlined_names, IsAmong}
-use Rattle.linemap_emit_units.specs.UnitEmission.{EmittedUnit, text_offset, list_offset, with_name, with_entry, with_abstract_functions, with_functions, with_unit_entry, origin_of}
+use Rattle.linemap_emit_units.specs.UnitEmission.{EmittedUnit, text_offset, list_offset, with_name, with_abstract_functions, with_functions, with_unit_entry, origin_of}
 use Rattle.linemap_emit_units.specs.EmittedSections.{HoldTable}
 use Rattle.linemap_emit_units.specs.TableEmission.{EmittedTable, number_of, before_entries, after_entries, with_emitted_unit}
 use Rattle.linemap_emit_units.specs.EmittedFiles.{unit_file_ids, place_in}

@@ -7,7 +7,6 @@ use Rattle.linemap_emit_units.specs.Parsers.{proceed, value_of}
 use Rattle.linemap_emit_units.specs.Encoding.{Encoding}
 use Rattle.linemap_emit_units.specs.Format.{Format}
 use Rattle.linemap_emit_units.specs.Format.TheVariants.{Dwarf32, Dwarf64}
-use Rattle.linemap_emit_units.specs.FormatSizes.{word_size}
 use Rattle.linemap_emit_units.specs.BytesAt.{bytes_at}
 use Rattle.linemap_emit_units.specs.NumberBytes.{length_limit}
 use Rattle.linemap_emit_units.specs.StringSections.{section_of}
@@ -18,7 +17,6 @@ use Rattle.linemap_emit_units.specs.RowPieces.{IsBuildable}
 use Rattle.linemap_emit_units.specs.DwarfFiles.{DwarfFile}
 use Rattle.linemap_emit_units.specs.TableParts.{UnitPart}
 use Rattle.linemap_emit_units.specs.EmittedRows.{emitted_rules}
-use Rattle.linemap_emit_units.specs.EmittedFiles.{unit_files}
 use Rattle.linemap_emit_units.specs.EmittedPrograms.{line_program_bytes, bytes_if_any}
 use Rattle.linemap_emit_units.specs.TableEmission.{EmittedTable}
 use Rattle.linemap_emit_units.specs.FittingUnits.{IsServed, UnitFits}

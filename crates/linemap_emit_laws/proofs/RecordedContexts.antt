@@ -1,8 +1,9 @@
 -- The context over sections that say what a table says.
-use Rattle.std.proofs.Common.{◌≡◌, ℕ, ◌+◌, ◌||◌, Bool, false, cond, List, [], ◌∷◌, length, map, Option, Some, None, Result, Ok, refl, sym, ap, subst, ◌∙◌}
+use Rattle.std.proofs.Common.{◌≡◌, ℕ, ◌+◌, ◌||◌, Bool, false, cond, List, [], ◌∷◌, All, length, map, Option, Some, None, Result, Ok, refl, sym, ap, subst, ◌∙◌}
 use Rattle.std.specs.Prelude.{pos, ◌==◌}
 use Rattle.std.specs.List.{filter_map, cons_option, list_any}
 use Rattle.std.proofs.lemmas.Bool.{eq-eqb, or_parts}
+use Rattle.std.proofs.lemmas.List.Elements.{All-nil, All-cons}
 use Rattle.linemap_emit_units.specs.Error.{Error}
 use Rattle.linemap_emit_units.specs.View.{View, bytes_left}
 use Rattle.linemap_emit_units.specs.Repetition.{fault_of}
@@ -257,14 +258,18 @@ context_again e is_big s us all t some =
     ∙ ap (λ l. and_then (units_of_supplement (first_supplement s.offset_limit l))
     (λ supplement_units. Ok (record { units = own_units; supplement_units = supplement_units }))) t.is_alone
 
--- none of its units has a dwo id
-pub no_dwo_id : (e : Encoding) (is_big : Bool) (s : DwarfFile) (us : List UnitPart) (all : List (List Entry))
-    (say : RecordsUnits e s us all) (offset first : ℕ)
-    → filter_map (λ (u : ContextUnit). u.facts.dwo_id) (agreeing_units e is_big s us all say offset first) ≡ []
+-- what holds of each unit that agrees holds of all its units
+pub all_units : (e : Encoding) (is_big : Bool) (s : DwarfFile) (P : ContextUnit → Type 0)
+    → ((u : UnitPart) (xs : List Entry) (say : RecordsUnit e s u xs) (offset first : ℕ)
+    → P (unit_agrees e is_big s u xs say offset first))
+    → (us : List UnitPart) (all : List (List Entry)) (say : RecordsUnits e s us all) (offset first : ℕ)
+    → All P (agreeing_units e is_big s us all say offset first)
 unfolding agreeing_units
-no_dwo_id e is_big s [] [] say offset first = refl
-no_dwo_id e is_big s [] (x ∷ xs) say offset first = refl
-no_dwo_id e is_big s (u ∷ us) [] say offset first = refl
-no_dwo_id e is_big s (u ∷ us) (x ∷ xs) say offset first =
-    no_dwo_id e is_big s us xs say.1 (offset + length (spelled_unit e is_big x))
-    (first + length (spelled_unit e is_big x))
+all_units e is_big s P holds [] [] say offset first = All-nil P
+all_units e is_big s P holds [] (x ∷ xs) say offset first = All-nil P
+all_units e is_big s P holds (u ∷ us) [] say offset first = All-nil P
+all_units e is_big s P holds (u ∷ us) (x ∷ xs) say offset first =
+    let later = offset + length (spelled_unit e is_big x) in
+    let more = first + length (spelled_unit e is_big x) in
+    All-cons P (unit_agrees e is_big s u x say.0 offset first) (agreeing_units e is_big s us xs say.1 later more)
+    (holds u x say.0 offset first) (all_units e is_big s P holds us xs say.1 later more)

@@ -1,8 +1,8 @@
 -- The frames that are found over sections that say what a table says.
-use Rattle.std.proofs.Common.{◌≡◌, ℕ, ◌+◌, Bool, false, List, [], ◌∷◌, All, Contains, length, map, Option, Some, None, option_map, Result, Ok, refl, sym, ap, subst, ◌∙◌}
+use Rattle.std.proofs.Common.{◌≡◌, ℕ, ◌+◌, Bool, false, List, [], ◌∷◌, All, Contains, length, map, Option, Some, None, Result, Ok, refl, sym, ap, subst, ◌∙◌}
 use Rattle.std.specs.List.{list_any}
 use Rattle.std.proofs.lemmas.Bool.{or_parts}
-use Rattle.std.proofs.lemmas.List.Elements.{All-nil, All-cons, All-head, All-tail, All-contains_itself}
+use Rattle.std.proofs.lemmas.List.Elements.{All-head, All-tail, All-contains_itself}
 use Rattle.addr2line_spec.specs.Pairs.{covering_pairs}
 use Rattle.addr2line_spec.specs.SuspensionLaws.{HasNoSplitPart, frames_of_itself}
 use Rattle.addr2line_spec.proofs.LookupsWithoutLoads.{all_covering, without_loads}
@@ -11,9 +11,9 @@ use Rattle.linemap_emit_units.specs.DwarfFileType.TheVariants.{Main}
 use Rattle.linemap_emit_units.specs.Encoding.{Encoding}
 use Rattle.linemap_emit_units.specs.Results.{and_then}
 use Rattle.linemap_emit_units.specs.DwarfFiles.{DwarfFile}
-use Rattle.linemap_emit_units.specs.UnitFacts.{UnitFacts, UnitInFile, in_file}
+use Rattle.linemap_emit_units.specs.UnitFacts.{UnitFacts, in_file}
 use Rattle.linemap_emit_units.specs.Lines.{Lines, sequences_of_rows}
-use Rattle.linemap_emit_units.specs.Contexts.{Context, ContextUnit, FileContext, ranges_of}
+use Rattle.linemap_emit_units.specs.Contexts.{Context, FileContext, ranges_of}
 use Rattle.linemap_emit_units.specs.TableParts.{UnitPart}
 use Rattle.linemap_emit_units.specs.Meaning as table
 use Rattle.linemap_emit_units.specs.Conditions.{has_no_range, has_bad_line_or_column, IsSound}
@@ -24,9 +24,9 @@ use Rattle.linemap_emit_units.specs.EmittedUnits.{IsWritten, unit_for, spelled_u
 use Rattle.linemap_emit_units.specs.LookupAgreement.{lookup_range, UnitAgrees}
 use Rattle.linemap_emit_calls_laws.specs.Frames.{Frame, FunctionAt, function_of_offset_if_any, frames_of}
 use Rattle.linemap_emit_calls_laws.specs.FirstAnswers.{FirstAnswers, output}
-use Rattle.linemap_emit_calls_laws.specs.Functions.{Function as FoundFunction, function_at, functions_of_unit}
-use Rattle.linemap_emit_calls_laws.specs.InlinedCalls.{Naming, calls_of_function}
-use Rattle.linemap_emit_calls_laws.specs.Lookups.{FunctionsUnit, frames}
+use Rattle.linemap_emit_calls_laws.specs.Functions.{Function as FoundFunction, function_at}
+use Rattle.linemap_emit_calls_laws.specs.InlinedCalls.{calls_of_function}
+use Rattle.linemap_emit_calls_laws.specs.Lookups.{FunctionsUnit}
 use Rattle.linemap_emit_calls_laws.specs.ContextNames.{known_units, holding_unit, naming_in}
 use Rattle.linemap_emit_calls_laws.specs.CallAgreement.{OneByOne}
 use Rattle.linemap_emit_calls_laws.specs.LookupFrameLaws.{FrameAgrees, UnitFramesAgree, UnitAnswerAgrees}
@@ -38,7 +38,7 @@ use Rattle.linemap_emit_calls_laws.proofs.UnitFunctionsFound.{functions_found}
 use Rattle.linemap_emit_laws.specs.RecordedTables.{RecordsUnit, RecordsUnits}
 use Rattle.linemap_emit_laws.specs.RecordedTableLaws.{FramesFound, SameFrame}
 use Rattle.linemap_emit_laws.proofs.RecordedUnitFacts.{facts_recorded}
-use Rattle.linemap_emit_laws.proofs.RecordedContexts.{root_entry, unit_agrees, agreeing_units}
+use Rattle.linemap_emit_laws.proofs.RecordedContexts.{root_entry, unit_agrees, agreeing_units, all_units}
 
 -- ---- two lists that agree with a third
 
@@ -139,20 +139,13 @@ module _ (e : Encoding) (is_big : Bool) (s : DwarfFile) (us : List UnitPart) (fo
             (All-tail (Contains us) u vs there) some_parts.1 number_parts.1,
       )
 
-  -- none has its functions elsewhere
-  none_split : (vs : List UnitPart) (all : List (List Entry)) (say : RecordsUnits e s vs all) (offset first : ℕ)
-      → All HasNoSplitPart (agreeing_units e is_big s vs all say offset first)
-  unfolding agreeing_units
-  none_split [] [] say offset first = All-nil HasNoSplitPart
-  none_split [] (x ∷ xs) say offset first = All-nil HasNoSplitPart
-  none_split (u ∷ vs) [] say offset first = All-nil HasNoSplitPart
-  none_split (u ∷ vs) (x ∷ xs) say offset first =
-      All-cons HasNoSplitPart (unit_agrees e is_big s u x say.0 offset first)
-      (agreeing_units e is_big s vs xs say.1 (offset + length (spelled_unit e is_big x))
-      (first + length (spelled_unit e is_big x))) refl
-      (none_split vs xs say.1 (offset + length (spelled_unit e is_big x)) (first + length (spelled_unit e is_big x)))
-
 -- ---- the context
+
+-- no unit has its functions elsewhere
+pub none_split : (e : Encoding) (is_big : Bool) (s : DwarfFile) (us : List UnitPart) (all : List (List Entry))
+    (say : RecordsUnits e s us all) (offset first : ℕ)
+    → All HasNoSplitPart (agreeing_units e is_big s us all say offset first)
+none_split e is_big s = all_units e is_big s HasNoSplitPart (λ u xs say offset first. refl)
 
 pub frames_again : (e : Encoding) (is_big : Bool) (s : DwarfFile) (us : List UnitPart) (all : List (List Entry))
     (say : RecordsUnits e s us all) (offset first : ℕ) (answers : FirstAnswers) (a : ℕ) → IsSound us → IsWritten e
@@ -173,8 +166,7 @@ frames_again e is_big s us all say offset first answers a sound w main =
       list = meet.0;
       are_frames =
           without_loads c (naming_in c) answers a (covering_pairs ranges_of units a)
-          (all_covering ranges_of HasNoSplitPart units a
-          (none_split e is_big s us found sound w main us all say offset first))
+          (all_covering ranges_of HasNoSplitPart units a (none_split e is_big s us all say offset first))
           ∙ ap output meet.1;
       agree = meet.2;
     }

@@ -1,6 +1,6 @@
 -- Files that say what a sound table says are read as what it means.
-use Rattle.std.specs.Prelude.{◌≡◌, ℕ, Bool, List, [], map, Option, option_map, Ok}
-use Rattle.std.specs.List.{filter_map}
+use Rattle.std.specs.Prelude.{◌≡◌, ℕ, Bool, List, map, All, Option, None, option_map, Ok}
+use Rattle.addr2line_spec.specs.SuspensionLaws.{HasNoSplitPart}
 use Rattle.linemap_emit_units.specs.Encoding.{Encoding}
 use Rattle.linemap_emit_units.specs.DwarfFiles.{DwarfFile}
 use Rattle.linemap_emit_units.specs.Contexts.{Context, ContextUnit, FileContext, context, location, stretches}
@@ -27,13 +27,18 @@ pub record FramesFound (c : FileContext) (us : List UnitPart) (answers : FirstAn
     pub are_frames : frames c (naming_in c) answers a ≡ output (Ok list)
     pub agree : OneByOne FrameAgrees (table.frames_at us a) list
 
--- There is a context, without a unit that has a dwo id. The place that it answers is the table's at
--- every address, and so are the frames, under all first answers to loads, and the stretches between
--- every two ends.
+-- the language of a unit isn't known
+abbrev pub HasNoLanguage : ContextUnit → Type 0
+HasNoLanguage u = u.language ≡ None
+
+-- There is a context, without a unit that has a split part or a language. The place that it answers
+-- is the table's at every address, and so are the frames, under all first answers to loads, and the
+-- stretches between every two ends.
 pub record AnswersTable (s : DwarfFile) (us : List UnitPart) : Type 0 where
   pub found : Context
   pub is_context : context s ≡ Ok found
-  pub has_no_dwo_id : filter_map (λ (u : ContextUnit). u.facts.dwo_id) found.units ≡ []
+  pub has_no_split_part : All HasNoSplitPart found.units
+  pub has_no_language : All HasNoLanguage found.units
   pub places : (a : ℕ)
       → location found a ≡ Ok (option_map lookup_location (table.location_at us a))
   pub frames_are : (answers : FirstAnswers) (a : ℕ)

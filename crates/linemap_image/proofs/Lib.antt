@@ -1,2 +1,3 @@
+pub use Rattle.linemap_emit.proofs.LookupsWithoutLoads
 pub mod LoadedImages
 pub mod ImageBounds

@@ -14,5 +14,7 @@ mod program;
 mod write;
 mod write_lines;
 
-pub use addr2line_split::{FileSource, LoadError, SplitSource, read_file};
+pub use addr2line_context::Error;
+pub use addr2line_split::{FileSource, LoadError, MapSource, SplitSource, read_file};
+pub use linemap_output::{Ended, Options};
 pub use program::run;

@@ -1,7 +1,7 @@
--- A context whose units have no identifiers has no loads.
-use Rattle.std.proofs.Common.{◌≡◌, ℕ, List, [], ◌∷◌, map, All, Option, Some, None, Ok, refl, ap, ◌∙◌}
+-- A context whose units have no split parts has no loads.
+use Rattle.std.proofs.Common.{◌≡◌, ℕ, List, [], ◌∷◌, map, All, Option, None, Ok, refl, ap, ◌∙◌}
 use Rattle.std.specs.List.{filter_map, cons_option}
-use Rattle.std.proofs.lemmas.List.Elements.{All-nil, All-cons, All-head, All-tail}
+use Rattle.std.proofs.lemmas.List.Elements.{All-head, All-tail}
 use Rattle.addr2line_context.specs.Contexts.{ContextUnit, FileContext, ranges_of}
 use Rattle.addr2line_context.specs.FirstAnswers.{FirstAnswer, FirstAnswers, Lookup, output, recorded_answer, decision, load_of_id}
 use Rattle.addr2line_context.specs.Lookups.{decision_of, unit_in, load_in, loads, map_output, one_each}
@@ -10,18 +10,8 @@ use Rattle.addr2line_context.specs.Pairs.{Pair, covering_pairs}
 use Rattle.linemap_emit.proofs.LookupsWithoutLoads.{all_covering}
 
 -- no unit of another file has its functions
-abbrev IsWhole : ContextUnit → Type 0
+abbrev pub IsWhole : ContextUnit → Type 0
 IsWhole u = u.facts.dwo_id ≡ None
-
-all_whole : (us : List ContextUnit) → filter_map (λ (u : ContextUnit). u.facts.dwo_id) us ≡ [] → All IsWhole us
-all_whole [] none = All-nil IsWhole
-all_whole (u ∷ us) none = by u.facts.dwo_id refl (all_whole us) none
-  where
-    by : (id : Option ℕ) → u.facts.dwo_id ≡ id
-        → (filter_map (λ (v : ContextUnit). v.facts.dwo_id) us ≡ [] → All IsWhole us)
-        → cons_option id (filter_map (λ (v : ContextUnit). v.facts.dwo_id) us) ≡ [] → All IsWhole (u ∷ us)
-    by None is later none = All-cons IsWhole u us is (later none)
-    by (Some n) is later none = absurd cc
 
 module _ (c : FileContext) (answers : FirstAnswers) (a : ℕ) where
   abbrev asked : Pair ContextUnit → Lookup FirstAnswer
@@ -39,7 +29,7 @@ module _ (c : FileContext) (answers : FirstAnswers) (a : ℕ) where
       (needs_none p (All-head (λ (q : Pair ContextUnit). IsWhole q.unit) p ps whole))
       ∙ none_in ps (All-tail (λ (q : Pair ContextUnit). IsWhole q.unit) p ps whole)
 
-  pub no_loads : filter_map (λ (u : ContextUnit). u.facts.dwo_id) c.context.units ≡ [] → loads c answers a ≡ []
-  no_loads none =
+  pub no_loads : All IsWhole c.context.units → loads c answers a ≡ []
+  no_loads whole =
       ap one_each (none_in (covering_pairs ranges_of c.context.units a)
-      (all_covering ranges_of IsWhole c.context.units a (all_whole c.context.units none)))
+      (all_covering ranges_of IsWhole c.context.units a whole))

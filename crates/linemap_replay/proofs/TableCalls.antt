@@ -84,7 +84,7 @@ module _ (s : DwarfFile) (us : List UnitPart) (x : AnswersTable s us) where
     no_tokens = none;
   }
   one_call (preload_units a) state none =
-      let is = no_loads file state.answers a x.has_no_dwo_id in
+      let is = no_loads file state.answers a x.has_no_split_part in
       record {
         answer = ap (λ (ps : List PendingLoad). copied_answer (loads_answer (map (λ p. p.load) ps))) is;
         no_tokens = ap (λ (ps : List PendingLoad). map (λ p. p.number) ps) is;

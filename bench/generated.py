@@ -3,18 +3,22 @@
 
 It writes an image of each table for each of the 28 targets: of examples/a.json and examples/c.json, and of generated tables with
 several units, functions and calls of several ranges, nested calls, names that calls share, rows of several files, hidden statements and
-discriminators. What `readelf` and `llvm-dwarfdump` list and `llvm-symbolizer` answers must be what the table says. It stops at the first
-difference, and prints a line for each target, and then what was compared.
+discriminators (table.py). What `readelf` and `llvm-dwarfdump` list and `llvm-symbolizer` and GNU's `addr2line` answer must be what the
+table says. It stops at the first difference, and prints a line for each target, and then what was compared.
 
-Usage: bench/images.py [EMIT ..]    EMIT writes an image, as `linemap emit` does, which is the command if none is given
+Usage: bench/generated.py EMIT..    EMIT.. writes an image, as `linemap emit` does
 """
 import itertools
 import json
 import os
 import re
+import struct
 import subprocess
 import sys
 import tempfile
+
+sys.dont_write_bytecode = True
+from table import nested, units
 
 TOP = os.path.dirname(os.path.dirname(os.path.abspath(__file__)))
 TARGETS = [
@@ -27,53 +31,10 @@ TARGETS = [
 # ---- tables
 
 
-def row(address, file, line, column, **more):
-    return {"address": address, "file": file, "line": line, "column": column, **more}
-
-
-def call(name, ranges, line, calls=(), file=0):
-    return {"name": name, "ranges": ranges, "file": file, "line": line, "column": line % 70 + 1, "calls": list(calls)}
-
-
-def nested(depth):
-    """One function, with calls nested to a depth that are each four bytes shorter than the one around them."""
-    calls = []
-    for level in reversed(range(depth)):
-        calls = [call(f"level_{level}", [[0x1000 + 4 * level + 4, 0x2000 - 4 * level - 4]], level + 1, calls)]
-    rows = [row(0x1000 + 16 * n, 0, n + 1, n % 90 + 1) for n in range(256)]
-    return {"units": [{
-        "directory": "/build", "name": "deep.c", "ranges": [[0x1000, 0x2000]], "files": [{"directory": "src", "name": "deep.c"}],
-        "functions": [{"name": "outermost", "ranges": [[0x1000, 0x2000]], "calls": calls}], "sequences": [{"rows": rows, "end": 0x2000}],
-    }]}
-
-
-def unit(number, base):
-    """A unit with two ranges and a sequence in each; its functions have one range in each of them, and so have their calls."""
-    low, high = base, base + 0x8000
-    files = [
-        {"directory": "src", "name": f"file{number}.c"},
-        {"directory": "/usr/include", "name": "shared.h"},
-        {"directory": f"/build/unit{number}", "name": "main.c"},
-    ]
-    functions = []
-    for f in range(8):
-        near, far = low + 0x100 * f, high + 0x100 * f
-        inner = call("shared", [[near + 0x20, near + 0x30], [far + 0x28, far + 0x2c]], 3 * f + 1, file=1)
-        outer = call(f"outer_{f}", [[near + 0x10, near + 0x40], [far + 0x20, far + 0x40]], 100000 * f + 7, [inner])
-        last = call("shared", [[near + 0x80, near + 0x90]], 2 ** 20 + f, file=2)
-        functions.append({"name": f"function_{number}_{f}", "ranges": [[near, near + 0x100], [far, far + 0x80]], "calls": [outer, last]})
-    sequences = []
-    for begin in (high, low):
-        rows = [row(begin + 4 * n, n % 3, 1 + n * 1237 % 65537, n * 31 % 400 + 1, statement=n % 5 != 2, discriminator=n % 7) for n in range(256)]
-        sequences.append({"rows": rows, "end": begin + 0x900})
-    return {"directory": f"/build/unit{number}", "name": "main.c", "ranges": [[low, low + 0x900], [high, high + 0x900]], "files": files,
-            "functions": functions, "sequences": sequences}
-
-
 def tables():
     made = {name: json.load(open(f"{TOP}/examples/{name}.json")) for name in ("a", "c")}
     made["nested"] = nested(50)
-    made["units"] = {"units": [unit(n, 0x10000 * (n + 1)) for n in range(6)]}
+    made["units"] = units(6)
     return made
 
 
@@ -257,6 +218,40 @@ def check_symbolizer(image, table):
     return same("llvm-symbolizer, frames", found, ((a, frames_at(table, a)) for a in addresses))
 
 
+def with_code(image):
+    """The same image, for a machine and with a section over all addresses of the tables: GNU's addr2line reads no other."""
+    with open(image, "rb") as file:
+        made = bytearray(file.read())
+    wide, order = made[4] == 2, ">" if made[5] == 2 else "<"
+    made += struct.pack(order + ("IIQQQQIIQQ" if wide else "10I"), 0, 8, 6, 0x1000, 0, 0x7f000, 0, 0, 1, 0)
+    machine = {("<", True): 62, ("<", False): 3, (">", True): 21, (">", False): 20}[order, wide]
+    struct.pack_into(order + "H", made, 18, machine)
+    count = 60 if wide else 48
+    struct.pack_into(order + "H", made, count, struct.unpack_from(order + "H", made, count)[0] + 1)
+    with open(image + ".code", "wb") as file:
+        file.write(made)
+    return image + ".code"
+
+
+def check_addr2line(image, table):
+    """The frames with their lines, and up to version 4 their files: before 2.42 it begins a program of version 5 with file 0, not 1."""
+    is_5 = "Version:       5" in said("readelf", "--debug-dump=info", image)
+    addresses = addresses_of(table)
+    text = "".join(f"{a:#x}\n" for a in addresses)
+    found = []
+    lines = iter(said("addr2line", "-a", "-f", "-i", "-e", with_code(image), text=text).splitlines())
+    for line in lines:
+        if line.startswith("0x"):
+            found.append((int(line, 16), []))
+        else:
+            file, number = re.fullmatch(r"(.*):(\d+)(?: \(discriminator \d+\))?", next(lines)).groups()
+            found[-1][1].append((line, "" if is_5 else file, int(number)))
+    wanted = []
+    for a in addresses:
+        wanted.append((a, [(name or "??", "" if is_5 else file, line) for name, file, line, _ in frames_at(table, a)]))
+    return same("addr2line, frames", found, wanted)
+
+
 def check_verify(image, _table):
     if "No errors." not in said("llvm-dwarfdump", "--verify", image):
         sys.exit("llvm-dwarfdump --verify: errors")
@@ -270,11 +265,12 @@ CHECKS = {
     "rows of llvm-dwarfdump": check_dwarfdump_rows,
     "entries of llvm-dwarfdump": check_dwarfdump_entries,
     "addresses of llvm-symbolizer": check_symbolizer,
+    "addresses of GNU's addr2line": check_addr2line,
 }
 
 
 def main():
-    emit = sys.argv[1:] or [f"{TOP}/linemap", "emit"]
+    emit = sys.argv[1:]
     counts = dict.fromkeys(CHECKS, 0)
     with tempfile.TemporaryDirectory() as folder:
         paths = {}

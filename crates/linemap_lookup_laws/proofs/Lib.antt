@@ -1,0 +1,4 @@
+pub mod FrameLanguages
+pub mod FrameAgreement
+pub mod AddressAnswers
+pub mod TableRuns

@@ -1,0 +1,3 @@
+pub use Rattle.linemap_lookup.specs.Programs
+pub mod TableTexts
+pub mod TableTextLaws

@@ -1,0 +1,7 @@
+//! A law: what `run` prints of the image of a table is what the table says.
+#![tactic(auto)]
+
+mod table_text_laws;
+
+pub use linemap_lookup::{Error, FileSource, LoadError, MapSource, SplitSource, read_file, run};
+pub use table_text_laws::table_printed;
