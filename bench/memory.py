@@ -4,13 +4,17 @@
 usage: bench/memory.py [CASE..]
 
 Each run must end as it does with ample memory, or say why not on the error stream: with status 1 and the beginning of that
-output, or, where `lookup` goes on, with a line for each address that is refused. The program `addr2line_cases` asks a
-question again where memory was short for it, so there a run that ends with status 0 has given all answers, over contexts
-that met a refusal, as over others.
+output, or, where `lookup` goes on, with a line for each address that is refused. The programs over cases make a call again
+where memory was refused for it, on the context, iterator, loader or program that it left, and write `E1, then` before what
+it answers. So there a run that ends with status 0 has given all answers, after a refusal as without one.
 
-CASES and LINEMAP name other programs than the built ones. It needs a C compiler, for refuse.c.
+In `places` no allocation but each one is refused, from the program's first output on: then all lines that are asked for are
+kept, and finding the places of further addresses takes no memory.
+
+CASES, GIMLI_CASES, LINEMAP_CASES, BENCH and LINEMAP name other programs than the built ones. It needs a C compiler, for refuse.c.
 """
 import os
+import re
 import subprocess
 import sys
 import tempfile
@@ -20,29 +24,54 @@ TOP = os.path.dirname(os.path.dirname(os.path.abspath(__file__)))
 sys.path.insert(0, f"{TOP}/tests")
 import cases
 
-LINEMAP = os.environ.get("LINEMAP") or f"{TOP}/crates/linemap_program/out/linemap_program"
-CASES = os.environ.get("CASES") or f"{TOP}/crates/addr2line_cases/out/addr2line_cases"
+
+def built(name, variable):
+    return os.environ.get(variable) or f"{TOP}/crates/{name}/out/{name}"
+
+
+LINEMAP = built("linemap_program", "LINEMAP")
+CASES = built("addr2line_cases", "CASES")
+GIMLI_CASES = built("gimli_cases", "GIMLI_CASES")
+LINEMAP_CASES = built("linemap_cases", "LINEMAP_CASES")
+BENCH = built("addr2line_bench", "BENCH")
 DATA = f"{cases.CRATE}/data"
+# What comes before an answer to what is asked again.
+AGAIN = b"E1, then "
 # What the error stream says of a refusal.
 SAID = "out of memory", "E1", "B1", "M1", "L1", "W1", "Memory", "memory"
 
 
-def paragraphs(*headings):
-    """The cases that begin with these lines, after the files that they are about."""
+def lines_of(name, *beginnings):
+    """The questions of a program over cases that begin so, as one input."""
+    with open(f"{TOP}/crates/{name}/stdin", encoding="utf-8") as file:
+        chosen = [line for line in file if line.startswith(beginnings)]
+    if not chosen:
+        raise SystemExit(f"{name} has no such questions")
+    return ["".join(chosen)]
+
+
+# What is no case here: where the source of split files answers in turn, or loads that are left are counted, a call that is
+# made again is answered otherwise; and two cases take thousands of allocations.
+LEFT_OUT = re.compile(r"^(turn |waits |prefixes|frames_of_each )", re.MULTILINE)
+
+
+def case_inputs():
+    """The cases of addr2line_cases one by one, each after the files that it is about, but for those that are made."""
     every = cases.paragraphs()
-    chosen = [it for it in every if it.splitlines() and it.splitlines()[0] in headings]
-    if len(chosen) != len(headings):
-        raise SystemExit(f"of {headings} there are {len(chosen)} cases")
-    words, named = {word for it in chosen for word in it.split()}, []
-    for it in reversed(every):
-        for line in it.splitlines():
-            if line.startswith("file ") and line.split()[1] in words:
-                words.update(line.split()[2:])
-                named.insert(0, it)
-    return "\n\n".join(named + chosen) + "\n"
+    every = every[:next(place for place, it in enumerate(every) if it.startswith(cases.MADE))]
+    for case in every:
+        if not re.search("^(context|image|bytes) ", case, re.MULTILINE) or LEFT_OUT.search(case):
+            continue
+        words, named = set(case.split()), []
+        for it in reversed(every):
+            for line in it.splitlines():
+                if line.startswith("file ") and line.split()[1] in words:
+                    words.update(line.split()[2:])
+                    named.insert(0, it)
+        yield "\n\n".join([*named, case]) + "\n"
 
 
-# What is run: the program's words, and its input.
+# What is run: the program's words, and its input, or several one after the other.
 EMIT = [LINEMAP, "emit", f"{TOP}/examples/c.json", "c.elf"]
 RUNS = {
     "ask": ([LINEMAP, "ask", f"{TOP}/examples/c.json", "0x100f", "0x1018", "zz"], ""),
@@ -53,16 +82,17 @@ RUNS = {
     "lookup-all": ([LINEMAP, "lookup", "-e", "given.elf", "--all"], ""),
     "lookup-symbols": ([LINEMAP, "lookup", "-e", f"{DATA}/symbols.elf", "-f", "0x1004", "0x1008"], ""),
     "lookup-split": ([LINEMAP, "lookup", "-e", f"{DATA}/split.elf", "-f", "-i", "0x1000", "0x1003"], ""),
-    "contexts": ([CASES], lambda: paragraphs("# Frames have the places that call", "# And in version 5", "# Calls in one another")),
-    "loads": ([CASES], lambda: paragraphs(
-        "# A lookup that is dropped answers nothing. The first answer counts, and an answer to a unit that is decided",
-        "# Their loads, answered beforehand in the order of the ranges' ends")),
-    "loaders": ([CASES], lambda: paragraphs("# The same bytes in memory")),
+    "cases": ([CASES], case_inputs),
+    "programs": ([GIMLI_CASES], lambda: lines_of("gimli_cases", "line_program ")),
+    "reading": ([GIMLI_CASES], lambda: lines_of("gimli_cases", "entries ", "abbreviations ", "line_rows ", "line_sequences ", "line_files ")),
+    "tables": ([LINEMAP_CASES], lambda: lines_of("linemap_cases", "replay ", "units.json 4 32 8 little 0x1010", "units.json 5 32 8 little 0x1010")),
+    "places": ([BENCH, "given.elf", "slice", "places", "addresses"], ""),
 }
 
 
 def run(words, given, folder, refused=0):
-    """The status, output and errors of a run, and whether an allocation was refused."""
+    """The status, output and errors of a run, and whether an allocation was refused. The number `write` refuses all from the
+    first output on."""
     for name in "refused", "run/c.elf":
         if os.path.exists(f"{folder}/{name}"):
             os.remove(f"{folder}/{name}")
@@ -78,38 +108,64 @@ def run(words, given, folder, refused=0):
 def fault(ample, ended):
     """What is wrong with a run, beside one with ample memory."""
     status, (out, image), err, _ = ended
-    if ended[:3] == ample[:3]:
+    if (status, out.replace(AGAIN, b""), image) == (ample[0], ample[1][0].replace(AGAIN, b""), ample[1][1]) and err == ample[2]:
         return None
     if status not in (0, 1):
         return f"status {status}: {err[:200]}"
     if not any(it in err for it in SAID):
         return f"status {status} without a reason: {out[-200:]} {err[:200]}"
-    if status == 1 and not ample[1][0].startswith(out):
+    if status == 1 and not ample[1][0].replace(AGAIN, b"").startswith(out.replace(AGAIN, b"")):
         return f"another output: {out[-200:]}"
     if image is not None and image != ample[1][1]:
         return "another file"
     return None
 
 
+class Sweep:
+    """Runs, each with one allocation refused: how many there are, how many end as with ample memory, how many after a call
+    that was made again, and what is wrong."""
+
+    def __init__(self):
+        self.count, self.alike, self.again, self.faults = 0, 0, 0, []
+
+    def run(self, words, given, folder):
+        ample = run(words, given, folder)
+        number = 0
+        while True:
+            number += 1
+            ended = run(words, given, folder, number)
+            if not ended[3]:
+                return
+            self.count += 1
+            self.alike += ended[:3] == ample[:3]
+            self.again += ended[0] == 0 and ended[1][0].count(AGAIN) > ample[1][0].count(AGAIN)
+            why = fault(ample, ended)
+            if why:
+                self.faults.append(f"allocation {number} of {given[-60:]!r}: {why}")
+
+
 def sweep(name, folder):
-    """Refuses each allocation of a run, and gives how many there are and what is wrong."""
+    """Whether all runs with a refused allocation end as they should."""
     words, given = RUNS[name]
-    given = given() if callable(given) else given
-    ample = run(words, given, folder)
-    count, alike, faults = 0, 0, []
-    while True:
-        ended = run(words, given, folder, count + 1)
-        if not ended[3]:
-            break
-        count += 1
-        alike += ended[:3] == ample[:3]
-        why = fault(ample, ended)
-        if why:
-            faults.append(f"allocation {count}: {why}")
-    print(f"{name}: {count} allocations, each refused once; {alike} runs ended as with ample memory, {len(faults)} wrongly", flush=True)
-    for it in faults[:20]:
+    if name == "places":
+        return refuse_all(words, run(words, given, folder), folder)
+    found = Sweep()
+    for it in [given] if isinstance(given, str) else given():
+        found.run(words, it, folder)
+    print(f"{name}: {found.count} allocations, each refused once; {found.alike} runs ended as with ample memory, {found.again} after a "
+          f"call that was made again, {len(found.faults)} wrongly", flush=True)
+    for it in found.faults[:20]:
         print(f"  {it}")
-    return not faults
+    return not found.faults
+
+
+def refuse_all(words, ample, folder):
+    """Refuses all allocations from the first output on."""
+    ended = run(words, "", folder, "write")
+    is_same = ended[:2] == ample[:2] and not ended[3]
+    print(f"places: {ample[1][0].count(10)} places; with each allocation refused from the first output on they are "
+          f"{'the same, and none was asked for' if is_same else 'others'}", flush=True)
+    return is_same and len(ample[1][0]) > 1 << 17
 
 
 def main():
@@ -121,8 +177,12 @@ def main():
         os.mkdir(f"{folder}/run")
         for name in os.listdir(DATA):
             os.symlink(f"{DATA}/{name}", f"{folder}/run/{name}")
-        if any(it.startswith("lookup") for it in names):
+        for name in os.listdir(f"{TOP}/crates/linemap_cases/data"):
+            os.symlink(f"{TOP}/crates/linemap_cases/data/{name}", f"{folder}/run/{name}")
+        if any(it.startswith("lookup") or it == "places" for it in names):
             subprocess.run([LINEMAP, "emit", f"{TOP}/examples/c.json", f"{folder}/run/given.elf"], check=True)
+        with open(f"{folder}/run/addresses", "w", encoding="utf-8") as file:
+            file.writelines(f"{0xff8 + it % 0x40:x}\n" for it in range(20_000))
         ended = [sweep(it, folder) for it in names]
     return 0 if all(ended) else 1
 

@@ -1,8 +1,12 @@
 //! Answers as they are written.
 
 use addr2line_context::{Error, Reader};
+use addr2line_split::LoadError;
 use std::alloc::{AllocError, Global};
 use std::fmt;
+
+/// What an answer begins with that is the second one, after memory was refused for the first.
+const AGAIN: &str = "E1, then ";
 
 /// The text of answers. Its calls never fail, so that the code that writes has one way through it;
 /// where memory is short, `finish` says so.
@@ -36,6 +40,11 @@ impl Answer {
         }
     }
 
+    /// What comes before an answer to what is asked again.
+    pub fn again(&mut self) {
+        self.text(AGAIN);
+    }
+
     /// A value for readers.
     pub fn value<T: fmt::Display>(&mut self, value: &T) {
         if write!(self.text, "{value}").is_err() {
@@ -63,6 +72,15 @@ impl Answer {
             self.is_short_of_memory = true;
         } else {
             self.print(error);
+        }
+    }
+
+    /// A refusal of a file, other than "out of memory".
+    pub fn refuse_file(&mut self, error: LoadError) {
+        if matches!(error, LoadError::Memory) {
+            self.is_short_of_memory = true;
+        } else {
+            self.value(&error);
         }
     }
 
@@ -96,4 +114,9 @@ impl Answer {
             None => self.text("-"),
         }
     }
+}
+
+/// Answers as they are where memory isn't refused.
+pub fn without_refusals(alloc: Global, answers: &str) -> Result<String, AllocError> {
+    answers.replace(alloc, AGAIN, "")
 }

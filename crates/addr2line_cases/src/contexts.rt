@@ -1,6 +1,6 @@
 //! Contexts of files, and what is asked of them.
 
-use crate::answer::Answer;
+use crate::answer::{Answer, without_refusals};
 use crate::case::{Asked, Case};
 use crate::files::{Borrowed, File, Sections, borrowed, borrowed_files, shared, shared_files};
 use crate::question::{Question, Steps};
@@ -23,18 +23,35 @@ fn answers(alloc: Global, files: &[File], case: &Case) -> Result<String, AllocEr
     let by_borrowed = answers_by_borrowed(alloc, files, case)?;
     let by_shared = answers_by_shared(alloc, files, case)?;
     let by_sections = answers_by_sections(alloc, files, case)?;
-    if by_borrowed == by_shared && by_borrowed == by_sections {
-        Ok(by_borrowed)
+    if are_alike(alloc, &by_borrowed, &by_shared)?
+        && are_alike(alloc, &by_borrowed, &by_sections)?
+    {
+        Ok(longest(by_borrowed, longest(by_shared, by_sections)))
     } else {
         format!(in alloc; "fault: {by_borrowed}\n{by_shared}\n{by_sections}")
     }
+}
+
+// Whether answers are the same but for the memory that was refused for them.
+fn are_alike(alloc: Global, one: &str, other: &str) -> Result<bool, AllocError> {
+    let one = without_refusals(alloc, one)?;
+    let other = without_refusals(alloc, other)?;
+    Ok(one == other)
+}
+
+// Of answers that are alike, those for which memory was refused.
+fn longest(one: String, other: String) -> String {
+    if other.len() > one.len() { other } else { one }
 }
 
 // Through borrowed bytes.
 fn answers_by_borrowed(alloc: Global, files: &[File], case: &Case) -> Result<String, AllocError> {
     let named = borrowed_files(alloc, files)?;
     let file = borrowed(alloc, &case.file)?;
-    let context = context_of(alloc, &file, supplement_in(case, &named));
+    let context = match context_of(alloc, &file, supplement_in(case, &named)) {
+        Err(Error::Memory) => context_of(alloc, &file, supplement_in(case, &named)),
+        made => made,
+    };
     answers_with(alloc, case, context, &named)
 }
 
@@ -44,14 +61,21 @@ fn answers_by_sections(alloc: Global, files: &[File], case: &Case) -> Result<Str
         return answers_by_borrowed(alloc, files, case);
     }
     let named = borrowed_files(alloc, files)?;
-    answers_with(alloc, case, context_of_sections(alloc, &case.file), &named)
+    let context = match context_of_sections(alloc, &case.file) {
+        Err(Error::Memory) => context_of_sections(alloc, &case.file),
+        made => made,
+    };
+    answers_with(alloc, case, context, &named)
 }
 
 // Through shared bytes.
 fn answers_by_shared(alloc: Global, files: &[File], case: &Case) -> Result<String, AllocError> {
     let named = shared_files(alloc, files)?;
     let file = shared(alloc, &case.file)?;
-    let context = counted_context_of(alloc, &file, supplement_in(case, &named));
+    let context = match counted_context_of(alloc, &file, supplement_in(case, &named)) {
+        Err(Error::Memory) => counted_context_of(alloc, &file, supplement_in(case, &named)),
+        made => made,
+    };
     answers_with(alloc, case, context, &named)
 }
 
@@ -181,11 +205,29 @@ fn answer_line<R: Reader>(
     if !matches!(asked.question, Question::Heading) {
         out.text(": ");
         match context {
-            Ok(context) => ask(context, asked.question, named, out),
+            Ok(context) => ask_again_if_refused(context, asked.question, named, out),
             Err(error) => out.refuse(*error),
         }
     }
     out.text("\n");
+}
+
+// The answer. Where memory was refused for it, the same context is asked again.
+fn ask_again_if_refused<R: Reader>(
+    context: &mut Context<R>,
+    question: Question,
+    named: &[Sections<R>],
+    out: &mut Answer,
+) {
+    let mut first = Answer::new(out.alloc);
+    ask(context, question, named, &mut first);
+    match first.finish() {
+        Ok(text) => out.text(&text),
+        Err(_) => {
+            out.again();
+            ask(context, question, named, out);
+        }
+    }
 }
 
 fn ask<R: Reader>(

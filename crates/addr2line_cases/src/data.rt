@@ -18,10 +18,7 @@ fn push_word(alloc: Global, bytes: &mut Vec<u8>, word: &str) -> Result<(), Mista
             bytes.extend_from_slice(text.as_bytes())?;
             bytes.push(0)?;
         }
-        None => match hex::decode(alloc, word) {
-            Ok(digits) => bytes.extend_from_slice(&digits)?,
-            Err(_) => return Err(Mistake::Word),
-        },
+        None => bytes.extend_from_slice(&hex::decode(alloc, word)?)?,
     }
     Ok(())
 }

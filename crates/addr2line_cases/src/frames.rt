@@ -32,7 +32,14 @@ pub fn frames_of<R: Reader>(found: &mut FrameIter<'_, R>, out: &mut Answer) {
 
 // Whether there is one, or a refusal.
 fn next_frame<R: Reader>(frames: &mut FrameIter<'_, R>, out: &mut Answer) -> bool {
-    match frames.next() {
+    let found = match frames.next() {
+        Err(Error::Memory) => {
+            out.again();
+            frames.next()
+        }
+        found => found,
+    };
+    match found {
         Ok(Some(found)) => {
             frame(&found, out);
             true

@@ -11,16 +11,19 @@ use std::rt::Files;
 
 /// Adds the answers to what is asked of an image, and an empty line.
 pub fn answer<R: Files + AllocGlobal>(rt: &R, case: &ImageCase, out: &mut Answer) {
-    let mut loader = loader_of(rt, case);
+    let mut loader = match loader_of(rt, case) {
+        Err(LoadError::Memory) => loader_of(rt, case),
+        made => made,
+    };
     match case.source {
         Source::Files => ask_all(rt, &mut loader, case, &mut FileSource::new(rt), out),
         Source::Names => match sources::map_of(rt, case) {
             Ok(mut source) => ask_all(rt, &mut loader, case, &mut source, out),
-            Err(error) => out.value(&error),
+            Err(error) => out.refuse_file(error),
         },
         Source::Turns => match sources::turns_of(rt, case) {
             Ok(mut source) => ask_all(rt, &mut loader, case, &mut source, out),
-            Err(error) => out.value(&error),
+            Err(error) => out.refuse_file(error),
         },
     }
     out.text("\n");
@@ -97,8 +100,26 @@ fn answer_line<S: SplitSource>(
 ) {
     out.text(": ");
     match loader {
-        Ok(loader) => ask(loader, asked, source, out),
-        Err(error) => out.value(error),
+        Ok(loader) => ask_again_if_refused(loader, asked, source, out),
+        Err(error) => out.refuse_file(*error),
+    }
+}
+
+// The answer. Where memory was refused for it, also by the source, the same loader is asked again.
+fn ask_again_if_refused<S: SplitSource>(
+    loader: &mut Loader,
+    asked: &ImageAsked,
+    source: &mut S,
+    out: &mut Answer,
+) {
+    let mut first = Answer::new(out.alloc);
+    ask(loader, asked, source, &mut first);
+    match first.finish() {
+        Ok(text) => out.text(&text),
+        Err(_) => {
+            out.again();
+            ask(loader, asked, source, out);
+        }
     }
 }
 
@@ -122,11 +143,10 @@ fn stretches(loader: &mut Loader, low: u64, high: u64, out: &mut Answer) {
     places::stretches(loader.find_location_range(low, high), out);
 }
 
-// A source may be out of memory, which is an answer here.
 fn frames<S: SplitSource>(loader: &mut Loader, probe: u64, source: &mut S, out: &mut Answer) {
     match loader.find_frames(out.alloc, probe, source) {
         Ok(mut found) => frames::frames_of(&mut found, out),
-        Err(error) => out.print(error),
+        Err(error) => out.refuse(error),
     }
 }
 
@@ -172,7 +192,7 @@ fn prefixes<R: Files + AllocGlobal>(rt: &R, case: &ImageCase, out: &mut Answer) 
             out.text(" of ");
             out.value(&image.len());
         }
-        Err(error) => out.value(&error),
+        Err(error) => out.refuse_file(error),
     }
 }
 
@@ -187,8 +207,13 @@ fn loaded_prefixes(alloc: Global, image: &[u8]) -> u32 {
 }
 
 fn is_loaded(alloc: Global, image: &[u8]) -> bool {
-    match Bytes::copy_from_slice(alloc, image) {
-        Ok(image) => Loader::from_bytes(alloc, image, None).is_ok(),
-        Err(_) => false,
+    match load(alloc, image) {
+        Err(LoadError::Memory) => load(alloc, image).is_ok(),
+        loaded => loaded.is_ok(),
     }
+}
+
+fn load(alloc: Global, image: &[u8]) -> Result<Loader, LoadError> {
+    let image = Bytes::copy_from_slice(alloc, image)?;
+    Loader::from_bytes(alloc, image, None)
 }

@@ -62,29 +62,38 @@ pub fn has_unit<R: Reader>(context: &Context<R>, number: u64, out: &mut Answer) 
 /// How many loads the frames of an address wait for, up to five.
 pub fn waits_at<R: Reader>(context: &mut Context<R>, probe: u64, out: &mut Answer) {
     match context.find_frames(probe) {
-        LookupResult::Load(wait) => out.value(&loads_of(wait)),
+        LookupResult::Load(wait) => {
+            let mut count: u32 = 0;
+            match loads_of(wait, &mut count) {
+                Some(Err(Error::Memory)) => out.refuse(Error::Memory),
+                _ => out.value(&count),
+            }
+        }
+        LookupResult::Output(Err(Error::Memory)) => out.refuse(Error::Memory),
         LookupResult::Output(_) => out.text("0"),
     }
 }
 
-fn loads_of<L: LookupContinuation>(first: L) -> u32
-where
-    L::Output: Drop,
-{
+// Counts the loads of a lookup, and gives what it finds.
+fn loads_of<L: LookupContinuation>(first: L, count: &mut u32) -> Option<L::Output> {
     let mut wait = first;
-    for count in 1..5 {
+    for number in 1..6 {
+        *count = number;
         match wait.resume(None) {
             LookupResult::Load(next) => wait = next,
-            LookupResult::Output(_) => return count,
+            LookupResult::Output(found) => return Some(found),
         }
     }
-    5
+    None
 }
 
 /// Whether the frames of an address wait for a load. The lookup is dropped.
 pub fn drops_at<R: Reader>(context: &mut Context<R>, probe: u64, out: &mut Answer) {
-    let waits = matches!(context.find_frames(probe), LookupResult::Load(_));
-    out.text(if waits { "waits" } else { "doesn't wait" });
+    match context.find_frames(probe) {
+        LookupResult::Load(_) => out.text("waits"),
+        LookupResult::Output(Err(Error::Memory)) => out.refuse(Error::Memory),
+        LookupResult::Output(_) => out.text("doesn't wait"),
+    }
 }
 
 /// The frames of an address, whose first load is answered by a file, and the others by none.

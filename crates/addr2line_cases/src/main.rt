@@ -8,6 +8,8 @@
 //! of these. `units COUNT STEP RANGE FUNCTION` makes many units. Then, in a context, there may be a
 //! line `supplement NAME`, and the questions. Each context is made by each of the three
 //! constructors, over borrowed and over shared bytes. A difference between the answers is a fault.
+//! Where memory is refused for an answer, the same context or loader is asked again, and the second
+//! answer begins with `E1, then`; so is an iterator for its next item, and a file is loaded again.
 //!
 //! - `image PATH` begins questions about an ELF file, which a loader reads.
 //! - `bytes PATH` is the same of its bytes in memory.

@@ -1,5 +1,6 @@
 //! Why the program ends early.
 
+use hex::FromHexError;
 use std::alloc::{AllocError, AllocFailed};
 use std::io;
 
@@ -24,7 +25,20 @@ impl<T: Drop> From<AllocFailed<T>> for Mistake {
 }
 
 impl From<io::Error> for Mistake {
-    fn from(_refused: io::Error) -> Mistake {
-        Mistake::Input
+    fn from(error: io::Error) -> Mistake {
+        if error.kind() == io::ErrorKind::OutOfMemory {
+            Mistake::Memory
+        } else {
+            Mistake::Input
+        }
+    }
+}
+
+impl From<FromHexError> for Mistake {
+    fn from(error: FromHexError) -> Mistake {
+        match error {
+            FromHexError::OutOfMemory => Mistake::Memory,
+            _ => Mistake::Word,
+        }
     }
 }

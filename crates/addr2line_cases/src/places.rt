@@ -56,7 +56,14 @@ pub fn stretches<R: Reader>(found: Result<LocationRangeIter<'_, R>, Error>, out:
 
 // Whether there is one, or a refusal.
 fn next_stretch<R: Reader>(found: &mut LocationRangeIter<'_, R>, out: &mut Answer) -> bool {
-    match found.next() {
+    let next = match found.next() {
+        Err(Error::Memory) => {
+            out.again();
+            found.next()
+        }
+        next => next,
+    };
+    match next {
         Ok(Some((begin, length, location))) => {
             out.text("[");
             out.hex(begin);

@@ -8,11 +8,14 @@ use std::alloc::{AllocError, Global};
 use std::fs;
 use std::rt::Files;
 
-/// The bytes of a file.
+/// The bytes of a file. Memory may be short for it once.
 pub fn read<R: Files + AllocGlobal>(rt: &R, path: &str) -> Result<Vec<u8>, LoadError> {
     match fs::read(rt, path) {
         Ok(bytes) => Ok(bytes),
-        Err(_) => Err(LoadError::Io),
+        Err(_) => match fs::read(rt, path) {
+            Ok(bytes) => Ok(bytes),
+            Err(_) => Err(LoadError::Io),
+        },
     }
 }
 
@@ -73,12 +76,15 @@ impl SplitSource for Turns {
     ghost answers = { λ old directory name result new. Unit {0} };
 
     fn get(&mut self, _directory: &[u8], _name: &[u8]) -> Result<Option<Bytes>, Error> {
-        let number = self.count;
-        self.count = number.saturating_add(1);
-        match self.turns.get(number) {
-            Some(Turn::File(bytes)) => Ok(Some(bytes.clone()?)),
-            Some(Turn::Memory) => Err(Error::Memory),
-            None => Ok(None),
-        }
+        let answer = match self.turns.get(self.count) {
+            Some(Turn::File(bytes)) => Some(bytes.clone()?),
+            Some(Turn::Memory) => {
+                self.count = self.count.saturating_add(1);
+                return Err(Error::Memory);
+            }
+            None => None,
+        };
+        self.count = self.count.saturating_add(1);
+        Ok(answer)
     }
 }
