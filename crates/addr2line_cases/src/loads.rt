@@ -61,14 +61,16 @@ pub fn has_unit<R: Reader>(context: &Context<R>, number: u64, out: &mut Answer) 
 
 /// How many loads the frames of an address wait for, up to five.
 pub fn waits_at<R: Reader>(context: &mut Context<R>, probe: u64, out: &mut Answer) {
-    let mut count: u32 = 0;
-    let found = match context.find_frames(probe) {
-        LookupResult::Load(wait) => loads_of(wait, &mut count),
-        LookupResult::Output(found) => Some(found),
-    };
-    match found {
-        Some(Err(Error::Memory)) => out.refuse(Error::Memory),
-        _ => out.value(&count),
+    match context.find_frames(probe) {
+        LookupResult::Load(wait) => {
+            let mut count: u32 = 0;
+            match loads_of(wait, &mut count) {
+                Some(Err(Error::Memory)) => out.refuse(Error::Memory),
+                _ => out.value(&count),
+            }
+        }
+        LookupResult::Output(Err(Error::Memory)) => out.refuse(Error::Memory),
+        LookupResult::Output(_) => out.text("0"),
     }
 }
 
