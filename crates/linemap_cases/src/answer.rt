@@ -29,6 +29,16 @@ impl Answer {
         }
     }
 
+    /// Records that memory was refused.
+    pub fn refuse(&mut self) {
+        self.is_short_of_memory = true;
+    }
+
+    /// What comes before an answer to what is asked again, after memory was refused.
+    pub fn again(&mut self) {
+        self.text("E1, then ");
+    }
+
     pub fn text(&mut self, text: &str) {
         if self.text.push_str(text).is_err() {
             self.is_short_of_memory = true;
@@ -38,6 +48,13 @@ impl Answer {
     /// A value for readers.
     pub fn value<T: fmt::Display>(&mut self, value: &T) {
         if write!(self.text, "{value}").is_err() {
+            self.is_short_of_memory = true;
+        }
+    }
+
+    /// A number in hexadecimal.
+    pub fn hex(&mut self, number: u64) {
+        if write!(self.text, "{number:#x}").is_err() {
             self.is_short_of_memory = true;
         }
     }

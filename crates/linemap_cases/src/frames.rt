@@ -2,16 +2,15 @@
 
 use crate::answer::Answer;
 use crate::question::{Change, Question};
-use addr2line_context::{Frame, FrameIter, Location, Reader};
+use addr2line_context::{Error, Frame, FrameIter, Location, Reader};
 use addr2line_loader::Loader;
-use addr2line_split::MapSource;
+use addr2line_split::{LoadError, MapSource};
 use bytes::Bytes;
-use linemap_image::{Table, emit};
-use std::alloc::Global;
+use linemap_image::{EmitError, Table, TableError, emit};
 
 /// Adds the answer to a question about the table in a text.
 pub fn answer(text: &[u8], question: &Question<'_>, out: &mut Answer) {
-    match image_of(out.alloc, text, question) {
+    match image_of(out, text, question) {
         Ok(mut image) => {
             if let Some(change) = question.change {
                 put(&mut image, change);
@@ -23,14 +22,32 @@ pub fn answer(text: &[u8], question: &Question<'_>, out: &mut Answer) {
 }
 
 // The image of the table in a text, or why there is none.
-fn image_of(alloc: Global, text: &[u8], question: &Question<'_>) -> Result<Vec<u8>, &'static str> {
-    match Table::read(alloc, text) {
+fn image_of(
+    out: &mut Answer,
+    text: &[u8],
+    question: &Question<'_>,
+) -> Result<Vec<u8>, &'static str> {
+    match table_of(out, text) {
         Ok(table) if !table.fits(&question.target) => Err("does not fit"),
-        Ok(table) => match emit(alloc, &table, question.target) {
-            Ok(image) => Ok(image),
-            Err(error) => Err(error.code()),
+        Ok(table) => match emit(out.alloc, &table, question.target) {
+            Err(EmitError::Memory) => {
+                out.again();
+                emit(out.alloc, &table, question.target).map_err(|error| error.code())
+            }
+            emitted => emitted.map_err(|error| error.code()),
         },
         Err(error) => Err(error.code()),
+    }
+}
+
+/// The table in a text.
+pub fn table_of(out: &mut Answer, text: &[u8]) -> Result<Table, TableError> {
+    match Table::read(out.alloc, text) {
+        Err(TableError::Memory) => {
+            out.again();
+            Table::read(out.alloc, text)
+        }
+        read => read,
     }
 }
 
@@ -44,17 +61,38 @@ fn put(image: &mut Vec<u8>, change: Change) {
 fn ask(image: Vec<u8>, address: u64, out: &mut Answer) {
     match Bytes::from_vec(image) {
         Ok(image) => match Loader::from_bytes(out.alloc, image, None) {
-            Ok(mut loader) => frames(&mut loader, address, out),
+            Ok(mut loader) => frames_again_if_refused(&mut loader, address, out),
+            Err(LoadError::Memory) => out.refuse(),
             Err(error) => out.value(&error),
         },
-        Err(_) => out.text("out of memory"),
+        Err(_) => out.refuse(),
+    }
+}
+
+// The frames. Where memory was refused for them, the same loader is asked again.
+fn frames_again_if_refused(loader: &mut Loader, address: u64, out: &mut Answer) {
+    let mut first = Answer::new(out.alloc);
+    frames(loader, address, &mut first);
+    match first.finish() {
+        Ok(text) => out.text(&text),
+        Err(_) => {
+            out.again();
+            frames(loader, address, out);
+        }
     }
 }
 
 fn frames(loader: &mut Loader, address: u64, out: &mut Answer) {
     match loader.find_frames(out.alloc, address, &mut MapSource::new(out.alloc)) {
         Ok(mut found) => frames_of(&mut found, out),
-        Err(error) => out.value(&error),
+        Err(error) => refuse(error, out),
+    }
+}
+
+fn refuse(error: Error, out: &mut Answer) {
+    match error {
+        Error::Memory => out.refuse(),
+        other => out.value(&other),
     }
 }
 
@@ -72,14 +110,21 @@ fn frames_of<R: Reader>(found: &mut FrameIter<'_, R>, out: &mut Answer) {
 
 // Adds a frame, or a refusal. Whether there was one.
 fn next_frame<R: Reader>(found: &mut FrameIter<'_, R>, out: &mut Answer) -> bool {
-    match found.next() {
+    let next = match found.next() {
+        Err(Error::Memory) => {
+            out.again();
+            found.next()
+        }
+        next => next,
+    };
+    match next {
         Ok(Some(found)) => {
             frame(&found, out);
             true
         }
         Ok(None) => false,
         Err(error) => {
-            out.value(&error);
+            refuse(error, out);
             false
         }
     }
@@ -103,7 +148,7 @@ fn frame<R: Reader>(frame: &Frame<'_, R>, out: &mut Answer) {
 fn name<R: Reader>(name: &R, out: &mut Answer) {
     match name.to_string_lossy(out.alloc) {
         Ok(text) => out.text(text.as_str()),
-        Err(error) => out.value(&error),
+        Err(error) => refuse(error, out),
     }
 }
 

@@ -5,13 +5,16 @@
 //! - `TABLE VERSION BITS SIZE ORDER ADDRESS` asks for the frames of an address in the image of a
 //!   table.
 //! - `TABLE VERSION BITS SIZE ORDER ADDRESS OFFSET BYTE` asks after a byte of the image is replaced.
+//! - `replay TABLE VERSION BITS SIZE ORDER ADDRESS` makes calls about an address on one context.
 //!
-//! VERSION, BITS and SIZE are decimal, the other numbers are hexadecimal.
+//! VERSION, BITS and SIZE are decimal, the other numbers are hexadecimal. Where memory is refused,
+//! the same call is made again, and what it answers begins with `E1, then`.
 #![tactic(auto)]
 
 mod answer;
 mod frames;
 mod question;
+mod replays;
 
 use answer::Answer;
 use question::{Question, question_in};
@@ -34,10 +37,24 @@ fn main(rt: HostRuntime) -> Result<(), io::Error> {
     Ok(())
 }
 
-// Adds the answer to a question.
+// Adds the answer to a question. Where memory was refused for it, it is asked again.
 fn add_answer<R: Files + AllocGlobal>(rt: &R, question: &Question<'_>, out: &mut Answer) {
+    let mut first = Answer::new(out.alloc);
+    ask(rt, question, &mut first);
+    match first.finish() {
+        Ok(text) => out.text(&text),
+        Err(_) => {
+            out.again();
+            ask(rt, question, out);
+        }
+    }
+}
+
+fn ask<R: Files + AllocGlobal>(rt: &R, question: &Question<'_>, out: &mut Answer) {
     match fs::read(rt, question.table) {
+        Ok(text) if question.is_replay => replays::answer(&text, question, out),
         Ok(text) => frames::answer(&text, question, out),
+        Err(error) if error.kind() == io::ErrorKind::OutOfMemory => out.refuse(),
         Err(_) => out.text("no such table"),
     }
 }

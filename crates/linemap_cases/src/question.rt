@@ -3,9 +3,11 @@
 use linemap_image::{Format, Target, read_address};
 use std::str::SplitWhitespace;
 
-/// What is asked of the image of a table.
+/// What is asked of what is emitted of a table.
 #[derive(Drop)]
 pub struct Question<'a> {
+    /// Calls are answered on one context, and not the frames of one address.
+    pub is_replay: bool,
     pub table: &'a str,
     pub target: Target,
     pub address: u64,
@@ -24,8 +26,10 @@ pub fn question_in(line: &str) -> Option<Question<'_>> {
     if line.starts_with('#') {
         return None;
     }
-    let mut words = line.split_whitespace();
+    let replayed = line.strip_prefix("replay ");
+    let mut words = replayed.unwrap_or(line).split_whitespace();
     Some(Question {
+        is_replay: replayed.is_some(),
         table: words.next()?,
         target: target_in(&mut words)?,
         address: number_in(&mut words)?,
