@@ -4,14 +4,15 @@
 //!
 //! - `TABLE VERSION BITS SIZE ORDER ADDRESS` asks for the frames of an address in the image of a
 //!   table.
-//! - `TABLE VERSION BITS SIZE ORDER ADDRESS OFFSET BYTE` asks after a byte of the image is replaced.
+//! - `TABLE VERSION BITS SIZE ORDER ADDRESS OFFSET BYTE` asks after a byte of the image is
+//!   replaced.
 //! - `lookup TABLE WORD..` asks what `lookup` prints of the image of a table, and how it ends. A
 //!   word is an address; options, as `-fi` and `--all`; `section=NAME`; `in=TEXT`, what is read
-//!   where no address is given, with a comma for each line end and a percent sign for a byte that is
-//!   no text; `fault`, that the reader fails after that; `interrupted=COUNT`, how often it is
-//!   interrupted before; `out=BYTES`, `flush=COUNT` and `err=BYTES`, after how many bytes or flushes
-//!   the output or the error stream fails, with `:pipe`, `:nothing` or `:interrupted` for another
-//!   fault; or `byte=OFFSET:BYTE`, which replaces a byte of the image.
+//!   where no address is given, with a comma for each line end and a percent sign for a byte that
+//!   is no text; `fault`, that the reader fails after that; `interrupted=COUNT`, how often it is
+//!   interrupted before; `out=BYTES`, `flush=COUNT` and `err=BYTES`, after how many bytes or
+//!   flushes the output or the error stream fails, with `:pipe`, `:nothing` or `:interrupted` for
+//!   another fault; or `byte=OFFSET:BYTE`, which replaces a byte of the image.
 //!
 //! VERSION, BITS and SIZE are decimal, the other numbers are hexadecimal.
 #![tactic(auto)]
