@@ -11,12 +11,13 @@ turn, until the time is up:
   constructors; what it answers must be what tests/model.py computes.
 - images: the same for images in memory, through a loader. Where the image is whole and its sections alone are damaged,
   the answers must be the model's.
-- lookup: `linemap lookup` reads the image of a file, and its answers must be the model's too.
+- lookup: `linemap lookup` reads the image of a file, and its answers must be the model's too. `addr2line_bench` reads the
+  same image, once through each reader, and both must answer alike.
 
 A process may take 10 seconds of a processor for a file, and 30 times its size and 100 MB; it must end with status 0 or 1.
 What doesn't hold is written to the folder FINDS (./finds where it isn't set), and counted. The variable SEED begins elsewhere.
-CASES and LINEMAP name other programs; where LINEMAP is empty there are no lookups, and the seeds come from SECTIONS, a
-folder of images.
+CASES, LINEMAP and BENCH name other programs. Where CASES is empty there are only lookups; where LINEMAP is empty there are
+none, and the seeds come from SECTIONS, a folder of images; where BENCH is empty the readers aren't compared.
 """
 import itertools
 import json
@@ -39,8 +40,9 @@ from cases import NAMES
 from images import image_of, sections_of
 from model import LIMIT, Model, Refused
 
-CASES = os.environ.get("CASES") or f"{TOP}/crates/addr2line_cases/out/addr2line_cases"
+CASES = os.environ.get("CASES", f"{TOP}/crates/addr2line_cases/out/addr2line_cases")
 LINEMAP = os.environ.get("LINEMAP", f"{TOP}/crates/linemap_program/out/linemap_program")
+BENCH = os.environ.get("BENCH", f"{TOP}/crates/addr2line_bench/out/addr2line_bench")
 FINDS = os.environ.get("FINDS", "finds")
 # Files in one process.
 CHUNK = 500
@@ -385,12 +387,22 @@ class Fuzzer:
                 wanted = program_answer(model_of(image), asked)
                 if (run.status, run.out) != wanted:
                     why = f"answered\n{run.out}\nand not\n{wanted[1]}"
+            why = why or (self.fault_of_readers(asked, most) if BENCH else None)
             if why:
                 self.find(why, " ".join(words).encode(), image)
             self.ran["lookups"] += 1
 
+    def fault_of_readers(self, asked, most):
+        """Whether the image isn't answered as it should be through each of the readers, or not alike."""
+        with open(f"{self.folder}/asked", "w", encoding="utf-8") as file:
+            file.writelines(f"{it:x}\n" for it in asked)
+        runs = [Process([BENCH, "image", reader, "frames", "asked"], b"", SECONDS, most, self.folder) for reader in ("slice", "bytes")]
+        faults = [it.fault((0, 1)) for it in runs]
+        first, second = ((it.status, it.out) for it in runs)
+        return faults[0] or faults[1] or (None if first == second else f"one reader answered\n{first}\nand the other\n{second}")
+
     def run(self):
-        steps = [self.sections, self.images] + ([self.lookups] if LINEMAP else [])
+        steps = ([self.sections, self.images] if CASES else []) + ([self.lookups] if LINEMAP else [])
         for step in itertools.cycle(steps):
             step()
             if time.monotonic() > self.end:

@@ -4,6 +4,8 @@
 # fuzz.py says what it does with them. FOLDER has images as further seeds, such as those of a distribution.
 set -euo pipefail
 top="$(dirname "$(dirname "$(readlink -f "$0")")")"
-[ -n "${CASES:-}" ] || "$top/tools/build" addr2line_cases
-export LINEMAP= SECTIONS="${SECTIONS:-$top/crates/addr2line_cases/data}"
+for name in ${CASES-addr2line_cases} ${LINEMAP-linemap_program} ${BENCH-addr2line_bench}; do
+    [ ! -d "$top/crates/$name" ] || "$top/tools/build" "$name"
+done
+export SECTIONS="${SECTIONS:-$top/crates/addr2line_cases/data}"
 exec nice python3 "$top/bench/fuzz.py" "$@"

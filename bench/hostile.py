@@ -8,17 +8,18 @@ usage: bench/hostile.py list
 Each kind is made at half its count and at its whole one, so that the growth shows: twice the count should take about
 twice the time and the memory. What is run on an image is `linemap lookup -e IMAGE -f -i` with addresses, and `--all`; where
 PEER names a program with the same words, such as one over Rust's addr2line, it is run too. On a table it is `linemap ask`
-with addresses, and `linemap emit`. LINEMAP names other words than
-those of the built program. SCALE makes all counts larger or smaller, LIMIT bounds the seconds of a run (60).
+with addresses, and `linemap emit`. LINEMAP names other words than those of the built program. SCALE makes all counts larger
+or smaller, LIMIT bounds the processor seconds of a run (60), MEMORY its megabytes (4,000), beyond which each allocation is
+refused.
 """
 import json
 import os
 import random
+import resource
 import signal
 import subprocess
 import sys
 import tempfile
-import time
 
 sys.dont_write_bytecode = True
 TOP = os.path.dirname(os.path.dirname(os.path.abspath(__file__)))
@@ -469,32 +470,29 @@ def image_with_names(count):
 # ---- measuring
 
 
-def run(words, limit):
-    """The seconds and the megabytes that a process takes, and its status; none where it takes too long."""
-    began = time.monotonic()
+def run(words, limits):
+    """The processor seconds and the megabytes that a process takes, and its status; none where it takes more seconds than it may."""
+    def limit():
+        for kind, most in limits.items():
+            resource.setrlimit(kind, (most, most))
+
     with open(os.devnull, "w+b") as nothing:
-        child = subprocess.Popen(words, stdin=nothing, stdout=nothing, stderr=nothing, start_new_session=True)
-        while True:
-            pid, status, usage = os.wait4(child.pid, os.WNOHANG)
-            if pid:
-                break
-            if time.monotonic() - began > limit:
-                os.killpg(child.pid, signal.SIGKILL)
-                os.wait4(child.pid, 0)
-                child.returncode = 0
-                return None
-            time.sleep(0.002)
-    child.returncode = 0
-    return usage.ru_utime + usage.ru_stime, usage.ru_maxrss / 1024, os.waitstatus_to_exitcode(status)
+        child = subprocess.Popen(words, stdin=nothing, stdout=nothing, stderr=nothing, preexec_fn=limit)
+        _, status, usage = os.wait4(child.pid, 0)
+    child.returncode = os.waitstatus_to_exitcode(status)
+    if child.returncode in (-signal.SIGXCPU, -signal.SIGKILL):
+        return None
+    return usage.ru_utime + usage.ru_stime, usage.ru_maxrss / 1024, child.returncode
 
 
 def text_of(one, two):
-    """What two runs took, the second at twice the count, and the growth."""
-    if one is None or two is None:
-        return f"{'too long' if one is None else f'{one[0]:.2f} s, twice the count too long':>36}"
-    growth = two[0] / max(one[0], 0.01)
-    status = "" if two[2] == 0 else f" status {two[2]}"
-    return f"{two[0]:8.2f} s {two[1]:7.0f} MB {growth:5.1f} x{status:>10}"
+    """What two runs took, the second at twice the count, and the growth; or what the first took, where the second didn't end well."""
+    if one is None:
+        return f"{'too long':>36}"
+    if two is None or two[2] != 0:
+        why = "too long" if two is None else f"status {two[2]}"
+        return f"{f'half: {one[0]:.2f} s {one[1]:.0f} MB, whole: {why}':>36}"
+    return f"{two[0]:8.2f} s {two[1]:7.0f} MB {two[0] / max(one[0], 0.01):5.1f} x         "
 
 
 def words_for(what, path, asked):
@@ -509,7 +507,8 @@ def words_for(what, path, asked):
 def measure(names):
     own = os.environ.get("LINEMAP", f"{TOP}/crates/linemap_program/out/linemap_program lookup").split()
     peer = os.environ.get("PEER", "").split()
-    limit, scale = float(os.environ.get("LIMIT", 60)), float(os.environ.get("SCALE", 1))
+    scale = float(os.environ.get("SCALE", 1))
+    limits = {resource.RLIMIT_CPU: int(os.environ.get("LIMIT", 60)), resource.RLIMIT_AS: int(os.environ.get("MEMORY", 4000)) << 20}
     programs = {"own": own, **({"peer": peer} if peer else {})}
     table_programs = {"own": own[:-1]}
     print(f"{'kind':24} {'KB':>6} {'asked':8} " + " ".join(f"{it + ': seconds, memory, growth':36}" for it in programs))
@@ -527,8 +526,8 @@ def measure(names):
                 found = []
                 for program in (table_programs if is_table else programs).values():
                     words = [[*program, *words_for(what, path, asked)] for (path, _), asked in zip(sizes, lists)]
-                    one = run(words[0], limit)
-                    found.append(text_of(one, one and run(words[1], limit)))
+                    one = run(words[0], limits)
+                    found.append(text_of(one, one and run(words[1], limits)))
                 print(f"{name:24} {sizes[1][1] // 1000:6} {what:8} " + " ".join(f"{it:36}" for it in found), flush=True)
 
 

@@ -8,8 +8,8 @@ output, or, where `lookup` goes on, with a line for each address that is refused
 where memory was refused for it, on the context, iterator, loader or program that it left, and write `E1, then` before what
 it answers. So there a run that ends with status 0 has given all answers, after a refusal as without one.
 
-In `places` no allocation but each one is refused, from the program's first output on: then all lines that are asked for are
-kept, and finding the places of further addresses takes no memory.
+In `places` and `places-bytes`, through one reader and the other, each allocation is refused from the program's first output
+on: then all lines that are asked for are kept, and finding the places of further addresses takes no memory.
 
 CASES, GIMLI_CASES, LINEMAP_CASES, BENCH and LINEMAP name other programs than the built ones. It needs a C compiler, for refuse.c.
 """
@@ -87,6 +87,7 @@ RUNS = {
     "reading": ([GIMLI_CASES], lambda: lines_of("gimli_cases", "entries ", "abbreviations ", "line_rows ", "line_sequences ", "line_files ")),
     "tables": ([LINEMAP_CASES], lambda: lines_of("linemap_cases", "replay ", "units.json 4 32 8 little 0x1010", "units.json 5 32 8 little 0x1010")),
     "places": ([BENCH, "given.elf", "slice", "places", "addresses"], ""),
+    "places-bytes": ([BENCH, "given.elf", "bytes", "places", "addresses"], ""),
 }
 
 
@@ -147,8 +148,8 @@ class Sweep:
 def sweep(name, folder):
     """Whether all runs with a refused allocation end as they should."""
     words, given = RUNS[name]
-    if name == "places":
-        return refuse_all(words, run(words, given, folder), folder)
+    if name.startswith("places"):
+        return refuse_all(name, folder)
     found = Sweep()
     for it in [given] if isinstance(given, str) else given():
         found.run(words, it, folder)
@@ -159,11 +160,12 @@ def sweep(name, folder):
     return not found.faults
 
 
-def refuse_all(words, ample, folder):
+def refuse_all(name, folder):
     """Refuses all allocations from the first output on."""
-    ended = run(words, "", folder, "write")
+    words, given = RUNS[name]
+    ample, ended = run(words, given, folder), run(words, given, folder, "write")
     is_same = ended[:2] == ample[:2] and not ended[3]
-    print(f"places: {ample[1][0].count(10)} places; with each allocation refused from the first output on they are "
+    print(f"{name}: {ample[1][0].count(10)} places; with each allocation refused from the first output on they are "
           f"{'the same, and none was asked for' if is_same else 'others'}", flush=True)
     return is_same and len(ample[1][0]) > 1 << 17
 
@@ -179,7 +181,7 @@ def main():
             os.symlink(f"{DATA}/{name}", f"{folder}/run/{name}")
         for name in os.listdir(f"{TOP}/crates/linemap_cases/data"):
             os.symlink(f"{TOP}/crates/linemap_cases/data/{name}", f"{folder}/run/{name}")
-        if any(it.startswith("lookup") or it == "places" for it in names):
+        if any(it.startswith(("lookup", "places")) for it in names):
             subprocess.run([LINEMAP, "emit", f"{TOP}/examples/c.json", f"{folder}/run/given.elf"], check=True)
         with open(f"{folder}/run/addresses", "w", encoding="utf-8") as file:
             file.writelines(f"{0xff8 + it % 0x40:x}\n" for it in range(20_000))

@@ -5,6 +5,8 @@
 # after `= `.
 #
 #     tests/programs.sh [PROGRAM]      PROGRAM is ../linemap where none is given
+#
+# Where LARGE is set, a table that is too large is tried too (programs-large.txt): 0.5 GB of disk, 1.6 GB of memory.
 set -uo pipefail
 here="$(dirname "$(readlink -f "$0")")"
 program="$(readlink -f "${1:-$here/../linemap}")"
@@ -148,6 +150,17 @@ C
     case_of 'gcc -g -gsplit-dwarf -o split hello.c && bash main_of split split'
 }
 
+# A table of one unit with a name of 2^29 bytes, each of which weighs four.
+large_cases() {
+    { printf '{"units":[{"directory":"/w","name":"'
+      head -c 536870912 /dev/zero | tr '\0' n
+      printf '","ranges":[[4096,4097]],"files":[],"functions":[],"sequences":[]}]}'; } > large.json
+    case_of 'linemap emit large.json no.elf'
+    case_of 'linemap ask large.json 0x1000'
+    case_of 'test ! -e no.elf'
+    rm large.json
+}
+
 # Compares what a group of cases prints with a file.
 compare() {
     "$1" > "$work/printed"
@@ -160,4 +173,5 @@ compare cases programs.txt || failed=1
 if type gcc nm strip objcopy >/dev/null 2>&1; then
     compare compiled_cases programs-gcc.txt || failed=1
 fi
+[ -z "${LARGE:-}" ] || compare large_cases programs-large.txt || failed=1
 exit "$failed"

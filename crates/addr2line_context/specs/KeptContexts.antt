@@ -13,7 +13,8 @@ pub record ResolvedContext : Type 0 where
   pub units : List ResolvedUnit
 
 -- The units are those of a file, and the calls that are kept of their functions are the
--- definition's, with names that are looked for in these units and in those of the supplement.
+-- definition's, with names that are looked for in these units and in those of the supplement. Both
+-- are in the order of their offsets.
 pub record HoldsUnits (file : DwarfFile) (supplement_units : List UnitFacts)
     (us : List ResolvedUnit) : Type 0 where
   pub are_of_file : AreOfFile file (map value_of_unit us)

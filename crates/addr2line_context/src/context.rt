@@ -38,11 +38,20 @@ use std::rc::Rc;
 /// its ranges, its language, its lines and the first answer to the load of its split part, and the
 /// units of the file's supplement. Units of types and units that are refused are left out. The
 /// lines of a unit are read by the first lookup that asks for them, and kept.
-#[derive(Drop)]
 pub struct Context<R: Reader> {
     pub(crate) sections: Rc<Dwarf<R>>,
     pub(crate) units: Units<R>,
     pub(crate) supplement_units: Vec<Unit<R>>,
+}
+
+impl<R: Reader> Drop for Context<R> {
+    fn drop(self) {
+        let Context {
+            sections: _,
+            units: _,
+            supplement_units: _,
+        } = self;
+    }
 }
 
 impl<R: Reader> Model for Context<R> {

@@ -18,11 +18,20 @@ use std::marker::Model;
 
 /// An ELF file whose debugging information answers lookups: its sections, its symbols, and a
 /// context over its sections. Lookups go by the addresses that the file is linked to run at.
-#[derive(Drop)]
 pub struct Loader {
     pub(crate) elf: Elf,
     pub(crate) symbols: Symbols,
     pub(crate) context: Context<ImageReader>,
+}
+
+impl Drop for Loader {
+    fn drop(self) {
+        let Loader {
+            elf: _,
+            symbols: _,
+            context: _,
+        } = self;
+    }
 }
 
 impl Model for Loader {

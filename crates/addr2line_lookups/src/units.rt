@@ -41,11 +41,19 @@ use std::marker::Model;
 use std::rc::Rc;
 
 /// Units by their numbers, and the ranges of all of them.
-#[derive(Drop)]
 pub struct Units<R: Reader> {
     units: Vec<ResUnit<R>>,
     /// In the order in which lookups ask them.
     ranges: UnitRanges,
+}
+
+impl<R: Reader> Drop for Units<R> {
+    fn drop(self) {
+        let Units {
+            units: _,
+            ranges: _,
+        } = self;
+    }
 }
 
 impl<R: Reader> Model for Units<R> {

@@ -8,10 +8,18 @@ use std::marker::Model;
 use std::rc::Rc;
 
 /// A unit, and the sections of its file, which it shares with the other units.
-#[derive(Drop)]
 pub struct OwnedUnit<R: Reader> {
     sections: Rc<Dwarf<R>>,
     unit: Unit<R>,
+}
+
+impl<R: Reader> Drop for OwnedUnit<R> {
+    fn drop(self) {
+        let OwnedUnit {
+            sections: _,
+            unit: _,
+        } = self;
+    }
 }
 
 impl<R: Reader> Model for OwnedUnit<R> {

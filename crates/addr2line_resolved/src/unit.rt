@@ -30,7 +30,6 @@ use std::marker::Model;
 /// A unit of a context: the ranges that it covers, its language, the load of its split part and the
 /// first answer to it. Its lines, its functions and their calls are read when they are asked for,
 /// and kept, refusals too.
-#[derive(Drop)]
 pub struct ResUnit<R: Reader> {
     main: OwnedUnit<R>,
     ranges: Vec<Range>,
@@ -46,6 +45,23 @@ pub struct ResUnit<R: Reader> {
     probes: Probes,
     /// The numbers of the calls that were found last, the outermost first.
     chain: Vec<usize>,
+}
+
+impl<R: Reader> Drop for ResUnit<R> {
+    fn drop(self) {
+        let ResUnit {
+            main: _,
+            ranges: _,
+            language: _,
+            load: _,
+            first: _,
+            lines: _,
+            runs: _,
+            functions: _,
+            probes: _,
+            chain: _,
+        } = self;
+    }
 }
 
 impl<R: Reader> Model for ResUnit<R> {

@@ -26,7 +26,6 @@ const FIRST_WITH_DWO_NAME: u16 = 5;
 
 /// A unit: its header, the declarations of its entries, and what its root entry says (DWARF 5,
 /// 3.1.1). A name or directory that can't be read is none.
-#[derive(Drop)]
 pub struct Unit<R: Reader> {
     pub header: UnitHeader<R>,
     pub abbreviations: Rc<Abbreviations>,
@@ -42,6 +41,24 @@ pub struct Unit<R: Reader> {
     pub line_program: Option<LineProgramHeader<R>>,
     /// The identifier that a skeleton and its split unit share.
     pub dwo_id: Option<DwoId>,
+}
+
+impl<R: Reader> Drop for Unit<R> {
+    fn drop(self) {
+        let Unit {
+            header: _,
+            abbreviations: _,
+            name: _,
+            comp_dir: _,
+            low_pc: _,
+            str_offsets_base: _,
+            addr_base: _,
+            loclists_base: _,
+            rnglists_base: _,
+            line_program: _,
+            dwo_id: _,
+        } = self;
+    }
 }
 
 impl<R: Reader> Model for Unit<R> {

@@ -1,7 +1,8 @@
-use Rattle.std.proofs.Common.{◌≡◌, IfOk, List, is_some, true, refl, subst}
+use Rattle.std.proofs.Common.{◌≡◌, IfOk, List, is_some, true, refl, sym, subst}
 use Rattle.std.proofs.lemmas.Result.{on_ok_weaker}
 use Rattle.addr2line_resolved.specs.Calls.{ReturnsAsOrNoMemory}
 use Rattle.addr2line_resolved.specs.CountedFunctions.{CountedCalls}
+use Rattle.addr2line_resolved.specs.OrderedUnits.{AreKnownInOrder}
 use Rattle.addr2line_resolved.specs.KeptFunctions.{kept_at}
 use Rattle.addr2line_resolved.specs.ResolvedUnits.{ResolvedUnit}
 use Rattle.addr2line_lookups.specs.KeptCalls.{known_among, calls_among}
@@ -30,8 +31,15 @@ returns-then-is_some g c =
 
 pub read_calls-read-requires : goal.read_calls-read-requires
 read_calls-read-requires g c =
-    if_here c.args.units.now.items c.args.number c.index-unit.result.now c.requires.unit c.index-unit.ensures
-    (HasFunction c.args.function) c.requires.function
+    let s = c.args.supplement_units.now in
+    record {
+      function =
+          if_here c.args.units.now.items c.args.number c.index-unit.result.now c.requires.unit c.index-unit.ensures
+          (HasFunction c.args.function) c.requires.function;
+      order =
+          subst (λ (us : List ResolvedUnit). AreKnownInOrder (known_among us s)) (sym c.as_slice.ensures.value)
+          c.requires.calls.order;
+    }
 
 pub keep_calls-requires : goal.keep_calls-requires
 keep_calls-requires g c =

@@ -66,4 +66,6 @@ invariant_of-result g c =
     let supplement_units = c.in_ok-supplement_units.supplement_units.items in
     subst (λ (us : List ResolvedUnit). HoldsUnits file supplement_units us) (sym c.in_ok-kept.ensures.ok)
     (holds_new file supplement_units c.in_ok-units.units.items c.in_ok-units.ensures.units
+    (subst (λ (s : CachedFile). units_of_supplement (supplement s.file) ≡ Ok supplement_units) c.as_ref-dwarf.ensures
+    c.in_ok-supplement_units.ensures)
     c.in_ok-units.ensures.functions)
