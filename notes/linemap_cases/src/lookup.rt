@@ -1,0 +1,230 @@
+//! What `lookup` prints of the image of a table, over streams that fail.
+
+use crate::answer::Answer;
+use crate::streams::{CutReader, CutWriter, Fault};
+use bytes::Bytes;
+use linemap_image::{Format, Table, Target, emit, read_address};
+use linemap_lookup::{Ended, MapSource, Options, run};
+use std::alloc::{AllocError, Global};
+use std::io::{BufReader, ErrorKind};
+use std::str;
+
+// What is asked: the options with their words, the streams, and what is changed in the image.
+#[derive(Drop)]
+struct Request {
+    options: Options,
+    input: CutReader,
+    out: CutWriter,
+    err: CutWriter,
+    // A byte of the image, by its offset.
+    change: Option<(u64, u64)>,
+}
+
+/// Adds what a run prints of the table in a text, and how it ends.
+pub fn answer(text: &[u8], words: &str, out: &mut Answer) {
+    match request_in(out.alloc, words) {
+        Ok(request) => match image_of(out.alloc, text, request.change) {
+            Some(image) => answer_image(image, request, out),
+            None => out.text("no image"),
+        },
+        Err(_) => out.text("out of memory"),
+    }
+}
+
+// ---- words
+
+fn request_in(alloc: Global, words: &str) -> Result<Request, AllocError> {
+    let mut request = Request {
+        options: no_options(),
+        input: CutReader::new(alloc),
+        out: CutWriter::new(alloc),
+        err: CutWriter::new(alloc),
+        change: None,
+    };
+    for word in words.split_whitespace() {
+        request.add_word(alloc, word)?;
+    }
+    Ok(request)
+}
+
+fn no_options() -> Options {
+    Options {
+        section: None,
+        all: false,
+        functions: false,
+        pretty: false,
+        inlines: false,
+        addresses: false,
+        basenames: false,
+        demangle: false,
+        llvm: false,
+        statements: false,
+        words: None,
+    }
+}
+
+impl Request {
+    fn add_word(&mut self, alloc: Global, word: &str) -> Result<(), AllocError> {
+        let (name, value) = word.split_once('=').unwrap_or((word, ""));
+        match name {
+            "in" => self.add_input(value)?,
+            "fault" => self.input.fault = Fault::Kind(ErrorKind::Other),
+            "interrupted" => self.input.interruptions = value.parse().unwrap_or(0),
+            "section" => self.options.section = Some(value.to_string(alloc)?),
+            "out" => (self.out.room, self.out.fault) = cut_of(value),
+            "flush" => (self.out.flushes, self.out.fault) = cut_of(value),
+            "err" => (self.err.room, self.err.fault) = cut_of(value),
+            "byte" => self.change = change_of(value),
+            "--all" => self.options.all = true,
+            _ => self.add_option_or_address(alloc, word)?,
+        }
+        Ok(())
+    }
+
+    // Adds bytes to the input: a comma is a line end, and a percent sign a byte that is no text.
+    fn add_input(&mut self, value: &str) -> Result<(), AllocError> {
+        for byte in value.bytes() {
+            self.input.bytes.push(match byte {
+                b',' => b'\n',
+                b'%' => 0xff,
+                other => other,
+            })?;
+        }
+        Ok(())
+    }
+
+    fn add_option_or_address(&mut self, alloc: Global, word: &str) -> Result<(), AllocError> {
+        match word.strip_prefix("-") {
+            Some(letters) => {
+                for letter in letters.bytes() {
+                    set(&mut self.options, letter);
+                }
+                Ok(())
+            }
+            None => self.add_address(alloc, word),
+        }
+    }
+
+    fn add_address(&mut self, alloc: Global, word: &str) -> Result<(), AllocError> {
+        let copy = word.to_string(alloc)?;
+        match &mut self.options.words {
+            Some(words) => Ok(words.push(copy)?),
+            None => {
+                let mut words = Vec::new(alloc);
+                words.push(copy)?;
+                self.options.words = Some(words);
+                Ok(())
+            }
+        }
+    }
+}
+
+fn set(options: &mut Options, letter: u8) {
+    match letter {
+        b'a' => options.addresses = true,
+        b'f' => options.functions = true,
+        b'i' => options.inlines = true,
+        b'p' => options.pretty = true,
+        b's' => options.basenames = true,
+        _ => options.demangle = true,
+    }
+}
+
+// How many bytes or flushes there are before a fault, and which it is.
+fn cut_of(value: &str) -> (usize, Fault) {
+    let (count, fault) = value.split_once(':').unwrap_or((value, ""));
+    (count.parse().unwrap_or(0), fault_of(fault))
+}
+
+fn fault_of(name: &str) -> Fault {
+    match name {
+        "nothing" => Fault::Nothing,
+        "pipe" => Fault::Kind(ErrorKind::BrokenPipe),
+        "interrupted" => Fault::Kind(ErrorKind::Interrupted),
+        _ => Fault::Kind(ErrorKind::Other),
+    }
+}
+
+fn change_of(value: &str) -> Option<(u64, u64)> {
+    let (offset, byte) = value.split_once(':')?;
+    Some((read_address(offset)?, read_address(byte)?))
+}
+
+// ---- the run
+
+// The image of the table in a text, if there is one, with its change.
+fn image_of(alloc: Global, text: &[u8], change: Option<(u64, u64)>) -> Option<Vec<u8>> {
+    let target = Target::new(4, Format::Dwarf32, 8, false)?;
+    let table = Table::read(alloc, text).ok()?;
+    if !table.fits(&target) {
+        return None;
+    }
+    let mut image = emit(alloc, &table, target).ok()?;
+    if let Some((offset, byte)) = change {
+        let old = image.get_mut(usize::try_from(offset).ok()?)?;
+        *old = u8::try_from(byte).ok()?;
+    }
+    Some(image)
+}
+
+fn answer_image(image: Vec<u8>, request: Request, out: &mut Answer) {
+    let Ok(image) = Bytes::from_vec(image) else {
+        return out.text("out of memory");
+    };
+    let Request {
+        options,
+        input,
+        out: mut output,
+        mut err,
+        change: _,
+    } = request;
+    let Ok(mut lines) = BufReader::new(out.alloc, input) else {
+        return out.text("out of memory");
+    };
+    let source = MapSource::new(out.alloc);
+    let ended = run(
+        out.alloc,
+        &options,
+        image,
+        None,
+        source,
+        &mut lines,
+        &mut output,
+        &mut err,
+    );
+    add_end(ended, out);
+    add_text("; out ", &output.text, out);
+    add_text("; err ", &err.text, out);
+}
+
+fn add_end(ended: Ended, out: &mut Answer) {
+    out.text("status ");
+    out.value(&ended.status);
+    for (flag, name) in [
+        (ended.memory, " memory"),
+        (ended.read, " read"),
+        (ended.write, " write"),
+    ] {
+        if flag {
+            out.text(name);
+        }
+    }
+}
+
+// A name and a text in quotes, on one line.
+fn add_text(name: &str, text: &[u8], out: &mut Answer) {
+    out.text(name);
+    out.text("\"");
+    match str::from_utf8(text) {
+        Ok(text) => {
+            for letter in text.chars() {
+                match letter {
+                    '\n' => out.text("\\n"),
+                    other => out.value(&other),
+                }
+            }
+        }
+        Err(_) => out.text("no text"),
+    }
+    out.text("\"");
+}
