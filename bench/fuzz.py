@@ -4,7 +4,7 @@
 usage: bench/fuzz.py MINUTES [FOLDER]
 
 The seeds are what is emitted of tables, in each of the 28 targets, the files of addr2line_cases, and the images of FOLDER. They are mutated: bits are
-flipped, bytes cut out, put in and copied from other seeds, numbers set to extremes. Three things are done with them, in
+flipped, bytes cut out, put in and copied from other seeds, numbers set to extremes. Four things are done with them, in
 turn, until the time is up:
 
 - sections: thousands of files go through one process of `addr2line_cases`, each through both readers and all three
@@ -13,11 +13,13 @@ turn, until the time is up:
   the answers must be the model's.
 - lookup: `linemap lookup` reads the image of a file, and its answers must be the model's too. `addr2line_bench` reads the
   same image, once through each reader, and both must answer alike.
+- beside: `linemap lookup` reads an image that is whole, and a split file or a supplement of it that isn't. What a split
+  file says may change no place.
 
 A process may take 10 seconds of a processor for a file, and 30 times its size and 100 MB; it must end with status 0 or 1.
 What doesn't hold is written to the folder FINDS (./finds where it isn't set), and counted. The variable SEED begins elsewhere.
-CASES, LINEMAP and BENCH name other programs. Where CASES is empty there are only lookups; where LINEMAP is empty there are
-none, and the seeds come from SECTIONS, a folder of images; where BENCH is empty the readers aren't compared.
+CASES, LINEMAP and BENCH name other programs. Where CASES is empty there are only lookups and files beside; where LINEMAP is
+empty there are none, and the seeds come from SECTIONS, a folder of images; where BENCH is empty the readers aren't compared.
 """
 import itertools
 import json
@@ -109,6 +111,17 @@ def files_below(folder):
                 image = file.read()
             if image[:4] == b"\x7fELF":
                 yield image
+
+
+def pairs():
+    """Images that name another file: the image, that file's name and bytes, the words of `lookup` for it, and addresses."""
+    found = cases.files()
+    whole, other = (image_of(found[it], True, False) for it in ("with_supplement", "supplement"))
+    yield whole, "other", other, ["--sup", "other"], (0x3f, 0x40, 0x44, 0x5f)
+    split = [it for it in files_below(f"{cases.CRATE}/data") if b"split.dwo" in it][0]
+    for name in "split.dwo", "cut.dwo", "other.dwo":
+        with open(f"{cases.CRATE}/data/{name}", "rb") as file:
+            yield split, "split.dwo", file.read(), [], (0xfff, 0x1000, 0x1003, 0x1007)
 
 
 class Seed:
@@ -270,7 +283,8 @@ class Fuzzer:
         self.seeds, self.folder, self.random = [*{it.image: it for it in seeds}.values()], folder, random
         self.small = [it for it in self.seeds if it.is_small]
         self.little = [it for it in self.small if not it.big]
-        self.ran = dict.fromkeys(("sections", "images", "lookups"), 0)
+        self.pairs = [*pairs()]
+        self.ran = dict.fromkeys(("sections", "images", "lookups", "files beside"), 0)
         self.finds = 0
 
     def find(self, why, text, *files):
@@ -401,8 +415,30 @@ class Fuzzer:
         first, second = ((it.status, it.out) for it in runs)
         return faults[0] or faults[1] or (None if first == second else f"one reader answered\n{first}\nand the other\n{second}")
 
+    def beside(self):
+        """Damaged split files and supplements, each beside a whole image, through the program."""
+        for _ in range(20):
+            image, name, other, more, asked = self.random.choice(self.pairs)
+            other = mutate(self.random, other, [it.image for it in self.random.sample(self.seeds, 2)])
+            for file_name, content in ("image", image), (name, other):
+                with open(f"{self.folder}/{file_name}", "wb") as file:
+                    file.write(content)
+            words = [LINEMAP, "lookup", "-e", "image", *more, *(f"{it:x}" for it in asked)]
+            most = MEGABYTES + FACTOR * (len(image) + len(other)) / 1e6
+            frames = Process([*words, "-a", "-f", "-i"], b"", SECONDS, most, self.folder)
+            places = Process(words, b"", SECONDS, most, self.folder)
+            why = frames.fault((0, 1)) or places.fault((0, 1))
+            if not why and not more:
+                model = model_of(image)
+                wanted = "".join(f"{location_line(model.find_place(it))}\n" for it in asked)
+                why = None if places.out == wanted else f"answered\n{places.out}\nand not\n{wanted}"
+            if why:
+                self.find(why, " ".join(words).encode(), image, other)
+            os.remove(f"{self.folder}/{name}")
+            self.ran["files beside"] += 1
+
     def run(self):
-        steps = ([self.sections, self.images] if CASES else []) + ([self.lookups] if LINEMAP else [])
+        steps = ([self.sections, self.images] if CASES else []) + ([self.lookups, self.beside] if LINEMAP else [])
         for step in itertools.cycle(steps):
             step()
             if time.monotonic() > self.end:

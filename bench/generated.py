@@ -141,8 +141,7 @@ def check_readelf_rows(image, table):
     return same("readelf, rows", found, wanted)
 
 
-def check_readelf_entries(image, table):
-    """Names by their offsets, since a call refers to the entry that names it, and then depth, name, line and column of each."""
+def readelf_entries(image):
     entries = []
     for line in said("readelf", "--debug-dump=info", image).splitlines():
         head = re.match(r"\s*<(\d+)><([0-9a-f]+)>: Abbrev Number: \d+ \(DW_TAG_(\w+)\)", line)
@@ -151,6 +150,12 @@ def check_readelf_entries(image, table):
         value = re.match(r"\s*<[0-9a-f]+>\s+DW_AT_(\w+)\s*:\s*(?:\([^:]*: [^)]*\): )?(.*?)\s*$", line)
         if value:
             entries[-1][value[1]] = value[2]
+    return entries
+
+
+def check_readelf_entries(image, table):
+    """Names by their offsets, since a call refers to the entry that names it, and then depth, name, line and column of each."""
+    entries = readelf_entries(image)
     names = {e["at"]: e.get("name") for e in entries}
     found = []
     for e in entries:
@@ -161,6 +166,27 @@ def check_readelf_entries(image, table):
             found.append((e["depth"], e["name"], None, None))
     wanted = [(d, n, site[1] if d > 1 else None, site[2] if d > 1 else None) for d, n, _, site in entries_of(table)]
     return same("readelf, entries", found, wanted)
+
+
+def check_readelf_origins(image, table):
+    """The entries without code: right after each unit's, one for each name of its calls, by first use; and each call's is in its own unit."""
+    found, places = [], []
+    for e in readelf_entries(image):
+        if e["tag"] == "compile_unit":
+            names, places, is_first = [], [], True
+            found.append(names)
+        elif e["tag"] == "subprogram" and "ranges" not in e:
+            names.append((e["name"], is_first))
+            places.append(e["at"])
+        else:
+            is_first = False
+        if "abstract_origin" in e and int(e["abstract_origin"].strip("<>"), 16) not in places:
+            sys.exit(f"readelf: a call refers to an entry of another unit: {e}")
+    wanted = []
+    for unit in table["units"]:
+        names = [name for depth, name, _, _ in entries_of({"units": [unit]}) if depth > 1]
+        wanted.append([(name, True) for name in dict.fromkeys(names)])
+    return same("readelf, entries without code", found, wanted)
 
 
 def check_dwarfdump_rows(image, table):
@@ -261,6 +287,7 @@ def check_verify(image, _table):
 CHECKS = {
     "rows of readelf": check_readelf_rows,
     "entries of readelf": check_readelf_entries,
+    "units whose calls share entries for readelf": check_readelf_origins,
     "images without errors for llvm-dwarfdump": check_verify,
     "rows of llvm-dwarfdump": check_dwarfdump_rows,
     "entries of llvm-dwarfdump": check_dwarfdump_entries,

@@ -233,6 +233,16 @@ def functions(count):
     return {**sections, "abbrev": abbrev + b"\0", "info": unit(entries)}, asked
 
 
+def functions_in_sequences(count):
+    """Functions, each with a range of their unit and a sequence of its own, from where its row is."""
+    sections, asked = ranges_and_sequences(count)
+    abbrev = (declaration(1, COMPILE, (STMT_LIST, OFFSET), (RANGES, OFFSET), children=True)
+              + declaration(2, SUBPROGRAM, *PLACE, (NAME, STRING)))
+    entries = b"\1" + word(0) + word(0) + b"".join(b"\2" + place(LOW + 4 * it, 4) + b"f\0" for it in range(count)) + b"\0"
+    rows = b"".join(set_address(LOW + 4 * it) + bytes([13]) + b"\2\4" + END for it in range(count))
+    return {**sections, "abbrev": abbrev + b"\0", "info": unit(entries), "line": program(rows)}, asked
+
+
 def overlapping_functions(count):
     """Functions of one unit, each range in the one before it."""
     abbrev = declaration(1, COMPILE, *PLACE, children=True) + declaration(2, SUBPROGRAM, *PLACE)
@@ -312,6 +322,14 @@ def repeated_ranges(count):
     return {**sections, "abbrev": abbrev + b"\0", "info": unit(b"\1" + word(0) + word(0)), "ranges": ranges}, asked
 
 
+def long_sequence(count):
+    """A sequence of as many rows, before as many of one row, and as many ranges of their unit."""
+    sections, asked = ranges_and_sequences(count)
+    rows = ROW * count + b"\2" + leb(3 * count)
+    short = b"".join(set_address(LOW + 4 * it) + ROW + b"\2\3" + END for it in range(count))
+    return {**sections, "line": program(set_address(LOW) + rows + END + short)}, asked
+
+
 def skeletons(count):
     """Units over one address, each with a split file that isn't there."""
     abbrev = declaration(1, COMPILE, *PLACE, (DWO_NAME, STRING), (DWO_ID, DATA8))
@@ -349,9 +367,10 @@ def section_names(count):
 KINDS = {shared_program: 3600, shared_ranges: 15_000, abbreviation_tails: 17_000, nested_calls: 20_000, overlapping_calls: 20_000,
          sequences: 100_000, falling_sequences: 100_000, ranges_and_sequences: 8_000,
          equal_sequences: 100_000, rows: 1_000_000, rows_back: 100_000, aranges: 20_000, aranges_of_one: 20_000,
-         linked_units: 16_000, names_far_back: 20_000, reference_chains: 50_000, functions: 8_000, overlapping_functions: 50_000, partial_units: 10_000,
+         linked_units: 16_000, names_far_back: 20_000, reference_chains: 50_000, functions: 8_000, functions_in_sequences: 8_000,
+         overlapping_functions: 50_000, partial_units: 10_000,
          overlapping_units: 20_000, abbreviations: 1_000_000, falling_abbreviations: 1_000_000, mixed_abbreviations: 1_000_000,
-         shared_abbreviations: 20_000, long_directory: 10_000, long_name: 20_000, empty_attributes: 20_000, repeated_ranges: 10_000,
+         shared_abbreviations: 20_000, long_directory: 10_000, long_name: 20_000, empty_attributes: 20_000, repeated_ranges: 10_000, long_sequence: 20_000,
          skeletons: 10_000, indirect_forms: 20_000, symbols: 50_000, symbol_names: 20_000, section_names: 16_000}
 BY_NAME = {it.__name__.replace("_", "-"): it for it in KINDS}
 

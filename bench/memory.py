@@ -8,8 +8,9 @@ output, or, where `lookup` goes on, with a line for each address that is refused
 where memory was refused for it, on the context, iterator, loader or program that it left, and write `E1, then` before what
 it answers. So there a run that ends with status 0 has given all answers, after a refusal as without one.
 
-In `places` and `places-bytes`, through one reader and the other, each allocation is refused from the program's first output
-on: then all lines that are asked for are kept, and finding the places of further addresses takes no memory.
+In `places` and `places-bytes`, through one reader and the other, and in `warm`, `warm-frames` and `warm-words`, each allocation
+is refused from the program's first output on: then all lines that are asked for are kept, and finding the places of further
+addresses takes no memory; nor does `lookup` for reading addresses and writing their places and frames.
 
 CASES, GIMLI_CASES, LINEMAP_CASES, BENCH and LINEMAP name other programs than the built ones. It needs a C compiler, for refuse.c.
 """
@@ -45,8 +46,9 @@ def lines_of(name, *beginnings):
     """The questions of a program over cases that begin so, as one input."""
     with open(f"{TOP}/crates/{name}/stdin", encoding="utf-8") as file:
         chosen = [line for line in file if line.startswith(beginnings)]
-    if not chosen:
-        raise SystemExit(f"{name} has no such questions")
+    for it in beginnings:
+        if not any(line.startswith(it) for line in chosen):
+            raise SystemExit(f"{name} has no question {it!r}")
     return ["".join(chosen)]
 
 
@@ -71,6 +73,9 @@ def case_inputs():
         yield "\n\n".join([*named, case]) + "\n"
 
 
+# Addresses of one unit, the one with the longest answer first: what `lookup` needs for them it has before its first output.
+WARM = [f"{0x1000 + (it + 0x18) % 0x40:x}" for it in range(10_000)]
+
 # What is run: the program's words, and its input, or several one after the other.
 EMIT = [LINEMAP, "emit", f"{TOP}/examples/c.json", "c.elf"]
 RUNS = {
@@ -80,14 +85,17 @@ RUNS = {
     "lookup": ([LINEMAP, "lookup", "-e", "given.elf", "-a", "-f", "-i", "-C", "0x1018", "0x100f", "0xfff"], ""),
     "lookup-lines": ([LINEMAP, "lookup", "-e", "given.elf", "-a", "-p"], "0x1018\nzz\n0x100f\n"),
     "lookup-all": ([LINEMAP, "lookup", "-e", "given.elf", "--all"], ""),
-    "lookup-symbols": ([LINEMAP, "lookup", "-e", f"{DATA}/symbols.elf", "-f", "0x1004", "0x1008"], ""),
-    "lookup-split": ([LINEMAP, "lookup", "-e", f"{DATA}/split.elf", "-f", "-i", "0x1000", "0x1003"], ""),
+    "lookup-symbols": ([LINEMAP, "lookup", "-e", f"{DATA}/symbols.elf", "-a", "-f", "0x1004", "0x1008"], ""),
+    "lookup-split": ([LINEMAP, "lookup", "-e", f"{DATA}/split.elf", "-a", "-f", "-i", "0x1000", "0x1003"], ""),
     "cases": ([CASES], case_inputs),
     "programs": ([GIMLI_CASES], lambda: lines_of("gimli_cases", "line_program ")),
     "reading": ([GIMLI_CASES], lambda: lines_of("gimli_cases", "entries ", "abbreviations ", "line_rows ", "line_sequences ", "line_files ")),
     "tables": ([LINEMAP_CASES], lambda: lines_of("linemap_cases", "replay ", "units.json 4 32 8 little 0x1010", "units.json 5 32 8 little 0x1010")),
     "places": ([BENCH, "given.elf", "slice", "places", "addresses"], ""),
     "places-bytes": ([BENCH, "given.elf", "bytes", "places", "addresses"], ""),
+    "warm": ([LINEMAP, "lookup", "-e", "given.elf", "-a"], "\n".join(WARM)),
+    "warm-frames": ([LINEMAP, "lookup", "-e", "given.elf", "-a", "-p", "-f", "-i"], "\n".join(WARM)),
+    "warm-words": ([LINEMAP, "lookup", "-e", "given.elf", "--llvm", "-s", *WARM], ""),
 }
 
 
@@ -106,6 +114,17 @@ def run(words, given, folder, refused=0):
     return ended.returncode, (ended.stdout, image), ended.stderr.decode("utf-8", "replace"), os.path.exists(f"{folder}/refused")
 
 
+# An answer of `lookup -a` for which memory was refused.
+REFUSED = re.compile(rb"0x[0-9a-f]{16}(\n|: )(\?\?(\n| at ))?\?\?:0\n")
+
+
+def is_but_for_refused(ample, out, err):
+    """Whether an output of `lookup -a` is that with ample memory, but for as many answers as the error stream refuses."""
+    whole, found = (re.split(rb"^(?=0x)", it, flags=re.MULTILINE) for it in (ample, out))
+    others = [it for it, wanted in zip(found, whole) if it != wanted]
+    return len(found) == len(whole) and len(others) <= err.count("E1\n") and all(map(REFUSED.fullmatch, others))
+
+
 def fault(ample, ended):
     """What is wrong with a run, beside one with ample memory."""
     status, (out, image), err, _ = ended
@@ -117,6 +136,8 @@ def fault(ample, ended):
         return f"status {status} without a reason: {out[-200:]} {err[:200]}"
     if status == 1 and not ample[1][0].replace(AGAIN, b"").startswith(out.replace(AGAIN, b"")):
         return f"another output: {out[-200:]}"
+    if status == 0 and not is_but_for_refused(ample[1][0], out, err):
+        return f"another output, with status 0: {out[-200:]} {err[:200]}"
     if image is not None and image != ample[1][1]:
         return "another file"
     return None
@@ -148,7 +169,7 @@ class Sweep:
 def sweep(name, folder):
     """Whether all runs with a refused allocation end as they should."""
     words, given = RUNS[name]
-    if name.startswith("places"):
+    if name.startswith(("places", "warm")):
         return refuse_all(name, folder)
     found = Sweep()
     for it in [given] if isinstance(given, str) else given():
@@ -165,7 +186,7 @@ def refuse_all(name, folder):
     words, given = RUNS[name]
     ample, ended = run(words, given, folder), run(words, given, folder, "write")
     is_same = ended[:2] == ample[:2] and not ended[3]
-    print(f"{name}: {ample[1][0].count(10)} places; with each allocation refused from the first output on they are "
+    print(f"{name}: {ample[1][0].count(10)} lines; with each allocation refused from the first output on they are "
           f"{'the same, and none was asked for' if is_same else 'others'}", flush=True)
     return is_same and len(ample[1][0]) > 1 << 17
 
@@ -181,7 +202,7 @@ def main():
             os.symlink(f"{DATA}/{name}", f"{folder}/run/{name}")
         for name in os.listdir(f"{TOP}/crates/linemap_cases/data"):
             os.symlink(f"{TOP}/crates/linemap_cases/data/{name}", f"{folder}/run/{name}")
-        if any(it.startswith(("lookup", "places")) for it in names):
+        if any(it.startswith(("lookup", "places", "warm")) for it in names):
             subprocess.run([LINEMAP, "emit", f"{TOP}/examples/c.json", f"{folder}/run/given.elf"], check=True)
         with open(f"{folder}/run/addresses", "w", encoding="utf-8") as file:
             file.writelines(f"{0xff8 + it % 0x40:x}\n" for it in range(20_000))

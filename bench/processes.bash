@@ -47,9 +47,9 @@ plain() { # ANSWERS
 # program BASE took.
 print_measures() { # BASE
     awk -F '\t' -v base="$1" '
-        FNR == 1 && NR > 1 { printf "%-8s %-16s %10s %6s %9s %6s\n", "", "", "ms", "ratio", "MiB", "ratio" }
+        FNR == 1 && NR > 1 { printf "%-14s %-16s %10s %6s %9s %6s\n", "", "", "ms", "ratio", "MiB", "ratio" }
         FNR == NR { if ($2 == base && NF == 4) { time[$1] = $3; memory[$1] = $4 }; next }
-        { printf "%-8s %-16s", $1 == before ? "" : $1, $2; before = $1 }
+        { printf "%-14s %-16s", $1 == before ? "" : $1, $2; before = $1 }
         NF < 4 { printf " %10s\n", $3; next }
         !($1 in time) { printf " %10.1f %6s %9.1f\n", $3 / 1000, "", $4 / 1024; next }
         { printf " %10.1f %6.2f %9.1f %6.2f\n", $3 / 1000, $3 / time[$1], $4 / 1024, $4 / memory[$1] }

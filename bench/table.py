@@ -1,7 +1,7 @@
 #!/usr/bin/env python3
 """Makes tables for `linemap`, as JSON.
 
-usage: bench/table.py rows UNITS ROWS      each unit with so many rows in one sequence; ten rows a function, with one call in each
+usage: bench/table.py rows UNITS ROWS      each unit has ROWS rows in one sequence; ten rows a function, with one call in each
        bench/table.py nested DEPTH         one function, with calls nested to this depth
        bench/table.py units COUNT          units with two ranges and a sequence in each, and functions and calls with ranges in both;
                                            some calls share a name, some rows are no statements or have a discriminator

@@ -47,7 +47,7 @@ def functions():
 
 
 def names_in(text):
-    """What stands between backquotes, each name of a list in braces by itself."""
+    """What is between backquotes, each name of a list in braces by itself."""
     for quoted in re.findall(r"`([^`\n]+)`", text):
         listed = re.fullmatch(r"(.*)\{(.*)\}", quoted)
         yield from [listed[1] + it.strip() for it in listed[2].split(",")] if listed else [quoted]

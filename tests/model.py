@@ -70,7 +70,7 @@ class View:
         return text
 
     def leb_bytes(self, limit, bad):
-        """A LEB128 string of at most so many bytes (7.6)."""
+        """A LEB128 string of at most `limit` bytes (7.6)."""
         for count in range(1, limit + 1):
             if self.at + count > self.end:
                 raise self.cut(self.end)
@@ -759,7 +759,7 @@ class Model:
         return None if text is None else (False, text)
 
     def name_by_reference(self, unit, value, most):
-        """The name that references lead to, by so many of them at most."""
+        """The name that references lead to, by at most `most` of them."""
         for _ in range(most):
             kind, to = value
             if kind == "section_reference":
@@ -847,7 +847,7 @@ class Model:
         return answer(lambda: printed_stretches(*self.stretches_between(low, high)))
 
     def unit(self, address):
-        """The unit of an address: what is refused of others is passed over."""
+        """The unit of an address: refusals of others are skipped."""
         def found():
             for unit in self.covering(address):
                 try:

@@ -6,7 +6,7 @@
 #
 #     tests/programs.sh [PROGRAM]      PROGRAM is ../linemap where none is given
 #
-# Where LARGE is set, a table that is too large is tried too (programs-large.txt): 0.5 GB of disk, 1.6 GB of memory.
+# Where LARGE is set, a table that is too large is tried too (programs-large.txt): 0.5 GB of disk, 2.1 GB of memory.
 set -uo pipefail
 here="$(dirname "$(readlink -f "$0")")"
 program="$(readlink -f "${1:-$here/../linemap}")"

@@ -20,7 +20,9 @@ pub mod laws {
     pub use addr2line_index::index_laws as lookups;
     pub use addr2line_names::laws as names;
     pub use addr2line_paths::laws as paths;
-    pub use addr2line_spec::{call_laws as calls, lookup_laws as meaning};
+    pub use addr2line_spec::{
+        call_laws as calls, lookup_laws as meaning, suspension_laws as suspension,
+    };
 }
 
 #[cfg(test)]

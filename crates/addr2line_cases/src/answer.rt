@@ -5,7 +5,7 @@ use addr2line_split::LoadError;
 use std::alloc::{AllocError, Global};
 use std::fmt;
 
-/// What an answer begins with that is the second one, after memory was refused for the first.
+// What an answer begins with that is the second one, after memory was refused for the first.
 const AGAIN: &str = "E1, then ";
 
 /// The text of answers. Its calls never fail, so that the code that writes has one way through it;

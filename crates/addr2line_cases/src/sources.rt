@@ -41,7 +41,7 @@ fn copy_of(alloc: Global, text: &str) -> Result<Bytes, AllocError> {
     Bytes::copy_from_slice(alloc, text.as_bytes())
 }
 
-/// An answer to a load.
+// An answer to a load.
 #[derive(Drop)]
 enum Turn {
     Memory,

@@ -67,3 +67,8 @@ module _ (file : DwarfFile) (us : List ResolvedUnit) (s : List UnitFacts)
     same_plain_context =
         ap (λ units. context_of_units file units s) (plain_left us us' result n answer h)
         ∙ ap (λ (x : AnsweredContext). x.plain) is
+
+    -- one for a decided unit is never out of memory
+    pub decided_in_context : answer_at (map value_of_unit us) n answer ≡ (result, map value_of_unit us')
+        → meaning_in c ≡ (result, answers_of (map value_of_unit us'))
+    decided_in_context decided = by_units ∙ ap (λ r. (r.0, answers_of r.1)) decided

@@ -18,7 +18,10 @@ use Rattle.addr2line_context.specs.KeptContexts.{ResolvedContext}
 use Rattle.addr2line_context.specs.ContextCosts.{AfterLookup}
 use Rattle.addr2line_lookups.specs.LookupCosts.{AtMostLooks}
 use Rattle.addr2line_lookups.specs.AnsweredUnits.{answers_of}
+use Rattle.addr2line_lookups.specs.KeptCalls.{facts_of}
+use Rattle.addr2line_lookups.specs.OrderedUnits.{AreInOrder}
 use Rattle.addr2line_lookups.proofs.KeptLines.{same_plain}
+use Rattle.addr2line_lookups.proofs.UnitsInOrder.{units_in_order}
 
 -- ---- units
 
@@ -27,6 +30,13 @@ pub made_units : (file : DwarfFile) (us : List ResolvedUnit) → new_units file 
     → units_of_file file ≡ Ok (map plain_unit us)
 made_units file us h =
     sym (units_of_new file) ∙ ap units_alone h ∙ ap Ok (map-map unit_of value_of_unit us)
+
+-- they are in the order of their offsets
+pub context_in_order : (file : DwarfFile) (us : List ResolvedUnit) → new_units file ≡ Ok (map value_of_unit us)
+    → AreInOrder (map facts_of us)
+context_in_order file us made =
+    subst AreInOrder (map-map (λ (c : ContextUnit). c.facts) plain_unit us)
+    (units_in_order file (map plain_unit us) (made_units file us made))
 
 pub refused_units : (file : DwarfFile) (e : Error) → new_units file ≡ Err e → units_of_file file ≡ Err e
 refused_units file e h = sym (units_of_new file) ∙ ap units_alone h

@@ -1,5 +1,5 @@
 -- What settling over its units says of a context.
-use Rattle.std.proofs.Common.{◌≡◌, ℕ, List, map, Option, Result, sym, ap, ◌∙◌, subst}
+use Rattle.std.proofs.Common.{◌≡◌, ℕ, List, map, Option, Result, refl, sym, ap, ◌∙◌, subst}
 use Rattle.addr2line_lookups.specs.Error.{Error}
 use Rattle.addr2line_lookups.specs.DwarfFiles.{DwarfFile}
 use Rattle.addr2line_lookups.specs.UnitFacts.{UnitFacts, UnitInFile}
@@ -15,30 +15,56 @@ use Rattle.addr2line_lookups.specs.UnitLookups.{frames_among, SettlesFrames, uni
 use Rattle.addr2line_lookups.specs.declared.frame_place.FramePlace.{FramePlace}
 use Rattle.addr2line_lookups.specs.declared.settled.Settled.{Settled}
 use Rattle.addr2line_lookups.proofs.CallsLeft.{known_same}
+use Rattle.addr2line_context.specs.Progresses.{IsIndexFor, PassFramesIn, PassUnitsIn}
 use Rattle.addr2line_context.specs.KeptContexts.{ResolvedContext, HoldsUnits}
+use Rattle.addr2line_context.specs.declared.progress.Progress.{Progress}
 use Rattle.addr2line_context.specs.ContextCosts.{frame_looks, AfterLookup}
 use Rattle.addr2line_context.specs.SettledLookups.{frames_in, unit_in}
 use Rattle.addr2line_context.proofs.ContextParts.{resolved_with, value_is, after_lookup}
 use Rattle.addr2line_context.proofs.ContextLooks.{frame_looks_here}
+use Rattle.addr2line_context.proofs.KeptUnits.{pass_for, frames_first, units_first, holds_calls}
 use Rattle.addr2line_context.proofs.AskedUnits.{frames_in_context, unit_in_context}
 
 -- The units s of the supplement are handed in as a slice, which is `given`.
-module _ (file : DwarfFile) (us : List ResolvedUnit) (s : List UnitFacts) (holds : HoldsUnits file s us)
-    (given : List UnitFacts) (given_is : given ≡ s) where
+module _ (file : DwarfFile) (us : List ResolvedUnit) (s : List UnitFacts) {frames unit : Progress}
+    (holds : HoldsUnits file s us frames unit) (given : List UnitFacts) (given_is : given ≡ s) where
   -- what settling asks for
   pub kept_calls : HoldCalls (known_among us given) us
   kept_calls =
       subst (λ (units : List UnitFacts). HoldCalls (known_among us units) us) (sym given_is) holds.calls_are_kept
 
+  -- and where it goes on
+  pub frames_go_on : (a index : ℕ) → IsIndexFor frames a index → PassFramesIn given us a index
+  frames_go_on a index is =
+      subst (λ (units : List UnitFacts). PassFramesIn units us a index) (sym given_is)
+      (pass_for (PassFramesIn s us) frames a index (frames_first s us a 0 refl) holds.pass_frames is)
+
+  pub unit_goes_on : (a index : ℕ) → IsIndexFor unit a index → PassUnitsIn given us a index
+  unit_goes_on a index is =
+      subst (λ (units : List UnitFacts). PassUnitsIn units us a index) (sym given_is)
+      (pass_for (PassUnitsIn s us) unit a index (units_first s us a 0 refl) holds.pass_units is)
+
   module _ (new : List ResolvedUnit) (same : map value_of_unit new ≡ map value_of_unit us) where
     -- what holds after it
-    pub holds_settled : HoldCalls (known_among us given) new → HoldsUnits file s new
-    holds_settled calls = record {
-      are_of_file = subst (AreOfFile file) (sym same) holds.are_of_file;
-      calls_are_kept =
-          subst (λ known. HoldCalls known new) (sym (known_same us new same s))
-          (subst (λ (units : List UnitFacts). HoldCalls (known_among us units) new) given_is calls);
-    }
+    holds_with : HoldCalls (known_among us given) new → (f u : Progress) → PassFramesIn s us f.probe f.index
+        → PassUnitsIn s us u.probe u.index → HoldsUnits file s new f u
+    holds_with calls f u pass_frames pass_units =
+        holds_calls file s us new f u same (subst (AreOfFile file) (sym same) holds.are_of_file)
+        (subst (λ known. HoldCalls known new) (sym (known_same us new same s))
+        (subst (λ (units : List UnitFacts). HoldCalls (known_among us units) new) given_is calls))
+        pass_frames pass_units
+
+    pub frames_hold : HoldCalls (known_among us given) new → (a index : ℕ) → PassFramesIn given us a index
+        → HoldsUnits file s new (record { probe = a; index = index }) unit
+    frames_hold calls a index pass =
+        holds_with calls (record { probe = a; index = index }) unit
+        (subst (λ (units : List UnitFacts). PassFramesIn units us a index) given_is pass) holds.pass_units
+
+    pub unit_holds : HoldCalls (known_among us given) new → (a index : ℕ) → PassUnitsIn given us a index
+        → HoldsUnits file s new frames (record { probe = a; index = index })
+    unit_holds calls a index pass =
+        holds_with calls frames (record { probe = a; index = index }) holds.pass_frames
+        (subst (λ (units : List UnitFacts). PassUnitsIn units us a index) given_is pass)
 
     module _ (a : ℕ) (c : ResolvedContext) (is : resolved_with file us s ≡ c) where
       abbrev looks_given : List UnitFacts → ℕ

@@ -47,11 +47,13 @@ pub use Rattle.addr2line_lookups.specs.ResolvedUnits
 pub use Rattle.addr2line_lookups.specs.KeptUnits
 pub use Rattle.addr2line_lookups.specs.RangeItems
 pub mod AnsweredContexts
+pub mod Progresses
 pub mod KeptContexts
 pub mod ContextCosts
 pub mod ContextParses
 pub use Rattle.addr2line_lookups.specs.LoadAnswers
 pub use Rattle.addr2line_lookups.specs.Preloads
+pub use Rattle.addr2line_lookups.specs.PassedUnits
 pub mod Suspended
 pub use Rattle.addr2line_lookups.specs.AnsweredUnits
 pub mod Outcomes

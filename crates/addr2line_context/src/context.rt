@@ -1,6 +1,6 @@
 //! A context, and what lookups find in it.
 
-ghost use Rattle.std.specs.Prelude.{◌≡◌, ◌≢◌, ◌<◌, ◌≤◌, ◌+◌, Ok, Err, IfOk, IfErr, IfSome, OnOk, length, map, slice_get, option_map};
+ghost use Rattle.std.specs.Prelude.{◌≡◌, ◌≢◌, ◌<◌, ◌≤◌, ◌+◌, None, Ok, Err, IfOk, IfErr, IfSome, OnOk, length, map, slice_get, option_map};
 ghost use Rattle.addr2line_lookups.specs.Calls.{ReturnsAsOrNoMemory, ReturnsOrNoMemory};
 ghost use Rattle.addr2line_lookups.specs.Contexts.{location, stretches, file_context, all_lines_or_refusal};
 ghost use Rattle.addr2line_lookups.specs.Error.TheVariants.{Memory};
@@ -13,7 +13,7 @@ ghost use Rattle.addr2line_lookups.specs.UnitLookups.{SettlesFrames, SettlesUnit
 ghost use Rattle.addr2line_lookups.specs.LoadAnswers.{AnswersOrNoMemory};
 ghost use Rattle.addr2line_lookups.specs.Histories.{functions_or_refusal, calls_or_refusal};
 ghost use Rattle.addr2line_lookups.specs.ContextNames.{naming_in};
-ghost use Rattle.addr2line_lookups.specs.Preloads.{load_of_item};
+ghost use Rattle.addr2line_lookups.specs.Preloads.{load_at, load_of_item};
 ghost use Rattle.addr2line_context.specs.AnsweredContexts.{HasNoAnswers};
 ghost use Rattle.addr2line_context.specs.ContextCosts.{runs_of_unit, location_looks, frame_looks, KeepsLinesOver, AfterLookup};
 ghost use Rattle.addr2line_context.specs.ContextParses.{ParsesOrNoMemory};
@@ -24,6 +24,7 @@ use crate::find_frames::FindFrames;
 use crate::find_unit::FindUnit;
 use crate::lookup::LookupResult;
 use crate::outcomes::memory_alone;
+use crate::progress::Progress;
 use crate::runs::runs_at;
 use addr2line_lookups::{
     ArangeIndex, Dwarf, Error, FramePlace, Location, LocationRangeIter, Reader, Runs, Settled,
@@ -38,11 +39,26 @@ use std::rc::Rc;
 /// its ranges, its language, its lines and the first answer to the load of its split part, and the
 /// units of the file's supplement. Units of types and units that are refused are left out. The
 /// lines of a unit are read by the first lookup that asks for them, and kept.
-#[derive(Drop)]
 pub struct Context<R: Reader> {
     pub(crate) sections: Rc<Dwarf<R>>,
     pub(crate) units: Units<R>,
     pub(crate) supplement_units: Vec<Unit<R>>,
+    // How far the last lookup of frames came, so that it goes on there after an answer.
+    pub(crate) frames_progress: Progress,
+    // How far the last lookup of a unit came.
+    pub(crate) unit_progress: Progress,
+}
+
+impl<R: Reader> Drop for Context<R> {
+    fn drop(self) {
+        let Context {
+            sections: _,
+            units: _,
+            supplement_units: _,
+            frames_progress: _,
+            unit_progress: _,
+        } = self;
+    }
 }
 
 impl<R: Reader> Model for Context<R> {
@@ -68,7 +84,8 @@ impl<R: Reader> Model for Context<R> {
     } };
 
     ghost invariant = { λ c.
-        HoldsUnits c.sections.value.file c.supplement_units.items c.units };
+        HoldsUnits c.sections.value.file c.supplement_units.items c.units
+        c.frames_progress c.unit_progress };
 }
 
 impl<R: Reader> Context<R> {
@@ -108,6 +125,8 @@ impl<R: Reader> Context<R> {
             sections,
             units: kept,
             supplement_units,
+            frames_progress: Progress::none(),
+            unit_progress: Progress::none(),
         })
     }
 
@@ -192,6 +211,8 @@ impl<R: Reader> Context<R> {
         ensures plain { self.new.value.plain ≡ self.old.value.plain }
         ensures cost { AtMostLooks 0 self.old.units self.new.units }
     {
+        self.frames_progress = Progress::none();
+        self.unit_progress = Progress::none();
         self.units.check_functions()
     }
 
@@ -205,6 +226,8 @@ impl<R: Reader> Context<R> {
         ensures plain { self.new.value.plain ≡ self.old.value.plain }
         ensures cost { AtMostLooks 0 self.old.units self.new.units }
     {
+        self.frames_progress = Progress::none();
+        self.unit_progress = Progress::none();
         self.units.check_calls(self.supplement_units.as_slice())
     }
 
@@ -228,12 +251,16 @@ impl<R: Reader> Context<R> {
 
     /// Answers the load of a unit by the sections of the other file, which `Dwarf::make_dwo`
     /// completes, or by none where there is no such file. The first answer is kept, a refusal too;
-    /// a unit that is decided stays as it is, and the file isn't read. Refused by what the answer
-    /// makes of the unit, or what was kept; by `NoSuchUnit` for a token past the context's units.
+    /// a unit that is decided stays as it is, and the file isn't read, so that the call is never
+    /// out of memory. Refused by what the answer makes of the unit, or what was kept; by
+    /// `NoSuchUnit` for a token past the context's units.
     pub fn answer_load(&mut self, token: UnitToken, file: Option<Rc<Dwarf<R>>>) -> Result<(), Error>
         ensures answers { AnswersOrNoMemory result self.old.value.answers self.new.value.answers
             (answer_load self.old.value.plain self.old.value.answers token
             (option_map (λ f. f.value.file) file)) }
+        ensures decided { load_at (map value_of_unit self.old.units) token ≡ None
+            → answer_load self.old.value.plain self.old.value.answers token
+            (option_map (λ f. f.value.file) file) ≡ (result, self.new.value.answers) }
         ensures plain { self.new.value.plain ≡ self.old.value.plain }
         ensures cost { AtMostLooks 0 self.old.units self.new.units }
     {
@@ -308,7 +335,12 @@ impl<R: Reader> Context<R> {
         ensures after { AfterLookup (frame_looks self.old.value probe) self.old self.new }
     {
         let supplement_units = self.supplement_units.as_slice();
-        self.units.settle_frames(supplement_units, probe)
+        let mut index = self.frames_progress.index_for(probe);
+        let settled = self
+            .units
+            .settle_frames(supplement_units, probe, &mut index);
+        self.frames_progress = Progress { probe, index };
+        settled
     }
 
     // The number of the unit of an address, unless a load needs an answer before.
@@ -318,7 +350,10 @@ impl<R: Reader> Context<R> {
         ensures after { AfterLookup (frame_looks self.old.value probe) self.old self.new }
     {
         let supplement_units = self.supplement_units.as_slice();
-        self.units.settle_unit(supplement_units, probe)
+        let mut index = self.unit_progress.index_for(probe);
+        let settled = self.units.settle_unit(supplement_units, probe, &mut index);
+        self.unit_progress = Progress { probe, index };
+        settled
     }
 
     // Answers the first load of an address, if there is one. What the answer makes of its unit, a
@@ -338,7 +373,8 @@ impl<R: Reader> Context<R> {
         ensures refusal { IfErr result (λ e. e ≡ Memory) }
         ensures cost { AtMostLooks 0 self.old.units self.new.units }
     {
-        let Some(number) = self.units.first_waiting(probe) else {
+        let from = self.frames_progress.furthest_for(self.unit_progress, probe);
+        let Some(number) = self.units.first_waiting(probe, from) else {
             drop(file);
             return Ok(());
         };
@@ -351,7 +387,8 @@ impl<R: Reader> Context<R> {
         requires { 0 < length (loads_in self.now.value probe) }
         ensures { LoadOf (loads_in self.now.value probe) result }
     {
-        match self.units.first_load(probe)? {
+        let from = self.frames_progress.furthest_for(self.unit_progress, probe);
+        match self.units.first_load(probe, from)? {
             Some(load) => Ok(load),
             None => unreachable!(),
         }

@@ -9,6 +9,7 @@ pub mod frame_loads;
 pub mod kept_stretches;
 pub mod lookup;
 mod outcomes;
+mod progress;
 mod runs;
 mod sections;
 pub mod unit_loads;

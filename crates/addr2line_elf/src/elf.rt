@@ -25,7 +25,7 @@ use std::marker::Model;
 use std::ops::Range;
 
 /// An ELF file whose headers are read.
-#[derive(Debug, Drop)]
+#[derive(Debug)]
 pub struct Elf {
     file: EndianBytes<RunTimeEndian>,
     class: Class,
@@ -33,6 +33,18 @@ pub struct Elf {
     sections: Vec<SectionHeader>,
     // The bytes of the section with the sections' names.
     names: EndianBytes<RunTimeEndian>,
+}
+
+impl Drop for Elf {
+    fn drop(self) {
+        let Elf {
+            file: _,
+            class: _,
+            file_type: _,
+            sections: _,
+            names: _,
+        } = self;
+    }
 }
 
 impl Model for Elf {

@@ -62,12 +62,21 @@ impl<'a> Symbol<'a> {
 
 /// The symbols of an image that are defined in one of its sections, have a name, and are data,
 /// functions or without a type. Their names are in the file's bytes, which are shared.
-#[derive(Drop)]
 pub struct Symbols {
     stretches: Vec<SymbolStretch>,
     // In the order of the table. It takes no bytes.
     entries: Snapshot<Vec<SymbolEntry>>,
     texts: EndianBytes<RunTimeEndian>,
+}
+
+impl Drop for Symbols {
+    fn drop(self) {
+        let Symbols {
+            stretches: _,
+            entries: _,
+            texts: _,
+        } = self;
+    }
 }
 
 impl Model for Symbols {

@@ -1,3 +1,5 @@
+pub use Rattle.gimli_units_entries.proofs.TilingLemmas
+pub use Rattle.gimli_units_entries.proofs.UnitHeaderLemmas
 pub use Rattle.addr2line_units.proofs.UnitAnswers
 pub use Rattle.addr2line_units.proofs.UnitViews
 pub use Rattle.addr2line_units.proofs.EntryLevels

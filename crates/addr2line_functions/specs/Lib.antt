@@ -1,5 +1,6 @@
 pub use Rattle.addr2line_names.specs.EntryNamings
 pub use Rattle.addr2line_names.specs.EntryReferences
+pub use Rattle.addr2line_names.specs.OrderedUnits
 pub use Rattle.addr2line_names.specs.FunctionNames
 pub use Rattle.addr2line_units.specs.BorrowedLocations
 pub use Rattle.addr2line_units.specs.NumberedRanges
@@ -47,6 +48,8 @@ pub use Rattle.addr2line_units.specs.AttributeValues
 pub use Rattle.addr2line_units.specs.ArangeSets
 pub use Rattle.addr2line_units.specs.Tiling
 pub use Rattle.addr2line_units.specs.UnitHeaders
+pub use Rattle.addr2line_units.specs.Declarations
+pub use Rattle.addr2line_units.specs.TableParsing
 pub mod EntryRowViews
 pub mod RangesByNumber
 pub mod CountedFunctions

@@ -9,7 +9,6 @@ use gimli_units_entries::{Range, Reader, UnitOffset};
 use std::marker::Model;
 
 /// A call of a function whose body is in that of another (DWARF 5, 3.3.8).
-#[derive(Drop)]
 pub struct Call<R: Reader> {
     pub(crate) depth: usize,
     pub(crate) offset: UnitOffset<R::Offset>,
@@ -18,6 +17,20 @@ pub struct Call<R: Reader> {
     pub(crate) file: Option<u64>,
     pub(crate) line: u32,
     pub(crate) column: u32,
+}
+
+impl<R: Reader> Drop for Call<R> {
+    fn drop(self) {
+        let Call {
+            depth: _,
+            offset: _,
+            ranges: _,
+            name: _,
+            file: _,
+            line: _,
+            column: _,
+        } = self;
+    }
 }
 
 impl<R: Reader> Model for Call<R> {

@@ -21,11 +21,20 @@ use std::marker::Model;
 
 /// A function: its name, and the calls that are inlined into it, in order of appearance, whatever
 /// each is in. A bisection of the calls' ranges finds the call of a depth that holds an address.
-#[derive(Drop)]
 pub struct FunctionCalls<R: Reader> {
     name: Option<R>,
     calls: Vec<Call<R>>,
     ranges: RangeIndex<NumberedRange>,
+}
+
+impl<R: Reader> Drop for FunctionCalls<R> {
+    fn drop(self) {
+        let FunctionCalls {
+            name: _,
+            calls: _,
+            ranges: _,
+        } = self;
+    }
 }
 
 impl<R: Reader> Model for FunctionCalls<R> {

@@ -20,10 +20,18 @@ use std::marker::Model;
 
 /// The functions of a unit that have a range, in order of appearance. One bisection of their ranges
 /// finds the function of an address.
-#[derive(Drop)]
 pub struct Functions<O: ReaderOffset> {
     functions: Vec<Function<O>>,
     ranges: RangeIndex<NumberedRange>,
+}
+
+impl<O: ReaderOffset> Drop for Functions<O> {
+    fn drop(self) {
+        let Functions {
+            functions: _,
+            ranges: _,
+        } = self;
+    }
 }
 
 impl<O: ReaderOffset> Model for Functions<O> {

@@ -232,12 +232,12 @@ bounded_in_order es rs is up =
 -- ---- the bisection
 
 -- a partition point is the number of those before it
-pub count_from_point : (a : ℕ) (es : List BoundedRange) (n : ℕ) → n ≤ length es
-    → IsPartitionPoint (λ e. ends_by a e ≡ true) (λ e. ends_by a e ≡ false) es n → n ≡ prefix_len (ends_by a) es
-count_from_point a [] n le point = omega arith
-count_from_point a (e ∷ es) n le point =
-    sym (prefix_len_is (ends_by a) (e ∷ es) n e le (λ k below. point.0 k e (omega arith) below)
-    (λ below. point.1 n e (omega arith) below))
+pub count_from_point : {X : Type 0} (p : X → Bool) (xs : List X) (n : ℕ) → n ≤ length xs
+    → IsPartitionPoint (λ x. p x ≡ true) (λ x. p x ≡ false) xs n → n ≡ prefix_len p xs
+count_from_point p [] n le point = omega arith
+count_from_point p (x ∷ xs) n le point =
+    sym (prefix_len_is p (x ∷ xs) n x le (λ k below. point.0 k x (omega arith) below)
+    (λ below. point.1 n x (omega arith) below))
 
 -- ---- steps of a walk
 

@@ -62,7 +62,7 @@ all_at_level (x ∷ xs) = ap (λ l. x ∷ l) (all_at_level xs)
 abbrev pub IsNumbered : ℕ → List Sequence → NumberedSequence → Type 0
 IsNumbered counter ss s = (s.counter ≡ counter) × (slice_get ss s.number ≡ Some s.sequence)
 
-at_place : (before : List Sequence) (s : Sequence) (ss : List Sequence)
+pub at_place : (before : List Sequence) (s : Sequence) (ss : List Sequence)
     → slice_get (before ++ s ∷ ss) (length before) ≡ Some s
 at_place [] s ss = refl
 at_place (b ∷ before) s ss = at_place before s ss

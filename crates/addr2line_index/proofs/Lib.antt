@@ -15,3 +15,4 @@ pub mod RangeLevelLemmas
 pub mod RowIndexLemmas
 pub mod HolderViews
 pub mod BoundedRangeLemmas
+pub mod SequenceOrderLemmas

@@ -16,27 +16,6 @@ swap true true x y zs h = absurd (h refl refl)
 swap true false x y zs h = refl
 swap false second x y zs h = refl
 
-filter-cond : {X : Type 0} (p : X → Bool) (c : Bool) (x : X) (ys : List X)
-    → filter p (cond c (x ∷ ys) ys) ≡ cond c (cond (p x) (x ∷ filter p ys) (filter p ys)) (filter p ys)
-filter-cond p true x ys = refl
-filter-cond p false x ys = refl
-
-cond_swap : {X : Type 0} (c d : Bool) (some none : X)
-    → cond c (cond d some none) none ≡ cond d (cond c some none) none
-cond_swap true true some none = refl
-cond_swap true false some none = refl
-cond_swap false true some none = refl
-cond_swap false false some none = refl
-
--- of two tests each may come first
-filter_swap : {X : Type 0} (p q : X → Bool) (xs : List X) → filter p (filter q xs) ≡ filter q (filter p xs)
-filter_swap p q [] = refl
-filter_swap p q (x ∷ xs) =
-    filter-cond p (q x) x (filter q xs)
-    ∙ cond_swap (q x) (p x) (x ∷ filter p (filter q xs)) (filter p (filter q xs))
-    ∙ ap (λ l. cond (p x) (cond (q x) (x ∷ l) l) l) (filter_swap p q xs)
-    ∙ sym (filter-cond q (p x) x (filter p xs))
-
 -- a list in order has as many elements
 put-length : {X : Type 0} (comes_after : X → X → Bool) (x : X) (ys : List X)
     → length (put_in_order comes_after x ys) ≡ suc (length ys)
@@ -207,32 +186,6 @@ module _ {X : Type 0} (lt : X → X → Bool) (o : IsStrictWeakOrder lt) where
   Ascends-at (x ∷ xs) up zero (suc j) d le b = NotLess-at x xs up.0 j d (omega arith)
   Ascends-at (x ∷ xs) up (suc i) zero d le b = absurd (omega arith)
   Ascends-at (x ∷ xs) up (suc i) (suc j) d le b = Ascends-at xs up.1 i j d (omega arith) (omega arith)
-
-  NotLess-filter : (p : X → Bool) (x : X) (ys : List X) → NotLess x ys → NotLess x (filter p ys)
-  NotLess-filter p x [] h = tt
-  NotLess-filter p x (y ∷ ys) h =
-      elim (p y) as (λ b. NotLess x (cond b (y ∷ filter p ys) (filter p ys))) [
-        | true ↦ (h.0, NotLess-filter p x ys h.1)
-        | false ↦ NotLess-filter p x ys h.1
-      ]
-
-  Ascends-filter : (p : X → Bool) (xs : List X) → Ascends xs → Ascends (filter p xs)
-  Ascends-filter p [] up = tt
-  Ascends-filter p (x ∷ xs) up =
-      elim (p x) as (λ b. Ascends (cond b (x ∷ filter p xs) (filter p xs))) [
-        | true ↦ (NotLess-filter p x xs up.0, Ascends-filter p xs up.1)
-        | false ↦ Ascends-filter p xs up.1
-      ]
-
-  -- some of a list in order are those in order that pass
-  pub in_order-filter : (p : X → Bool) (xs : List X) → in_order after (filter p xs) ≡ filter p (in_order after xs)
-  in_order-filter p xs =
-      same_from_classes (in_order after (filter p xs)) (filter p (in_order after xs)) (Ascends-in_order (filter p xs))
-      (Ascends-filter p (in_order after xs) (Ascends-in_order xs))
-      (λ a. in_order-class a (filter p xs)
-      ∙ filter_swap (ties lt a) p xs
-      ∙ ap (filter p) (sym (in_order-class a xs))
-      ∙ sym (filter_swap (ties lt a) p (in_order after xs)))
 
   -- what a stable sort makes of a list is the list in order
   pub in_order-sorted : (xs sorted : List X) → IsSortedBy lt sorted → IsStableBy lt xs sorted

@@ -1,15 +1,12 @@
 -- Rows between two ends: parts of lists, one element on.
-use Rattle.std.proofs.Common.{◌≡◌, ℕ, suc, zero, ◌+◌, ◌-◌, Bool, true, false, cond, nat_lt, List, [], ◌∷◌, ◌++◌, length, length-drop, map, filter, flat_map, take, drop, refl, sym, ap, ◌∙◌, arith, append_assoc, append-nil}
+use Rattle.std.proofs.Common.{◌≡◌, ℕ, suc, zero, ◌-◌, Bool, true, false, cond, nat_lt, List, [], ◌∷◌, ◌++◌, length, length-drop, filter, flat_map, take, drop, refl, sym, ap, ◌∙◌, arith, append_assoc, append-nil}
 use Rattle.std.specs.Prelude.{◌==◌, ◌&&◌, ◌||◌, Result, Ok, Err, IfOk}
 use Rattle.std.specs.Cmp.{IsStrictWeakOrder}
-use Rattle.std.specs.List.{prefix_len, take_while}
+use Rattle.std.specs.List.{take_while}
 use Rattle.std.proofs.lemmas.Bool.Decides.{nat_tests}
 use Rattle.std.proofs.lemmas.List.{take_all}
 use Rattle.std.proofs.lemmas.List.Sums.{take_while-cons}
-use Rattle.addr2line_spec.specs.Orders.{in_order}
 use Rattle.addr2line_spec.specs.Lines.{LineRow, Sequence, rows_to, stretches_of, sequence_between, reaches, starts_after}
-use Rattle.addr2line_spec.proofs.PendingLoads.{filter_twice}
-use Rattle.addr2line_index.proofs.SortedOrder.{in_order-filter}
 
 -- ---- rows
 
@@ -55,13 +52,6 @@ starts_is_order view = record {
       starts_chain (view x).start (view x).end (view y).start (view y).end (view z).start (view z).end h k;
 }
 
--- what reaches between two ends, in order, is found among what does
-pub reaching_in_order : (keep : Sequence → Bool) (ss : List Sequence)
-    → filter keep (in_order starts_after (filter keep ss)) ≡ filter keep (in_order starts_after ss)
-reaching_in_order keep ss =
-    ap (filter keep) (in_order-filter (starts_before (λ s. s)) (starts_is_order (λ s. s)) keep ss)
-    ∙ filter_twice keep (in_order starts_after ss)
-
 -- what follows from the value, where there is one
 pub if_ok-follows : {T E : Type 0} {P Q : T → Type 0} (r : Result T E) → ((x : T) → P x → Q x) → IfOk r P → IfOk r Q
 if_ok-follows (Ok x) f h = f x h
@@ -79,15 +69,6 @@ parts_of_filter-cons keep parts x xs =
       | true ↦ refl
       | false ↦ refl
     ]
-
--- what was found, and one part more
-pub parts_of_filter-more : {X A : Type 0} (keep : X → Bool) (parts : X → List A) (found more : List A) (x : X)
-    (xs : List X) → more ≡ found ++ (cond (keep x) (parts x) [])
-    → more ++ parts_of_filter keep parts xs ≡ found ++ parts_of_filter keep parts (x ∷ xs)
-parts_of_filter-more keep parts found more x xs e =
-    ap (λ l. l ++ parts_of_filter keep parts xs) e
-    ∙ append_assoc found (cond (keep x) (parts x) []) (parts_of_filter keep parts xs)
-    ∙ ap (λ l. found ++ l) (sym (parts_of_filter-cons keep parts x xs))
 
 -- what was taken, and one more
 pub take_while-more : {X : Type 0} (p : X → Bool) (found more : List X) (x : X) (xs : List X) → p x ≡ true

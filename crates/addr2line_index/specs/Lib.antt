@@ -32,3 +32,4 @@ pub mod LineIndexes
 pub mod NextStretches
 pub mod StretchesLeft
 pub mod BoundedRanges
+pub mod SequenceOrders

@@ -8,6 +8,7 @@ ghost use Rattle.addr2line_index.specs.PartialLines.{partial_lines, put_row, is_
 
 use crate::lines::Lines;
 use crate::sequence::{LineRow, LineSequence, ProgramRow};
+use crate::sequence_order::OrderedSequence;
 use addr2line_spec::Error;
 use std::alloc::Global;
 use std::marker::Model;
@@ -15,18 +16,33 @@ use std::mem;
 
 /// What has been made of the first rows of a line number program. A contract says of which rows it
 /// is made.
-#[derive(Drop)]
 pub struct LinesBuilder {
     sequences: Vec<LineSequence>,
+    // The sequences by their numbers, with room for their order.
+    numbered: Vec<OrderedSequence>,
     rows: Vec<LineRow>,
 }
 
+impl Drop for LinesBuilder {
+    fn drop(self) {
+        let LinesBuilder {
+            sequences: _,
+            numbered: _,
+            rows: _,
+        } = self;
+    }
+}
+
 impl Model for LinesBuilder {
+    ghost use Rattle.std.specs.Prelude.{◌≡◌};
     ghost use Rattle.addr2line_index.specs.PartialLines.{PartialLines};
+    ghost use Rattle.addr2line_index.specs.SequenceOrders.{entries_from};
 
     ghost Value = { PartialLines };
 
     ghost view = { λ b. record { sequences = b.sequences.items; rows = b.rows.items } };
+
+    ghost invariant = { λ b. b.numbered.items ≡ entries_from 0 b.sequences.items };
 }
 
 // Whether the last row is at an address.
@@ -75,6 +91,7 @@ impl LinesBuilder {
     {
         LinesBuilder {
             sequences: Vec::new(alloc),
+            numbered: Vec::new(alloc),
             rows: Vec::new(alloc),
         }
     }
@@ -116,6 +133,12 @@ impl LinesBuilder {
             }
         };
         self.sequences.reserve(1)?;
+        self.numbered.push(OrderedSequence {
+            number: self.sequences.len(),
+            start,
+            end,
+            greatest_end: end,
+        })?;
         let none = Vec::new(*self.rows.allocator());
         let rows = mem::replace(&mut self.rows, none);
         self.sequences.push(LineSequence { start, end, rows })?;
@@ -131,7 +154,11 @@ impl LinesBuilder {
               files = map string_bytes files.items;
             } }
     {
-        let LinesBuilder { sequences, rows: _ } = self;
-        Lines::from_parts(sequences, files)
+        let LinesBuilder {
+            sequences,
+            numbered,
+            rows: _,
+        } = self;
+        Lines::from_parts(sequences, numbered, files)
     }
 }

@@ -16,6 +16,7 @@ mod row_index;
 mod row_place;
 pub mod sequence;
 mod sequence_index;
+mod sequence_order;
 pub mod stretches;
 pub mod stretches_between;
 pub mod unit_range;

@@ -17,10 +17,18 @@ use std::alloc::Global;
 use std::marker::Model;
 
 /// The lines of a unit, as lookups search them.
-#[derive(Drop)]
 pub struct LineIndex {
     lines: Lines,
     places: PlaceIndex,
+}
+
+impl Drop for LineIndex {
+    fn drop(self) {
+        let LineIndex {
+            lines: _,
+            places: _,
+        } = self;
+    }
 }
 
 impl Model for LineIndex {

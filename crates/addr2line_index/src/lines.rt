@@ -5,30 +5,47 @@ ghost use Rattle.std.specs.String.{string_bytes};
 ghost use Rattle.addr2line_spec.specs.Lines.{row_location, no_lines};
 ghost use Rattle.addr2line_index.specs.BorrowedLocations.{location_value};
 ghost use Rattle.addr2line_index.specs.LineIndexes.{row_at_place};
+ghost use Rattle.addr2line_index.specs.SequenceOrders.{entries_from, by_start};
 
 use crate::location::Location;
 use crate::row_place::RowPlace;
 use crate::sequence::{LineRow, LineSequence};
+use crate::sequence_order::{OrderedSequence, put_by_start};
 use std::alloc::Global;
 use std::marker::Model;
 
 /// What lookups know of a unit's lines: its sequences of rows, and the texts of its files by their
 /// numbers.
-#[derive(Debug, Drop)]
+#[derive(Debug)]
 pub struct Lines {
     sequences: Vec<LineSequence>,
+    // The sequences by their starts.
+    order: Vec<OrderedSequence>,
     files: Vec<String>,
 }
 
+impl Drop for Lines {
+    fn drop(self) {
+        let Lines {
+            sequences: _,
+            order: _,
+            files: _,
+        } = self;
+    }
+}
+
 impl Model for Lines {
-    ghost use Rattle.std.specs.Prelude.{map};
+    ghost use Rattle.std.specs.Prelude.{◌≡◌, map};
     ghost use Rattle.std.specs.String.{string_bytes};
     ghost use Rattle.addr2line_spec.specs.Lines.{Lines as LinesPart};
+    ghost use Rattle.addr2line_index.specs.SequenceOrders.{by_start};
 
     ghost Value = { LinesPart };
 
     ghost view = { λ l.
         record { sequences = l.sequences.items; files = map string_bytes l.files.items } };
+
+    ghost invariant = { λ l. l.order.items ≡ by_start l.sequences.items };
 }
 
 impl Lines {
@@ -38,15 +55,28 @@ impl Lines {
     {
         Lines {
             sequences: Vec::new(alloc),
+            order: Vec::new(alloc),
             files: Vec::new(alloc),
         }
     }
 
-    pub(crate) fn from_parts(sequences: Vec<LineSequence>, files: Vec<String>) -> Self
+    // Lines of sequences, which are numbered too, and of texts of files. It takes no memory.
+    pub(crate) fn from_parts(
+        sequences: Vec<LineSequence>,
+        numbered: Vec<OrderedSequence>,
+        files: Vec<String>,
+    ) -> Self
+        requires { numbered.items ≡ entries_from 0 sequences.items }
         ensures { result
             ≡ record { sequences = sequences.items; files = map string_bytes files.items } }
     {
-        Lines { sequences, files }
+        let mut order = numbered;
+        put_by_start(order.as_mut_slice());
+        Lines {
+            sequences,
+            order,
+            files,
+        }
     }
 
     /// The sequences, in the order of the line number program.
@@ -54,6 +84,13 @@ impl Lines {
         ensures { result.now ≡ self.now.sequences }
     {
         self.sequences.as_slice()
+    }
+
+    // The sequences by their starts.
+    pub(crate) fn order(&self) -> &[OrderedSequence]
+        ensures { result.now ≡ by_start self.now.sequences }
+    {
+        self.order.as_slice()
     }
 
     /// The text of a file by its number.
@@ -80,7 +117,7 @@ impl Lines {
 }
 
 // The sequence of a number, if there is one.
-fn sequence_at(sequences: &[LineSequence], number: usize) -> Option<&LineSequence>
+pub(crate) fn sequence_at(sequences: &[LineSequence], number: usize) -> Option<&LineSequence>
     ensures { option_map (λ s. s.now) result ≡ slice_get sequences.now number }
 {
     match sequences.get(number) {

@@ -59,10 +59,18 @@ fn compare<T: Ranged>(first: &T, second: &T) -> Ordering
 
 /// Items with ranges, sorted by their levels, begins and ends. Contracts see them in order of
 /// appearance.
-#[derive(Drop)]
 pub struct RangeIndex<T: Ranged> {
     sorted: Probed<T>,
     items: Snapshot<Vec<T>>,
+}
+
+impl<T: Ranged + Drop> Drop for RangeIndex<T> {
+    fn drop(self) {
+        let RangeIndex {
+            sorted: _,
+            items: _,
+        } = self;
+    }
 }
 
 impl<T: Ranged> Model for RangeIndex<T> {

@@ -27,10 +27,18 @@ impl SearchKey<u64> for Address {
 
 /// The greatest address up to each row of a sequence, by which rows are searched also where their
 /// addresses go back. Contracts see the rows.
-#[derive(Drop)]
 pub struct RowIndex {
     greatest: Probed<u64>,
     rows: Snapshot<Vec<LineRow>>,
+}
+
+impl Drop for RowIndex {
+    fn drop(self) {
+        let RowIndex {
+            greatest: _,
+            rows: _,
+        } = self;
+    }
 }
 
 impl Model for RowIndex {

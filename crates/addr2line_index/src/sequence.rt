@@ -88,11 +88,21 @@ impl Model for LineRow {
 }
 
 /// Rows of a line number program, up to the address that ended them. The first row is below that.
-#[derive(Debug, Drop)]
+#[derive(Debug)]
 pub struct LineSequence {
     pub(crate) start: u64,
     pub(crate) end: u64,
     pub(crate) rows: Vec<LineRow>,
+}
+
+impl Drop for LineSequence {
+    fn drop(self) {
+        let LineSequence {
+            start: _,
+            end: _,
+            rows: _,
+        } = self;
+    }
 }
 
 impl Model for LineSequence {

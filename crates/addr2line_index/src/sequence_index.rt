@@ -15,11 +15,20 @@ use std::alloc::Global;
 use std::marker::Model;
 
 /// A sequence by its number and its range, and its rows.
-#[derive(Drop)]
 pub struct SequenceIndex {
     number: usize,
     range: Range,
     rows: RowIndex,
+}
+
+impl Drop for SequenceIndex {
+    fn drop(self) {
+        let SequenceIndex {
+            number: _,
+            range: _,
+            rows: _,
+        } = self;
+    }
 }
 
 impl Model for SequenceIndex {

@@ -2,18 +2,17 @@
 
 ghost use Rattle.std.specs.Prelude.{◌≡◌, ◌-◌, ◌++◌, ◌∷◌, length, [], map, filter, flat_map, nat_lt, OnOk, IfOk, IfErr, if◌then◌else◌};
 ghost use Rattle.std.specs.List.{take_while};
-ghost use Rattle.std.specs.Ordering.{is_lt};
 ghost use Rattle.addr2line_spec.specs.Error.TheVariants.{Memory};
-ghost use Rattle.addr2line_spec.specs.Orders.{in_order};
-ghost use Rattle.addr2line_spec.specs.Lines.{next_address, stretches_of, sequence_between, starts_after, reaches, lines_between};
+ghost use Rattle.addr2line_spec.specs.Lines.{next_address, stretches_of, sequence_between, reaches, lines_between};
+ghost use Rattle.addr2line_index.specs.SequenceOrders.{sequence_at, sequences_at, EndBy, AreByStart};
 ghost use Rattle.addr2line_index.specs.Stretches.{stretch_of, stretch_to};
 
-use crate::lines::Lines;
+use crate::lines::{Lines, sequence_at};
 use crate::location::LineStretch;
 use crate::sequence::{LineRow, LineSequence, rows_to};
+use crate::sequence_order::{OrderedSequence, count_bounded_by};
 use addr2line_spec::Error;
 use std::alloc::Global;
-use std::cmp::Ordering;
 
 // Where a row ends, from the rows after it.
 fn next_address(rows: &[LineRow], end: u64) -> u64
@@ -91,71 +90,50 @@ fn push_sequence<'a>(
     }
 }
 
-// How the second of two sequences compares to the first: by their starts, and then by their ends.
-fn compare(first: &LineSequence, second: &LineSequence) -> Ordering
-    ensures { is_lt result ≡ starts_after second.now first.now }
-{
-    first
-        .start
-        .cmp(&second.start)
-        .then(first.end.cmp(&second.end))
-}
-
-// The sequences that reach between two ends.
-fn reaching<'a>(
-    alloc: Global,
-    sequences: &'a [LineSequence],
+// Appends the stretches of the sequence of an entry between two ends, if it has addresses there.
+fn push_entry<'a>(
+    found: &mut Vec<LineStretch<'a>>,
+    lines: &'a Lines,
+    entry: &OrderedSequence,
     low: u64,
     high: u64,
-) -> Result<Vec<&'a LineSequence>, Error>
-    ensures ok { IfOk result
-        (λ found. map (λ s. s.now) found.items ≡ filter (reaches low high) sequences.now) }
+) -> Result<(), Error>
+    requires { EndBy entry.now.end (sequence_at lines.now.sequences entry.now) }
+    ensures ok { OnOk result (map stretch_of found.new.items ≡ map stretch_of found.old.items
+        ++ flat_map (sequence_between lines.now.files low high)
+        (filter (reaches low high) (sequence_at lines.now.sequences entry.now))) }
     ensures refusal { IfErr result (λ e. e ≡ Memory) }
 {
-    let mut found = Vec::new(alloc);
-    let mut left = sequences;
-    while let [sequence, rest @ ..] = left {
-        if sequence.start < high && low < sequence.end {
-            found.push(sequence)?;
-        }
-        left = rest;
+    if entry.end <= low {
+        return Ok(());
     }
-    Ok(found)
+    match sequence_at(lines.sequences(), entry.number) {
+        Some(sequence) => push_sequence(found, lines, sequence, low, high),
+        None => Ok(()),
+    }
 }
 
-// Sequences by their starts, those of one start by their ends, and those of one end in their old
-// order.
-fn in_order<'a>(sequences: Vec<&'a LineSequence>) -> Result<Vec<&'a LineSequence>, Error>
-    ensures ok { IfOk result (λ sorted. map (λ s. s.now) sorted.items
-        ≡ in_order starts_after (map (λ s. s.now) sequences.entry.items)) }
-    ensures refusal { IfErr result (λ e. e ≡ Memory) }
-{
-    let mut sorted = sequences;
-    sorted.sort_by(
-        |first: &&LineSequence, second: &&LineSequence| -> Ordering
-            ensures { is_lt result ≡ starts_after second.now.now first.now.now }
-        { compare(first, second) },
-    )?;
-    Ok(sorted)
-}
-
-// The stretches of sequences between two ends.
+// The stretches of sequences by their starts between two ends.
 fn stretches<'a>(
     alloc: Global,
     lines: &'a Lines,
-    sequences: &[&LineSequence],
+    order: &[OrderedSequence],
     low: u64,
     high: u64,
 ) -> Result<Vec<LineStretch<'a>>, Error>
+    requires { AreByStart lines.now.sequences order.now }
     ensures ok { IfOk result (λ found. map stretch_of found.items
         ≡ flat_map (sequence_between lines.now.files low high)
-        (filter (reaches low high) (map (λ s. s.now) sequences.now))) }
+        (filter (reaches low high) (sequences_at lines.now.sequences order.now))) }
     ensures refusal { IfErr result (λ e. e ≡ Memory) }
 {
     let mut found = Vec::new(alloc);
-    let mut left = sequences;
-    while let [sequence, rest @ ..] = left {
-        push_sequence(&mut found, lines, sequence, low, high)?;
+    let mut left = order;
+    while let [entry, rest @ ..] = left {
+        if high <= entry.start {
+            return Ok(found);
+        }
+        push_entry(&mut found, lines, entry, low, high)?;
         left = rest;
     }
     Ok(found)
@@ -164,7 +142,8 @@ fn stretches<'a>(
 impl Lines {
     /// The rows between two ends, sequence by sequence, in the order of the sequences' addresses:
     /// of each that reaches between them the rows from that of the low end on, while they begin
-    /// below the high end. The only refusal is out of memory.
+    /// below the high end. The only refusal is out of memory. The sequences are found by a
+    /// bisection, and a walk from there over those that start below the high end.
     pub fn find_location_range(
         &self,
         alloc: Global,
@@ -175,8 +154,8 @@ impl Lines {
             (λ found. map stretch_of found.items ≡ lines_between self.now low high) }
         ensures refusal { IfErr result (λ e. e ≡ Memory) }
     {
-        let found = reaching(alloc, self.sequences(), low, high)?;
-        let sorted = in_order(found)?;
-        stretches(alloc, self, sorted.as_slice(), low, high)
+        let order = self.order();
+        let first = count_bounded_by(order, low);
+        stretches(alloc, self, &order[first..], low, high)
     }
 }

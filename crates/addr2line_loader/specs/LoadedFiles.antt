@@ -16,10 +16,13 @@ use Rattle.addr2line_split.specs.Range.{Range}
 use Rattle.addr2line_split.specs.SectionLoading.{with_supplement}
 use Rattle.addr2line_split.specs.TableCache.{tables_at}
 
--- an ELF file that is loaded, and the first answers to the loads of its split units so far
+-- An ELF file that is loaded: its symbols, its sections of debugging information with the
+-- abbreviation tables that are kept, the context over them, and the first answers to the loads of
+-- its split units so far.
 pub record LoadedFile : Type 0 where
   pub image : Image
   pub symbols : List NamedSymbol
+  pub sections : CachedFile
   pub context : FileContext
   pub answers : FirstAnswers
 
@@ -53,19 +56,33 @@ abbrev pub or_load_error : {A : Type 0} → Result A Error → Result A LoadErro
 or_load_error (Ok x) = Ok x
 or_load_error (Err e) = Err (load_error_of e)
 
+-- a file's sections, with the abbreviation tables that are kept, and the context over them
+pub record SharedContext : Type 0 where
+  pub sections : CachedFile
+  pub context : FileContext
+
+-- the context over sections, which keeps them
+abbrev pub context_over : CachedFile → Result SharedContext LoadError
+context_over sections = do
+  context ← or_load_error (file_context sections.file)
+  Ok (record { sections = sections; context = context })
+
+-- the context over a file's sections, with the tables that its units share
+abbrev pub shared_context : DwarfFile → Result SharedContext LoadError
+shared_context file = context_over (with_shared_tables file)
+
 -- the symbols of an image, and the context over its sections
 pub record FileParts : Type 0 where
   pub symbols : List NamedSymbol
-  pub context : FileContext
+  pub debug : SharedContext
 
 -- Those of an image whose sections are read. Refused by the symbols, by the supplement if there is
 -- one, or by the debugging information, in this order.
 abbrev pub parts_with : Image → DwarfFile → Option (List ℕ) → Result FileParts LoadError
 parts_with image main supplement = do
   symbols ← symbols_of image
-  context ← and_then (with_supplement_if_any supplement main)
-      (λ file. or_load_error (file_context file))
-  Ok (record { symbols = symbols; context = context })
+  debug ← and_then (with_supplement_if_any supplement main) shared_context
+  Ok (record { symbols = symbols; debug = debug })
 
 -- those of an image, or, before all else, the first refusal of a section
 abbrev pub parts_of : Image → Option (List ℕ) → Result FileParts LoadError
@@ -78,8 +95,9 @@ abbrev pub file_of_parts : Image → FileParts → LoadedFile
 file_of_parts image parts = record {
   image = image;
   symbols = parts.symbols;
-  context = parts.context;
-  answers = no_answers (length parts.context.context.units);
+  sections = parts.debug.sections;
+  context = parts.debug.context;
+  answers = no_answers (length parts.debug.context.context.units);
 }
 
 -- the file of some bytes, with a supplement if there is one; or why it is refused

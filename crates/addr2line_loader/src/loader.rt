@@ -9,20 +9,32 @@ ghost use Rattle.addr2line_split.specs.ElfSymbols.{symbol_at};
 ghost use Rattle.addr2line_split.specs.ImageLoading.{LoadsOrNoMemory};
 ghost use Rattle.addr2line_loader.specs.LoadedFiles.{loaded_file, range_of, symbol_name};
 
-use crate::parts::{Parts, parts_of};
-use addr2line_context::{Context, Error, Location, LocationRangeIter, Range};
+use crate::parts::{Parts, SharedContext, parts_of};
+use addr2line_context::{Context, Dwarf, Error, Location, LocationRangeIter, Range};
 use addr2line_split::{Elf, ImageReader, LoadError, Symbol, Symbols};
 use bytes::Bytes;
 use std::alloc::Global;
 use std::marker::Model;
+use std::rc::Rc;
 
 /// An ELF file whose debugging information answers lookups: its sections, its symbols, and a
 /// context over its sections. Lookups go by the addresses that the file is linked to run at.
-#[derive(Drop)]
 pub struct Loader {
     pub(crate) elf: Elf,
     pub(crate) symbols: Symbols,
+    pub(crate) sections: Rc<Dwarf<ImageReader>>,
     pub(crate) context: Context<ImageReader>,
+}
+
+impl Drop for Loader {
+    fn drop(self) {
+        let Loader {
+            elf: _,
+            symbols: _,
+            sections: _,
+            context: _,
+        } = self;
+    }
 }
 
 impl Model for Loader {
@@ -33,6 +45,7 @@ impl Model for Loader {
     ghost view = { λ l. record {
       image = l.elf;
       symbols = l.symbols;
+      sections = l.sections.value;
       context = l.context.value.plain;
       answers = l.context.value.answers;
     } };
@@ -44,7 +57,8 @@ impl Loader {
     ghost use Rattle.addr2line_loader.specs.contracts.loader.Loader.{the_row};
 
     /// Loads the file of some bytes, and its supplement, if there is one. It shares the bytes, and
-    /// takes memory for its sections, its symbols and its units.
+    /// takes memory for its sections, its symbols, its units and the abbreviation tables that
+    /// these share, each of which is read once.
     pub fn from_bytes(
         alloc: Global,
         image: Bytes,
@@ -53,12 +67,22 @@ impl Loader {
         ensures { LoadsOrNoMemory result (loaded_file image supplement) }
     {
         let elf = Elf::parse(alloc, image)?;
-        let Parts { symbols, context } = parts_of(alloc, &elf, supplement)?;
+        let Parts { symbols, debug } = parts_of(alloc, &elf, supplement)?;
+        let SharedContext { sections, context } = debug;
         Ok(Loader {
             elf,
             symbols,
+            sections,
             context,
         })
+    }
+
+    /// The file's sections of debugging information, which the context shares. Their cache has the
+    /// abbreviation tables that two units or more name, each once.
+    pub fn sections(&self) -> &Rc<Dwarf<ImageReader>>
+        ensures { result.now.value ≡ self.now.sections }
+    {
+        &self.sections
     }
 
     /// The address that addresses count from: 0, as in all ELF files.

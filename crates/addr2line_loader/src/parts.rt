@@ -3,23 +3,30 @@
 
 ghost use Rattle.std.specs.Prelude.{◌≡◌, OnOk, IfErr, IfOk, Ok, Err};
 ghost use Rattle.addr2line_context.specs.AnsweredContexts.{HasNoAnswers};
-ghost use Rattle.addr2line_context.specs.Contexts.{file_context};
 ghost use Rattle.addr2line_context.specs.Error.TheVariants.{Memory};
 ghost use Rattle.addr2line_context.specs.Results.{and_then};
 ghost use Rattle.addr2line_split.specs.ImageLoading.{LoadsAsOrNoMemory};
-ghost use Rattle.addr2line_loader.specs.LoadedFiles.{with_supplement_if_any, with_shared_tables, or_load_error, parts_with, parts_of};
+ghost use Rattle.addr2line_loader.specs.LoadedFiles.{with_supplement_if_any, with_shared_tables, parts_with, parts_of, context_over, shared_context};
 
 use crate::sections::{add_supplement, main_sections};
 use addr2line_context::{AbbreviationsCacheStrategy, Context, Dwarf, Error, Reader};
 use addr2line_split::{Elf, ImageReader, LoadError, Symbols};
 use bytes::Bytes;
 use std::alloc::Global;
+use std::rc::Rc;
+
+/// A file's sections, and the context that shares them.
+#[derive(Drop)]
+pub(crate) struct SharedContext<R: Reader> {
+    pub sections: Rc<Dwarf<R>>,
+    pub context: Context<R>,
+}
 
 /// The symbols of an ELF file, and the context over its sections.
 #[derive(Drop)]
 pub(crate) struct Parts {
     pub symbols: Symbols,
-    pub context: Context<ImageReader>,
+    pub debug: SharedContext<ImageReader>,
 }
 
 /// The parts of an ELF file, with a supplement if there is one.
@@ -28,10 +35,14 @@ pub(crate) fn parts_of(
     elf: &Elf,
     supplement: Option<Bytes>,
 ) -> Result<Parts, LoadError>
-    ensures parts { LoadsAsOrNoMemory
-        (λ p. record { symbols = p.symbols; context = p.context.value.plain }) result
-        (parts_of elf.now supplement) }
-    ensures answers { IfOk result (λ p. HasNoAnswers p.context.value) }
+    ensures parts { LoadsAsOrNoMemory (λ p. record {
+      symbols = p.symbols;
+      debug = record {
+        sections = p.debug.sections.value;
+        context = p.debug.context.value.plain;
+      };
+    }) result (parts_of elf.now supplement) }
+    ensures answers { IfOk result (λ p. HasNoAnswers p.debug.context.value) }
 {
     match main_sections(alloc, elf) {
         Ok(main) => parts_with(alloc, elf, main, supplement),
@@ -46,14 +57,18 @@ fn parts_with(
     main: Dwarf<ImageReader>,
     supplement: Option<Bytes>,
 ) -> Result<Parts, LoadError>
-    ensures parts { LoadsAsOrNoMemory
-        (λ p. record { symbols = p.symbols; context = p.context.value.plain }) result
-        (parts_with elf.now main.file supplement) }
-    ensures answers { IfOk result (λ p. HasNoAnswers p.context.value) }
+    ensures parts { LoadsAsOrNoMemory (λ p. record {
+      symbols = p.symbols;
+      debug = record {
+        sections = p.debug.sections.value;
+        context = p.debug.context.value.plain;
+      };
+    }) result (parts_with elf.now main.file supplement) }
+    ensures answers { IfOk result (λ p. HasNoAnswers p.debug.context.value) }
 {
     match elf.symbols(alloc) {
         Ok(symbols) => match context_with(alloc, main, supplement) {
-            Ok(context) => Ok(Parts { symbols, context }),
+            Ok(debug) => Ok(Parts { symbols, debug }),
             Err(error) => refusal(symbols, error),
         },
         Err(error) => refusal((main, supplement), error),
@@ -65,28 +80,32 @@ fn context_with(
     alloc: Global,
     main: Dwarf<ImageReader>,
     supplement: Option<Bytes>,
-) -> Result<Context<ImageReader>, LoadError>
-    ensures context { LoadsAsOrNoMemory (λ c. c.value.plain) result
-        (and_then (with_supplement_if_any supplement main.file)
-        (λ file. or_load_error (file_context file))) }
-    ensures answers { IfOk result (λ c. HasNoAnswers c.value) }
+) -> Result<SharedContext<ImageReader>, LoadError>
+    ensures context { LoadsAsOrNoMemory
+        (λ c. record { sections = c.sections.value; context = c.context.value.plain }) result
+        (and_then (with_supplement_if_any supplement main.file) shared_context) }
+    ensures answers { IfOk result (λ c. HasNoAnswers c.context.value) }
 {
     let mut dwarf = main;
     match add_supplement(alloc, &mut dwarf, supplement) {
-        Ok(()) => context_over(alloc, dwarf),
+        Ok(()) => shared_context(alloc, dwarf),
         Err(error) => refusal(dwarf, error),
     }
 }
 
-// The context over a file's sections.
-fn context_over<R: Reader>(alloc: Global, sections: Dwarf<R>) -> Result<Context<R>, LoadError>
-    ensures context { LoadsAsOrNoMemory (λ c. c.value.plain) result
-        (or_load_error (file_context sections.file)) }
-    ensures answers { IfOk result (λ c. HasNoAnswers c.value) }
+// The context over a file's sections, which are kept with the tables that their units share.
+fn shared_context<R: Reader>(
+    alloc: Global,
+    sections: Dwarf<R>,
+) -> Result<SharedContext<R>, LoadError>
+    ensures context { LoadsAsOrNoMemory
+        (λ c. record { sections = c.sections.value; context = c.context.value.plain }) result
+        (shared_context sections.file) }
+    ensures answers { IfOk result (λ c. HasNoAnswers c.context.value) }
 {
     let mut dwarf = sections;
     match share_tables(alloc, &mut dwarf) {
-        Ok(()) => Ok(Context::from_dwarf(alloc, dwarf)?),
+        Ok(()) => context_over(alloc, Rc::new(alloc, dwarf)?),
         Err(error) => refusal(dwarf, LoadError::from(error)),
     }
 }
@@ -97,6 +116,20 @@ fn share_tables<R: Reader>(alloc: Global, dwarf: &mut Dwarf<R>) -> Result<(), Er
     ensures memory { IfErr result (λ e. e ≡ Memory) }
 {
     dwarf.populate_abbreviations_cache(alloc, AbbreviationsCacheStrategy::Duplicates)
+}
+
+// The context over sections, which shares them.
+fn context_over<R: Reader>(
+    alloc: Global,
+    sections: Rc<Dwarf<R>>,
+) -> Result<SharedContext<R>, LoadError>
+    ensures context { LoadsAsOrNoMemory
+        (λ c. record { sections = c.sections.value; context = c.context.value.plain }) result
+        (context_over sections.value) }
+    ensures answers { IfOk result (λ c. HasNoAnswers c.context.value) }
+{
+    let context = Context::from_arc_dwarf(alloc, sections.clone()?)?;
+    Ok(SharedContext { sections, context })
 }
 
 // A refusal. What isn't used any more is dropped.

@@ -7,15 +7,17 @@ use Rattle.std.proofs.lemmas.Option.{slice_get-map, slice_get-get_or, slice_get_
 use Rattle.std.proofs.Math.Seq.{map-set_same}
 use Rattle.addr2line_resolved.specs.Error.{Error}
 use Rattle.addr2line_resolved.specs.Error.TheVariants.{NoSuchUnit}
+use Rattle.addr2line_resolved.specs.Calls.{Returns}
 use Rattle.addr2line_resolved.specs.Results.{and_then}
 use Rattle.addr2line_resolved.specs.DwarfFiles.{DwarfFile}
 use Rattle.addr2line_resolved.specs.UnitFacts.{UnitFacts, in_file}
 use Rattle.addr2line_resolved.specs.FirstAnswers.{SplitLoad, FirstAnswer, FirstAnswers, recorded_answer, Lookup, decision, first_or, with_answer, load_of, answer_of}
 use Rattle.addr2line_resolved.specs.Lookups.{answer_unit_if_any, answer_load}
 use Rattle.addr2line_resolved.specs.Contexts.{FileContext}
-use Rattle.addr2line_resolved.specs.ResolvedUnits.{AnsweredUnit, ResolvedUnit, value_of_unit, plain_unit, main_unit, undecided, decided, first_with}
+use Rattle.addr2line_resolved.specs.ResolvedUnits.{AnsweredUnit, ResolvedUnit, value_of_unit, plain_unit, main_unit, pending_load, undecided, decided, first_with, with_unit_answer}
 use Rattle.addr2line_resolved.proofs.NewUnits.{unit_of}
 use Rattle.addr2line_lookups.specs.AnsweredUnits.{first_of, answers_of, IsOfFile, AreOfFile}
+use Rattle.addr2line_lookups.specs.Preloads.{load_at}
 use Rattle.addr2line_lookups.specs.LoadAnswers.{AnswersOrNoMemory, check_unit, unit_after, answer_unit, answer_among, answer_at}
 use Rattle.addr2line_lookups.proofs.PendingUnits.{recorded_here, same_file}
 use Rattle.addr2line_lookups.proofs.ContextOfUnits.{context_of_units}
@@ -39,9 +41,23 @@ answers_after n (Err e) first later answers h = sym h
 answers_after n (Ok (Some l)) None later answers h = refl
 answers_after n (Ok (Some l)) (Some x) later answers h = sym h
 
-set_same : {A : Type 0} (xs : List A) (n : ℕ) (x : A) → slice_get xs n ≡ Some x → set xs n x ≡ xs
+pub set_same : {A : Type 0} (xs : List A) (n : ℕ) (x : A) → slice_get xs n ≡ Some x → set xs n x ≡ xs
 set_same xs n x is =
     ap (set xs n) (sym (get_or_from_slice_get xs n x x is)) ∙ set-get_or xs n x
+
+-- a decided unit stays as it is
+pub decided_stays : (v : AnsweredUnit) (later : FirstAnswer) → pending_load v ≡ None → with_unit_answer later v ≡ v
+decided_stays v later decided = ap (λ o. record v { first = first_with o later v.first }) decided
+
+returned : (r meaning : Result (Unit {0}) Error) → Returns r meaning → meaning ≡ r
+returned (Ok x) meaning h = h
+returned (Err e) meaning h = h
+
+pub decided_answers : (v : AnsweredUnit) (answer : Option DwarfFile) (r : Result (Unit {0}) Error)
+    → Returns r (check_unit v) → pending_load v ≡ None → answer_unit v answer ≡ (r, v)
+decided_answers v answer r checked decided =
+    ap (λ (w : AnsweredUnit). (check_unit w, w)) (decided_stays v (answer_of v.unit.facts answer) decided)
+    ∙ ap (λ x. (x, v)) (returned r (check_unit v) checked)
 
 -- ---- units
 
@@ -147,12 +163,19 @@ module _ (us us' : List ResolvedUnit) (result : Result (Unit {0}) Error) (n : �
 
 module _ (us : List ResolvedUnit) (n : ℕ) (answer : Option DwarfFile) where
   -- none of that number
+  past_is : length us ≤ n → answer_at (map value_of_unit us) n answer ≡ (Err NoSuchUnit, map value_of_unit us)
+  past_is past =
+      ap (λ o. answer_among (map value_of_unit us) n o answer)
+      (slice_get_past (map value_of_unit us) n (subst (λ k. k ≤ n) (sym (length-map us value_of_unit)) past))
+
   pub answer_past : length us ≤ n
       → AnswersOrNoMemory (Err NoSuchUnit) (map value_of_unit us) (map value_of_unit us)
       (answer_at (map value_of_unit us) n answer)
-  answer_past past =
-      inl (ap (λ o. answer_among (map value_of_unit us) n o answer)
-      (slice_get_past (map value_of_unit us) n (subst (λ k. k ≤ n) (sym (length-map us value_of_unit)) past)))
+  answer_past past = inl (past_is past)
+
+  pub decided_past : length us ≤ n → load_at (map value_of_unit us) n ≡ None
+      → answer_at (map value_of_unit us) n answer ≡ (Err NoSuchUnit, map value_of_unit us)
+  decided_past past none = past_is past
 
   module _ (u new : ResolvedUnit) (result : Result (Unit {0}) Error) (below : n < length us)
       (is : u ≡ get_or us n u) where
@@ -161,12 +184,16 @@ module _ (us : List ResolvedUnit) (n : ℕ) (answer : Option DwarfFile) where
         slice_get-map value_of_unit us n
         ∙ ap (option_map value_of_unit) (slice_get-get_or us n u below ∙ ap Some (sym is))
 
+    pub answer_is : answer_unit u.value answer ≡ (result, new.value)
+        → answer_at (map value_of_unit us) n answer ≡ (result, map value_of_unit (set us n new))
+    answer_is h =
+        ap (λ o. answer_among (map value_of_unit us) n o answer) value_here
+        ∙ ap (λ r. (r.0, set (map value_of_unit us) n r.1)) h
+        ∙ ap (λ l. (result, l)) (sym (map-set value_of_unit us n new))
+
     pub answer_there : AnswersOrNoMemory result u.value new.value (answer_unit u.value answer)
         → AnswersOrNoMemory result (map value_of_unit us) (map value_of_unit (set us n new))
         (answer_at (map value_of_unit us) n answer)
-    answer_there (inl h) =
-        inl (ap (λ o. answer_among (map value_of_unit us) n o answer) value_here
-        ∙ ap (λ r. (r.0, set (map value_of_unit us) n r.1)) h
-        ∙ ap (λ l. (result, l)) (sym (map-set value_of_unit us n new)))
+    answer_there (inl h) = inl (answer_is h)
     answer_there (inr none) =
         inr (none.0, map-set_same value_of_unit us n new u (none.1 ∙ ap value_of_unit is))

@@ -1,6 +1,6 @@
 -- The calls that are kept of units are those of their functions, whatever else of the units is read.
 use Rattle.std.proofs.Common.{◌≡◌, ◌≢◌, ℕ, ◌<◌, Bool, true, false, cond, List, [], ◌∷◌, length, set, get_or, map, slice_get, Option, Some, None, is_some, IfSome, option_map, Result, Ok, Err, OnOk, OnErr, IfOk, refl, sym, ap, ◌∙◌, subst}
-use Rattle.std.specs.Prelude.{option_and_then}
+use Rattle.std.specs.Prelude.{All, option_and_then}
 use Rattle.std.proofs.lemmas.List.Elements.{All-nil, All-cons, All-head, All-tail, All-set, All-get_or}
 use Rattle.std.proofs.Math.Seq.{map-set_same}
 use Rattle.std.proofs.lemmas.Option.{slice_get-get_or, slice_get-map}
@@ -205,7 +205,7 @@ module _ (us : List ResolvedUnit) (n : ℕ) (u : ResolvedUnit) (below : n < leng
   pub holds_here : (known : KnownUnits) → HoldCalls known us → HoldsCalls known u
   holds_here known holds =
       let P : ResolvedUnit → Type 0 = HoldsCalls known in
-      subst P (sym is) (All-get_or (HoldsCalls known) us n u below holds)
+      subst P (sym is) (All-get_or (HoldsCalls known) us n u below holds.calls)
 
   -- another in its place
   module _ (new : ResolvedUnit) where
@@ -216,7 +216,8 @@ module _ (us : List ResolvedUnit) (n : ℕ) (u : ResolvedUnit) (below : n < leng
     if_set P h = subst (λ o. IfSome o P) (sym set_here) h
 
     pub holds_set : (known : KnownUnits) → HoldsCalls known new → HoldCalls known us → HoldCalls known (set us n new)
-    holds_set known new_holds holds = All-set (HoldsCalls known) us n new new_holds holds
+    holds_set known new_holds holds =
+        record { calls = All-set (HoldsCalls known) us n new new_holds holds.calls; order = holds.order }
 
     pub kept_set : (k : ℕ) → is_some (kept_at new.calls k) ≡ true → KeepsCallsAt (set us n new) n k
     kept_set k h = if_set (λ w. is_some (kept_at w.calls k) ≡ true) h
@@ -228,8 +229,7 @@ module _ (us : List ResolvedUnit) (n : ℕ) (u : ResolvedUnit) (below : n < leng
     functions_there (Err e) h = tt
 
     pub leaves_calls : LeavesCallsOf u new → LeavesCalls us (set us n new)
-    leaves_calls leaves known holds =
-        All-set (HoldsCalls known) us n new (leaves known (holds_here known holds)) holds
+    leaves_calls leaves known holds = holds_set known (leaves known (holds_here known holds)) holds
 
     pub chain_set : chain_of (set us n new) n ≡ new.chain
     chain_set = ap chain_of_any set_here
@@ -253,18 +253,23 @@ has_function us n k below = by (slice_get us n) below
 
 -- ---- units with the same values and calls
 
-pub hold_same : (known : KnownUnits) (us vs : List ResolvedUnit) → map value_of_unit vs ≡ map value_of_unit us
-    → map kept_calls_of vs ≡ map kept_calls_of us → HoldCalls known us → HoldCalls known vs
-hold_same known [] [] values calls holds = All-nil (HoldsCalls known)
-hold_same known [] (v ∷ vs) values calls holds = absurd cc
-hold_same known (u ∷ us) [] values calls holds = absurd cc
-hold_same known (u ∷ us) (v ∷ vs) values calls holds =
+all_same : (known : KnownUnits) (us vs : List ResolvedUnit) → map value_of_unit vs ≡ map value_of_unit us
+    → map kept_calls_of vs ≡ map kept_calls_of us → All (HoldsCalls known) us → All (HoldsCalls known) vs
+all_same known [] [] values calls holds = All-nil (HoldsCalls known)
+all_same known [] (v ∷ vs) values calls holds = absurd cc
+all_same known (u ∷ us) [] values calls holds = absurd cc
+all_same known (u ∷ us) (v ∷ vs) values calls holds =
     let value : v.value ≡ u.value = cc in
     let values : map value_of_unit vs ≡ map value_of_unit us = cc in
     let call : v.calls ≡ u.calls = cc in
     let calls : map kept_calls_of vs ≡ map kept_calls_of us = cc in
     All-cons (HoldsCalls known) v vs (holds_same known u v value call (All-head (HoldsCalls known) u us holds))
-    (hold_same known us vs values calls (All-tail (HoldsCalls known) u us holds))
+    (all_same known us vs values calls (All-tail (HoldsCalls known) u us holds))
+
+pub hold_same : (known : KnownUnits) (us vs : List ResolvedUnit) → map value_of_unit vs ≡ map value_of_unit us
+    → map kept_calls_of vs ≡ map kept_calls_of us → HoldCalls known us → HoldCalls known vs
+hold_same known us vs values calls holds =
+    record { calls = all_same known us vs values calls holds.calls; order = holds.order }
 
 -- ---- calls that were read
 
@@ -322,3 +327,9 @@ same_there f (Some x) = refl
 pub kept_there : {A B : Type 0} (f : A → B) (o : Option A) (x : Option B) (b : Bool) → option_map f o ≡ x
     → b ≡ is_some o → b ≡ true → is_some x ≡ true
 kept_there f o x b is there holds = ap is_some (sym is) ∙ same_there f o ∙ sym there ∙ holds
+
+-- something that isn't
+pub not_kept : {A B : Type 0} (f : A → B) (o : Option A) (x : Option B) (b : Bool) → option_map f o ≡ x
+    → b ≡ is_some o → b ≡ false → is_some x ≡ true → ⊥
+not_kept f o x b is there none kept =
+    let never : true ≡ false = sym kept ∙ ap is_some (sym is) ∙ same_there f o ∙ sym there ∙ none in cc

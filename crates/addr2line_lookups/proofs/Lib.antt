@@ -3,6 +3,7 @@ pub use Rattle.addr2line_resolved.proofs.FunctionParses
 pub use Rattle.addr2line_resolved.proofs.NewUnits
 pub use Rattle.addr2line_resolved.proofs.UnitOrder
 pub use Rattle.addr2line_resolved.proofs.UnitReading
+pub use Rattle.addr2line_resolved.proofs.UnitsInOrder
 pub use Rattle.addr2line_resolved.proofs.UnitAnswers
 pub use Rattle.addr2line_resolved.proofs.UnitViews
 pub use Rattle.addr2line_resolved.proofs.PendingLoads
@@ -27,3 +28,5 @@ pub mod FoundFrames
 pub mod LookupProbes
 pub mod SettledUnits
 pub mod FirstLoads
+pub mod PassedUnits
+pub mod AskedLines

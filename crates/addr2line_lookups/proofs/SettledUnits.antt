@@ -40,7 +40,7 @@ module _ {A : Type 0} (is_something : A → Bool) (ask : AnsweredUnit → A) (no
   first_answers x h some =
       ap asked is ∙ ap before_rest h ∙ ap (λ b. cond b (output x) (asked rest)) some
 
-  first_passes : (x : A) → here r ≡ output x → is_something x ≡ false → asked old ≡ asked rest
+  pub first_passes : (x : A) → here r ≡ output x → is_something x ≡ false → asked old ≡ asked rest
   first_passes x h none =
       ap asked is ∙ ap before_rest h ∙ ap (λ b. cond b (output x) (asked rest)) none
 
@@ -206,9 +206,6 @@ module _ (known : KnownUnits) (vs : List AnsweredUnit) (a : ℕ) (whole : Lookup
     pub frames_refused : (e : Error) → frames_asked known vs a r.unit ≡ output (Err e) → whole ≡ output (Err e)
     frames_refused e h = before ∙ first_answers is_answer frames_of_v (Ok []) vs r old rest is (Err e) h refl
 
-    pub frames_further : frames_asked known vs a r.unit ≡ output (Ok []) → whole ≡ frames_among known vs a rest
-    frames_further h = before ∙ first_passes is_answer frames_of_v (Ok []) vs r old rest is (Ok []) h refl
-
 pub no_frames_left : (known : KnownUnits) (vs : List AnsweredUnit) (a : ℕ) (whole : Lookup (Result (List Frame) Error))
     (old : List UnitRange) → old ≡ [] → whole ≡ frames_among known vs a old → whole ≡ output (Ok [])
 no_frames_left known vs a whole old is before = before ∙ ap (frames_among known vs a) is
@@ -231,9 +228,6 @@ module _ (known : KnownUnits) (vs : List AnsweredUnit) (a : ℕ) (whole : Lookup
           before ∙ first_answers is_there unit_of_v None vs r old rest is (unit_at_number vs n) h.is_found h.is_one;
       is_one = h.is_one;
     }
-
-    pub unit_further : unit_asked known vs a r.unit ≡ output None → whole ≡ unit_among known vs a rest
-    unit_further h = before ∙ first_passes is_there unit_of_v None vs r old rest is None h refl
 
 pub no_unit_left : (known : KnownUnits) (vs : List AnsweredUnit) (a : ℕ) (whole : Lookup (Option UnitInFile))
     (old : List UnitRange) → old ≡ [] → whole ≡ unit_among known vs a old → whole ≡ output None
@@ -292,11 +286,9 @@ module _ (us vs : List ResolvedUnit) (same : map value_of_unit vs ≡ map value_
           (subst (λ (m : Lookup (Result (List Frame) Error)). FoundFrames new m p) frames_here
           (frames_place new frames_of_step settled h p f))
 
-      pub frames_step_further : settled ≡ Nothing
-          → whole ≡ frames_among (known_among us s) (map value_of_unit us) a rest
-      frames_step_further n =
-          frames_further (known_among us s) (map value_of_unit us) a whole r old rest is before
-          (sym frames_here ∙ frames_nothing new frames_of_step settled h n)
+      pub frames_step_nothing : settled ≡ Nothing
+          → frames_asked (known_among us s) (map value_of_unit us) a r.unit ≡ output (Ok [])
+      frames_step_nothing n = sym frames_here ∙ frames_nothing new frames_of_step settled h n
 
   module _ (whole : Lookup (Option UnitInFile))
       (before : whole ≡ unit_among (known_among us s) (map value_of_unit us) a old) where
@@ -319,11 +311,9 @@ module _ (us vs : List ResolvedUnit) (same : map value_of_unit vs ≡ map value_
           (subst (λ (xs : List AnsweredUnit). FoundUnit xs unit_of_step n) same
           (unit_number (map value_of_unit vs) unit_of_step settled h n f)))
 
-      pub unit_step_further : settled ≡ Nothing
-          → whole ≡ unit_among (known_among us s) (map value_of_unit us) a rest
-      unit_step_further n =
-          unit_further (known_among us s) (map value_of_unit us) a whole r old rest is before
-          (sym unit_here ∙ unit_nothing (map value_of_unit vs) unit_of_step settled h n)
+      pub unit_step_nothing : settled ≡ Nothing
+          → unit_asked (known_among us s) (map value_of_unit us) a r.unit ≡ output None
+      unit_step_nothing n = sym unit_here ∙ unit_nothing (map value_of_unit vs) unit_of_step settled h n
 
 -- ---- the unit of a number
 

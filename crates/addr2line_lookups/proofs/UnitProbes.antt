@@ -101,6 +101,10 @@ LooksLeft all rest us vs = (ws : List ResolvedUnit) → AtMostLooks rest vs ws �
 pub looks_begin : (all n : ℕ) (us : List ResolvedUnit) → n ≡ all → LooksLeft all n us us
 looks_begin all n us same ws h = looks_weaker n all us ws (omega (arith, same)) h
 
+-- after ranges that need no looks any more
+pub looks_begin_after : (all n : ℕ) (us : List ResolvedUnit) → n ≤ all → LooksLeft all n us us
+looks_begin_after all n us fewer ws h = looks_weaker n all us ws fewer h
+
 -- where none is left
 pub looks_end : (all n : ℕ) (us vs : List ResolvedUnit) → LooksLeft all n us vs → AtMostLooks all us vs
 looks_end all n us vs before = before vs (looks_none n vs)

@@ -6,6 +6,7 @@ use Rattle.addr2line_resolved.specs.UnitFacts.{UnitFacts}
 use Rattle.addr2line_resolved.specs.Functions.{functions_of_unit}
 use Rattle.addr2line_resolved.specs.InlinedCalls.{FunctionCalls, Naming}
 use Rattle.addr2line_resolved.specs.EntryReferences.{KnownUnits, HoldingUnit}
+use Rattle.addr2line_resolved.specs.OrderedUnits.{AreKnownInOrder}
 use Rattle.addr2line_resolved.specs.FunctionNames.{name_with, name_by_reference, most_references}
 use Rattle.addr2line_resolved.specs.KeptFunctions.{kept_at}
 use Rattle.addr2line_resolved.specs.ResolvedUnits.{ResolvedUnit, AnsweredUnit, main_unit, first_answer, unit_of_functions, calls_of, IsKeptOf}
@@ -42,8 +43,11 @@ calls_among known v n = do
 abbrev pub HoldsCalls : KnownUnits → ResolvedUnit → Type 0
 HoldsCalls known u = (n : ℕ) → IsKeptOf (calls_among known u.value n) (kept_at u.calls n)
 
-abbrev pub HoldCalls : KnownUnits → List ResolvedUnit → Type 0
-HoldCalls known us = All (HoldsCalls known) us
+-- The calls that are kept of each unit are those, and the units that references may lead to are in
+-- the order of their offsets.
+pub record HoldCalls (known : KnownUnits) (us : List ResolvedUnit) : Type 0 where
+  pub calls : All (HoldsCalls known) us
+  pub order : AreKnownInOrder known
 
 -- whichever units references may lead to, that holds still if it did
 abbrev pub LeavesCallsOf : ResolvedUnit → ResolvedUnit → Type 0

@@ -59,6 +59,13 @@ FindsRow units a (Ok (Some r)) =
     location_at ranges_of lines_of units a ≡ Ok (location_of_unit_row units r)
 FindsRow units a (Err e) = e ≢ Memory → location_at ranges_of lines_of units a ≡ Err e
 
+-- The lines of the units of ranges are kept, up to the first that have a row of an address or are
+-- refused.
+abbrev pub KeepsAsked : ℕ → List ResolvedUnit → List UnitRange → Type 0
+KeepsAsked a us [] = Unit {0}
+KeepsAsked a us (r ∷ rs) =
+    KeepsAt us r.unit × (row_at_number (map plain_unit us) a r.unit ≡ Ok None → KeepsAsked a us rs)
+
 -- the lines of the unit whose row was found are kept
 abbrev pub KeepsFound : List ResolvedUnit → Result (Option UnitRow) Error → Type 0
 KeepsFound us (Ok (Some r)) = KeepsAt us r.unit

@@ -1,6 +1,7 @@
 pub use Rattle.addr2line_resolved.specs.BorrowedFrames
 pub use Rattle.addr2line_resolved.specs.EntryNamings
 pub use Rattle.addr2line_resolved.specs.EntryReferences
+pub use Rattle.addr2line_resolved.specs.OrderedUnits
 pub use Rattle.addr2line_resolved.specs.FunctionNames
 pub use Rattle.addr2line_resolved.specs.CallNumbers
 pub use Rattle.addr2line_resolved.specs.ContextNames
@@ -72,3 +73,4 @@ pub mod FunctionPlaces
 pub mod FramePlaces
 pub mod LookupCosts
 pub mod UnitLookups
+pub mod PassedUnits

@@ -4,6 +4,7 @@
 ghost use Rattle.std.specs.Prelude.{◌≡◌, ◌<◌, None, length, map, IfOk, IfSome, OnOk, IfErr};
 ghost use Rattle.addr2line_resolved.specs.Calls.{ReturnsOrNoMemory, ReturnsAsOrNoMemory};
 ghost use Rattle.addr2line_resolved.specs.Error.TheVariants.{Memory};
+ghost use Rattle.addr2line_resolved.specs.OrderedUnits.{AreKnownInOrder};
 ghost use Rattle.addr2line_resolved.specs.KeptFunctions.{number_in, number_probes};
 ghost use Rattle.addr2line_resolved.specs.ResolvedUnits.{functions_of, pending_load, value_of_unit};
 ghost use Rattle.addr2line_lookups.specs.Preloads.{load_at};
@@ -67,13 +68,14 @@ fn read_calls<R: Reader>(
     unit: &ResUnit<R>,
     function: usize,
 ) -> Result<FunctionCalls<R>, Error>
-    requires { HasFunction function unit.now }
+    requires function { HasFunction function unit.now }
+    requires order { AreKnownInOrder (known_among units.now supplement_units.now) }
     ensures calls { ReturnsAsOrNoMemory (λ c. c.function) result
         (calls_among (known_among units.now supplement_units.now) unit.now.value function) }
     ensures counter { IfOk result (λ c. c.counter ≡ unit.now.probes.name) }
 {
     let names = UnitNames {
-        known: KnownUnits::new(units, supplement_units),
+        known: KnownUnits::in_order(units, supplement_units),
         holder: unit.functions_unit()?,
     };
     unit.read_calls(alloc, &names, function)
@@ -97,6 +99,8 @@ pub(crate) fn keep_calls<R: Reader>(
         units.new.items }
     ensures count { count_at units.new.items number ≡ count_at units.old.items number }
     ensures kept { OnOk result (KeepsCallsAt units.new.items number function) }
+    ensures same { KeepsCallsAt units.old.items number function
+        → units.new.items ≡ units.old.items }
     ensures cost { AtMostLooks 0 units.old.items units.new.items }
     ensures refusal { IfErr result (λ e. e ≡ Memory) }
 {

@@ -2,6 +2,7 @@
 //! of the loads of split units.
 #![tactic(auto)]
 
+mod covering;
 pub mod frame_place;
 mod function_place;
 mod load_answers;

@@ -1,13 +1,14 @@
 //! Answers to the loads of units.
 
-ghost use Rattle.std.specs.Prelude.{◌≡◌, map, option_map, IfOk, IfErr};
+ghost use Rattle.std.specs.Prelude.{◌≡◌, None, map, option_map, IfOk, IfErr};
 ghost use Rattle.addr2line_resolved.specs.Calls.{Returns};
 ghost use Rattle.addr2line_resolved.specs.Error.TheVariants.{Memory};
 ghost use Rattle.addr2line_resolved.specs.FirstAnswers.{answer_of};
-ghost use Rattle.addr2line_resolved.specs.ResolvedUnits.{value_of_unit};
+ghost use Rattle.addr2line_resolved.specs.ResolvedUnits.{pending_load, value_of_unit};
 ghost use Rattle.addr2line_lookups.specs.KeptCalls.{LeavesCalls, LeavesCallsOf};
 ghost use Rattle.addr2line_lookups.specs.LoadAnswers.{AnswersOrNoMemory, check_unit, answer_unit, answer_at};
 ghost use Rattle.addr2line_lookups.specs.LookupCosts.{AtMostLooks, AtMostLooksOf};
+ghost use Rattle.addr2line_lookups.specs.Preloads.{load_at};
 
 use addr2line_resolved::{Dwarf, Error, OwnedUnit, Reader, ResUnit, Unit, answer_of};
 use std::alloc::Global;
@@ -56,7 +57,8 @@ fn record_answer<R: Reader>(
     check_unit(unit)
 }
 
-// Answers the load of a unit. A unit that is decided stays as it is, and the file isn't read.
+// Answers the load of a unit. A unit that is decided stays as it is, and the file isn't read: so
+// nothing is out of memory then.
 fn answer_unit<R: Reader>(
     alloc: Global,
     unit: &mut ResUnit<R>,
@@ -64,6 +66,9 @@ fn answer_unit<R: Reader>(
 ) -> Result<(), Error>
     ensures answer { AnswersOrNoMemory result unit.old.value unit.new.value
         (answer_unit unit.old.value (option_map (λ f. f.value.file) file)) }
+    ensures decided { pending_load unit.old.value ≡ None
+        → answer_unit unit.old.value (option_map (λ f. f.value.file) file)
+        ≡ (result, unit.new.value) }
     ensures calls { LeavesCallsOf unit.old unit.new }
     ensures cost { AtMostLooksOf 0 unit.old unit.new }
 {
@@ -85,6 +90,9 @@ pub(crate) fn answer_at<R: Reader>(
         (map value_of_unit units.new.items)
         (answer_at (map value_of_unit units.old.items) number
         (option_map (λ f. f.value.file) file)) }
+    ensures decided { load_at (map value_of_unit units.old.items) number ≡ None
+        → answer_at (map value_of_unit units.old.items) number
+        (option_map (λ f. f.value.file) file) ≡ (result, map value_of_unit units.new.items) }
     ensures calls { LeavesCalls units.old.items units.new.items }
     ensures cost { AtMostLooks 0 units.old.items units.new.items }
 {

@@ -2,13 +2,14 @@
 
 ghost use Rattle.std.specs.Prelude.{◌≡◌, map, option_map, is_some};
 ghost use Rattle.addr2line_resolved.specs.NumberedRanges.{covering_ranges};
-ghost use Rattle.addr2line_resolved.specs.ContextUnits.{ordered_ranges};
-ghost use Rattle.addr2line_resolved.specs.ResolvedUnits.{plain_unit, value_of_unit};
+ghost use Rattle.addr2line_resolved.specs.ResolvedUnits.{value_of_unit};
 ghost use Rattle.addr2line_lookups.specs.KeptCalls.{known_among, HoldCalls};
 ghost use Rattle.addr2line_lookups.specs.Preloads.{load_at};
 ghost use Rattle.addr2line_lookups.specs.UnitLookups.{frames_asked, frames_among, SettlesFrames, unit_asked, unit_among, SettlesUnit, unit_at_number};
 ghost use Rattle.addr2line_lookups.specs.LookupCosts.{AtMostLooks, frame_probes_at, probes_among};
+ghost use Rattle.addr2line_lookups.specs.PassedUnits.{PassFrames, PassUnits};
 
+use crate::covering::next_covering;
 use crate::frame_place::{FramePlace, find_frames_at};
 use crate::preload::load_at;
 use crate::settle::unit_at;
@@ -54,15 +55,18 @@ fn settle_frames_at<R: Reader>(
 
 // Where the frames of an address are: of the units with a range over it, in their order, in the
 // first that has some, unless one is refused or waits for its load before. What is read is kept.
+// Units before an index are known to have none; the search begins there, and moves it on.
 pub(crate) fn settle_frames<R: Reader>(
     alloc: Global,
     units: &mut Vec<ResUnit<R>>,
     ranges: &UnitRanges,
     supplement_units: &[Unit<R>],
     probe: u64,
+    from: &mut usize,
 ) -> Result<Settled<FramePlace>, Error>
-    requires ranges { ranges.now ≡ ordered_ranges (map plain_unit units.old.items) }
     requires calls { HoldCalls (known_among units.old.items supplement_units.now) units.old.items }
+    requires passed { PassFrames (known_among units.old.items supplement_units.now)
+        (map value_of_unit units.old.items) probe from.old ranges.now }
     ensures values { map value_of_unit units.new.items ≡ map value_of_unit units.old.items }
     ensures calls { HoldCalls (known_among units.old.items supplement_units.now) units.new.items }
     ensures found { SettlesFrames units.new.items
@@ -72,14 +76,14 @@ pub(crate) fn settle_frames<R: Reader>(
         (frame_probes_at (known_among units.old.items supplement_units.now)
         (map value_of_unit units.old.items) probe) (covering_ranges probe ranges.now))
         units.old.items units.new.items }
+    ensures passed { PassFrames (known_among units.old.items supplement_units.now)
+        (map value_of_unit units.old.items) probe from.new ranges.now }
 {
-    let mut covering = ranges.covering(probe);
-    while let Some(range) = covering.next() {
-        let unit = range.unit;
+    while let Some((unit, next)) = next_covering(ranges, *from, probe) {
         match settle_frames_at(alloc, units, supplement_units, unit, probe)? {
             Settled::Waits => return Ok(Settled::Waits),
             Settled::Found(place) => return Ok(Settled::Found(place)),
-            Settled::Nothing => {}
+            Settled::Nothing => *from = next,
         }
     }
     Ok(Settled::Nothing)
@@ -120,16 +124,19 @@ fn settle_unit_at<R: Reader>(
 }
 
 // The number of the first unit, of those with a range over an address, that has a function or a
-// place for it, unless one waits for its load before. What is read is kept.
+// place for it, unless one waits for its load before. What is read is kept. Units before an index
+// are known to have none; the search begins there, and moves it on.
 pub(crate) fn settle_unit<R: Reader>(
     alloc: Global,
     units: &mut Vec<ResUnit<R>>,
     ranges: &UnitRanges,
     supplement_units: &[Unit<R>],
     probe: u64,
+    from: &mut usize,
 ) -> Result<Settled<usize>, Error>
-    requires ranges { ranges.now ≡ ordered_ranges (map plain_unit units.old.items) }
     requires calls { HoldCalls (known_among units.old.items supplement_units.now) units.old.items }
+    requires passed { PassUnits (known_among units.old.items supplement_units.now)
+        (map value_of_unit units.old.items) probe from.old ranges.now }
     ensures values { map value_of_unit units.new.items ≡ map value_of_unit units.old.items }
     ensures calls { HoldCalls (known_among units.old.items supplement_units.now) units.new.items }
     ensures found { SettlesUnit (map value_of_unit units.old.items)
@@ -139,14 +146,14 @@ pub(crate) fn settle_unit<R: Reader>(
         (frame_probes_at (known_among units.old.items supplement_units.now)
         (map value_of_unit units.old.items) probe) (covering_ranges probe ranges.now))
         units.old.items units.new.items }
+    ensures passed { PassUnits (known_among units.old.items supplement_units.now)
+        (map value_of_unit units.old.items) probe from.new ranges.now }
 {
-    let mut covering = ranges.covering(probe);
-    while let Some(range) = covering.next() {
-        let unit = range.unit;
+    while let Some((unit, next)) = next_covering(ranges, *from, probe) {
         match settle_unit_at(alloc, units, supplement_units, unit, probe)? {
             Settled::Waits => return Ok(Settled::Waits),
             Settled::Found(number) => return Ok(Settled::Found(number)),
-            Settled::Nothing => {}
+            Settled::Nothing => *from = next,
         }
     }
     Ok(Settled::Nothing)

@@ -9,7 +9,7 @@ ghost use Rattle.addr2line_resolved.specs.ContextUnits.{ordered_ranges};
 ghost use Rattle.addr2line_resolved.specs.ResolvedUnits.{plain_unit, value_of_unit};
 ghost use Rattle.addr2line_lookups.specs.KeptCalls.{LeavesCalls, kept_calls_of};
 ghost use Rattle.addr2line_lookups.specs.FunctionPlaces.{chain_of};
-ghost use Rattle.addr2line_lookups.specs.KeptUnits.{KeepsAt, KeepsRanges, row_at_number, location_of_unit_row, FindsRow, KeepsFound};
+ghost use Rattle.addr2line_lookups.specs.KeptUnits.{KeepsAt, KeepsRanges, KeepsAsked, row_at_number, location_of_unit_row, FindsRow, KeepsFound};
 ghost use Rattle.addr2line_lookups.specs.LookupCosts.{AtMostLooks, row_probes_at, probes_among};
 
 use addr2line_resolved::{Error, LineRow, Location, Reader, ResUnit, UnitRanges};
@@ -58,7 +58,7 @@ pub(crate) fn find_row_at<R: Reader>(
     ensures chain { chain_of units.new.items number ≡ chain_of units.old.items number }
     ensures found { ReturnsOrNoMemory result
         (row_at_number (map plain_unit units.old.items) probe number) }
-    ensures kept { OnOk result (KeepsAt units.new.items number) }
+    ensures kept { result ≢ Err Memory → KeepsAt units.new.items number }
     ensures cost { AtMostLooks (row_probes_at (map value_of_unit units.old.items) probe number)
         units.old.items units.new.items }
     ensures free { KeepsAt units.old.items number → result ≢ Err Memory }
@@ -71,7 +71,8 @@ pub(crate) fn find_row_at<R: Reader>(
 }
 
 // The row whose place an address has, with its unit's number: of the units with a range over the
-// address, in their order, the first with a row for it. Lines are read on the way.
+// address, in their order, the first with a row for it. Lines are read on the way and kept, a
+// refusal too.
 pub(crate) fn find_row<R: Reader>(
     alloc: Global,
     units: &mut Vec<ResUnit<R>>,
@@ -83,6 +84,8 @@ pub(crate) fn find_row<R: Reader>(
     ensures calls { LeavesCalls units.old.items units.new.items }
     ensures found { FindsRow (map plain_unit units.old.items) probe result }
     ensures kept { KeepsFound units.new.items result }
+    ensures asked { result ≢ Err Memory
+        → KeepsAsked probe units.new.items (covering_ranges probe ranges.now) }
     ensures cost { AtMostLooks (probes_among
         (row_probes_at (map value_of_unit units.old.items) probe)
         (covering_ranges probe ranges.now)) units.old.items units.new.items }

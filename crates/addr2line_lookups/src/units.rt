@@ -1,6 +1,6 @@
 //! The units of a context with their ranges, in the order in which lookups ask them.
 
-ghost use Rattle.std.specs.Prelude.{◌≡◌, ◌≢◌, Ok, Err, map, option_map, IfOk, OnOk, IfErr};
+ghost use Rattle.std.specs.Prelude.{◌≡◌, ◌≢◌, None, Ok, Err, map, option_map, IfOk, OnOk, IfErr};
 ghost use Rattle.addr2line_resolved.specs.Calls.{ReturnsAsOrNoMemory, ReturnsOrNoMemory};
 ghost use Rattle.addr2line_resolved.specs.Error.TheVariants.{Memory};
 ghost use Rattle.addr2line_resolved.specs.PlaceLookups.{stretches_between};
@@ -12,11 +12,12 @@ ghost use Rattle.addr2line_resolved.specs.ContextUnits.{ordered_ranges};
 ghost use Rattle.addr2line_resolved.specs.ResolvedUnits.{plain_unit, value_of_unit};
 ghost use Rattle.addr2line_lookups.specs.KeptCalls.{LeavesCalls, HoldCalls, known_among};
 ghost use Rattle.addr2line_lookups.specs.LoadAnswers.{AnswersOrNoMemory, answer_at};
-ghost use Rattle.addr2line_lookups.specs.Preloads.{loads_at, load_of_item, first_number, first_load};
+ghost use Rattle.addr2line_lookups.specs.Preloads.{load_at, loads_at, load_of_item, first_number, first_load};
 ghost use Rattle.addr2line_lookups.specs.FramePlaces.{LendsFrames};
+ghost use Rattle.addr2line_lookups.specs.PassedUnits.{PassFrames, PassUnits, PassLoads};
 ghost use Rattle.addr2line_lookups.specs.UnitLookups.{frames_among, SettlesFrames, unit_among, SettlesUnit, unit_at_number};
 ghost use Rattle.addr2line_resolved.specs.BorrowedFrames.{frames_left};
-ghost use Rattle.addr2line_lookups.specs.KeptUnits.{KeepsAt, KeepsBetween, KeepsCovering, KeepsFound, FindsRow, location_of_unit_row};
+ghost use Rattle.addr2line_lookups.specs.KeptUnits.{KeepsAt, KeepsBetween, KeepsCovering, KeepsFound, KeepsAsked, FindsRow, location_of_unit_row};
 ghost use Rattle.addr2line_lookups.specs.LookupCosts.{AtMostLooks, row_probes_at, frame_probes_at, probes_among};
 ghost use Rattle.addr2line_lookups.specs.UnitParses.{WalksOrNoMemory, check_functions_of, check_calls_of};
 
@@ -41,11 +42,19 @@ use std::marker::Model;
 use std::rc::Rc;
 
 /// Units by their numbers, and the ranges of all of them.
-#[derive(Drop)]
 pub struct Units<R: Reader> {
     units: Vec<ResUnit<R>>,
     /// In the order in which lookups ask them.
     ranges: UnitRanges,
+}
+
+impl<R: Reader> Drop for Units<R> {
+    fn drop(self) {
+        let Units {
+            units: _,
+            ranges: _,
+        } = self;
+    }
 }
 
 impl<R: Reader> Model for Units<R> {
@@ -82,6 +91,8 @@ impl<R: Reader> Units<R> {
         ensures calls { LeavesCalls self.old self.new }
         ensures found { FindsRow (map plain_unit self.old) probe result }
         ensures kept { KeepsFound self.new result }
+        ensures asked { result ≢ Err Memory → KeepsAsked probe self.new
+            (covering_ranges probe (ordered_ranges (map plain_unit self.old))) }
         ensures cost { AtMostLooks (probes_among (row_probes_at (map value_of_unit self.old) probe)
             (covering_ranges probe (ordered_ranges (map plain_unit self.old)))) self.old self.new }
         ensures free { KeepsCovering probe self.old → result ≢ Err Memory }
@@ -173,6 +184,9 @@ impl<R: Reader> Units<R> {
             (map value_of_unit self.new)
             (answer_at (map value_of_unit self.old) number
             (option_map (λ f. f.value.file) file)) }
+        ensures decided { load_at (map value_of_unit self.old) number ≡ None
+            → answer_at (map value_of_unit self.old) number (option_map (λ f. f.value.file) file)
+            ≡ (result, map value_of_unit self.new) }
         ensures calls { LeavesCalls self.old self.new }
         ensures cost { AtMostLooks 0 self.old self.new }
     {
@@ -184,13 +198,17 @@ impl<R: Reader> Units<R> {
 
     /// Where the frames of an address are: of the units with a range over it, in their order, in
     /// the first that has some, unless one is refused or waits for its load before.
-    /// What is read is kept.
+    /// What is read is kept. The search begins at an index among all ranges, before which no unit
+    /// has frames, and moves it on: so one that is asked again after an answer goes on there.
     pub fn settle_frames(
         &mut self,
         supplement_units: &[Unit<R>],
         probe: u64,
+        from: &mut usize,
     ) -> Result<Settled<FramePlace>, Error>
-        requires { HoldCalls (known_among self.old supplement_units.now) self.old }
+        requires calls { HoldCalls (known_among self.old supplement_units.now) self.old }
+        requires passed { PassFrames (known_among self.old supplement_units.now)
+            (map value_of_unit self.old) probe from.old (ordered_ranges (map plain_unit self.old)) }
         ensures values { map value_of_unit self.new ≡ map value_of_unit self.old }
         ensures calls { HoldCalls (known_among self.old supplement_units.now) self.new }
         ensures found { SettlesFrames self.new
@@ -200,6 +218,8 @@ impl<R: Reader> Units<R> {
             (frame_probes_at (known_among self.old supplement_units.now)
             (map value_of_unit self.old) probe)
             (covering_ranges probe (ordered_ranges (map plain_unit self.old)))) self.old self.new }
+        ensures passed { PassFrames (known_among self.old supplement_units.now)
+            (map value_of_unit self.old) probe from.new (ordered_ranges (map plain_unit self.old)) }
     {
         let alloc = *self.units.allocator();
         settle_frames(
@@ -208,17 +228,22 @@ impl<R: Reader> Units<R> {
             &self.ranges,
             supplement_units,
             probe,
+            from,
         )
     }
 
     /// The number of the first unit, of those with a range over an address, that has a function or
-    /// a place for it, unless one waits for its load before. What is read is kept.
+    /// a place for it, unless one waits for its load before. What is read is kept. The search
+    /// begins at an index before which no unit has any, and moves it on.
     pub fn settle_unit(
         &mut self,
         supplement_units: &[Unit<R>],
         probe: u64,
+        from: &mut usize,
     ) -> Result<Settled<usize>, Error>
-        requires { HoldCalls (known_among self.old supplement_units.now) self.old }
+        requires calls { HoldCalls (known_among self.old supplement_units.now) self.old }
+        requires passed { PassUnits (known_among self.old supplement_units.now)
+            (map value_of_unit self.old) probe from.old (ordered_ranges (map plain_unit self.old)) }
         ensures values { map value_of_unit self.new ≡ map value_of_unit self.old }
         ensures calls { HoldCalls (known_among self.old supplement_units.now) self.new }
         ensures found { SettlesUnit (map value_of_unit self.old)
@@ -228,6 +253,8 @@ impl<R: Reader> Units<R> {
             (frame_probes_at (known_among self.old supplement_units.now)
             (map value_of_unit self.old) probe)
             (covering_ranges probe (ordered_ranges (map plain_unit self.old)))) self.old self.new }
+        ensures passed { PassUnits (known_among self.old supplement_units.now)
+            (map value_of_unit self.old) probe from.new (ordered_ranges (map plain_unit self.old)) }
     {
         let alloc = *self.units.allocator();
         settle_unit(
@@ -236,6 +263,7 @@ impl<R: Reader> Units<R> {
             &self.ranges,
             supplement_units,
             probe,
+            from,
         )
     }
 
@@ -256,20 +284,25 @@ impl<R: Reader> Units<R> {
         functions_unit_at(self.units.as_slice(), number)
     }
 
-    /// The number of the first unit with a range over an address whose load needs an answer.
-    pub fn first_waiting(&self, probe: u64) -> Option<usize>
+    /// The number of the first unit with a range over an address whose load needs an answer. No
+    /// load of those before an index does.
+    pub fn first_waiting(&self, probe: u64, from: usize) -> Option<usize>
+        requires { PassLoads (map value_of_unit self.now) probe from
+            (ordered_ranges (map plain_unit self.now)) }
         ensures { result ≡ first_number (loads_at (map value_of_unit self.now)
             (covering_ranges probe (ordered_ranges (map plain_unit self.now)))) }
     {
-        first_waiting(self.units.as_slice(), &self.ranges, probe)
+        first_waiting(self.units.as_slice(), &self.ranges, probe, from)
     }
 
     /// A copy of the load of that unit, if there is one. The only error is out of memory.
-    pub fn first_load(&self, probe: u64) -> Result<Option<SplitDwarfLoad<R>>, Error>
+    pub fn first_load(&self, probe: u64, from: usize) -> Result<Option<SplitDwarfLoad<R>>, Error>
+        requires { PassLoads (map value_of_unit self.now) probe from
+            (ordered_ranges (map plain_unit self.now)) }
         ensures { ReturnsAsOrNoMemory (option_map (λ l. l)) result
             (Ok (first_load (loads_at (map value_of_unit self.now)
             (covering_ranges probe (ordered_ranges (map plain_unit self.now)))))) }
     {
-        first_load(self.units.as_slice(), &self.ranges, probe)
+        first_load(self.units.as_slice(), &self.ranges, probe, from)
     }
 }

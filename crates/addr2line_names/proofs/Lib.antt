@@ -5,3 +5,4 @@ pub mod ReferenceChains
 pub mod NamingSteps
 pub mod FunctionNameLemmas
 pub mod UnitOffsetLemmas
+mod SectionEntries

@@ -9,7 +9,7 @@ ghost use Rattle.addr2line_names.specs.EntryNamings.{is_linkage_name, text_of};
 
 use crate::attributes::is_linkage_name;
 use crate::file::DebugFile;
-use gimli_dwarf::{Attribute, AttributeValue, Error, Reader, ReaderOffset, Unit, UnitRef};
+use gimli_dwarf::{Attribute, AttributeValue, Dwarf, Error, Reader, ReaderOffset, Unit, UnitRef};
 use std::marker::Model;
 
 /// A value with a unit. A list of them can be searched for the unit that a reference leads to.
@@ -60,6 +60,14 @@ impl<'a, R: Reader> HoldingUnit<'a, R> {
             file: self.file,
             unit: UnitRef::new(unit.dwarf, unit.unit),
         }
+    }
+
+    /// The sections of its file.
+    pub(crate) fn dwarf(&self) -> &'a Dwarf<R>
+        ensures { result.now.file ≡ self.now.unit.file }
+    {
+        let unit = &self.unit;
+        unit.dwarf
     }
 
     // The text of a value of an attribute of one of the unit's entries, where it can be read.

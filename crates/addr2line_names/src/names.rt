@@ -6,6 +6,7 @@ ghost use Rattle.gimli_dwarf.specs.DwarfFiles.{supplement};
 ghost use Rattle.gimli_dwarf.specs.AttributeValues.{raw_value_of, raw_attribute_of};
 ghost use Rattle.gimli_dwarf.specs.EntryViews.{raw_attributes};
 ghost use Rattle.addr2line_names.specs.EntryReferences.{referred_entry, units_in, entry_among, entry_in_supplement};
+ghost use Rattle.addr2line_names.specs.OrderedUnits.{AreInOrder};
 ghost use Rattle.addr2line_names.specs.FunctionNames.{name_by_reference, name_of_attribute, name_with, name_of, most_references};
 
 use crate::attributes::{is_linkage_name, is_name, is_reference};
@@ -13,7 +14,7 @@ use crate::entry::ReferredEntry;
 use crate::file::DebugFile;
 use crate::holder::{HasUnit, HoldingUnit};
 use crate::naming::EntryNaming;
-use crate::references::entry_among;
+use crate::references::SectionUnits;
 use gimli_dwarf::{Attribute, AttributeValue, DebugInfoOffset, Error, Reader, ReaderOffset, Unit};
 use std::marker::Model;
 
@@ -23,30 +24,42 @@ const MOST_REFERENCES: u32 = 16;
 /// The units among which names are looked for: those of the main file, and those of its supplement.
 #[derive(Drop)]
 pub struct KnownUnits<'a, R: Reader, U: HasUnit<R>> {
-    pub units: &'a [U],
-    pub supplement_units: &'a [Unit<R>],
+    units: SectionUnits<'a, R, U>,
+    supplement_units: SectionUnits<'a, R, Unit<R>>,
 }
 
 impl<'a, R: Reader, U: HasUnit<R>> Model for KnownUnits<'a, R, U> {
-    ghost use Rattle.std.specs.Prelude.{map};
     ghost use Rattle.addr2line_names.specs.EntryReferences.{KnownUnits as Known};
 
     ghost Value = { Known };
 
-    ghost view = { λ n. record {
-      units = map U.facts n.units.now;
-      supplement_units = n.supplement_units.now;
-    } };
+    ghost view = { λ n. record { units = n.units; supplement_units = n.supplement_units } };
 }
 
 impl<'a, R: Reader, U: HasUnit<R>> KnownUnits<'a, R, U> {
+    /// Units in any order. Those of a section are looked at one after the other for each reference
+    /// by an offset of it.
     pub fn new(units: &'a [U], supplement_units: &'a [Unit<R>]) -> Self
         ensures units { result.units ≡ map U.facts units.now }
         ensures supplement { result.supplement_units ≡ supplement_units.now }
     {
         KnownUnits {
-            units,
-            supplement_units,
+            units: SectionUnits::new(units),
+            supplement_units: SectionUnits::new(supplement_units),
+        }
+    }
+
+    /// Units in the order of their offsets, as a section has them. A reference by an offset of it
+    /// is followed by a bisection.
+    pub fn in_order(units: &'a [U], supplement_units: &'a [Unit<R>]) -> Self
+        requires units { AreInOrder (map U.facts units.now) }
+        requires supplement { AreInOrder supplement_units.now }
+        ensures units { result.units ≡ map U.facts units.now }
+        ensures supplement { result.supplement_units ≡ supplement_units.now }
+    {
+        KnownUnits {
+            units: SectionUnits::in_order(units),
+            supplement_units: SectionUnits::in_order(supplement_units),
         }
     }
 
@@ -61,12 +74,11 @@ impl<'a, R: Reader, U: HasUnit<R>> KnownUnits<'a, R, U> {
             (entry_among holder.now.file holder.now.unit.file (units_in holder.now.file self.now)
             (R.Offset.count offset.0)) }
     {
-        let unit = &holder.unit;
-        match holder.file {
-            DebugFile::Primary => entry_among(holder.file, unit.dwarf, self.units, offset),
-            DebugFile::Supplementary => {
-                entry_among(holder.file, unit.dwarf, self.supplement_units, offset)
-            }
+        let file = holder.file;
+        let dwarf = holder.dwarf();
+        match file {
+            DebugFile::Primary => self.units.entry_at(file, dwarf, offset),
+            DebugFile::Supplementary => self.supplement_units.entry_at(file, dwarf, offset),
             DebugFile::Dwo => Err(Error::NoEntryAtGivenOffset(offset.0.into_u64())),
         }
     }
@@ -85,12 +97,10 @@ impl<'a, R: Reader, U: HasUnit<R>> KnownUnits<'a, R, U> {
         let unit = &holder.unit;
         let dwarf = unit.dwarf;
         match dwarf.sup() {
-            Some(sup) => Ok(Some(entry_among(
-                DebugFile::Supplementary,
-                sup,
-                self.supplement_units,
-                offset,
-            )?)),
+            Some(sup) => {
+                let file = DebugFile::Supplementary;
+                Ok(Some(self.supplement_units.entry_at(file, sup, offset)?))
+            }
             None => Ok(None),
         }
     }

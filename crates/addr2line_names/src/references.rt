@@ -1,8 +1,10 @@
 //! Where references by offsets of a section lead.
 
-ghost use Rattle.std.specs.Prelude.{◌≡◌, map, option_map};
+ghost use Rattle.std.specs.Prelude.{◌≡◌, ◌≤◌, true, false, length, map, option_map};
+ghost use Rattle.std.specs.List.Sorted.{IsPartitionPoint};
 ghost use Rattle.gimli_dwarf.specs.Calls.{Returns};
 ghost use Rattle.addr2line_names.specs.EntryReferences.{begins_below, unit_below, entry_among};
+ghost use Rattle.addr2line_names.specs.OrderedUnits.{AreInOrder};
 
 use crate::entry::ReferredEntry;
 use crate::file::DebugFile;
@@ -10,6 +12,7 @@ use crate::holder::{HasUnit, HoldingUnit};
 use gimli_dwarf::{
     DebugInfoOffset, Dwarf, Error, OffsetInSection, Reader, ReaderOffset, Unit, UnitRef,
 };
+use std::marker::{Model, PhantomData};
 
 // Whether a unit begins below an offset of its section.
 fn begins_below<R: Reader>(unit: &Unit<R>, offset: DebugInfoOffset<R::Offset>) -> bool
@@ -18,7 +21,7 @@ fn begins_below<R: Reader>(unit: &Unit<R>, offset: DebugInfoOffset<R::Offset>) -
     unit.header.offset().0.into_u64() < offset.0.into_u64()
 }
 
-// The last unit that begins below an offset of the section.
+// The last unit that begins below an offset of the section, whatever the order of the units.
 fn unit_below<'a, R: Reader, U: HasUnit<R>>(
     units: &'a [U],
     offset: DebugInfoOffset<R::Offset>,
@@ -37,20 +40,109 @@ fn unit_below<'a, R: Reader, U: HasUnit<R>>(
     None
 }
 
-/// The entry at an offset of the section of these units. It looks at the units from the last one
-/// back.
-pub(crate) fn entry_among<'a, R: Reader, U: HasUnit<R>>(
-    file: DebugFile,
-    dwarf: &'a Dwarf<R>,
+// How many units begin below an offset of the section. It is a bisection.
+fn count_below<R: Reader, U: HasUnit<R>>(units: &[U], offset: DebugInfoOffset<R::Offset>) -> usize
+    requires { AreInOrder (map U.facts units.now) }
+    ensures within { result ≤ length units.now }
+    ensures point { IsPartitionPoint
+        (λ u. begins_below (R.Offset.count offset.0) (U.facts u) ≡ true)
+        (λ u. begins_below (R.Offset.count offset.0) (U.facts u) ≡ false) units.now result }
+{
+    units.partition_point(
+        |unit: &U| -> bool
+            ensures { result ≡ begins_below (R.Offset.count offset.0) (U.facts unit.now) }
+        { begins_below(unit.unit(), offset) },
+    )
+}
+
+// The last unit that begins below an offset of the section, of units in the order of their offsets.
+fn unit_below_in_order<'a, R: Reader, U: HasUnit<R>>(
     units: &'a [U],
     offset: DebugInfoOffset<R::Offset>,
-) -> Result<ReferredEntry<'a, R>, Error>
-    ensures { Returns result
-        (entry_among file dwarf.now.file (map U.facts units.now) (R.Offset.count offset.0)) }
+) -> Option<&'a Unit<R>>
+    requires { AreInOrder (map U.facts units.now) }
+    ensures { option_map (λ u. u.now) result
+        ≡ unit_below (R.Offset.count offset.0) (map U.facts units.now) }
 {
-    let refusal = Error::NoEntryAtGivenOffset(offset.0.into_u64());
-    let unit = unit_below(units, offset).ok_or(refusal)?;
-    let offset = offset.to_unit_offset(&unit.header).ok_or(refusal)?;
-    let holder = HoldingUnit::new(file, UnitRef::new(dwarf, unit));
-    Ok(ReferredEntry { holder, offset })
+    let count = count_below(units, offset);
+    if count == 0 {
+        return None;
+    }
+    let unit = &units[count - 1];
+    Some(unit.unit())
+}
+
+/// The units of one section, among which references by its offsets lead.
+#[derive(Drop)]
+pub(crate) struct SectionUnits<'a, R: Reader, U: HasUnit<R>> {
+    units: &'a [U],
+    /// Whether they are known to be in the order of their offsets.
+    in_order: bool,
+    reader: PhantomData<R>,
+}
+
+impl<'a, R: Reader, U: HasUnit<R>> Model for SectionUnits<'a, R, U> {
+    ghost use Rattle.std.specs.Prelude.{◌≡◌, true, List, map};
+    ghost use Rattle.gimli_dwarf.specs.UnitFacts.{UnitFacts};
+    ghost use Rattle.addr2line_names.specs.OrderedUnits.{AreInOrder};
+
+    ghost Value = { List UnitFacts };
+
+    ghost view = { λ s. map U.facts s.units.now };
+
+    ghost invariant = { λ s. s.in_order ≡ true → AreInOrder (map U.facts s.units.now) };
+}
+
+impl<'a, R: Reader, U: HasUnit<R>> SectionUnits<'a, R, U> {
+    /// Units in any order.
+    pub(crate) fn new(units: &'a [U]) -> Self
+        ensures { result ≡ map U.facts units.now }
+    {
+        SectionUnits {
+            units,
+            in_order: false,
+            reader: PhantomData,
+        }
+    }
+
+    /// Units in the order of their offsets.
+    pub(crate) fn in_order(units: &'a [U]) -> Self
+        requires { AreInOrder (map U.facts units.now) }
+        ensures { result ≡ map U.facts units.now }
+    {
+        SectionUnits {
+            units,
+            in_order: true,
+            reader: PhantomData,
+        }
+    }
+
+    // The last unit that begins below an offset of the section.
+    fn unit_below(&self, offset: DebugInfoOffset<R::Offset>) -> Option<&'a Unit<R>>
+        ensures { option_map (λ u. u.now) result ≡ unit_below (R.Offset.count offset.0) self.now }
+    {
+        if self.in_order {
+            unit_below_in_order(self.units, offset)
+        } else {
+            unit_below(self.units, offset)
+        }
+    }
+
+    /// The entry at an offset of the section. Where the units are known to be in order, it is found
+    /// by a bisection; else each may be looked at, from the last one back.
+    pub(crate) fn entry_at(
+        &self,
+        file: DebugFile,
+        dwarf: &'a Dwarf<R>,
+        offset: DebugInfoOffset<R::Offset>,
+    ) -> Result<ReferredEntry<'a, R>, Error>
+        ensures { Returns result
+            (entry_among file dwarf.now.file self.now (R.Offset.count offset.0)) }
+    {
+        let refusal = Error::NoEntryAtGivenOffset(offset.0.into_u64());
+        let unit = self.unit_below(offset).ok_or(refusal)?;
+        let offset = offset.to_unit_offset(&unit.header).ok_or(refusal)?;
+        let holder = HoldingUnit::new(file, UnitRef::new(dwarf, unit));
+        Ok(ReferredEntry { holder, offset })
+    }
 }

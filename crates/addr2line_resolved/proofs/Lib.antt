@@ -3,6 +3,7 @@ pub mod FunctionParses
 pub mod NewUnits
 pub mod UnitOrder
 pub mod UnitReading
+pub mod UnitsInOrder
 pub use Rattle.addr2line_functions.proofs.UnitAnswers
 pub use Rattle.addr2line_functions.proofs.UnitViews
 pub use Rattle.addr2line_functions.proofs.PendingLoads

@@ -1,5 +1,6 @@
 pub use Rattle.addr2line_functions.specs.EntryNamings
 pub use Rattle.addr2line_functions.specs.EntryReferences
+pub use Rattle.addr2line_functions.specs.OrderedUnits
 pub use Rattle.addr2line_functions.specs.FunctionNames
 pub use Rattle.addr2line_functions.specs.CallNumbers
 pub use Rattle.addr2line_functions.specs.ContextNames

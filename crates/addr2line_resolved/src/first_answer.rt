@@ -23,7 +23,7 @@ fn split_unit<R: Reader>(
 {
     let mut unit = file.as_ref().unit(alloc, header)?;
     unit.copy_relocated_attributes(main);
-    Ok(OwnedUnit::new(file, unit))
+    OwnedUnit::new(alloc, file, unit)
 }
 
 // The first header of a file, if it has one.

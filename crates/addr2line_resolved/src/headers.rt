@@ -77,7 +77,8 @@ fn owned_unit<R: Reader>(
     ensures functions { IfOk result KeepsNoFunctions }
 {
     let sections = share(sections)?;
-    ResUnit::read(alloc, OwnedUnit::new(sections, unit), aranges)
+    let main = OwnedUnit::new(alloc, sections, unit)?;
+    ResUnit::read(alloc, main, aranges)
 }
 
 // Whether a unit describes types alone (DWARF 5, 3.1.4).

@@ -1,17 +1,28 @@
 //! A unit with the sections of its file.
 
-ghost use Rattle.std.specs.Prelude.{◌≡◌};
+ghost use Rattle.std.specs.Prelude.{◌≡◌, Ok};
+ghost use Rattle.addr2line_functions.specs.Calls.{ReturnsOrNoMemory};
 ghost use Rattle.addr2line_functions.specs.UnitFacts.{in_file};
 
-use addr2line_functions::{Dwarf, Reader, Unit, UnitRef};
+use addr2line_functions::{Dwarf, Error, Reader, Unit, UnitRef};
+use std::alloc::Global;
 use std::marker::Model;
 use std::rc::Rc;
 
-/// A unit, and the sections of its file, which it shares with the other units.
-#[derive(Drop)]
+/// A unit, and the sections of its file, which it shares with the other units. The unit has a place
+/// of its own on the heap, so that moving what holds it doesn't copy its facts.
 pub struct OwnedUnit<R: Reader> {
     sections: Rc<Dwarf<R>>,
-    unit: Unit<R>,
+    unit: Box<Unit<R>>,
+}
+
+impl<R: Reader> Drop for OwnedUnit<R> {
+    fn drop(self) {
+        let OwnedUnit {
+            sections: _,
+            unit: _,
+        } = self;
+    }
 }
 
 impl<R: Reader> Model for OwnedUnit<R> {
@@ -19,14 +30,18 @@ impl<R: Reader> Model for OwnedUnit<R> {
 
     ghost Value = { UnitInFile };
 
-    ghost view = { λ u. record { file = u.sections.value.file; facts = u.unit } };
+    ghost view = { λ u. record { file = u.sections.value.file; facts = u.unit.value } };
 }
 
 impl<R: Reader> OwnedUnit<R> {
-    pub fn new(sections: Rc<Dwarf<R>>, unit: Unit<R>) -> Self
-        ensures { result ≡ in_file sections.value.file unit }
+    /// A unit of a file of these sections. The only refusal is out of memory.
+    pub fn new(alloc: Global, sections: Rc<Dwarf<R>>, unit: Unit<R>) -> Result<Self, Error>
+        ensures { ReturnsOrNoMemory result (Ok (in_file sections.value.file unit)) }
     {
-        OwnedUnit { sections, unit }
+        match Box::new(alloc, unit) {
+            Ok(unit) => Ok(OwnedUnit { sections, unit }),
+            Err(_) => Err(Error::Memory),
+        }
     }
 
     /// The sections of its file.
@@ -40,13 +55,13 @@ impl<R: Reader> OwnedUnit<R> {
     pub fn unit(&self) -> &Unit<R>
         ensures { result.now ≡ self.now.facts }
     {
-        &self.unit
+        self.unit.as_ref()
     }
 
     /// The same, borrowed.
     pub fn unit_ref(&self) -> UnitRef<'_, R>
         ensures { result ≡ self.now }
     {
-        UnitRef::new(self.sections.as_ref(), &self.unit)
+        UnitRef::new(self.sections.as_ref(), self.unit.as_ref())
     }
 }

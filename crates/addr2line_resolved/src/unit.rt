@@ -30,7 +30,6 @@ use std::marker::Model;
 /// A unit of a context: the ranges that it covers, its language, the load of its split part and the
 /// first answer to it. Its lines, its functions and their calls are read when they are asked for,
 /// and kept, refusals too.
-#[derive(Drop)]
 pub struct ResUnit<R: Reader> {
     main: OwnedUnit<R>,
     ranges: Vec<Range>,
@@ -46,6 +45,23 @@ pub struct ResUnit<R: Reader> {
     probes: Probes,
     /// The numbers of the calls that were found last, the outermost first.
     chain: Vec<usize>,
+}
+
+impl<R: Reader> Drop for ResUnit<R> {
+    fn drop(self) {
+        let ResUnit {
+            main: _,
+            ranges: _,
+            language: _,
+            load: _,
+            first: _,
+            lines: _,
+            runs: _,
+            functions: _,
+            probes: _,
+            chain: _,
+        } = self;
+    }
 }
 
 impl<R: Reader> Model for ResUnit<R> {
@@ -275,13 +291,13 @@ impl<R: Reader> ResUnit<R> {
           probes = self.new.probes;
         } }
         ensures row { ReturnsOrNoMemory result (row_or_refusal probe self.old.value.unit.lines) }
-        ensures kept { OnOk result (self.new.keeps_lines ≡ true) }
+        ensures kept { result ≢ Err Memory → KeepsLines self.new }
         ensures more { KeepsLines self.old → KeepsLines self.new }
         ensures free { KeepsLines self.old → result ≢ Err Memory }
         ensures cost { AtMostProbes (lines_probes probe self.old.value.unit.lines)
             self.old.probes self.new.probes }
     {
-        self.read_lines(alloc)?;
+        self.read_lines(alloc)?; // a refusal is kept too
         row_in_kept(&self.lines, probe, &mut self.probes)
     }
 
@@ -302,7 +318,7 @@ impl<R: Reader> ResUnit<R> {
         ensures unit { self.new ≡ record self.old { keeps_lines = self.new.keeps_lines } }
         ensures found { ReturnsOrNoMemory result
             (and_then self.old.value.unit.lines (λ lines. Ok tt)) }
-        ensures kept { OnOk result (self.new.keeps_lines ≡ true) }
+        ensures kept { result ≢ Err Memory → KeepsLines self.new }
         ensures more { KeepsLines self.old → KeepsLines self.new }
     {
         self.read_lines(alloc)?;

@@ -18,11 +18,19 @@ use std::marker::Model;
 
 /// The functions of a unit, or the refusal of them, once they are read, and of each function its
 /// calls, or the refusal of these, once they are. A function's number is its index among all.
-#[derive(Drop)]
 pub struct UnitFunctions<R: Reader> {
     functions: Kept<Functions<R::Offset>>,
     // By the functions' numbers.
     calls: Vec<Kept<FunctionCalls<R>>>,
+}
+
+impl<R: Reader> Drop for UnitFunctions<R> {
+    fn drop(self) {
+        let UnitFunctions {
+            functions: _,
+            calls: _,
+        } = self;
+    }
 }
 
 impl<R: Reader> Model for UnitFunctions<R> {

@@ -39,6 +39,8 @@ pub use Rattle.gimli_lines_rows.specs.Error
 pub use Rattle.gimli_lines_rows.specs.RunTimeEndian
 pub use Rattle.gimli_lines_rows.specs.Iterators
 pub use Rattle.gimli_lines_rows.specs.Range
+pub use Rattle.gimli_dwarf.specs.Declarations
+pub use Rattle.gimli_dwarf.specs.TableParsing
 pub use Rattle.gimli_dwarf.specs.CachedFiles
 pub use Rattle.gimli_dwarf.specs.SectionLoading
 pub use Rattle.gimli_dwarf.specs.DwarfFiles

@@ -52,9 +52,15 @@ impl Runs {
 }
 
 /// The lines of a unit, which only a run of its line number program makes.
-#[derive(Debug, Drop)]
+#[derive(Debug)]
 pub struct UnitLines {
     lines: Lines,
+}
+
+impl Drop for UnitLines {
+    fn drop(self) {
+        let UnitLines { lines: _ } = self;
+    }
 }
 
 impl Model for UnitLines {

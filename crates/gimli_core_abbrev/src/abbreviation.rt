@@ -108,12 +108,23 @@ impl AttributeSpecification {
 }
 
 /// What entries of one code have in common. Up to five attributes take no memory of their own.
-#[derive(Debug, Drop, PartialEq, Eq)]
+#[derive(Debug, PartialEq, Eq)]
 pub struct Abbreviation {
     code: u64,
     tag: DwTag,
     has_children: bool,
     attributes: SmallVec<AttributeSpecification, 5>,
+}
+
+impl Drop for Abbreviation {
+    fn drop(self) {
+        let Abbreviation {
+            code: _,
+            tag: _,
+            has_children: _,
+            attributes: _,
+        } = self;
+    }
 }
 
 impl Abbreviation {

@@ -35,9 +35,15 @@ type CachedTable = Result<Rc<Abbreviations>, Error>;
 
 /// The tables at some offsets of a section, or why they can't be read, which contracts see as a
 /// finite map. Out of memory is never cached.
-#[derive(Debug, Drop)]
+#[derive(Debug)]
 pub struct AbbreviationsCache {
     tables: BTreeMap<u64, CachedTable>,
+}
+
+impl Drop for AbbreviationsCache {
+    fn drop(self) {
+        let AbbreviationsCache { tables: _ } = self;
+    }
 }
 
 impl Model for AbbreviationsCache {

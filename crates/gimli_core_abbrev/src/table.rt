@@ -17,11 +17,20 @@ use std::marker::Model;
 
 /// The declarations of an abbreviation table, by their codes. A contract sees them in the order of
 /// their codes.
-#[derive(Debug, Drop)]
+#[derive(Debug)]
 pub struct Abbreviations {
     // The codes 1, 2, .. as far as they came in order.
     in_order: Vec<Abbreviation>,
     others: BTreeMap<u64, Abbreviation>,
+}
+
+impl Drop for Abbreviations {
+    fn drop(self) {
+        let Abbreviations {
+            in_order: _,
+            others: _,
+        } = self;
+    }
 }
 
 impl Model for Abbreviations {

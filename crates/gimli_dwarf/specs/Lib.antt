@@ -1,5 +1,6 @@
 pub use Rattle.gimli_dwarf_spec.specs.AbbreviationViews
 pub use Rattle.gimli_dwarf_spec.specs.Declarations
+pub use Rattle.gimli_dwarf_spec.specs.TableParsing
 pub use Rattle.gimli_dwarf_spec.specs.Calls
 pub use Rattle.gimli_dwarf_spec.specs.Repetition
 pub use Rattle.gimli_dwarf_spec.specs.Results

@@ -26,7 +26,6 @@ use std::rc::Rc;
 /// All sections of a file, and those of its supplement, if it has one (DWARF 5, 7.3.6). The cache
 /// has tables of this file's own `.debug_abbrev`, or why they can't be read, at some of their
 /// offsets.
-#[derive(Drop)]
 pub struct Dwarf<R: Reader> {
     pub debug_abbrev: DebugAbbrev<R>,
     pub debug_addr: DebugAddr<R>,
@@ -45,6 +44,30 @@ pub struct Dwarf<R: Reader> {
     pub file_type: DwarfFileType,
     pub sup: Option<Rc<Dwarf<R>>>,
     pub abbreviations_cache: AbbreviationsCache,
+}
+
+impl<R: Reader> Drop for Dwarf<R> {
+    fn drop(self) {
+        let Dwarf {
+            debug_abbrev: _,
+            debug_addr: _,
+            debug_aranges: _,
+            debug_info: _,
+            debug_line: _,
+            debug_line_str: _,
+            debug_macinfo: _,
+            debug_macro: _,
+            debug_names: _,
+            debug_str: _,
+            debug_str_offsets: _,
+            debug_types: _,
+            locations: _,
+            ranges: _,
+            file_type: _,
+            sup: _,
+            abbreviations_cache: _,
+        } = self;
+    }
 }
 
 impl<R: Reader> Model for Dwarf<R> {

@@ -13,7 +13,6 @@ use gimli_units_headers::{Error, Reader};
 use std::marker::Model;
 
 /// A file that rows name by its number (DWARF 5, 6.2.4.1).
-#[derive(Drop)]
 pub struct FileEntry<R: Reader> {
     pub(crate) path_name: AttributeValue<R>,
     pub(crate) directory_index: u64,
@@ -21,6 +20,19 @@ pub struct FileEntry<R: Reader> {
     pub(crate) size: u64,
     pub(crate) md5: [u8; 16],
     pub(crate) source: Option<AttributeValue<R>>,
+}
+
+impl<R: Reader> Drop for FileEntry<R> {
+    fn drop(self) {
+        let FileEntry {
+            path_name: _,
+            directory_index: _,
+            timestamp: _,
+            size: _,
+            md5: _,
+            source: _,
+        } = self;
+    }
 }
 
 impl<R: Reader> Model for FileEntry<R> {

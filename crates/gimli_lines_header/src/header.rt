@@ -20,7 +20,6 @@ use gimli_units_headers::{
 use std::marker::Model;
 
 /// The header of a line number program, and the bytes of the program.
-#[derive(Drop)]
 pub struct LineProgramHeader<R: Reader> {
     pub(crate) offset: DebugLineOffset<R::Offset>,
     pub(crate) unit_length: R::Offset,
@@ -36,6 +35,27 @@ pub struct LineProgramHeader<R: Reader> {
     pub(crate) program_buf: R,
     pub(crate) comp_dir: Option<AttributeValue<R>>,
     pub(crate) comp_file: Option<FileEntry<R>>,
+}
+
+impl<R: Reader> Drop for LineProgramHeader<R> {
+    fn drop(self) {
+        let LineProgramHeader {
+            offset: _,
+            unit_length: _,
+            encoding: _,
+            header_length: _,
+            line_encoding: _,
+            opcode_base: _,
+            standard_opcode_lengths: _,
+            directory_entry_format: _,
+            include_directories: _,
+            file_name_entry_format: _,
+            file_names: _,
+            program_buf: _,
+            comp_dir: _,
+            comp_file: _,
+        } = self;
+    }
 }
 
 impl<R: Reader> Model for LineProgramHeader<R> {

@@ -91,9 +91,14 @@ pub trait LineProgram<R: Reader> {
 }
 
 /// A program whose instructions are still to be executed: they may define further files.
-#[derive(Drop)]
 pub struct IncompleteLineProgram<R: Reader> {
     header: LineProgramHeader<R>,
+}
+
+impl<R: Reader> Drop for IncompleteLineProgram<R> {
+    fn drop(self) {
+        let IncompleteLineProgram { header: _ } = self;
+    }
 }
 
 impl<R: Reader> Model for IncompleteLineProgram<R> {
@@ -176,9 +181,14 @@ impl<R: Reader> IncompleteLineProgram<R> {
 }
 
 /// A program with all files that its instructions define.
-#[derive(Drop)]
 pub struct CompleteLineProgram<R: Reader> {
     header: LineProgramHeader<R>,
+}
+
+impl<R: Reader> Drop for CompleteLineProgram<R> {
+    fn drop(self) {
+        let CompleteLineProgram { header: _ } = self;
+    }
 }
 
 impl<R: Reader> Model for CompleteLineProgram<R> {

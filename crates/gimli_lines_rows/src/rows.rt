@@ -17,7 +17,6 @@ use gimli_lines_machine::{Error, Reader, Registers};
 use std::marker::Model;
 
 /// The rows of a program, from one of them on.
-#[derive(Drop)]
 pub struct LineRows<R: Reader, P: LineProgram<R> + Drop> {
     program: P,
     instructions: LineInstructions<R>,
@@ -25,6 +24,17 @@ pub struct LineRows<R: Reader, P: LineProgram<R> + Drop> {
     registers: Registers,
     // The last row.
     row: LineRow,
+}
+
+impl<R: Reader, P: LineProgram<R> + Drop> Drop for LineRows<R, P> {
+    fn drop(self) {
+        let LineRows {
+            program: _,
+            instructions: _,
+            registers: _,
+            row: _,
+        } = self;
+    }
 }
 
 impl<R: Reader, P: LineProgram<R> + Drop> Model for LineRows<R, P> {
@@ -88,7 +98,12 @@ impl<R: Reader, P: LineProgram<R> + Drop> LineRows<R, P> {
     pub(crate) fn into_program(self) -> P
         ensures { P.header_of result ≡ self.header }
     {
-        let LineRows { program, .. } = self;
+        let LineRows {
+            program,
+            instructions: _,
+            registers: _,
+            row: _,
+        } = self;
         program
     }
 

@@ -2,6 +2,8 @@ pub use Rattle.gimli_core_base.proofs.Listings
 pub use Rattle.gimli_core_base.proofs.RefusedCalls
 pub use Rattle.gimli_core_base.proofs.StepParts
 pub use Rattle.gimli_core_base.proofs.StepSizes
+pub use Rattle.gimli_units_headers.proofs.TilingLemmas
+pub use Rattle.gimli_units_headers.proofs.UnitHeaderLemmas
 pub mod WalkLemmas
 pub mod AttributeListLemmas
 pub mod EntryLemmas

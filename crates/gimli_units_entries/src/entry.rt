@@ -14,13 +14,24 @@ use gimli_units_headers::{Reader, UnitOffset};
 use std::alloc::Global;
 
 /// An entry: its place, and what it says (DWARF 5, 2.1). A null entry has the tag 0.
-#[derive(Drop)]
 pub struct DebuggingInformationEntry<R: Reader> {
     pub(crate) offset: UnitOffset<R::Offset>,
     pub(crate) depth: isize,
     pub(crate) tag: DwTag,
     pub(crate) has_children: bool,
     pub(crate) attrs: Vec<Attribute<R>>,
+}
+
+impl<R: Reader> Drop for DebuggingInformationEntry<R> {
+    fn drop(self) {
+        let DebuggingInformationEntry {
+            offset: _,
+            depth: _,
+            tag: _,
+            has_children: _,
+            attrs: _,
+        } = self;
+    }
 }
 
 impl<R: Reader> DebuggingInformationEntry<R> {

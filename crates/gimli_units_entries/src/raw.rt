@@ -93,6 +93,9 @@ impl<'abbrev, R: Reader> EntriesRaw<'abbrev, R> {
     }
 
     /// The next attribute, as its declaration describes it. A refusal leaves the walk as it was.
+    /// Compiled into its caller: to move the attribute there would take longer than to read it.
+    #[inline(always)]
+    #[tactic(auto, unfolding(crate::specs::EntryWalks::value))]
     pub fn read_attribute(
         &mut self,
         specification: AttributeSpecification,
@@ -105,12 +108,11 @@ impl<'abbrev, R: Reader> EntriesRaw<'abbrev, R> {
             → ReadsAs (raw_attribute_of R.view R.Offset.count) result self.old self.new
             (value R.Offset.limit (attribute_view specification) self.old) }
     {
-        self.read_attribute_inline(specification)
+        parse_attribute(&mut self.input, self.encoding, specification)
     }
 
-    /// The same as [`read_attribute`](Self::read_attribute), compiled into its caller.
+    /// The same as [`read_attribute`](Self::read_attribute).
     #[inline(always)]
-    #[tactic(auto, unfolding(crate::specs::EntryWalks::value))]
     pub fn read_attribute_inline(
         &mut self,
         specification: AttributeSpecification,
@@ -123,7 +125,7 @@ impl<'abbrev, R: Reader> EntriesRaw<'abbrev, R> {
             → ReadsAs (raw_attribute_of R.view R.Offset.count) result self.old self.new
             (value R.Offset.limit (attribute_view specification) self.old) }
     {
-        parse_attribute(&mut self.input, self.encoding, specification)
+        self.read_attribute(specification)
     }
 
     /// Skips the attributes that declarations describe, by their widths alone. Takes no memory. A

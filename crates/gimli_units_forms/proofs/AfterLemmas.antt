@@ -139,7 +139,7 @@ pub Goes-final_form : (form : ℕ) → Goes (final_form form)
 unfolding final_form
 Goes-final_form form = record { goes = λ v x w e. (Goes-form_within (suc (length v.bytes)) form).goes v x w e }
 
-Goes-plain_way : (e : Encoding) (form : ℕ) (s : Spelling) → Goes (look_of (plain_way e form s))
+pub Goes-plain_way : (e : Encoding) (form : ℕ) (s : Spelling) → Goes (look_of (plain_way e form s))
 Goes-plain_way e form Address = Goes-give e.address_size
 Goes-plain_way e form (Fixed width) = Goes-give width
 Goes-plain_way e form Sixteen = Goes-give 16

@@ -1,17 +1,19 @@
 -- How much of the bytes attributes take, read or skipped: what follows them is what the bytes left begin with.
-use Rattle.std.proofs.Common.{◌≡◌, ℕ, ◌≤◌, List, Ok, ap, subst, ◌∙◌, arith}
+use Rattle.std.proofs.Common.{◌≡◌, ℕ, ◌≤◌, List, Option, Ok, ap, subst, ◌∙◌, arith}
+use Rattle.std.specs.Prelude.{ℤ}
 use Rattle.gimli_core_abbrev.specs.View.{View, bytes_left}
 use Rattle.gimli_core_abbrev.specs.Parsers.{map_value, give}
 use Rattle.gimli_core_abbrev.proofs.StepParts.{begins, state_is, read}
 use Rattle.gimli_core_abbrev.proofs.StepSizes.{AtMost}
 use Rattle.gimli_core_abbrev.specs.Encoding.{Encoding}
 use Rattle.gimli_core_abbrev.specs.Declarations.{Attribute}
-use Rattle.gimli_units_forms.specs.AttributeValues.{RawAttribute}
-use Rattle.gimli_units_forms.specs.AttributeReading.{attribute, attributes}
-use Rattle.gimli_units_forms.specs.AttributeSkipping.{skip_values, way_of}
-use Rattle.gimli_units_forms.proofs.SkipAgreementLemmas.{attribute-leads, look-leads, skip_values-attributes}
+use Rattle.gimli_units_forms.specs.AttributeValues.{RawAttribute, RawValue}
+use Rattle.gimli_units_forms.specs.AttributeReading.{value, attribute, attributes}
+use Rattle.gimli_units_forms.specs.AttributeSkipping.{skip_values, way_of, plain_way}
+use Rattle.gimli_units_forms.specs.FormSpellings.{spelling}
+use Rattle.gimli_units_forms.proofs.SkipAgreementLemmas.{attribute-leads, look-leads, spelled_value-leads, skip_values-attributes}
 use Rattle.gimli_units_forms.specs.Places.{IsAfter}
-use Rattle.gimli_units_forms.proofs.AfterLemmas.{IsAfter-run, IsAfter-IsAfter, IsAfter-fewer, Goes-way_of, skip_values-after}
+use Rattle.gimli_units_forms.proofs.AfterLemmas.{IsAfter-run, IsAfter-IsAfter, IsAfter-fewer, Goes-plain_way, Goes-way_of, skip_values-after}
 
 -- equal views have the same places
 pub IsAfter-same : (u v w : View) → v ≡ u → IsAfter v w → IsAfter u w
@@ -23,6 +25,15 @@ pub attribute-after : (limit : ℕ) (e : Encoding) (s : Attribute) (v w : View) 
 attribute-after limit e s v w a h =
     let l = look-leads (way_of e s.form) v w (attribute-leads limit e s v a w h) in
     IsAfter-IsAfter v l.1 w ((Goes-way_of e s.form).goes v l.0 l.1 l.2) (IsAfter-run l.0 l.1 w l.3)
+
+-- and after a value of a form that isn't indirect
+pub value-after : (limit : ℕ) (e : Encoding) (name : ℕ) (constant : Option ℤ) (form : ℕ) (v w : View) (x : RawValue)
+    → value limit e name constant form v ≡ Ok (x, w) → IsAfter v w
+unfolding value
+value-after limit e name constant form v w x h =
+    let way = plain_way e form (spelling e form) in
+    let l = look-leads way v w (spelled_value-leads limit e name form constant (spelling e form) v x w h) in
+    IsAfter-IsAfter v l.1 w ((Goes-plain_way e form (spelling e form)).goes v l.0 l.1 l.2) (IsAfter-run l.0 l.1 w l.3)
 
 -- and after one that something is made of
 pub made-after : {A : Type 0} (limit : ℕ) (e : Encoding) (s : Attribute) (f : RawAttribute → A) (v w : View) (x : A)

@@ -119,7 +119,7 @@ bytes_by_length-leads limit field v p w e =
     (a.0, a.1, a.2, ap (λ (k : ℕ). run k a.1) same ∙ ap (run b.0) (sym l.1) ∙ whole)
 
 -- the way past what is spelled leads where reading it leads
-spelled_value-leads : (limit : ℕ) (e : Encoding) (name form : ℕ) (constant : Option ℤ) (s : Spelling) (v : View)
+pub spelled_value-leads : (limit : ℕ) (e : Encoding) (name form : ℕ) (constant : Option ℤ) (s : Spelling) (v : View)
     (x : RawValue) (w : View)
     → spelled_value limit e name form constant s v ≡ Ok (x, w) → Leads (plain_way e form s) v w
 spelled_value-leads limit e name form constant Address v x w h =

@@ -219,57 +219,57 @@ fn read_value<R: Reader>(
         → ReturnsAs (λ value. (raw_value_of R.view R.Offset.count value, place.new)) result
         (value_in_form R.Offset.limit encoding (attribute_view specification) form.0 place.old) }
 {
-    match spelling_of(encoding, form) {
-        Spelling::Address => {
-            let number = place.read_address(encoding.address_size)?;
-            number_value_of(encoding, specification.name(), form, number)
+    let number = match spelling_of(encoding, form) {
+        Spelling::Address => place.read_address(encoding.address_size)?,
+        Spelling::Fixed(width) => read_fixed(place, width)?,
+        Spelling::Unsigned => place.read_uleb128()?,
+        Spelling::Sixteen => return Ok(AttributeValue::Data16(place.read_u128()?)),
+        Spelling::Signed => return Ok(AttributeValue::Sdata(place.read_sleb128()?)),
+        Spelling::Block(width) => {
+            return Ok(bytes_value_of(form, read_block(place, reader, width)?));
         }
-        Spelling::Fixed(width) => {
-            let number = read_fixed(place, width)?;
-            number_value_of(encoding, specification.name(), form, number)
+        Spelling::LongBlock => return Ok(bytes_value_of(form, read_long_block(place, reader)?)),
+        Spelling::Text => return Ok(AttributeValue::String(read_text(place, reader)?)),
+        Spelling::Constant => {
+            return match specification.implicit_const_value() {
+                Some(constant) => Ok(AttributeValue::Sdata(constant)),
+                None => Err(Error::InvalidImplicitConst),
+            };
         }
-        Spelling::Unsigned => {
-            let number = place.read_uleb128()?;
-            number_value_of(encoding, specification.name(), form, number)
-        }
-        Spelling::Sixteen => Ok(AttributeValue::Data16(place.read_u128()?)),
-        Spelling::Signed => Ok(AttributeValue::Sdata(place.read_sleb128()?)),
-        Spelling::Block(width) => Ok(bytes_value_of(form, read_block(place, reader, width)?)),
-        Spelling::LongBlock => Ok(bytes_value_of(form, read_long_block(place, reader)?)),
-        Spelling::Text => Ok(AttributeValue::String(read_text(place, reader)?)),
-        Spelling::Constant => match specification.implicit_const_value() {
-            Some(constant) => Ok(AttributeValue::Sdata(constant)),
-            None => Err(Error::InvalidImplicitConst),
-        },
-        Spelling::Indirect | Spelling::Unknown => Err(Error::UnknownForm(form)),
-    }
+        Spelling::Indirect | Spelling::Unknown => return Err(Error::UnknownForm(form)),
+    };
+    number_value_of(encoding, specification.name(), form, number)
 }
 
-// The attribute that a declaration describes, in a form that isn't `DW_FORM_indirect`.
+// Reads the attribute that a declaration describes, given its form. A refusal leaves the reader as
+// it was.
 #[inline(always)]
-fn attribute_of<R: Reader>(
-    place: &mut EndianSlice<'_, R::Endian>,
-    reader: &R,
+#[tactic(auto, unfolding(crate::specs::AttributeReading::attribute))]
+fn parse_form<R: Reader>(
+    reader: &mut R,
     encoding: Encoding,
     specification: AttributeSpecification,
     form: DwForm,
 ) -> Result<Attribute<R>, Error>
-    requires { IsAfter (R.view reader.now) place.old }
-    ensures value { ReturnsAsOrNoMemory
-        (λ a. (raw_attribute_of R.view R.Offset.count a, place.new)) result
-        (attribute_in_form R.Offset.limit encoding (attribute_view specification) form.0
-        place.old) }
+    requires { (attribute_view specification).form ≡ form.0 }
+    ensures value { ReadsAsOrNoMemory (raw_attribute_of R.view R.Offset.count) result
+        (R.view reader.old) (R.view reader.new)
+        (attribute R.Offset.limit encoding (attribute_view specification) (R.view reader.old)) }
     ensures free { IsTrue R.copies_freely
-        → ReturnsAs (λ a. (raw_attribute_of R.view R.Offset.count a, place.new)) result
-        (attribute_in_form R.Offset.limit encoding (attribute_view specification) form.0
-        place.old) }
+        → ReadsAs (raw_attribute_of R.view R.Offset.count) result (R.view reader.old)
+        (R.view reader.new)
+        (attribute R.Offset.limit encoding (attribute_view specification) (R.view reader.old)) }
 {
+    let mut place = borrowed(reader);
     let name = specification.name();
-    let value = read_value(place, reader, encoding, specification, form)?;
+    let form = read_form(&mut place, form)?;
+    let value = read_value(&mut place, reader, encoding, specification, form)?;
+    let count = bytes_before(&place, reader);
+    reader.advance(count);
     Ok(Attribute { name, form, value })
 }
 
-// The same at the end of a list, where it is made.
+// Adds an attribute in a form that isn't `DW_FORM_indirect` to the end of a list, where it is made.
 #[inline(always)]
 fn push_value<R: Reader>(
     attributes: &mut Vec<Attribute<R>>,
@@ -322,29 +322,7 @@ macro_rules! at_form {
     }};
 }
 
-// The attribute that a declaration describes, in a form that isn't `DW_FORM_indirect`.
-#[inline(always)]
-fn attribute_in_form<R: Reader>(
-    place: &mut EndianSlice<'_, R::Endian>,
-    reader: &R,
-    encoding: Encoding,
-    specification: AttributeSpecification,
-    form: DwForm,
-) -> Result<Attribute<R>, Error>
-    requires { IsAfter (R.view reader.now) place.old }
-    ensures value { ReturnsAsOrNoMemory
-        (λ a. (raw_attribute_of R.view R.Offset.count a, place.new)) result
-        (attribute_in_form R.Offset.limit encoding (attribute_view specification) form.0
-        place.old) }
-    ensures free { IsTrue R.copies_freely
-        → ReturnsAs (λ a. (raw_attribute_of R.view R.Offset.count a, place.new)) result
-        (attribute_in_form R.Offset.limit encoding (attribute_view specification) form.0
-        place.old) }
-{
-    at_form!(form => attribute_of(place, reader, encoding, specification, form))
-}
-
-// The same at the end of a list, where it is made.
+// The same, with code of its own for each common form.
 #[inline(always)]
 fn push_in_form<R: Reader>(
     attributes: &mut Vec<Attribute<R>>,
@@ -364,27 +342,6 @@ fn push_in_form<R: Reader>(
     ensures refusal { OnErr result (attributes.new.items ≡ attributes.old.items) }
 {
     at_form!(form => push_value(attributes, place, reader, encoding, specification, form))
-}
-
-// The attribute that a declaration describes, at a place in a reader.
-#[inline(always)]
-#[tactic(auto, unfolding(crate::specs::AttributeReading::attribute))]
-fn read_attribute<R: Reader>(
-    place: &mut EndianSlice<'_, R::Endian>,
-    reader: &R,
-    encoding: Encoding,
-    specification: AttributeSpecification,
-) -> Result<Attribute<R>, Error>
-    requires { IsAfter (R.view reader.now) place.old }
-    ensures value { ReturnsAsOrNoMemory
-        (λ a. (raw_attribute_of R.view R.Offset.count a, place.new)) result
-        (attribute R.Offset.limit encoding (attribute_view specification) place.old) }
-    ensures free { IsTrue R.copies_freely
-        → ReturnsAs (λ a. (raw_attribute_of R.view R.Offset.count a, place.new)) result
-        (attribute R.Offset.limit encoding (attribute_view specification) place.old) }
-{
-    let form = read_form(place, specification.form())?;
-    attribute_in_form(place, reader, encoding, specification, form)
 }
 
 /// Reads the attribute that a declaration describes, at a place in a reader, and adds it to a list.
@@ -413,6 +370,7 @@ pub fn push_attribute<R: Reader>(
 /// Reads the attribute that a declaration describes. Copies the reader only for a value that holds
 /// bytes. A refusal leaves the reader as it was.
 #[inline(always)]
+#[tactic(auto, unfolding(crate::specs::AttributeReading::attribute))]
 pub fn parse_attribute<R: Reader>(
     reader: &mut R,
     encoding: Encoding,
@@ -427,9 +385,6 @@ pub fn parse_attribute<R: Reader>(
         (R.view reader.new)
         (attribute R.Offset.limit encoding (attribute_view specification) (R.view reader.old)) }
 {
-    let mut place = borrowed(reader);
-    let attribute = read_attribute(&mut place, reader, encoding, specification)?;
-    let count = bytes_before(&place, reader);
-    reader.advance(count);
-    Ok(attribute)
+    let form = specification.form();
+    at_form!(form => return parse_form(reader, encoding, specification, form))
 }

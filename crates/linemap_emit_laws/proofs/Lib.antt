@@ -10,3 +10,4 @@ pub mod EmittedProgramLemmas
 pub mod EmittedFunctionLemmas
 pub mod EmittedFunctionUnits
 pub mod EmittedUnitLemmas
+mod ListTablesRead

@@ -4,3 +4,4 @@ pub use Rattle.linemap_stretches_laws.specs.LookupStretches
 pub mod RecordedTables
 pub mod RecordedTableLaws
 pub mod EmissionLaws
+pub mod ListTables

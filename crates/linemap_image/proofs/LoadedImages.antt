@@ -17,7 +17,7 @@ use Rattle.addr2line_loader.specs.ElfDebugSections.{is_read, main_section}
 use Rattle.addr2line_loader.specs.ImageFiles.{offset_limit, bytes_or_none, main_file}
 use Rattle.addr2line_loader.specs.SectionLoading.{load_order}
 use Rattle.addr2line_loader.specs.SectionLoading as sections
-use Rattle.addr2line_loader.specs.LoadedFiles.{or_load_error, FileParts, parts_with, parts_of, file_of_parts, loaded_file}
+use Rattle.addr2line_loader.specs.LoadedFiles.{with_shared_tables, or_load_error, SharedContext, FileParts, parts_with, parts_of, file_of_parts, loaded_file}
 use Rattle.linemap_elf.specs.SpelledImages.{NamedBytes, all_sections}
 use Rattle.linemap_elf.specs.ImageLaws.{bytes_named, HoldsSections}
 use Rattle.linemap_emit.specs.BytesAt.{bytes_at}
@@ -177,8 +177,12 @@ module _ (e : Encoding) (is_big : Bool) (bytes : SectionBytes) (file : List ℕ)
   abbrev dwarf_context : FileContext
   dwarf_context = record { file = dwarf; context = table_answers.found }
 
+  -- the sections with the tables that are kept, and a context over them
+  abbrev shared : FileContext → SharedContext
+  shared c = record { sections = with_shared_tables dwarf; context = c }
+
   abbrev parts : FileParts
-  parts = record { symbols = []; context = dwarf_context }
+  parts = record { symbols = []; debug = shared dwarf_context }
 
   main_is : main_file image ≡ Ok dwarf
   main_is =
@@ -191,9 +195,11 @@ module _ (e : Encoding) (is_big : Bool) (bytes : SectionBytes) (file : List ℕ)
   parts_are =
       ap (λ (r : Result DwarfFile LoadError). r >>= λ main. parts_with image main None) main_is
       ∙ ap (λ (r : Result (List NamedSymbol) LoadError). r >>= λ symbols.
-      or_load_error (file_context dwarf) >>= λ c. Ok (record { symbols = symbols; context = c })) held.no_symbols
-      ∙ ap (λ (r : Result Context Error). or_load_error (r >>= λ c. Ok (record { file = dwarf; context = c }))
-      >>= λ c. Ok (record { symbols = []; context = c })) table_answers.is_context
+      (or_load_error (file_context dwarf) >>= λ c. Ok (shared c))
+      >>= λ d. Ok (record { symbols = symbols; debug = d })) held.no_symbols
+      ∙ ap (λ (r : Result Context Error).
+      (or_load_error (r >>= λ c. Ok (record { file = dwarf; context = c })) >>= λ c. Ok (shared c))
+      >>= λ d. Ok (record { symbols = []; debug = d })) table_answers.is_context
 
   loaded_is : loaded_file file None ≡ Ok (file_of_parts image parts)
   loaded_is =

@@ -4,3 +4,5 @@ mod TargetSizes
 mod JsonLemmas
 mod JsonShapeLemmas
 mod JsonListLemmas
+mod JsonReading
+mod PartListLemmas

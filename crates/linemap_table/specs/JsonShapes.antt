@@ -55,10 +55,16 @@ each shape (item d ds) = do
   xs ← each shape ds
   Some (x ∷ xs)
 
+-- an array whose items hold parts
+abbrev pub list_in : {A : Type 0} → (Data → Option A) → Data → Option (List A)
+list_in shape d = do
+  ds ← as_array d
+  each shape ds
+
 abbrev pub list_at : {A : Type 0} → (Data → Option A) → List ℕ → Data → Option (List A)
 list_at shape key d = do
-  ds ← items_at key d
-  each shape ds
+  value ← get key d
+  list_in shape value
 
 -- an array of two numbers
 abbrev pub ends_in : Items → Option RangePart

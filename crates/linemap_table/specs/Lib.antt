@@ -21,4 +21,5 @@ pub mod TableInText
 pub mod ShapeFaults
 pub mod TableErrorCodes
 pub mod JsonShapes
+pub mod StreamedParts
 pub mod TableUnits

@@ -1,5 +1,6 @@
-//! Why a part of a table could not be read from a JSON value.
+//! Why a part of a table could not be read from JSON.
 
+use json::Invalid;
 use std::alloc::AllocError;
 
 /// Why a part of a table could not be read.
@@ -19,5 +20,16 @@ impl From<AllocError> for Fault {
 
     fn from(_error: AllocError) -> Fault {
         Fault::Memory
+    }
+}
+
+impl From<Invalid> for Fault {
+    ghost use Rattle.std.specs.Prelude.{◌≡◌};
+    ghost use Rattle.linemap_table.specs.declared.fault.Fault.TheVariants.{Shape};
+
+    ghost from_gives = { λ e r. r ≡ Shape };
+
+    fn from(_error: Invalid) -> Fault {
+        Fault::Shape
     }
 }

@@ -1,10 +1,11 @@
 //! Tables of line information: read from JSON, or checked from units, by one list of rules.
 #![tactic(auto)]
 
-ghost use Rattle.std.specs.Prelude.{◌≡◌, ◌≢◌, IfErr, IfOk, None, Some, map};
+ghost use Rattle.std.specs.Prelude.{◌≡◌, ◌≢◌, Err, IfErr, IfOk, None, Some, map, option_and_then};
 ghost use Rattle.linemap_check.specs.Conditions.{IsSound};
 ghost use Rattle.linemap_check.specs.TableViews.{unit_part};
-ghost use Rattle.linemap_table.specs.TableInText.{json_in};
+ghost use Rattle.linemap_table.specs.JsonShapes.{units_in};
+ghost use Rattle.linemap_table.specs.TableInText.{json_in, table_in};
 ghost use Rattle.linemap_table.specs.declared.error.TableError.TheVariants.{Json, Memory};
 ghost use Rattle.serde_json.specs.View.{view};
 
@@ -13,10 +14,14 @@ mod element;
 pub mod error;
 mod fault;
 mod fields;
+mod streamed;
 pub mod target;
+mod values;
 
 use crate::element::units_of;
 pub use crate::error::TableError;
+use crate::fault::Fault;
+use crate::streamed::read_units;
 pub use crate::target::Target;
 use linemap_check::fits::are_below;
 use linemap_check::rules::first_broken;
@@ -43,12 +48,12 @@ impl Table {
     ghost use Rattle.linemap_table.specs.TableInText.{checked_units, table_in};
     ghost use Rattle.linemap_table.specs.TableUnits.{Answers, AnswersOrMemory, units_of};
 
-    /// Reads a table from JSON text. It takes memory for the JSON value and for the units.
+    /// Reads a table from JSON text. It takes memory for the units and for the JSON value of one of
+    /// them at a time, or of the whole text where that breaks a rule of JSON or of a table's shape.
     pub fn read(alloc: Global, text: &[u8]) -> Result<Table, TableError>
         ensures { AnswersOrMemory result (table_in text.now) }
     {
-        let value = parse(alloc, text)?;
-        let units = units_of(alloc, &value)?;
+        let units = units_in(alloc, text)?;
         Table::check(units)
     }
 
@@ -85,6 +90,41 @@ impl Table {
     {
         weight(&self.units)
     }
+}
+
+// The units that a text holds. Where they can't be read one by one, the JSON value of the whole
+// text decides.
+fn units_in(alloc: Global, text: &[u8]) -> Result<Vec<TableUnit>, TableError>
+    ensures value { IfOk result (λ v. option_and_then units_in (json_in text.now)
+        ≡ Some (map unit_part v.items)) }
+    ensures refusal { IfErr result (λ e. e ≢ Memory → table_in text.now ≡ Err e) }
+{
+    match units_one_by_one(alloc, text) {
+        Ok(units) => Ok(units),
+        Err(Fault::Memory) => Err(TableError::Memory),
+        Err(Fault::Shape) => units_in_value(alloc, text),
+    }
+}
+
+// The units that bytes hold, if these are UTF-8.
+fn units_one_by_one(alloc: Global, text: &[u8]) -> Result<Vec<TableUnit>, Fault>
+    ensures { IfOk result (λ v. option_and_then units_in (json_in text.now)
+        ≡ Some (map unit_part v.items)) }
+{
+    match str::from_utf8(text) {
+        Ok(text) => read_units(alloc, text),
+        Err(_) => Err(Fault::Shape),
+    }
+}
+
+// The units that the JSON value of a text holds.
+fn units_in_value(alloc: Global, text: &[u8]) -> Result<Vec<TableUnit>, TableError>
+    ensures value { IfOk result (λ v. option_and_then units_in (json_in text.now)
+        ≡ Some (map unit_part v.items)) }
+    ensures refusal { IfErr result (λ e. e ≢ Memory → table_in text.now ≡ Err e) }
+{
+    let value = parse(alloc, text)?;
+    Ok(units_of(alloc, &value)?)
 }
 
 // The JSON value of a text.

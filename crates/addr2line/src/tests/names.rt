@@ -113,6 +113,23 @@ fn name_in<'a>(
     }
 }
 
+// The name of the entry at an offset of the unit of a number, among these units.
+fn name_among(
+    alloc: Global,
+    dwarf: &Dwarf<Slice>,
+    units: &[Unit<Slice>],
+    supplement_units: &[Unit<Slice>],
+    file: DebugFile,
+    entry: (usize, usize),
+) -> Result<Option<Slice>, Error> {
+    let Some(unit) = units.get(entry.0) else {
+        return Err(Error::NoSuchUnit);
+    };
+    let known = KnownUnits::new(units, supplement_units);
+    let holder = HoldingUnit::new(file, UnitRef::new(dwarf, unit));
+    name_in(alloc, &known, &holder, entry.1)
+}
+
 // The name of the entry at an offset of the unit of a number.
 fn name_of(
     alloc: Global,
@@ -122,14 +139,7 @@ fn name_of(
 ) -> Result<Option<Slice>, Error> {
     let units = units_of(alloc, dwarf)?;
     let supplement_units = units_of_sup(alloc, dwarf)?;
-    let unit = units.get(entry.0).ok_or(Error::NoSuchUnit)?;
-    let known = KnownUnits::new(units.as_slice(), supplement_units.as_slice());
-    name_in(
-        alloc,
-        &known,
-        &HoldingUnit::new(file, UnitRef::new(dwarf, unit)),
-        entry.1,
-    )
+    name_among(alloc, dwarf, &units, &supplement_units, file, entry)
 }
 
 fn is_text(name: &Option<Slice>, text: Option<&str>) -> bool {

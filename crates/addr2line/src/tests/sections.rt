@@ -122,7 +122,15 @@ fn is_cached(alloc: Global, info: &'static [u8], code: u64) -> Result<bool, Erro
 
 fn is_in_cache(alloc: Global, dwarf: Dwarf<Slice>, code: u64) -> Result<bool, Error> {
     let mut dwarf = dwarf;
-    dwarf.populate_abbreviations_cache(alloc, AbbreviationsCacheStrategy::Duplicates)?;
+    match dwarf.populate_abbreviations_cache(alloc, AbbreviationsCacheStrategy::Duplicates) {
+        Ok(()) => has_code(alloc, &dwarf, code),
+        Err(error) => Err(error),
+    }
+}
+
+// Whether the cache has a table of offset 0 with this code. It is asked for an empty section, so a
+// table that it doesn't keep has no code.
+fn has_code(alloc: Global, dwarf: &Dwarf<Slice>, code: u64) -> Result<bool, Error> {
     let other = DebugAbbrev::new(&[], LittleEndian);
     let cache = &dwarf.abbreviations_cache;
     match cache.get(alloc, &other, DebugAbbrevOffset(0)) {

@@ -271,6 +271,7 @@ fn small_and_large_tables(rt: HostRuntime) -> Result<(), Fail> {
     let alloc = rt.alloc();
     assert_eq!(rt; weight_of(alloc, "{\"units\":[]}")?, 8192);
     assert_eq!(rt; weight_of(alloc, TABLE_A)?, 10268);
+    assert_eq!(rt; weight_of(alloc, &table_c(alloc)?)?, 10528);
     for descends in [false, true] {
         let unit = large_unit(alloc, 100_000, descends)?;
         assert_eq!(rt; count_of_units(vec![in alloc; unit]?), Ok(1));

@@ -6,6 +6,12 @@ use super::{addresses_argument, table_argument};
 use clap::Command;
 use std::alloc::{AllocError, Global};
 
+const NOTES: &str = "Example: the source line of one address
+  linemap ask table.json 0x100f
+
+A table that can't be used is refused by a number, B2 to B20, or by M2 where it is too large.
+docs/PROVED.md says what they mean, and how a table is written.";
+
 /// `ask TABLE ADDR..`: at least one address.
 pub fn ask_command<'a>(alloc: Global) -> Result<Command<'a>, AllocError>
     ensures { IfOk result (λ command. IsLocalApp command ask_app) }
@@ -14,9 +20,6 @@ pub fn ask_command<'a>(alloc: Global) -> Result<Command<'a>, AllocError>
     let arguments = vec![in alloc; table_argument(alloc), addresses]?;
     Command::new(alloc, "ask")
         .about("Prints the source line of each address of a table")
-        .after_help(
-            "Example: the source line of one address\n  \
-            linemap ask table.json 0x100f",
-        )
+        .after_help(NOTES)
         .args(arguments)
 }

@@ -23,6 +23,15 @@ pub const SIZE: &str = "size";
 /// The option of the byte order.
 pub const BIG: &str = "big";
 
+const NOTES: &str = "Example: write the file, and ask it for an address
+  linemap emit table.json table.elf
+  linemap lookup -e table.elf 0x100f
+
+Version 2 has only the format of 32 bits.
+
+A table that can't be used is refused by a number, B2 to B20, or by M2 where it is too large.
+docs/PROVED.md says what they mean, and how a table is written.";
+
 /// `emit TABLE OUT [--dwarf N] [--bits N] [--size N] [--big]`.
 pub fn emit_command<'a>(alloc: Global) -> Result<Command<'a>, AllocError>
     ensures { IfOk result (λ command. IsLocalApp command emit_app) }
@@ -30,18 +39,14 @@ pub fn emit_command<'a>(alloc: Global) -> Result<Command<'a>, AllocError>
     let arguments = vec![in alloc;
         table_argument(alloc),
         out_argument(alloc),
-        number_option(alloc, DWARF, "4", "Version of DWARF"),
+        number_option(alloc, DWARF, "4", "Version of DWARF, 2 to 5"),
         number_option(alloc, BITS, "32", "Format of DWARF, 32 or 64 bits"),
         number_option(alloc, SIZE, "8", "Size of an address, 4 or 8 bytes"),
         flag(alloc, BIG, "Write the most significant byte first"),
     ]?;
     Command::new(alloc, "emit")
         .about("Writes a table as an ELF file with debug information")
-        .after_help(
-            "Example: write the file, and ask it for an address\n  \
-            linemap emit table.json table.elf\n  \
-            linemap lookup -e table.elf 0x100f",
-        )
+        .after_help(NOTES)
         .args(arguments)
 }
 

@@ -8,6 +8,6 @@ pub returns-clause-count : goal.returns-clause-count
 returns-clause-count c =
     let entries = c.args.entries.now in
     let a = c.args.address in
-    count_from_point a entries c.partition_point.result c.partition_point.ensures.bound
+    count_from_point (ends_by a) entries c.partition_point.result c.partition_point.ensures.bound
     (IsPartitionPoint-from_clause (ends_by a) entries c.partition_point.result c.partition_point.ensures.partitioned
     (IsPartitionedBy-leb end_of entries a c.requires) (λ x r f k. search (rules, of_calls)))

@@ -8,6 +8,7 @@ use Rattle.addr2line_lookups.specs.KeptCalls.{known_among}
 use Rattle.addr2line_lookups.specs.FunctionPlaces.{function_with_calls_at, chain_of, FindsFunction}
 use Rattle.addr2line_lookups.specs.FramePlaces.{frames_at_number, FindsFrames}
 use Rattle.addr2line_lookups.proofs.KeptLines.{same_plain}
+use Rattle.addr2line_lookups.proofs.AskedLines.{no_refusal}
 use Rattle.addr2line_lookups.proofs.CallsOfUnits.{hold_same}
 use Rattle.addr2line_lookups.proofs.FoundFrames.{function_refuses, found_function, lines_refuse, function_stays, frames_found}
 use Rattle.addr2line_lookups.proofs.LookupProbes.{looks_without_row, looks_for_frames}
@@ -76,7 +77,7 @@ returns g c =
       calls = hold_same known ws xs rows.values rows.same found.calls;
       found =
           subst P (sym c.place_if_any.ensures)
-          (frames_found known a n xs vs (rows.values ∙ found.values) rows.kept function row
+          (frames_found known a n xs vs (rows.values ∙ found.values) (rows.kept (no_refusal row)) function row
           (subst Q (sym rows.chain)
           (function_stays ws xs rows.values rows.same n a (function_with_calls_at known vs a n) function chain
           found.found))

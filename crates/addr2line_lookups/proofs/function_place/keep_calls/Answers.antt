@@ -1,13 +1,14 @@
-use Rattle.std.proofs.Common.{◌≡◌, IfOk, List, is_some, true, refl, subst}
+use Rattle.std.proofs.Common.{◌≡◌, IfOk, List, is_some, true, refl, sym, subst}
 use Rattle.std.proofs.lemmas.Result.{on_ok_weaker}
 use Rattle.addr2line_resolved.specs.Calls.{ReturnsAsOrNoMemory}
 use Rattle.addr2line_resolved.specs.CountedFunctions.{CountedCalls}
+use Rattle.addr2line_resolved.specs.OrderedUnits.{AreKnownInOrder}
 use Rattle.addr2line_resolved.specs.KeptFunctions.{kept_at}
 use Rattle.addr2line_resolved.specs.ResolvedUnits.{ResolvedUnit}
 use Rattle.addr2line_lookups.specs.KeptCalls.{known_among, calls_among}
 use Rattle.addr2line_lookups.specs.FunctionPlaces.{HasFunction}
 use Rattle.addr2line_lookups.proofs.UnitRows.{same_values}
-use Rattle.addr2line_lookups.proofs.CallsOfUnits.{if_here, if_there, same_unit, holds_here, holds_set, kept_set, same_count, holds_kept, value_kept, length_kept, counts_kept, keeps_kept, kept_there}
+use Rattle.addr2line_lookups.proofs.CallsOfUnits.{if_here, if_there, same_unit, holds_here, holds_set, kept_set, same_count, holds_kept, value_kept, length_kept, counts_kept, keeps_kept, kept_there, not_kept}
 use Rattle.addr2line_lookups.proofs.UnitProbes.{looks_none, looks_set, looks_nowhere}
 use Rattle.addr2line_lookups.proofs.function_place.keep_calls.Goals as goal
 
@@ -24,14 +25,22 @@ returns-then-is_some g c =
           (λ w. is_some (kept_at w.calls k) ≡ true)
           (kept_there _ c.kept_calls.result _ c.is_some.result c.kept_calls.ensures c.is_some.ensures
           c.if-is_some.true);
+      same = λ kept. refl;
       cost = looks_none 0 us;
       refusal = tt;
     }
 
 pub read_calls-read-requires : goal.read_calls-read-requires
 read_calls-read-requires g c =
-    if_here c.args.units.now.items c.args.number c.index-unit.result.now c.requires.unit c.index-unit.ensures
-    (HasFunction c.args.function) c.requires.function
+    let s = c.args.supplement_units.now in
+    record {
+      function =
+          if_here c.args.units.now.items c.args.number c.index-unit.result.now c.requires.unit c.index-unit.ensures
+          (HasFunction c.args.function) c.requires.function;
+      order =
+          subst (λ (us : List ResolvedUnit). AreKnownInOrder (known_among us s)) (sym c.as_slice.ensures.value)
+          c.requires.calls.order;
+    }
 
 pub keep_calls-requires : goal.keep_calls-requires
 keep_calls-requires g c =
@@ -81,6 +90,11 @@ returns g c =
           on_ok_weaker r (kept_set us n u below is new k)
           (keeps_kept known u new k read r kept.ok
           (if_here us n u below is (HasFunction k) c.requires.function));
+      same = λ before.
+          absurd (not_kept _ c.kept_calls.result _ c.is_some.result c.kept_calls.ensures c.is_some.ensures
+          c.if-is_some.false
+          (if_here us n c.index-unit.result.now below c.index-unit.ensures (λ w. is_some (kept_at w.calls k) ≡ true)
+          before));
       cost =
           let counts = counts_kept known u new k read r kept.ok kept.err in
           looks_set us n u below is new 0 (looks_nowhere u new counts.0 counts.1);

@@ -9,6 +9,12 @@ use Rattle.addr2line_lookups.specs.KeptCalls.{known_among, calls_among}
 use Rattle.addr2line_lookups.proofs.CallsOfUnits.{known_is, calls_from_holder, no_calls_from}
 use Rattle.addr2line_lookups.proofs.function_place.read_calls.Goals as goal
 
+pub in_order-requires : goal.in_order-requires
+in_order-requires g c = record {
+  units = c.requires.order.units;
+  supplement = c.requires.order.supplement_units;
+}
+
 pub returns : goal.returns
 returns g c =
     let v = c.args.unit.now.value in
@@ -21,8 +27,8 @@ returns g c =
       calls =
           subst P
           (sym (ap (λ (x : KnownUnits). calls_among x v k)
-          (known_is us s c.new.result c.new.ensures.units c.new.ensures.supplement)
-          ∙ calls_from_holder c.new.result v c.in_ok-functions_unit.field-0 k c.in_ok-functions_unit.ensures))
+          (known_is us s c.in_order.result c.in_order.ensures.units c.in_order.ensures.supplement)
+          ∙ calls_from_holder c.in_order.result v c.in_ok-functions_unit.field-0 k c.in_ok-functions_unit.ensures))
           c.read_calls.ensures.calls;
       counter = c.read_calls.ensures.counter;
     }

@@ -1,23 +1,23 @@
--- The answer is that of the ranges that are left, the units' values are the same, and looks are left for the ranges
--- that are left.
-use Rattle.std.proofs.Common.{◌≡◌, length, map}
+-- The units before the index know nothing, the units' values are the same, and looks are left for the ranges that are
+-- left.
+use Rattle.std.proofs.Common.{◌≡◌, length, map, drop}
 use Rattle.addr2line_resolved.specs.NumberedRanges.{covering_ranges}
 use Rattle.addr2line_resolved.specs.ResolvedUnits.{value_of_unit}
 use Rattle.addr2line_lookups.specs.KeptCalls.{known_among, HoldCalls}
-use Rattle.addr2line_lookups.specs.UnitLookups.{frames_among}
+use Rattle.addr2line_lookups.specs.PassedUnits.{PassFrames}
 use Rattle.addr2line_lookups.proofs.UnitProbes.{LooksLeft}
 use Rattle.addr2line_lookups.proofs.LookupProbes.{frame_probes_among}
 use Rattle.addr2line_lookups.proofs.lookups.settle_frames.Given as goal
 
-abbrev pub invariant-loop-range : goal.invariant-loop-range
-invariant-loop-range g l =
-    let known = known_among l.fn.units.items l.supplement_units in
-    let vs = map value_of_unit l.fn.units.items in
-    (map value_of_unit l.units.items ≡ vs)
+abbrev pub invariant-loop-unit : goal.invariant-loop-unit
+invariant-loop-unit g l =
+    let us = l.fn.units.items in
+    let known = known_among us l.supplement_units in
+    (map value_of_unit l.units.items ≡ map value_of_unit us)
     × HoldCalls known l.units.items
-    × (frames_among known vs l.probe (covering_ranges l.probe l.ranges) ≡ frames_among known vs l.probe l.covering)
-    × LooksLeft (frame_probes_among l.fn.units.items l.supplement_units l.probe (covering_ranges l.probe l.ranges))
-    (frame_probes_among l.fn.units.items l.supplement_units l.probe l.covering) l.fn.units.items l.units.items
+    × PassFrames known (map value_of_unit us) l.probe l.from l.ranges
+    × LooksLeft (frame_probes_among us l.supplement_units l.probe (covering_ranges l.probe l.ranges))
+    (frame_probes_among us l.supplement_units l.probe (covering_ranges l.probe (drop l.from l.ranges))) us l.units.items
 
-abbrev pub decreases-loop-range : goal.decreases-loop-range
-decreases-loop-range g l = length l.covering
+abbrev pub decreases-loop-unit : goal.decreases-loop-unit
+decreases-loop-unit g l = length (covering_ranges l.probe (drop l.from l.ranges))

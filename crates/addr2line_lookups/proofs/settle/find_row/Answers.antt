@@ -5,6 +5,7 @@ use Rattle.addr2line_resolved.specs.Lines.{LineRow}
 use Rattle.addr2line_resolved.specs.PlaceLookups.{location_at}
 use Rattle.addr2line_resolved.specs.Contexts.{ranges_of, lines_of}
 use Rattle.addr2line_resolved.specs.ResolvedUnits.{plain_unit}
+use Rattle.addr2line_lookups.proofs.AskedLines.{asked_begin, asked_end, asked_next, asked_found, asked_refused, no_refusal}
 use Rattle.addr2line_lookups.proofs.CallsLeft.{leaves_none, leaves_both}
 use Rattle.addr2line_lookups.proofs.UnitRows.{ok_row, answers_start, row_found, none_found, refusal_found}
 use Rattle.addr2line_lookups.specs.declared.settle.UnitRow.{UnitRow}
@@ -25,6 +26,8 @@ loop-range-init g c = (
       (row_probes_among c.args.units.now.items c.args.probe c.covering-covering.result) c.args.units.now.items
       (ap (row_probes_among c.args.units.now.items c.args.probe) c.covering-covering.ensures),
   λ kept. subst (KeepsRanges c.args.units.now.items) (sym c.covering-covering.ensures) kept,
+  asked_begin c.args.probe c.args.units.now.items c.covering-covering.result
+      (covering_ranges c.args.probe c.args.ranges.now) c.covering-covering.ensures,
 )
 
 pub returns-in_err-row-clause-found : goal.returns-in_err-row-clause-found
@@ -61,7 +64,35 @@ loop-range-preserved g c =
       λ kept.
           keeps_rest vs c.in-Some.range c.loop-range.covering c.next.new.self c.in-Some.ensures.none
           (c.loop-range.invariant.4 kept) c.find_row_at.new.units.items c.in_ok-row.ensures.cost.more,
+      asked_next c.args.probe vs c.find_row_at.new.units.items c.in-Some.range c.loop-range.covering c.next.new.self
+          (covering_ranges c.args.probe c.args.ranges.now) c.in-Some.ensures.none c.loop-range.invariant.5
+          c.in_ok-row.ensures.cost.more (c.in_ok-row.ensures.kept (no_refusal _)),
     )
+
+pub returns-in-Some-2-clause-kept : goal.returns-in-Some-2-clause-kept
+returns-in-Some-2-clause-kept g c = c.in_ok-row.ensures.kept (no_refusal _)
+
+pub returns-in_err-row-clause-asked : goal.returns-in_err-row-clause-asked
+returns-in_err-row-clause-asked g c =
+    let p = err_from_is_err_and c.from_residual.result c.from_residual.ensures.1 in
+    rw (p.1, p.2) (λ other.
+    asked_refused c.args.probe c.loop-range.units.items c.find_row_at.new.units.items c.in-Some.range
+    c.loop-range.covering c.next.new.self (covering_ranges c.args.probe c.args.ranges.now) c.in-Some.ensures.none
+    c.loop-range.invariant.5 c.in_err-row.ensures.cost.more c.in_err-row.ensures.values _
+    (refused_so (Option UnitRow) (Option LineRow) _ Memory other) c.in_err-row.ensures.found
+    c.in_err-row.ensures.kept)
+
+pub returns-in-Some-2-clause-asked : goal.returns-in-Some-2-clause-asked
+returns-in-Some-2-clause-asked g c = λ answered.
+    asked_found c.args.probe c.loop-range.units.items c.find_row_at.new.units.items c.in-Some.range
+    c.loop-range.covering c.next.new.self (covering_ranges c.args.probe c.args.ranges.now) c.in-Some.ensures.none
+    c.loop-range.invariant.5 c.in_ok-row.ensures.cost.more c.in_ok-row.ensures.values c.in-Some-2.row
+    (c.in_ok-row.ensures.found ∙ ap ok_row c.in-Some-2.is) (c.in_ok-row.ensures.kept (no_refusal _))
+
+pub returns-clause-asked : goal.returns-clause-asked
+returns-clause-asked g c = λ answered.
+    asked_end c.args.probe c.loop-range.units.items c.loop-range.covering
+    (covering_ranges c.args.probe c.args.ranges.now) c.in_default.ensures.none c.loop-range.invariant.5
 
 pub returns-in_err-row-clause-calls : goal.returns-in_err-row-clause-calls
 returns-in_err-row-clause-calls g c =

@@ -1,5 +1,4 @@
 use Rattle.std.proofs.Common.{◌<◌, length, subst, sym, ap, Result, Option, arith}
-use Rattle.std.proofs.lemmas.Result.{on_ok_weaker}
 use Rattle.addr2line_resolved.specs.Error.{Error}
 use Rattle.addr2line_resolved.specs.Calls.{ReturnsOrNoMemory}
 use Rattle.addr2line_resolved.specs.Lines.{LineRow}
@@ -25,7 +24,7 @@ returns g c =
           (ap value_of_unit c.find_row.ensures.unit);
       found = subst P (sym (row_here us n c.args.probe unit below c.index_mut-unit.ensures.value))
           c.find_row.ensures.row;
-      kept = on_ok_weaker c.find_row.result (keeps_set us n new) c.find_row.ensures.kept;
+      kept = λ answered. keeps_set us n new (c.find_row.ensures.kept answered);
       calls =
           leaves_calls us n unit below c.index_mut-unit.ensures.value new
           (leaves_value unit new (ap value_of_unit c.find_row.ensures.unit)

@@ -1,8 +1,9 @@
 use Rattle.std.proofs.Common.{inl, option_map, sym, ◌∙◌}
 use Rattle.addr2line_lookups.proofs.AnsweredLoads.{file_left, plain_left}
 use Rattle.addr2line_lookups.proofs.UnitProbes.{looks_none}
+use Rattle.addr2line_lookups.proofs.PassedUnits.{decided_same}
 use Rattle.addr2line_context.proofs.ContextParts.{value_is, looks_since}
-use Rattle.addr2line_context.proofs.KeptUnits.{holds_after}
+use Rattle.addr2line_context.proofs.KeptUnits.{holds_after, loads_pending}
 use Rattle.addr2line_context.proofs.FirstLoads.{none_answered, none_fewer, answer_left, answered_ok, answered_refusal, answered_fewer}
 use Rattle.addr2line_context.proofs.context.Context.answer_first.Goals as goal
 
@@ -48,4 +49,7 @@ invariant_of-self g c =
     let h = c.answer_at-answered.ensures.answer in
     holds_after _ _ us vs c.self.invariant (plain_left us vs answered _ _ h)
     (file_left us vs answered _ _ h c.self.inside.sections.value.file c.self.invariant.are_of_file)
-    c.answer_at-answered.ensures.calls
+    c.answer_at-answered.ensures.calls (decided_same _ _ _ _ answered h)
+
+pub first_waiting-requires : goal.first_waiting-requires
+first_waiting-requires g c = loads_pending _ _ _ c.self.invariant c.args.probe _ c.furthest_for-from.ensures

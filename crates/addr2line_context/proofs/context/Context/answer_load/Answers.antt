@@ -1,11 +1,14 @@
-use Rattle.std.proofs.Common.{map, option_map, subst}
+use Rattle.std.proofs.Common.{◌≡◌, ℕ, map, option_map, None, sym, subst}
 use Rattle.addr2line_lookups.specs.Lookups.{answer_load}
 use Rattle.addr2line_lookups.specs.ResolvedUnits.{value_of_unit}
 use Rattle.addr2line_lookups.specs.AnsweredUnits.{answers_of}
 use Rattle.addr2line_lookups.specs.LoadAnswers.{AnswersOrNoMemory}
+use Rattle.addr2line_lookups.specs.Preloads.{load_at}
+use Rattle.addr2line_context.specs.KeptContexts.{ResolvedContext}
 use Rattle.addr2line_lookups.proofs.AnsweredLoads.{file_left, plain_left}
+use Rattle.addr2line_lookups.proofs.PassedUnits.{decided_same}
 use Rattle.addr2line_context.proofs.ContextParts.{value_is, looks_since}
-use Rattle.addr2line_context.proofs.ContextLoads.{answer_of_context, same_plain_context}
+use Rattle.addr2line_context.proofs.ContextLoads.{answer_of_context, same_plain_context, decided_in_context}
 use Rattle.addr2line_context.proofs.KeptUnits.{holds_after}
 use Rattle.addr2line_context.proofs.context.Context.answer_load.Goals as goal
 
@@ -17,6 +20,7 @@ invariant_of-self g c =
     holds_after _ _ us vs c.self.invariant (plain_left us vs c.answer_at.result _ _ h)
     (file_left us vs c.answer_at.result _ _ h c.self.inside.sections.value.file c.self.invariant.are_of_file)
     c.answer_at.ensures.calls
+    (decided_same _ _ _ _ c.answer_at.result h)
 
 pub returns-clause-answers : goal.returns-clause-answers
 returns-clause-answers g c =
@@ -34,3 +38,19 @@ returns-clause-plain g c =
 
 pub returns-clause-cost : goal.returns-clause-cost
 returns-clause-cost g c = looks_since _ _ _ _ c.self.view_is 0 c.answer_at.new.self c.answer_at.ensures.cost
+
+pub returns-clause-decided : goal.returns-clause-decided
+returns-clause-decided g c =
+    let old = c.args.self.now in
+    let new = c.answer_at.new.self in
+    let r = c.answer_at.result in
+    let P : ℕ → Type 0 =
+    λ n. load_at (map value_of_unit old.units) n ≡ None
+    → answer_load old.value.plain old.value.answers n (option_map (λ f. f.value.file) c.args.file)
+    ≡ (r, answers_of (map value_of_unit new)) in
+    subst P c.number.ensures (λ none.
+    decided_in_context _ _ _ c.self.invariant.are_of_file new r _ _ c.answer_at.ensures.answer old.value
+    (value_is _ _ _ _ c.self.view_is)
+    (c.answer_at.ensures.decided
+    (subst (λ (x : ResolvedContext). load_at (map value_of_unit x.units) c.number.result ≡ None) (sym c.self.view_is)
+    none)))

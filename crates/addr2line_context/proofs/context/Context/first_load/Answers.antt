@@ -1,6 +1,7 @@
 use Rattle.std.proofs.lemmas.Result.{err_from_is_err_and}
 use Rattle.addr2line_context.proofs.ContextParts.{value_is}
 use Rattle.addr2line_context.proofs.FirstLoads.{load_found, no_load_found, load_refused}
+use Rattle.addr2line_context.proofs.KeptUnits.{loads_pending}
 use Rattle.addr2line_context.proofs.context.Context.first_load.Goals as goal
 
 pub returns-in_err-load : goal.returns-in_err-load
@@ -18,3 +19,6 @@ pub unreachable-requires : goal.unreachable-requires
 unreachable-requires g c =
     no_load_found _ _ _ c.self.invariant.are_of_file c.args.probe _ (value_is _ _ _ _ c.self.view_is) _ c.in-None.is
     c.in_ok-load.ensures c.requires
+
+pub first_load-requires : goal.first_load-requires
+first_load-requires g c = loads_pending _ _ _ c.self.invariant c.args.probe _ c.furthest_for-from.ensures

@@ -64,6 +64,10 @@ pub invariant_of-result : goal.invariant_of-result
 invariant_of-result g c =
     let file = c.args.sections.value.file in
     let supplement_units = c.in_ok-supplement_units.supplement_units.items in
-    subst (λ (us : List ResolvedUnit). HoldsUnits file supplement_units us) (sym c.in_ok-kept.ensures.ok)
+    let f = c.none.result in
+    let u = c.none-2.result in
+    subst (λ (us : List ResolvedUnit). HoldsUnits file supplement_units us f u) (sym c.in_ok-kept.ensures.ok)
     (holds_new file supplement_units c.in_ok-units.units.items c.in_ok-units.ensures.units
-    c.in_ok-units.ensures.functions)
+    (subst (λ (s : CachedFile). units_of_supplement (supplement s.file) ≡ Ok supplement_units) c.as_ref-dwarf.ensures
+    c.in_ok-supplement_units.ensures)
+    c.in_ok-units.ensures.functions f u c.none.ensures c.none-2.ensures)

@@ -3,7 +3,7 @@ use Rattle.addr2line_lookups.specs.UnitParses.{check_functions_of}
 use Rattle.addr2line_lookups.proofs.UnitWalks.{plain_walked}
 use Rattle.addr2line_context.proofs.ContextParts.{file_context_with, value_is, looks_since}
 use Rattle.addr2line_context.proofs.ContextWalks.{says_functions, walk_of_context, same_plain_walked, of_file_walked}
-use Rattle.addr2line_context.proofs.KeptUnits.{holds_after}
+use Rattle.addr2line_context.proofs.KeptUnits.{holds_anew}
 use Rattle.addr2line_context.proofs.context.Context.parse_functions.Goals as goal
 
 pub invariant_of-self : goal.invariant_of-self
@@ -14,11 +14,12 @@ invariant_of-self g c =
     let new = c.check_functions.new.self in
     let of_file = c.self.invariant.are_of_file in
     let walk = c.check_functions.ensures.walk in
-    holds_after file s i.units new c.self.invariant
+    holds_anew file s i.units new c.self.invariant
     (plain_walked check_functions_of c.check_functions.result i.units new walk)
     (of_file_walked file i.units s of_file functions_or_refusal check_functions_of
     (says_functions (file_context_with file i.units s)) new c.check_functions.result walk)
-    c.check_functions.ensures.calls
+    c.check_functions.ensures.calls c.none-self-inside.result c.none-self-inside-2.result
+    c.none-self-inside.ensures c.none-self-inside-2.ensures
 
 pub returns-clause-functions : goal.returns-clause-functions
 returns-clause-functions g c =

@@ -15,6 +15,7 @@ returns g c =
             (record {
               image = c.self.inside.elf;
               symbols = c.self.inside.symbols;
+              sections = c.self.inside.sections.value;
               context = c.self.inside.context.value.plain;
               answers = c.self.inside.context.value.answers;
             })

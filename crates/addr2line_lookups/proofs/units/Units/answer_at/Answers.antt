@@ -1,7 +1,8 @@
-use Rattle.std.proofs.Common.{◌∙◌, ap, sym, subst, map, option_map, List}
+use Rattle.std.proofs.Common.{◌≡◌, ◌∙◌, ap, sym, subst, map, option_map, List, None}
 use Rattle.addr2line_resolved.specs.ContextUnits.{ordered_ranges}
 use Rattle.addr2line_resolved.specs.ResolvedUnits.{ResolvedUnit, value_of_unit}
 use Rattle.addr2line_lookups.specs.KeptCalls.{LeavesCalls}
+use Rattle.addr2line_lookups.specs.Preloads.{load_at}
 use Rattle.addr2line_lookups.specs.LoadAnswers.{AnswersOrNoMemory, answer_at}
 use Rattle.addr2line_lookups.proofs.AnsweredLoads.{plain_left}
 use Rattle.addr2line_lookups.proofs.units.Units.answer_at.Goals as goal
@@ -24,3 +25,9 @@ pub returns-clause-calls : goal.returns-clause-calls
 returns-clause-calls g c =
     subst (λ (us : List ResolvedUnit). LeavesCalls us c.answer_at.new.units.items) c.self.view_is
     c.answer_at.ensures.calls
+
+pub returns-clause-decided : goal.returns-clause-decided
+returns-clause-decided g c =
+    subst (λ (us : List ResolvedUnit). load_at (map value_of_unit us) c.args.number ≡ None
+    → answer_at (map value_of_unit us) c.args.number (option_map (λ f. f.value.file) c.args.file)
+    ≡ (c.answer_at.result, map value_of_unit c.answer_at.new.units.items)) c.self.view_is c.answer_at.ensures.decided

@@ -5,7 +5,7 @@ use Rattle.addr2line_lookups.specs.KeptCalls.{LeavesCalls}
 use Rattle.addr2line_lookups.proofs.KeptLines.{same_plain}
 use Rattle.addr2line_resolved.specs.UnitRange.{UnitRange}
 use Rattle.addr2line_resolved.specs.NumberedRanges.{covering_ranges}
-use Rattle.addr2line_lookups.specs.KeptUnits.{KeepsRanges, KeepsCovering}
+use Rattle.addr2line_lookups.specs.KeptUnits.{KeepsRanges, KeepsCovering, KeepsAsked}
 use Rattle.addr2line_lookups.specs.LookupCosts.{AtMostLooks}
 use Rattle.addr2line_lookups.proofs.LookupProbes.{row_probes_among}
 use Rattle.addr2line_lookups.proofs.units.Units.find_row.Goals as goal
@@ -37,3 +37,11 @@ returns-clause-free g c = λ kept.
     c.find_row.ensures.free
     (subst (λ (rs : List UnitRange). KeepsRanges us (covering_ranges a rs)) (sym c.self.invariant)
     (subst (KeepsCovering a) (sym c.self.view_is) kept))
+
+pub returns-clause-asked : goal.returns-clause-asked
+returns-clause-asked g c = λ answered.
+    let a = c.args.probe in
+    let asked : List UnitRange → Type 0 =
+    λ rs. KeepsAsked a c.find_row.new.units.items (covering_ranges a rs) in
+    subst (λ (us : List ResolvedUnit). asked (ordered_ranges (map plain_unit us))) c.self.view_is
+    (subst asked c.self.invariant (c.find_row.ensures.asked answered))

@@ -5,7 +5,20 @@ use Rattle.addr2line_resolved.specs.UnitRange.{UnitRange}
 use Rattle.addr2line_resolved.specs.ContextUnits.{ordered_ranges}
 use Rattle.addr2line_resolved.specs.ResolvedUnits.{ResolvedUnit, plain_unit, value_of_unit}
 use Rattle.addr2line_lookups.specs.Preloads.{loads_at, first_load}
+use Rattle.addr2line_lookups.specs.PassedUnits.{PassLoads}
 use Rattle.addr2line_lookups.proofs.units.Units.first_load.Goals as goal
+
+pub first_load-requires : goal.first_load-requires
+first_load-requires g c =
+    let units = c.as_slice.result.now in
+    let passes : List ResolvedUnit → List UnitRange → Type 0 =
+    λ us rs. PassLoads (map value_of_unit us) c.args.probe c.args.from rs in
+    let here : List ResolvedUnit → Type 0 = λ us. passes us (ordered_ranges (map plain_unit us)) in
+    let same = c.as_slice.ensures.value ∙ c.self.view_is in
+    let order =
+    c.self.invariant
+    ∙ ap (λ (us : List ResolvedUnit). ordered_ranges (map plain_unit us)) (sym c.as_slice.ensures.value) in
+    subst (passes units) (sym order) (subst here (sym same) c.requires)
 
 pub returns : goal.returns
 returns g c =

@@ -5,6 +5,7 @@ use Rattle.addr2line_resolved.specs.ContextUnits.{ordered_ranges}
 use Rattle.addr2line_resolved.specs.ResolvedUnits.{ResolvedUnit, plain_unit, value_of_unit}
 use Rattle.addr2line_lookups.specs.KeptCalls.{known_among, HoldCalls}
 use Rattle.addr2line_lookups.specs.UnitLookups.{unit_among, SettlesUnit}
+use Rattle.addr2line_lookups.specs.PassedUnits.{PassUnits}
 use Rattle.addr2line_lookups.proofs.KeptLines.{same_plain}
 use Rattle.addr2line_lookups.specs.LookupCosts.{AtMostLooks}
 use Rattle.addr2line_lookups.proofs.LookupProbes.{frame_probes_among}
@@ -13,7 +14,15 @@ use Rattle.addr2line_lookups.proofs.units.Units.settle_unit.Goals as goal
 pub settle_unit-requires-clause-calls : goal.settle_unit-requires-clause-calls
 settle_unit-requires-clause-calls g c =
     let s = c.args.supplement_units.now in
-    subst (λ (us : List ResolvedUnit). HoldCalls (known_among us s) us) (sym c.self.view_is) c.requires
+    subst (λ (us : List ResolvedUnit). HoldCalls (known_among us s) us) (sym c.self.view_is) c.requires.calls
+
+pub settle_unit-requires-clause-passed : goal.settle_unit-requires-clause-passed
+settle_unit-requires-clause-passed g c =
+    let s = c.args.supplement_units.now in
+    let passes : List ResolvedUnit → List UnitRange → Type 0 =
+    λ us rs. PassUnits (known_among us s) (map value_of_unit us) c.args.probe c.args.from.now rs in
+    let here : List ResolvedUnit → Type 0 = λ us. passes us (ordered_ranges (map plain_unit us)) in
+    subst (passes c.self.inside.units.items) (sym c.self.invariant) (subst here (sym c.self.view_is) c.requires.passed)
 
 pub invariant_of-self : goal.invariant_of-self
 invariant_of-self g c =
@@ -33,6 +42,8 @@ returns g c =
     c.settle_unit.result in
     let looks : List ResolvedUnit → List UnitRange → Type 0 =
     λ us rs. AtMostLooks (frame_probes_among us s a (covering_ranges a rs)) us new in
+    let passes : List ResolvedUnit → List UnitRange → Type 0 =
+    λ us rs. PassUnits (known_among us s) (map value_of_unit us) a c.settle_unit.new.from rs in
     record {
       values = c.settle_unit.ensures.values ∙ ap (map value_of_unit) c.self.view_is;
       calls =
@@ -44,4 +55,7 @@ returns g c =
       cost =
           subst (λ (us : List ResolvedUnit). looks us (ordered_ranges (map plain_unit us))) c.self.view_is
           (subst (looks us) c.self.invariant c.settle_unit.ensures.cost);
+      passed =
+          subst (λ (us : List ResolvedUnit). passes us (ordered_ranges (map plain_unit us))) c.self.view_is
+          (subst (passes us) c.self.invariant c.settle_unit.ensures.passed);
     }

@@ -1,0 +1,45 @@
+-- How far a lookup of an address came among the ranges of all units. These are in the order in
+-- which lookups ask their units.
+use Rattle.std.specs.Prelude.{◌≡◌, ℕ, List, [], ◌∷◌, ◌++◌, drop, All, None, Ok}
+use Rattle.addr2line_resolved.specs.Range.{Range}
+use Rattle.addr2line_resolved.specs.UnitRange.{UnitRange}
+use Rattle.addr2line_resolved.specs.NumberedRanges.{covering_ranges}
+use Rattle.addr2line_resolved.specs.FirstAnswers.{output}
+use Rattle.addr2line_resolved.specs.EntryReferences.{KnownUnits}
+use Rattle.addr2line_resolved.specs.ResolvedUnits.{AnsweredUnit}
+use Rattle.addr2line_lookups.specs.Preloads.{loads_at}
+use Rattle.addr2line_lookups.specs.FramePlaces.{frames_of_answered}
+use Rattle.addr2line_lookups.specs.UnitLookups.{ask_at, unit_of_answered}
+
+-- From an index on, the first range over an address is one of the unit of a number; the others are
+-- from a next index on.
+abbrev pub ComesNext : ℕ → ℕ → List UnitRange → ℕ → ℕ → Type 0
+ComesNext a from rs number next =
+    (range : Range)
+    × (covering_ranges a (drop from rs)
+    ≡ record { range = range; unit = number } ∷ covering_ranges a (drop next rs))
+
+-- the unit of a range is decided, and knows nothing of what is asked
+abbrev pub KnowsNothing : {A : Type 0} → (AnsweredUnit → A) → A → List AnsweredUnit → UnitRange
+    → Type 0
+KnowsNothing ask nothing vs r = ask_at ask nothing vs r.unit ≡ output nothing
+
+-- So are all units with a range over an address before an index.
+pub record Pass {A : Type 0} (ask : AnsweredUnit → A) (nothing : A) (vs : List AnsweredUnit)
+    (a from : ℕ) (rs : List UnitRange) : Type 0 where
+  pub passed : List UnitRange
+  pub are_first : covering_ranges a rs ≡ passed ++ covering_ranges a (drop from rs)
+  pub know_nothing : All (KnowsNothing ask nothing vs) passed
+
+-- a lookup of frames goes on from an index
+abbrev pub PassFrames : KnownUnits → List AnsweredUnit → ℕ → ℕ → List UnitRange → Type 0
+PassFrames known vs a from rs = Pass (frames_of_answered known a) (Ok []) vs a from rs
+
+-- one of a unit
+abbrev pub PassUnits : KnownUnits → List AnsweredUnit → ℕ → ℕ → List UnitRange → Type 0
+PassUnits known vs a from rs = Pass (unit_of_answered known a) None vs a from rs
+
+-- the loads of an address are those from an index on
+abbrev pub PassLoads : List AnsweredUnit → ℕ → ℕ → List UnitRange → Type 0
+PassLoads vs a from rs =
+    loads_at vs (covering_ranges a rs) ≡ loads_at vs (covering_ranges a (drop from rs))
