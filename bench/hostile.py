@@ -100,11 +100,37 @@ def shared_program(count):
             "line": program(set_address(LOW) + ROW * count + END)}, [LOW + 1]
 
 
+def shared_files(count):
+    """Units that share a line number program of one row and as many files."""
+    abbrev = declaration(1, COMPILE, (STMT_LIST, OFFSET), *PLACE)
+    return {"abbrev": abbrev + b"\0", "info": unit(b"\1" + word(0) + place(LOW, 9)) * count,
+            "line": program(set_address(LOW) + ROW * 8 + END, [b"a"] * count)}, [LOW + 1]
+
+
 def shared_ranges(count):
     """Units that share a list of as many ranges."""
     abbrev = declaration(1, COMPILE, (RANGES, OFFSET))
-    ranges = b"".join(word(LOW + 2 * it) + word(LOW + 2 * it + 1) for it in range(count)) + b"\0" * 8
-    return {"abbrev": abbrev + b"\0", "info": unit(b"\1" + word(0)) * count, "ranges": ranges}, [LOW + 1]
+    return {"abbrev": abbrev + b"\0", "info": unit(b"\1" + word(0)) * count, "ranges": list_of_ranges(LOW, count)}, [LOW + 1]
+
+
+def list_of_ranges(low, count):
+    """Ranges of one address each, side by side but for one address (2.17.3)."""
+    return b"".join(word(low + 2 * it) + word(low + 2 * it + 1) for it in range(count)) + b"\0" * 8
+
+
+def shared_function_ranges(count):
+    """Functions that share a list of as many ranges."""
+    abbrev = declaration(1, COMPILE, *PLACE, children=True) + declaration(2, SUBPROGRAM, (RANGES, OFFSET))
+    entries = b"\1" + place(LOW, 2 * count) + (b"\2" + word(0)) * count + b"\0"
+    return {"abbrev": abbrev + b"\0", "info": unit(entries), "ranges": list_of_ranges(0, count)}, [LOW]
+
+
+def shared_call_ranges(count):
+    """Calls side by side that share a list of as many ranges."""
+    abbrev = (declaration(1, COMPILE, *PLACE, children=True) + declaration(2, SUBPROGRAM, *PLACE, children=True)
+              + declaration(3, INLINED, (RANGES, OFFSET)))
+    entries = b"\1" + place(LOW, 2 * count) + b"\2" + place(LOW, 2 * count) + (b"\3" + word(0)) * count + b"\0\0"
+    return {"abbrev": abbrev + b"\0", "info": unit(entries), "ranges": list_of_ranges(0, count)}, [LOW]
 
 
 def abbreviation_tails(count):
@@ -250,6 +276,13 @@ def overlapping_functions(count):
     return {"abbrev": abbrev + b"\0", "info": unit(b"\1" + place(LOW, 2 * count) + entries + b"\0")}, spread(LOW, 2 * count)
 
 
+def nested_functions(count):
+    """Functions in one another, each with an address of its own, which are all asked for."""
+    abbrev = declaration(1, COMPILE, *PLACE, children=True) + declaration(2, SUBPROGRAM, *PLACE, children=True)
+    entries = b"\1" + place(LOW, count) + b"".join(b"\2" + place(LOW + it, 1) for it in range(count)) + b"\0" * (count + 1)
+    return {"abbrev": abbrev + b"\0", "info": unit(entries)}, range(LOW, LOW + count)
+
+
 def partial_units(count):
     """Partial units, and as many units that import them."""
     abbrev = (declaration(1, COMPILE, *PLACE, children=True) + declaration(2, IMPORTED, (IMPORT, REF_ADDR))
@@ -308,6 +341,13 @@ def long_name(count):
     return {"abbrev": abbrev + b"\0", "info": unit(entries), "str": b"n" * 13 * count + b"\0"}, [LOW]
 
 
+def rust_name(count):
+    """A function whose name is a path of as many parts, as Rust mangles it."""
+    abbrev = declaration(1, COMPILE, *PLACE, children=True) + declaration(2, SUBPROGRAM, *PLACE, (NAME, STRP))
+    return {"abbrev": abbrev + b"\0", "info": unit(b"\1" + place(LOW, 9) + b"\2" + place(LOW, 9) + word(0) + b"\0"),
+            "str": b"_ZN" + b"6a$LT$b" * count + b"17h0123456789abcdefE\0"}, [LOW]
+
+
 def empty_attributes(count):
     """Entries of one byte, whose declaration has as many attributes that take none."""
     abbrev = declaration(1, COMPILE, *PLACE, children=True) + declaration(2, 0x34, *[(0x3f, PRESENT)] * count)
@@ -364,14 +404,15 @@ def section_names(count):
 
 
 # The counts are such that each image has about a megabyte, or less where that took long once.
-KINDS = {shared_program: 3600, shared_ranges: 15_000, abbreviation_tails: 17_000, nested_calls: 20_000, overlapping_calls: 20_000,
+KINDS = {shared_program: 3600, shared_files: 3600, shared_ranges: 15_000, shared_function_ranges: 3600, shared_call_ranges: 3600,
+         abbreviation_tails: 17_000, nested_calls: 20_000, overlapping_calls: 20_000,
          sequences: 100_000, falling_sequences: 100_000, ranges_and_sequences: 8_000,
          equal_sequences: 100_000, rows: 1_000_000, rows_back: 100_000, aranges: 20_000, aranges_of_one: 20_000,
          linked_units: 16_000, names_far_back: 20_000, reference_chains: 50_000, functions: 8_000, functions_in_sequences: 8_000,
-         overlapping_functions: 50_000, partial_units: 10_000,
+         overlapping_functions: 50_000, nested_functions: 10_000, partial_units: 10_000,
          overlapping_units: 20_000, abbreviations: 1_000_000, falling_abbreviations: 1_000_000, mixed_abbreviations: 1_000_000,
-         shared_abbreviations: 20_000, long_directory: 10_000, long_name: 20_000, empty_attributes: 20_000, repeated_ranges: 10_000, long_sequence: 20_000,
-         skeletons: 10_000, indirect_forms: 20_000, symbols: 50_000, symbol_names: 20_000, section_names: 16_000}
+         shared_abbreviations: 20_000, long_directory: 10_000, long_name: 20_000, rust_name: 200_000, empty_attributes: 20_000, repeated_ranges: 10_000,
+         long_sequence: 20_000, skeletons: 10_000, indirect_forms: 20_000, symbols: 50_000, symbol_names: 20_000, section_names: 16_000}
 BY_NAME = {it.__name__.replace("_", "-"): it for it in KINDS}
 
 
@@ -520,7 +561,7 @@ def words_for(what, path, asked):
         return ["ask", path, *asked]
     if what == "emit":
         return ["emit", path, os.devnull]
-    return ["-e", path, *(["-f", "-i", *asked] if what == "frames" else ["--all"])]
+    return ["-e", path, *(["-fiC", *asked] if what == "frames" else ["--all"])]
 
 
 def measure(names):

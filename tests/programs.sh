@@ -100,6 +100,9 @@ cases() {
     case_of 'linemap lookup -e c.elf -a 0x1018'
     case_of 'linemap lookup -e c.elf --llvm -a 0x1018 0xfff'
     case_of 'linemap lookup -e c.elf -fpa 0xfff'
+    case_of 'linemap lookup -fipCa -e c.elf 0x1018'
+    case_of 'linemap lookup -e c.elf --sup c.elf 0x1018'
+    case_of 'linemap lookup -e c.elf -j .debug_str 0x1018'
     case_of 'linemap lookup -e c.elf --all'
     case_of 'linemap lookup -e c.elf < /dev/null'
     case_of "printf '0x1018\\n\\377\\n0x1018\\n' | linemap lookup -e c.elf"
@@ -126,7 +129,11 @@ cases() {
     case_of 'linemap emit c.json no.elf --dwarf 65536'
     case_of 'linemap lookup 0x1018'
     case_of 'linemap look'
+    case_of 'linemap lookup -e c.elf "$(printf "\\377")"'
     case_of 'linemap lookup --help | head -n 3'
+    case_of 'linemap ask --help | sed -n "/^Example/,\$p"'
+    case_of 'linemap emit --help | sed -n "/^Example/,\$p"'
+    case_of 'linemap lookup --help | sed -n "/^Example/,\$p"'
 }
 
 # Files of a C compiler: with debug information, without any, without symbols too, compressed, not linked, and split.
