@@ -76,6 +76,9 @@ def case_inputs():
 # Addresses of one unit, the one with the longest answer first: what `lookup` needs for them it has before its first output.
 WARM = [f"{0x1000 + (it + 0x18) % 0x40:x}" for it in range(10_000)]
 
+# What is asked of linemap_cases: calls on one context, and frames in an image in a file and in two in memory.
+TABLES = "replay ", "file c.json 4 32 8 little 0x1018", "units.json 4 32 8 little 0x1010", "units.json 5 64 4 big 0x1010"
+
 # What is run: the program's words, and its input, or several one after the other.
 EMIT = [LINEMAP, "emit", f"{TOP}/examples/c.json", "c.elf"]
 RUNS = {
@@ -90,7 +93,7 @@ RUNS = {
     "cases": ([CASES], case_inputs),
     "programs": ([GIMLI_CASES], lambda: lines_of("gimli_cases", "line_program ")),
     "reading": ([GIMLI_CASES], lambda: lines_of("gimli_cases", "entries ", "abbreviations ", "line_rows ", "line_sequences ", "line_files ")),
-    "tables": ([LINEMAP_CASES], lambda: lines_of("linemap_cases", "replay ", "units.json 4 32 8 little 0x1010", "units.json 5 32 8 little 0x1010")),
+    "tables": ([LINEMAP_CASES], lambda: lines_of("linemap_cases", *TABLES)),
     "places": ([BENCH, "given.elf", "slice", "places", "addresses"], ""),
     "places-bytes": ([BENCH, "given.elf", "bytes", "places", "addresses"], ""),
     "warm": ([LINEMAP, "lookup", "-e", "given.elf", "-a"], "\n".join(WARM)),
@@ -114,15 +117,18 @@ def run(words, given, folder, refused=0):
     return ended.returncode, (ended.stdout, image), ended.stderr.decode("utf-8", "replace"), os.path.exists(f"{folder}/refused")
 
 
-# An answer of `lookup -a` for which memory was refused.
-REFUSED = re.compile(rb"0x[0-9a-f]{16}(\n|: )(\?\?(\n| at ))?\?\?:0\n")
+def is_refused(found, whole):
+    """Whether an answer of `lookup -a` is one for which memory was refused: it has no place, and no name but that of a symbol, which
+    comes right before the last place of the whole answer."""
+    refused = re.fullmatch(rb"(0x[0-9a-f]{16}(?:\n|: ))(?:(.+)\n)?\?\?:0\n", found)
+    return refused and whole.startswith(refused[1]) and refused[2] in (None, b"??", *whole.splitlines()[:-1][-1:])
 
 
 def is_but_for_refused(ample, out, err):
     """Whether an output of `lookup -a` is that with ample memory, but for as many answers as the error stream refuses."""
     whole, found = (re.split(rb"^(?=0x)", it, flags=re.MULTILINE) for it in (ample, out))
-    others = [it for it, wanted in zip(found, whole) if it != wanted]
-    return len(found) == len(whole) and len(others) <= err.count("E1\n") and all(map(REFUSED.fullmatch, others))
+    others = [it for it in zip(found, whole) if it[0] != it[1]]
+    return len(found) == len(whole) and len(others) <= err.count("E1\n") and all(is_refused(*it) for it in others)
 
 
 def fault(ample, ended):

@@ -1,7 +1,11 @@
 //! Answers as they are written.
 
+use crate::emitted::Refusal;
+use addr2line_context::Error;
+use linemap_lookup::LoadError;
 use std::alloc::{AllocError, Global};
-use std::fmt;
+use std::io::ErrorKind;
+use std::{fmt, io};
 
 /// The text of an answer. Its calls never fail, so that the code that writes has one way through
 /// it; where memory is short, `finish` says so.
@@ -29,16 +33,43 @@ impl Answer {
         }
     }
 
+    /// Adds a first answer, and is true. Where memory was refused for it, it adds what comes before
+    /// a second one, and is false.
+    pub fn add_first(&mut self, first: Answer) -> bool {
+        match first.finish() {
+            Ok(text) => {
+                self.text(&text);
+                true
+            }
+            Err(_) => {
+                self.again();
+                false
+            }
+        }
+    }
+
+    /// What comes before an answer to what is asked again.
+    pub fn again(&mut self) {
+        self.text("E1, then ");
+    }
+
     pub fn text(&mut self, text: &str) {
         if self.text.push_str(text).is_err() {
-            self.is_short_of_memory = true;
+            self.refuse_memory();
         }
     }
 
     /// A value for readers.
     pub fn value<T: fmt::Display>(&mut self, value: &T) {
         if write!(self.text, "{value}").is_err() {
-            self.is_short_of_memory = true;
+            self.refuse_memory();
+        }
+    }
+
+    /// A number in hexadecimal.
+    pub fn hex(&mut self, number: u64) {
+        if write!(self.text, "{number:#x}").is_err() {
+            self.refuse_memory();
         }
     }
 
@@ -47,6 +78,46 @@ impl Answer {
         match number {
             Some(number) => self.value(&number),
             None => self.text("?"),
+        }
+    }
+
+    // ---- refusals
+
+    /// Records that memory was refused.
+    pub fn refuse_memory(&mut self) {
+        self.is_short_of_memory = true;
+    }
+
+    /// A refusal of a lookup, other than of memory.
+    pub fn refuse(&mut self, error: Error) {
+        match error {
+            Error::Memory => self.refuse_memory(),
+            other => self.value(&other),
+        }
+    }
+
+    /// A refusal of an image, other than of memory.
+    pub fn refuse_image(&mut self, error: LoadError) {
+        match error {
+            LoadError::Memory => self.refuse_memory(),
+            other => self.value(&other),
+        }
+    }
+
+    /// Why nothing is emitted of a table, if not for a refusal of memory.
+    pub fn refuse_table(&mut self, refusal: Refusal) {
+        match refusal {
+            Refusal::Memory => self.refuse_memory(),
+            Refusal::TooHigh => self.text("does not fit"),
+            Refusal::Code(code) => self.text(code),
+        }
+    }
+
+    /// That a file isn't read or written, in these words, if not for a refusal of memory.
+    pub fn refuse_file(&mut self, error: io::Error, words: &str) {
+        match error.kind() {
+            ErrorKind::OutOfMemory => self.refuse_memory(),
+            _ => self.text(words),
         }
     }
 }

@@ -1,60 +1,47 @@
 //! The frames of an address, from the image of a table.
 
 use crate::answer::Answer;
-use crate::question::{Change, Question};
-use addr2line_context::{Frame, FrameIter, Location, Reader};
+use crate::emitted::image_of;
+use crate::places;
+use crate::question::{Change, Probe};
+use addr2line_context::{Error, Frame, FrameIter, Reader};
 use addr2line_loader::Loader;
-use addr2line_split::MapSource;
 use bytes::Bytes;
-use linemap_image::{Table, emit};
-use std::alloc::Global;
+use linemap_lookup::MapSource;
 
-/// Adds the answer to a question about the table in a text.
-pub fn answer(text: &[u8], question: &Question<'_>, out: &mut Answer) {
-    match image_of(out.alloc, text, question) {
-        Ok(mut image) => {
-            if let Some(change) = question.change {
-                put(&mut image, change);
-            }
-            ask(image, question.address, out);
-        }
-        Err(refusal) => out.text(refusal),
+/// Adds the frames of an address in the image of the table in a text, with its change.
+pub fn answer(text: &[u8], probe: Probe, change: Option<Change>, out: &mut Answer) {
+    match image_of(out.alloc, text, probe.target, change) {
+        Ok(image) => answer_image(image, probe.address, out),
+        Err(refusal) => out.refuse_table(refusal),
     }
 }
 
-// The image of the table in a text, or why there is none.
-fn image_of(alloc: Global, text: &[u8], question: &Question<'_>) -> Result<Vec<u8>, &'static str> {
-    match Table::read(alloc, text) {
-        Ok(table) if !table.fits(&question.target) => Err("does not fit"),
-        Ok(table) => match emit(alloc, &table, question.target) {
-            Ok(image) => Ok(image),
-            Err(error) => Err(error.code()),
-        },
-        Err(error) => Err(error.code()),
-    }
-}
-
-fn put(image: &mut Vec<u8>, change: Change) {
-    if let Some(byte) = image.get_mut(change.offset) {
-        *byte = change.byte;
-    }
-}
-
-// Loads an image, and asks it for the frames of an address.
-fn ask(image: Vec<u8>, address: u64, out: &mut Answer) {
+/// Loads an image, and adds the frames of an address there.
+pub fn answer_image(image: Vec<u8>, address: u64, out: &mut Answer) {
     match Bytes::from_vec(image) {
         Ok(image) => match Loader::from_bytes(out.alloc, image, None) {
-            Ok(mut loader) => frames(&mut loader, address, out),
-            Err(error) => out.value(&error),
+            Ok(mut loader) => answer_loader(&mut loader, address, out),
+            Err(error) => out.refuse_image(error),
         },
-        Err(_) => out.text("out of memory"),
+        Err(_) => out.refuse_memory(),
+    }
+}
+
+/// Adds the frames of an address. Where memory was refused for them, the same loader is asked
+/// again.
+pub fn answer_loader(loader: &mut Loader, address: u64, out: &mut Answer) {
+    let mut first = Answer::new(out.alloc);
+    frames(loader, address, &mut first);
+    if !out.add_first(first) {
+        frames(loader, address, out);
     }
 }
 
 fn frames(loader: &mut Loader, address: u64, out: &mut Answer) {
     match loader.find_frames(out.alloc, address, &mut MapSource::new(out.alloc)) {
         Ok(mut found) => frames_of(&mut found, out),
-        Err(error) => out.value(&error),
+        Err(error) => out.refuse(error),
     }
 }
 
@@ -70,47 +57,35 @@ fn frames_of<R: Reader>(found: &mut FrameIter<'_, R>, out: &mut Answer) {
     }
 }
 
-// Adds a frame, or a refusal. Whether there was one.
-fn next_frame<R: Reader>(found: &mut FrameIter<'_, R>, out: &mut Answer) -> bool {
-    match found.next() {
+// Adds a frame, or a refusal. Whether there was one. Where memory was refused for the frame, the
+// same iterator is asked again.
+fn next_frame<R: Reader>(frames: &mut FrameIter<'_, R>, out: &mut Answer) -> bool {
+    let found = match frames.next() {
+        Err(Error::Memory) => {
+            out.again();
+            frames.next()
+        }
+        found => found,
+    };
+    match found {
         Ok(Some(found)) => {
             frame(&found, out);
             true
         }
         Ok(None) => false,
         Err(error) => {
-            out.value(&error);
-            false
+            out.refuse(error);
+            true
         }
     }
 }
 
-// A frame: its function's name, and its place.
 fn frame<R: Reader>(frame: &Frame<'_, R>, out: &mut Answer) {
-    out.text("[");
     match &frame.function {
-        Some(function) => name(&function.name, out),
-        None => out.text("?"),
+        Some(function) => match function.name.to_string_lossy(out.alloc) {
+            Ok(name) => places::frame(name.as_str(), frame.location.as_ref(), out),
+            Err(error) => out.refuse(error),
+        },
+        None => places::frame("?", frame.location.as_ref(), out),
     }
-    out.text(" ");
-    match &frame.location {
-        Some(location) => place(location, out),
-        None => out.text("?"),
-    }
-    out.text("]");
-}
-
-fn name<R: Reader>(name: &R, out: &mut Answer) {
-    match name.to_string_lossy(out.alloc) {
-        Ok(text) => out.text(text.as_str()),
-        Err(error) => out.value(&error),
-    }
-}
-
-fn place(place: &Location<'_>, out: &mut Answer) {
-    out.text(place.file.unwrap_or("?"));
-    out.text(":");
-    out.number(place.line);
-    out.text(":");
-    out.number(place.column);
 }

@@ -1,9 +1,11 @@
 //! What `lookup` prints of the image of a table, over streams that fail.
 
 use crate::answer::Answer;
+use crate::emitted::image_of;
+use crate::question::{Change, change_of, target_of};
 use crate::streams::{CutReader, CutWriter, Fault};
 use bytes::Bytes;
-use linemap_image::{Format, Table, Target, emit, read_address};
+use linemap_image::{Format, Target};
 use linemap_lookup::{Ended, MapSource, Options, run};
 use std::alloc::{AllocError, Global};
 use std::io::{BufReader, ErrorKind};
@@ -16,18 +18,25 @@ struct Request {
     input: CutReader,
     out: CutWriter,
     err: CutWriter,
-    // A byte of the image, by its offset.
-    change: Option<(u64, u64)>,
+    target: Option<Target>,
+    change: Option<Change>,
 }
 
 /// Adds what a run prints of the table in a text, and how it ends.
 pub fn answer(text: &[u8], words: &str, out: &mut Answer) {
     match request_in(out.alloc, words) {
-        Ok(request) => match image_of(out.alloc, text, request.change) {
-            Some(image) => answer_image(image, request, out),
-            None => out.text("no image"),
+        Ok(request) => answer_request(text, request, out),
+        Err(_) => out.refuse_memory(),
+    }
+}
+
+fn answer_request(text: &[u8], request: Request, out: &mut Answer) {
+    match request.target {
+        Some(target) => match image_of(out.alloc, text, target, request.change) {
+            Ok(image) => answer_image(image, request, out),
+            Err(refusal) => out.refuse_table(refusal),
         },
-        Err(_) => out.text("out of memory"),
+        None => out.text("no target"),
     }
 }
 
@@ -39,6 +48,7 @@ fn request_in(alloc: Global, words: &str) -> Result<Request, AllocError> {
         input: CutReader::new(alloc),
         out: CutWriter::new(alloc),
         err: CutWriter::new(alloc),
+        target: Target::new(4, Format::Dwarf32, 8, false),
         change: None,
     };
     for word in words.split_whitespace() {
@@ -74,8 +84,11 @@ impl Request {
             "out" => (self.out.room, self.out.fault) = cut_of(value),
             "flush" => (self.out.flushes, self.out.fault) = cut_of(value),
             "err" => (self.err.room, self.err.fault) = cut_of(value),
-            "byte" => self.change = change_of(value),
+            "target" => self.target = target_in(value),
+            "byte" => self.change = change_in(value),
             "--all" => self.options.all = true,
+            "--llvm" => self.options.llvm = true,
+            "--statements" => self.options.statements = true,
             _ => self.add_option_or_address(alloc, word)?,
         }
         Ok(())
@@ -145,41 +158,36 @@ fn fault_of(name: &str) -> Fault {
     }
 }
 
-fn change_of(value: &str) -> Option<(u64, u64)> {
+// The target of VERSION:BITS:SIZE:ORDER.
+fn target_in(value: &str) -> Option<Target> {
+    let (version, rest) = value.split_once(':')?;
+    let (bits, rest) = rest.split_once(':')?;
+    let (size, order) = rest.split_once(':')?;
+    target_of(version, bits, size, order)
+}
+
+// The change of OFFSET:BYTE.
+fn change_in(value: &str) -> Option<Change> {
     let (offset, byte) = value.split_once(':')?;
-    Some((read_address(offset)?, read_address(byte)?))
+    change_of(offset, byte)
 }
 
 // ---- the run
 
-// The image of the table in a text, if there is one, with its change.
-fn image_of(alloc: Global, text: &[u8], change: Option<(u64, u64)>) -> Option<Vec<u8>> {
-    let target = Target::new(4, Format::Dwarf32, 8, false)?;
-    let table = Table::read(alloc, text).ok()?;
-    if !table.fits(&target) {
-        return None;
-    }
-    let mut image = emit(alloc, &table, target).ok()?;
-    if let Some((offset, byte)) = change {
-        let old = image.get_mut(usize::try_from(offset).ok()?)?;
-        *old = u8::try_from(byte).ok()?;
-    }
-    Some(image)
-}
-
 fn answer_image(image: Vec<u8>, request: Request, out: &mut Answer) {
     let Ok(image) = Bytes::from_vec(image) else {
-        return out.text("out of memory");
+        return out.refuse_memory();
     };
     let Request {
         options,
         input,
         out: mut output,
         mut err,
+        target: _,
         change: _,
     } = request;
     let Ok(mut lines) = BufReader::new(out.alloc, input) else {
-        return out.text("out of memory");
+        return out.refuse_memory();
     };
     let source = MapSource::new(out.alloc);
     let ended = run(

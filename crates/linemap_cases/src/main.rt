@@ -1,30 +1,45 @@
-//! Emits images of tables, and answers addresses from what a loader reads in them. Each line of the
-//! input is a question, and is repeated with its answer; an empty line, and one that begins with
-//! `#`, is only repeated.
+//! Emits tables as debugging information, and answers addresses from that. Each line of the input
+//! is a question, and is repeated with its answer; an empty line, and one that begins with `#`, is
+//! only repeated.
 //!
 //! - `TABLE VERSION BITS SIZE ORDER ADDRESS` asks for the frames of an address in the image of a
 //!   table.
 //! - `TABLE VERSION BITS SIZE ORDER ADDRESS OFFSET BYTE` asks after a byte of the image is
 //!   replaced.
+//! - `file TABLE VERSION BITS SIZE ORDER ADDRESS` asks for them where the image is written to a
+//!   file, whether a source of split files gives the file's bytes, and for the frames there without
+//!   its last byte.
+//! - `replay TABLE VERSION BITS SIZE ORDER ADDRESS` makes calls about an address on one context
+//!   over a table's sections: its place, its frames, the stretches from it on in 16 addresses, its
+//!   loads, an answer to the first, its unit, all lines, functions and calls; and all of them once
+//!   more.
 //! - `lookup TABLE WORD..` asks what `lookup` prints of the image of a table, and how it ends. A
-//!   word is an address; options, as `-fi` and `--all`; `section=NAME`; `in=TEXT`, what is read
+//!   word is an address; options, as `-fi`, `--all`, `--llvm` and `--statements`; `section=NAME`;
+//!   `target=VERSION:BITS:SIZE:ORDER` for another one than 4:32:8:little; `in=TEXT`, what is read
 //!   where no address is given, with a comma for each line end and a percent sign for a byte that
 //!   is no text; `fault`, that the reader fails after that; `interrupted=COUNT`, how often it is
 //!   interrupted before; `out=BYTES`, `flush=COUNT` and `err=BYTES`, after how many bytes or
 //!   flushes the output or the error stream fails, with `:pipe`, `:nothing` or `:interrupted` for
 //!   another fault; or `byte=OFFSET:BYTE`, which replaces a byte of the image.
 //!
-//! VERSION, BITS and SIZE are decimal, the other numbers are hexadecimal.
+//! VERSION, BITS and SIZE are decimal, the other numbers are hexadecimal. Where memory is refused
+//! for an answer, it is asked for again, and what follows begins with `E1, then`: the next frame of
+//! the same iterator, a lookup in the same loader, the calls on the same context, or else the whole
+//! question.
 #![tactic(auto)]
 
 mod answer;
+mod emitted;
 mod frames;
 mod lookup;
+mod places;
 mod question;
+mod replays;
 mod streams;
+mod written;
 
 use answer::Answer;
-use question::{Question, question_in};
+use question::{Question, Topic, question_in};
 use std::io::{BufRead, BufReader};
 use std::rt::Files;
 use std::{fs, io};
@@ -35,10 +50,7 @@ fn main(rt: HostRuntime) -> Result<(), io::Error> {
         let line = line?;
         let mut out = Answer::new(rt.alloc());
         out.text(&line);
-        if let Some(words) = line.strip_prefix("lookup ") {
-            out.text(": ");
-            add_lookup(&rt, words, &mut out);
-        } else if let Some(question) = question_in(&line) {
+        if let Some(question) = question_in(&line) {
             out.text(": ");
             add_answer(&rt, &question, &mut out);
         }
@@ -47,19 +59,28 @@ fn main(rt: HostRuntime) -> Result<(), io::Error> {
     Ok(())
 }
 
-// Adds the answer to a question.
+// Adds the answer to a question. Where memory was refused for it, it is asked again.
 fn add_answer<R: Files + AllocGlobal>(rt: &R, question: &Question<'_>, out: &mut Answer) {
-    match fs::read(rt, question.table) {
-        Ok(text) => frames::answer(&text, question, out),
-        Err(_) => out.text("no such table"),
+    let mut first = Answer::new(out.alloc);
+    ask(rt, question, &mut first);
+    if !out.add_first(first) {
+        ask(rt, question, out);
     }
 }
 
-// Adds what a run prints of a table.
-fn add_lookup<R: Files + AllocGlobal>(rt: &R, words: &str, out: &mut Answer) {
-    let (table, words) = words.split_once(' ').unwrap_or((words, ""));
-    match fs::read(rt, table) {
-        Ok(text) => lookup::answer(&text, words, out),
-        Err(_) => out.text("no such table"),
+fn ask<R: Files + AllocGlobal>(rt: &R, question: &Question<'_>, out: &mut Answer) {
+    match fs::read(rt, question.table) {
+        Ok(text) => ask_about(rt, &text, &question.topic, out),
+        Err(error) => out.refuse_file(error, "no such table"),
+    }
+}
+
+// Adds what is asked about the table in a text.
+fn ask_about<R: Files + AllocGlobal>(rt: &R, text: &[u8], topic: &Topic<'_>, out: &mut Answer) {
+    match topic {
+        Topic::Image(probe, change) => frames::answer(text, *probe, *change, out),
+        Topic::File(probe) => written::answer(rt, text, *probe, out),
+        Topic::Calls(probe) => replays::answer(text, *probe, out),
+        Topic::Lookup(words) => lookup::answer(text, words, out),
     }
 }

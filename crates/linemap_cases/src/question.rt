@@ -3,13 +3,32 @@
 use linemap_image::{Format, Target, read_address};
 use std::str::SplitWhitespace;
 
-/// What is asked of the image of a table.
+/// A question about a table.
 #[derive(Drop)]
 pub struct Question<'a> {
+    /// The path of the table's file.
     pub table: &'a str,
+    pub topic: Topic<'a>,
+}
+
+/// What is asked about a table.
+#[derive(Drop)]
+pub enum Topic<'a> {
+    /// The frames of an address in its image, with a change.
+    Image(Probe, Option<Change>),
+    /// The same in a file.
+    File(Probe),
+    /// Calls about an address on one context.
+    Calls(Probe),
+    /// What `lookup` prints, for these words.
+    Lookup(&'a str),
+}
+
+/// An address, and what the table is emitted for.
+#[derive(Clone, Copy)]
+pub struct Probe {
     pub target: Target,
     pub address: u64,
-    pub change: Option<Change>,
 }
 
 /// A byte that is put into an image.
@@ -24,20 +43,62 @@ pub fn question_in(line: &str) -> Option<Question<'_>> {
     if line.starts_with('#') {
         return None;
     }
-    let mut words = line.split_whitespace();
-    Some(Question {
-        table: words.next()?,
-        target: target_in(&mut words)?,
-        address: number_in(&mut words)?,
-        change: change_in(&mut words),
+    let (word, rest) = line.split_once(' ')?;
+    match word {
+        "lookup" => Some(lookup_question_in(rest)),
+        "file" | "replay" => probe_question_in(word, rest),
+        _ => probe_question_in("", line),
+    }
+}
+
+fn lookup_question_in(text: &str) -> Question<'_> {
+    let (table, words) = text.split_once(' ').unwrap_or((text, ""));
+    Question {
+        table,
+        topic: Topic::Lookup(words),
+    }
+}
+
+// A question about an address, of a kind that a word names.
+fn probe_question_in<'a>(kind: &str, text: &'a str) -> Option<Question<'a>> {
+    let mut words = text.split_whitespace();
+    let table = words.next()?;
+    let probe = probe_in(&mut words)?;
+    let topic = match kind {
+        "file" => Topic::File(probe),
+        "replay" => Topic::Calls(probe),
+        _ => Topic::Image(probe, change_in(&mut words)),
+    };
+    Some(Question { table, topic })
+}
+
+fn probe_in(words: &mut SplitWhitespace<'_>) -> Option<Probe> {
+    Some(Probe {
+        target: target_in(words)?,
+        address: number_in(words)?,
     })
 }
 
 fn target_in(words: &mut SplitWhitespace<'_>) -> Option<Target> {
-    let version = words.next()?.parse().ok()?;
-    let format = format_of(words.next()?)?;
-    let address_size = words.next()?.parse().ok()?;
-    Target::new(version, format, address_size, words.next()? == "big")
+    let version = words.next()?;
+    let bits = words.next()?;
+    let size = words.next()?;
+    target_of(version, bits, size, words.next()?)
+}
+
+fn change_in(words: &mut SplitWhitespace<'_>) -> Option<Change> {
+    change_of(words.next()?, words.next()?)
+}
+
+fn number_in(words: &mut SplitWhitespace<'_>) -> Option<u64> {
+    read_address(words.next()?)
+}
+
+/// The target of a version, a number of bits, an address size and a byte order.
+pub fn target_of(version: &str, bits: &str, size: &str, order: &str) -> Option<Target> {
+    let version = version.parse().ok()?;
+    let format = format_of(bits)?;
+    Target::new(version, format, size.parse().ok()?, order == "big")
 }
 
 fn format_of(bits: &str) -> Option<Format> {
@@ -48,15 +109,10 @@ fn format_of(bits: &str) -> Option<Format> {
     }
 }
 
-fn change_in(words: &mut SplitWhitespace<'_>) -> Option<Change> {
-    let offset = number_in(words)?;
-    let byte = number_in(words)?;
+/// The change at an offset to a byte, both hexadecimal.
+pub fn change_of(offset: &str, byte: &str) -> Option<Change> {
     Some(Change {
-        offset: usize::try_from(offset).ok()?,
-        byte: u8::try_from(byte).ok()?,
+        offset: usize::try_from(read_address(offset)?).ok()?,
+        byte: u8::try_from(read_address(byte)?).ok()?,
     })
-}
-
-fn number_in(words: &mut SplitWhitespace<'_>) -> Option<u64> {
-    read_address(words.next()?)
 }
