@@ -1,5 +1,6 @@
 -- The facts of a unit, read one after the other, are the whole.
-use Rattle.std.proofs.Common.{◌≡◌, ℕ, List, Option, option_map, Result, Ok, Err, sym, ap, ◌∙◌}
+use Rattle.std.proofs.Common.{◌≡◌, ℕ, List, Option, option_map, option_and_then, Result, Ok, Err, sym, ap, ◌∙◌}
+use Rattle.std.specs.Option.{option_or}
 use Rattle.gimli_dwarf_spec.specs.Error.{Error}
 use Rattle.gimli_dwarf_spec.specs.DwarfFileType.{DwarfFileType}
 use Rattle.gimli_dwarf_spec.specs.Declarations.{Declaration}
@@ -12,7 +13,8 @@ use Rattle.gimli_dwarf_spec.specs.UnitHeaders.{DebugUnit}
 use Rattle.gimli_dwarf_spec.specs.LineHeaders.{LineHeader}
 use Rattle.gimli_dwarf_spec.specs.Results.{and_then}
 use Rattle.gimli_dwarf_spec.specs.DwarfFiles.{DwarfFile}
-use Rattle.gimli_dwarf_spec.specs.UnitFacts.{UnitFacts, root, dwo_name, dwo_name_number, facts_of, line_header_of, address_or_0, last_value_of_kind, last_value, line_reference_of, is_stmt_list, is_low_pc}
+use Rattle.gimli_dwarf_spec.specs.UnitFacts.{UnitFacts, root, dwo_name, dwo_name_number, facts_of, bases_of, dwo_id_in, dwo_id_of, line_header_of, address_or_0, last_value_of_kind, last_value, line_reference_of, is_stmt_list, is_low_pc, is_dwo_id}
+use Rattle.gimli_dwarf.specs.RootBases.{TableBases, table_bases}
 use Rattle.gimli_dwarf.specs.Roots.{facts_without_texts, facts_with_texts, line_unit, with_program_and_begin, facts_with_program}
 
 -- the facts of a unit whose root is read with a limit of offsets
@@ -25,18 +27,40 @@ facts_with_limit limit file u =
 abbrev pub ok_facts : UnitFacts → Result UnitFacts Error
 ok_facts u = Ok u
 
+-- an identifier, or none, that was read
+abbrev pub ok_id : Option ℕ → Result (Option ℕ) Error
+ok_id id = Ok id
+
+-- bases that were read
+abbrev pub ok_tables : TableBases → Result TableBases Error
+ok_tables t = Ok t
+
 pub facts_by_steps : (file : DwarfFile) (u : DebugUnit) (table : List Declaration)
-    (attributes : List RawAttribute) (file_type : DwarfFileType) (first second : UnitFacts)
-    → file_type ≡ file.sections.file_type → ok_facts (facts_without_texts file_type u table attributes) ≡ ok_facts first
+    (attributes : List RawAttribute) (file_type : DwarfFileType) (tables : TableBases) (id : Option ℕ)
+    (first second : UnitFacts)
+    → file_type ≡ file.sections.file_type
+    → ok_tables (table_bases (bases_of file_type u.encoding attributes)) ≡ ok_tables tables
+    → ok_id (option_or (dwo_id_in u.kind) (option_and_then dwo_id_of (last_value is_dwo_id attributes))) ≡ ok_id id
+    → first ≡ facts_without_texts u table tables id
     → ok_facts (facts_with_texts file first attributes) ≡ ok_facts second
     → facts_with_program file second attributes ≡ facts_of file u table attributes
-facts_by_steps file u table attributes file_type first second type bare named =
-    let one : facts_without_texts file_type u table attributes ≡ first = cc in
-    let two : facts_with_texts file first attributes ≡ second = cc in
-    ap (λ (x : UnitFacts). facts_with_program file x attributes) (sym two)
-    ∙ ap (λ (x : UnitFacts). facts_with_program file (facts_with_texts file x attributes) attributes) (sym one)
+facts_by_steps file u table attributes file_type tables id first second type based identified bare named =
+    let own = option_or (dwo_id_in u.kind) (option_and_then dwo_id_of (last_value is_dwo_id attributes)) in
+    let one : table_bases (bases_of file_type u.encoding attributes) ≡ tables = cc in
+    let two : own ≡ id = cc in
+    let three : facts_with_texts file first attributes ≡ second = cc in
+    ap (λ (x : UnitFacts). facts_with_program file x attributes) (sym three)
+    ∙ ap (λ (x : UnitFacts). facts_with_program file (facts_with_texts file x attributes) attributes) bare
+    ∙ ap (λ b. facts_with_program file
+    (facts_with_texts file (facts_without_texts u table b id) attributes) attributes) (sym one)
+    ∙ ap (λ d. facts_with_program file
+    (facts_with_texts file
+    (facts_without_texts u table (table_bases (bases_of file_type u.encoding attributes)) d) attributes)
+    attributes) (sym two)
     ∙ ap (λ t. facts_with_program file
-    (facts_with_texts file (facts_without_texts t u table attributes) attributes) attributes) type
+    (facts_with_texts file
+    (facts_without_texts u table (table_bases (bases_of t u.encoding attributes)) own) attributes)
+    attributes) type
 
 module _ (file : DwarfFile) (u : UnitFacts) (attributes : List RawAttribute) (e : Error) where
   -- a refused line header refuses the unit
