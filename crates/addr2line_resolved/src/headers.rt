@@ -10,7 +10,7 @@ ghost use Rattle.addr2line_resolved.specs.ResolvedUnits.{value_of_unit, with_new
 use crate::load::share;
 use crate::owned_unit::OwnedUnit;
 use crate::unit::ResUnit;
-use addr2line_functions::{ArangeIndex, Dwarf, Error, Reader, UnitHeader, UnitType};
+use addr2line_functions::{ArangeIndex, DebuggingInformationEntry, Dwarf, Error, Reader, UnitHeader, UnitType};
 use std::alloc::Global;
 use std::rc::Rc;
 
@@ -20,16 +20,13 @@ fn code_unit<R: Reader>(
     alloc: Global,
     sections: &Rc<Dwarf<R>>,
     header: UnitHeader<R>,
-) -> Result<Option<OwnedUnit<R>>, Error>
-    ensures { ReturnsOrNoMemory result
-        (Ok (option_map (in_file sections.now.value.file)
-        (facts_of_code_unit sections.now.value.file header))) }
+) -> Result<Option<(OwnedUnit<R>, DebuggingInformationEntry<R>)>, Error>
 {
     if is_of_types(&header) {
         return Ok(None);
     }
-    match sections.as_ref().unit(alloc, header) {
-        Ok(unit) => Ok(Some(OwnedUnit::new(alloc, share(sections)?, unit)?)),
+    match sections.as_ref().unit_with_root(alloc, header) {
+        Ok((unit, root)) => Ok(Some((OwnedUnit::new(alloc, share(sections)?, unit)?, root))),
         Err(Error::Memory) => Err(Error::Memory),
         Err(_) => Ok(None),
     }
@@ -50,7 +47,7 @@ pub(crate) fn push_context_unit<R: Reader>(
         (KeepNoFunctions units.old.items → KeepNoFunctions units.new.items) }
 {
     match code_unit(alloc, sections, header)? {
-        Some(main) => push_unit(alloc, aranges, main, units),
+        Some((main, root)) => push_unit(alloc, aranges, main, &root, units),
         None => Ok(()),
     }
 }
@@ -60,6 +57,7 @@ fn push_unit<R: Reader>(
     alloc: Global,
     aranges: &ArangeIndex,
     main: OwnedUnit<R>,
+    root: &DebuggingInformationEntry<R>,
     units: &mut Vec<ResUnit<R>>,
 ) -> Result<(), Error>
     requires { IsIndexOf main.file aranges.now }
@@ -68,7 +66,7 @@ fn push_unit<R: Reader>(
     ensures functions { OnOk result
         (KeepNoFunctions units.old.items → KeepNoFunctions units.new.items) }
 {
-    let unit = ResUnit::read(alloc, main, aranges)?;
+    let unit = ResUnit::read(alloc, main, root, aranges)?;
     units.push(unit)?;
     Ok(())
 }

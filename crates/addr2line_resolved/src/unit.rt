@@ -18,7 +18,7 @@ use crate::load::{KeptLoad, SplitDwarfLoad};
 use crate::owned_unit::OwnedUnit;
 use crate::unit_functions::UnitFunctions;
 use addr2line_functions::{
-    ArangeIndex, DebugFile, DwLang, Error, FrameIter, FunctionCalls, Functions, HasLines, HasUnit,
+    ArangeIndex, DebugFile, DebuggingInformationEntry, DwLang, Error, FrameIter, FunctionCalls, Functions, HasLines, HasUnit,
     HoldingUnit, LineIndex, Lines, Location, Names, Probes, Range, Reader, Runs, Unit, UnitLines,
     UnitRoot, calls_of_function, functions_of_unit,
 };
@@ -173,14 +173,19 @@ fn unit_under<'a, R: Reader>(
 impl<R: Reader> ResUnit<R> {
     /// The unit, with what its root says. Its line number program is run only where its ranges are
     /// those of its lines, which are then kept. Refused by its root or its ranges.
-    pub fn read(alloc: Global, main: OwnedUnit<R>, aranges: &ArangeIndex) -> Result<Self, Error>
+    pub fn read(
+        alloc: Global,
+        main: OwnedUnit<R>,
+        entry: &DebuggingInformationEntry<R>,
+        aranges: &ArangeIndex,
+    ) -> Result<Self, Error>
         requires { IsIndexOf main.file aranges.now }
         ensures unit { ReturnsAsOrNoMemory (λ u. u.value) result (new_unit main) }
         ensures lines { IfOk result RunsForRangesAlone }
         ensures functions { IfOk result KeepsNoFunctions }
     {
         let mut runs = Runs::new();
-        let root = UnitRoot::read(alloc, &main.unit_ref(), aranges, &mut runs)?;
+        let root = UnitRoot::of_entry(alloc, &main.unit_ref(), aranges, &mut runs, entry)?;
         ResUnit::of_root(alloc, main, root, runs)
     }
 

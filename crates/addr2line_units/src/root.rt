@@ -60,7 +60,7 @@ impl UnitRoot {
     }
 
     // What this root says.
-    fn of_entry<R: Reader>(
+    pub fn of_entry<R: Reader>(
         alloc: Global,
         unit: &UnitRef<'_, R>,
         aranges: &ArangeIndex,

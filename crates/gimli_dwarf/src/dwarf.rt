@@ -153,6 +153,15 @@ impl<R: Reader> Dwarf<R> {
         Unit::new(alloc, self, header)
     }
 
+    /// The same, with its root.
+    pub fn unit_with_root(
+        &self,
+        alloc: Global,
+        header: UnitHeader<R>,
+    ) -> Result<(Unit<R>, DebuggingInformationEntry<R>), Error> {
+        Unit::with_root(alloc, self, header)
+    }
+
     // The abbreviation table at an offset, from the cache if it is there.
     pub(crate) fn abbreviations(
         &self,

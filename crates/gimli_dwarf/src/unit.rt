@@ -81,6 +81,18 @@ impl<R: Reader> Unit<R> {
         Unit::of_root(alloc, dwarf, header, abbreviations, root.attrs())
     }
 
+    /// The same, with its root.
+    pub fn with_root(
+        alloc: Global,
+        dwarf: &Dwarf<R>,
+        header: UnitHeader<R>,
+    ) -> Result<(Self, DebuggingInformationEntry<R>), Error> {
+        let abbreviations = dwarf.abbreviations(alloc, header.debug_abbrev_offset())?;
+        let root = root_entry(alloc, &header, &abbreviations)?;
+        let unit = Unit::of_root(alloc, dwarf, header, abbreviations, root.attrs())?;
+        Ok((unit, root))
+    }
+
     // A unit whose root has these attributes.
     fn of_root(
         alloc: Global,
