@@ -7,10 +7,13 @@ usage: bench/hostile.py list
 
 Each kind is made at half its count and at its whole one, so that the growth shows: twice the count should take about
 twice the time and the memory. What is run on an image is `linemap lookup -e IMAGE -f -i` with addresses, and `--all`; where
-PEER names a program with the same words, such as one over Rust's addr2line, it is run too. On a table it is `linemap ask`
-with addresses, and `linemap emit`. LINEMAP names other words than those of the built program. SCALE makes all counts larger
-or smaller, LIMIT bounds the processor seconds of a run (60), MEMORY its megabytes (4,000), beyond which each allocation is
-refused.
+PEER names a program with the same words, such as one over Rust's addr2line, it is run too. Then `addr2line_bench` asks a
+context for the loads of these addresses (`loads`: `preload_units`, and `answer_load` for each), for their units (`unit`:
+`find_dwarf_and_unit`), and for the lines, the functions and the calls of all units (`lines`: `parse_lines`, `functions`:
+`parse_functions`, `calls`: `parse_inlined_functions`). On a table it is `linemap ask` with addresses, and `linemap emit`.
+LINEMAP and BENCH name other words than those of the built programs, ASK names some of what is asked, and READER is the reader
+of addr2line_bench (`slice`, or `bytes`). SCALE makes all counts larger or smaller, LIMIT bounds the processor seconds of a run
+(60), MEMORY its megabytes (4,000), beyond which each allocation is refused.
 """
 import json
 import os
@@ -58,9 +61,9 @@ def unit(entries, abbreviations=0):
 
 UNIT_HEADER = 11
 NAME, STMT_LIST, LOW_PC, HIGH_PC, RANGES, ORIGIN, IMPORT, CALL_LINE = 0x03, 0x10, 0x11, 0x12, 0x55, 0x31, 0x18, 0x59
-DWO_ID, DWO_NAME = 0x2131, 0x2130
+DWO_ID, DWO_NAME, SIBLING, DIRECTORY = 0x2131, 0x2130, 0x01, 0x1b
 ADDR, DATA4, DATA8, DATA1, STRING, STRP, REF4, REF_ADDR, OFFSET, PRESENT = 1, 6, 7, 11, 8, 14, 0x13, 0x10, 0x17, 0x19
-COMPILE, PARTIAL, SUBPROGRAM, INLINED, IMPORTED = 0x11, 0x3c, 0x2e, 0x1d, 0x3d
+COMPILE, PARTIAL, SUBPROGRAM, INLINED, IMPORTED, BLOCK, NAMESPACE = 0x11, 0x3c, 0x2e, 0x1d, 0x3d, 0x0b, 0x39
 PLACE = (LOW_PC, ADDR), (HIGH_PC, DATA4)
 
 
@@ -326,7 +329,7 @@ def shared_abbreviations(count):
 
 def long_directory(count):
     """Files whose texts begin with a directory as long as there are files."""
-    abbrev = declaration(1, COMPILE, (0x1b, STRP), (STMT_LIST, OFFSET), *PLACE)
+    abbrev = declaration(1, COMPILE, (DIRECTORY, STRP), (STMT_LIST, OFFSET), *PLACE)
     line = program(set_address(LOW) + ROW * 8 + END, [b"a"] * count)
     return {"abbrev": abbrev + b"\0", "info": unit(b"\1" + word(0) + word(0) + place(LOW, 8)), "line": line,
             "str": b"/" + b"d" * 5 * count + b"\0"}, [LOW]
@@ -376,6 +379,136 @@ def skeletons(count):
     return {"abbrev": abbrev + b"\0", "info": b"".join(unit(b"\1" + place(LOW, 9) + b"no\0" + word(it) * 2) for it in range(count))}, [LOW]
 
 
+SPLIT = (DWO_NAME, STRING), (DWO_ID, DATA8)
+
+
+def skeleton(low, size, number, file=b"no"):
+    return unit(b"\1" + place(low, size) + file + b"\0" + word(number) * 2)
+
+
+def skeletons_of_a_file(count):
+    """Units over one address, each with the program that reads them as its split file."""
+    abbrev = declaration(1, COMPILE, *PLACE, *SPLIT)
+    return {"abbrev": abbrev + b"\0", "info": b"".join(skeleton(LOW, 9, it, b"/proc/self/exe") for it in range(count))}, [LOW]
+
+
+def skeletons_of_no_end(count):
+    """Units over one address, each with a split file that has no end."""
+    abbrev = declaration(1, COMPILE, *PLACE, *SPLIT)
+    return {"abbrev": abbrev + b"\0", "info": b"".join(skeleton(LOW, 9, it, b"/dev/zero") for it in range(count))}, [LOW]
+
+
+def overlapping_skeletons(count):
+    """Units, each range in the one before it, each with a split file that isn't there."""
+    abbrev = declaration(1, COMPILE, *PLACE, *SPLIT)
+    return {"abbrev": abbrev + b"\0", "info": b"".join(skeleton(LOW + it, 2 * (count - it), it) for it in range(count))}, spread(LOW, 2 * count)
+
+
+def skeletons_in_a_row(count):
+    """The same side by side, below one that is over all of them; all addresses are asked for."""
+    abbrev = declaration(1, COMPILE, *PLACE, *SPLIT)
+    units = [skeleton(LOW + it, 1, it) for it in range(count)] + [skeleton(LOW, 2 * count, count)]
+    return {"abbrev": abbrev + b"\0", "info": b"".join(units)}, range(LOW, LOW + count)
+
+
+def ranges_of_a_skeleton(count):
+    """A unit with a split file that isn't there, and as many ranges over one address, beside as many such units with one range."""
+    abbrev = declaration(1, COMPILE, *PLACE, *SPLIT) + declaration(2, COMPILE, (RANGES, OFFSET), *SPLIT)
+    units = [skeleton(LOW, 9 + 2 * it, it) for it in range(count)] + [unit(b"\2" + word(0) + b"no\0" + word(count) * 2)]
+    ranges = b"".join(word(LOW) + word(LOW + 10 + 2 * it) for it in range(count)) + b"\0" * 8
+    return {"abbrev": abbrev + b"\0", "info": b"".join(units), "ranges": ranges}, spread(LOW, 9)
+
+
+def everything_shared(count):
+    """Units that share a table of abbreviations, a line program, a list of one range and their texts, each with a function and a call."""
+    abbrev = (declaration(1, COMPILE, (NAME, STRP), (DIRECTORY, STRP), (STMT_LIST, OFFSET), (RANGES, OFFSET), children=True)
+              + declaration(2, SUBPROGRAM, (NAME, STRP), (RANGES, OFFSET), children=True)
+              + declaration(3, INLINED, (ORIGIN, REF_ADDR), (RANGES, OFFSET)))
+    function = UNIT_HEADER + 17
+    one = unit(b"\1" + word(0) * 4 + b"\2" + word(0) * 2 + b"\3" + word(function) + word(0) + b"\0\0")
+    return {"abbrev": abbrev + b"\0", "info": one * count, "line": program(set_address(LOW) + ROW * 8 + END),
+            "ranges": word(LOW) + word(LOW + 9) + b"\0" * 8, "str": b"t\0"}, [LOW + 1]
+
+
+def units_of_elsewhere(count):
+    """Units over the same addresses, whose functions and rows are at others."""
+    abbrev = (declaration(1, COMPILE, (STMT_LIST, OFFSET), *PLACE, children=True) + declaration(2, SUBPROGRAM, *PLACE, (NAME, STRING)))
+    one = unit(b"\1" + word(0) + place(LOW, 999) + b"\2" + place(LOW + 999, 9) + b"f\0\0")
+    return {"abbrev": abbrev + b"\0", "info": one * count, "line": program(set_address(LOW + 999) + ROW * 8 + END)}, spread(LOW, 999)
+
+
+def shared_directory(count):
+    """Units with a file each, in one directory whose text is as long as there are units."""
+    abbrev = declaration(1, COMPILE, (DIRECTORY, STRP), (STMT_LIST, OFFSET), *PLACE)
+    units = [unit(b"\1" + word(0) + word(0) + place(LOW + it, 1)) for it in range(count)]
+    return {"abbrev": abbrev + b"\0", "info": b"".join(units), "line": program(set_address(LOW) + ROW * 8 + END),
+            "str": b"/" + b"d" * 5 * count + b"\0"}, spread(LOW, count)
+
+
+def chained_call_names(count):
+    """Calls in one another, whose names lead from each of as many entries to the next one."""
+    abbrev = (declaration(1, COMPILE, *PLACE, children=True) + declaration(2, SUBPROGRAM, (ORIGIN, REF4))
+              + declaration(3, SUBPROGRAM, *PLACE, children=True) + declaration(4, INLINED, *PLACE, (ORIGIN, REF4), children=True))
+    first = UNIT_HEADER + 9
+    chain = b"".join(b"\2" + word(first + 5 * ((it + 1) % count)) for it in range(count))
+    calls = b"".join(b"\4" + place(LOW, 99) + word(first + 5 * it) for it in range(count))
+    entries = b"\1" + place(LOW, 99) + chain + b"\3" + place(LOW, 99) + calls + b"\0" * (count + 2)
+    return {"abbrev": abbrev + b"\0", "info": unit(entries)}, [LOW]
+
+
+def call_names_across_units(count):
+    """Calls side by side, whose names lead from each of as many units to the next one."""
+    abbrev = (declaration(1, COMPILE, children=True) + declaration(2, SUBPROGRAM, (ORIGIN, REF_ADDR))
+              + declaration(3, COMPILE, *PLACE, children=True) + declaration(4, SUBPROGRAM, *PLACE, children=True)
+              + declaration(5, INLINED, *PLACE, (ORIGIN, REF_ADDR)))
+    size, first = UNIT_HEADER + 7, UNIT_HEADER + 1
+    units = [unit(b"\1\2" + word(first + size * ((it + 1) % count)) + b"\0") for it in range(count)]
+    calls = b"".join(b"\5" + place(LOW + it, 1) + word(first + size * it) for it in range(count))
+    last = unit(b"\3" + place(LOW, count) + b"\4" + place(LOW, count) + calls + b"\0\0")
+    return {"abbrev": abbrev + b"\0", "info": b"".join(units) + last}, spread(LOW, count)
+
+
+def many_references(count):
+    """A call of as many references, each of which leads on from entry to entry, and to no name."""
+    abbrev = (declaration(1, COMPILE, *PLACE, children=True) + declaration(2, SUBPROGRAM, (ORIGIN, REF4), (ORIGIN, REF4))
+              + declaration(3, SUBPROGRAM, *PLACE, children=True) + declaration(4, INLINED, *PLACE, *[(ORIGIN, REF4)] * count))
+    first = UNIT_HEADER + 9
+    chain = b"".join(b"\2" + word(first + 9 * ((it + 1) % 20)) * 2 for it in range(20))
+    entries = b"\1" + place(LOW, 99) + chain + b"\3" + place(LOW, 99) + b"\4" + place(LOW, 99) + word(first) * count + b"\0\0"
+    return {"abbrev": abbrev + b"\0", "info": unit(entries)}, [LOW]
+
+
+def long_entries(count):
+    """Calls whose names are 16 references away, over entries of as many attributes each."""
+    flags = [(0x3f, PRESENT)] * count
+    abbrev = (declaration(1, COMPILE, *PLACE, children=True) + declaration(2, SUBPROGRAM, *flags, (ORIGIN, REF4))
+              + declaration(3, SUBPROGRAM, *flags, (NAME, STRING)) + declaration(4, SUBPROGRAM, *PLACE, children=True)
+              + declaration(5, INLINED, *PLACE, (ORIGIN, REF4)))
+    first = UNIT_HEADER + 9
+    chain = b"".join(b"\2" + word(first + 5 * it + 5) for it in range(15)) + b"\3f\0"
+    calls = b"".join(b"\5" + place(LOW + it, 1) + word(first) for it in range(count))
+    return {"abbrev": abbrev + b"\0", "info": unit(b"\1" + place(LOW, count) + chain + b"\4" + place(LOW, count) + calls + b"\0\0")}, [LOW]
+
+
+def nested_blocks(count):
+    """Namespaces in one another, a function in the innermost, and there blocks in one another, a call in the innermost."""
+    abbrev = (declaration(1, COMPILE, *PLACE, children=True) + declaration(2, NAMESPACE, children=True)
+              + declaration(3, SUBPROGRAM, *PLACE, children=True) + declaration(4, BLOCK, children=True)
+              + declaration(5, INLINED, *PLACE, (NAME, STRING)))
+    entries = (b"\1" + place(LOW, 9) + b"\2" * count + b"\3" + place(LOW, 9) + b"\4" * count + b"\5" + place(LOW, 9) + b"f\0"
+               + b"\0" * (2 * count + 2))
+    return {"abbrev": abbrev + b"\0", "info": unit(entries)}, [LOW]
+
+
+def siblings(count):
+    """Functions with children, the next sibling of each of which is said to be the first of all."""
+    abbrev = (declaration(1, COMPILE, *PLACE, children=True) + declaration(2, SUBPROGRAM, (SIBLING, REF4), *PLACE, children=True)
+              + declaration(3, INLINED, (SIBLING, REF4), *PLACE, children=True))
+    first = word(UNIT_HEADER + 9)
+    functions = b"".join(b"\2" + first + place(LOW + it, 1) + b"\3" + first + place(LOW + it, 1) + b"\0\0" for it in range(count))
+    return {"abbrev": abbrev + b"\0", "info": unit(b"\1" + place(LOW, count) + functions + b"\0")}, spread(LOW, count)
+
+
 def indirect_forms(count):
     """Functions that refer to one entry, whose value has a form as long as there are functions."""
     abbrev = (declaration(1, COMPILE, *PLACE, children=True) + declaration(2, SUBPROGRAM, *PLACE, (ORIGIN, REF4))
@@ -412,7 +545,11 @@ KINDS = {shared_program: 3600, shared_files: 3600, shared_ranges: 15_000, shared
          overlapping_functions: 50_000, nested_functions: 10_000, partial_units: 10_000,
          overlapping_units: 20_000, abbreviations: 1_000_000, falling_abbreviations: 1_000_000, mixed_abbreviations: 1_000_000,
          shared_abbreviations: 20_000, long_directory: 10_000, long_name: 20_000, rust_name: 200_000, empty_attributes: 20_000, repeated_ranges: 10_000,
-         long_sequence: 20_000, skeletons: 10_000, indirect_forms: 20_000, symbols: 50_000, symbol_names: 20_000, section_names: 16_000}
+         long_sequence: 20_000, skeletons: 10_000, overlapping_skeletons: 20_000, skeletons_in_a_row: 10_000, ranges_of_a_skeleton: 20_000,
+         skeletons_of_a_file: 2_000, skeletons_of_no_end: 2,
+         everything_shared: 16_000, units_of_elsewhere: 10_000, shared_directory: 10_000, chained_call_names: 50_000,
+         call_names_across_units: 20_000, many_references: 100_000, long_entries: 5_000, nested_blocks: 200_000, siblings: 20_000,
+         indirect_forms: 20_000, symbols: 50_000, symbol_names: 20_000, section_names: 16_000}
 BY_NAME = {it.__name__.replace("_", "-"): it for it in KINDS}
 
 
@@ -557,11 +694,18 @@ def text_of(one, two):
 
 def words_for(what, path, asked):
     """What is asked of a file, after the program, and of an image after the subcommand too."""
+    if what in OF_UNITS:
+        return [path, os.environ.get("READER", "slice"), what, *([f"{path}.asked"] if what in OF_ADDRESSES else [])]
     if what == "ask":
         return ["ask", path, *asked]
     if what == "emit":
         return ["emit", path, os.devnull]
     return ["-e", path, *(["-fiC", *asked] if what == "frames" else ["--all"])]
+
+
+# What addr2line_bench asks of a context: of each address, and of all units.
+OF_ADDRESSES = "loads", "unit"
+OF_UNITS = *OF_ADDRESSES, "lines", "functions", "calls"
 
 
 def measure(names):
@@ -571,7 +715,9 @@ def measure(names):
     limits = {resource.RLIMIT_CPU: int(os.environ.get("LIMIT", 60)), resource.RLIMIT_AS: int(os.environ.get("MEMORY", 4000)) << 20}
     programs = {"own": own, **({"peer": peer} if peer else {})}
     table_programs = {"own": own[:-1]}
-    print(f"{'kind':24} {'KB':>6} {'asked':8} " + " ".join(f"{it + ': seconds, memory, growth':36}" for it in programs))
+    unit_programs = {"own": os.environ.get("BENCH", f"{TOP}/crates/addr2line_bench/out/addr2line_bench").split()}
+    wanted = os.environ.get("ASK", "").split()
+    print(f"{'kind':24} {'KB':>6} {'asked':9} " + " ".join(f"{it + ': seconds, memory, growth':36}" for it in programs))
     with tempfile.TemporaryDirectory() as folder:
         for name in names:
             kind, sizes, lists = BY_NAME[name], [], []
@@ -581,14 +727,18 @@ def measure(names):
                 made = subprocess.run([sys.executable, __file__, "make", name, str(count), path], check=True, stdout=subprocess.PIPE)
                 sizes.append((path, os.path.getsize(path)))
                 lists.append(made.stdout.decode().split())
+                with open(f"{path}.asked", "w") as file:
+                    file.write("\n".join(lists[-1]))
             is_table = kind in TABLES
-            for what in ("ask", "emit") if is_table else ("frames", "all"):
+            for what in ("ask", "emit") if is_table else ("frames", "all", *OF_UNITS):
+                if wanted and what not in wanted:
+                    continue
                 found = []
-                for program in (table_programs if is_table else programs).values():
+                for program in (table_programs if is_table else unit_programs if what in OF_UNITS else programs).values():
                     words = [[*program, *words_for(what, path, asked)] for (path, _), asked in zip(sizes, lists)]
                     one = run(words[0], limits)
                     found.append(text_of(one, one and run(words[1], limits)))
-                print(f"{name:24} {sizes[1][1] // 1000:6} {what:8} " + " ".join(f"{it:36}" for it in found), flush=True)
+                print(f"{name:24} {sizes[1][1] // 1000:6} {what:9} " + " ".join(f"{it:36}" for it in found), flush=True)
 
 
 def main():

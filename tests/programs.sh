@@ -33,6 +33,10 @@ echo '{"units":[],"more":1}' > shape.json
 sed 's/\[\[4112,4128\]\]/[[4112,4152]]/' c.json > outside.json
 printf 'ELF' > three
 printf '\177ELF' > magic
+# Images whose split files are a device without end, and a pipe into which nothing is written.
+python3 "$here"/../bench/hostile.py make skeletons-of-no-end 2 endless > /dev/null
+python3 "$here"/../bench/hostile.py make skeletons 2 waiting > /dev/null
+mkfifo no
 # A core file of a 64-bit machine, with no sections.
 { printf '\177ELF\2\1\1'; head -c 9 /dev/zero; printf '\4\0\76\0\1\0\0\0'; head -c 28 /dev/zero
   printf '\100\0\0\0\0\0\100\0\0\0\0\0'; } > core
@@ -109,6 +113,8 @@ cases() {
     turns
     # Files without what is needed
     case_of 'linemap lookup -e core 0x1000'
+    case_of 'timeout 10 linemap lookup -e endless -fi 0x1000'
+    case_of 'timeout 10 linemap lookup -e waiting -fi 0x1000'
     case_of 'linemap lookup -e missing 1'
     case_of 'linemap lookup -e . 1'
     case_of 'linemap lookup -e three 1'

@@ -2,7 +2,7 @@
 //! own, of a place the file, a colon and the line.
 
 use crate::fault::Fault;
-use addr2line_context::{Context, Frame, Location, Reader};
+use addr2line_context::{Context, Frame, Location, Reader, SplitDwarfLoad, UnitRef};
 use itoa::Buffer;
 use std::alloc::{AllocError, Global};
 use std::io::Write;
@@ -56,6 +56,36 @@ impl<W: Write + Drop> Answers<W> {
         self.write_if_enough()
     }
 
+    /// Adds the loads that lookups of an address wait for, each of which is answered by no file,
+    /// and then the frames of the address.
+    pub fn add_loads<R: Reader>(
+        &mut self,
+        context: &mut Context<R>,
+        address: u64,
+    ) -> Result<(), Fault> {
+        let loads = context.preload_units(address)?;
+        for (load, token) in &loads {
+            context.answer_load(*token, None)?;
+            push_load(&mut self.text, load)?;
+            self.write_if_enough()?;
+        }
+        self.add_frames(context, address)
+    }
+
+    /// Adds the name of the unit of an address. Loads are answered by no file.
+    pub fn add_unit<R: Reader>(
+        &mut self,
+        context: &mut Context<R>,
+        address: u64,
+    ) -> Result<(), Fault> {
+        let unit = context.find_dwarf_and_unit(address).skip_all_loads()?;
+        match unit {
+            Some(unit) => push_unit(&mut self.text, &unit)?,
+            None => self.text.extend_from_slice(b"??\n")?,
+        }
+        self.write_if_enough()
+    }
+
     fn write_if_enough(&mut self) -> Result<(), Fault> {
         if self.text.len() < ENOUGH {
             return Ok(());
@@ -95,4 +125,24 @@ fn push_frame<R: Reader>(text: &mut Vec<u8>, frame: &Frame<'_, R>) -> Result<(),
 
 fn push_unknown(text: &mut Vec<u8>) -> Result<(), AllocError> {
     text.extend_from_slice(b"??\n??:0\n")
+}
+
+// A text, and the end of the line.
+fn push_text<R: Reader>(text: &mut Vec<u8>, line: &Option<R>) -> Result<(), AllocError> {
+    match line {
+        Some(line) => text.extend_from_slice(line.as_bytes())?,
+        None => text.extend_from_slice(b"??")?,
+    }
+    text.extend_from_slice(b"\n")
+}
+
+fn push_load<R: Reader>(text: &mut Vec<u8>, load: &SplitDwarfLoad<R>) -> Result<(), AllocError> {
+    text.extend_from_slice(Buffer::new().format(load.dwo_id.0).as_bytes())?;
+    text.extend_from_slice(b" ")?;
+    push_text(text, &load.path)
+}
+
+fn push_unit<R: Reader>(text: &mut Vec<u8>, unit: &UnitRef<'_, R>) -> Result<(), AllocError> {
+    let facts = unit.unit;
+    push_text(text, &facts.name)
 }

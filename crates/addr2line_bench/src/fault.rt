@@ -50,8 +50,8 @@ impl fmt::Display for Fault {
     fn fmt<W: fmt::Write>(&self, f: &mut fmt::Formatter<W>) -> fmt::Result {
         match self {
             Fault::Usage => f.write_str(
-                "usage: addr2line_bench IMAGE slice|bytes places|frames FILE, or the same \
-                 with all in place of the last two words",
+                "usage: addr2line_bench IMAGE slice|bytes places|frames|loads|unit FILE, or the \
+                 same with all|lines|functions|calls in place of the last two words",
             ),
             Fault::Stream => f.write_str("a file can't be read, or the answers can't be written"),
             Fault::Load(error) => write!(f, "{error}"),

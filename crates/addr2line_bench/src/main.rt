@@ -1,9 +1,15 @@
 //! Answers addresses from an ELF image's debug information through a `Context`, as text, and prints
-//! to standard error how long each part of that took, for `bench/context.sh`:
+//! to standard error how long each part of that took, for `bench/context.sh` and
+//! `bench/hostile.py`:
 //!
 //! - `IMAGE READER places FILE`: the places of a file's addresses, one a line in hexadecimal;
 //! - `IMAGE READER frames FILE`: their frames, each with the function's name before its place;
-//! - `IMAGE READER all`: the places of all addresses at which a row of the image's lines begins.
+//! - `IMAGE READER loads FILE`: the files that lookups of each address wait for, each with the
+//!   identifier of the split unit, and its frames once each of these is answered by no file;
+//! - `IMAGE READER unit FILE`: the names of their units;
+//! - `IMAGE READER all`: the places of all addresses at which a row of the image's lines begins;
+//! - `IMAGE READER lines`, `functions` or `calls`: nothing, once the lines of all units are read,
+//!   their functions, or these with the calls that are inlined into them.
 //!
 //! The reader is `slice`, of borrowed bytes, or `bytes`, of shared ones.
 #![tactic(auto)]
@@ -16,8 +22,8 @@ mod stages;
 
 use crate::fault::Fault;
 use crate::image::Image;
-use crate::request::{ReaderKind, Request, request_of};
-use crate::stages::{answer, context_of, now, report};
+use crate::request::{ReaderKind, Request, Task, request_of};
+use crate::stages::{context_of, now, perform, report};
 use addr2line_context::{Context, EndianBytes, EndianSlice, Error, RunTimeEndian};
 use std::alloc::Global;
 use std::process::ExitCode;
@@ -55,35 +61,41 @@ fn image_of<R: Runtime + AllocGlobal>(rt: &R, path: &str) -> Result<Image, Fault
     }
 }
 
-// Loads the image, and answers what is asked of it.
+// The text of the file that has the addresses; none where no addresses are asked for.
+fn addresses_text<R: Runtime + AllocGlobal>(rt: &R, task: Task<'_>) -> Result<String, Fault> {
+    match task {
+        Task::Each(_, file) => match fs::read_to_string(rt, file) {
+            Ok(text) => Ok(text),
+            Err(_) => Err(Fault::Stream),
+        },
+        Task::Rows | Task::Read(_) => Ok(String::new(rt.alloc())),
+    }
+}
+
+// Loads the image, and does what is asked of it.
 fn obey<R: Runtime + AllocGlobal>(rt: &R, request: &Request<'_>) -> Result<(), Fault> {
     let start = now(rt)?;
     let image = image_of(rt, request.image)?;
     report(rt, "image", start)?;
-    match request.addresses {
-        Some(file) => match fs::read_to_string(rt, file) {
-            Ok(text) => answer_through(rt, &image, request, Some(&text)),
-            Err(_) => Err(Fault::Stream),
-        },
-        None => answer_through(rt, &image, request, None),
-    }
+    let text = addresses_text(rt, request.task)?;
+    perform_through(rt, &image, request, &text)
 }
 
-// Answers through the readers that are asked for.
-fn answer_through<R: Runtime + AllocGlobal>(
+// Does it through the readers that are asked for.
+fn perform_through<R: Runtime + AllocGlobal>(
     rt: &R,
     image: &Image,
     request: &Request<'_>,
-    text: Option<&str>,
+    text: &str,
 ) -> Result<(), Fault> {
     let start = now(rt)?;
     match request.reader {
         ReaderKind::Borrowed => match borrowed_context(rt.alloc(), image) {
-            Ok(mut context) => answer(rt, start, &mut context, request.question, text),
+            Ok(mut context) => perform(rt, start, &mut context, request.task, text),
             Err(error) => Err(Fault::from(error)),
         },
         ReaderKind::Shared => match shared_context(rt.alloc(), image) {
-            Ok(mut context) => answer(rt, start, &mut context, request.question, text),
+            Ok(mut context) => perform(rt, start, &mut context, request.task, text),
             Err(error) => Err(Fault::from(error)),
         },
     }

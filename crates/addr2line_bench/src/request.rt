@@ -12,15 +12,37 @@ pub enum ReaderKind {
 pub enum Question {
     Place,
     Frames,
+    /// The loads that lookups wait for, and then the frames.
+    Loads,
+    Unit,
 }
 
-/// An image, the readers, and what is asked. Without a file of addresses all are asked for.
+/// What all units have.
+#[derive(Clone, Copy, Debug, PartialEq, Eq)]
+pub enum Part {
+    Lines,
+    Functions,
+    /// The functions with the calls that are inlined into them.
+    Calls,
+}
+
+/// What is asked of a context.
+#[derive(Clone, Copy, Debug, PartialEq, Eq)]
+pub enum Task<'a> {
+    /// This of each address of a file.
+    Each(Question, &'a str),
+    /// The places of all addresses at which rows begin.
+    Rows,
+    /// To read this of all units.
+    Read(Part),
+}
+
+/// An image, the readers, and what is asked.
 #[derive(Drop)]
 pub struct Request<'a> {
     pub image: &'a str,
     pub reader: ReaderKind,
-    pub question: Question,
-    pub addresses: Option<&'a str>,
+    pub task: Task<'a>,
 }
 
 /// The request of a command line.
@@ -28,12 +50,11 @@ pub fn request_of(words: &[String]) -> Option<Request<'_>> {
     let (image, rest) = words.get(1..)?.split_first()?;
     let (reader, rest) = rest.split_first()?;
     let reader = reader_of(reader)?;
-    let (question, addresses) = question_of(rest)?;
+    let task = task_of(rest)?;
     Some(Request {
         image,
         reader,
-        question,
-        addresses,
+        task,
     })
 }
 
@@ -45,12 +66,30 @@ fn reader_of(word: &str) -> Option<ReaderKind> {
     }
 }
 
-fn question_of(words: &[String]) -> Option<(Question, Option<&str>)> {
-    let (word, rest) = words.split_first()?;
-    match (word.as_str(), rest) {
-        ("places", [file]) => Some((Question::Place, Some(file))),
-        ("frames", [file]) => Some((Question::Frames, Some(file))),
-        ("all", []) => Some((Question::Place, None)),
+fn task_of(words: &[String]) -> Option<Task<'_>> {
+    match words {
+        [word, file] => Some(Task::Each(question_of(word)?, file)),
+        [word] => task_for_all(word),
+        _ => None,
+    }
+}
+
+fn question_of(word: &str) -> Option<Question> {
+    match word {
+        "places" => Some(Question::Place),
+        "frames" => Some(Question::Frames),
+        "loads" => Some(Question::Loads),
+        "unit" => Some(Question::Unit),
+        _ => None,
+    }
+}
+
+fn task_for_all(word: &str) -> Option<Task<'_>> {
+    match word {
+        "all" => Some(Task::Rows),
+        "lines" => Some(Task::Read(Part::Lines)),
+        "functions" => Some(Task::Read(Part::Functions)),
+        "calls" => Some(Task::Read(Part::Calls)),
         _ => None,
     }
 }

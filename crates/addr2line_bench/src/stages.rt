@@ -2,7 +2,7 @@
 
 use crate::answers::Answers;
 use crate::fault::Fault;
-use crate::request::Question;
+use crate::request::{Part, Question, Task};
 use addr2line_context::{
     AbbreviationsCacheStrategy, Context, Dwarf, Error, LocationRangeIter, Reader,
 };
@@ -33,41 +33,74 @@ pub fn report<R: Runtime>(rt: &R, part: &str, start: Instant) -> Result<(), Faul
     }
 }
 
-/// Answers the addresses of a text, or where there is none all addresses at which rows begin, in a
-/// context that has been in the making since the start.
-pub fn answer<R: Runtime + AllocGlobal, I: Reader>(
+/// Does what is asked of a context that has been in the making since the start. The text has the
+/// addresses, where some are asked for.
+pub fn perform<R: Runtime + AllocGlobal, I: Reader>(
     rt: &R,
     start: Instant,
     context: &mut Context<I>,
-    question: Question,
-    text: Option<&str>,
+    task: Task<'_>,
+    text: &str,
 ) -> Result<(), Fault> {
     report(rt, "context", start)?;
-    let addresses = timed_addresses(rt, context, text)?;
+    match task {
+        Task::Each(question, _) => answer_text(rt, context, question, text),
+        Task::Rows => answer_rows(rt, context),
+        Task::Read(part) => read_timed(rt, context, part),
+    }
+}
+
+// Answers the addresses of a text.
+fn answer_text<R: Runtime + AllocGlobal, I: Reader>(
+    rt: &R,
+    context: &mut Context<I>,
+    question: Question,
+    text: &str,
+) -> Result<(), Fault> {
     let start = now(rt)?;
-    print_answers(rt, context, question, &addresses)?;
+    let addresses = addresses_in(rt.alloc(), text)?;
+    report(rt, "addresses", start)?;
+    answer(rt, context, question, &addresses)
+}
+
+// Answers all addresses at which rows begin by their places.
+fn answer_rows<R: Runtime + AllocGlobal, I: Reader>(
+    rt: &R,
+    context: &mut Context<I>,
+) -> Result<(), Fault> {
+    let start = now(rt)?;
+    let addresses = addresses_of_rows(rt.alloc(), context)?;
+    report(rt, "addresses", start)?;
+    answer(rt, context, Question::Place, &addresses)
+}
+
+fn answer<R: Runtime + AllocGlobal, I: Reader>(
+    rt: &R,
+    context: &mut Context<I>,
+    question: Question,
+    addresses: &[u64],
+) -> Result<(), Fault> {
+    let start = now(rt)?;
+    print_answers(rt, context, question, addresses)?;
     report(rt, "answers", start)
 }
 
-fn timed_addresses<R: Runtime + AllocGlobal, I: Reader>(
+fn read_timed<R: Runtime, I: Reader>(
     rt: &R,
     context: &mut Context<I>,
-    text: Option<&str>,
-) -> Result<Vec<u64>, Fault> {
+    part: Part,
+) -> Result<(), Fault> {
     let start = now(rt)?;
-    let addresses = addresses_of(rt.alloc(), context, text)?;
-    report(rt, "addresses", start)?;
-    Ok(addresses)
+    read_all(context, part)?;
+    report(rt, "units", start)
 }
 
-fn addresses_of<R: Reader>(
-    alloc: Global,
-    context: &mut Context<R>,
-    text: Option<&str>,
-) -> Result<Vec<u64>, Fault> {
-    match text {
-        Some(text) => addresses_in(alloc, text),
-        None => addresses_of_rows(alloc, context),
+// Reads this of all units.
+fn read_all<I: Reader>(context: &mut Context<I>, part: Part) -> Result<(), Error> {
+    match part {
+        Part::Lines => context.parse_lines(),
+        Part::Functions => context.parse_functions(),
+        Part::Calls => context.parse_inlined_functions(),
     }
 }
 
@@ -150,6 +183,8 @@ fn add_answers<W: Write + Drop, I: Reader>(
         match question {
             Question::Place => answers.add_place(context, *address)?,
             Question::Frames => answers.add_frames(context, *address)?,
+            Question::Loads => answers.add_loads(context, *address)?,
+            Question::Unit => answers.add_unit(context, *address)?,
         }
     }
     Ok(())

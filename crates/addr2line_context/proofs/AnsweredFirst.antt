@@ -28,16 +28,20 @@ decide_in c p = decision_of c.plain c.answers p.number p.unit
 one_or_more : (ps : List PendingLoad) (p : PendingLoad) (rest : List PendingLoad) → ps ≡ p ∷ rest → 0 < length ps
 one_or_more ps p rest is = rw is (omega arith)
 
+waits_for : {A : Type 0} (is_something : A → Bool) (nothing : A) (ask : Pair ContextUnit → FirstAnswer → A)
+    (c : AnsweredContext) (a : ℕ) (p : PendingLoad)
+    → first_output is_something nothing (lookups_of (decide_in c) ask (pairs_of c.plain a)) ≡ pending p
+    → (rest : List PendingLoad) × (loads_in c a ≡ p ∷ rest)
+waits_for is_something nothing ask c a p h =
+    first_of_each _ p
+    (waits_for_first (decide_in c) is_something nothing ask (λ q (first : FirstAnswer). first) p (pairs_of c.plain a) h)
+
 has_load : {A : Type 0} (is_something : A → Bool) (nothing : A) (ask : Pair ContextUnit → FirstAnswer → A)
     (c : AnsweredContext) (a : ℕ)
     → IsPending (first_output is_something nothing (lookups_of (decide_in c) ask (pairs_of c.plain a)))
     → 0 < length (loads_in c a)
 has_load is_something nothing ask c a h =
-    let first =
-    first_of_each _ h.0
-    (waits_for_first (decide_in c) is_something nothing ask (λ p (first : FirstAnswer). first) h.0
-    (pairs_of c.plain a) h.1)
-    in one_or_more (loads_in c a) h.0 first.0 first.1
+    let first = waits_for is_something nothing ask c a h.0 h.1 in one_or_more (loads_in c a) h.0 first.0 first.1
 
 pub frames_have_load : (c : AnsweredContext) (a : ℕ) → IsPending (frames_in c a) → 0 < length (loads_in c a)
 frames_have_load c a h =
@@ -50,7 +54,7 @@ unit_has_load c a h =
 -- ---- its first load is that of a unit
 
 -- the unit of a load, which is pending
-abbrev IsLoadOf : AnsweredContext → PendingLoad → ContextUnit → Type 0
+abbrev pub IsLoadOf : AnsweredContext → PendingLoad → ContextUnit → Type 0
 IsLoadOf c p u =
     (slice_get c.plain.context.units p.number ≡ Some u) × (decision_of c.plain c.answers p.number u ≡ pending p)
 
@@ -94,6 +98,26 @@ first_each : (ps : List PendingLoad) (p : PendingLoad) (rest : List PendingLoad)
 first_each [] p rest h = absurd cc
 first_each (q ∷ qs) p rest h = let same : q ≡ p = cc in (qs, ap (λ x. x ∷ qs) same)
 
+pub first_load_of : (c : AnsweredContext) (a : ℕ) (p : PendingLoad) (rest : List PendingLoad)
+    → loads_in c a ≡ p ∷ rest → (u : ContextUnit) × IsLoadOf c p u
+first_load_of c a p rest is =
+    let pairs = pairs_of c.plain a in
+    let first = first_each (pending_of c p rest pairs) p rest is in
+    unit_of_first c p first.0 pairs (covering_at ranges_of c.plain.context.units a) first.1
+
+-- so is that for which a lookup waits
+pub frames_wait_for : (c : AnsweredContext) (a : ℕ) (p : PendingLoad) → frames_in c a ≡ pending p
+    → (u : ContextUnit) × IsLoadOf c p u
+frames_wait_for c a p h =
+    let first = waits_for is_answer (Ok []) (λ q. frames_under c.plain (naming_in c.plain) a q.unit) c a p h in
+    first_load_of c a p first.0 first.1
+
+pub unit_waits_for : (c : AnsweredContext) (a : ℕ) (p : PendingLoad) → unit_in c a ≡ pending p
+    → (u : ContextUnit) × IsLoadOf c p u
+unit_waits_for c a p h =
+    let first = waits_for is_there None (λ q. unit_under c.plain (naming_in c.plain) a q.unit) c a p h in
+    first_load_of c a p first.0 first.1
+
 -- ---- an answer to it
 
 shorter : (p : PendingLoad) (rest : List PendingLoad)
@@ -115,13 +139,8 @@ module _ (c : AnsweredContext) (a : ℕ) (file : Option DwarfFile)
     abbrev all_pending : List PendingLoad
     all_pending = pending_of c p rest (pairs_of c.plain a)
 
-    first_pending : (all : List PendingLoad) × (all_pending ≡ p ∷ all)
-    first_pending = first_each all_pending p rest is
-
     its_unit : (u : ContextUnit) × IsLoadOf c p u
-    its_unit =
-        unit_of_first c p first_pending.0 (pairs_of c.plain a) (covering_at ranges_of c.plain.context.units a)
-        first_pending.1
+    its_unit = first_load_of c a p rest is
 
     abbrev later : FirstAnswer
     later = answer_of its_unit.0.facts file

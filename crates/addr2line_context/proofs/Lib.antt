@@ -6,6 +6,8 @@ pub mod ContextWalks
 pub mod ContextLooks
 pub mod AskedUnits
 pub mod AnsweredFirst
+pub mod SkippedLoads
+pub mod ResumedWithoutFiles
 pub mod SettledContexts
 pub mod FirstLoads
 pub mod FoundRows

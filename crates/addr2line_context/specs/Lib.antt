@@ -58,4 +58,5 @@ pub mod Suspended
 pub use Rattle.addr2line_lookups.specs.AnsweredUnits
 pub mod Outcomes
 pub mod SettledLookups
+pub mod SkippedLoads
 pub mod FrameLoads

@@ -22,6 +22,18 @@ abbrev pub IfLoad : {L O B W S E F : Type 0} → (L → Type 0) → LookupResult
 IfLoad P (Output found) = Unit {0}
 IfLoad P (Load wait) = P wait
 
+-- What is found once all loads are skipped: the output, if there is one, or else what the lookup
+-- that waits finds then.
+abbrev pub SkipsTo : {L O B W S E F : Type 0} → (L → O → Type 0) → LookupResult L O B W S E F → O
+    → Type 0
+SkipsTo skips_to (Output found) x = x ≡ found
+SkipsTo skips_to (Load wait) x = skips_to wait x
+
+-- what holds of that
+abbrev pub IfSkipped : {L O B W S E F : Type 0} → (L → O → Type 0) → LookupResult L O B W S E F
+    → (O → Type 0) → Type 0
+IfSkipped {O = O} skips_to result P = (x : O) → SkipsTo skips_to result x → P x
+
 -- the name of the reference that is in a lookup that waits
 abbrev pub waiting_name : {L O B W S E F : Type 0} → (L → GName)
     → LookupResult L O B W S E F → maybe.Option GName

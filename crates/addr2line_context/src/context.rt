@@ -18,7 +18,8 @@ ghost use Rattle.addr2line_context.specs.AnsweredContexts.{HasNoAnswers};
 ghost use Rattle.addr2line_context.specs.ContextCosts.{runs_of_unit, location_looks, frame_looks, KeepsLinesOver, AfterLookup};
 ghost use Rattle.addr2line_context.specs.ContextParses.{ParsesOrNoMemory};
 ghost use Rattle.addr2line_context.specs.SettledLookups.{frames_in, unit_in, loads_in, after_answer, IsFor, LoadOf, LeavesAnswer};
-ghost use Rattle.addr2line_context.specs.Suspended.{IfLoad, FollowsLookup, RestsUnlessWaiting};
+ghost use Rattle.addr2line_context.specs.SkippedLoads.{FindsFrames, FindsUnit};
+ghost use Rattle.addr2line_context.specs.Suspended.{IfLoad, IfSkipped, FollowsLookup, RestsUnlessWaiting};
 
 use crate::find_frames::FindFrames;
 use crate::find_unit::FindUnit;
@@ -280,6 +281,9 @@ impl<R: Reader> Context<R> {
     pub fn find_frames(&mut self, probe: u64) -> LookupResult<FindFrames<'_, R>>
         ensures found { FollowsLookup frames_left result (frames_in self.old.value probe) }
         ensures waits { IfLoad (λ w. IsFor self.old probe w.context.now w.probe) result }
+        ensures skips { IfSkipped
+            (λ w found. FindsFrames frames_left w.context.now.value w.probe found) result
+            (FindsFrames frames_left self.old.value probe) }
         ensures* after { sem 𝓛 (RestsUnlessWaiting (the_row R.row R.Endian.row R.Offset.row R.Reader
             R.Endian.Endianity.own R.Endian.Debug R.Endian.Default R.Endian.PartialEq
             R.Offset.ReaderOffset.own R.Offset.Debug R.Offset.PartialEq R.Offset.Ord.own
@@ -309,6 +313,8 @@ impl<R: Reader> Context<R> {
         ensures found { FollowsLookup (λ u. u) result
             (map_output (λ u. Ok u) (unit_in self.old.value probe)) }
         ensures waits { IfLoad (λ w. IsFor self.old probe w.context.now w.probe) result }
+        ensures skips { IfSkipped (λ w found. FindsUnit w.context.now.value w.probe found) result
+            (FindsUnit self.old.value probe) }
         ensures* after { sem 𝓛 (RestsUnlessWaiting (the_row R.row R.Endian.row R.Offset.row R.Reader
             R.Endian.Endianity.own R.Endian.Debug R.Endian.Default R.Endian.PartialEq
             R.Offset.ReaderOffset.own R.Offset.Debug R.Offset.PartialEq R.Offset.Ord.own

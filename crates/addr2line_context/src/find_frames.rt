@@ -1,9 +1,10 @@
 //! The frames of an address.
 
-ghost use Rattle.std.specs.Prelude.{◌≤◌, ◌<◌, length, option_map};
+ghost use Rattle.std.specs.Prelude.{◌≡◌, ◌≤◌, ◌<◌, None, length, option_map};
 ghost use Rattle.addr2line_lookups.specs.BorrowedFrames.{frames_left};
 ghost use Rattle.addr2line_context.specs.SettledLookups.{frames_in, loads_in, after_answer, LoadOf, AfterAnswer, WaitsAgain};
-ghost use Rattle.addr2line_context.specs.Suspended.{IfLoad, FollowsLookup, RestsUnlessWaiting, loads_left};
+ghost use Rattle.addr2line_context.specs.SkippedLoads.{FindsFrames};
+ghost use Rattle.addr2line_context.specs.Suspended.{IfLoad, IfSkipped, FollowsLookup, RestsUnlessWaiting, loads_left};
 
 use crate::context::Context;
 use crate::lookup::{LookupContinuation, LookupResult};
@@ -19,11 +20,12 @@ pub struct FindFrames<'ctx, R: Reader> {
 
 impl<'ctx, R: Reader> LookupContinuation for FindFrames<'ctx, R> {
     ghost use Rattle.std.specs.Borrow.{sem};
-    ghost use Rattle.std.specs.Prelude.{◌≤◌, ◌<◌, length, option_map};
+    ghost use Rattle.std.specs.Prelude.{◌≡◌, ◌≤◌, ◌<◌, None, length, option_map};
     ghost use Rattle.addr2line_lookups.specs.BorrowedFrames.{frames_left};
     ghost use Rattle.addr2line_context.specs.contracts.context.Context.{the_row};
     ghost use Rattle.addr2line_context.specs.SettledLookups.{frames_in, loads_in, after_answer, LoadOf, AfterAnswer, WaitsAgain};
-    ghost use Rattle.addr2line_context.specs.Suspended.{IfLoad, FollowsLookup, RestsUnlessWaiting, loads_left};
+    ghost use Rattle.addr2line_context.specs.SkippedLoads.{FindsFrames};
+    ghost use Rattle.addr2line_context.specs.Suspended.{IfLoad, IfSkipped, FollowsLookup, RestsUnlessWaiting, loads_left};
 
     type Output = Result<FrameIter<'ctx, R>, Error>;
 
@@ -36,6 +38,8 @@ impl<'ctx, R: Reader> LookupContinuation for FindFrames<'ctx, R> {
     ghost left = { λ w. length (loads_in w.context.now.value w.probe) };
 
     ghost waits = { λ w. 0 < length (loads_in w.context.now.value w.probe) };
+
+    ghost skips_to = { λ w found. FindsFrames frames_left w.context.now.value w.probe found };
 
     /// The load of the first unit that needs an answer, of those with a range over the address. The
     /// only error is out of memory.
@@ -58,6 +62,9 @@ impl<'ctx, R: Reader> LookupContinuation for FindFrames<'ctx, R> {
             (option_map (λ f. f.value.file) input)) self.entry.probe) }
         ensures again { IfLoad (λ w. WaitsAgain self.entry.context.now self.entry.probe
             (option_map (λ f. f.value.file) input) w.context.now w.probe) result }
+        ensures skips { input ≡ None → IfSkipped
+            (λ w found. FindsFrames frames_left w.context.now.value w.probe found) result
+            (FindsFrames frames_left self.entry.context.now.value self.entry.probe) }
         ensures* after { sem 𝓛 (RestsUnlessWaiting (the_row R.row R.Endian.row R.Offset.row R.Reader
             R.Endian.Endianity.own R.Endian.Debug R.Endian.Default R.Endian.PartialEq
             R.Offset.ReaderOffset.own R.Offset.Debug R.Offset.PartialEq R.Offset.Ord.own

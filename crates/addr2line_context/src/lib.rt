@@ -12,6 +12,7 @@ mod outcomes;
 mod progress;
 mod runs;
 mod sections;
+pub mod skip_laws;
 pub mod unit_loads;
 
 pub use addr2line_lookups::{

@@ -1,7 +1,7 @@
 //! Lookups that wait for the sections of split units (DWARF 5, 3.1.3).
 
-ghost use Rattle.std.specs.Prelude.{◌≤◌, ℕ};
-ghost use Rattle.addr2line_context.specs.Suspended.{loads_left, IfLoad};
+ghost use Rattle.std.specs.Prelude.{◌≡◌, ◌≤◌, ℕ, None};
+ghost use Rattle.addr2line_context.specs.Suspended.{loads_left, IfLoad, SkipsTo, IfSkipped};
 
 use addr2line_lookups::{Error, Reader};
 
@@ -32,6 +32,9 @@ pub trait LookupContinuation: Drop {
     /// There is a load that it waits for.
     ghost waits: { Self → Type 0 };
 
+    /// What it finds where this load and all further ones are answered by no sections.
+    ghost skips_to: { Self → Self.Output → Type 0 };
+
     /// The load that the lookup waits for. It takes memory for copies of readers.
     fn load(&self) -> Result<Self::Load, Error>
         requires { waits self.now };
@@ -40,12 +43,15 @@ pub trait LookupContinuation: Drop {
     /// lookup that waits again can wait for fewer loads.
     fn resume(self, input: Option<Self::Sections>) -> LookupResult<Self>
         ensures fewer { loads_left left result ≤ left self }
-        ensures waits { IfLoad waits result };
+        ensures waits { IfLoad waits result }
+        ensures skips { input ≡ None → IfSkipped skips_to result (skips_to self) };
 }
 
 impl<L: LookupContinuation> LookupResult<L> {
     /// What the lookup finds where each load is answered by no sections.
-    pub fn skip_all_loads(self) -> L::Output {
+    pub fn skip_all_loads(self) -> L::Output
+        ensures { SkipsTo L.skips_to self result }
+    {
         let mut wait = match self {
             LookupResult::Output(output) => return output,
             LookupResult::Load(wait) => wait,

@@ -5,9 +5,16 @@ use Rattle.addr2line_functions.specs.Error.{Error}
 use Rattle.addr2line_functions.specs.Repetition.{fault_of}
 use Rattle.addr2line_functions.specs.Results.{and_then, unless, each}
 use Rattle.addr2line_functions.specs.DwarfFiles.{DwarfFile}
-use Rattle.addr2line_functions.specs.UnitFacts.{UnitFacts, in_file}
-use Rattle.addr2line_functions.specs.Contexts.{ContextUnit, context_unit, facts_of_code_unit, headers_of, units_of_file}
-use Rattle.addr2line_resolved.specs.ResolvedUnits.{AnsweredUnit, without_answer, new_unit, new_units}
+use Rattle.addr2line_functions.specs.EntryRows.{Row}
+use Rattle.addr2line_functions.specs.UnitFacts.{UnitFacts, UnitInFile, in_file}
+use Rattle.addr2line_functions.specs.UnitLines.{lines_of_unit}
+use Rattle.addr2line_functions.specs.Contexts.{ContextUnit, context_unit, unit_of_entry, facts_of_code_unit, headers_of, units_of_file}
+use Rattle.addr2line_resolved.specs.ResolvedUnits.{AnsweredUnit, HasRoot, without_answer, new_unit, new_units}
+
+-- a unit of a context, by its root
+pub unit_by_root : (u : UnitInFile) (r : Row) → HasRoot u r
+    → context_unit u ≡ unit_of_entry u (lines_of_unit u) r
+unit_by_root u r is = ap (λ o. and_then o (λ r. unit_of_entry u (lines_of_unit u) r)) is
 
 abbrev pub unit_of : AnsweredUnit → ContextUnit
 unit_of v = v.unit

@@ -1,9 +1,10 @@
 -- What the items of a listing give, read one after the other.
-use Rattle.std.proofs.Common.{◌≡◌, List, [], ◌∷◌, ◌++◌, Option, Some, None, Result, Ok, Err, refl, sym, ap, ◌∙◌, append_assoc}
+use Rattle.std.proofs.Common.{◌≡◌, ◌≢◌, List, [], ◌∷◌, ◌++◌, Option, Some, None, option_map, Result, Ok, Err, refl, sym, ap, ◌∙◌, append_assoc}
 use Rattle.std.proofs.lemmas.List.{append-nil}
 use Rattle.std.specs.List.{filter_map, cons_option}
 use Rattle.std.specs.Option.{option_to_list}
 use Rattle.addr2line_functions.specs.Error.{Error}
+use Rattle.addr2line_functions.specs.Error.TheVariants.{Memory}
 use Rattle.addr2line_functions.specs.Repetition.{Listing, prepend, fault_of}
 use Rattle.addr2line_functions.specs.View.{View}
 use Rattle.addr2line_functions.specs.Iterators.{ComesNext}
@@ -102,6 +103,62 @@ module _ {A B C : Type 0} (choose : A → Option B) (read : B → Result C Error
       sym so_far
       ∙ ap (λ l. append_to xs (read_all l)) (comes_next o x old new is h)
       ∙ refuse_if_any read xs e (choose x) (filter_map choose new.items) (fault_of new) one
+
+  -- a fault ends all
+  pub read_ended : (old new : Listing View A) (xs : List C) (whole : Result (List C) Error) (e : Error) → e ≢ Memory
+      → ComesNext (Err e) old new → append_to xs (read_all old) ≡ whole
+      → whole ≡ Err e
+  read_ended old new xs whole e m h so_far =
+      let ends = h m in
+      sym so_far
+      ∙ ap (λ bs. append_to xs (unless_after (fault_of old) (each read (filter_map choose bs)))) ends.0
+      ∙ ap (λ fault. append_to xs (unless_after fault (Ok []))) ends.1
+
+-- ---- what is appended to a list
+
+abbrev pub appended : {C : Type 0} → List C → Result (Option C) Error → Result (List C) Error
+appended xs r = and_then r (λ u. Ok (xs ++ option_to_list u))
+
+module _ {B M C : Type 0} (place : B → M) (read : M → Result C Error) (xs : List C) where
+  append_read : (r : Result C Error) → appended xs (some_of r) ≡ and_then r (λ u. Ok (xs ++ u ∷ []))
+  append_read (Ok c) = refl
+  append_read (Err e) = refl
+
+  pub append_some : (o : Option B) (m : M) → option_map place o ≡ Some m
+      → appended xs (if_any (λ b. read (place b)) o) ≡ and_then (read m) (λ u. Ok (xs ++ u ∷ []))
+  append_some None m is = absurd cc
+  append_some (Some b) m is =
+      let same : place b ≡ m = cc in
+      append_read (read (place b)) ∙ ap (λ y. and_then (read y) (λ u. Ok (xs ++ u ∷ []))) same
+
+  pub append_none : (o : Option B) → option_map place o ≡ None → appended xs (if_any (λ b. read (place b)) o) ≡ Ok xs
+  append_none None is = ap Ok (append-nil xs)
+  append_none (Some b) is = absurd cc
+
+module _ {A B C : Type 0} (choose : A → Option B) (read : B → Result C Error) (old new : Listing View A) (o : Option A)
+    (x : A) (xs : List C) (is : o ≡ Some x) (h : ComesNext (Ok o) old new) (whole : Result (List C) Error)
+    (so_far : append_to xs (read_all choose read old) ≡ whole) where
+  -- one that was read and appended
+  pub append_more : (ys : List C) → appended xs (if_any read (choose x)) ≡ Ok ys
+      → append_to ys (read_all choose read new) ≡ whole
+  append_more ys pushed = by (if_any read (choose x)) refl pushed
+    where
+      by : (r : Result (Option C) Error) → if_any read (choose x) ≡ r → appended xs r ≡ Ok ys
+          → append_to ys (read_all choose read new) ≡ whole
+      by (Ok u) one pushed =
+          let same : xs ++ option_to_list u ≡ ys = cc in
+          read_more choose read old new o x u xs ys is h one (sym same) whole so_far
+      by (Err e) one pushed = absurd cc
+
+  -- a refusal of one refuses all
+  pub append_refused : (e : Error) → appended xs (if_any read (choose x)) ≡ Err e → whole ≡ Err e
+  append_refused e refused = by (if_any read (choose x)) refl refused
+    where
+      by : (r : Result (Option C) Error) → if_any read (choose x) ≡ r → appended xs r ≡ Err e → whole ≡ Err e
+      by (Ok u) one refused = absurd cc
+      by (Err d) one refused =
+          let same : d ≡ e = cc in
+          read_refused choose read old new o x e xs is h (one ∙ ap Err same) whole so_far
 
 -- ---- where nothing is refused
 

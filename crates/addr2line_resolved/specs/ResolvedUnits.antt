@@ -1,13 +1,17 @@
 -- The units of a context with the first answers to their loads, and what of them is kept.
-use Rattle.std.specs.Prelude.{◌≡◌, ℕ, Bool, true, false, List, [], length, set, slice_get, Option, Some, None, is_some, option_map, Result, Ok, Err, if◌then◌else◌}
+use Rattle.std.specs.Prelude.{◌≡◌, ℕ, Bool, true, false, List, [], ◌∷◌, ◌++◌, length, set, slice_get, Option, Some, None, is_some, option_map, Result, Ok, Err, if◌then◌else◌}
 use Rattle.std.specs.List.{filter_map, AllByRecursion}
+use Rattle.std.specs.Option.{option_to_list}
 use Rattle.addr2line_functions.specs.Error.{Error}
 use Rattle.addr2line_functions.specs.Error.TheVariants.{Memory, NoSuchUnit}
 use Rattle.addr2line_functions.specs.UnitPlaces.{UnitPlaces}
 use Rattle.addr2line_functions.specs.Repetition.{fault_of}
-use Rattle.addr2line_functions.specs.Results.{unless, each, ◌>>=◌}
+use Rattle.addr2line_functions.specs.Results.{and_then, unless, each, ◌>>=◌}
+use Rattle.addr2line_functions.specs.OptionalValues.{if_any}
+use Rattle.addr2line_functions.specs.UnitHeaders.{DebugUnit}
 use Rattle.addr2line_functions.specs.DwarfFiles.{DwarfFile}
-use Rattle.addr2line_functions.specs.UnitFacts.{UnitInFile, in_file}
+use Rattle.addr2line_functions.specs.EntryRows.{Row}
+use Rattle.addr2line_functions.specs.UnitFacts.{UnitInFile, in_file, root}
 use Rattle.addr2line_functions.specs.Lines.{Lines, LineRow, Location, row_at, row_location}
 use Rattle.addr2line_functions.specs.UnitLines.{lines_of_unit}
 use Rattle.addr2line_functions.specs.UnitRanges.{ranges_of_lines}
@@ -52,6 +56,10 @@ plain_unit u = u.value.unit
 -- the unit of the main file
 abbrev pub main_unit : AnsweredUnit → UnitInFile
 main_unit v = in_file v.file v.unit.facts
+
+-- what the first entry of a unit is
+abbrev pub HasRoot : UnitInFile → Row → Type 0
+HasRoot u r = root u.file.offset_limit u.facts.header u.facts.table ≡ Ok r
 
 -- ---- what decides a unit
 
@@ -253,6 +261,17 @@ abbrev pub new_unit : UnitInFile → Result AnsweredUnit Error
 new_unit u = do
   c ← context_unit u
   Ok (without_answer u.file c)
+
+-- units, and after them a unit without an answer, or why it is refused
+abbrev pub with_new_unit : UnitInFile → List AnsweredUnit → Result (List AnsweredUnit) Error
+with_new_unit u units = and_then (new_unit u) (λ unit. Ok (units ++ unit ∷ []))
+
+-- the same of the unit of a header, where it is one of a context
+abbrev pub with_unit_of_header : DwarfFile → DebugUnit → List AnsweredUnit
+    → Result (List AnsweredUnit) Error
+with_unit_of_header file h units = do
+  unit ← if_any (λ u. new_unit (in_file file u)) (facts_of_code_unit file h)
+  Ok (units ++ option_to_list unit)
 
 -- the lines are kept only where the ranges are those of the lines
 abbrev pub RunsForRangesAlone : ResolvedUnit → Type 0

@@ -1,84 +1,86 @@
 //! The units of a context, by their headers.
 
-ghost use Rattle.std.specs.Prelude.{◌≡◌, Ok, IfSome, IfOk, option_map};
+ghost use Rattle.std.specs.Prelude.{◌≡◌, Ok, IfOk, IfSome, OnOk, map, option_map};
 ghost use Rattle.addr2line_functions.specs.Calls.{ReturnsAsOrNoMemory, ReturnsOrNoMemory};
-ghost use Rattle.addr2line_functions.specs.UnitFacts.{in_file, unit_facts};
-ghost use Rattle.addr2line_functions.specs.Contexts.{is_of_types, readable_facts, facts_of_code_unit};
-ghost use Rattle.addr2line_functions.specs.OptionalValues.{if_any};
+ghost use Rattle.addr2line_functions.specs.EntryViews.{entry_of};
+ghost use Rattle.addr2line_functions.specs.UnitFacts.{in_file};
+ghost use Rattle.addr2line_functions.specs.Contexts.{is_of_types, facts_of_code_unit};
 ghost use Rattle.addr2line_units.specs.ArangeIndexes.{IsIndexOf};
-ghost use Rattle.addr2line_resolved.specs.ResolvedUnits.{value_of_unit, new_unit, KeepsNoFunctions};
+ghost use Rattle.addr2line_resolved.specs.ResolvedUnits.{HasRoot, value_of_unit, with_new_unit, with_unit_of_header, KeepNoFunctions};
 
 use crate::load::share;
 use crate::owned_unit::OwnedUnit;
 use crate::unit::ResUnit;
-use addr2line_functions::{ArangeIndex, Dwarf, Error, Reader, Unit, UnitHeader, UnitType};
+use addr2line_functions::{
+    ArangeIndex, DebuggingInformationEntry, Dwarf, Error, Reader, UnitHeader, UnitType,
+};
 use std::alloc::Global;
 use std::rc::Rc;
 
-// The unit of a header, if it isn't refused. The only refusal is out of memory.
-pub(crate) fn readable_unit<R: Reader>(
+// The unit of a header in its file, if it is one of no types and isn't refused, and its root in
+// place of another entry. It gets its place on the heap here, since what returns it would copy its
+// facts.
+fn code_unit<R: Reader>(
     alloc: Global,
-    dwarf: &Dwarf<R>,
+    sections: &Rc<Dwarf<R>>,
     header: UnitHeader<R>,
-) -> Result<Option<Unit<R>>, Error>
-    ensures { ReturnsOrNoMemory result
-        (Ok (readable_facts (unit_facts dwarf.now.file header))) }
+    entry: &mut DebuggingInformationEntry<R>,
+) -> Result<Option<OwnedUnit<R>>, Error>
+    ensures unit { ReturnsOrNoMemory result
+        (Ok (option_map (in_file sections.now.value.file)
+        (facts_of_code_unit sections.now.value.file header))) }
+    ensures root { IfOk result (λ found. IfSome found
+        (λ u. HasRoot u (entry_of R.view R.Offset.count entry.new))) }
 {
-    match dwarf.unit(alloc, header) {
-        Ok(unit) => Ok(Some(unit)),
+    if is_of_types(&header) {
+        return Ok(None);
+    }
+    match sections.as_ref().unit_with_root(alloc, header, entry) {
+        Ok(unit) => Ok(Some(OwnedUnit::new(alloc, share(sections)?, unit)?)),
         Err(Error::Memory) => Err(Error::Memory),
         Err(_) => Ok(None),
     }
 }
 
-// The unit of a header, if it is one of no types and isn't refused.
-fn code_unit<R: Reader>(
-    alloc: Global,
-    dwarf: &Dwarf<R>,
-    header: UnitHeader<R>,
-) -> Result<Option<Unit<R>>, Error>
-    ensures { ReturnsOrNoMemory result (Ok (facts_of_code_unit dwarf.now.file header)) }
-{
-    if is_of_types(&header) {
-        return Ok(None);
-    }
-    readable_unit(alloc, dwarf, header)
-}
-
-// The context's unit of a header, if it is one.
-pub(crate) fn context_unit<R: Reader>(
+// Appends the context's unit of a header, if it is one. Its root takes the memory of an entry.
+pub(crate) fn push_context_unit<R: Reader>(
     alloc: Global,
     sections: &Rc<Dwarf<R>>,
     aranges: &ArangeIndex,
     header: UnitHeader<R>,
-) -> Result<Option<ResUnit<R>>, Error>
+    entry: &mut DebuggingInformationEntry<R>,
+    units: &mut Vec<ResUnit<R>>,
+) -> Result<(), Error>
     requires { IsIndexOf sections.now.value.file aranges.now }
-    ensures unit { ReturnsAsOrNoMemory (option_map value_of_unit) result
-        (if_any (λ u. new_unit (in_file sections.now.value.file u))
-        (facts_of_code_unit sections.now.value.file header)) }
-    ensures functions { IfOk result (λ unit. IfSome unit KeepsNoFunctions) }
+    ensures units { ReturnsAsOrNoMemory (λ _. map value_of_unit units.new.items) result
+        (with_unit_of_header sections.now.value.file header (map value_of_unit units.old.items)) }
+    ensures functions { OnOk result
+        (KeepNoFunctions units.old.items → KeepNoFunctions units.new.items) }
 {
-    match code_unit(alloc, sections.as_ref(), header)? {
-        Some(unit) => Ok(Some(owned_unit(alloc, sections, aranges, unit)?)),
-        None => Ok(None),
+    match code_unit(alloc, sections, header, entry)? {
+        Some(main) => push_unit(alloc, aranges, main, entry, units),
+        None => Ok(()),
     }
 }
 
-// The context's unit of a unit that was read.
-fn owned_unit<R: Reader>(
+// Appends the context's unit of a unit that was read, with this root.
+fn push_unit<R: Reader>(
     alloc: Global,
-    sections: &Rc<Dwarf<R>>,
     aranges: &ArangeIndex,
-    unit: Unit<R>,
-) -> Result<ResUnit<R>, Error>
-    requires { IsIndexOf sections.now.value.file aranges.now }
-    ensures unit { ReturnsAsOrNoMemory value_of_unit result
-        (new_unit (in_file sections.now.value.file unit)) }
-    ensures functions { IfOk result KeepsNoFunctions }
+    main: OwnedUnit<R>,
+    entry: &DebuggingInformationEntry<R>,
+    units: &mut Vec<ResUnit<R>>,
+) -> Result<(), Error>
+    requires index { IsIndexOf main.file aranges.now }
+    requires root { HasRoot main (entry_of R.view R.Offset.count entry.now) }
+    ensures units { ReturnsAsOrNoMemory (λ _. map value_of_unit units.new.items) result
+        (with_new_unit main (map value_of_unit units.old.items)) }
+    ensures functions { OnOk result
+        (KeepNoFunctions units.old.items → KeepNoFunctions units.new.items) }
 {
-    let sections = share(sections)?;
-    let main = OwnedUnit::new(alloc, sections, unit)?;
-    ResUnit::read(alloc, main, aranges)
+    let unit = ResUnit::read(alloc, main, entry, aranges)?;
+    units.push(unit)?;
+    Ok(())
 }
 
 // Whether a unit describes types alone (DWARF 5, 3.1.4).

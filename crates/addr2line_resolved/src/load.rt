@@ -1,7 +1,7 @@
 //! The files that have the split parts of units (DWARF 5, 3.1.2 and 7.3.2).
 
 ghost use Rattle.std.specs.Prelude.{Ok, option_map};
-ghost use Rattle.addr2line_functions.specs.Calls.{ReturnsAsOrNoMemory, ReturnsOrNoMemory};
+ghost use Rattle.addr2line_functions.specs.Calls.{ReturnsAs, ReturnsAsOrNoMemory, ReturnsOrNoMemory};
 ghost use Rattle.addr2line_functions.specs.FirstAnswers.{split_path, load_of_id, load_of};
 
 use crate::owned_unit::OwnedUnit;
@@ -99,5 +99,54 @@ pub fn load_of<R: Reader>(
     match facts.dwo_id {
         Some(id) => Ok(Some(load_of_id(alloc, unit, id)?)),
         None => Ok(None),
+    }
+}
+
+/// The load of a unit, or why it is refused, as the unit keeps it. The load is on the heap, since
+/// few units have one.
+pub(crate) struct KeptLoad<R: Reader> {
+    load: Result<Option<Box<SplitDwarfLoad<R>>>, Error>,
+}
+
+impl<R: Reader> Drop for KeptLoad<R> {
+    fn drop(self) {
+        let KeptLoad { load: _ } = self;
+    }
+}
+
+impl<R: Reader> Model for KeptLoad<R> {
+    ghost use Rattle.std.specs.Prelude.{Option, option_map, Result, Ok};
+    ghost use Rattle.addr2line_functions.specs.Error.{Error};
+    ghost use Rattle.addr2line_functions.specs.Results.{and_then};
+    ghost use Rattle.addr2line_functions.specs.FirstAnswers.{SplitLoad};
+
+    ghost Value = { Result (Option SplitLoad) Error };
+
+    ghost view = { λ k. and_then k.load (λ load. Ok (option_map (λ l. l.value) load)) };
+}
+
+impl<R: Reader> KeptLoad<R> {
+    // That of a unit. The only refusal is out of memory.
+    pub(crate) fn read(alloc: Global, unit: &OwnedUnit<R>) -> Result<Self, Error>
+        ensures { ReturnsOrNoMemory result (Ok (load_of unit.now)) }
+    {
+        let load = match load_of(alloc, unit) {
+            Ok(Some(load)) => Ok(Some(Box::new(alloc, load)?)),
+            Ok(None) => Ok(None),
+            Err(Error::Memory) => return Err(Error::Memory),
+            Err(fault) => Err(fault),
+        };
+        Ok(KeptLoad { load })
+    }
+
+    // What is kept.
+    pub(crate) fn load(&self) -> Result<Option<&SplitDwarfLoad<R>>, Error>
+        ensures { ReturnsAs (option_map (λ l. l.now)) result self.now }
+    {
+        match &self.load {
+            Ok(Some(load)) => Ok(Some(load.as_ref())),
+            Ok(None) => Ok(None),
+            Err(error) => Err(*error),
+        }
     }
 }

@@ -1,16 +1,32 @@
 //! The units of a file's supplement (DWARF 5, 7.3.6), read one after the other.
 
-ghost use Rattle.std.specs.Prelude.{◌≡◌, ◌++◌, OnOk, IfErr};
+ghost use Rattle.std.specs.Prelude.{◌≡◌, ◌++◌, Ok, OnOk, IfErr};
 ghost use Rattle.std.specs.Option.{option_to_list};
-ghost use Rattle.addr2line_functions.specs.Calls.{ReturnsAsOrNoMemory};
+ghost use Rattle.addr2line_functions.specs.Calls.{ReturnsAsOrNoMemory, ReturnsOrNoMemory};
 ghost use Rattle.addr2line_functions.specs.Error.TheVariants.{Memory};
 ghost use Rattle.addr2line_functions.specs.DwarfFiles.{supplement};
-ghost use Rattle.addr2line_functions.specs.Contexts.{units_of_supplement};
+ghost use Rattle.addr2line_functions.specs.UnitFacts.{unit_facts};
+ghost use Rattle.addr2line_functions.specs.Contexts.{readable_facts, units_of_supplement};
 ghost use Rattle.addr2line_resolved.specs.ContextUnits.{readable_units};
 
-use crate::headers::readable_unit;
-use addr2line_functions::{Dwarf, Error, Reader, Unit};
+use addr2line_functions::{Dwarf, Error, Reader, Unit, UnitHeader};
 use std::alloc::Global;
+
+// The unit of a header, if it isn't refused. The only refusal is out of memory.
+fn readable_unit<R: Reader>(
+    alloc: Global,
+    dwarf: &Dwarf<R>,
+    header: UnitHeader<R>,
+) -> Result<Option<Unit<R>>, Error>
+    ensures { ReturnsOrNoMemory result
+        (Ok (readable_facts (unit_facts dwarf.now.file header))) }
+{
+    match dwarf.unit(alloc, header) {
+        Ok(unit) => Ok(Some(unit)),
+        Err(Error::Memory) => Err(Error::Memory),
+        Err(_) => Ok(None),
+    }
+}
 
 // Appends a unit, if there is one.
 fn push_unit<R: Reader>(units: &mut Vec<Unit<R>>, unit: Option<Unit<R>>) -> Result<(), Error>

@@ -4,7 +4,7 @@ ghost use Rattle.std.specs.Prelude.{◌≡◌, ◌≢◌, ◌<◌, true, length,
 ghost use Rattle.addr2line_functions.specs.Calls.{Returns, ReturnsAs, ReturnsAsOrNoMemory, ReturnsOrNoMemory};
 ghost use Rattle.addr2line_functions.specs.Error.TheVariants.{Memory};
 ghost use Rattle.addr2line_functions.specs.Results.{and_then};
-ghost use Rattle.addr2line_functions.specs.FirstAnswers.{load_of};
+ghost use Rattle.addr2line_functions.specs.EntryViews.{entry_of};
 ghost use Rattle.addr2line_functions.specs.BorrowedFrames.{frames_left};
 ghost use Rattle.addr2line_functions.specs.BorrowedLocations.{location_value};
 ghost use Rattle.addr2line_units.specs.ArangeIndexes.{IsIndexOf};
@@ -12,16 +12,16 @@ ghost use Rattle.addr2line_units.specs.LineIndexes.{counted_lines};
 ghost use Rattle.addr2line_units.specs.RootRanges.{RunsForRanges, unit_with};
 ghost use Rattle.addr2line_units.specs.Searches.{AtMostProbes};
 ghost use Rattle.addr2line_resolved.specs.KeptFunctions.{kept_at, plain_functions, plain_calls, count_of_functions, number_in, number_probes, function_at_number, FindsChain, kept_chain_probes, frames_by_numbers};
-ghost use Rattle.addr2line_resolved.specs.ResolvedUnits.{main_unit, pending_load, decided, first_answer, answer_or_none, unit_of_functions, functions_of, calls_of_number, if_kept, runs_if_kept, row_or_refusal, row_in_kept, lines_probes, kept_probes, location_of_row, with_functions, with_calls, with_probes, with_chain, with_unit_answer, without_answer, new_unit, KeepsLines, KeepsNoFunctions, RunsForRangesAlone};
+ghost use Rattle.addr2line_resolved.specs.ResolvedUnits.{HasRoot, main_unit, pending_load, decided, first_answer, answer_or_none, unit_of_functions, functions_of, calls_of_number, if_kept, runs_if_kept, row_or_refusal, row_in_kept, lines_probes, kept_probes, location_of_row, with_functions, with_calls, with_probes, with_chain, with_unit_answer, without_answer, new_unit, KeepsLines, KeepsNoFunctions, RunsForRangesAlone};
 
 use crate::kept::Kept;
-use crate::load::{SplitDwarfLoad, load_of};
+use crate::load::{KeptLoad, SplitDwarfLoad};
 use crate::owned_unit::OwnedUnit;
 use crate::unit_functions::UnitFunctions;
 use addr2line_functions::{
-    ArangeIndex, DebugFile, DwLang, Error, FrameIter, FunctionCalls, Functions, HasLines, HasUnit,
-    HoldingUnit, LineIndex, Lines, Location, Names, Probes, Range, Reader, Runs, Unit, UnitLines,
-    UnitRoot, calls_of_function, functions_of_unit,
+    ArangeIndex, DebugFile, DebuggingInformationEntry, DwLang, Error, FrameIter, FunctionCalls,
+    Functions, HasLines, HasUnit, HoldingUnit, LineIndex, Lines, Location, Names, Probes, Range,
+    Reader, Runs, Unit, UnitLines, UnitRoot, calls_of_function, functions_of_unit,
 };
 use addr2line_units::LineRow;
 use std::alloc::Global;
@@ -34,7 +34,7 @@ pub struct ResUnit<R: Reader> {
     main: OwnedUnit<R>,
     ranges: Vec<Range>,
     language: Option<DwLang>,
-    load: Result<Option<SplitDwarfLoad<R>>, Error>,
+    load: KeptLoad<R>,
     first: Option<Result<Option<OwnedUnit<R>>, Error>>,
     lines: Kept<LineIndex>,
     /// How often the unit's line number program was run.
@@ -94,20 +94,6 @@ impl<R: Reader> Model for ResUnit<R> {
         KeepsParses u.main u.load u.first u.lines u.runs u.functions u.probes.name };
 }
 
-// A load, or why it is refused; refused only when out of memory.
-fn load_or_refusal<R: Reader>(
-    alloc: Global,
-    unit: &OwnedUnit<R>,
-) -> Result<Result<Option<SplitDwarfLoad<R>>, Error>, Error>
-    ensures { ReturnsOrNoMemory result (Ok (load_of unit.now)) }
-{
-    match load_of(alloc, unit) {
-        Ok(load) => Ok(Ok(load)),
-        Err(Error::Memory) => Err(Error::Memory),
-        Err(fault) => Ok(Err(fault)),
-    }
-}
-
 // The lines of a run, as lookups search them, or the refusal of them; this counter counts looks at
 // them. Refused only when out of memory.
 fn index_of_run(
@@ -158,11 +144,12 @@ fn put_answer<R: Reader>(
 // The unit that has the functions of a unit with this load, if it has one.
 fn unit_decided<'a, R: Reader>(
     main: &'a OwnedUnit<R>,
-    load: &Option<SplitDwarfLoad<R>>,
+    load: Option<&SplitDwarfLoad<R>>,
     first: &'a Option<Result<Option<OwnedUnit<R>>, Error>>,
 ) -> Result<HoldingUnit<'a, R>, Error>
     ensures { Returns result
-        (unit_of_functions main.now (decided (Ok load.now) first.now)) }
+        (unit_of_functions main.now
+        (decided (Ok (option_map (λ l. l.now) load.entry)) first.now)) }
 {
     match load {
         Some(_) => unit_under(main, first),
@@ -187,14 +174,20 @@ fn unit_under<'a, R: Reader>(
 impl<R: Reader> ResUnit<R> {
     /// The unit, with what its root says. Its line number program is run only where its ranges are
     /// those of its lines, which are then kept. Refused by its root or its ranges.
-    pub fn read(alloc: Global, main: OwnedUnit<R>, aranges: &ArangeIndex) -> Result<Self, Error>
-        requires { IsIndexOf main.file aranges.now }
+    pub fn read(
+        alloc: Global,
+        main: OwnedUnit<R>,
+        entry: &DebuggingInformationEntry<R>,
+        aranges: &ArangeIndex,
+    ) -> Result<Self, Error>
+        requires index { IsIndexOf main.file aranges.now }
+        requires root { HasRoot main (entry_of R.view R.Offset.count entry.now) }
         ensures unit { ReturnsAsOrNoMemory (λ u. u.value) result (new_unit main) }
         ensures lines { IfOk result RunsForRangesAlone }
         ensures functions { IfOk result KeepsNoFunctions }
     {
         let mut runs = Runs::new();
-        let root = UnitRoot::read(alloc, &main.unit_ref(), aranges, &mut runs)?;
+        let root = UnitRoot::read(alloc, &main.unit_ref(), entry, aranges, &mut runs)?;
         ResUnit::of_root(alloc, main, root, runs)
     }
 
@@ -206,7 +199,7 @@ impl<R: Reader> ResUnit<R> {
         ensures lines { IfOk result RunsForRangesAlone }
         ensures functions { IfOk result KeepsNoFunctions }
     {
-        let load = load_or_refusal(alloc, &main)?;
+        let load = KeptLoad::read(alloc, &main)?;
         let UnitRoot {
             ranges,
             language,
@@ -334,9 +327,12 @@ impl<R: Reader> ResUnit<R> {
     pub fn pending_load(&self) -> Option<&SplitDwarfLoad<R>>
         ensures { option_map (λ l. l.now) result ≡ pending_load self.now.value }
     {
-        match (&self.load, &self.first) {
-            (Ok(Some(load)), None) => Some(load),
-            _ => None,
+        match self.load.load() {
+            Ok(load) => match &self.first {
+                Some(_) => None,
+                None => load,
+            },
+            Err(_) => None,
         }
     }
 
@@ -361,9 +357,9 @@ impl<R: Reader> ResUnit<R> {
         ensures { Returns result
             (unit_of_functions (main_unit self.now.value) (first_answer self.now.value)) }
     {
-        match &self.load {
+        match self.load.load() {
             Ok(load) => unit_decided(&self.main, load, &self.first),
-            Err(error) => Err(*error),
+            Err(error) => Err(error),
         }
     }
 

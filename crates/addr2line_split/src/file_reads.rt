@@ -7,10 +7,10 @@ ghost use Rattle.addr2line_split.specs.FileReads.{IsRead, read_refusal, if_reada
 use addr2line_elf::LoadError;
 use addr2line_resolved::Error;
 use bytes::Bytes;
-use std::fs::{File, OpenFile};
+use std::fs::{self, File, OpenFile};
 use std::io;
 use std::io::{ErrorKind, Read};
-use std::path::AsPath;
+use std::path::{AsPath, PathBuf};
 use std::rt::Files;
 
 /// The bytes of a file, read once into one buffer of its size, which readers then share. Refused is
@@ -20,6 +20,21 @@ pub fn read_file<R: Files + AllocGlobal, P: AsPath>(rt: &R, path: P) -> Result<B
 {
     match read_bytes(rt, path) {
         Ok(bytes) => Ok(bytes),
+        Err(error) => Err(refusal_of(&error)),
+    }
+}
+
+/// The same of a file whose name an image gives: nothing but a regular file is read, since a device
+/// or a pipe may never end. All else is refused as a file that can't be read.
+pub(crate) fn read_regular_file<R: Files + AllocGlobal>(
+    rt: &R,
+    path: PathBuf,
+) -> Result<Bytes, LoadError>
+    ensures { IsRead result }
+{
+    match fs::metadata(rt, path.as_path()) {
+        Ok(metadata) if metadata.is_file() => read_file(rt, path),
+        Ok(_) => Err(LoadError::Io),
         Err(error) => Err(refusal_of(&error)),
     }
 }

@@ -4,7 +4,7 @@ ghost use Rattle.std.specs.Prelude.{◌≡◌, IfOk, option_map};
 ghost use Rattle.std.specs.Path.{path_buf_bytes};
 ghost use Rattle.addr2line_split.specs.FileReads.{as_text, path_in};
 
-use crate::file_reads::{if_readable, read_file};
+use crate::file_reads::{if_readable, read_regular_file};
 use crate::source::SplitSource;
 use addr2line_resolved::Error;
 use bytes::Bytes;
@@ -14,8 +14,8 @@ use std::rt::Files;
 use std::str;
 
 /// Split files of the file system. A file's path is its name joined to its directory, as `Path`
-/// joins them, so that an absolute name stands alone. A path that isn't UTF-8, or can't be read,
-/// gives none.
+/// joins them, so that an absolute name is the path. A path that isn't UTF-8, leads to no regular
+/// file, or can't be read, gives none.
 #[derive(Drop)]
 pub struct FileSource<R> {
     rt: R,
@@ -38,7 +38,7 @@ impl<R: Files + AllocGlobal> SplitSource for FileSource<R> {
 
     fn get(&mut self, directory: &[u8], name: &[u8]) -> Result<Option<Bytes>, Error> {
         match path_in(self.rt.alloc(), directory, name)? {
-            Some(path) => if_readable(read_file(&self.rt, path)),
+            Some(path) => if_readable(read_regular_file(&self.rt, path)),
             None => Ok(None),
         }
     }

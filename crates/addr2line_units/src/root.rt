@@ -4,7 +4,7 @@ ghost use Rattle.std.specs.Prelude.{◌≡◌, IfOk};
 ghost use Rattle.gimli_lines_rows.specs.Calls.{ReturnsAsOrNoMemory};
 ghost use Rattle.gimli_dwarf.specs.EntryViews.{entry_of, raw_attributes};
 ghost use Rattle.addr2line_index.specs.UnitLines.{lines_of_unit};
-ghost use Rattle.addr2line_index.specs.Contexts.{unit_of_root, unit_of_entry, context_unit};
+ghost use Rattle.addr2line_index.specs.Contexts.{unit_of_root, unit_of_entry};
 ghost use Rattle.addr2line_units.specs.ArangeIndexes.{IsIndexOf};
 ghost use Rattle.addr2line_units.specs.RootRanges.{RunsForRanges, unit_with};
 
@@ -42,30 +42,14 @@ impl Model for UnitRoot {
 
 impl UnitRoot {
     /// What the root of a unit says; nothing of a unit that others import. The unit's line number
-    /// program is run only where the root declares no ranges. Refused is a root that can't be read,
-    /// then one of its attributes, then its range list.
+    /// program is run only where the root declares no ranges. Refused is an attribute of the root,
+    /// or else its range list.
     pub fn read<R: Reader>(
         alloc: Global,
         unit: &UnitRef<'_, R>,
-        aranges: &ArangeIndex,
-        runs: &mut Runs,
-    ) -> Result<Self, Error>
-        requires index { IsIndexOf unit.now.file aranges.now }
-        ensures unit { ReturnsAsOrNoMemory (unit_with unit.now) result (context_unit unit.now) }
-        ensures lines { IfOk result
-            (λ r. RunsForRanges unit.now r.ranges r.lines runs.old runs.new) }
-    {
-        let root = unit.root(alloc)?;
-        UnitRoot::of_entry(alloc, unit, aranges, runs, &root)
-    }
-
-    // What this root says.
-    fn of_entry<R: Reader>(
-        alloc: Global,
-        unit: &UnitRef<'_, R>,
-        aranges: &ArangeIndex,
-        runs: &mut Runs,
         root: &DebuggingInformationEntry<R>,
+        aranges: &ArangeIndex,
+        runs: &mut Runs,
     ) -> Result<Self, Error>
         requires index { IsIndexOf unit.now.file aranges.now }
         ensures unit { ReturnsAsOrNoMemory (unit_with unit.now) result

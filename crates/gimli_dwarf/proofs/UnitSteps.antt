@@ -1,5 +1,7 @@
 -- The facts of a unit, read one after the other, are the whole.
-use Rattle.std.proofs.Common.{◌≡◌, ℕ, List, Option, option_map, Result, Ok, Err, sym, ap, ◌∙◌}
+use Rattle.std.proofs.Common.{◌≡◌, ℕ, List, Option, option_map, option_and_then, Result, Ok, Err, IfOk, refl, sym, ap, ◌∙◌}
+use Rattle.gimli_dwarf_spec.specs.Calls.{ReturnsOrNoMemory}
+use Rattle.std.specs.Option.{option_or}
 use Rattle.gimli_dwarf_spec.specs.Error.{Error}
 use Rattle.gimli_dwarf_spec.specs.DwarfFileType.{DwarfFileType}
 use Rattle.gimli_dwarf_spec.specs.Declarations.{Declaration}
@@ -12,7 +14,8 @@ use Rattle.gimli_dwarf_spec.specs.UnitHeaders.{DebugUnit}
 use Rattle.gimli_dwarf_spec.specs.LineHeaders.{LineHeader}
 use Rattle.gimli_dwarf_spec.specs.Results.{and_then}
 use Rattle.gimli_dwarf_spec.specs.DwarfFiles.{DwarfFile}
-use Rattle.gimli_dwarf_spec.specs.UnitFacts.{UnitFacts, root, dwo_name, dwo_name_number, facts_of, line_header_of, address_or_0, last_value_of_kind, last_value, line_reference_of, is_stmt_list, is_low_pc}
+use Rattle.gimli_dwarf_spec.specs.UnitFacts.{UnitFacts, root, dwo_name, dwo_name_number, facts_of, bases_of, dwo_id_in, dwo_id_of, line_header_of, address_or_0, last_value_of_kind, last_value, line_reference_of, is_stmt_list, is_low_pc, is_dwo_id}
+use Rattle.gimli_dwarf.specs.RootBases.{TableBases, table_bases}
 use Rattle.gimli_dwarf.specs.Roots.{facts_without_texts, facts_with_texts, line_unit, with_program_and_begin, facts_with_program}
 
 -- the facts of a unit whose root is read with a limit of offsets
@@ -25,18 +28,40 @@ facts_with_limit limit file u =
 abbrev pub ok_facts : UnitFacts → Result UnitFacts Error
 ok_facts u = Ok u
 
+-- an identifier, or none, that was read
+abbrev pub ok_id : Option ℕ → Result (Option ℕ) Error
+ok_id id = Ok id
+
+-- bases that were read
+abbrev pub ok_tables : TableBases → Result TableBases Error
+ok_tables t = Ok t
+
 pub facts_by_steps : (file : DwarfFile) (u : DebugUnit) (table : List Declaration)
-    (attributes : List RawAttribute) (file_type : DwarfFileType) (first second : UnitFacts)
-    → file_type ≡ file.sections.file_type → ok_facts (facts_without_texts file_type u table attributes) ≡ ok_facts first
+    (attributes : List RawAttribute) (file_type : DwarfFileType) (tables : TableBases) (id : Option ℕ)
+    (first second : UnitFacts)
+    → file_type ≡ file.sections.file_type
+    → ok_tables (table_bases (bases_of file_type u.encoding attributes)) ≡ ok_tables tables
+    → ok_id (option_or (dwo_id_in u.kind) (option_and_then dwo_id_of (last_value is_dwo_id attributes))) ≡ ok_id id
+    → first ≡ facts_without_texts u table tables id
     → ok_facts (facts_with_texts file first attributes) ≡ ok_facts second
     → facts_with_program file second attributes ≡ facts_of file u table attributes
-facts_by_steps file u table attributes file_type first second type bare named =
-    let one : facts_without_texts file_type u table attributes ≡ first = cc in
-    let two : facts_with_texts file first attributes ≡ second = cc in
-    ap (λ (x : UnitFacts). facts_with_program file x attributes) (sym two)
-    ∙ ap (λ (x : UnitFacts). facts_with_program file (facts_with_texts file x attributes) attributes) (sym one)
+facts_by_steps file u table attributes file_type tables id first second type based identified bare named =
+    let own = option_or (dwo_id_in u.kind) (option_and_then dwo_id_of (last_value is_dwo_id attributes)) in
+    let one : table_bases (bases_of file_type u.encoding attributes) ≡ tables = cc in
+    let two : own ≡ id = cc in
+    let three : facts_with_texts file first attributes ≡ second = cc in
+    ap (λ (x : UnitFacts). facts_with_program file x attributes) (sym three)
+    ∙ ap (λ (x : UnitFacts). facts_with_program file (facts_with_texts file x attributes) attributes) bare
+    ∙ ap (λ b. facts_with_program file
+    (facts_with_texts file (facts_without_texts u table b id) attributes) attributes) (sym one)
+    ∙ ap (λ d. facts_with_program file
+    (facts_with_texts file
+    (facts_without_texts u table (table_bases (bases_of file_type u.encoding attributes)) d) attributes)
+    attributes) (sym two)
     ∙ ap (λ t. facts_with_program file
-    (facts_with_texts file (facts_without_texts t u table attributes) attributes) attributes) type
+    (facts_with_texts file
+    (facts_without_texts u table (table_bases (bases_of t u.encoding attributes)) own) attributes)
+    attributes) type
 
 module _ (file : DwarfFile) (u : UnitFacts) (attributes : List RawAttribute) (e : Error) where
   -- a refused line header refuses the unit
@@ -67,3 +92,52 @@ dwo_name-of_root limit u r n found same =
     Ok (option_map (λ a. value_under a.name a.value) (attribute_named (dwo_name_number u.header.encoding) r))))
     found
     ∙ ap (λ m. Ok (option_map (λ a. value_under a.name a.value) (attribute_named m r))) (sym same)
+
+-- ---- the root of a unit whose facts were read
+
+-- the header and the declarations in facts that were read, or others
+abbrev header_in : DebugUnit → Result UnitFacts Error → DebugUnit
+header_in other (Ok f) = f.header
+header_in other (Err e) = other
+
+abbrev table_in : List Declaration → Result UnitFacts Error → List Declaration
+table_in other (Ok f) = f.table
+table_in other (Err e) = other
+
+begun-parts : (u : UnitFacts) (l : Option LineHeader) (low_pc : Result ℕ Error) (f : UnitFacts)
+    → with_program_and_begin u l low_pc ≡ Ok f
+    → (f.header ≡ u.header) × (f.table ≡ u.table)
+begun-parts u l (Ok a) f h = (ap (header_in u.header) (sym h), ap (table_in u.table) (sym h))
+begun-parts u l (Err e) f h = absurd cc
+
+program-parts : (u : UnitFacts) (program : Result (Option LineHeader) Error) (low_pc : Result ℕ Error) (f : UnitFacts)
+    → and_then program (λ l. with_program_and_begin u l low_pc) ≡ Ok f
+    → (f.header ≡ u.header) × (f.table ≡ u.table)
+program-parts u (Ok l) low_pc f h = begun-parts u l low_pc f h
+program-parts u (Err e) low_pc f h = absurd cc
+
+facts_of-parts : (file : DwarfFile) (u : DebugUnit) (table : List Declaration) (attributes : List RawAttribute)
+    (f : UnitFacts) → facts_of file u table attributes ≡ Ok f
+    → (f.header ≡ u) × (f.table ≡ table)
+facts_of-parts file u table attributes f h =
+    let tables : TableBases = table_bases (bases_of file.sections.file_type u.encoding attributes) in
+    let id : Option ℕ = option_or (dwo_id_in u.kind) (option_and_then dwo_id_of (last_value is_dwo_id attributes)) in
+    let first : UnitFacts = facts_without_texts u table tables id in
+    let second : UnitFacts = facts_with_texts file first attributes in
+    program-parts second
+    (line_header_of file (line_unit second) (last_value_of_kind line_reference_of is_stmt_list attributes))
+    (address_or_0 file second.bases (last_value is_low_pc attributes)) f
+    (facts_by_steps file u table attributes file.sections.file_type tables id first second refl refl refl refl refl
+    ∙ h)
+
+-- it is the one that was read
+pub root_of_facts : (file : DwarfFile) (u : DebugUnit) (table : List Declaration) (r : Row) (limit : ℕ)
+    (result : Result UnitFacts Error)
+    → file.offset_limit ≡ limit → root limit u table ≡ Ok r
+    → ReturnsOrNoMemory result (facts_of file u table r.attributes)
+    → IfOk result (λ f. root file.offset_limit f.header f.table ≡ Ok r)
+root_of_facts file u table r limit (Ok f) same found read =
+    let parts = facts_of-parts file u table r.attributes f read in
+    ap (λ n. root n f.header f.table) same ∙ ap (λ h. root limit h f.table) parts.0
+    ∙ ap (root limit u) parts.1 ∙ found
+root_of_facts file u table r limit (Err e) same found read = tt

@@ -1,8 +1,6 @@
 -- A unit as its facts are read one after the other.
-use Rattle.std.specs.Prelude.{ℕ, List, Option, None, option_and_then, Result, Ok}
-use Rattle.std.specs.Option.{option_or}
+use Rattle.std.specs.Prelude.{ℕ, List, Option, None, Result, Ok}
 use Rattle.gimli_dwarf_spec.specs.Error.{Error}
-use Rattle.gimli_dwarf_spec.specs.DwarfFileType.{DwarfFileType}
 use Rattle.gimli_dwarf_spec.specs.Declarations.{Declaration}
 use Rattle.gimli_dwarf_spec.specs.AttributeValues.{RawAttribute}
 use Rattle.gimli_dwarf_spec.specs.UnitHeaders.{DebugUnit}
@@ -10,20 +8,26 @@ use Rattle.gimli_dwarf_spec.specs.LineHeaders.{LineHeader}
 use Rattle.gimli_dwarf_spec.specs.HeaderParsing.{LineUnit}
 use Rattle.gimli_dwarf_spec.specs.Results.{◌>>=◌}
 use Rattle.gimli_dwarf_spec.specs.DwarfFiles.{DwarfFile}
-use Rattle.gimli_dwarf_spec.specs.UnitFacts.{UnitFacts, bases_of, with_low_pc, dwo_id_in, dwo_id_of, last_value, last_value_of_kind, line_reference_of, is_stmt_list, is_dwo_id, is_name, is_comp_dir, is_low_pc, readable_text, line_header_of, address_or_0}
+use Rattle.gimli_dwarf_spec.specs.UnitFacts.{UnitFacts, with_low_pc, last_value, last_value_of_kind, line_reference_of, is_stmt_list, is_name, is_comp_dir, is_low_pc, readable_text, line_header_of, address_or_0}
+use Rattle.gimli_dwarf.specs.RootBases.{TableBases}
 
--- its header, its declarations, its bases and its identifier
-abbrev pub facts_without_texts : DwarfFileType → DebugUnit → List Declaration → List RawAttribute
-    → UnitFacts
-facts_without_texts file_type u table attributes = record {
+-- its header, its declarations, where its tables begin and its identifier
+abbrev pub facts_without_texts : DebugUnit → List Declaration → TableBases → Option ℕ → UnitFacts
+facts_without_texts u table tables dwo_id = record {
   header = u;
   table = table;
   name = None;
   comp_dir = None;
-  bases = bases_of file_type u.encoding attributes;
+  bases = record {
+    encoding = u.encoding;
+    low_pc = 0;
+    str_offsets_base = tables.str_offsets;
+    addr_base = tables.addr;
+    loclists_base = tables.loclists;
+    rnglists_base = tables.rnglists;
+  };
   line_header = None;
-  dwo_id =
-      option_or (dwo_id_in u.kind) (option_and_then dwo_id_of (last_value is_dwo_id attributes));
+  dwo_id = dwo_id;
 }
 
 -- with its texts

@@ -1,6 +1,6 @@
 //! All sections of a file.
 
-ghost use Rattle.std.specs.Prelude.{◌≡◌, ◌≢◌, IsTrue, OnOk, OnErr, IfErr, option_map, Ok, Err};
+ghost use Rattle.std.specs.Prelude.{◌≡◌, ◌≢◌, IsTrue, IfOk, OnOk, OnErr, IfErr, option_map, Ok, Err};
 ghost use Rattle.gimli_dwarf_spec.specs.Calls.{ReturnsAsOrNoMemory, ReturnsOrNoMemory};
 ghost use Rattle.gimli_dwarf_spec.specs.Error.TheVariants.{Memory};
 ghost use Rattle.gimli_dwarf_spec.specs.SectionReads.{string_at};
@@ -9,15 +9,16 @@ ghost use Rattle.gimli_dwarf_spec.specs.Tiling.{whole_section};
 ghost use Rattle.gimli_dwarf_spec.specs.Attributes.{supplement_string};
 ghost use Rattle.gimli_dwarf_spec.specs.DwarfFiles.{supplement};
 ghost use Rattle.gimli_dwarf_spec.specs.Splitting.{split_from};
-ghost use Rattle.gimli_dwarf_spec.specs.UnitFacts.{unit_facts};
+ghost use Rattle.gimli_dwarf_spec.specs.EntryViews.{entry_of};
+ghost use Rattle.gimli_dwarf_spec.specs.UnitFacts.{unit_facts, root};
 
 use crate::holders::{DebugMacinfo, DebugMacro, DebugNames, DebugTypes};
 use crate::unit::Unit;
 use gimli_dwarf_spec::{
     Abbreviations, AbbreviationsCache, DebugAbbrev, DebugAbbrevOffset, DebugAddr, DebugAranges,
     DebugInfo, DebugInfoUnitHeadersIter, DebugLine, DebugLineStr, DebugRanges, DebugStr,
-    DebugStrOffset, DebugStrOffsets, DwarfFileType, Error, LocationLists, RangeLists, Reader,
-    Section, UnitHeader,
+    DebugStrOffset, DebugStrOffsets, DebuggingInformationEntry, DwarfFileType, Error,
+    LocationLists, RangeLists, Reader, Section, UnitHeader,
 };
 use std::alloc::Global;
 use std::marker::Model;
@@ -151,6 +152,20 @@ impl<R: Reader> Dwarf<R> {
         ensures { ReturnsOrNoMemory result (unit_facts self.now.file header) }
     {
         Unit::new(alloc, self, header)
+    }
+
+    /// The same, and its root in place of another entry, whose memory it takes.
+    pub fn unit_with_root(
+        &self,
+        alloc: Global,
+        header: UnitHeader<R>,
+        entry: &mut DebuggingInformationEntry<R>,
+    ) -> Result<Unit<R>, Error>
+        ensures unit { ReturnsOrNoMemory result (unit_facts self.now.file header) }
+        ensures root { IfOk result (λ u. root self.now.file.offset_limit u.header u.table
+            ≡ Ok (entry_of R.view R.Offset.count entry.new)) }
+    {
+        Unit::with_root(alloc, self, header, entry)
     }
 
     // The abbreviation table at an offset, from the cache if it is there.

@@ -1,21 +1,22 @@
 //! A unit and the facts of its root.
 
-ghost use Rattle.std.specs.Prelude.{◌≡◌, ◌==◌, Ok, option_map, option_and_then};
+ghost use Rattle.std.specs.Prelude.{◌≡◌, ◌==◌, Ok, IfOk, Some, option_map, option_and_then};
 ghost use Rattle.std.specs.Option.{option_or};
 ghost use Rattle.gimli_dwarf_spec.specs.Calls.{ReturnsAsOrNoMemory, ReturnsOrNoMemory};
 ghost use Rattle.gimli_dwarf_spec.specs.AttributeValues.{raw_value_of};
 ghost use Rattle.gimli_dwarf_spec.specs.EntryViews.{entry_of, raw_attributes};
+ghost use Rattle.gimli_dwarf_spec.specs.HeaderParsing.{header_at};
 ghost use Rattle.gimli_dwarf_spec.specs.Splitting.{relocated_from};
 ghost use Rattle.gimli_dwarf_spec.specs.UnitFacts.{unit_facts, root, dwo_name, dwo_name_number, facts_of, readable_text, address_or_0, line_header_of, dwo_id_in, dwo_id_of, last_value, last_value_of_kind, line_reference_of, is_stmt_list, is_low_pc, is_dwo_id};
 ghost use Rattle.gimli_dwarf.specs.Roots.{facts_without_texts, facts_with_texts, line_unit, facts_with_program};
 
 use crate::dwarf::Dwarf;
-use crate::root::{Base, last_offset, last_value, offset_or, root_entry};
+use crate::root::{Base, UnitBases, last_attribute, last_offset, read_root, root_entry};
 use gimli_dwarf_spec::{
     Abbreviations, Attribute, AttributeValue, DW_AT_GNU_dwo_id, DW_AT_GNU_dwo_name, DW_AT_comp_dir,
     DW_AT_dwo_name, DW_AT_low_pc, DW_AT_name, DebugAddrBase, DebugLineOffset, DebugLocListsBase,
-    DebugRngListsBase, DebugStrOffsetsBase, DebuggingInformationEntry, DefaultBase, DwAt,
-    DwarfFileType, DwoId, Error, LineProgramHeader, Reader, ReaderOffset, UnitHeader, UnitType,
+    DebugRngListsBase, DebugStrOffsetsBase, DebuggingInformationEntry, DwAt, DwoId, Error,
+    LineProgramHeader, Reader, UnitHeader, UnitType,
 };
 use std::alloc::Global;
 use std::marker::Model;
@@ -39,7 +40,8 @@ pub struct Unit<R: Reader> {
     pub addr_base: DebugAddrBase<R::Offset>,
     pub loclists_base: DebugLocListsBase<R::Offset>,
     pub rnglists_base: DebugRngListsBase<R::Offset>,
-    pub line_program: Option<LineProgramHeader<R>>,
+    /// On the heap, since it is larger than all else.
+    pub line_program: Option<Box<LineProgramHeader<R>>>,
     /// The identifier that a skeleton and its split unit share.
     pub dwo_id: Option<DwoId>,
 }
@@ -63,7 +65,7 @@ impl<R: Reader> Model for Unit<R> {
         loclists_base = R.Offset.count u.loclists_base.0;
         rnglists_base = R.Offset.count u.rnglists_base.0;
       };
-      line_header = u.line_program;
+      line_header = option_map (λ h. h.value) u.line_program;
       dwo_id = option_map (λ id. id.0) u.dwo_id;
     } };
 }
@@ -74,9 +76,24 @@ impl<R: Reader> Unit<R> {
     pub fn new(alloc: Global, dwarf: &Dwarf<R>, header: UnitHeader<R>) -> Result<Self, Error>
         ensures { ReturnsOrNoMemory result (unit_facts dwarf.now.file header) }
     {
+        let mut entry = DebuggingInformationEntry::null(alloc);
+        Unit::with_root(alloc, dwarf, header, &mut entry)
+    }
+
+    /// The same, and its root in place of another entry, whose memory it takes.
+    pub fn with_root(
+        alloc: Global,
+        dwarf: &Dwarf<R>,
+        header: UnitHeader<R>,
+        entry: &mut DebuggingInformationEntry<R>,
+    ) -> Result<Self, Error>
+        ensures unit { ReturnsOrNoMemory result (unit_facts dwarf.now.file header) }
+        ensures root { IfOk result (λ u. root dwarf.now.file.offset_limit u.header u.table
+            ≡ Ok (entry_of R.view R.Offset.count entry.new)) }
+    {
         let abbreviations = dwarf.abbreviations(alloc, header.debug_abbrev_offset())?;
-        let root = root_entry(alloc, &header, &abbreviations)?;
-        Unit::of_root(alloc, dwarf, header, abbreviations, root.attrs())
+        read_root(&header, &abbreviations, entry)?;
+        Unit::of_root(alloc, dwarf, header, abbreviations, entry.attrs())
     }
 
     // A unit whose root has these attributes.
@@ -91,57 +108,51 @@ impl<R: Reader> Unit<R> {
             (facts_of dwarf.now.file header abbreviations.value
             (raw_attributes R.view R.Offset.count attrs.now)) }
     {
-        let unit = Unit::without_texts(dwarf.file_type, header, abbreviations, attrs)?;
-        let unit = unit.with_texts(dwarf, attrs)?;
-        unit.with_program(alloc, dwarf, attrs)
+        let bases = UnitBases::read(dwarf.file_type, &header, attrs)?;
+        let dwo_id = dwo_id_of(&header, attrs)?;
+        let mut unit = Unit::without_texts(header, abbreviations, bases, dwo_id);
+        unit.read_texts(dwarf, attrs)?;
+        unit.read_program(alloc, dwarf, attrs)?;
+        Ok(unit)
     }
 
     // A unit with the bases that its root names, and its identifier.
     fn without_texts(
-        file_type: DwarfFileType,
         header: UnitHeader<R>,
         abbreviations: Rc<Abbreviations>,
-        attrs: &[Attribute<R>],
-    ) -> Result<Self, Error>
-        ensures { ReturnsOrNoMemory result
-            (Ok (facts_without_texts file_type header abbreviations.value
-            (raw_attributes R.view R.Offset.count attrs.now))) }
+        bases: UnitBases<R>,
+        dwo_id: Option<DwoId>,
+    ) -> Self
+        ensures { result
+            ≡ facts_without_texts header abbreviations.value bases
+            (option_map (λ id. id.0) dwo_id) }
     {
-        let encoding = header.encoding();
-        let strings = DebugStrOffsetsBase::default_for_encoding_and_file(encoding, file_type);
-        let locations = DebugLocListsBase::default_for_encoding_and_file(encoding, file_type);
-        let ranges = DebugRngListsBase::default_for_encoding_and_file(encoding, file_type);
-        let strings = offset_or(attrs, Base::StrOffsets, strings.0)?;
-        let addresses = offset_or(attrs, Base::Addr, R::Offset::from_u8(0))?;
-        let locations = offset_or(attrs, Base::LocLists, locations.0)?;
-        let ranges = offset_or(attrs, Base::RngLists, ranges.0)?;
-        let dwo_id = dwo_id_of(&header, attrs)?;
-        Ok(Unit {
+        Unit {
             header,
             abbreviations,
             name: None,
             comp_dir: None,
             low_pc: 0,
-            str_offsets_base: DebugStrOffsetsBase(strings),
-            addr_base: DebugAddrBase(addresses),
-            loclists_base: DebugLocListsBase(locations),
-            rnglists_base: DebugRngListsBase(ranges),
+            str_offsets_base: bases.str_offsets,
+            addr_base: bases.addr,
+            loclists_base: bases.loclists,
+            rnglists_base: bases.rnglists,
             line_program: None,
             dwo_id,
-        })
+        }
     }
 
-    // The unit with its name and its directory.
-    fn with_texts(mut self, dwarf: &Dwarf<R>, attrs: &[Attribute<R>]) -> Result<Self, Error>
-        ensures { ReturnsOrNoMemory result
-            (Ok (facts_with_texts dwarf.now.file self
+    // Takes its name and its directory. The only refusal is out of memory.
+    fn read_texts(&mut self, dwarf: &Dwarf<R>, attrs: &[Attribute<R>]) -> Result<(), Error>
+        ensures { ReturnsAsOrNoMemory (λ _. self.new) result
+            (Ok (facts_with_texts dwarf.now.file self.old
             (raw_attributes R.view R.Offset.count attrs.now))) }
     {
         let name = self.text(dwarf, attrs, DW_AT_name)?;
         let comp_dir = self.text(dwarf, attrs, DW_AT_comp_dir)?;
         self.name = name;
         self.comp_dir = comp_dir;
-        Ok(self)
+        Ok(())
     }
 
     // The text of the last attribute of a name, if it can be read.
@@ -150,26 +161,28 @@ impl<R: Reader> Unit<R> {
             (Ok (readable_text dwarf.now.file self.now.bases
             (last_value (λ n. n == name.0) (raw_attributes R.view R.Offset.count attrs.now)))) }
     {
-        let value = last_value(attrs, name)?;
-        dwarf.text_of(self, value)
+        match last_attribute(attrs, name) {
+            Some(attr) => dwarf.text_of(self, attr.value()?),
+            None => Ok(None),
+        }
     }
 
-    // The unit with the header of its line number program, and the address that it begins at.
-    fn with_program(
-        mut self,
+    // Takes the header of its line number program, and the address that it begins at.
+    fn read_program(
+        &mut self,
         alloc: Global,
         dwarf: &Dwarf<R>,
         attrs: &[Attribute<R>],
-    ) -> Result<Self, Error>
-        ensures { ReturnsOrNoMemory result
-            (facts_with_program dwarf.now.file self
+    ) -> Result<(), Error>
+        ensures { ReturnsAsOrNoMemory (λ _. self.new) result
+            (facts_with_program dwarf.now.file self.old
             (raw_attributes R.view R.Offset.count attrs.now)) }
     {
         let line_program = self.line_header(alloc, dwarf, attrs)?;
         let low_pc = self.begin(dwarf, attrs)?;
         self.line_program = line_program;
         self.low_pc = low_pc;
-        Ok(self)
+        Ok(())
     }
 
     // The header of the line number program that the last fitting attribute names.
@@ -178,8 +191,8 @@ impl<R: Reader> Unit<R> {
         alloc: Global,
         dwarf: &Dwarf<R>,
         attrs: &[Attribute<R>],
-    ) -> Result<Option<LineProgramHeader<R>>, Error>
-        ensures { ReturnsOrNoMemory result
+    ) -> Result<Option<Box<LineProgramHeader<R>>>, Error>
+        ensures { ReturnsAsOrNoMemory (option_map (λ h. h.value)) result
             (line_header_of dwarf.now.file (line_unit self.now)
             (last_value_of_kind line_reference_of is_stmt_list
             (raw_attributes R.view R.Offset.count attrs.now))) }
@@ -193,8 +206,10 @@ impl<R: Reader> Unit<R> {
         ensures { ReturnsOrNoMemory result (address_or_0 dwarf.now.file self.now.bases
             (last_value is_low_pc (raw_attributes R.view R.Offset.count attrs.now))) }
     {
-        let value = last_value(attrs, DW_AT_low_pc)?;
-        dwarf.address_of(self, value)
+        match last_attribute(attrs, DW_AT_low_pc) {
+            Some(attr) => Ok(dwarf.attr_address(self, attr.value()?)?.unwrap_or(0)),
+            None => Ok(0),
+        }
     }
 
     /// The value that names the file of the unit's split part, if the root has one (DWARF 5, 3.1.2;
@@ -243,13 +258,25 @@ impl<R: Reader> Unit<R> {
 }
 
 // The identifier that a value is.
-fn named_dwo_id<R: Reader>(value: Option<AttributeValue<R>>) -> Option<DwoId>
+fn named_dwo_id<R: Reader>(value: AttributeValue<R>) -> Option<DwoId>
     ensures { option_map (λ id. id.0) result
-        ≡ option_and_then dwo_id_of (option_map (raw_value_of R.view R.Offset.count) value) }
+        ≡ dwo_id_of (raw_value_of R.view R.Offset.count value) }
 {
     match value {
-        Some(AttributeValue::DwoId(id)) => Some(id),
+        AttributeValue::DwoId(id) => Some(id),
         _ => None,
+    }
+}
+
+// The identifier that the last fitting attribute names.
+fn dwo_id_in_attributes<R: Reader>(attrs: &[Attribute<R>]) -> Result<Option<DwoId>, Error>
+    ensures { ReturnsAsOrNoMemory (option_map (λ id. id.0)) result
+        (Ok (option_and_then dwo_id_of
+        (last_value is_dwo_id (raw_attributes R.view R.Offset.count attrs.now)))) }
+{
+    match last_attribute(attrs, DW_AT_GNU_dwo_id) {
+        Some(attr) => Ok(named_dwo_id(attr.value()?)),
+        None => Ok(None),
     }
 }
 
@@ -265,7 +292,7 @@ fn dwo_id_of<R: Reader>(
 {
     match header.type_() {
         UnitType::Skeleton(id) | UnitType::SplitCompilation(id) => Ok(Some(id)),
-        _ => Ok(named_dwo_id(last_value(attrs, DW_AT_GNU_dwo_id)?)),
+        _ => dwo_id_in_attributes(attrs),
     }
 }
 
@@ -280,32 +307,17 @@ fn copy_of<R: Reader>(reader: &Option<R>) -> Result<Option<R>, Error>
 }
 
 impl<R: Reader> Dwarf<R> {
-    // The text of a value, if there is one and it can be read.
-    fn text_of(&self, unit: &Unit<R>, value: Option<AttributeValue<R>>) -> Result<Option<R>, Error>
+    // The text of a value, if it can be read.
+    fn text_of(&self, unit: &Unit<R>, value: AttributeValue<R>) -> Result<Option<R>, Error>
         ensures { ReturnsAsOrNoMemory (option_map R.view) result
             (Ok (readable_text self.now.file unit.now.bases
-            (option_map (raw_value_of R.view R.Offset.count) value))) }
+            (Some (raw_value_of R.view R.Offset.count value)))) }
     {
-        let Some(value) = value else {
-            return Ok(None);
-        };
         match self.attr_string(unit, value) {
             Ok(text) => Ok(Some(text)),
             Err(Error::Memory) => Err(Error::Memory),
             Err(_) => Ok(None),
         }
-    }
-
-    // The address of a value; 0 where there is none.
-    fn address_of(&self, unit: &Unit<R>, value: Option<AttributeValue<R>>) -> Result<u64, Error>
-        ensures { ReturnsOrNoMemory result
-            (address_or_0 self.now.file unit.now.bases
-            (option_map (raw_value_of R.view R.Offset.count) value)) }
-    {
-        let Some(value) = value else {
-            return Ok(0);
-        };
-        Ok(self.attr_address(unit, value)?.unwrap_or(0))
     }
 
     // The header of the line number program at an offset, if there is one.
@@ -316,8 +328,9 @@ impl<R: Reader> Dwarf<R> {
         offset: Option<R::Offset>,
         comp_dir: &Option<R>,
         name: &Option<R>,
-    ) -> Result<Option<LineProgramHeader<R>>, Error>
-        ensures { ReturnsOrNoMemory result (line_header_of self.now.file
+    ) -> Result<Option<Box<LineProgramHeader<R>>>, Error>
+        ensures { ReturnsAsOrNoMemory (option_map (λ h. h.value)) result
+            (line_header_of self.now.file
             (record {
               address_bytes = header.now.encoding.address_size;
               directory = option_map R.view comp_dir.now;
@@ -325,19 +338,40 @@ impl<R: Reader> Dwarf<R> {
             })
             (option_map R.Offset.count offset)) }
     {
-        let Some(offset) = offset else {
-            return Ok(None);
-        };
+        match offset {
+            Some(offset) => Ok(Some(self.line_header_at(alloc, header, offset, comp_dir, name)?)),
+            None => Ok(None),
+        }
+    }
+
+    // The header of the line number program at an offset.
+    fn line_header_at(
+        &self,
+        alloc: Global,
+        header: &UnitHeader<R>,
+        offset: R::Offset,
+        comp_dir: &Option<R>,
+        name: &Option<R>,
+    ) -> Result<Box<LineProgramHeader<R>>, Error>
+        ensures { ReturnsAsOrNoMemory (λ h. h.value) result
+            (header_at self.now.file.offset_limit (R.Offset.count offset)
+            (record {
+              address_bytes = header.now.encoding.address_size;
+              directory = option_map R.view comp_dir.now;
+              name = option_map R.view name.now;
+            })
+            self.now.file.sections.debug_line) }
+    {
         let address_size = header.address_size();
         let comp_dir = copy_of(comp_dir)?;
         let name = copy_of(name)?;
-        let header = self.debug_line.header(
+        let program = self.debug_line.header(
             alloc,
             DebugLineOffset(offset),
             address_size,
             comp_dir,
             name,
         )?;
-        Ok(Some(header))
+        Ok(Box::new(alloc, program)?)
     }
 }

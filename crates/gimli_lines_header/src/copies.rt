@@ -24,6 +24,19 @@ fn copy_of_value<R: Reader>(
     }
 }
 
+// The same of a value on the heap.
+fn copy_of_boxed_value<R: Reader>(
+    value: &Option<Box<AttributeValue<R>>>,
+) -> Result<Option<Box<AttributeValue<R>>>, Error>
+    ensures { ReturnsAsOrNoMemory (option_map (λ v. raw_value_of R.view R.Offset.count v.value))
+        result (Ok (option_map (λ v. raw_value_of R.view R.Offset.count v.value) value.now)) }
+{
+    match value {
+        Some(value) => Ok(Some(Box::new(*Box::allocator(value), value.copy()?)?)),
+        None => Ok(None),
+    }
+}
+
 // Copies of formats.
 fn copies_of_formats(
     alloc: Global,
@@ -74,7 +87,8 @@ fn copy_of_file<R: Reader>(file: &Option<FileEntry<R>>) -> Result<Option<FileEnt
 }
 
 impl<R: Reader> FileEntry<R> {
-    /// A second entry that says the same. Takes memory only where a copy of the reader does.
+    /// A second entry that says the same. Takes memory only for a text of the file, or where a copy
+    /// of the reader does.
     pub fn copy(&self) -> Result<Self, Error>
         ensures { ReturnsOrNoMemory result (Ok self.now) }
     {
@@ -84,7 +98,7 @@ impl<R: Reader> FileEntry<R> {
             timestamp: self.timestamp,
             size: self.size,
             md5: self.md5,
-            source: copy_of_value(&self.source)?,
+            source: copy_of_boxed_value(&self.source)?,
         })
     }
 }

@@ -1,6 +1,6 @@
 //! The entries of directories and files in version 5.
 
-ghost use Rattle.std.specs.Prelude.{◌≡◌, [], ◌∷◌};
+ghost use Rattle.std.specs.Prelude.{◌≡◌, [], ◌∷◌, Ok, option_map};
 ghost use Rattle.gimli_units_headers.specs.Calls.{ReturnsAsOrNoMemory};
 ghost use Rattle.gimli_units_forms.specs.AttributeValues.{raw_value_of};
 ghost use Rattle.gimli_lines_header.specs.TableEntries.{is_entry_form, entry_value, digest_of, no_facts, facts_after, entry, directory_entry, file_entry};
@@ -16,6 +16,7 @@ use gimli_units_headers::{
     DW_LNCT_MD5, DW_LNCT_directory_index, DW_LNCT_path, DW_LNCT_size, DW_LNCT_timestamp, DwAt,
     DwForm, DwLnct, Encoding, Endianity, Error, Reader,
 };
+use std::alloc::Global;
 use std::marker::Model;
 
 // Whether fields may have a form: the value of each such form takes a byte at least.
@@ -190,9 +191,24 @@ pub(crate) fn parse_directory<R: Reader>(
     fields.path.ok_or(Error::MissingFileEntryFormatPath)
 }
 
+// A value on the heap, if there is one.
+fn boxed_value<R: Reader>(
+    alloc: Global,
+    value: Option<AttributeValue<R>>,
+) -> Result<Option<Box<AttributeValue<R>>>, Error>
+    ensures { ReturnsAsOrNoMemory (option_map (λ v. raw_value_of R.view R.Offset.count v.value))
+        result (Ok (option_map (raw_value_of R.view R.Offset.count) value)) }
+{
+    match value {
+        Some(value) => Ok(Some(Box::new(alloc, value)?)),
+        None => Ok(None),
+    }
+}
+
 // A file.
 #[tactic(auto, unfolding(crate::specs::TableEntries::file_entry))]
 pub(crate) fn parse_file<R: Reader>(
+    alloc: Global,
     input: &mut R,
     encoding: Encoding,
     formats: &[FileEntryFormat],
@@ -207,6 +223,6 @@ pub(crate) fn parse_file<R: Reader>(
         timestamp: fields.timestamp,
         size: fields.size,
         md5: fields.md5,
-        source: fields.source,
+        source: boxed_value(alloc, fields.source)?,
     })
 }

@@ -19,7 +19,8 @@ pub struct FileEntry<R: Reader> {
     pub(crate) timestamp: u64,
     pub(crate) size: u64,
     pub(crate) md5: [u8; 16],
-    pub(crate) source: Option<AttributeValue<R>>,
+    // On the heap: few files have one.
+    pub(crate) source: Option<Box<AttributeValue<R>>>,
 }
 
 impl<R: Reader> Drop for FileEntry<R> {
@@ -48,7 +49,7 @@ impl<R: Reader> Model for FileEntry<R> {
       timestamp = f.timestamp;
       size = f.size;
       md5 = f.md5;
-      source = option_map (raw_value_of R.view R.Offset.count) f.source;
+      source = option_map (λ s. raw_value_of R.view R.Offset.count s.value) f.source;
     } };
 }
 
@@ -153,6 +154,9 @@ impl<R: Reader> FileEntry<R> {
         ensures { option_map (λ s. raw_value_of R.view R.Offset.count s.now) result
             ≡ self.now.source }
     {
-        self.source.as_ref()
+        match &self.source {
+            Some(source) => Some(source.as_ref()),
+            None => None,
+        }
     }
 }

@@ -109,7 +109,7 @@ fn parse_counted_files<R: Reader>(
 {
     let mut found = Vec::new(alloc);
     for _file in 0..count {
-        found.push(parse_file(input, encoding, formats)?)?;
+        found.push(parse_file(alloc, input, encoding, formats)?)?;
     }
     Ok(found)
 }

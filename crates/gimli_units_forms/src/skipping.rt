@@ -52,6 +52,7 @@ fn skip_string<R: Reader>(place: &mut R) -> Result<(), Error>
 }
 
 // Looks at the bytes of a form's value, and returns how many more follow.
+#[inline(always)]
 #[tactic(auto, using(crate::proofs::SpellingWidths::block_is_narrow), unfolding(crate::specs::AttributeSkipping::look_at_value))]
 fn look<R: Reader>(place: &mut R, encoding: Encoding, form: DwForm) -> Result<u64, Error>
     ensures { ReturnsAs (λ more. (more, R.view place.new)) result
@@ -77,6 +78,23 @@ fn look<R: Reader>(place: &mut R, encoding: Encoding, form: DwForm) -> Result<u6
     }
 }
 
+// Skips a run before a value whose width its bytes say, and looks at them: returns the run after
+// it. It isn't compiled into the loop over the values, most of which have a width of their own.
+fn look_after<R: Reader>(
+    place: &mut R,
+    encoding: Encoding,
+    form: DwForm,
+    run: u64,
+) -> Result<u64, Error>
+    requires { width_of (way_of encoding form.0) ≡ None }
+    ensures { (ways : List Way)
+        → skip_ways run (way_of encoding form.0 ∷ ways) (R.view place.old)
+        ≡ and_then result (λ more. skip_ways more ways (R.view place.new)) }
+{
+    skip_run(place, run)?;
+    look(place, encoding, form)
+}
+
 // Skips one value after a run, and returns the run after it.
 #[inline(always)]
 fn skip_value<R: Reader>(
@@ -96,10 +114,7 @@ fn skip_value<R: Reader>(
             run.checked_add(u64::from(width))
                 .ok_or(Error::OffsetSumOverflow)
         }
-        None => {
-            skip_run(place, run)?;
-            look(place, encoding, form)
-        }
+        None => look_after(place, encoding, form, run),
     }
 }
 

@@ -10,7 +10,8 @@ use Rattle.linemap_commands.specs.declared.images.Refusal.TheVariants.{Table}
 
 -- it is reported by its code
 pub reports_table : (refusal : Refusal) (error : TableError) (code : List ℕ) (old new : Option (List ℕ)) (e : Ended)
-    → refusal ≡ Table error → code ≡ table_error_code error → Fails (error_line (codes "table refused: ") code) old new e
+    → refusal ≡ Table error → code ≡ table_error_code error
+    → Fails (error_line (codes "table refused: ") code) old new e
     → e.memory ≡ false → Reports refusal old new e
 reports_table refusal error code old new e is same fails memory =
     subst (λ r. Reports r old new e) (sym is)

@@ -116,7 +116,8 @@ module _ (class : Class) (is_big : Bool) (sections : List NamedBytes) (fits : Im
   headers_fit =
       let joined = ap length (names_joined sections own) in
       let few_names = fits.names_fit in
-      all_fit class sections_all 1 (file_header_size class) (length own.bytes) offset (omega arith) high (omega arith) low
+      all_fit class sections_all 1 (file_header_size class) (length own.bytes) offset
+      (omega arith) high (omega arith) low
       good
 
   read_again : {A : Type 0} {p : Parser A} {x : A} {xs : List ℕ} (rest : List ℕ) → Again is_big 0 p x xs
@@ -170,7 +171,8 @@ module _ (class : Class) (is_big : Bool) (sections : List NamedBytes) (fits : Im
       ∙ ap (λ (bs : List ℕ). read_in (bytes_at is_big 0 bs) (headers_at class offset (suc (length headers))))
       (table_last class is_big sections ∙ sym (append-nil (before ++ spelled_table class is_big sections)))
       ∙ read_again []
-      (again_onward (λ _. times (suc (length headers)) (section_header class)) (again_skip is_big 0 offset before at_table)
+      (again_onward (λ _. times (suc (length headers)) (section_header class))
+      (again_skip is_big 0 offset before at_table)
       (table_again class is_big (0 + length before) headers null_fits headers_fit))
 
   -- ---- names
@@ -227,7 +229,8 @@ module _ (class : Class) (is_big : Bool) (sections : List NamedBytes) (fits : Im
       let unreserved : count - 1 ≡ 0xffff → ⊥ = (let f = few in λ e. absurd (omega arith)) in
       ap (λ (r : Result SectionHeader LoadError). r >>= λ first.
       listed (names_index header first) (read_in view (headers_at class offset (section_count header first)))) first_is
-      ∙ ap (λ (b : Bool). listed (names_index header null_header) (read_in view (headers_at class offset (cond b 0 count))))
+      ∙ ap (λ (b : Bool). listed (names_index header null_header)
+      (read_in view (headers_at class offset (cond b 0 count))))
       (ne_eqb count 0 some)
       ∙ ap (listed (names_index header null_header)) table_is
       ∙ ap (λ (b : Bool). named (linked_contents (cond b 0 (count - 1)) (null_header ∷ headers) view))

@@ -218,7 +218,8 @@ module _ (is_big : Bool) (file names name : List ℕ) where
       ∙ contents_are is_big before (bytes ++ rest) n o s good.1 at)
       (sections_found ss (n + length text) (o + length s.bytes) (before ++ s.bytes) rest (names_before ++ text)
       names_rest (split ∙ sym (append_assoc before s.bytes (bytes ++ rest)))
-      (omega (arith, length-append before s.bytes)) (names_split ∙ sym (append_assoc names_before text (texts ++ names_rest)))
+      (omega (arith, length-append before s.bytes))
+      (names_split ∙ sym (append_assoc names_before text (texts ++ names_rest)))
       (omega (arith, length-append names_before text)) good.2)
 
 -- ---- more of such headers

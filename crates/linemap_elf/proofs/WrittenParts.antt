@@ -15,7 +15,8 @@ use Rattle.linemap_elf.proofs.ImageSizes.{multiple_after}
 -- ---- names
 
 names_last : (sections : List NamedBytes) (own : List ℕ)
-    → flat_map spelled_name (map (λ (s : NamedBytes). s.name) sections ++ own ∷ []) ≡ names_joined sections ++ spelled_name own
+    → flat_map spelled_name (map (λ (s : NamedBytes). s.name) sections ++ own ∷ [])
+    ≡ names_joined sections ++ spelled_name own
 names_last [] own = append-nil (spelled_name own)
 names_last (s ∷ ss) own =
     ap (λ (bs : List ℕ). spelled_name s.name ++ bs) (names_last ss own)
@@ -124,7 +125,8 @@ headers_more class is_big written name offset i sections own s within is =
     (flat_map spelled (headers_from (name + (length s.name + 1)) (offset + length s.bytes) rest))
     ∙ ap (λ (n : ℕ). written ++ (spelled (header_of name offset (program_section s))
     ++ flat_map spelled (headers_from n (offset + length s.bytes) rest))) text
-    ∙ ap (λ (l : List NamedBytes). written ++ flat_map spelled (headers_from name offset (map program_section l ++ own ∷ [])))
+    ∙ ap (λ (l : List NamedBytes). written ++ flat_map spelled
+    (headers_from name offset (map program_section l ++ own ∷ [])))
     (sym next)
 
 -- the same of their names and bytes

@@ -44,15 +44,20 @@ closed_keeps : (b : Bool) (st : EmittedUnit) → Keeps st (with_end_of_children 
 closed_keeps true st = (refl, refl)
 closed_keeps false st = (refl, refl)
 
-calls_keep : (number : ℕ → ℕ) (names : List (List ℕ)) (cs : Calls) (st : EmittedUnit) → Keeps st (with_calls number names cs st)
+calls_keep : (number : ℕ → ℕ) (names : List (List ℕ)) (cs : Calls) (st : EmittedUnit)
+    → Keeps st (with_calls number names cs st)
 unfolding with_calls
 calls_keep number names no_calls st = (refl, refl)
 calls_keep number names (more_calls site inner others) st =
     let head = with_call number names (has_calls inner) site st in
     let within = with_calls number names inner head in
     let after = with_end_of_children (has_calls inner) within in
-    let ended = keeps_then head within after (calls_keep number names inner head) (closed_keeps (has_calls inner) within) in
-    let all = keeps_then head after (with_calls number names others after) ended (calls_keep number names others after) in
+    let ended =
+    keeps_then head within after (calls_keep number names inner head)
+    (closed_keeps (has_calls inner) within) in
+    let all =
+    keeps_then head after (with_calls number names others after) ended
+    (calls_keep number names others after) in
     (all.0, all.1)
 
 functions_keep : (number : ℕ → ℕ) (names : List (List ℕ)) (fs : List FunctionPart) (st : EmittedUnit)
@@ -64,7 +69,9 @@ functions_keep number names (f ∷ fs) st =
     let after = with_function number names f st in
     let ended =
     keeps_then head within after (calls_keep number names f.calls head) (closed_keeps (has_calls f.calls) within) in
-    let all = keeps_then head after (with_functions number names fs after) ended (functions_keep number names fs after) in
+    let all =
+    keeps_then head after (with_functions number names fs after) ended
+    (functions_keep number names fs after) in
     (all.0, all.1)
 
 abstract_keep : (names : List (List ℕ)) (st : EmittedUnit) → Keeps st (with_abstract_functions names st)
@@ -73,12 +80,14 @@ abstract_keep (name ∷ names) st =
     let all = abstract_keep names (with_entry (AbstractFunction (text_offset name st)) (with_name name st)) in
     (all.0, all.1)
 
-unit_keeps : (number : ℕ → ℕ) (line_program : ℕ) (u : UnitPart) (st : EmittedUnit) → Keeps st (with_unit number line_program u st)
+unit_keeps : (number : ℕ → ℕ) (line_program : ℕ) (u : UnitPart) (st : EmittedUnit)
+    → Keeps st (with_unit number line_program u st)
 unit_keeps number line_program u st =
     let root = with_unit_entry line_program u st in
     let named = with_abstract_functions (inlined_names u) root in
     let all =
-    keeps_then root named (with_functions number (inlined_names u) u.functions named) (abstract_keep (inlined_names u) root)
+    keeps_then root named (with_functions number (inlined_names u) u.functions named)
+    (abstract_keep (inlined_names u) root)
     (functions_keep number (inlined_names u) u.functions named) in
     (all.0, all.1)
 
@@ -246,7 +255,8 @@ pub state_is : (u : UnitPart) (s : TableEmitter) (ids : List FileId) (n : ℕ) (
       info = info;
       emitter = emitter;
     } ≡ with_unit_added u s
-state_is u s ids n p texts lines line_strings info emitter ids_are n_is p_is texts_are lines_are strings_are info_is emitter_is =
+state_is u s ids n p texts lines line_strings info emitter ids_are n_is p_is texts_are lines_are
+    strings_are info_is emitter_is =
     let e = s.encoding in
     let new_ids = unit_file_ids e u s.line_strings in
     let new_texts = (unit_files e u s.line_strings).line_texts in

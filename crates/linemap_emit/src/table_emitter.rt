@@ -58,8 +58,8 @@ fn write_info(
         (with_unit (file_number encoding.version files.now) line_program (unit_part unit.now)
         emitter.old).entries) < 2 ^ 31 }
     ensures state { OnOk result
-        (emitter.new ≡ without_entries (with_unit (file_number encoding.version files.now) line_program (unit_part unit.now)
-        emitter.old)) }
+        (emitter.new ≡ without_entries (with_unit (file_number encoding.version files.now)
+        line_program (unit_part unit.now) emitter.old)) }
     ensures bytes { Appends result w.old w.new
         (spelled_unit encoding w.old.is_big
         (with_unit (file_number encoding.version files.now) line_program (unit_part unit.now)

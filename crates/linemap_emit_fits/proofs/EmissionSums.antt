@@ -98,7 +98,8 @@ module _ (e : Encoding) (is_big : Bool) (narrow : e.address_size ≤ 8) where
   end_summed true k = entry_summed EndOfChildren k
   end_summed false k = raised k (omega arith)
 
-  calls_summed : (number : ℕ → ℕ) (names : List (List ℕ)) (cs : Calls) {m : ℕ} {st : EmittedUnit} → IsSummed e is_big m st
+  calls_summed : (number : ℕ → ℕ) (names : List (List ℕ)) (cs : Calls) {m : ℕ} {st : EmittedUnit}
+      → IsSummed e is_big m st
       → IsSummed e is_big (m + calls_most cs) (with_calls number names cs st)
   unfolding with_calls
   calls_summed number names no_calls {m} {st} k = raised k (omega arith)
@@ -107,9 +108,11 @@ module _ (e : Encoding) (is_big : Bool) (narrow : e.address_size ≤ 8) where
       raised (entry_summed
       (Call (has_calls inner) (origin_of st.encoding names site.name) (list_offset st) (number site.file) site.line
       site.column) (list_summed site.ranges k)) (omega arith) in
-      raised (calls_summed number names others (end_summed (has_calls inner) (calls_summed number names inner head))) (omega arith)
+      raised (calls_summed number names others (end_summed (has_calls inner) (calls_summed number names inner head)))
+      (omega arith)
 
-  function_summed : (number : ℕ → ℕ) (names : List (List ℕ)) {m : ℕ} {st : EmittedUnit} (f : FunctionPart) → IsSummed e is_big m st
+  function_summed : (number : ℕ → ℕ) (names : List (List ℕ)) {m : ℕ} {st : EmittedUnit} (f : FunctionPart)
+      → IsSummed e is_big m st
       → IsSummed e is_big (m + function_most f) (with_function number names f st)
   function_summed number names {m} {st} f k =
       let head : IsSummed e is_big (m + (54 + 64 * length f.ranges + 4 * length f.name)) (with_function_entry f st) =

@@ -33,7 +33,8 @@ use Rattle.linemap_emit_fits.proofs.SoundUnitFits.{CanEmitUnitSequences, plain_c
 module _ (e : Encoding) (is_big : Bool) (served : IsServed e) where
   -- the entries of a unit after others
   entries_bounded : (m : ℕ) (u : UnitPart) (st : EmittedTable) → length u.files < 2 ^ 31
-      → CanEmitUnitSequences e.address_size u → IsTableBounded m st → m + unit_weight u < 2 ^ 31 → IsUnitBounded e is_big (m + unit_most u) (after_entries e is_big u st)
+      → CanEmitUnitSequences e.address_size u → IsTableBounded m st → m + unit_weight u < 2 ^ 31
+      → IsUnitBounded e is_big (m + unit_most u) (after_entries e is_big u st)
   entries_bounded m u st few_files can bounded fits =
       let few = bounded.lines_few in
       let start : IsUnitBounded e is_big m (before_entries e is_big st) = record {
@@ -129,7 +130,8 @@ module _ (e : Encoding) (is_big : Bool) (served : IsServed e) where
   -- ---- all units
 
   all_fit : (us : List UnitPart) (m : ℕ) (st : EmittedTable) → AllCanEmitSequences e.address_size us
-      → AllPlain e.address_size us → IsTableBounded m st → m + sum_by unit_weight us < 2 ^ 31 → AllUnitsFit e is_big us st
+      → AllPlain e.address_size us → IsTableBounded m st → m + sum_by unit_weight us < 2 ^ 31
+      → AllUnitsFit e is_big us st
   unfolding AllUnitsFit AllCanEmitSequences AllPlain
   all_fit [] m st rows plain bounded fits = tt
   all_fit (u ∷ us) m st rows plain bounded fits =

@@ -178,7 +178,8 @@ module _ (e : Encoding) (is_big : Bool) (narrow : e.address_size ≤ 8) where
 
   -- ---- calls
 
-  call_bounded : (number : ℕ → ℕ) (low : (i : ℕ) → number i < 2 ^ 64) (names : List (List ℕ)) {m : ℕ} {st : EmittedUnit} (b : Bool) (s : Site)
+  call_bounded : (number : ℕ → ℕ) (low : (i : ℕ) → number i < 2 ^ 64) (names : List (List ℕ))
+      {m : ℕ} {st : EmittedUnit} (b : Bool) (s : Site)
       → 65 + 9 * length names < 2 ^ 31 → IsCounted s → m + site_most s < 2 ^ 31
       → IsUnitBounded e is_big m st → IsUnitBounded e is_big (m + site_most s) (with_call number names b s st)
   call_bounded number low names {m} {st} b s few numbers fits k =
@@ -198,7 +199,8 @@ module _ (e : Encoding) (is_big : Bool) (narrow : e.address_size ≤ 8) where
         ),
       ) (list_bounded s.ranges k)) (omega arith)
 
-  pub calls_bounded : (number : ℕ → ℕ) (low : (i : ℕ) → number i < 2 ^ 64) (names : List (List ℕ)) (cs : Calls) {m : ℕ} {st : EmittedUnit}
+  pub calls_bounded : (number : ℕ → ℕ) (low : (i : ℕ) → number i < 2 ^ 64) (names : List (List ℕ))
+      (cs : Calls) {m : ℕ} {st : EmittedUnit}
       → 65 + 9 * length names < 2 ^ 31 → AllCounted cs → m + calls_most cs < 2 ^ 31
       → IsUnitBounded e is_big m st → IsUnitBounded e is_big (m + calls_most cs) (with_calls number names cs st)
   unfolding with_calls AllCounted
@@ -211,7 +213,8 @@ module _ (e : Encoding) (is_big : Bool) (narrow : e.address_size ≤ 8) where
 
   -- ---- functions
 
-  function_bounded : (number : ℕ → ℕ) (low : (i : ℕ) → number i < 2 ^ 64) (names : List (List ℕ)) {m : ℕ} {st : EmittedUnit} (f : FunctionPart)
+  function_bounded : (number : ℕ → ℕ) (low : (i : ℕ) → number i < 2 ^ 64) (names : List (List ℕ))
+      {m : ℕ} {st : EmittedUnit} (f : FunctionPart)
       → 65 + 9 * length names < 2 ^ 31 → AllCounted f.calls → m + function_most f < 2 ^ 31
       → IsUnitBounded e is_big m st → IsUnitBounded e is_big (m + function_most f) (with_function number names f st)
   function_bounded number low names {m} {st} f few numbers fits k =
@@ -226,10 +229,12 @@ module _ (e : Encoding) (is_big : Bool) (narrow : e.address_size ≤ 8) where
         (fits_word e.format (text_offset f.name st) name_fits, name_fits),
         ((fits_word e.format (list_offset st) list_fits, list_fits, refl), tt),
       ) (list_bounded f.ranges (name_bounded f.name k))) (omega arith) in
-      bound_raised (end_bounded (has_calls f.calls) (calls_bounded number low names f.calls few numbers (omega arith) head))
+      bound_raised (end_bounded (has_calls f.calls) (calls_bounded number low names f.calls few numbers
+      (omega arith) head))
       (omega arith)
 
-  pub functions_bounded : (number : ℕ → ℕ) (low : (i : ℕ) → number i < 2 ^ 64) (names : List (List ℕ)) (fs : List FunctionPart) {m : ℕ} {st : EmittedUnit}
+  pub functions_bounded : (number : ℕ → ℕ) (low : (i : ℕ) → number i < 2 ^ 64) (names : List (List ℕ))
+      (fs : List FunctionPart) {m : ℕ} {st : EmittedUnit}
       → 65 + 9 * length names < 2 ^ 31 → AllFunctionsCounted fs
       → m + sum_by function_most fs < 2 ^ 31 → IsUnitBounded e is_big m st
       → IsUnitBounded e is_big (m + sum_by function_most fs) (with_functions number names fs st)
@@ -238,7 +243,8 @@ module _ (e : Encoding) (is_big : Bool) (narrow : e.address_size ≤ 8) where
   functions_bounded number low names (f ∷ fs) {m} {st} few numbers fits k =
       let whole = sum_by-cons function_most f fs in
       bound_raised
-      (functions_bounded number low names fs few numbers.1 (omega arith) (function_bounded number low names f few numbers.0 (omega arith) k))
+      (functions_bounded number low names fs few numbers.1 (omega arith)
+      (function_bounded number low names f few numbers.0 (omega arith) k))
       (omega arith)
 
   -- ---- abstract functions
@@ -260,7 +266,8 @@ module _ (e : Encoding) (is_big : Bool) (narrow : e.address_size ≤ 8) where
   -- ---- a unit
 
   pub unit_is_bounded : {m : ℕ} {st : EmittedUnit} (number : ℕ → ℕ) (line_program : ℕ) (u : UnitPart)
-      → ((i : ℕ) → number i < 2 ^ 64) → AllFunctionsCounted u.functions → line_program < 2 ^ 31 → m + unit_most u < 2 ^ 31 → IsUnitBounded e is_big m st
+      → ((i : ℕ) → number i < 2 ^ 64) → AllFunctionsCounted u.functions → line_program < 2 ^ 31
+      → m + unit_most u < 2 ^ 31 → IsUnitBounded e is_big m st
       → IsUnitBounded e is_big (m + unit_most u) (with_unit number line_program u st)
   unit_is_bounded {m} {st} number line_program u low numbers program_fits fits k =
       let name_low = text_low u.name st m k.texts_few in
@@ -294,5 +301,6 @@ module _ (e : Encoding) (is_big : Bool) (narrow : e.address_size ≤ 8) where
       let few : 65 + 9 * length names < 2 ^ 31 = omega arith in
       bound_raised
       (entry_bounded EndOfChildren tt
-      (functions_bounded number low names u.functions few numbers (omega arith) (abstract_bounded names (omega arith) root)))
+      (functions_bounded number low names u.functions few numbers (omega arith)
+      (abstract_bounded names (omega arith) root)))
       (omega arith)

@@ -152,7 +152,8 @@ module _ (e : Encoding) (is_big : Bool) (is_size : is_address_size e.address_siz
   sequences_within (s ∷ ss) all =
       let known = all.0 in
       subst (λ n. IsWithin n
-      (entries_bytes constant_of is_big (emitted_rules e) (first_row (emitted_rules e)) (emitted_sequences place (s ∷ ss))))
+      (entries_bytes constant_of is_big (emitted_rules e) (first_row (emitted_rules e))
+      (emitted_sequences place (s ∷ ss))))
       (sym (sum_by-cons sequence_weight s ss))
       (sequence_within (sum_by sequence_weight ss) s.end s.rows (emitted_sequences place ss)
       (subst FirstIsLow (sym known.rows) known.ascend.1) (sequences_within ss all.1))

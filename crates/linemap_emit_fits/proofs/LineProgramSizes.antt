@@ -181,7 +181,8 @@ module _ (e : Encoding) (is_big : Bool) (line_texts : List (List ℕ)) (small : 
           (bytes_within 30 (bytes_after_path (written f i)) (after_path_few (written f i))) (omega arith)
 
       file_of_5 : (path_form source_form : ℕ) → path_form ≡ the_form → (f : File) (i : Info) → FileIs f
-          → IsWithin (file_size f) (file_bytes_of_5 is_big e (details_of no_details) path_form source_form (written f i))
+          → IsWithin (file_size f) (file_bytes_of_5 is_big e (details_of no_details) path_form source_form
+          (written f i))
       file_of_5 path_form source_form same f i h =
           joined_within (text_size f.path) 10 _ (text_within path_form f.path same h.path)
           (joined_within 10 0 _
@@ -220,7 +221,8 @@ module _ (e : Encoding) (is_big : Bool) (line_texts : List (List ℕ)) (small : 
           let m = length-append (unsigned_string 2) (unsigned_string 0x0f) in
           let k = length-append (unsigned_string 2 ++ unsigned_string 0x0f) [] in
           let n =
-          length-append (unsigned_string 1 ++ unsigned_string path_form) ((unsigned_string 2 ++ unsigned_string 0x0f) ++ [])
+          length-append (unsigned_string 1 ++ unsigned_string path_form)
+          ((unsigned_string 2 ++ unsigned_string 0x0f) ++ [])
           in
           omega arith
 
@@ -249,7 +251,8 @@ module _ (e : Encoding) (is_big : Bool) (line_texts : List (List ℕ)) (small : 
                   (all_bytes (file_bytes_of_5 is_big e (details_of no_details)
                   (form_of_paths (header_files [] line_texts (records_source e.version no_details) (in_header []) files
                   infos))
-                  (form_of_sources (header_files [] line_texts (records_source e.version no_details) (in_header []) files
+                  (form_of_sources (header_files [] line_texts (records_source e.version no_details)
+                  (in_header []) files
                   infos)))
                   (header_files [] line_texts (records_source e.version no_details) (in_header []) files infos))
               each [] infos all = bytes_within 0 [] (omega arith)
@@ -312,7 +315,8 @@ module _ (e : Encoding) (is_big : Bool) (served : IsServed e) (st : EmittedFiles
   listed_stand : All (Stands e.version st.line_texts) (listed_directories e.version st.tables.directories)
   listed_stand = by (nat_le e.version 4)
     where
-      by : (b : Bool) → All (Stands e.version st.line_texts) (cond b (drop 1 st.tables.directories) st.tables.directories)
+      by : (b : Bool) → All (Stands e.version st.line_texts)
+          (cond b (drop 1 st.tables.directories) st.tables.directories)
       by true = All-drop (Stands e.version st.line_texts) 1 st.tables.directories directories_stand
       by false = directories_stand
 
@@ -327,10 +331,12 @@ module _ (e : Encoding) (is_big : Bool) (served : IsServed e) (st : EmittedFiles
   header_within : IsWithin (100 + tables_size st) (header_bytes is_big (emitted_rules e) (tables_in e.version))
   header_within =
       let listed = listed_few e.version st.tables.directories in
-      joined_within 18 (82 + tables_size st) _ (bytes_within 18 (spelled_parameters (emitted_rules e) ++ spelled_opcodes) parameters_few)
+      joined_within 18 (82 + tables_size st) _
+      (bytes_within 18 (spelled_parameters (emitted_rules e) ++ spelled_opcodes) parameters_few)
       (joined_within (31 + sum_by text_size (listed_directories e.version st.tables.directories))
       (51 + sum_by file_size st.tables.files) _
-      (directories_within e is_big st.line_texts small (listed_directories e.version st.tables.directories) listed_stand)
+      (directories_within e is_big st.line_texts small (listed_directories e.version st.tables.directories)
+      listed_stand)
       (all_files_within e is_big st.line_texts small (length st.tables.directories) st.tables.files st.tables.infos
       files_stand) (omega arith)) (omega arith)
 

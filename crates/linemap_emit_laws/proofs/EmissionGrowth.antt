@@ -119,17 +119,21 @@ abstract_grow (name ∷ names) a =
     let named = with_name name a in
     let next = with_entry (AbstractFunction (text_offset name a)) named in
     grows_on a named (with_abstract_functions names next) (name_grows name a)
-    (grows_on named next (with_abstract_functions names next) (entry_grows (AbstractFunction (text_offset name a)) named)
+    (grows_on named next (with_abstract_functions names next)
+    (entry_grows (AbstractFunction (text_offset name a)) named)
     (abstract_grow names next))
 
 pub call_grows : (number : ℕ → ℕ) (names : List (List ℕ)) (children : Bool) (site : Site) (a : EmittedUnit)
     → Grows a (with_call number names children site a)
 call_grows number names children site a =
     let listed = with_list site.ranges a in
-    let x = Call children (origin_of a.encoding names site.name) (list_offset a) (number site.file) site.line site.column in
+    let x =
+    Call children (origin_of a.encoding names site.name) (list_offset a) (number site.file)
+    site.line site.column in
     grows_on a listed (with_entry x listed) (list_grows site.ranges a) (entry_grows x listed)
 
-pub calls_grow : (number : ℕ → ℕ) (names : List (List ℕ)) (cs : Calls) (a : EmittedUnit) → Grows a (with_calls number names cs a)
+pub calls_grow : (number : ℕ → ℕ) (names : List (List ℕ)) (cs : Calls) (a : EmittedUnit)
+    → Grows a (with_calls number names cs a)
 unfolding with_calls
 calls_grow number names no_calls a = grows_by_nothing a
 calls_grow number names (more_calls site inner others) a =
@@ -141,7 +145,8 @@ calls_grow number names (more_calls site inner others) a =
     (grows_on head within whole (calls_grow number names inner head)
     (grows_on within after whole (end_grows (has_calls inner) within) (calls_grow number names others after)))
 
-pub function_grows : (number : ℕ → ℕ) (names : List (List ℕ)) (f : FunctionPart) (a : EmittedUnit) → Grows a (with_function number names f a)
+pub function_grows : (number : ℕ → ℕ) (names : List (List ℕ)) (f : FunctionPart) (a : EmittedUnit)
+    → Grows a (with_function number names f a)
 function_grows number names f a =
     let head = with_function_entry f a in
     let within = with_calls number names f.calls head in
@@ -154,7 +159,8 @@ pub functions_grow : (number : ℕ → ℕ) (names : List (List ℕ)) (fs : List
     → Grows a (with_functions number names fs a)
 functions_grow number names [] a = grows_by_nothing a
 functions_grow number names (f ∷ fs) a =
-    grows_on a (with_function number names f a) (with_functions number names fs (with_function number names f a)) (function_grows number names f a)
+    grows_on a (with_function number names f a) (with_functions number names fs (with_function number names f a))
+    (function_grows number names f a)
     (functions_grow number names fs (with_function number names f a))
 
 -- what is emitted after the entry of a unit
@@ -170,7 +176,8 @@ root_grows number line_program u a =
     (entry_grows EndOfChildren after))
 
 -- a unit
-pub unit_grows : (number : ℕ → ℕ) (line_program : ℕ) (u : UnitPart) (a : EmittedUnit) → Grows a (with_unit number line_program u a)
+pub unit_grows : (number : ℕ → ℕ) (line_program : ℕ) (u : UnitPart) (a : EmittedUnit)
+    → Grows a (with_unit number line_program u a)
 unit_grows number line_program u a =
     let named = with_name u.name a in
     let root = with_unit_entry line_program u a in

@@ -61,7 +61,8 @@ unfoldable pub call_refs : (ℕ → ℕ) → List (List ℕ) → Calls → Emitt
 call_refs number names no_calls a = no_references
 call_refs number names (more_calls site inner others) a =
     let head = with_call number names (has_calls inner) site a in
-    more_references (origin_of a.encoding names site.name) (list_offset a) (number site.file) (call_refs number names inner head)
+    more_references (origin_of a.encoding names site.name) (list_offset a) (number site.file)
+    (call_refs number names inner head)
     (call_refs number names others (with_end_of_children (has_calls inner) (with_calls number names inner head)))
 
 abbrev pub function_refs : (ℕ → ℕ) → List (List ℕ) → FunctionPart → EmittedUnit → FunctionReferences
@@ -73,7 +74,9 @@ function_refs number names f a = record {
 
 unfoldable pub all_refs : (ℕ → ℕ) → List (List ℕ) → List FunctionPart → EmittedUnit → List FunctionReferences
 all_refs number names [] a = []
-all_refs number names (f ∷ fs) a = function_refs number names f a ∷ all_refs number names fs (with_function number names f a)
+all_refs number names (f ∷ fs) a =
+    function_refs number names f a
+    ∷ all_refs number names fs (with_function number names f a)
 
 -- the names of abstract functions
 unfoldable pub abstract_texts : List (List ℕ) → EmittedUnit → List ℕ
@@ -97,7 +100,9 @@ call_entries number names (more_calls site inner others) a =
     let own = entries_of_calls inner (call_refs number names inner head) in
     let end = end_of_children (has_calls inner) in
     let last = entries_of_calls others (call_refs number names others after) in
-    let x = Call (has_calls inner) (origin_of a.encoding names site.name) (list_offset a) (number site.file) site.line site.column in
+    let x =
+    Call (has_calls inner) (origin_of a.encoding names site.name) (list_offset a) (number site.file)
+    site.line site.column in
     call_entries number names others after
     ∙ ap (λ (l : List Entry). l ++ last) (end_entries (has_calls inner) within
     ∙ ap (λ (l : List Entry). l ++ end) (call_entries number names inner head))
@@ -127,7 +132,8 @@ functions_entries number names [] a = sym (append-nil a.entries)
 functions_entries number names (f ∷ fs) a =
     let next = with_function number names f a in
     functions_entries number names fs next
-    ∙ ap (λ (l : List Entry). l ++ entries_of_functions fs (all_refs number names fs next)) (function_entries number names f a)
+    ∙ ap (λ (l : List Entry). l ++ entries_of_functions fs (all_refs number names fs next))
+    (function_entries number names f a)
     ∙ append_assoc a.entries (entries_of_function f (function_refs number names f a))
     (entries_of_functions fs (all_refs number names fs next))
 
@@ -278,7 +284,9 @@ module _ (e : Encoding) (is_big : Bool) (s : DwarfFile) (last : EmittedUnit) (fi
         let after_grows = grows_on after whole last (calls_grow number names others after) g in
         let within_grows = grows_on within after last (end_grows (has_calls inner) within) after_grows in
         let head_grows = grows_on head within last (calls_grow number names inner head) within_grows in
-        let x = Call (has_calls inner) (origin_of a.encoding names site.name) (list_offset a) (number site.file) site.line site.column in
+        let x =
+        Call (has_calls inner) (origin_of a.encoding names site.name) (list_offset a) (number site.file)
+        site.line site.column in
         let listed_grows = grows_on listed head last (entry_grows x listed) head_grows in
         let own_encoding : a.encoding ≡ e = sym listed_grows.same_encoding ∙ encoding in (
           record {
@@ -293,7 +301,8 @@ module _ (e : Encoding) (is_big : Bool) (s : DwarfFile) (last : EmittedUnit) (fi
 
     -- ---- functions
 
-    pub functions_recorded : (files : ℕ) (fs : List FunctionPart) (a : EmittedUnit) → Grows (with_functions number names fs a) last
+    pub functions_recorded : (files : ℕ) (fs : List FunctionPart) (a : EmittedUnit)
+        → Grows (with_functions number names fs a) last
         → CanEmitFunctions e.address_size files fs → FunctionNamesAre (IsAmong names) fs
         → AllRecorded e s number all fs (all_refs number names fs a)
     unfolding AllRecorded all_refs

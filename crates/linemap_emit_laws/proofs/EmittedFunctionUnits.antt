@@ -40,7 +40,8 @@ numbers_count version place low = by (nat_le version 4) refl
     number_at : Bool → ℕ
     number_at b = cond b ((place + 1) % 2 ^ 64) place
 
-    first : (b : Bool) → cond {A = Option ℕ} (b && false) None (Some ((place + 1) % 2 ^ 64)) ≡ Some ((place + 1) % 2 ^ 64)
+    first : (b : Bool) → cond {A = Option ℕ} (b && false) None (Some ((place + 1) % 2 ^ 64))
+        ≡ Some ((place + 1) % 2 ^ 64)
     first true = refl
     first false = refl
 
@@ -89,7 +90,8 @@ module _ (e : Encoding) (is_big : Bool) (u : UnitPart) (st : EmittedTable) where
   unit_entries =
       ap (λ (l : List Entry). l ++ EndOfChildren ∷ [])
       (functions_entries number (inlined_names u) u.functions named
-      ∙ ap (λ (l : List Entry). l ++ entries_of_functions u.functions (all_refs number (inlined_names u) u.functions named))
+      ∙ ap (λ (l : List Entry). l ++ entries_of_functions u.functions
+      (all_refs number (inlined_names u) u.functions named))
       (abstract_entries (inlined_names u) root))
       ∙ regroup (root_entry ∷ []) (map AbstractFunction (abstract_texts (inlined_names u) root))
       (entries_of_functions u.functions (all_refs number (inlined_names u) u.functions named)) (EndOfChildren ∷ [])
@@ -106,10 +108,12 @@ module _ (e : Encoding) (is_big : Bool) (u : UnitPart) (st : EmittedTable) where
         abstract_names = abstract_texts (inlined_names u) root;
         refs = all_refs number (inlined_names u) u.functions named;
         entries_are = refl;
-        fit = entries_below s.offset_limit e all wide (subst (λ (l : List Entry). AllEntriesFit (2 ^ 31) e l) unit_entries fit.entries_fit);
+        fit = entries_below s.offset_limit e all wide
+            (subst (λ (l : List Entry). AllEntriesFit (2 ^ 31) e l) unit_entries fit.entries_fit);
         are_recorded =
             functions_recorded e is_big s last final hold no_zeros served.has_address_size encoding order extends.texts
-            extends.more_ranges extends.ranges number counts (inlined_names u) all origins (length u.files) u.functions named
+            extends.more_ranges extends.ranges number counts (inlined_names u) all origins (length u.files)
+            u.functions named
             (entry_grows EndOfChildren after) fit.can_emit.2 (unit_names_are u);
       }
     where
@@ -132,7 +136,9 @@ module _ (e : Encoding) (is_big : Bool) (u : UnitPart) (st : EmittedTable) where
           (entry_grows EndOfChildren after)
 
       rest : List Entry
-      rest = entries_of_functions u.functions (all_refs number (inlined_names u) u.functions named) ++ EndOfChildren ∷ []
+      rest =
+          entries_of_functions u.functions (all_refs number (inlined_names u) u.functions named)
+          ++ EndOfChildren ∷ []
 
       place : (big : Bool) → abstract_offset e 0 ≡ entries_start e + length (spelled_entries e big (root_entry ∷ []))
       place big =
@@ -147,5 +153,6 @@ module _ (e : Encoding) (is_big : Bool) (u : UnitPart) (st : EmittedTable) where
           let same : 0 + i ≡ i = omega arith in
           subst (λ n. HasOrigin e s all (abstract_offset e n) t) same
           (origin_there e is_big s last final hold no_zeros served.has_address_size encoding order extends.texts
-          extends.more_ranges extends.ranges all (inlined_names u) root (root_entry ∷ []) rest 0 i t refl place named_grows
+          extends.more_ranges extends.ranges all (inlined_names u) root (root_entry ∷ []) rest 0 i t
+          refl place named_grows
           (added_text-index (inlined_names u) t among))

@@ -150,5 +150,6 @@ list_is e is_big ranges rnglists s b front rest lists rs is_size writable old ne
     omega (arith, length-append header front, header_is e is_big (length lists)) in
     ap (ranges_of_list s b) (sym place)
     ∙ list_at e is_big (lists_first e ranges rnglists) s b (header ++ front) rest rs is_size writable
-    (section_is e is_big ranges rnglists s lists old new ∙ ap (bytes_at is_big (lists_first e ranges rnglists)) regrouped)
+    (section_is e is_big ranges rnglists s lists old new
+    ∙ ap (bytes_at is_big (lists_first e ranges rnglists)) regrouped)
     encoding low

@@ -66,11 +66,13 @@ all_texts_hold texts (t ∷ ts) all are =
     all_texts_hold (with_text texts t) ts (text_holds texts t all (All-head HasNoZero t ts are))
     (All-tail HasNoZero t ts are)
 
-unit_holds : (size : ℕ) (number : ℕ → ℕ) (line_program : ℕ) (u : UnitPart) (a : EmittedUnit) → CanEmitUnit size u → All HasNoZero a.texts
+unit_holds : (size : ℕ) (number : ℕ → ℕ) (line_program : ℕ) (u : UnitPart) (a : EmittedUnit) → CanEmitUnit size u
+    → All HasNoZero a.texts
     → All HasNoZero (with_unit number line_program u a).texts
 unit_holds size number line_program u a can all =
     let root = with_unit_entry line_program u a in
-    functions_hold size (length u.files) number (inlined_names u) u.functions (with_abstract_functions (inlined_names u) root) can.2
+    functions_hold size (length u.files) number (inlined_names u) u.functions
+    (with_abstract_functions (inlined_names u) root) can.2
     (abstract_hold (inlined_names u) root
     (all_texts_hold [] (called_names u.functions) (All-nil HasNoZero) (unit_texts size u can))
     (text_holds (with_text a.texts u.name) u.directory (text_holds a.texts u.name all can.1.0) can.0))

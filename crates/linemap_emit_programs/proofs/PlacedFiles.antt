@@ -104,7 +104,9 @@ unfolding with_table_files
 files_few [] st = omega arith
 files_few (f ∷ fs) st =
     let after = with_directory_text f.directory st in
-    let one = length-with_item is_same_file st.tables.files (named_file (directory_number f.directory st) f.name after) in
+    let one =
+    length-with_item is_same_file st.tables.files
+    (named_file (directory_number f.directory st) f.name after) in
     let rest = files_few fs (with_table_file f st) in
     omega arith
 

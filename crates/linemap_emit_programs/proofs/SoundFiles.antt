@@ -281,7 +281,9 @@ sound_is_consistent st sound =
     let v = st.tables.version in
     let ls = st.line_texts in
     let n = length st.tables.directories in
-    let filled = All-weaker (Stands v ls) HasBytes (λ t h. not_empty v ls t h) st.tables.directories sound.directories in
+    let filled =
+    All-weaker (Stands v ls) HasBytes (λ t h. not_empty v ls t h) st.tables.directories
+    sound.directories in
     record {
       same_length = sound.same_length;
       directories_zero_free =

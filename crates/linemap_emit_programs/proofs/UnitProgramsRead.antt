@@ -137,7 +137,8 @@ module _ (e : Encoding) (is_big : Bool) (u : UnitPart) (line_texts : List (List 
 
   same_tables : header_tables [] st.line_texts st.tables no_details ≡ tables
   same_tables =
-      ap (λ (o : Option Text). tables_with (strings_after o []) (line_strings_after o st.line_texts) st.tables no_details
+      ap (λ (o : Option Text). tables_with (strings_after o []) (line_strings_after o st.line_texts) st.tables
+      no_details
       (empty_text [] st.line_texts o)) (none_is_empty st.tables.version st.tables.infos)
 
   unit_bytes_are : unit_bytes constant_of is_big (emitted_rules e) tables (emitted_sequences place u.sequences)
@@ -259,7 +260,11 @@ module _ (e : Encoding) (is_big : Bool) (u : UnitPart) (line_texts : List (List 
           let there = (files_stay u.files first).files in
           let longer = length-extended first.tables.files st.tables.files there in
           let one : length first.tables.files ≡ 1 =
-          ap (λ b. length (own_files b (record { path = text_in e.version (table_after e.version u.directory line_texts) u.name; directory = 0 })))
+          ap (λ b. length (own_files b
+          (record {
+            path = text_in e.version (table_after e.version u.directory line_texts) u.name;
+            directory = 0;
+          })))
           (ap (λ v. nat_le v 4) (sym version_is) ∙ new) in
           omega arith
 

@@ -35,7 +35,8 @@ record IsAt (begin low : ℕ) (previous : LineRow) : Type 0 where
   after : begin ≤ low
 
 rows_follow : (e : Encoding) (place : ℕ → ℕ) (begin low end : ℕ) (previous : LineRow) (rs : List RowPart)
-    (rest : List LineEntry) → ArePlaces place → IsAt begin low previous → CanBuild e.address_size low rs → AllBelow end rs → low ≤ end → end < 2 ^ 64
+    (rest : List LineEntry) → ArePlaces place → IsAt begin low previous → CanBuild e.address_size low rs
+    → AllBelow end rs → low ≤ end → end < 2 ^ 64
     → follows (emitted_rules e) (first_row (emitted_rules e)) rest ≡ true
     → follows (emitted_rules e) previous (emitted_rows place begin rs ++ EndSequence (end - begin) 0 ∷ rest) ≡ true
 unfolding CanBuild AllBelow are_words
@@ -58,7 +59,8 @@ rows_follow e place begin low end previous (r ∷ rs) rest places is can below e
     (record { offset = refl; no_operations = refl; after = omega arith }) can.6 below.1 below.0 small more)
 
 rows_readable : (e : Encoding) (place : ℕ → ℕ) (begin low end : ℕ) (previous : LineRow) (rs : List RowPart)
-    (rest : List LineEntry) → begin ≤ low → CanBuild e.address_size low rs → AllBelow end rs → low ≤ end → end < 2 ^ (8 * e.address_size)
+    (rest : List LineEntry) → begin ≤ low → CanBuild e.address_size low rs
+    → AllBelow end rs → low ≤ end → end < 2 ^ (8 * e.address_size)
     → IsReadable (emitted_rules e) 0 (first_row (emitted_rules e)) rest
     → IsReadable (emitted_rules e) begin previous (emitted_rows place begin rs ++ EndSequence (end - begin) 0 ∷ rest)
 unfolding CanBuild AllBelow
@@ -69,7 +71,8 @@ rows_readable e place begin low end previous (r ∷ rs) rest after can below end
     let first = can.0 in
     let at : begin + (r.address - begin) ≡ r.address = omega arith in (
       subst (λ n. n < 2 ^ (8 * e.address_size)) (sym at) can.1,
-      rows_readable e place begin r.address end (row_after_row (emitted_row place begin r)) rs rest (omega arith) can.6 below.1
+      rows_readable e place begin r.address end (row_after_row (emitted_row place begin r))
+          rs rest (omega arith) can.6 below.1
           below.0
           small more,
     )

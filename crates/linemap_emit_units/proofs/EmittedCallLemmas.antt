@@ -90,7 +90,8 @@ call_emitted size files number names c rest st st1 st2 st3 final children some h
     let after : st3 ≡ with_end_of_children (has_calls (call_part c).inner)
     (with_calls number names (call_part c).inner called) =
     end ∙ ap (with_end_of_children children)
-    (inner ∙ ap (λ cs. with_calls number names cs st1) (sym (inner_is c)) ∙ ap (with_calls number names (call_part c).inner) head)
+    (inner ∙ ap (λ cs. with_calls number names cs st1) (sym (inner_is c))
+    ∙ ap (with_calls number names (call_part c).inner) head)
     ∙ ap (λ b. with_end_of_children b (with_calls number names (call_part c).inner
     (with_call number names b (call_part c).site st))) some in
     let same =
@@ -118,7 +119,8 @@ call_named c rest texts texts1 texts2 final first inner all whole =
     )
 
 -- the same of a function
-pub function_emitted : (size files : ℕ) (number : ℕ → ℕ) (names : List (List ℕ)) (f : FunctionPart) (rest : List FunctionPart)
+pub function_emitted : (size files : ℕ) (number : ℕ → ℕ) (names : List (List ℕ)) (f : FunctionPart)
+    (rest : List FunctionPart)
     (st st1 st2 st3 final : EmittedUnit) (children : Bool)
     → children ≡ has_calls f.calls → st1 ≡ with_function_entry f st → st2 ≡ with_calls number names f.calls st1
     → st3 ≡ with_end_of_children children st2

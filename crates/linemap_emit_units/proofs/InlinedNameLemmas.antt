@@ -54,7 +54,8 @@ call_texts size files (more_calls site inner others) can =
     (All-append IsText (call_names inner) (call_names others) (call_texts size files inner can.2)
     (call_texts size files others can.3))
 
-function_texts : (size files : ℕ) (fs : List FunctionPart) → CanEmitFunctions size files fs → All IsText (called_names fs)
+function_texts : (size files : ℕ) (fs : List FunctionPart) → CanEmitFunctions size files fs
+    → All IsText (called_names fs)
 function_texts size files [] can = All-nil IsText
 function_texts size files (f ∷ fs) can =
     All-append IsText (call_names f.calls) (called_names fs) (call_texts size files f.calls can.1)

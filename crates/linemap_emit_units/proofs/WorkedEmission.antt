@@ -120,7 +120,8 @@ unfolding with_emitted_units files.with_table_files files.table_file_ids entries
     pieces.flags pieces.changes pieces.moves pieces.end_piece
 second_unit_after_the_first = refl
 
--- a list of version 5 in its section, after the header, in 32-bit DWARF and in 64-bit DWARF with addresses of four bytes
+-- a list of version 5 in its section, after the header, in 32-bit DWARF and in 64-bit DWARF with addresses of
+-- four bytes
 abbrev later : Encoding
 later = record { address_size = 8; format = Dwarf32; version = 5 }
 

@@ -36,7 +36,8 @@ module _ (files : List (Option DwarfFile)) (start : AnsweredContext) (calls : Li
         state_left start.plain (calls_from i) (state_of v tokens)
         ≡ state_left start.plain (map (context_call files) calls) (state_of start [])
 
-  pub none_before : (found : List Answer) (tokens : List ℕ) → found ≡ [] → tokens ≡ [] → AnsweredBefore start tokens found 0
+  pub none_before : (found : List Answer) (tokens : List ℕ) → found ≡ [] → tokens ≡ []
+      → AnsweredBefore start tokens found 0
   none_before found tokens nothing none = record {
     plain = refl;
     answers =

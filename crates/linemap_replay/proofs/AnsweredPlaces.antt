@@ -88,7 +88,8 @@ module _ {A : Type 0} (by : FileContext → FirstAnswers → Lookup A) (a : ℕ)
         sym so_far ∙ ap (rest_of left) (sym same_answers) ∙ by_files left
         ∙ ap (λ (l : Lookup A). (l, mid.answers)) here
       where
-        by_files : (files : List (Option DwarfFile)) → rest_of files mid.answers ≡ (by start.plain mid.answers, mid.answers)
+        by_files : (files : List (Option DwarfFile)) → rest_of files mid.answers
+            ≡ (by start.plain mid.answers, mid.answers)
         by_files [] = refl
         by_files (file ∷ files) =
             ap (go_on start.plain file files mid.answers) (here ∙ done)

@@ -43,7 +43,8 @@ module _ (v : AnsweredContext) (a : ℕ) (items : List (SplitLoad × ℕ))
   preload_copy =
       ap dwo_ids (sym (map-map (λ (l : SplitLoad). l.dwo_id) (λ (i : SplitLoad × ℕ). i.0) items)
       ∙ ap (map (λ (l : SplitLoad). l.dwo_id))
-      (sym (map-map (λ (p : PendingLoad). p.load) load_of_item items) ∙ ap (map (λ (p : PendingLoad). p.load)) (sym loads_are)))
+      (sym (map-map (λ (p : PendingLoad). p.load) load_of_item items)
+      ∙ ap (map (λ (p : PendingLoad). p.load)) (sym loads_are)))
 
   pub preload_tokens : map token_of items ≡ (call_on v [] (preload_units a)).1.tokens
   preload_tokens =

@@ -36,7 +36,8 @@ frames_agree (f ∷ fs) (g ∷ gs) h = (
 )
 
 -- a lookup that waits for no load is not changed by answers
-resume_output : {A : Type 0} (c : FileContext) (lookup : FirstAnswers → Lookup A) (x : A) (files : List (Option DwarfFile))
+resume_output : {A : Type 0} (c : FileContext) (lookup : FirstAnswers → Lookup A) (x : A)
+    (files : List (Option DwarfFile))
     (answers : FirstAnswers) → lookup answers ≡ output x → resume c lookup files answers ≡ (output x, answers)
 resume_output c lookup x [] answers is = ap (λ l. (l, answers)) is
 resume_output c lookup x (file ∷ files) answers is =

@@ -147,7 +147,7 @@ impl Question for CallsAt12 {
     type Answer = FunctionCalls<Slice>;
 
     fn ask(&self, alloc: Global, unit: &UnitRef<'_, Slice>) -> Result<FunctionCalls<Slice>, Error> {
-        let units = Vec::new(alloc);
+        let units: Vec<Unit<Slice>> = Vec::new(alloc);
         let names = names_of(units.as_slice(), unit.dwarf, unit.unit);
         calls_of_function(alloc, unit, &names, UnitOffset(12), &Probes::new())
     }
@@ -189,7 +189,7 @@ impl Question for OffsetsAt {
     type Answer = (usize, usize);
 
     fn ask(&self, alloc: Global, unit: &UnitRef<'_, Slice>) -> Result<(usize, usize), Error> {
-        let units = Vec::new(alloc);
+        let units: Vec<Unit<Slice>> = Vec::new(alloc);
         let names = names_of(units.as_slice(), unit.dwarf, unit.unit);
         let mut probes = Probes::new();
         let function = calls_of_function(alloc, unit, &names, UnitOffset(12), &probes)?;

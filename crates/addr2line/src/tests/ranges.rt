@@ -85,7 +85,8 @@ impl Question for Ranges {
     fn ask(&self, alloc: Global, unit: &UnitRef<'_, Slice>) -> Result<Vec<Range>, Error> {
         let aranges = ArangeIndex::read(alloc, unit.dwarf)?;
         let mut runs = Runs::new();
-        let UnitRoot { ranges, .. } = UnitRoot::read(alloc, unit, &aranges, &mut runs)?;
+        let root = unit.root(alloc)?;
+        let UnitRoot { ranges, .. } = UnitRoot::read(alloc, unit, &root, &aranges, &mut runs)?;
         Ok(ranges)
     }
 }

@@ -52,12 +52,14 @@ fn files_in_memory(rt: HostRuntime) -> Result<(), Fail> {
     Ok(())
 }
 
-// An absolute name stands alone; a directory isn't a file.
+// An absolute name stands alone. Nothing but a regular file is read: no directory, no device.
 #[test]
 fn files_of_the_file_system(rt: HostRuntime) {
     let mut source = FileSource::new(&rt);
-    assert!(rt; gives(&mut source, b"/no/such", b"/dev/null", Some(b"")));
-    assert!(rt; gives(&mut source, b"/dev", b"null", Some(b"")));
+    assert!(rt; gives(&mut source, b"/no/such", b"/proc/sys/kernel/ostype", Some(b"Linux\n")));
+    assert!(rt; gives(&mut source, b"/proc/sys/kernel", b"ostype", Some(b"Linux\n")));
+    assert!(rt; gives(&mut source, b"/no/such", b"/dev/null", None));
+    assert!(rt; gives(&mut source, b"/dev", b"null", None));
     assert!(rt; gives(&mut source, b"/dev", b"no such file", None));
     assert!(rt; gives(&mut source, b"/", b"dev", None));
     assert!(rt; gives(&mut source, b"/dev", b"\xff", None));

@@ -156,8 +156,8 @@ fn sections_in_64_bit_dwarf(rt: HostRuntime) -> Result<(), Fail> {
     Ok(())
 }
 
-// Version 5, 32-bit, addresses of eight bytes, little endian. The bytes are worked out from DWARF 5,
-// 6.2.4, 7.26 and 7.28. The file of the table is the unit's own, number 0.
+// Version 5, 32-bit, addresses of eight bytes, little endian. The bytes are worked out from
+// DWARF 5, 6.2.4, 7.26 and 7.28. The file of the table is the unit's own, number 0.
 #[test]
 fn sections_of_version_5(rt: HostRuntime) -> Result<(), Fail> {
     let alloc = rt.alloc();
@@ -219,8 +219,8 @@ const ABBREV: &[u8] = &[
     0,
 ];
 
-// The unit of `a.c`, with the abstract function `f`, `main`, and the call in it; that of `b.c`, whose
-// line number program is at 64.
+// The unit of `a.c`, with the abstract function `f`, `main`, and the call in it; that of `b.c`,
+// whose line number program is at 64.
 const INFO: &[u8] = &[
     60, 0, 0, 0, 4, 0, 0, 0, 0, 0, 8, //
     1, 0, 0, 0, 0, 4, 0, 0, 0, 0, 0, 0, 0, 0, 0, 0, 0, 0, 0, 0, 0, 0, 0, 0, 0, //

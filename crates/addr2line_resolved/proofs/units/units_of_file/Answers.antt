@@ -1,4 +1,4 @@
-use Rattle.std.proofs.Common.{◌≡◌, sym, ap, subst, ◌∙◌, map, option_map}
+use Rattle.std.proofs.Common.{◌≡◌, sym, ap, subst, ◌∙◌, map}
 use Rattle.std.proofs.lemmas.Result.{err_from_is_err_and}
 use Rattle.addr2line_functions.specs.Tiling.{whole_section}
 use Rattle.addr2line_functions.specs.UnitHeaders.{units_to_come}
@@ -7,7 +7,7 @@ use Rattle.addr2line_units.specs.CachedFiles.{CachedFile}
 use Rattle.addr2line_functions.specs.DwarfFiles.{DwarfFile}
 use Rattle.addr2line_functions.specs.Contexts.{facts_of_code_unit, headers_of}
 use Rattle.addr2line_resolved.specs.ResolvedUnits.{value_of_unit, new_unit, new_units, KeepNoFunctions}
-use Rattle.addr2line_resolved.proofs.UnitReading.{read_start, read_more, read_refused}
+use Rattle.addr2line_resolved.proofs.UnitReading.{read_start, read_ended, append_more, append_refused}
 use Rattle.addr2line_resolved.proofs.units.units_of_file.Goals as goal
 
 pub loop-headers-init : goal.loop-headers-init
@@ -29,18 +29,31 @@ loop-headers-init g c =
       functions = subst KeepNoFunctions (sym c.new-units.ensures.items) tt;
     }
 
-pub returns-in_err-unit-clause-units : goal.returns-in_err-unit-clause-units
-returns-in_err-unit-clause-units g c =
+pub returns-in_err-header-clause-units : goal.returns-in_err-header-clause-units
+returns-in_err-header-clause-units g c =
     let limit = g.R.Offset.ReaderOffset.limit in
     let file : DwarfFile = c.args.sections.now.value.file in
-    let p = err_from_is_err_and c.from_residual-in_err-unit.result c.from_residual-in_err-unit.ensures.1 in
+    let p =
+    err_from_is_err_and c.from_residual-in_err-header.result c.from_residual-in_err-header.ensures.1 in
     rw (p.1, p.2) (λ m.
-    read_refused (facts_of_code_unit file) (λ u. new_unit (in_file file u))
+    read_ended (facts_of_code_unit file) (λ u. new_unit (in_file file u))
     (units_to_come limit c.loop-headers.headers) (units_to_come limit c.next.new.self)
-    c.in_ok-header.field-0 c.in-Some.header _ (map value_of_unit c.loop-headers.units.items) c.in-Some.is
-    c.in_ok-header.ensures.order
-    (c.in_err-unit.ensures.unit m)
-    (new_units file) c.loop-headers.invariant.units)
+    (map value_of_unit c.loop-headers.units.items) (new_units file) _ m
+    c.in_err-header.ensures.order c.loop-headers.invariant.units)
+
+pub returns-in_err-push_context_unit-clause-units : goal.returns-in_err-push_context_unit-clause-units
+returns-in_err-push_context_unit-clause-units g c =
+    let limit = g.R.Offset.ReaderOffset.limit in
+    let file : DwarfFile = c.args.sections.now.value.file in
+    let p =
+    err_from_is_err_and c.from_residual-in_err-push_context_unit.result
+    c.from_residual-in_err-push_context_unit.ensures.1 in
+    rw (p.1, p.2) (λ m.
+    append_refused (facts_of_code_unit file) (λ u. new_unit (in_file file u))
+    (units_to_come limit c.loop-headers.headers) (units_to_come limit c.next.new.self)
+    c.in_ok-header.field-0 c.in-Some.header (map value_of_unit c.loop-headers.units.items) c.in-Some.is
+    c.in_ok-header.ensures.order (new_units file) c.loop-headers.invariant.units _
+    (c.in_err-push_context_unit.ensures.units m))
 
 pub loop-headers-preserved : goal.loop-headers-preserved
 loop-headers-preserved g c =
@@ -48,11 +61,10 @@ loop-headers-preserved g c =
     let file : DwarfFile = c.args.sections.now.value.file in
     record {
       units =
-          read_more (facts_of_code_unit file) (λ u. new_unit (in_file file u))
+          append_more (facts_of_code_unit file) (λ u. new_unit (in_file file u))
           (units_to_come limit c.loop-headers.headers) (units_to_come limit c.next.new.self)
-          c.in_ok-header.field-0 c.in-Some.header (option_map value_of_unit c.in_ok-unit.unit)
-          (map value_of_unit c.loop-headers.units.items) (map value_of_unit c.push_unit.new.units.items)
-          c.in-Some.is c.in_ok-header.ensures.order c.in_ok-unit.ensures.unit c.in_ok-push_unit.ensures.ok
-          (new_units file) c.loop-headers.invariant.units;
-      functions = c.in_ok-push_unit.ensures.functions c.loop-headers.invariant.functions c.in_ok-unit.ensures.functions;
+          c.in_ok-header.field-0 c.in-Some.header (map value_of_unit c.loop-headers.units.items) c.in-Some.is
+          c.in_ok-header.ensures.order (new_units file) c.loop-headers.invariant.units
+          (map value_of_unit c.push_context_unit.new.units.items) c.in_ok-push_context_unit.ensures.units;
+      functions = c.in_ok-push_context_unit.ensures.functions c.loop-headers.invariant.functions;
     }

@@ -14,11 +14,13 @@ loop-item-preserved g c =
 
 pub returns-in-Ok-None : goal.returns-in-Ok-None
 returns-in-Ok-None g c =
-    no_more_stretches c.loop-item.copies.items c.loop-item.stretches c.args.stretches c.loop-item.invariant (Ok (tt {0}))
+    no_more_stretches c.loop-item.copies.items c.loop-item.stretches c.args.stretches c.loop-item.invariant
+    (Ok (tt {0}))
     (subst (λ o. StretchComesNext stretch_of_item (Ok o) c.loop-item.stretches c.next.new.self)
     c.in-Ok-None.field-0-is c.in-Ok-None.ensures).0
 
 pub returns-in-Err : goal.returns-in-Err
 returns-in-Err g c =
-    refused_stretches c.loop-item.copies.items c.loop-item.stretches c.args.stretches c.loop-item.invariant c.in-Err.error
+    refused_stretches c.loop-item.copies.items c.loop-item.stretches c.args.stretches c.loop-item.invariant
+    c.in-Err.error
     c.end_by.result c.in-Err.ensures.0 c.end_by.ensures

@@ -19,7 +19,8 @@ loop-place-preserved g c =
     let is = c.frames_wait.ensures.after.value in
     let waits : IsPending (frames_in mid.value a) =
     subst (λ (x : AnsweredContext). IsPending (frames_in x a)) (sym is)
-    (subst (λ b. TellsWaiting (frames_in v.value a) (Ok b)) c.if-not-branch.false c.in_ok-frames_wait.ensures.waits) in (
+    (subst (λ b. TellsWaiting (frames_in v.value a) (Ok b)) c.if-not-branch.false
+    c.in_ok-frames_wait.ensures.waits) in (
       c.answer_next.ensures.plain ∙ ap (λ (x : AnsweredContext). x.plain) is ∙ c.loop-place.invariant.0,
       keeps_more _ _ _ (keeps_more _ _ _ c.loop-place.invariant.1 c.frames_wait.ensures.after.cost.more)
           c.answer_next.ensures.kept,

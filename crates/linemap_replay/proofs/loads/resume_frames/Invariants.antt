@@ -11,5 +11,6 @@ invariant-loop-place g l =
     let start = l.fn.context.value in
     (l.context.value.plain ≡ start.plain)
     × KeepsMore l.fn.context.units l.context.units
-    × (resume start.plain (frames_by start.plain l.probe) (map (file_at files) (drop l.place-index l.places)) l.context.value.answers
+    × (resume start.plain (frames_by start.plain l.probe) (map (file_at files) (drop l.place-index l.places))
+    l.context.value.answers
     ≡ resume start.plain (frames_by start.plain l.probe) (map (file_at files) l.places) start.answers)

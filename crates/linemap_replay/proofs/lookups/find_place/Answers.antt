@@ -8,7 +8,8 @@ use Rattle.linemap_replay.proofs.lookups.find_place.Goals as goal
 pub returns-in-Ok-clause-answer : goal.returns-in-Ok-clause-answer
 returns-in-Ok-clause-answer g c =
     subst (CopiesOrNoMemory answer_of c.answer_place.result)
-    (found_copy location_copy (location c.args.context.now.value.plain.context c.args.probe) _ _ c.in-Ok.ensures.place refl)
+    (found_copy location_copy (location c.args.context.now.value.plain.context c.args.probe)
+    _ _ c.in-Ok.ensures.place refl)
     c.answer_place.ensures
 
 pub returns-in-Err-clause-answer : goal.returns-in-Err-clause-answer

@@ -13,5 +13,6 @@ returns-clause-answer g c =
     subst (λ (l : Listing (Unit {0}) Stretch). CopiesOrNoMemory answer_of c.copy_stretches.result
     (copied_answer (stretches_answer l)))
     (c.kept_stretches.ensures
-    ∙ ap (λ (x : AnsweredContext). stretches x.plain.context c.args.low c.args.high) c.read_lines_between.ensures.after.value)
+    ∙ ap (λ (x : AnsweredContext). stretches x.plain.context c.args.low c.args.high)
+    c.read_lines_between.ensures.after.value)
     c.copy_stretches.ensures

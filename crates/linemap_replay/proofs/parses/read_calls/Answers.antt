@@ -12,7 +12,8 @@ returns-clause-answer g c =
     let parse = calls_or_refusal c.args.context.now.value.plain (naming_in c.args.context.now.value.plain) in
     completion_copy c.parse_inlined_functions.result (parse_all old.plain parse old.answers).0 c.complete.result
     (λ other. ap (λ (x : Result (Unit {0}) Error × FirstAnswers). x.0)
-    (parsed old.plain parse c.parse_inlined_functions.result old.answers c.parse_inlined_functions.new.self.value.answers
+    (parsed old.plain parse c.parse_inlined_functions.result old.answers
+    c.parse_inlined_functions.new.self.value.answers
     c.parse_inlined_functions.ensures.calls other)) c.complete.ensures
 
 pub returns-clause-left : goal.returns-clause-left
@@ -22,5 +23,6 @@ returns-clause-left g c =
     if_completed c.parse_inlined_functions.result c.complete.result
     (c.parse_inlined_functions.new.self.value.answers ≡ (parse_all old.plain parse old.answers).1)
     (λ other. sym (ap (λ (x : Result (Unit {0}) Error × FirstAnswers). x.1)
-    (parsed old.plain parse c.parse_inlined_functions.result old.answers c.parse_inlined_functions.new.self.value.answers
+    (parsed old.plain parse c.parse_inlined_functions.result old.answers
+    c.parse_inlined_functions.new.self.value.answers
     c.parse_inlined_functions.ensures.calls other))) c.complete.ensures

@@ -22,8 +22,10 @@ returns-in-Ok-clause-tokens g c =
 
 pub returns-in-Err-clause-answer : goal.returns-in-Err-clause-answer
 returns-in-Err-clause-answer g c =
-    never_refused (loads_in c.args.context.now.value c.args.probe) _ c.refuse.result _ c.in-Err.ensures.loads c.refuse.ensures
+    never_refused (loads_in c.args.context.now.value c.args.probe) _ c.refuse.result _ c.in-Err.ensures.loads
+    c.refuse.ensures
 
 pub returns-in-Err-clause-tokens : goal.returns-in-Err-clause-tokens
 returns-in-Err-clause-tokens g c =
-    never_ok (loads_in c.args.context.now.value c.args.probe) _ c.refuse.result _ c.in-Err.ensures.loads c.refuse.ensures
+    never_ok (loads_in c.args.context.now.value c.args.probe) _ c.refuse.result _ c.in-Err.ensures.loads
+    c.refuse.ensures

@@ -18,7 +18,8 @@ write_answer-requires g c =
 
 pub returns-in_err-write_answer-clause-prefix : goal.returns-in_err-write_answer-clause-prefix
 returns-in_err-write_answer-clause-prefix g c =
-    prefix_at_word c.args.context.now.value.plain.context c.args.words.now _ _ _ c.loop-word.word-index c.word-item.result _
+    prefix_at_word c.args.context.now.value.plain.context c.args.words.now _ _ _ c.loop-word.word-index
+    c.word-item.result _
     c.loop-word-test.true c.word-item.is
     (same_line _ _ _ _ c.loop-word.invariant.0 c.deref.ensures) c.loop-word.invariant.1
     c.in_err-write_answer.ensures.prefix
@@ -26,7 +27,8 @@ returns-in_err-write_answer-clause-prefix g c =
 pub loop-word-preserved : goal.loop-word-preserved
 loop-word-preserved g c = (
   c.in_ok-write_answer.ensures.value ∙ c.loop-word.invariant.0,
-  appends_at_word c.args.context.now.value.plain.context c.args.words.now _ _ _ c.loop-word.word-index c.word-item.result _
+  appends_at_word c.args.context.now.value.plain.context c.args.words.now _ _ _ c.loop-word.word-index
+      c.word-item.result _
       c.loop-word-test.true c.word-item.is
       (same_line _ _ _ _ c.loop-word.invariant.0 c.deref.ensures) c.loop-word.invariant.1
       c.in_ok-write_answer.ensures.whole,

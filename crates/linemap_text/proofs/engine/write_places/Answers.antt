@@ -12,7 +12,8 @@ context_of-requires g c =
 
 pub write_answers-requires : goal.write_answers-requires
 write_answers-requires g c =
-    (answers_from _ _ c.args.sections.now c.requires.0 _ _ c.dwarf_of-dwarf.ensures c.endian.ensures c.target.ensures.order
+    (answers_from _ _ c.args.sections.now c.requires.0 _ _ c.dwarf_of-dwarf.ensures c.endian.ensures
+    c.target.ensures.order
     c.requires.1 c.in_ok-context.ensures).never_refuses
 
 pub returns-clause-whole : goal.returns-clause-whole

@@ -1,4 +1,4 @@
-use Rattle.std.proofs.Common.{refl, subst, sym, map, Ok}
+use Rattle.std.proofs.Common.{refl, subst, sym, map, None, Ok}
 use Rattle.addr2line_lookups.specs.ResolvedUnits.{value_of_unit}
 use Rattle.addr2line_lookups.specs.UnitLookups.{IsPending, FoundUnit, SettlesUnit}
 use Rattle.addr2line_context.specs.KeptContexts.{ResolvedContext}
@@ -6,6 +6,7 @@ use Rattle.addr2line_context.specs.ContextCosts.{frame_looks, AfterLookup}
 use Rattle.addr2line_context.specs.SettledLookups.{unit_in}
 use Rattle.addr2line_context.proofs.AnsweredFirst.{unit_has_load}
 use Rattle.addr2line_context.proofs.LookupResults.{unit_lent, no_unit, pending_unit}
+use Rattle.addr2line_context.proofs.SkippedLoads.{unit_or_refusal, unit_or_refusal_still_found, finds_ok, finds_err, finds_there}
 use Rattle.addr2line_context.proofs.context.Context.find_dwarf_and_unit.Goals as goal
 
 pub returns-in-Ok-Waits : goal.returns-in-Ok-Waits
@@ -21,6 +22,8 @@ returns-in-Ok-Waits g c =
       record {
         found = pending_unit meaning waits;
         waits = record { after = after; place = refl; has_load = unit_has_load old a waits };
+        skips =
+            finds_there (λ u. u) unit_or_refusal unit_or_refusal_still_found old _ a _ after.value refl;
         after = tt;
       },
     )
@@ -35,7 +38,8 @@ returns-in-Ok-Found g c =
     let found : FoundUnit vs meaning number =
     subst (λ o. SettlesUnit vs meaning (Ok o)) c.in-Ok-Found.field-0-is
     (subst (λ (x : ResolvedContext). SettlesUnit (map value_of_unit x.units) meaning (Ok c.in-Ok-Found.field-0))
-    (sym c.self.view_is) c.in-Ok-Found.ensures.found) in (
+    (sym c.self.view_is) c.in-Ok-Found.ensures.found) in
+    let lent = unit_lent vs meaning number c.functions_unit_at.result found c.functions_unit_at.ensures in (
       (
         refl,
         λ w. tt,
@@ -43,22 +47,27 @@ returns-in-Ok-Found g c =
             c.in-Ok-Found.ensures.after,
       ),
       record {
-        found = unit_lent vs meaning number c.functions_unit_at.result found c.functions_unit_at.ensures;
+        found = lent;
         waits = tt;
+        skips =
+            finds_ok (λ u. u) unit_or_refusal unit_or_refusal_still_found old.value a c.functions_unit_at.result lent;
         after = tt;
       },
     )
 
 pub returns-in-Ok-Nothing : goal.returns-in-Ok-Nothing
 returns-in-Ok-Nothing g c =
-    let meaning = unit_in c.args.self.now.value c.args.probe in (
+    let old = c.args.self.now.value in
+    let a = c.args.probe in
+    let none =
+    no_unit (unit_in old a)
+    (subst (λ o. SettlesUnit (map value_of_unit c.settle_unit.new.self.units) (unit_in old a) (Ok o))
+    c.in-Ok-Nothing.field-0-is c.in-Ok-Nothing.ensures.found) in (
       (refl, λ w. tt, c.in-Ok-Nothing.ensures.after),
       record {
-        found =
-            no_unit meaning
-            (subst (λ o. SettlesUnit (map value_of_unit c.settle_unit.new.self.units) meaning (Ok o))
-            c.in-Ok-Nothing.field-0-is c.in-Ok-Nothing.ensures.found);
+        found = none;
         waits = tt;
+        skips = finds_ok (λ u. u) unit_or_refusal unit_or_refusal_still_found old a None none;
         after = tt;
       },
     )
@@ -69,6 +78,9 @@ returns-in-Err g c = (
   record {
     found = λ m. absurd (m c.in-Err.ensures.found);
     waits = tt;
+    skips =
+        finds_err (λ u. u) unit_or_refusal unit_or_refusal_still_found c.args.self.now.value c.args.probe _
+        (λ m. absurd (m c.in-Err.ensures.found));
     after = tt;
   },
 )

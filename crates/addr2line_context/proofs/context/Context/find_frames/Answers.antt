@@ -7,6 +7,7 @@ use Rattle.addr2line_context.specs.ContextCosts.{frame_looks, AfterLookup}
 use Rattle.addr2line_context.specs.SettledLookups.{frames_in}
 use Rattle.addr2line_context.proofs.AnsweredFirst.{frames_have_load}
 use Rattle.addr2line_context.proofs.LookupResults.{frames_lent}
+use Rattle.addr2line_context.proofs.SkippedLoads.{frames_still_found, finds_ok, finds_err, finds_there}
 use Rattle.addr2line_context.proofs.context.Context.find_frames.Goals as goal
 
 pub returns-in-Ok-Waits : goal.returns-in-Ok-Waits
@@ -22,6 +23,7 @@ returns-in-Ok-Waits g c =
       record {
         found = waits;
         waits = record { after = after; place = refl; has_load = frames_have_load old a waits };
+        skips = finds_there frames_left frames_in frames_still_found old _ a _ after.value refl;
         after = tt;
       },
     )
@@ -36,7 +38,8 @@ returns-in-Ok-Found g c =
     let found : FoundFrames us meaning place =
     subst (λ o. SettlesFrames us meaning (Ok o)) c.in-Ok-Found.field-0-is
     (subst (λ (x : ResolvedContext). SettlesFrames x.units meaning (Ok c.in-Ok-Found.field-0)) (sym c.self.view_is)
-    c.in-Ok-Found.ensures.found) in (
+    c.in-Ok-Found.ensures.found) in
+    let lent = frames_lent us meaning place (frames_left c.frames_at_place.result) c.frames_at_place.ensures found in (
       (
         refl,
         λ w. tt,
@@ -44,22 +47,38 @@ returns-in-Ok-Found g c =
             c.in-Ok-Found.ensures.after,
       ),
       record {
-        found = frames_lent us meaning place (frames_left c.frames_at_place.result) c.frames_at_place.ensures found;
+        found = lent;
         waits = tt;
+        skips = finds_ok frames_left frames_in frames_still_found old.value a c.frames_at_place.result lent;
         after = tt;
       },
     )
 
 pub returns-in-Ok-Nothing : goal.returns-in-Ok-Nothing
 returns-in-Ok-Nothing g c =
-    let meaning = frames_in c.args.self.now.value c.args.probe in (
+    let old = c.args.self.now.value in
+    let a = c.args.probe in
+    let none =
+    subst (λ o. SettlesFrames c.settle_frames.new.self.units (frames_in old a) (Ok o)) c.in-Ok-Nothing.field-0-is
+    c.in-Ok-Nothing.ensures.found
+    ∙ ap (λ fs. output (Ok fs)) (sym c.frame_without_function.ensures) in (
       (refl, λ w. tt, c.in-Ok-Nothing.ensures.after),
       record {
-        found =
-            subst (λ o. SettlesFrames c.settle_frames.new.self.units meaning (Ok o)) c.in-Ok-Nothing.field-0-is
-            c.in-Ok-Nothing.ensures.found
-            ∙ ap (λ fs. output (Ok fs)) (sym c.frame_without_function.ensures);
+        found = none;
         waits = tt;
+        skips = finds_ok frames_left frames_in frames_still_found old a c.frame_without_function.result none;
         after = tt;
       },
     )
+
+pub returns-in-Err : goal.returns-in-Err
+returns-in-Err g c = (
+  (refl, λ w. tt, c.in-Err.ensures.after),
+  record {
+    found = c.in-Err.ensures.found;
+    waits = tt;
+    skips =
+        finds_err frames_left frames_in frames_still_found c.args.self.now.value c.args.probe _ c.in-Err.ensures.found;
+    after = tt;
+  },
+)

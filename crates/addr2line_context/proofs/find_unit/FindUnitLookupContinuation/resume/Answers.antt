@@ -1,8 +1,10 @@
-use Rattle.std.proofs.Common.{refl, subst, option_map, arith, Ok}
+use Rattle.std.proofs.Common.{refl, ap, ◌∙◌, subst, option_map, arith, Ok}
 use Rattle.addr2line_lookups.specs.Lookups.{map_output}
 use Rattle.addr2line_context.specs.AnsweredContexts.{AnsweredContext}
 use Rattle.addr2line_context.specs.Suspended.{FollowsLookup}
-use Rattle.addr2line_context.specs.SettledLookups.{unit_in}
+use Rattle.addr2line_context.specs.SkippedLoads.{FindsUnit}
+use Rattle.addr2line_context.specs.SettledLookups.{unit_in, after_answer}
+use Rattle.addr2line_context.proofs.SkippedLoads.{unit_or_refusal, unit_or_refusal_still_found, finds_err, finds_after}
 use Rattle.addr2line_context.proofs.ResumedLookups.{after_again, after_error, waits_again, has_loads, fewer_left}
 use Rattle.addr2line_context.proofs.find_unit.FindUnitLookupContinuation.resume.Goals as goal
 
@@ -28,6 +30,12 @@ returns-in-Ok g c =
             subst (λ (x : AnsweredContext). FollowsLookup (λ u. u) result (map_output (λ u. Ok u) (unit_in x a))) ok
             c.find_dwarf_and_unit.ensures.found;
         again = waits_again old mid a file ok free (λ w. w.context.now) (λ w. w.probe) result waits;
+        skips =
+            λ none found h.
+            finds_after (λ u. u) unit_or_refusal unit_or_refusal_still_found old.value a found
+            (subst (λ d. FindsUnit d a found)
+            (ok ∙ ap (λ i. after_answer old.value a (option_map (λ f. f.value.file) i)) none)
+            (c.find_dwarf_and_unit.ensures.skips found h));
         after = tt;
       },
     )
@@ -40,6 +48,10 @@ returns-in-Err g c = (
     waits = tt;
     found = λ m. absurd (m c.in-Err.ensures.refusal);
     again = tt;
+    skips =
+        λ none.
+        finds_err (λ u. u) unit_or_refusal unit_or_refusal_still_found c.args.self.context.now.value c.args.self.probe _
+        (λ m. absurd (m c.in-Err.ensures.refusal));
     after = tt;
   },
 )

@@ -19,12 +19,14 @@ loop-call-preserved n c =
     let so_far = c.loop-call.invariant in
     let after_call = c.in_ok-call.ensures.same ∙ so_far.0 in
     let step =
-    call_emitted c.args.self.now.encoding.address_size count number names call rest c.loop-call.self c.call.new.self c.calls.new.self
+    call_emitted c.args.self.now.encoding.address_size count number names call rest c.loop-call.self c.call.new.self
+    c.calls.new.self
     c.close.new.self (with_calls number names (calls_part cs) c.args.self.now) (not c.is_empty-has_children.result)
     (ap not c.is_empty-has_children.ensures ∙ ap (λ n. not (n == 0))
     (sym c.deref.ensures.len ∙ ap length c.deref.ensures.value) ∙ sym (some_in call))
     (c.in_ok-call.ensures.ok
-    ∙ ap (λ ns. with_call number ns (not c.is_empty-has_children.result) (call_part call).site c.loop-call.self) so_far.0)
+    ∙ ap (λ ns. with_call number ns (not c.is_empty-has_children.result) (call_part call).site c.loop-call.self)
+    so_far.0)
     (c.in_ok-calls.ensures.ok ∙ ap (λ l. with_calls number c.call.new.names (calls_part l) c.call.new.self)
     c.deref.ensures.value
     ∙ ap (λ ns. with_calls number ns (calls_part (out-TableCall call).calls.items) c.call.new.self) after_call)

@@ -27,7 +27,8 @@ loop-function-preserved c =
     let here = from_here fs c.loop-function.function-index function c.loop-function-test.true c.function-item.is in
     let so_far = c.loop-function.invariant in
     let step =
-    function_emitted c.args.self.now.encoding.address_size count number names (function_part function) (map function_part rest)
+    function_emitted c.args.self.now.encoding.address_size count number names (function_part function)
+    (map function_part rest)
     c.loop-function.self c.function.new.self c.calls.new.self c.close.new.self
     (with_functions number names (map function_part fs) c.args.self.now) (not c.is_empty-has_children.result)
     (ap not c.is_empty-has_children.ensures

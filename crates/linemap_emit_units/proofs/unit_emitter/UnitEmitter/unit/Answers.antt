@@ -17,13 +17,16 @@ names_of-requires c =
 pub functions-requires-clause-size : goal.functions-requires-clause-size
 functions-requires-clause-size c =
     subst (λ (e : Encoding). is_address_size e.address_size ≡ true)
-    (sym (ap (λ x. x.encoding) c.in_ok-abstract_functions.ensures.ok ∙ abstract_keeps c.in_ok-names.names c.root.new.self
+    (sym (ap (λ x. x.encoding) c.in_ok-abstract_functions.ensures.ok
+    ∙ abstract_keeps c.in_ok-names.names c.root.new.self
     ∙ ap (λ x. x.encoding) c.in_ok-root.ensures.ok)) c.requires.size
 
 pub functions-requires-clause-can_emit : goal.functions-requires-clause-can_emit
 functions-requires-clause-can_emit c =
-    subst (λ (e : Encoding). CanEmitFunctions e.address_size (length c.args.ids.now) (map function_part c.deref-2.result.now))
-    (sym (ap (λ x. x.encoding) c.in_ok-abstract_functions.ensures.ok ∙ abstract_keeps c.in_ok-names.names c.root.new.self
+    subst (λ (e : Encoding). CanEmitFunctions e.address_size (length c.args.ids.now)
+    (map function_part c.deref-2.result.now))
+    (sym (ap (λ x. x.encoding) c.in_ok-abstract_functions.ensures.ok
+    ∙ abstract_keeps c.in_ok-names.names c.root.new.self
     ∙ ap (λ x. x.encoding) c.in_ok-root.ensures.ok))
     (subst (λ l. CanEmitFunctions c.args.self.now.encoding.address_size (length c.args.ids.now) (map function_part l))
     (sym c.deref-2.ensures.value)

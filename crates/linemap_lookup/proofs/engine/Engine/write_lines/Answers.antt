@@ -53,7 +53,8 @@ returns-in_err-write-clause-stop g c =
     (g.O.Write.contents c.line.out) (g.E.Write.contents c.line.err) (g.E.Write.contents c.next_address.new.err)
     (record { out = g.O.Write.contents c.write.new.out; err = g.E.Write.contents c.write.new.err }) c.args.ended.now
     c.line.ended c.in_err-write.field-0.0 _ c.in-Some.address c.line.invariant
-    (ap g.E.Write.contents c.in_ok-address.ensures.same) c.in_ok-address.ensures.address c.in-Some.is c.in_err-write.ensures.stop)
+    (ap g.E.Write.contents c.in_ok-address.ensures.same) c.in_ok-address.ensures.address
+    c.in-Some.is c.in_err-write.ensures.stop)
 
 pub returns-clause-whole : goal.returns-clause-whole
 returns-clause-whole g c =

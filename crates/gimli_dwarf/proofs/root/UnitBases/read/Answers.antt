@@ -1,5 +1,5 @@
 use Rattle.std.proofs.lemmas.Result.{err_from_is_err_and}
-use Rattle.gimli_dwarf.proofs.unit.Unit.without_texts.Goals as goal
+use Rattle.gimli_dwarf.proofs.root.UnitBases.read.Goals as goal
 
 pub returns-in_err-strings : goal.returns-in_err-strings
 returns-in_err-strings g c =
@@ -20,8 +20,3 @@ pub returns-in_err-ranges : goal.returns-in_err-ranges
 returns-in_err-ranges g c =
     let p = err_from_is_err_and c.from_residual-in_err-ranges.result c.from_residual-in_err-ranges.ensures.1 in
     rw (p.1, p.2) (λ m. cc (c.in_err-ranges.ensures m))
-
-pub returns-in_err-dwo_id : goal.returns-in_err-dwo_id
-returns-in_err-dwo_id g c =
-    let p = err_from_is_err_and c.from_residual-in_err-dwo_id.result c.from_residual-in_err-dwo_id.ensures.1 in
-    rw (p.1, p.2) (λ m. cc (c.in_err-dwo_id.ensures m))

@@ -1,5 +1,5 @@
 use Rattle.std.proofs.lemmas.Result.{err_from_is_err_and}
-use Rattle.gimli_dwarf.proofs.unit.Unit.with_texts.Goals as goal
+use Rattle.gimli_dwarf.proofs.unit.Unit.read_texts.Goals as goal
 
 pub returns-in_err-name : goal.returns-in_err-name
 returns-in_err-name g c =

@@ -1,6 +1,6 @@
 use Rattle.std.proofs.lemmas.Result.{err_from_is_err_and}
 use Rattle.gimli_dwarf.proofs.RootLemmas.{root-refused, root-absent, root-found}
-use Rattle.gimli_dwarf.proofs.root.root_entry.Goals as goal
+use Rattle.gimli_dwarf.proofs.root.read_root.Goals as goal
 
 pub returns-in_err-read_entry : goal.returns-in_err-read_entry
 returns-in_err-read_entry g c =

@@ -9,7 +9,7 @@ use Rattle.addr2line_index.specs.UnitRanges.{is_partial}
 use Rattle.addr2line_index.specs.Contexts.{ContextUnit, unit_of_root}
 use Rattle.addr2line_units.specs.RootRanges.{unit_with}
 use Rattle.addr2line_units.proofs.RootLemmas.{not_partial}
-use Rattle.addr2line_units.proofs.root.UnitRoot.of_entry.Goals as goal
+use Rattle.addr2line_units.proofs.root.UnitRoot.read.Goals as goal
 
 pub returns-clause-unit : goal.returns-clause-unit
 returns-clause-unit g c =

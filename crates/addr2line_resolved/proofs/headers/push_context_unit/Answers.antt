@@ -1,0 +1,37 @@
+use Rattle.std.proofs.Common.{◌≡◌, subst, sym, ap, ◌∙◌, List, Option, Some, None, option_map, map, Result}
+use Rattle.std.proofs.lemmas.Result.{err_from_is_err_and}
+use Rattle.addr2line_functions.specs.Error.{Error}
+use Rattle.addr2line_functions.specs.Calls.{ReturnsAsOrNoMemory}
+use Rattle.addr2line_functions.specs.Contexts.{facts_of_code_unit}
+use Rattle.addr2line_functions.specs.UnitFacts.{UnitInFile, in_file}
+use Rattle.addr2line_functions.specs.DwarfFiles.{DwarfFile}
+use Rattle.addr2line_resolved.specs.ResolvedUnits.{AnsweredUnit, value_of_unit, new_unit}
+use Rattle.addr2line_resolved.proofs.UnitReading.{ok_of, append_some, append_none}
+use Rattle.addr2line_resolved.proofs.headers.push_context_unit.Goals as goal
+
+pub returns-in_err-main-clause-units : goal.returns-in_err-main-clause-units
+returns-in_err-main-clause-units g c =
+    let p = err_from_is_err_and c.from_residual.result c.from_residual.ensures.1 in
+    rw (p.1, p.2) (λ m. cc (c.in_err-main.ensures.unit m))
+
+pub returns-in-Some-clause-units : goal.returns-in-Some-clause-units
+returns-in-Some-clause-units g c =
+    let file : DwarfFile = c.args.sections.now.value.file in
+    let o : Option UnitInFile = option_map (in_file file) (facts_of_code_unit file c.args.header) in
+    let one : ok_of o ≡ ok_of (Some c.in-Some.main) = c.in_ok-main.ensures.unit ∙ ap ok_of c.in-Some.is in
+    let found : o ≡ Some c.in-Some.main = cc in
+    let P : Result (List AnsweredUnit) Error → Type 0 =
+    λ x. ReturnsAsOrNoMemory (λ _. map value_of_unit c.push_unit.new.units.items) c.push_unit.result x in
+    subst P
+    (sym (append_some (in_file file) new_unit (map value_of_unit c.args.units.now.items)
+    (facts_of_code_unit file c.args.header) c.in-Some.main found))
+    c.push_unit.ensures.units
+
+pub returns-in-None-clause-units : goal.returns-in-None-clause-units
+returns-in-None-clause-units g c =
+    let file : DwarfFile = c.args.sections.now.value.file in
+    let o : Option UnitInFile = option_map (in_file file) (facts_of_code_unit file c.args.header) in
+    let one : ok_of o ≡ ok_of None = c.in_ok-main.ensures.unit ∙ ap ok_of c.in-None.is in
+    let none : o ≡ None = cc in
+    append_none (in_file file) new_unit (map value_of_unit c.args.units.now.items)
+    (facts_of_code_unit file c.args.header) none
