@@ -6,7 +6,7 @@ pub mod context;
 pub mod find_frames;
 pub mod find_unit;
 pub mod frame_loads;
-pub mod kept_stretches;
+pub mod location_range;
 pub mod lookup;
 mod outcomes;
 mod progress;
@@ -20,7 +20,7 @@ pub use addr2line_lookups::{
     DebugAbbrev, DebugAbbrevOffset, DebugAddrIndex, DebugLineStrOffset, DebugRngListsIndex,
     DebugStrOffset, DebugStrOffsetsIndex, DwLang, Dwarf, DwarfFileType, DwoId, EndianBytes,
     EndianSlice, Error, Format, Frame, FrameIter, FunctionName, Lines, LinesBuilder, LittleEndian,
-    Location, LocationLists, LocationRangeIter, Range, RangeLists, RangeListsOffset,
+    Location, LocationLists, Range, RangeLists, RangeListsOffset,
     RawRangeListsOffset, Reader, ReaderOffsetId, ResUnit, RunTimeEndian, Runs, SectionId,
     SplitDwarfLoad, Unit, UnitLines, UnitOffset, UnitRef, UnitRoot, UnitToken, file_text,
     file_text_of_bytes, is_rooted, join, language_of, ranges_of_attributes,
@@ -28,4 +28,5 @@ pub use addr2line_lookups::{
 pub use context::Context;
 pub use find_frames::FindFrames;
 pub use find_unit::FindUnit;
+pub use location_range::LocationRangeIter;
 pub use lookup::{LookupContinuation, LookupResult};

@@ -1,0 +1,273 @@
+-- Walks over the stretches between two ends, one step after the other.
+use Rattle.std.proofs.Common.{◌≡◌, ℕ, max, min, Bool, true, List, [], ◌∷◌, drop, map, slice_get, Option, Some, None, option_map, Result, Ok, Err, refl, sym, ap, ◌∙◌, subst}
+use Rattle.std.specs.Prelude.{◌≢◌, option_and_then}
+use Rattle.std.proofs.lemmas.Option.{slice_get-map}
+use Rattle.addr2line_resolved.specs.Error.{Error}
+use Rattle.addr2line_resolved.specs.Error.TheVariants.{Memory}
+use Rattle.addr2line_resolved.specs.Repetition.{Listing, no_items, prepend}
+use Rattle.addr2line_resolved.specs.Results.{and_then}
+use Rattle.addr2line_resolved.specs.Lines.{Lines, Stretch, lines_between, row_location}
+use Rattle.addr2line_resolved.specs.Contexts.{ContextUnit, ranges_of, lines_of}
+use Rattle.addr2line_resolved.specs.PlaceLookups.{with_stretches, stretches_between}
+use Rattle.addr2line_resolved.specs.UnitRange.{UnitRange}
+use Rattle.addr2line_resolved.specs.UnitPlaces.{UnitPlaces}
+use Rattle.addr2line_resolved.specs.NumberedRanges.{overlapping_ranges}
+use Rattle.addr2line_resolved.specs.RangeIndexLaws.{with_unit_stretches, stretches_from}
+use Rattle.addr2line_resolved.specs.LineCursor.{LineCursor}
+use Rattle.addr2line_resolved.specs.LineCursors.{lines_left}
+use Rattle.addr2line_resolved.specs.RowStretch.{RowStretch}
+use Rattle.addr2line_resolved.specs.Stretches.{stretch_of_row}
+use Rattle.addr2line_resolved.specs.LineIndexes.{CountedLines, counted_lines}
+use Rattle.addr2line_resolved.specs.ContextUnits.{unit_places, ordered_ranges}
+use Rattle.addr2line_resolved.specs.ResolvedUnits.{ResolvedUnit, plain_unit, value_of_unit, if_kept, location_of_row}
+use Rattle.addr2line_resolved.proofs.UnitViews.{stretches_of_views, stretches_by_numbers}
+use Rattle.addr2line_lookups.specs.KeptUnits.{lines_of_unit, lines_at, location_of_unit_row}
+use Rattle.addr2line_lookups.specs.RangeWalks.{clipped_left, unit_left, rows_left, BeginsRange, IsStretchOf, FirstStretch, NextInRange, NextOfRows, walk_left, stretches_left, FindsStretch}
+use Rattle.addr2line_lookups.specs.declared.range_walk.RangeRows.{RangeRows}
+use Rattle.addr2line_lookups.specs.declared.range_walk.RangeWalk.{RangeWalk}
+use Rattle.addr2line_lookups.specs.declared.range_walk.UnitStretch.{UnitStretch}
+use Rattle.addr2line_lookups.proofs.KeptLines.{same_plain}
+
+-- ---- the lines of the unit of a number
+
+pub lines_by_number : (us : List ResolvedUnit) (n : ℕ) (o : Option ResolvedUnit) → o ≡ slice_get us n
+    → lines_at (map plain_unit us) n ≡ lines_of_unit (option_map plain_unit o)
+lines_by_number us n o found =
+    ap lines_of_unit (slice_get-map plain_unit us n ∙ ap (option_map plain_unit) (sym found))
+
+-- lines that are kept, with the name of their counter
+module _ (name : ℕ) where
+  counted_ok : (r : Result Lines Error) (i : CountedLines) → counted_lines name r ≡ Ok i → r ≡ Ok i.lines
+  counted_ok (Ok l) i h =
+      let same : record { lines = l; counter = name } ≡ i = cc in ap (λ (x : CountedLines). Ok x.lines) same
+  counted_ok (Err e) i h = absurd cc
+
+  counted_err : (r : Result Lines Error) (e : Error) → counted_lines name r ≡ Err e → r ≡ Err e
+  counted_err (Ok l) e h = absurd cc
+  counted_err (Err d) e h = let same : d ≡ e = cc in ap Err same
+
+  kept_is : (b : Bool) (r : Result Lines Error) (o : Option (Result CountedLines Error))
+      → o ≡ if_kept b (counted_lines name r) → b ≡ true → o ≡ Some (counted_lines name r)
+  kept_is b r o is kept = is ∙ ap (λ k. if_kept k (counted_lines name r)) kept
+
+  module _ (b : Bool) (r : Result Lines Error) (o : Option (Result CountedLines Error))
+      (is : o ≡ if_kept b (counted_lines name r)) (kept : b ≡ true) where
+    pub kept_lines_are : (i : CountedLines) → o ≡ Some (Ok i)
+        → and_then r (λ (l : Lines). Ok (Some l)) ≡ Ok (Some i.lines)
+    kept_lines_are i h =
+        let same : counted_lines name r ≡ Ok i =
+        let both : Some (counted_lines name r) ≡ Some (Ok i) = sym (kept_is b r o is kept) ∙ h in cc in
+        ap (λ x. and_then x (λ (l : Lines). Ok (Some l))) (counted_ok r i same)
+
+    pub kept_refusal_is : (e : Error) → o ≡ Some (Err e) → and_then r (λ (l : Lines). Ok (Some l)) ≡ Err e
+    kept_refusal_is e h =
+        let same : counted_lines name r ≡ Err e =
+        let both : Some (counted_lines name r) ≡ Some (Err e) = sym (kept_is b r o is kept) ∙ h in cc in
+        ap (λ x. and_then x (λ (l : Lines). Ok (Some l))) (counted_err r e same)
+
+    pub kept_lines_there : o ≡ None → ⊥
+    kept_lines_there h =
+        let both : Some (counted_lines name r) ≡ None = sym (kept_is b r o is kept) ∙ h in absurd cc
+
+-- ---- the unit of a range
+
+module _ (us : List ContextUnit) (n : ℕ) (P : Option UnitPlaces → Type 0) where
+  -- what holds of a unit's places holds of those of its number
+  at_number : P (option_map unit_places (slice_get us n)) → P (slice_get (map unit_places us) n)
+  at_number h = subst P (sym (slice_get-map unit_places us n)) h
+
+module _ (low high : ℕ) (r : UnitRange) where
+  abbrev from : ℕ
+  from = max low r.range.begin
+
+  abbrev to : ℕ
+  to = min high r.range.end
+
+  begins_lines : (c : LineCursor) (x : Result Lines Error) (l : Lines) (rest : Listing (Unit {0}) Stretch)
+      → and_then x (λ (l : Lines). Ok (Some l)) ≡ Ok (Some l) → lines_left l from to c ≡ lines_between l from to
+      → with_stretches low high r.range x rest ≡ prepend (clipped_left low high r.range c x) rest
+  begins_lines c (Ok m) l rest h start =
+      let same : m ≡ l = cc in
+      ap (λ (k : Lines). prepend (lines_between k from to) rest) same
+      ∙ ap (λ ts. prepend ts rest) (sym start)
+      ∙ ap (λ (k : Lines). prepend (lines_left k from to c) rest) (sym same)
+  begins_lines c (Err e) l rest h start = absurd cc
+
+  begins_unit : (c : LineCursor) (o : Option ContextUnit) (l : Lines) (rest : Listing (Unit {0}) Stretch)
+      → lines_of_unit o ≡ Ok (Some l) → lines_left l from to c ≡ lines_between l from to
+      → with_unit_stretches low high r.range (option_map unit_places o) rest
+      ≡ prepend (unit_left low high r.range c (option_map unit_places o)) rest
+  begins_unit c None l rest h start = absurd cc
+  begins_unit c (Some u) l rest h start = begins_lines c u.lines l rest h start
+
+  -- a walk begins in lines that can be read
+  pub begins_with : (us : List ContextUnit) (c : LineCursor) (l : Lines) → lines_at us r.unit ≡ Ok (Some l)
+      → lines_left l from to c ≡ lines_between l from to
+      → BeginsRange (map unit_places us) low high r (Ok (Some (record { range = r; cursor = c })))
+  begins_with us c l h start rest =
+      at_number us r.unit
+      (λ p. with_unit_stretches low high r.range p rest ≡ prepend (unit_left low high r.range c p) rest)
+      (begins_unit c (slice_get us r.unit) l rest h start)
+
+  no_lines_of : (x : Result Lines Error) → and_then x (λ (l : Lines). Ok (Some l)) ≡ Ok None → ⊥
+  no_lines_of (Ok l) h = absurd cc
+  no_lines_of (Err e) h = absurd cc
+
+  begins_without : (o : Option ContextUnit) (rest : Listing (Unit {0}) Stretch) → lines_of_unit o ≡ Ok None
+      → with_unit_stretches low high r.range (option_map unit_places o) rest ≡ rest
+  begins_without None rest h = refl
+  begins_without (Some u) rest h = absurd (no_lines_of u.lines h)
+
+  -- not where there is no unit
+  pub begins_nowhere : (us : List ContextUnit) → lines_at us r.unit ≡ Ok None
+      → BeginsRange (map unit_places us) low high r (Ok None)
+  begins_nowhere us h rest =
+      at_number us r.unit (λ p. with_unit_stretches low high r.range p rest ≡ rest)
+      (begins_without (slice_get us r.unit) rest h)
+
+  refused_lines : (x : Result Lines Error) (e : Error) (rest : Listing (Unit {0}) Stretch)
+      → and_then x (λ (l : Lines). Ok (Some l)) ≡ Err e → with_stretches low high r.range x rest ≡ no_items (Err e)
+  refused_lines (Ok l) e rest h = absurd cc
+  refused_lines (Err d) e rest h = let same : d ≡ e = cc in ap (λ x. no_items (Err x)) same
+
+  refused_unit : (o : Option ContextUnit) (e : Error) (rest : Listing (Unit {0}) Stretch) → lines_of_unit o ≡ Err e
+      → with_unit_stretches low high r.range (option_map unit_places o) rest ≡ no_items (Err e)
+  refused_unit None e rest h = absurd cc
+  refused_unit (Some u) e rest h = refused_lines u.lines e rest h
+
+  -- nor where its lines are refused
+  pub begins_refused : (us : List ContextUnit) (e : Error) → lines_at us r.unit ≡ Err e
+      → BeginsRange (map unit_places us) low high r (Err e)
+  begins_refused us e h other rest =
+      at_number us r.unit (λ p. with_unit_stretches low high r.range p rest ≡ no_items (Err e))
+      (refused_unit (slice_get us r.unit) e rest h)
+
+  -- ---- what is left of it
+
+  left_of_lines : (c : LineCursor) (x : Result Lines Error) (l : Lines)
+      → and_then x (λ (l : Lines). Ok (Some l)) ≡ Ok (Some l) → clipped_left low high r.range c x ≡ lines_left l from to c
+  left_of_lines c (Ok m) l h = let same : m ≡ l = cc in ap (λ (k : Lines). lines_left k from to c) same
+  left_of_lines c (Err e) l h = absurd cc
+
+  left_of_unit : (c : LineCursor) (o : Option ContextUnit) (l : Lines) → lines_of_unit o ≡ Ok (Some l)
+      → unit_left low high r.range c (option_map unit_places o) ≡ lines_left l from to c
+  left_of_unit c None l h = absurd cc
+  left_of_unit c (Some u) l h = left_of_lines c u.lines l h
+
+  left_in_unit : (us : List ContextUnit) (c : LineCursor) (l : Lines) → lines_at us r.unit ≡ Ok (Some l)
+      → unit_left low high r.range c (slice_get (map unit_places us) r.unit) ≡ lines_left l from to c
+  left_in_unit us c l h =
+      at_number us r.unit (λ p. unit_left low high r.range c p ≡ lines_left l from to c)
+      (left_of_unit c (slice_get us r.unit) l h)
+
+  none_of_unit : (c : LineCursor) (o : Option ContextUnit) → lines_of_unit o ≡ Ok None
+      → unit_left low high r.range c (option_map unit_places o) ≡ []
+  none_of_unit c None h = refl
+  none_of_unit c (Some u) h = absurd (no_lines_of u.lines h)
+
+  none_of_refused : (c : LineCursor) (x : Result Lines Error) (e : Error)
+      → and_then x (λ (l : Lines). Ok (Some l)) ≡ Err e → clipped_left low high r.range c x ≡ []
+  none_of_refused c (Ok l) e h = absurd cc
+  none_of_refused c (Err d) e h = refl
+
+  none_of_refused_unit : (c : LineCursor) (o : Option ContextUnit) (e : Error) → lines_of_unit o ≡ Err e
+      → unit_left low high r.range c (option_map unit_places o) ≡ []
+  none_of_refused_unit c None e h = absurd cc
+  none_of_refused_unit c (Some u) e h = none_of_refused c u.lines e h
+
+  -- none where there is no unit
+  pub none_without_unit : (us : List ContextUnit) (c : LineCursor) → lines_at us r.unit ≡ Ok None
+      → NextInRange us low high (record { range = r; cursor = c }) None
+  none_without_unit us c h =
+      at_number us r.unit (λ p. unit_left low high r.range c p ≡ []) (none_of_unit c (slice_get us r.unit) h)
+
+  -- nor where its lines are refused
+  pub none_where_refused : (us : List ContextUnit) (c : LineCursor) (e : Error) → lines_at us r.unit ≡ Err e
+      → NextInRange us low high (record { range = r; cursor = c }) None
+  none_where_refused us c e h =
+      at_number us r.unit (λ p. unit_left low high r.range c p ≡ [])
+      (none_of_refused_unit c (slice_get us r.unit) e h)
+
+  -- nor after the last row
+  pub none_after_rows : (us : List ContextUnit) (c : LineCursor) (l : Lines) → lines_at us r.unit ≡ Ok (Some l)
+      → lines_left l from to c ≡ [] → NextInRange us low high (record { range = r; cursor = c }) None
+  none_after_rows us c l h none = left_in_unit us c l h ∙ none
+
+  location_in : (x : Result Lines Error) (l : Lines) (s : RowStretch)
+      → and_then x (λ (l : Lines). Ok (Some l)) ≡ Ok (Some l)
+      → location_of_row s.row x ≡ Some (row_location l.files s.row)
+  location_in (Ok m) l s h = let same : m ≡ l = cc in ap (λ (k : Lines). Some (row_location k.files s.row)) same
+  location_in (Err e) l s h = absurd cc
+
+  location_of : (o : Option ContextUnit) (l : Lines) (s : RowStretch) → lines_of_unit o ≡ Ok (Some l)
+      → option_and_then (λ (u : ContextUnit). location_of_row s.row u.lines) o ≡ Some (row_location l.files s.row)
+  location_of None l s h = absurd cc
+  location_of (Some u) l s h = location_in u.lines l s h
+
+  abbrev stretch_in_unit : RowStretch → UnitStretch
+  stretch_in_unit s =
+      record { address = s.address; length = s.length; row = record { unit = r.unit; row = s.row } }
+
+  -- the next row is the next stretch
+  pub next_of_lines : (us : List ContextUnit) (c d : LineCursor) (l : Lines) (s : RowStretch) (t : UnitStretch)
+      → lines_at us r.unit ≡ Ok (Some l) → t ≡ stretch_in_unit s
+      → lines_left l from to c ≡ stretch_of_row l.files s ∷ lines_left l from to d
+      → NextInRange us low high (record { range = r; cursor = c }) (Some (t, record { range = r; cursor = d }))
+  next_of_lines us c d l s t h is first =
+      subst (λ (x : UnitStretch). FirstStretch us x
+      (unit_left low high r.range c (slice_get (map unit_places us) r.unit))
+      (unit_left low high r.range d (slice_get (map unit_places us) r.unit))) (sym is) (
+        stretch_of_row l.files s,
+        record { address = refl; length = refl; location = location_of (slice_get us r.unit) l s h },
+        left_in_unit us c l h ∙ first ∙ ap (λ ts. stretch_of_row l.files s ∷ ts) (sym (left_in_unit us d l h)),
+      )
+
+-- ---- one range after the other
+
+-- before the first range all stretches are left
+pub all_left : (units : List ContextUnit) (low high : ℕ)
+    → stretches_left units (record { low = low; high = high; rows = None; next = 0 })
+    ≡ stretches_between ranges_of lines_of units low high
+all_left units low high =
+    sym (stretches_by_numbers (map unit_places units) low high) ∙ stretches_of_views unit_places units low high
+
+module _ (us : List UnitPlaces) (ranges : List UnitRange) (w : RangeWalk)
+    (none : rows_left us w.low w.high w.rows ≡ []) where
+  -- where the walk's range has none left, those of the next ones are
+  left_after : (rs : List UnitRange) → overlapping_ranges w.low w.high (drop w.next ranges) ≡ rs
+      → walk_left us ranges w ≡ stretches_from us w.low w.high rs
+  left_after rs is =
+      ap (λ ts. prepend ts (stretches_from us w.low w.high (overlapping_ranges w.low w.high (drop w.next ranges)))) none
+      ∙ ap (stretches_from us w.low w.high) is
+
+  pub next_range : (r : UnitRange) (next : ℕ) (rows : Option RangeRows)
+      → overlapping_ranges w.low w.high (drop w.next ranges)
+      ≡ r ∷ overlapping_ranges w.low w.high (drop next ranges)
+      → BeginsRange us w.low w.high r (Ok rows)
+      → walk_left us ranges (record { low = w.low; high = w.high; rows = rows; next = next }) ≡ walk_left us ranges w
+  next_range r next rows is begins =
+      let rest = overlapping_ranges w.low w.high (drop next ranges) in
+      sym (left_after (r ∷ rest) is ∙ begins (stretches_from us w.low w.high rest))
+
+  pub refused_range : (r : UnitRange) (next : ℕ) (e : Error)
+      → overlapping_ranges w.low w.high (drop w.next ranges)
+      ≡ r ∷ overlapping_ranges w.low w.high (drop next ranges)
+      → BeginsRange us w.low w.high r (Err e) → e ≢ Memory → walk_left us ranges w ≡ no_items (Err e)
+  refused_range r next e is refuses other =
+      let rest = overlapping_ranges w.low w.high (drop next ranges) in
+      left_after (r ∷ rest) is ∙ refuses other (stretches_from us w.low w.high rest)
+
+  pub no_range : overlapping_ranges w.low w.high (drop w.next ranges) ≡ [] → walk_left us ranges w ≡ no_items (Ok tt)
+  no_range is = left_after [] is
+
+-- the next stretch of the walk's range is the next of all
+pub first_left : (units : List ContextUnit) (ranges : List UnitRange) (s : UnitStretch) (old new : RangeWalk)
+    → NextOfRows units (Ok (Some s)) old new
+    → FindsStretch units (Ok (Some s)) (walk_left (map unit_places units) ranges old)
+    (walk_left (map unit_places units) ranges new)
+first_left units ranges s old new h =
+    let us = map unit_places units in
+    let moved : RangeWalk = record old { rows = new.rows } in
+    let rest = stretches_from us old.low old.high (overlapping_ranges old.low old.high (drop old.next ranges)) in
+    subst (λ (x : RangeWalk). FindsStretch units (Ok (Some s)) (walk_left us ranges old) (walk_left us ranges x))
+    (sym h.0) (h.1.0, h.1.1, ap (λ ts. prepend ts rest) h.1.2)
