@@ -7,7 +7,7 @@ ghost use Rattle.addr2line_units.specs.LineProgramRuns.{Adds, AddsRows, RunsProg
 
 use addr2line_index::{LinesBuilder, ProgramRow};
 use gimli_lines_rows::{
-    ColumnType, Error, IncompleteLineProgram, LineProgramHeader, LineRow, LineRows, Reader,
+    BorrowedLineProgram, ColumnType, Error, LineProgramHeader, LineRow, LineRows, Reader,
 };
 
 // The number of a row's line; 0 where it has none.
@@ -49,7 +49,7 @@ fn push_row(builder: &mut LinesBuilder, row: &LineRow) -> Result<(), Error>
 // Pushes all rows to come to the builder.
 fn push_rows<R: Reader>(
     builder: &mut LinesBuilder,
-    rows: &mut LineRows<R, IncompleteLineProgram<R>>,
+    rows: &mut LineRows<R, BorrowedLineProgram<'_, R>>,
 ) -> Result<(), Error>
     ensures { AddsRows R.Offset.limit result rows.old rows.new builder.old builder.new }
 {
@@ -62,13 +62,13 @@ fn push_rows<R: Reader>(
 // Runs a program to its end and pushes its rows to the builder. What is left of the rows has the
 // header with the files that the program has defined. Refused by the program's fault, or when out
 // of memory.
-pub(crate) fn run_program<R: Reader>(
+pub(crate) fn run_program<'header, R: Reader>(
     builder: &mut LinesBuilder,
-    header: LineProgramHeader<R>,
-) -> Result<LineRows<R, IncompleteLineProgram<R>>, Error>
-    ensures { RunsProgram R.Offset.limit result header builder.old builder.new }
+    header: &'header LineProgramHeader<R>,
+) -> Result<LineRows<R, BorrowedLineProgram<'header, R>>, Error>
+    ensures { RunsProgram R.Offset.limit result header.now builder.old builder.new }
 {
-    let mut rows = IncompleteLineProgram::new(header).rows()?;
+    let mut rows = BorrowedLineProgram::new(header).rows()?;
     push_rows(builder, &mut rows)?;
     Ok(rows)
 }

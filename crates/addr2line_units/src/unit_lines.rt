@@ -75,8 +75,8 @@ impl UnitLines {
     /// Runs the line number program of a unit, and counts that (DWARF 5, 6.2). Its lines are the
     /// sequences of the program, and the texts of its files by their numbers; none where the unit
     /// has no program. Refused is a program by its fault, else by the first of its files whose text
-    /// can't be read. Takes memory for a second header, to which the program adds files, for the
-    /// rows and for the texts.
+    /// can't be read. Takes memory for the rows and for the texts, and where the program defines
+    /// files for a second header that has them too.
     pub fn run<R: Reader>(
         alloc: Global,
         unit: &UnitRef<'_, R>,
@@ -167,10 +167,10 @@ fn index_to_keep(
 fn lines_of_program<R: Reader>(
     alloc: Global,
     unit: &UnitRef<'_, R>,
-    header: LineProgramHeader<R>,
+    header: &LineProgramHeader<R>,
 ) -> Result<Lines, Error>
     ensures { ReturnsOrNoMemory result
-        (lines_of_program unit.now header) }
+        (lines_of_program unit.now header.now) }
 {
     // (shows the prover what a unit's model says of its file)
     let _ = &unit.dwarf;
@@ -186,7 +186,7 @@ fn lines_of_unit<R: Reader>(alloc: Global, unit: &UnitRef<'_, R>) -> Result<Line
 {
     let facts = unit.unit;
     match &facts.line_program {
-        Some(header) => lines_of_program(alloc, unit, header.copy()?),
+        Some(header) => lines_of_program(alloc, unit, header),
         None => Ok(Lines::new(alloc)),
     }
 }

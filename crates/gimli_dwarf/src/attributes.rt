@@ -21,8 +21,12 @@ impl<R: Reader> Dwarf<R> {
     /// `.debug_str`; else `ExpectedStringAttributeValue`. Takes memory only where a copy of the
     /// reader does.
     pub fn attr_string(&self, unit: &Unit<R>, attr: AttributeValue<R>) -> Result<R, Error>
-        ensures { ReturnsAsOrNoMemory R.view result
+        ensures value { ReturnsAsOrNoMemory R.view result
             (attr_string self.now.file unit.now.bases
+            (raw_value_of R.view R.Offset.count attr)) }
+        // Where copies take no memory, this takes none.
+        ensures free { IsTrue R.copies_freely
+            → ReturnsAs R.view result (attr_string self.now.file unit.now.bases
             (raw_value_of R.view R.Offset.count attr)) }
     {
         match attr {

@@ -110,8 +110,9 @@ impl<R: Reader> Model for Dwarf<R> {
 impl<R: Reader> Dwarf<R> {
     /// The string at an offset of `.debug_str`. Takes memory only where a copy of the reader does.
     pub fn string(&self, offset: DebugStrOffset<R::Offset>) -> Result<R, Error>
-        ensures { ReturnsAsOrNoMemory R.view result
+        ensures value { ReturnsAsOrNoMemory R.view result
             (string_at (R.Offset.count offset.0) self.now.file.sections.debug_str) }
+        ensures free { IsTrue R.copies_freely → result ≢ Err Memory }
     {
         self.debug_str.get_str(offset)
     }
@@ -119,8 +120,9 @@ impl<R: Reader> Dwarf<R> {
     // The string at an offset of the supplement's `.debug_str`; `ExpectedStringAttributeValue`
     // where there is no supplement.
     pub(crate) fn supplement_string(&self, offset: DebugStrOffset<R::Offset>) -> Result<R, Error>
-        ensures { ReturnsAsOrNoMemory R.view result
+        ensures value { ReturnsAsOrNoMemory R.view result
             (supplement_string (R.Offset.count offset.0) (supplement self.now.file)) }
+        ensures free { IsTrue R.copies_freely → result ≢ Err Memory }
     {
         match &self.sup {
             Some(sup) => sup.string(offset),

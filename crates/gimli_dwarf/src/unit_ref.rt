@@ -1,9 +1,10 @@
 //! A unit with the sections of its file.
 
-ghost use Rattle.std.specs.Prelude.{◌≡◌, option_map};
+ghost use Rattle.std.specs.Prelude.{◌≡◌, ◌≢◌, IsTrue, option_map, Err};
 ghost use Rattle.gimli_dwarf_spec.specs.EntryViews.{entry_of};
 ghost use Rattle.gimli_dwarf_spec.specs.UnitFacts.{in_file, root};
 ghost use Rattle.gimli_dwarf_spec.specs.Calls.{ReturnsAs, Returns, ReturnsAsOrNoMemory, ReturnsOrNoMemory};
+ghost use Rattle.gimli_dwarf_spec.specs.Error.TheVariants.{Memory};
 ghost use Rattle.gimli_dwarf_spec.specs.AttributeValues.{raw_value_of};
 ghost use Rattle.gimli_dwarf_spec.specs.UnitEntries.{walk_from};
 ghost use Rattle.gimli_dwarf_spec.specs.Attributes.{attr_string, indexed_address, attr_ranges_offset, ranges};
@@ -61,19 +62,24 @@ impl<'a, R: Reader> UnitRef<'a, R> {
         self.dwarf.address(self.unit, index)
     }
 
-    /// The text that a value of one of the unit's attributes stands for.
+    /// The text that a value of one of the unit's attributes stands for. Takes memory only where a
+    /// copy of the reader does.
     pub fn attr_string(&self, attr: AttributeValue<R>) -> Result<R, Error>
-        ensures { ReturnsAsOrNoMemory R.view result
+        ensures value { ReturnsAsOrNoMemory R.view result
             (attr_string self.now.file self.now.facts.bases
+            (raw_value_of R.view R.Offset.count attr)) }
+        ensures free { IsTrue R.copies_freely
+            → ReturnsAs R.view result (attr_string self.now.file self.now.facts.bases
             (raw_value_of R.view R.Offset.count attr)) }
     {
         self.dwarf.attr_string(self.unit, attr)
     }
 
-    /// The ranges of the list at an offset.
+    /// The ranges of the list at an offset. Takes memory only where copies of readers do.
     pub fn ranges(&self, offset: RangeListsOffset<R::Offset>) -> Result<RngListIter<R>, Error>
         ensures value { ReturnsOrNoMemory result
             (ranges self.now.file self.now.facts.bases (R.Offset.count offset.0)) }
+        ensures free { IsTrue R.copies_freely → result ≢ Err Memory }
         // Offsets in the list are the file's.
         ensures limit { self.now.file.offset_limit ≡ R.Offset.limit }
     {
@@ -94,7 +100,7 @@ impl<'a, R: Reader> UnitRef<'a, R> {
     }
 
     /// The walk over the unit's entries from an offset on, which must be among them, or over all of
-    /// them.
+    /// them. Takes memory only where a copy of the reader does.
     pub fn entries_raw(
         &self,
         offset: Option<UnitOffset<R::Offset>>,
@@ -102,6 +108,7 @@ impl<'a, R: Reader> UnitRef<'a, R> {
         ensures value { ReturnsOrNoMemory result
             (walk_from self.now.facts.header self.now.facts.table
             (option_map (λ o. R.Offset.count o.0) offset)) }
+        ensures free { IsTrue R.copies_freely → result ≢ Err Memory }
         // Offsets in the walk are the file's.
         ensures limit { self.now.file.offset_limit ≡ R.Offset.limit }
     {

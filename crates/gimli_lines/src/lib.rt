@@ -3,9 +3,9 @@
 #![tactic(auto)]
 
 pub use gimli_lines_rows::{
-    ColumnType, CompleteLineProgram, DebugLine, FileEntry, FileEntryFormat, IncompleteLineProgram,
-    LineInstruction, LineInstructions, LineProgram, LineProgramHeader, LinePrograms, LineRow,
-    LineRows, LineRules, LineSequence, ProgramInstructions,
+    BorrowedLineProgram, ColumnType, CompleteLineProgram, DebugLine, FileEntry, FileEntryFormat,
+    IncompleteLineProgram, LineInstruction, LineInstructions, LineProgram, LineProgramHeader,
+    LinePrograms, LineRow, LineRows, LineRules, LineSequence, ProgramInstructions,
 };
 
 /// Line number programs as they are built and written.

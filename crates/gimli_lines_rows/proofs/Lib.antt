@@ -7,3 +7,4 @@ pub mod RowPaths
 pub mod ResumedRows
 pub mod StepsAtOnce
 pub mod SequenceLoops
+pub mod FileDefinitions

@@ -1,8 +1,10 @@
 -- The bytes of `count` operands: how a loop that reads them goes on.
 use Rattle.std.proofs.Common.{◌≡◌, ◌^◌, ℕ, suc, ◌+◌, ◌-◌, ◌<◌, ◌≤◌, Bool, true, false, cond, List, [], ◌∷◌, ◌++◌, length, Result, Ok, Err, refl, sym, ap, subst, ◌∙◌, arith, length-drop, nat_lt}
 use Rattle.std.proofs.lemmas.Bool.{le-ltb}
+use Rattle.std.specs.Result.{IsErrAnd}
 use Rattle.gimli_lines_machine.specs.Error.{Error}
 use Rattle.gimli_lines_machine.specs.Error.TheVariants.{BadUnsignedLeb128}
+use Rattle.gimli_lines_machine.specs.Calls.{ReturnsAs}
 use Rattle.gimli_lines_machine.specs.View.{View, after, prefix, bytes_left, unexpected_end}
 use Rattle.gimli_lines_machine.specs.Parsers.{proceed, give, truncate}
 use Rattle.gimli_lines_machine.specs.Repetition.{times}
@@ -137,3 +139,12 @@ truncated_not_refused start v operands n d same h at e =
   where
     no_refusal : step_result (prefix (v.first - start.first) start) ≡ Err d → ⊥
     no_refusal k = cc
+
+-- a refusal of the meaning that is handed on
+pub refused_as : {A B : Type 0} (see : A → B) (r : Result A Error) (meaning : Result B Error) (d : Error)
+    → IsErrAnd r (λ e. e ≡ d) → meaning ≡ Err d → ReturnsAs see r meaning
+refused_as see (Ok x) meaning d h e = absurd h
+refused_as {B = B} see (Err x) meaning d h e = e ∙ ap (λ (y : Error). refusal y) (sym h)
+  where
+    refusal : Error → Result B Error
+    refusal y = Err y

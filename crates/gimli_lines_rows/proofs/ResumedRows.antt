@@ -1,5 +1,5 @@
 -- Rows of a path, given again by a reader of the bytes that the path took, whatever files its header has.
-use Rattle.std.proofs.Common.{◌≡◌, ◌≢◌, ℕ, ◌+◌, ◌-◌, ◌<◌, ◌≤◌, Bool, true, false, cond, eqb, ◌&&◌, List, [], ◌∷◌, ◌++◌, map, length, take, Option, Some, None, Result, Ok, refl, sym, ap, ◌∙◌, arith, length-drop}
+use Rattle.std.proofs.Common.{◌≡◌, ◌≢◌, ℕ, ◌+◌, ◌-◌, ◌<◌, ◌≤◌, inl, inr, Bool, true, false, cond, eqb, ◌&&◌, List, [], ◌∷◌, ◌++◌, map, length, take, Option, Some, None, Result, Ok, refl, sym, ap, ◌∙◌, arith, length-drop}
 use Rattle.std.proofs.lemmas.List.{length-take}
 use Rattle.std.proofs.lemmas.Bool.{ne_eqb}
 use Rattle.gimli_lines_machine.specs.Error.{Error}
@@ -17,7 +17,7 @@ use Rattle.gimli_lines_machine.specs.Decoding.{instruction_with}
 use Rattle.gimli_lines_machine.proofs.CutBytes.{after_after, after_front, after_zero}
 use Rattle.gimli_lines_machine.proofs.CutInstructions.{cut-instruction}
 use Rattle.gimli_lines_rows.specs.ProgramInstructions.{rules_of, instruction_in, next_instruction}
-use Rattle.gimli_lines_rows.specs.ProgramRows.{Row, RemainingRows, header_after, header_with, rows_to_come, is_shown_by, state_after, next_step, Path, stays, shows, passes}
+use Rattle.gimli_lines_rows.specs.ProgramRows.{Row, RemainingRows, TakesNoFile, header_after, header_with, rows_to_come, is_shown_by, state_after, next_step, Path, stays, shows, passes}
 use Rattle.gimli_lines_rows.specs.RowSequences.{registers_of, row_under}
 use Rattle.gimli_lines_rows.proofs.LineRowSteps.{StepsTo, step_parts, step_smaller, come_after, come_nothing, row_first}
 
@@ -203,6 +203,15 @@ path_rules {limit} (shows s t u rows e p) =
     let a = step_rules limit s true t (step_parts limit s true t e) in let b = path_rules p in (b.0 ∙ a.0, b.1 ∙ a.1)
 path_rules {limit} (passes s t u rows e p) =
     let a = step_rules limit s false t (step_parts limit s false t e) in let b = path_rules p in (b.0 ∙ a.0, b.1 ∙ a.1)
+
+-- on the way still no file is taken
+pub path_takes_no_file : {limit : ℕ} {s u : RemainingRows} {rows : List Row} (takes_files : Bool)
+    → Path limit s rows u → TakesNoFile takes_files s.header → TakesNoFile takes_files u.header
+path_takes_no_file takes_files p (inl is) = inl is
+path_takes_no_file {s = s} {u = u} takes_files p (inr new) =
+    let same : u.header.encoding.version ≡ s.header.encoding.version =
+    ap (λ (rules : LineRules). rules.encoding.version) (path_rules p).0 in
+    inr (omega arith)
 
 last_row_of : (limit : ℕ) (s t : RemainingRows) → (p : StepsTo limit s true t) → p.after ≡ t.last
 last_row_of limit s t p =

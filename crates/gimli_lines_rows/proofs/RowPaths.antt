@@ -1,5 +1,5 @@
 -- Paths from one state to another, and what is to come on them.
-use Rattle.std.proofs.Common.{◌≡◌, ℕ, Bool, true, false, List, [], ◌∷◌, ◌++◌, map, Option, Some, None, Result, Ok, Err, refl, sym, ap, subst, ◌∙◌}
+use Rattle.std.proofs.Common.{◌≡◌, ℕ, Bool, true, false, List, [], ◌∷◌, ◌++◌, map, Option, Some, None, Result, Ok, Err, IfErr, refl, sym, ap, subst, ◌∙◌}
 use Rattle.std.specs.Result.{IsErrAnd}
 use Rattle.gimli_lines_machine.specs.Error.{Error}
 use Rattle.gimli_lines_machine.specs.Repetition.{answer}
@@ -49,6 +49,13 @@ next_refused limit (Err e) old mid new d h p one = (
       )),
   (λ is. ap (rows_to_come limit) (one.1 (sym h ∙ is)) ∙ sym (path_comes p)),
 )
+
+-- and that was the fault of an instruction
+pub next_fault : (limit : ℕ) (r : Result Bool Error) (old mid : RemainingRows) (d : Error) → IsErrAnd r (λ e. e ≡ d)
+    → Path limit old [] mid → next_step limit mid ≡ Err d → IfErr r (λ e. rows_to_come limit old ≡ Err e ∷ [])
+next_fault limit (Ok x) old mid d h p fault = absurd h
+next_fault limit (Err e) old mid d h p fault =
+    path_comes p ∙ step_fault limit mid d fault ∙ ap (λ (x : Error). Err x ∷ []) (sym h)
 
 -- there was no further instruction
 pub next_none : (limit : ℕ) (old mid new : RemainingRows) → Path limit old [] mid → next_step limit mid ≡ Ok (None, new)

@@ -1,6 +1,6 @@
 -- The rows of a line number program (DWARF 5, 6.2), each with the header that holds the files known
 -- by then.
-use Rattle.std.specs.Prelude.{◌≡◌, ◌≢◌, ℕ, Bool, ◌&&◌, not, List, [], ◌∷◌, ◌++◌, map, Option, Some, None, Result, Ok, Err, true, false, MatchBool, if◌then◌else◌}
+use Rattle.std.specs.Prelude.{◌≡◌, ◌≢◌, ◌≤◌, ◌⊎◌, ℕ, Bool, ◌&&◌, not, List, [], ◌∷◌, ◌++◌, map, Option, Some, None, Result, Ok, Err, true, false, MatchBool, if◌then◌else◌}
 use Rattle.gimli_lines_machine.specs.Error.{Error}
 use Rattle.gimli_lines_machine.specs.Error.TheVariants.{Memory}
 use Rattle.gimli_lines_machine.specs.View.{View, prefix}
@@ -31,6 +31,16 @@ header_with_any takes_files None h = h
 abbrev pub header_after : Bool → InstructionOf FileFacts → LineHeader → LineHeader
 header_after takes_files (define_file file) h = header_with takes_files file h
 header_after takes_files _ h = h
+
+-- no file of an instruction is taken
+abbrev pub TakesNoFileOf : Bool → InstructionOf FileFacts → Type 0
+TakesNoFileOf takes_files (define_file file) = takes_files ≡ false
+TakesNoFileOf takes_files _ = Unit {0}
+
+-- No file is taken while a program runs: it takes none, or no instruction defines one, as from
+-- version 5 on (DWARF 5, 6.2.5.3).
+abbrev pub TakesNoFile : Bool → LineHeader → Type 0
+TakesNoFile takes_files h = (takes_files ≡ false) ⊎ (5 ≤ h.encoding.version)
 
 -- a row, where one is shown
 abbrev pub row_of_execution : LineHeader → Execution FileFacts → List Row

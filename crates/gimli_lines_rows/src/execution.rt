@@ -1,11 +1,11 @@
 //! How an instruction is executed.
 
-ghost use Rattle.std.specs.Prelude.{◌≡◌};
+ghost use Rattle.std.specs.Prelude.{◌≡◌, IfErr, Err};
 ghost use Rattle.gimli_lines_header.specs.LineHeaders.{LineHeader};
 ghost use Rattle.gimli_lines_rows.specs.ProgramInstructions.{rules_of};
 ghost use Rattle.gimli_lines_rows.specs.InstructionViews.{line_instruction};
 ghost use Rattle.gimli_lines_machine.specs.Machine.{registers_after, IsSound};
-ghost use Rattle.gimli_lines_rows.specs.ProgramRows.{Executes, HeaderAfter};
+ghost use Rattle.gimli_lines_rows.specs.ProgramRows.{Executes, HeaderAfter, TakesNoFileOf};
 
 use crate::LineInstruction;
 use crate::numeric::{NumericInstruction, execute_numeric};
@@ -37,6 +37,9 @@ pub(crate) fn execute<R: Reader, P: LineProgram<R>>(
         registers.old) (line_instruction R.view instruction) }
     ensures header { HeaderAfter result P.takes_files (line_instruction R.view instruction)
         (P.header_of program.old) (P.header_of program.new) }
+    ensures free { TakesNoFileOf P.takes_files (line_instruction R.view instruction)
+        → IfErr result (λ e. registers_after (rules_of (P.header_of program.old))
+        (line_instruction R.view instruction) registers.old ≡ Err e) }
 {
     let numeric = match instruction {
         LineInstruction::Special(opcode) => NumericInstruction::Special(opcode),

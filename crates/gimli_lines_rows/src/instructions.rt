@@ -1,7 +1,7 @@
 //! The instructions of a program, one after the other.
 
-ghost use Rattle.std.specs.Prelude.{◌≡◌, ◌-◌, ◌≤◌, ◌≢◌, IsTrue, IfSome, Ok, Err, option_map};
-ghost use Rattle.gimli_lines_machine.specs.Calls.{ReturnsAsOrNoMemory, ReturnsOrNoMemory};
+ghost use Rattle.std.specs.Prelude.{◌≡◌, ◌-◌, ◌≤◌, ◌≢◌, IsTrue, IfErr, IfSome, Ok, Err, option_map};
+ghost use Rattle.gimli_lines_machine.specs.Calls.{Returns, ReturnsAs, ReturnsAsOrNoMemory, ReturnsOrNoMemory};
 ghost use Rattle.gimli_lines_machine.specs.View.{View, after, prefix, bytes_left};
 ghost use Rattle.gimli_lines_machine.specs.Error.TheVariants.{Memory};
 ghost use Rattle.gimli_lines_machine.specs.Readers.{Holds};
@@ -81,7 +81,11 @@ impl<R: Reader> LineInstructions<R> {
         &self,
         header: &LineProgramHeader<R>,
     ) -> Result<Option<(LineInstruction<R>, LineInstructions<R>)>, Error>
-        ensures { ReturnsAsOrNoMemory (option_map (λ p. (line_instruction R.view p.0, p.1))) result
+        ensures value { ReturnsAsOrNoMemory
+            (option_map (λ p. (line_instruction R.view p.0, p.1))) result
+            (with_rest (next_instruction R.Offset.limit header.now self.now)) }
+        ensures free { IsTrue R.copies_freely
+            → ReturnsAs (option_map (λ p. (line_instruction R.view p.0, p.1))) result
             (with_rest (next_instruction R.Offset.limit header.now self.now)) }
     {
         if self.input.is_empty() {
@@ -92,10 +96,10 @@ impl<R: Reader> LineInstructions<R> {
         Ok(Some((instruction, LineInstructions { input })))
     }
 
-    /// The instructions before others, which are the last of these.
+    /// The instructions before others, which are the last of these. Never refused.
     pub fn up_to(self, rest: &LineInstructions<R>) -> Result<Self, Error>
         requires { Holds self rest.now }
-        ensures { ReturnsOrNoMemory result (Ok (prefix (rest.now.first - self.first) self)) }
+        ensures { Returns result (Ok (prefix (rest.now.first - self.first) self)) }
     {
         let LineInstructions { mut input } = self;
         let len = rest.input.offset_from(&input);
@@ -103,9 +107,10 @@ impl<R: Reader> LineInstructions<R> {
         Ok(LineInstructions { input })
     }
 
-    /// A second iterator at the same place.
+    /// A second iterator at the same place. Takes memory only where a copy of the reader does.
     pub fn copy(&self) -> Result<Self, Error>
-        ensures { ReturnsOrNoMemory result (Ok self.now) }
+        ensures value { ReturnsOrNoMemory result (Ok self.now) }
+        ensures free { IsTrue R.copies_freely → result ≢ Err Memory }
     {
         Ok(LineInstructions::new(self.input.copy()?))
     }
@@ -117,8 +122,10 @@ impl<R: Reader> LineInstructions<R> {
         &mut self,
         header: &LineProgramHeader<R>,
     ) -> Result<Option<LineInstruction<R>>, Error>
-        ensures { ReadsAsOrEndsOrNoMemory (option_map (line_instruction R.view)) result self.old
-            self.new (next_instruction R.Offset.limit header.now self.old) }
+        ensures value { ReadsAsOrEndsOrNoMemory (option_map (line_instruction R.view)) result
+            self.old self.new (next_instruction R.Offset.limit header.now self.old) }
+        ensures free { IsTrue R.copies_freely
+            → IfErr result (λ e. next_instruction R.Offset.limit header.now self.old ≡ Err e) }
     {
         match self.peek(header) {
             Some((instruction, len)) => {
@@ -135,8 +142,10 @@ impl<R: Reader> LineInstructions<R> {
         &mut self,
         header: &LineProgramHeader<R>,
     ) -> Result<Option<LineInstruction<R>>, Error>
-        ensures { ReadsAsOrEndsOrNoMemory (option_map (line_instruction R.view)) result self.old
-            self.new (next_instruction R.Offset.limit header.now self.old) }
+        ensures value { ReadsAsOrEndsOrNoMemory (option_map (line_instruction R.view)) result
+            self.old self.new (next_instruction R.Offset.limit header.now self.old) }
+        ensures free { IsTrue R.copies_freely
+            → IfErr result (λ e. next_instruction R.Offset.limit header.now self.old ≡ Err e) }
     {
         match self.read_next(header) {
             Ok(None) => Ok(None),
@@ -160,7 +169,8 @@ pub trait ProgramInstructions<R: Reader> {
 
     /// The instructions of the program. Takes memory only where a copy of the reader does.
     fn instructions(&self) -> Result<LineInstructions<R>, Error>
-        ensures { ReturnsOrNoMemory result (Ok (program self.now)) };
+        ensures value { ReturnsOrNoMemory result (Ok (program self.now)) }
+        ensures free { IsTrue R.copies_freely → result ≢ Err Memory };
 }
 
 impl<R: Reader> ProgramInstructions<R> for LineProgramHeader<R> {

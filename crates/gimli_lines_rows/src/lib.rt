@@ -28,7 +28,9 @@ pub use gimli_lines_machine::{
 };
 pub use instruction::LineInstruction;
 pub use instructions::{LineInstructions, ProgramInstructions};
-pub use program::{CompleteLineProgram, IncompleteLineProgram, LineProgram, LinePrograms};
+pub use program::{
+    BorrowedLineProgram, CompleteLineProgram, IncompleteLineProgram, LineProgram, LinePrograms,
+};
 pub use row::{ColumnType, LineRow};
 pub use rows::LineRows;
 pub use sequence::LineSequence;

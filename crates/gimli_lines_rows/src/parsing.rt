@@ -1,7 +1,7 @@
 //! How an instruction is read.
 
-ghost use Rattle.std.specs.Prelude.{◌≡◌, ◌<◌, ◌-◌, ◌≤◌, slice_index, IfOk, IfSome, Ok};
-ghost use Rattle.gimli_lines_machine.specs.Calls.{ReturnsAsOrNoMemory};
+ghost use Rattle.std.specs.Prelude.{◌≡◌, ◌<◌, ◌-◌, ◌≤◌, slice_index, IfOk, IfSome, IsTrue, Ok};
+ghost use Rattle.gimli_lines_machine.specs.Calls.{ReturnsAs, ReturnsAsOrNoMemory};
 ghost use Rattle.gimli_lines_machine.specs.View.{after, bytes_left};
 ghost use Rattle.gimli_lines_machine.specs.Parsers.{value_of};
 ghost use Rattle.gimli_lines_machine.specs.Repetition.{times};
@@ -176,7 +176,10 @@ pub(crate) fn parse_instruction<R: Reader>(
     input: &mut R,
     header: &LineProgramHeader<R>,
 ) -> Result<LineInstruction<R>, Error>
-    ensures { ReturnsAsOrNoMemory (λ i. (line_instruction R.view i, R.view input.new)) result
+    ensures value { ReturnsAsOrNoMemory (λ i. (line_instruction R.view i, R.view input.new)) result
+        (instruction_in R.Offset.limit header.now (R.view input.old)) }
+    ensures free { IsTrue R.copies_freely
+        → ReturnsAs (λ i. (line_instruction R.view i, R.view input.new)) result
         (instruction_in R.Offset.limit header.now (R.view input.old)) }
 {
     let opcode = input.read_u8()?;
@@ -197,7 +200,10 @@ fn parse_standard<R: Reader>(
     opcode: u8,
 ) -> Result<LineInstruction<R>, Error>
     requires { 0 < opcode }
-    ensures { ReturnsAsOrNoMemory (λ i. (line_instruction R.view i, R.view input.new)) result
+    ensures value { ReturnsAsOrNoMemory (λ i. (line_instruction R.view i, R.view input.new)) result
+        (standard_instruction header.now.standard_opcode_lengths.bytes opcode (R.view input.old)) }
+    ensures free { IsTrue R.copies_freely
+        → ReturnsAs (λ i. (line_instruction R.view i, R.view input.new)) result
         (standard_instruction header.now.standard_opcode_lengths.bytes opcode (R.view input.old)) }
 {
     let counts = header.standard_opcode_lengths().as_bytes();
@@ -210,7 +216,10 @@ fn parse_standard<R: Reader>(
 
 // The bytes of `count` operands.
 fn split_operands<R: Reader>(input: &mut R, count: u8) -> Result<R, Error>
-    ensures { ReturnsAsOrNoMemory (λ operands. (R.view operands, R.view input.new)) result
+    ensures value { ReturnsAsOrNoMemory (λ operands. (R.view operands, R.view input.new)) result
+        (span_of (times count unsigned) (R.view input.old)) }
+    ensures free { IsTrue R.copies_freely
+        → ReturnsAs (λ operands. (R.view operands, R.view input.new)) result
         (span_of (times count unsigned) (R.view input.old)) }
 {
     let mut operands = input.copy()?;
@@ -228,7 +237,10 @@ fn parse_extended<R: Reader>(
     input: &mut R,
     header: &LineProgramHeader<R>,
 ) -> Result<LineInstruction<R>, Error>
-    ensures { ReturnsAsOrNoMemory (λ i. (line_instruction R.view i, R.view input.new)) result
+    ensures value { ReturnsAsOrNoMemory (λ i. (line_instruction R.view i, R.view input.new)) result
+        (extended_instruction file_in R.Offset.limit (rules_of header.now) (R.view input.old)) }
+    ensures free { IsTrue R.copies_freely
+        → ReturnsAs (λ i. (line_instruction R.view i, R.view input.new)) result
         (extended_instruction file_in R.Offset.limit (rules_of header.now) (R.view input.old)) }
 {
     let length = R::Offset::from_u64(input.read_uleb128()?)?;
@@ -242,7 +254,10 @@ fn parse_extended_in<R: Reader>(
     mut bytes: R,
     header: &LineProgramHeader<R>,
 ) -> Result<LineInstruction<R>, Error>
-    ensures { ReturnsAsOrNoMemory (line_instruction R.view) result
+    ensures value { ReturnsAsOrNoMemory (line_instruction R.view) result
+        (value_of (extended_in file_in (rules_of header.now) (R.view bytes))) }
+    ensures free { IsTrue R.copies_freely
+        → ReturnsAs (line_instruction R.view) result
         (value_of (extended_in file_in (rules_of header.now) (R.view bytes))) }
 {
     let opcode = DwLne(bytes.read_u8()?);

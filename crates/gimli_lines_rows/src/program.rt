@@ -1,6 +1,6 @@
 //! Programs whose rows are read.
 
-ghost use Rattle.std.specs.Prelude.{◌≡◌, Bool, OnOk, IfErr, IsTrue, option_map, true, false, Ok};
+ghost use Rattle.std.specs.Prelude.{◌≡◌, ◌≢◌, Bool, OnOk, IfOk, IfErr, IsOk, IsTrue, option_map, true, false, Ok, Err};
 ghost use Rattle.gimli_lines_machine.specs.Calls.{ReturnsOrNoMemory};
 ghost use Rattle.gimli_lines_machine.specs.Error.TheVariants.{Memory};
 ghost use Rattle.gimli_lines_machine.specs.View.{View};
@@ -77,7 +77,8 @@ pub trait LineProgram<R: Reader> {
         ensures ok { OnOk result (header_of self.new ≡ header_with_any takes_files file.old
             (header_of self.old)) }
         ensures err { IfErr result
-            (λ e. (e ≡ Memory) × (header_of self.new ≡ header_of self.old)) };
+            (λ e. (e ≡ Memory) × (header_of self.new ≡ header_of self.old)) }
+        ensures free { takes_files ≡ false → IsOk result };
 
     /// Takes a file that an instruction defines. Refused, the header is unchanged.
     final fn add_file(&mut self, file: FileEntry<R>) -> Result<(), Error>
@@ -85,6 +86,7 @@ pub trait LineProgram<R: Reader> {
             ≡ header_with takes_files file (header_of self.old)) }
         ensures err { IfErr result (λ e. (e ≡ Memory)
             × (header_of self.new ≡ header_of self.old)) }
+        ensures free { takes_files ≡ false → IsOk result }
     {
         self.take_file(&mut Some(file))
     }
@@ -148,7 +150,8 @@ impl<R: Reader> IncompleteLineProgram<R> {
 
     /// The rows, from the first on. Takes memory only where a copy of the reader does.
     pub fn rows(self) -> Result<LineRows<R, IncompleteLineProgram<R>>, Error>
-        ensures { ReturnsOrNoMemory result (Ok (program_rows self)) }
+        ensures value { ReturnsOrNoMemory result (Ok (program_rows self)) }
+        ensures free { IsTrue R.copies_freely → result ≢ Err Memory }
     {
         LineRows::new(self)
     }
@@ -177,6 +180,83 @@ impl<R: Reader> IncompleteLineProgram<R> {
     {
         let IncompleteLineProgram { header } = self;
         CompleteLineProgram { header }
+    }
+}
+
+/// A program of a borrowed header. Its rows are read without a copy of the header: the first file
+/// that an instruction defines, which few programs have, makes one.
+pub struct BorrowedLineProgram<'header, R: Reader> {
+    header: &'header LineProgramHeader<R>,
+    // The copy, with the files that were added.
+    copy: Option<LineProgramHeader<R>>,
+}
+
+impl<R: Reader> Drop for BorrowedLineProgram<'_, R> {
+    fn drop(self) {
+        let BorrowedLineProgram { header: _, copy: _ } = self;
+    }
+}
+
+impl<'header, R: Reader> Model for BorrowedLineProgram<'header, R> {
+    ghost use Rattle.std.specs.Option.{unwrap_or};
+    ghost use Rattle.gimli_lines_header.specs.LineHeaders.{LineHeader};
+
+    ghost Value = { LineHeader };
+
+    ghost view = { λ p. unwrap_or p.copy p.header.now };
+}
+
+impl<R: Reader> LineProgram<R> for BorrowedLineProgram<'_, R> {
+    ghost header_of = { λ p. p };
+
+    ghost takes_files = { true };
+
+    fn header(&self) -> &LineProgramHeader<R> {
+        match &self.copy {
+            Some(header) => header,
+            None => self.header,
+        }
+    }
+
+    fn take_file(&mut self, file: &mut Option<FileEntry<R>>) -> Result<(), Error> {
+        let Some(file) = file.take() else {
+            return Ok(());
+        };
+        if let Some(header) = &mut self.copy {
+            return header.add_file(file);
+        }
+        let mut header = copy_of(self.header)?;
+        header.add_file(file)?;
+        self.copy = Some(header);
+        Ok(())
+    }
+}
+
+// A copy of a header. The only refusal is out of memory.
+fn copy_of<R: Reader>(header: &LineProgramHeader<R>) -> Result<LineProgramHeader<R>, Error>
+    ensures value { IfOk result (λ copy. copy ≡ header.now) }
+    ensures refusal { IfErr result (λ e. e ≡ Memory) }
+{
+    match header.copy() {
+        Ok(copy) => Ok(copy),
+        Err(_) => Err(Error::Memory),
+    }
+}
+
+impl<'header, R: Reader> BorrowedLineProgram<'header, R> {
+    /// The program of a header.
+    pub fn new(header: &'header LineProgramHeader<R>) -> Self
+        ensures { result ≡ header.now }
+    {
+        BorrowedLineProgram { header, copy: None }
+    }
+
+    /// The rows, from the first on. Takes memory only where a copy of the reader does.
+    pub fn rows(self) -> Result<LineRows<R, BorrowedLineProgram<'header, R>>, Error>
+        ensures value { ReturnsOrNoMemory result (Ok (program_rows self.entry)) }
+        ensures free { IsTrue R.copies_freely → result ≢ Err Memory }
+    {
+        LineRows::new(self)
     }
 }
 
@@ -213,6 +293,7 @@ impl<R: Reader> LineProgram<R> for &CompleteLineProgram<R> {
     fn take_file(&mut self, _file: &mut Option<FileEntry<R>>) -> Result<(), Error>
         ensures ok { OnOk result (self.new.now ≡ header_with_any false _file.old self.old.now) }
         ensures err { IfErr result (λ e. (e ≡ Memory) × (self.new.now ≡ self.old.now)) }
+        ensures free { IsOk result }
     {
         Ok(())
     }
@@ -225,7 +306,9 @@ impl<R: Reader> CompleteLineProgram<R> {
         &self,
         sequence: &LineSequence<R>,
     ) -> Result<LineRows<R, &CompleteLineProgram<R>>, Error>
-        ensures { ReturnsOrNoMemory result (Ok (sequence_rows self.now sequence.now.instructions)) }
+        ensures value { ReturnsOrNoMemory result
+            (Ok (sequence_rows self.now sequence.now.instructions)) }
+        ensures free { IsTrue R.copies_freely → result ≢ Err Memory }
     {
         Ok(LineRows::over(self, sequence.instructions().copy()?))
     }

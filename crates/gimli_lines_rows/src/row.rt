@@ -1,13 +1,13 @@
 //! A row of the line number table.
 
-ghost use Rattle.std.specs.Prelude.{◌≡◌, option_map, MatchOption};
+ghost use Rattle.std.specs.Prelude.{◌≡◌, option_map, MatchOption, IfErr, Err};
 ghost use Rattle.std.specs.Int.NonZero.{non_zero_u64_get};
 ghost use Rattle.gimli_lines_header.specs.LineHeaders.{file_at};
 ghost use Rattle.gimli_lines_rows.specs.ProgramInstructions.{rules_of};
 ghost use Rattle.gimli_lines_rows.specs.InstructionViews.{line_instruction};
 ghost use Rattle.gimli_lines_machine.specs.Machine.{start, registers_after, after_row};
 ghost use Rattle.gimli_lines_rows.specs.Columns.{column_number};
-ghost use Rattle.gimli_lines_rows.specs.ProgramRows.{Executes, HeaderAfter};
+ghost use Rattle.gimli_lines_rows.specs.ProgramRows.{Executes, HeaderAfter, TakesNoFileOf};
 
 use crate::LineInstruction;
 use crate::execution::{execute, rules_of};
@@ -164,6 +164,9 @@ impl LineRow {
             (line_instruction R.view instruction) self.old) (line_instruction R.view instruction) }
         ensures header { HeaderAfter result P.takes_files (line_instruction R.view instruction)
             (P.header_of program.old) (P.header_of program.new) }
+        ensures free { TakesNoFileOf P.takes_files (line_instruction R.view instruction)
+            → IfErr result (λ e. registers_after (rules_of (P.header_of program.old))
+            (line_instruction R.view instruction) self.old ≡ Err e) }
     {
         execute(&mut self.registers, instruction, program)
     }

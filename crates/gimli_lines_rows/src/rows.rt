@@ -1,8 +1,9 @@
 //! The rows of a program, one after the other.
 
-ghost use Rattle.std.specs.Prelude.{◌≡◌, Ok};
+ghost use Rattle.std.specs.Prelude.{◌≡◌, ◌≢◌, ◌∷◌, [], IsTrue, IfErr, Ok, Err};
 ghost use Rattle.gimli_lines_machine.specs.Calls.{ReturnsOrNoMemory, ReadsOrNoMemory};
-ghost use Rattle.gimli_lines_rows.specs.ProgramRows.{NextRow, ToNextRow, OneStep, LendsRow, rows_to_come, next_step};
+ghost use Rattle.gimli_lines_machine.specs.Error.TheVariants.{Memory};
+ghost use Rattle.gimli_lines_rows.specs.ProgramRows.{NextRow, ToNextRow, OneStep, LendsRow, TakesNoFile, rows_to_come, next_step};
 ghost use Rattle.gimli_lines_rows.specs.RowSequences.{rows_under};
 ghost use Rattle.gimli_lines_rows.specs.NumericSteps.{RunsToRow};
 
@@ -60,8 +61,9 @@ impl<R: Reader, P: LineProgram<R> + Drop> LineRows<R, P> {
 
     // The rows of a program from its first instruction on.
     pub(crate) fn new(program: P) -> Result<Self, Error>
-        ensures { ReturnsOrNoMemory result
+        ensures value { ReturnsOrNoMemory result
             (Ok (rows_under P.takes_files (P.header_of program) (P.header_of program).program)) }
+        ensures free { IsTrue R.copies_freely → result ≢ Err Memory }
     {
         let instructions = LineInstructions::new(program.header().raw_program_buf()?);
         Ok(LineRows::over(program, instructions))
@@ -120,6 +122,9 @@ impl<R: Reader, P: LineProgram<R> + Drop> LineRows<R, P> {
     pub fn advance(&mut self) -> Result<bool, Error>
         ensures next { NextRow R.Offset.limit result self.old self.new }
         ensures path { ToNextRow R.Offset.limit result self.old self.new }
+        // Where copies take no memory and no file is taken, this takes none.
+        ensures free { IsTrue R.copies_freely → TakesNoFile P.takes_files self.old.header
+            → IfErr result (λ e. rows_to_come R.Offset.limit self.old ≡ Err e ∷ []) }
     {
         loop {
             if self.run_to_row() {
@@ -140,6 +145,8 @@ impl<R: Reader, P: LineProgram<R> + Drop> LineRows<R, P> {
     pub fn next_row(&mut self) -> Result<Option<(&LineProgramHeader<R>, &LineRow)>, Error>
         ensures row { LendsRow (λ p. (p.0.now, p.1.now)) result
             (rows_to_come R.Offset.limit self.old) }
+        ensures free { IsTrue R.copies_freely → TakesNoFile P.takes_files self.old.header
+            → IfErr result (λ e. rows_to_come R.Offset.limit self.old ≡ Err e ∷ []) }
         ensures* rest { sem 𝓛 (Rests (the_row R.row P.row R.Endian.row R.Offset.row R.Reader
             R.Endian.Endianity.own (record { debug_output = R.Endian.debug_output })
             (record { is_default = R.Endian.is_default }) (record { eq = R.Endian.eq })
@@ -176,7 +183,9 @@ impl<R: Reader, P: LineProgram<R> + Drop> LineRows<R, P> {
     // Executes the next instruction, whatever its operands are, and says whether it shows a row;
     // none at the end of the program and after a fault. Out of memory, nothing changes.
     fn step(&mut self) -> Result<Option<bool>, Error>
-        ensures { OneStep R.Offset.limit result self.old self.new }
+        ensures step { OneStep R.Offset.limit result self.old self.new }
+        ensures free { IsTrue R.copies_freely → TakesNoFile P.takes_files self.old.header
+            → IfErr result (λ e. next_step R.Offset.limit self.old ≡ Err e) }
     {
         match self.try_step() {
             Ok(done) => Ok(done),
@@ -190,7 +199,10 @@ impl<R: Reader, P: LineProgram<R> + Drop> LineRows<R, P> {
 
     // The same; refused, nothing changes.
     fn try_step(&mut self) -> Result<Option<bool>, Error>
-        ensures { ReadsOrNoMemory result self.old self.new (next_step R.Offset.limit self.old) }
+        ensures value { ReadsOrNoMemory result self.old self.new
+            (next_step R.Offset.limit self.old) }
+        ensures free { IsTrue R.copies_freely → TakesNoFile P.takes_files self.old.header
+            → IfErr result (λ e. next_step R.Offset.limit self.old ≡ Err e) }
     {
         let Some((instruction, rest)) = self.instructions.read_next(self.program.header())? else {
             return Ok(None);

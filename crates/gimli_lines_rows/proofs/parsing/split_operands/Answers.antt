@@ -3,7 +3,7 @@ use Rattle.gimli_lines_machine.specs.View.{View}
 use Rattle.gimli_lines_machine.proofs.RefusedCalls.{returns_refused}
 use Rattle.gimli_lines_machine.proofs.StepParts.{read}
 use Rattle.gimli_lines_machine.specs.Readers.{Holds}
-use Rattle.gimli_lines_rows.proofs.Operands.{spans_start, spans_more, spans_fault, spans_end, truncated_is, truncated_not_refused}
+use Rattle.gimli_lines_rows.proofs.Operands.{spans_start, spans_more, spans_fault, spans_end, truncated_is, truncated_not_refused, refused_as}
 use Rattle.gimli_lines_rows.proofs.parsing.split_operands.Goals as goal
 
 pub loop-operand-init : goal.loop-operand-init
@@ -18,9 +18,15 @@ loop-operand-preserved g c = (
 
 pub returns-in_err-read_uleb128 : goal.returns-in_err-read_uleb128
 returns-in_err-read_uleb128 g c =
-    returns_refused _ c.from_residual-in_err-read_uleb128.result _ _ c.from_residual-in_err-read_uleb128.ensures.1
-    (λ ne. spans_fault c.args.count c.loop-operand._operand _ _ _ (omega arith) c.in_err-read_uleb128.ensures.0
-    c.loop-operand.invariant.0)
+    let fault =
+    spans_fault c.args.count c.loop-operand._operand _ _ _ (omega arith) c.in_err-read_uleb128.ensures.0
+    c.loop-operand.invariant.0 in
+    record {
+      value = returns_refused _ c.from_residual-in_err-read_uleb128.result _ _
+          c.from_residual-in_err-read_uleb128.ensures.1 (λ ne. fault);
+      free = λ copies. refused_as _ c.from_residual-in_err-read_uleb128.result _ _
+          c.from_residual-in_err-read_uleb128.ensures.1 fault;
+    }
 
 pub offset_from-len-requires : goal.offset_from-len-requires
 offset_from-len-requires g c =
@@ -37,7 +43,9 @@ returns-in_err-truncate g c =
 pub returns : goal.returns
 returns g c =
     let view = g.R.Reader.view in
+    let all =
     spans_end c.args.count c.loop-operand._operand _ _ (omega arith) c.loop-operand.invariant.0
     ∙ ap (λ (w : View). read w (view c.loop-operand.input))
     (truncated_is (view c.args.input.now) (view c.loop-operand.input) _ _ _ c.loop-operand.invariant.1
-    c.loop-operand.invariant.0.holds c.offset_from-len.ensures c.in_ok-truncate.ensures)
+    c.loop-operand.invariant.0.holds c.offset_from-len.ensures c.in_ok-truncate.ensures) in
+    record { value = all; free = λ copies. all }

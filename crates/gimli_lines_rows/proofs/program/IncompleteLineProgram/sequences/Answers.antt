@@ -10,7 +10,7 @@ loop-sequences-init g c =
     let limit = g.R.Offset.ReaderOffset.limit in
     let begun = program_rows c.args.self in
     subst (λ (t : RemainingRows). FindsSequences limit begun t c.new-sequences.result.items)
-    (rows_are begun c.in_ok-rows.rows c.in_ok-rows.ensures)
+    (rows_are begun c.in_ok-rows.rows c.in_ok-rows.ensures.value)
     (subst (λ (qs : List RowSequence). FindsSequences limit begun begun qs) (sym c.new-sequences.ensures.items)
     (sequences_none limit begun (stays begun) refl))
 

@@ -1,7 +1,7 @@
 use Rattle.std.proofs.Common.{false, true}
 use Rattle.gimli_lines_rows.specs.ProgramRows.{stays}
-use Rattle.gimli_lines_rows.proofs.RowPaths.{path_comes, path_shows, path_passes, path_path, next_refused, next_none, path_ends, next_step_as, answered_none}
-use Rattle.gimli_lines_rows.proofs.ResumedRows.{row_cleared}
+use Rattle.gimli_lines_rows.proofs.RowPaths.{path_comes, path_shows, path_passes, path_path, next_refused, next_fault, next_none, path_ends, next_step_as, answered_none}
+use Rattle.gimli_lines_rows.proofs.ResumedRows.{row_cleared, path_takes_no_file}
 use Rattle.gimli_lines_rows.proofs.StepsAtOnce.{run_found, run_none, step_below}
 use Rattle.gimli_lines_rows.proofs.rows.LineRows.advance.Goals as goal
 
@@ -13,13 +13,13 @@ loop-self-preserved g c =
     let limit = g.R.Offset.ReaderOffset.limit in
     path_passes (path_path c.loop-self.invariant
     (run_none limit _ _ _ c.if-run_to_row.false c.run_to_row.ensures))
-    (next_step_as limit _ _ _ _ false c.in_ok-is_shown.ensures c.in-Some.is c.if-is_shown.false)
+    (next_step_as limit _ _ _ _ false c.in_ok-is_shown.ensures.step c.in-Some.is c.if-is_shown.false)
 
 pub loop-self-smaller : goal.loop-self-smaller
 loop-self-smaller g c =
     let limit = g.R.Offset.ReaderOffset.limit in
     step_below limit _ _ _ false (run_none limit _ _ _ c.if-run_to_row.false c.run_to_row.ensures)
-    (next_step_as limit _ _ _ _ false c.in_ok-is_shown.ensures c.in-Some.is c.if-is_shown.false)
+    (next_step_as limit _ _ _ _ false c.in_ok-is_shown.ensures.step c.in-Some.is c.if-is_shown.false)
 
 pub returns-then-run_to_row-clause-next : goal.returns-then-run_to_row-clause-next
 returns-then-run_to_row-clause-next g c =
@@ -37,12 +37,12 @@ returns-then-is_shown-clause-next g c =
     let limit = g.R.Offset.ReaderOffset.limit in
     path_comes (path_shows (path_path c.loop-self.invariant
     (run_none limit _ _ _ c.if-run_to_row.false c.run_to_row.ensures))
-    (next_step_as limit _ _ _ _ true c.in_ok-is_shown.ensures c.in-Some.is c.if-is_shown.true))
+    (next_step_as limit _ _ _ _ true c.in_ok-is_shown.ensures.step c.in-Some.is c.if-is_shown.true))
 
 pub returns-then-is_shown-clause-path : goal.returns-then-is_shown-clause-path
 returns-then-is_shown-clause-path g c =
     let limit = g.R.Offset.ReaderOffset.limit in
-    let e = next_step_as limit _ _ _ _ true c.in_ok-is_shown.ensures c.in-Some.is c.if-is_shown.true in (
+    let e = next_step_as limit _ _ _ _ true c.in_ok-is_shown.ensures.step c.in-Some.is c.if-is_shown.true in (
       path_shows (path_path c.loop-self.invariant
           (run_none limit _ _ _ c.if-run_to_row.false c.run_to_row.ensures)) e,
       row_cleared limit _ _ e,
@@ -53,18 +53,26 @@ returns-in_default-clause-next g c =
     let limit = g.R.Offset.ReaderOffset.limit in
     next_none limit _ _ _ (path_path c.loop-self.invariant
     (run_none limit _ _ _ c.if-run_to_row.false c.run_to_row.ensures))
-    (answered_none limit _ _ _ c.in_ok-is_shown.ensures c.in_default.is)
+    (answered_none limit _ _ _ c.in_ok-is_shown.ensures.step c.in_default.is)
 
 pub returns-in_default-clause-path : goal.returns-in_default-clause-path
 returns-in_default-clause-path g c =
     let limit = g.R.Offset.ReaderOffset.limit in
     path_ends limit _ _ _ (path_path c.loop-self.invariant
     (run_none limit _ _ _ c.if-run_to_row.false c.run_to_row.ensures))
-    (answered_none limit _ _ _ c.in_ok-is_shown.ensures c.in_default.is)
+    (answered_none limit _ _ _ c.in_ok-is_shown.ensures.step c.in_default.is)
 
 pub returns-in_err-is_shown-clause-next : goal.returns-in_err-is_shown-clause-next
 returns-in_err-is_shown-clause-next g c =
     let limit = g.R.Offset.ReaderOffset.limit in
     next_refused limit c.from_residual.result _ _ _ _ c.from_residual.ensures.1
     (path_path c.loop-self.invariant (run_none limit _ _ _ c.if-run_to_row.false c.run_to_row.ensures))
-    c.in_err-is_shown.ensures
+    c.in_err-is_shown.ensures.step
+
+pub returns-in_err-is_shown-clause-free : goal.returns-in_err-is_shown-clause-free
+returns-in_err-is_shown-clause-free g c = λ copies none.
+    let limit = g.R.Offset.ReaderOffset.limit in
+    let way =
+    path_path c.loop-self.invariant (run_none limit _ _ _ c.if-run_to_row.false c.run_to_row.ensures) in
+    next_fault limit c.from_residual.result _ _ _ c.from_residual.ensures.1 way
+    (c.in_err-is_shown.ensures.free copies (path_takes_no_file g.P.LineProgram.takes_files way none))
