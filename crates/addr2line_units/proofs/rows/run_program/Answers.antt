@@ -3,7 +3,8 @@ use Rattle.addr2line_units.proofs.rows.run_program.Goals as goal
 
 pub returns-in_err-rows : goal.returns-in_err-rows
 returns-in_err-rows g c =
-    program_without_memory g.R.Offset.ReaderOffset.limit c.from_residual.result c.args.header.now _ c.args.builder.now _ _
+    program_without_memory g.R.Offset.ReaderOffset.limit c.from_residual.result c.args.header.now _
+    c.args.builder.now _ _
     c.from_residual.ensures.1 c.in_err-rows.ensures.value
 
 pub returns-in_err-push_rows : goal.returns-in_err-push_rows
