@@ -6,8 +6,9 @@ use crate::case::Case;
 use crate::sections::Sections;
 use gimli_core::{DebugLineOffset, Error, Reader};
 use gimli_lines::{
-    ColumnType, CompleteLineProgram, DebugLine, FileEntry, IncompleteLineProgram, LineInstruction,
-    LineProgramHeader, LineRow, LineRows, LineSequence, ProgramInstructions,
+    BorrowedLineProgram, ColumnType, CompleteLineProgram, DebugLine, FileEntry,
+    IncompleteLineProgram, LineInstruction, LineProgram, LineProgramHeader, LineRow, LineRows,
+    LineSequence, ProgramInstructions,
 };
 use std::alloc::Global;
 
@@ -21,7 +22,8 @@ pub fn answer<R: Reader>(alloc: Global, case: &Case, sections: Sections<R>, out:
             "line_lists" => lists(&header, out),
             "line_files" => files(&header, out),
             "line_formats" => formats(&header, out),
-            "line_rows" | "line_program" => rows(header, out),
+            "line_rows" => rows(BorrowedLineProgram::new(&header).rows(), out),
+            "line_program" => rows(IncompleteLineProgram::new(header).rows(), out),
             "line_instructions" => instructions(&header, out),
             _ => sequences(alloc, header, out),
         },
@@ -127,8 +129,11 @@ fn file<R: Reader>(file: &FileEntry<R>, out: &mut Answer) {
 }
 
 // The rows, with a refusal in its place, and the files after them.
-fn rows<R: Reader>(header: LineProgramHeader<R>, out: &mut Answer) {
-    match IncompleteLineProgram::new(header).rows() {
+fn rows<R: Reader, P: LineProgram<R> + Drop>(
+    rows: Result<LineRows<R, P>, Error>,
+    out: &mut Answer,
+) {
+    match rows {
         Ok(mut rows) => {
             for _ in 0..20 {
                 if !next_row(&mut rows, out) {
@@ -143,7 +148,10 @@ fn rows<R: Reader>(header: LineProgramHeader<R>, out: &mut Answer) {
 }
 
 // The next row or a refusal; whether there is one.
-fn next_row<R: Reader>(rows: &mut LineRows<R, IncompleteLineProgram<R>>, out: &mut Answer) -> bool {
+fn next_row<R: Reader, P: LineProgram<R> + Drop>(
+    rows: &mut LineRows<R, P>,
+    out: &mut Answer,
+) -> bool {
     match rows.next_row() {
         Ok(Some((_, found))) => {
             row(found, out);
