@@ -7,7 +7,8 @@ ghost use Rattle.addr2line_lookups.specs.Error.TheVariants.{Memory};
 ghost use Rattle.addr2line_lookups.specs.Lookups.{answer_load, map_output};
 ghost use Rattle.addr2line_lookups.specs.BorrowedFrames.{frames_left};
 ghost use Rattle.addr2line_lookups.specs.BorrowedLocations.{location_value};
-ghost use Rattle.addr2line_lookups.specs.ResolvedUnits.{value_of_unit};
+ghost use Rattle.addr2line_lookups.specs.ResolvedUnits.{value_of_unit, RunForRangesAlone};
+ghost use Rattle.addr2line_lookups.specs.KeptUnits.{KeepsAsked, ReadsAsked, AsksForLines};
 ghost use Rattle.addr2line_lookups.specs.LookupCosts.{AtMostLooks};
 ghost use Rattle.addr2line_lookups.specs.UnitLookups.{SettlesFrames, SettlesUnit};
 ghost use Rattle.addr2line_lookups.specs.LoadAnswers.{AnswersOrNoMemory};
@@ -15,7 +16,7 @@ ghost use Rattle.addr2line_lookups.specs.Histories.{functions_or_refusal, calls_
 ghost use Rattle.addr2line_lookups.specs.ContextNames.{naming_in};
 ghost use Rattle.addr2line_lookups.specs.Preloads.{load_at, load_of_item};
 ghost use Rattle.addr2line_context.specs.AnsweredContexts.{HasNoAnswers};
-ghost use Rattle.addr2line_context.specs.ContextCosts.{runs_of_unit, location_looks, frame_looks, KeepsLinesOver, AfterLookup};
+ghost use Rattle.addr2line_context.specs.ContextCosts.{runs_of_unit, location_looks, frame_looks, AsksForPlace, AfterLookup, AfterReading};
 ghost use Rattle.addr2line_context.specs.ContextParses.{ParsesOrNoMemory};
 ghost use Rattle.addr2line_context.specs.SettledLookups.{frames_in, unit_in, loads_in, after_answer, IsFor, LoadOf, LeavesAnswer};
 ghost use Rattle.addr2line_context.specs.SkippedLoads.{FindsFrames, FindsUnit};
@@ -100,6 +101,7 @@ impl<R: Reader> Context<R> {
         ensures context { ReturnsAsOrNoMemory (λ c. c.value.plain) result
             (file_context sections.file) }
         ensures answers { IfOk result (λ c. HasNoAnswers c.value) }
+        ensures lines { IfOk result (λ c. RunForRangesAlone c.units) }
     {
         match Rc::new(alloc, sections) {
             Ok(sections) => Context::from_arc_dwarf(alloc, sections),
@@ -115,6 +117,7 @@ impl<R: Reader> Context<R> {
         ensures context { ReturnsAsOrNoMemory (λ c. c.value.plain) result
             (file_context sections.value.file) }
         ensures answers { IfOk result (λ c. HasNoAnswers c.value) }
+        ensures lines { IfOk result (λ c. RunForRangesAlone c.units) }
     {
         let dwarf = sections.as_ref();
         let aranges = ArangeIndex::read(alloc, dwarf)?;
@@ -157,18 +160,21 @@ impl<R: Reader> Context<R> {
 
     /// The place of an address: of the units with a range over it, by the ranges' ends, the first
     /// that has a place for it. A unit whose lines are refused ends the search with that refusal.
-    /// The lines of the units that it asks are read, unless they are kept, and kept; else it takes
-    /// no memory. In each it searches the sequences, and the rows of one. The context's value stays
-    /// the same.
+    /// The lines of the units that it asks are read, unless they are kept, and kept, those of no
+    /// other unit; else it takes no memory, so that the same address again never is out of memory.
+    /// In each unit it searches the sequences, and the rows of one. The context's value stays the
+    /// same.
     pub fn find_location(&mut self, probe: u64) -> Result<Option<Location<'_>>, Error>
         ensures place { ReturnsAsOrNoMemory (option_map location_value) result
             (location self.old.value.plain.context probe) }
-        ensures free { KeepsLinesOver self.old probe → result ≢ Err Memory }
+        ensures free { KeepsAsked (AsksForPlace self.old.value probe) self.old.units
+            → result ≢ Err Memory }
         ensures* after { sem 𝓛 (Rests (the_row R.row R.Endian.row R.Offset.row R.Reader
             R.Endian.Endianity.own R.Endian.Debug R.Endian.Default R.Endian.PartialEq
             R.Offset.ReaderOffset.own R.Offset.Debug R.Offset.PartialEq R.Offset.Ord.own
             R.Offset.PartialOrd.own R.Offset.Hash.own) self.entry
-            (AfterLookup (location_looks self.old.value probe) self.old)) }
+            (AfterReading (AsksForPlace self.old.value probe)
+            (location_looks self.old.value probe) result self.old)) }
     {
         match self.units.find_row(probe)? {
             Some(found) => Ok(self.units.place_in(found)),
@@ -192,11 +198,18 @@ impl<R: Reader> Context<R> {
     }
 
     /// Whether the lines of all units can be read, or else the first refusal, by the units'
-    /// numbers. They are read, unless they are kept, and kept, up to that refusal.
+    /// numbers. They are read, unless they are kept, and kept, up to that refusal. Where these are
+    /// kept it takes no memory.
     pub fn parse_lines(&mut self) -> Result<(), Error>
         ensures lines { ReturnsOrNoMemory result
             (all_lines_or_refusal self.old.value.plain.context.units) }
         ensures after { AfterLookup 0 self.old self.new }
+        ensures asked { result ≢ Err Memory
+            → KeepsAsked (AsksForLines self.old.value.plain.context.units) self.new.units }
+        ensures reads { ReadsAsked (AsksForLines self.old.value.plain.context.units)
+            self.old.units self.new.units }
+        ensures free { KeepsAsked (AsksForLines self.old.value.plain.context.units) self.old.units
+            → result ≢ Err Memory }
     {
         self.units.check_lines()
     }

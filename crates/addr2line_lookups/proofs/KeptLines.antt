@@ -92,22 +92,6 @@ stretches_of_kept us low high h =
     ∙ sym (stretches_by_numbers (map unit_places (map plain_unit us)) low high)
     ∙ stretches_of_views unit_places (map plain_unit us) low high
 
--- lines that are kept still
-keeps_ranges : (us vs : List ResolvedUnit) → KeepsMore us vs → (rs : List UnitRange) → KeepsRanges us rs
-    → KeepsRanges vs rs
-keeps_ranges us vs more [] h = tt
-keeps_ranges us vs more (r ∷ rs) h = (more r.unit h.0, keeps_ranges us vs more rs h.1)
-
-module _ (us : List ResolvedUnit) (r : UnitRange) (old rest : List UnitRange) (is : old ≡ r ∷ rest)
-    (h : KeepsRanges us old) where
-  -- those of the first range
-  pub keeps_first : KeepsAt us r.unit
-  keeps_first = (subst (KeepsRanges us) is h).0
-
-  -- and of the others, later
-  pub keeps_rest : (vs : List ResolvedUnit) → KeepsMore us vs → KeepsRanges vs rest
-  keeps_rest vs more = keeps_ranges us vs more rest (subst (KeepsRanges us) is h).1
-
 -- ---- ranges one after the other
 
 -- Where the rest of some ranges are kept, in units that keep at least these lines, all are.

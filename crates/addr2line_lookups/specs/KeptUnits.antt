@@ -1,5 +1,5 @@
 -- Which units' lines are kept, and what lookups find of the unit of a number.
-use Rattle.std.specs.Prelude.{◌≡◌, ◌≢◌, ℕ, List, [], ◌∷◌, map, slice_get, Option, Some, None, IfSome, option_and_then, Result, Ok, Err}
+use Rattle.std.specs.Prelude.{◌≡◌, ◌≢◌, ◌⊎◌, ℕ, ◌<◌, List, [], ◌∷◌, map, slice_get, Option, Some, None, IfSome, option_and_then, Result, Ok, Err}
 use Rattle.addr2line_resolved.specs.Error.{Error}
 use Rattle.addr2line_resolved.specs.Error.TheVariants.{Memory}
 use Rattle.addr2line_resolved.specs.Results.{and_then}
@@ -28,13 +28,17 @@ abbrev pub KeepsBetween : ℕ → ℕ → List ResolvedUnit → Type 0
 KeepsBetween low high us =
     KeepsRanges us (overlapping_ranges low high (ordered_ranges (map plain_unit us)))
 
--- those of the units with a range over an address
-abbrev pub KeepsCovering : ℕ → List ResolvedUnit → Type 0
-KeepsCovering a us = KeepsRanges us (covering_ranges a (ordered_ranges (map plain_unit us)))
+-- those of all units that a call asks
+abbrev pub KeepsAsked : (ℕ → Type 0) → List ResolvedUnit → Type 0
+KeepsAsked asks us = (number : ℕ) → asks number → KeepsAt us number
 
 -- lines that were kept before are kept still
 abbrev pub KeepsMore : List ResolvedUnit → List ResolvedUnit → Type 0
 KeepsMore old new = (number : ℕ) → KeepsAt old number → KeepsAt new number
+
+-- lines that are kept were kept before, or are those of units that a call asks
+abbrev pub ReadsAsked : (ℕ → Type 0) → List ResolvedUnit → List ResolvedUnit → Type 0
+ReadsAsked asks old new = (number : ℕ) → KeepsAt new number → KeepsAt old number ⊎ asks number
 
 -- ---- places
 
@@ -59,12 +63,17 @@ FindsRow units a (Ok (Some r)) =
     location_at ranges_of lines_of units a ≡ Ok (location_of_unit_row units r)
 FindsRow units a (Err e) = e ≢ Memory → location_at ranges_of lines_of units a ≡ Err e
 
--- The lines of the units of ranges are kept, up to the first that have a row of an address or are
--- refused.
-abbrev pub KeepsAsked : ℕ → List ResolvedUnit → List UnitRange → Type 0
-KeepsAsked a us [] = Unit {0}
-KeepsAsked a us (r ∷ rs) =
-    KeepsAt us r.unit × (row_at_number (map plain_unit us) a r.unit ≡ Ok None → KeepsAsked a us rs)
+-- The unit of a number is one of those of ranges, up to the first whose lines have a row of an
+-- address or are refused.
+abbrev pub AsksAmong : List ContextUnit → ℕ → List UnitRange → ℕ → Type 0
+AsksAmong units a [] number = ⊥
+AsksAmong units a (r ∷ rs) number =
+    (number ≡ r.unit)
+    ⊎ ((row_at_number units a r.unit ≡ Ok None) × AsksAmong units a rs number)
+
+-- a lookup of the place of an address asks the unit of a number
+abbrev pub AsksForRow : List ContextUnit → ℕ → ℕ → Type 0
+AsksForRow units a = AsksAmong units a (covering_ranges a (ordered_ranges units))
 
 -- the lines of the unit whose row was found are kept
 abbrev pub KeepsFound : List ResolvedUnit → Result (Option UnitRow) Error → Type 0
@@ -81,3 +90,7 @@ check_of (Some u) = and_then u.lines (λ lines. Ok tt)
 -- those of the unit of a number
 abbrev pub check_at : List ContextUnit → ℕ → Result (Unit {0}) Error
 check_at units number = check_of (slice_get units number)
+
+-- the unit of a number comes no later than the first whose lines are refused
+abbrev pub AsksForLines : List ContextUnit → ℕ → Type 0
+AsksForLines units number = (n : ℕ) → n < number → check_at units n ≡ Ok tt

@@ -17,7 +17,7 @@ ghost use Rattle.addr2line_lookups.specs.FramePlaces.{LendsFrames};
 ghost use Rattle.addr2line_lookups.specs.PassedUnits.{PassFrames, PassUnits, PassLoads};
 ghost use Rattle.addr2line_lookups.specs.UnitLookups.{frames_among, SettlesFrames, unit_among, SettlesUnit, unit_at_number};
 ghost use Rattle.addr2line_resolved.specs.BorrowedFrames.{frames_left};
-ghost use Rattle.addr2line_lookups.specs.KeptUnits.{KeepsAt, KeepsBetween, KeepsCovering, KeepsFound, KeepsAsked, FindsRow, location_of_unit_row};
+ghost use Rattle.addr2line_lookups.specs.KeptUnits.{KeepsAt, KeepsBetween, KeepsFound, KeepsAsked, ReadsAsked, AsksForRow, AsksForLines, FindsRow, location_of_unit_row};
 ghost use Rattle.addr2line_lookups.specs.LookupCosts.{AtMostLooks, row_probes_at, frame_probes_at, probes_among};
 ghost use Rattle.addr2line_lookups.specs.UnitParses.{WalksOrNoMemory, check_functions_of, check_calls_of};
 
@@ -85,17 +85,21 @@ impl<R: Reader> Units<R> {
         self.units.as_slice()
     }
 
-    // The row whose place an address has, with its unit's number. The unit's lines are kept.
+    // The row whose place an address has, with its unit's number. The lines of the units that it
+    // asks are read, unless they are kept, and kept.
     pub fn find_row(&mut self, probe: u64) -> Result<Option<UnitRow>, Error>
         ensures values { map value_of_unit self.new ≡ map value_of_unit self.old }
         ensures calls { LeavesCalls self.old self.new }
         ensures found { FindsRow (map plain_unit self.old) probe result }
         ensures kept { KeepsFound self.new result }
-        ensures asked { result ≢ Err Memory → KeepsAsked probe self.new
-            (covering_ranges probe (ordered_ranges (map plain_unit self.old))) }
+        ensures asked { result ≢ Err Memory
+            → KeepsAsked (AsksForRow (map plain_unit self.old) probe) self.new }
+        ensures reads { ReadsAsked (AsksForRow (map plain_unit self.old) probe)
+            self.old self.new }
         ensures cost { AtMostLooks (probes_among (row_probes_at (map value_of_unit self.old) probe)
             (covering_ranges probe (ordered_ranges (map plain_unit self.old)))) self.old self.new }
-        ensures free { KeepsCovering probe self.old → result ≢ Err Memory }
+        ensures free { KeepsAsked (AsksForRow (map plain_unit self.old) probe) self.old
+            → result ≢ Err Memory }
     {
         let alloc = *self.units.allocator();
         find_row(alloc, &mut self.units, &self.ranges, probe)
@@ -131,12 +135,18 @@ impl<R: Reader> Units<R> {
         LocationRangeIter::new(alloc, self.units.as_slice(), &self.ranges, low, high)
     }
 
-    // Whether the lines of all units can be read, or else the first refusal.
+    // Whether the lines of all units can be read, or else the first refusal. They are read, unless
+    // they are kept, and kept, up to that refusal.
     pub fn check_lines(&mut self) -> Result<(), Error>
         ensures values { map value_of_unit self.new ≡ map value_of_unit self.old }
         ensures calls { LeavesCalls self.old self.new }
         ensures cost { AtMostLooks 0 self.old self.new }
         ensures found { ReturnsOrNoMemory result (all_lines_or_refusal (map plain_unit self.old)) }
+        ensures asked { result ≢ Err Memory
+            → KeepsAsked (AsksForLines (map plain_unit self.old)) self.new }
+        ensures reads { ReadsAsked (AsksForLines (map plain_unit self.old)) self.old self.new }
+        ensures free { KeepsAsked (AsksForLines (map plain_unit self.old)) self.old
+            → result ≢ Err Memory }
     {
         let alloc = *self.units.allocator();
         check_lines(alloc, &mut self.units)

@@ -4,6 +4,7 @@ use Rattle.addr2line_resolved.specs.Calls.{ReturnsOrNoMemory}
 use Rattle.addr2line_resolved.specs.Lines.{LineRow}
 use Rattle.addr2line_resolved.specs.ResolvedUnits.{ResolvedUnit, KeepsLines, value_of_unit}
 use Rattle.addr2line_lookups.specs.KeptCalls.{kept_calls_of}
+use Rattle.addr2line_lookups.proofs.AskedLines.{reads_set}
 use Rattle.addr2line_lookups.proofs.CallsOfUnits.{if_here, leaves_calls, same_calls, same_chain}
 use Rattle.addr2line_lookups.proofs.CallsLeft.{leaves_value}
 use Rattle.addr2line_lookups.proofs.KeptLines.{keeps_set}
@@ -36,5 +37,6 @@ returns g c =
       cost =
           looks_for_row us n unit below c.index_mut-unit.ensures.value new c.args.probe c.find_row.ensures.cost
           c.find_row.ensures.more;
+      reads = reads_set us n new;
       free = λ kept. c.find_row.ensures.free (if_here us n unit below c.index_mut-unit.ensures.value KeepsLines kept);
     }
