@@ -1,5 +1,5 @@
--- Which units' lines are kept, and what lookups find of the unit of a number.
-use Rattle.std.specs.Prelude.{◌≡◌, ◌≢◌, ◌⊎◌, ℕ, ◌<◌, List, [], ◌∷◌, map, slice_get, Option, Some, None, IfSome, option_and_then, Result, Ok, Err}
+-- What is kept of units, and what lookups find of the unit of a number.
+use Rattle.std.specs.Prelude.{◌≡◌, ◌≢◌, ◌⊎◌, ℕ, ◌<◌, true, List, [], ◌∷◌, map, slice_get, Option, Some, None, IfSome, is_some, option_and_then, Result, Ok, Err}
 use Rattle.addr2line_resolved.specs.Error.{Error}
 use Rattle.addr2line_resolved.specs.Error.TheVariants.{Memory}
 use Rattle.addr2line_resolved.specs.Results.{and_then}
@@ -9,6 +9,7 @@ use Rattle.addr2line_resolved.specs.PlaceLookups.{location_at}
 use Rattle.addr2line_resolved.specs.UnitRange.{UnitRange}
 use Rattle.addr2line_resolved.specs.NumberedRanges.{covering_ranges, overlapping_ranges}
 use Rattle.addr2line_resolved.specs.ContextUnits.{ordered_ranges}
+use Rattle.addr2line_resolved.specs.KeptFunctions.{kept_at}
 use Rattle.addr2line_resolved.specs.ResolvedUnits.{ResolvedUnit, plain_unit, KeepsLines, row_or_refusal, location_of_row}
 use Rattle.addr2line_lookups.specs.declared.settle.UnitRow.{UnitRow}
 
@@ -32,13 +33,39 @@ KeepsBetween low high us =
 abbrev pub KeepsAsked : (ℕ → Type 0) → List ResolvedUnit → Type 0
 KeepsAsked asks us = (number : ℕ) → asks number → KeepsAt us number
 
+-- what holds of the unit of a number, if there is such a unit, holds still
+abbrev pub HoldsStill : (ResolvedUnit → Type 0) → List ResolvedUnit → List ResolvedUnit → Type 0
+HoldsStill P old new =
+    (number : ℕ) → IfSome (slice_get old number) P → IfSome (slice_get new number) P
+
 -- lines that were kept before are kept still
 abbrev pub KeepsMore : List ResolvedUnit → List ResolvedUnit → Type 0
-KeepsMore old new = (number : ℕ) → KeepsAt old number → KeepsAt new number
+KeepsMore old new = HoldsStill KeepsLines old new
 
 -- lines that are kept were kept before, or are those of units that a call asks
 abbrev pub ReadsAsked : (ℕ → Type 0) → List ResolvedUnit → List ResolvedUnit → Type 0
 ReadsAsked asks old new = (number : ℕ) → KeepsAt new number → KeepsAt old number ⊎ asks number
+
+-- ---- kept functions
+
+-- the functions of a unit were read and are kept, be it a refusal
+abbrev pub KeepsFunctionList : ResolvedUnit → Type 0
+KeepsFunctionList u = u.keeps_functions ≡ true
+
+-- so are the calls of one of them
+abbrev pub KeepsFunctionCalls : ℕ → ResolvedUnit → Type 0
+KeepsFunctionCalls function u =
+    KeepsFunctionList u × (is_some (kept_at u.calls function) ≡ true)
+
+-- what was kept of a unit's functions is kept still
+pub record KeepsMoreFunctions (old new : ResolvedUnit) : Type 0 where
+  pub functions : KeepsFunctionList old → KeepsFunctionList new
+  pub calls : (function : ℕ) → KeepsFunctionCalls function old → KeepsFunctionCalls function new
+
+-- the same of units
+pub record KeepMoreFunctions (old new : List ResolvedUnit) : Type 0 where
+  pub functions : HoldsStill KeepsFunctionList old new
+  pub calls : (function : ℕ) → HoldsStill (KeepsFunctionCalls function) old new
 
 -- ---- places
 

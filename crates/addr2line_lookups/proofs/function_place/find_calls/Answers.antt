@@ -11,6 +11,7 @@ use Rattle.addr2line_lookups.proofs.UnitRows.{same_values}
 use Rattle.addr2line_lookups.proofs.CallsOfUnits.{value_here, if_here, holds_here, set_here, holds_set, holds_same, chain_set}
 use Rattle.addr2line_lookups.proofs.FoundFunctions.{calls_found}
 use Rattle.addr2line_lookups.specs.LookupCosts.{chain_probes_at}
+use Rattle.addr2line_lookups.proofs.KeptFunctionLists.{functions_same}
 use Rattle.addr2line_lookups.proofs.UnitProbes.{looks_after, looks_more}
 use Rattle.addr2line_lookups.proofs.LookupProbes.{looks_for_chain}
 use Rattle.addr2line_lookups.proofs.function_place.find_calls.Goals as goal
@@ -64,6 +65,8 @@ returns g c =
           (holds_here ws n u below is known settled.calls) has (record {
             probes = c.find_chain.ensures.cost;
             more = λ kept. ap (λ (x : ResolvedUnit). x.keeps_lines) c.find_chain.ensures.unit ∙ kept;
+            functions =
+                functions_same u new (ap (λ (x : ResolvedUnit). x.keeps_functions) c.find_chain.ensures.unit) calls;
           }));
     }
 

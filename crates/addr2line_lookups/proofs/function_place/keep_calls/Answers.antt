@@ -3,12 +3,13 @@ use Rattle.std.proofs.lemmas.Result.{on_ok_weaker}
 use Rattle.addr2line_resolved.specs.Calls.{ReturnsAsOrNoMemory}
 use Rattle.addr2line_resolved.specs.CountedFunctions.{CountedCalls}
 use Rattle.addr2line_resolved.specs.OrderedUnits.{AreKnownInOrder}
-use Rattle.addr2line_resolved.specs.KeptFunctions.{kept_at}
+use Rattle.addr2line_resolved.specs.KeptFunctions.{kept_at, plain_calls}
 use Rattle.addr2line_resolved.specs.ResolvedUnits.{ResolvedUnit}
 use Rattle.addr2line_lookups.specs.KeptCalls.{known_among, calls_among}
 use Rattle.addr2line_lookups.specs.FunctionPlaces.{HasFunction}
 use Rattle.addr2line_lookups.proofs.UnitRows.{same_values}
 use Rattle.addr2line_lookups.proofs.CallsOfUnits.{if_here, if_there, same_unit, holds_here, holds_set, kept_set, same_count, holds_kept, value_kept, length_kept, counts_kept, keeps_kept, kept_there, not_kept}
+use Rattle.addr2line_lookups.proofs.KeptFunctionLists.{functions_called}
 use Rattle.addr2line_lookups.proofs.UnitProbes.{looks_none, looks_set, looks_nowhere}
 use Rattle.addr2line_lookups.proofs.function_place.keep_calls.Goals as goal
 
@@ -97,6 +98,8 @@ returns g c =
           before));
       cost =
           let counts = counts_kept known u new k read r kept.ok kept.err in
-          looks_set us n u below is new 0 (looks_nowhere u new counts.0 counts.1);
+          looks_set us n u below is new 0
+          (looks_nowhere u new counts.0 counts.1
+          (functions_called u new k (plain_calls read) r kept.ok kept.err));
       refusal = kept.refusal;
     }

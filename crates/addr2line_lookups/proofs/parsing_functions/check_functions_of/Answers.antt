@@ -5,6 +5,7 @@ use Rattle.addr2line_lookups.specs.UnitParses.{check_functions_of}
 use Rattle.addr2line_lookups.proofs.CallsLeft.{leaves_functions, leaves_value}
 use Rattle.addr2line_lookups.proofs.UnitCalls.{on_ok_always}
 use Rattle.addr2line_lookups.proofs.CallsOfUnits.{value_left, functions_kept, counts_left}
+use Rattle.addr2line_lookups.proofs.KeptFunctionLists.{functions_read}
 use Rattle.addr2line_lookups.proofs.UnitProbes.{looks_nowhere, looks_unchanged}
 use Rattle.addr2line_lookups.proofs.parsing_functions.check_functions_of.Goals as goal
 
@@ -34,5 +35,5 @@ returns g c =
       found = inl (ap check_functions_of (sym (value_left old new read)) ∙ c.check_kept.ensures kept);
       kept = on_ok_always c.check_kept.result kept;
       calls = leaves_functions old new read;
-      cost = let counts = counts_left old new read in looks_nowhere old new counts.0 counts.1;
+      cost = let counts = counts_left old new read in looks_nowhere old new counts.0 counts.1 (functions_read old new read);
     }
