@@ -1,13 +1,13 @@
--- Where a call asks units one after the other, the lines of those that it asked are kept, and it reads no others.
-use Rattle.std.proofs.Common.{◌≡◌, ◌≢◌, ◌⊎◌, inl, inr, ℕ, zero, suc, ◌+◌, ◌<◌, ◌≤◌, List, [], ◌∷◌, length, set, map, Option, Some, None, Result, Ok, Err, refl, sym, ap, ◌∙◌, subst, arith}
+-- Calls read lines of the units that they ask alone; where one asks units one after the other, their lines are kept.
+use Rattle.std.proofs.Common.{◌≡◌, ◌≢◌, ◌⊎◌, inl, inr, ℕ, zero, suc, ◌+◌, ◌<◌, ◌≤◌, List, [], ◌∷◌, ◌++◌, length, get_or, set, map, Option, Some, None, Result, Ok, Err, refl, sym, ap, ◌∙◌, subst, arith}
 use Rattle.std.proofs.Math.Nat.{eq-or-lt_of_le}
 use Rattle.addr2line_resolved.specs.Error.{Error}
 use Rattle.addr2line_resolved.specs.Error.TheVariants.{Memory}
 use Rattle.addr2line_resolved.specs.Lines.{LineRow}
 use Rattle.addr2line_resolved.specs.Contexts.{ContextUnit}
 use Rattle.addr2line_resolved.specs.UnitRange.{UnitRange}
-use Rattle.addr2line_resolved.specs.ResolvedUnits.{ResolvedUnit, value_of_unit, plain_unit}
-use Rattle.addr2line_lookups.specs.KeptUnits.{KeepsAt, KeepsMore, KeepsAsked, ReadsAsked, AsksAmong, AsksForLines, row_at_number, check_at}
+use Rattle.addr2line_resolved.specs.ResolvedUnits.{ResolvedUnit, KeepsLines, value_of_unit, plain_unit}
+use Rattle.addr2line_lookups.specs.KeptUnits.{KeepsAt, KeepsMore, KeepsAsked, ReadsAsked, ReadsNoLines, IsUnitOf, AsksAmong, AsksForLines, row_at_number, check_at}
 use Rattle.addr2line_lookups.proofs.KeptLines.{same_plain, keeps_past}
 
 -- ---- one unit
@@ -24,9 +24,62 @@ reads_set (v ∷ us) zero new (suc n) kept = inl kept
 reads_set (v ∷ us) (suc k) new zero kept = inl kept
 reads_set (v ∷ us) (suc k) new (suc n) kept = step_on n k (reads_set us k new n kept)
 
+no_lines_put : (us : List ResolvedUnit) (k : ℕ) (u new : ResolvedUnit) → u ≡ get_or us k u
+    → new.keeps_lines ≡ u.keeps_lines → ReadsNoLines us (set us k new)
+no_lines_put [] k u new is same n kept = kept
+no_lines_put (v ∷ us) zero u new is same zero kept = subst KeepsLines is (sym same ∙ kept)
+no_lines_put (v ∷ us) zero u new is same (suc n) kept = kept
+no_lines_put (v ∷ us) (suc k) u new is same zero kept = kept
+no_lines_put (v ∷ us) (suc k) u new is same (suc n) kept = no_lines_put us k u new is same n kept
+
+-- one whose lines weren't read
+pub no_lines_set : (us : List ResolvedUnit) (k : ℕ) (u : ResolvedUnit) → u ≡ get_or us k u → (new : ResolvedUnit)
+    → new.keeps_lines ≡ u.keeps_lines → ReadsNoLines us (set us k new)
+no_lines_set us k u is new same = no_lines_put us k u new is same
+
 -- no units change
 pub reads_none : (asks : ℕ → Type 0) (us : List ResolvedUnit) → ReadsAsked asks us us
 reads_none asks us n kept = inl kept
+
+-- ---- one change after the other
+
+pub no_lines_both : (us vs ws : List ResolvedUnit) → ReadsNoLines us vs → ReadsNoLines vs ws → ReadsNoLines us ws
+no_lines_both us vs ws first then n kept = first n (then n kept)
+
+-- where no lines were read
+pub reads_nothing : (asks : ℕ → Type 0) (us vs : List ResolvedUnit) → ReadsNoLines us vs → ReadsAsked asks us vs
+reads_nothing asks us vs none n kept = inl (none n kept)
+
+-- or weren't before
+pub reads_after : (asks : ℕ → Type 0) (us vs ws : List ResolvedUnit) → ReadsNoLines us vs → ReadsAsked asks vs ws
+    → ReadsAsked asks us ws
+reads_after asks us vs ws none reads n kept = by (reads n kept)
+  where
+    by : KeepsAt vs n ⊎ asks n → KeepsAt us n ⊎ asks n
+    by (inl before) = inl (none n before)
+    by (inr asked) = inr asked
+
+-- where lines of a unit that is asked are read last
+pub reads_both : (asks : ℕ → Type 0) (us vs ws : List ResolvedUnit) (k : ℕ) → asks k → ReadsAsked asks us vs
+    → ReadsAsked (λ n. n ≡ k) vs ws → ReadsAsked asks us ws
+reads_both asks us vs ws k asked first reads n kept = by (reads n kept)
+  where
+    by : KeepsAt vs n ⊎ (n ≡ k) → KeepsAt us n ⊎ asks n
+    by (inl before) = first n before
+    by (inr is) = inr (subst asks (sym is) asked)
+
+-- ---- units of ranges
+
+unit_after : (passed old : List UnitRange) (n : ℕ) → IsUnitOf old n → IsUnitOf (passed ++ old) n
+unit_after [] old n h = h
+unit_after (r ∷ passed) old n h = inr (unit_after passed old n h)
+
+-- that of the first that is left
+pub unit_of_first : (all passed old rest : List UnitRange) (r : UnitRange) → all ≡ passed ++ old → old ≡ r ∷ rest
+    → IsUnitOf all r.unit
+unit_of_first all passed old rest r are_all is =
+    let P : List UnitRange → Type 0 = λ rs. IsUnitOf rs r.unit in
+    subst P (sym are_all) (unit_after passed old r.unit (subst P (sym is) (inl refl)))
 
 -- ---- one unit after the other
 
@@ -64,11 +117,7 @@ module _ (asks comes_to : ℕ → Type 0) (old us : List ResolvedUnit) (k : ℕ)
 
   module _ (vs : List ResolvedUnit) (reads : ReadsAsked (λ n. n ≡ k) us vs) where
     pub reads_here : ReadsAsked asks old vs
-    reads_here n kept = by (reads n kept)
-      where
-        by : KeepsAt us n ⊎ (n ≡ k) → KeepsAt old n ⊎ asks n
-        by (inl before) = h.reads n before
-        by (inr is) = inr (subst asks (sym is) (h.are_asked k here))
+    reads_here = reads_both asks old us vs k (h.are_asked k here) h.reads reads
 
     -- one more
     pub asks_next : (rest : ℕ → Type 0) → ((n : ℕ) → rest n → comes_to n)

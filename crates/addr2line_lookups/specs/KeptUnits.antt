@@ -46,6 +46,15 @@ KeepsMore old new = HoldsStill KeepsLines old new
 abbrev pub ReadsAsked : (ℕ → Type 0) → List ResolvedUnit → List ResolvedUnit → Type 0
 ReadsAsked asks old new = (number : ℕ) → KeepsAt new number → KeepsAt old number ⊎ asks number
 
+-- no lines were read
+abbrev pub ReadsNoLines : List ResolvedUnit → List ResolvedUnit → Type 0
+ReadsNoLines old new = KeepsMore new old
+
+-- the unit of a number is one of those of ranges
+abbrev pub IsUnitOf : List UnitRange → ℕ → Type 0
+IsUnitOf [] number = ⊥
+IsUnitOf (r ∷ rs) number = (number ≡ r.unit) ⊎ IsUnitOf rs number
+
 -- ---- kept functions
 
 -- the functions of a unit were read and are kept, be it a refusal

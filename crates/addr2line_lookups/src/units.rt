@@ -17,7 +17,7 @@ ghost use Rattle.addr2line_lookups.specs.FramePlaces.{LendsFrames};
 ghost use Rattle.addr2line_lookups.specs.PassedUnits.{PassFrames, PassUnits, PassLoads};
 ghost use Rattle.addr2line_lookups.specs.UnitLookups.{frames_among, SettlesFrames, unit_among, SettlesUnit, unit_at_number};
 ghost use Rattle.addr2line_resolved.specs.BorrowedFrames.{frames_left};
-ghost use Rattle.addr2line_lookups.specs.KeptUnits.{KeepsAt, KeepsBetween, KeepsFound, KeepsAsked, ReadsAsked, AsksForRow, AsksForLines, FindsRow, location_of_unit_row};
+ghost use Rattle.addr2line_lookups.specs.KeptUnits.{KeepsAt, KeepsBetween, KeepsFound, KeepsAsked, ReadsAsked, ReadsNoLines, IsUnitOf, AsksForRow, AsksForLines, FindsRow, location_of_unit_row};
 ghost use Rattle.addr2line_lookups.specs.LookupCosts.{AtMostLooks, row_probes_at, frame_probes_at, probes_among};
 ghost use Rattle.addr2line_lookups.specs.UnitParses.{WalksOrNoMemory, check_functions_of, check_calls_of};
 
@@ -199,6 +199,7 @@ impl<R: Reader> Units<R> {
             ≡ (result, map value_of_unit self.new) }
         ensures calls { LeavesCalls self.old self.new }
         ensures cost { AtMostLooks 0 self.old self.new }
+        ensures lines { ReadsNoLines self.old self.new }
     {
         let alloc = *self.units.allocator();
         answer_at(alloc, &mut self.units, number, file)
@@ -227,6 +228,8 @@ impl<R: Reader> Units<R> {
         ensures cost { AtMostLooks (probes_among
             (frame_probes_at (known_among self.old supplement_units.now)
             (map value_of_unit self.old) probe)
+            (covering_ranges probe (ordered_ranges (map plain_unit self.old)))) self.old self.new }
+        ensures reads { ReadsAsked (IsUnitOf
             (covering_ranges probe (ordered_ranges (map plain_unit self.old)))) self.old self.new }
         ensures passed { PassFrames (known_among self.old supplement_units.now)
             (map value_of_unit self.old) probe from.new (ordered_ranges (map plain_unit self.old)) }
@@ -262,6 +265,8 @@ impl<R: Reader> Units<R> {
         ensures cost { AtMostLooks (probes_among
             (frame_probes_at (known_among self.old supplement_units.now)
             (map value_of_unit self.old) probe)
+            (covering_ranges probe (ordered_ranges (map plain_unit self.old)))) self.old self.new }
+        ensures reads { ReadsAsked (IsUnitOf
             (covering_ranges probe (ordered_ranges (map plain_unit self.old)))) self.old self.new }
         ensures passed { PassUnits (known_among self.old supplement_units.now)
             (map value_of_unit self.old) probe from.new (ordered_ranges (map plain_unit self.old)) }

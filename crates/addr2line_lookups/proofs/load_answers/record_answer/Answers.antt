@@ -17,3 +17,6 @@ returns-clause-cost g c =
     (ap (λ (u : ResolvedUnit). u.keeps_lines) kept)
     (functions_same c.args.unit.now c.record_answer.new.self (ap (λ (u : ResolvedUnit). u.keeps_functions) kept)
     (ap (λ (u : ResolvedUnit). u.calls) kept))
+
+pub returns-clause-lines : goal.returns-clause-lines
+returns-clause-lines g c = ap (λ (u : ResolvedUnit). u.keeps_lines) c.record_answer.ensures.kept
