@@ -55,7 +55,7 @@ module _ (file : DwarfFile) (us : List ResolvedUnit) (s : List UnitFacts)
   abbrev pairs_over : List ContextUnit → List UnitRange
   pairs_over units = map numbered_range (covering_pairs ranges_of units a)
 
-  ranges_here : covering ≡ ranges_over c a
+  pub ranges_here : covering ≡ ranges_over c a
   ranges_here =
       ap (λ units. covering_ranges a (ordered_ranges units)) (sym same_units)
       ∙ covering_by_numbers file vs of_file a

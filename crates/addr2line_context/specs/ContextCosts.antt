@@ -10,7 +10,7 @@ use Rattle.addr2line_lookups.specs.Contexts.{ContextUnit, ranges_of}
 use Rattle.addr2line_lookups.specs.UnitRange.{UnitRange}
 use Rattle.addr2line_lookups.specs.NumberedRanges.{numbered_range}
 use Rattle.addr2line_lookups.specs.ResolvedUnits.{AnsweredUnit, ResolvedUnit, runs_if_kept}
-use Rattle.addr2line_lookups.specs.KeptUnits.{AsksAmong, KeepsAsked, ReadsAsked}
+use Rattle.addr2line_lookups.specs.KeptUnits.{AsksAmong, KeepsAsked, ReadsAsked, IsUnitOf}
 use Rattle.addr2line_lookups.specs.LookupCosts.{AtMostLooks, probes_among, row_probes_at, frame_probes_at}
 use Rattle.addr2line_context.specs.AnsweredContexts.{AnsweredContext}
 use Rattle.addr2line_context.specs.KeptContexts.{ResolvedContext}
@@ -57,14 +57,21 @@ frame_looks c a =
 abbrev pub AsksForPlace : AnsweredContext → ℕ → ℕ → Type 0
 AsksForPlace c a = AsksAmong c.plain.context.units a (ranges_over c a)
 
--- The context's value is what it was. There were no more than n looks at what is kept, and lines
--- that were kept are kept still, so that no line number program is run again.
+-- The context's value is what it was. There were no more than n looks at what is kept. Lines,
+-- functions and calls that were kept are kept still, so that no line number program is run again.
 pub record AfterLookup (n : ℕ) (old new : ResolvedContext) : Type 0 where
   pub value : new.value ≡ old.value
   pub cost : AtMostLooks n old.units new.units
 
--- So it is, too, after a call with this result, which asks units for their lines. Unless it was out
--- of memory, these are kept then; it read no others.
+-- The same after a lookup of the frames of an address, or of its unit. It reads lines of no units
+-- but those with a range over the address.
+pub record AfterSearch (a : ℕ) (old new : ResolvedContext) : Type 0 where
+  pub value : new.value ≡ old.value
+  pub cost : AtMostLooks (frame_looks old.value a) old.units new.units
+  pub reads : ReadsAsked (IsUnitOf (ranges_over old.value a)) old.units new.units
+
+-- The same after a call with this result that asks units for their lines. Unless it was out of
+-- memory, these are kept; it reads no others.
 pub record AfterReading {A : Type 0} (asks : ℕ → Type 0) (n : ℕ) (result : Result A Error)
     (old new : ResolvedContext) : Type 0 where
   pub value : new.value ≡ old.value

@@ -8,7 +8,7 @@ ghost use Rattle.addr2line_lookups.specs.Lookups.{answer_load, map_output};
 ghost use Rattle.addr2line_lookups.specs.BorrowedFrames.{frames_left};
 ghost use Rattle.addr2line_lookups.specs.BorrowedLocations.{location_value};
 ghost use Rattle.addr2line_lookups.specs.ResolvedUnits.{value_of_unit, RunForRangesAlone};
-ghost use Rattle.addr2line_lookups.specs.KeptUnits.{KeepsAsked, ReadsAsked, AsksForLines};
+ghost use Rattle.addr2line_lookups.specs.KeptUnits.{KeepsAsked, ReadsAsked, ReadsNoLines, AsksForLines};
 ghost use Rattle.addr2line_lookups.specs.LookupCosts.{AtMostLooks};
 ghost use Rattle.addr2line_lookups.specs.UnitLookups.{SettlesFrames, SettlesUnit};
 ghost use Rattle.addr2line_lookups.specs.LoadAnswers.{AnswersOrNoMemory};
@@ -16,7 +16,7 @@ ghost use Rattle.addr2line_lookups.specs.Histories.{functions_or_refusal, calls_
 ghost use Rattle.addr2line_lookups.specs.ContextNames.{naming_in};
 ghost use Rattle.addr2line_lookups.specs.Preloads.{load_at, load_of_item};
 ghost use Rattle.addr2line_context.specs.AnsweredContexts.{HasNoAnswers};
-ghost use Rattle.addr2line_context.specs.ContextCosts.{runs_of_unit, location_looks, frame_looks, AsksForPlace, AfterLookup, AfterReading};
+ghost use Rattle.addr2line_context.specs.ContextCosts.{runs_of_unit, location_looks, AsksForPlace, AfterLookup, AfterSearch, AfterReading};
 ghost use Rattle.addr2line_context.specs.ContextParses.{ParsesOrNoMemory};
 ghost use Rattle.addr2line_context.specs.SettledLookups.{frames_in, unit_in, loads_in, after_answer, IsFor, LoadOf, LeavesAnswer};
 ghost use Rattle.addr2line_context.specs.SkippedLoads.{FindsFrames, FindsUnit};
@@ -277,6 +277,7 @@ impl<R: Reader> Context<R> {
             (option_map (λ f. f.value.file) file) ≡ (result, self.new.value.answers) }
         ensures plain { self.new.value.plain ≡ self.old.value.plain }
         ensures cost { AtMostLooks 0 self.old.units self.new.units }
+        ensures lines { ReadsNoLines self.old.units self.new.units }
     {
         self.units.answer_at(token.number(), file)
     }
@@ -302,7 +303,7 @@ impl<R: Reader> Context<R> {
             R.Offset.ReaderOffset.own R.Offset.Debug R.Offset.PartialEq R.Offset.Ord.own
             R.Offset.PartialOrd.own R.Offset.Hash.own) self.entry
             (λ w. w.context.ghost_name) result
-            (AfterLookup (frame_looks self.old.value probe) self.old)) }
+            (AfterSearch probe self.old)) }
     {
         match self.settle_frames(probe) {
             Ok(Settled::Waits) => LookupResult::Load(FindFrames {
@@ -333,7 +334,7 @@ impl<R: Reader> Context<R> {
             R.Offset.ReaderOffset.own R.Offset.Debug R.Offset.PartialEq R.Offset.Ord.own
             R.Offset.PartialOrd.own R.Offset.Hash.own) self.entry
             (λ w. w.context.ghost_name) result
-            (AfterLookup (frame_looks self.old.value probe) self.old)) }
+            (AfterSearch probe self.old)) }
     {
         match self.settle_unit(probe) {
             Ok(Settled::Waits) => LookupResult::Load(FindUnit {
@@ -351,7 +352,7 @@ impl<R: Reader> Context<R> {
     // Where the frames of an address are, unless a load needs an answer before.
     pub(crate) fn settle_frames(&mut self, probe: u64) -> Result<Settled<FramePlace>, Error>
         ensures found { SettlesFrames self.new.units (frames_in self.old.value probe) result }
-        ensures after { AfterLookup (frame_looks self.old.value probe) self.old self.new }
+        ensures after { AfterSearch probe self.old self.new }
     {
         let supplement_units = self.supplement_units.as_slice();
         let mut index = self.frames_progress.index_for(probe);
@@ -366,7 +367,7 @@ impl<R: Reader> Context<R> {
     pub(crate) fn settle_unit(&mut self, probe: u64) -> Result<Settled<usize>, Error>
         ensures found { SettlesUnit (map value_of_unit self.new.units)
             (unit_in self.old.value probe) result }
-        ensures after { AfterLookup (frame_looks self.old.value probe) self.old self.new }
+        ensures after { AfterSearch probe self.old self.new }
     {
         let supplement_units = self.supplement_units.as_slice();
         let mut index = self.unit_progress.index_for(probe);
@@ -391,6 +392,7 @@ impl<R: Reader> Context<R> {
             self.new.value }
         ensures refusal { IfErr result (λ e. e ≡ Memory) }
         ensures cost { AtMostLooks 0 self.old.units self.new.units }
+        ensures lines { ReadsNoLines self.old.units self.new.units }
     {
         let from = self.frames_progress.furthest_for(self.unit_progress, probe);
         let Some(number) = self.units.first_waiting(probe, from) else {

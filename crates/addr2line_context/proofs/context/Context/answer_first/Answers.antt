@@ -1,4 +1,6 @@
-use Rattle.std.proofs.Common.{inl, option_map, sym, ◌∙◌}
+use Rattle.std.proofs.Common.{inl, option_map, sym, subst, ◌∙◌}
+use Rattle.addr2line_lookups.specs.KeptUnits.{ReadsNoLines}
+use Rattle.addr2line_context.specs.KeptContexts.{ResolvedContext}
 use Rattle.addr2line_lookups.proofs.AnsweredLoads.{file_left, plain_left}
 use Rattle.addr2line_lookups.proofs.UnitProbes.{looks_none}
 use Rattle.addr2line_lookups.proofs.PassedUnits.{decided_same}
@@ -24,6 +26,8 @@ returns g c =
       left = answer_left _ _ _ of_file a _ is _ n first new _ h;
       refusal = answered_refusal _ _ _ of_file a _ is _ n first new _ h r alone;
       cost = looks_since _ _ _ _ c.self.view_is 0 new c.answer_at-answered.ensures.cost;
+      lines =
+          subst (λ (x : ResolvedContext). ReadsNoLines x.units new) c.self.view_is c.answer_at-answered.ensures.lines;
     }
 
 pub returns-in_default : goal.returns-in_default
@@ -39,6 +43,7 @@ returns-in_default g c =
       left = inl same;
       refusal = tt;
       cost = looks_none 0 _;
+      lines = λ number kept. kept;
     }
 
 pub invariant_of-self : goal.invariant_of-self
