@@ -224,6 +224,7 @@ impl<R: Reader> Context<R> {
             result self.old.value.answers self.new.value.answers }
         ensures plain { self.new.value.plain ≡ self.old.value.plain }
         ensures cost { AtMostLooks 0 self.old.units self.new.units }
+        ensures lines { ReadsNoLines self.old.units self.new.units }
     {
         self.frames_progress = Progress::none();
         self.unit_progress = Progress::none();
@@ -239,6 +240,7 @@ impl<R: Reader> Context<R> {
             result self.old.value.answers self.new.value.answers }
         ensures plain { self.new.value.plain ≡ self.old.value.plain }
         ensures cost { AtMostLooks 0 self.old.units self.new.units }
+        ensures lines { ReadsNoLines self.old.units self.new.units }
     {
         self.frames_progress = Progress::none();
         self.unit_progress = Progress::none();

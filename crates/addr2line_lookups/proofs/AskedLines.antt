@@ -37,14 +37,16 @@ pub no_lines_set : (us : List ResolvedUnit) (k : ℕ) (u : ResolvedUnit) → u �
     → new.keeps_lines ≡ u.keeps_lines → ReadsNoLines us (set us k new)
 no_lines_set us k u is new same = no_lines_put us k u new is same
 
--- no units change
-pub reads_none : (asks : ℕ → Type 0) (us : List ResolvedUnit) → ReadsAsked asks us us
-reads_none asks us n kept = inl kept
-
 -- ---- one change after the other
+
+pub no_lines_none : (us : List ResolvedUnit) → ReadsNoLines us us
+no_lines_none us n kept = kept
 
 pub no_lines_both : (us vs ws : List ResolvedUnit) → ReadsNoLines us vs → ReadsNoLines vs ws → ReadsNoLines us ws
 no_lines_both us vs ws first then n kept = first n (then n kept)
+
+pub reads_none : (asks : ℕ → Type 0) (us : List ResolvedUnit) → ReadsAsked asks us us
+reads_none asks us n kept = inl kept
 
 -- where no lines were read
 pub reads_nothing : (asks : ℕ → Type 0) (us vs : List ResolvedUnit) → ReadsNoLines us vs → ReadsAsked asks us vs

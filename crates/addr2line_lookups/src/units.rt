@@ -159,6 +159,7 @@ impl<R: Reader> Units<R> {
             (map value_of_unit self.new) }
         ensures calls { LeavesCalls self.old self.new }
         ensures cost { AtMostLooks 0 self.old self.new }
+        ensures lines { ReadsNoLines self.old self.new }
     {
         let alloc = *self.units.allocator();
         check_functions(alloc, &mut self.units)
@@ -173,6 +174,7 @@ impl<R: Reader> Units<R> {
             (map value_of_unit self.old) (map value_of_unit self.new) }
         ensures calls { HoldCalls (known_among self.new supplement_units.now) self.new }
         ensures cost { AtMostLooks 0 self.old self.new }
+        ensures lines { ReadsNoLines self.old self.new }
     {
         let alloc = *self.units.allocator();
         check_calls(alloc, &mut self.units, supplement_units)

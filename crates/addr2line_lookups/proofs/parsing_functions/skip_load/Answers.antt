@@ -21,4 +21,5 @@ returns g c =
           (ap (λ (u : ResolvedUnit). u.keeps_lines) c.record_answer.ensures.kept)
           (functions_same old new (ap (λ (u : ResolvedUnit). u.keeps_functions) c.record_answer.ensures.kept)
           (ap (λ (u : ResolvedUnit). u.calls) c.record_answer.ensures.kept));
+      lines = ap (λ (u : ResolvedUnit). u.keeps_lines) c.record_answer.ensures.kept;
     }

@@ -2,13 +2,12 @@ use Rattle.std.proofs.Common.{◌≡◌, ℕ, map, option_map, None, sym, subst}
 use Rattle.addr2line_lookups.specs.Lookups.{answer_load}
 use Rattle.addr2line_lookups.specs.ResolvedUnits.{value_of_unit}
 use Rattle.addr2line_lookups.specs.AnsweredUnits.{answers_of}
-use Rattle.addr2line_lookups.specs.KeptUnits.{ReadsNoLines}
 use Rattle.addr2line_lookups.specs.LoadAnswers.{AnswersOrNoMemory}
 use Rattle.addr2line_lookups.specs.Preloads.{load_at}
 use Rattle.addr2line_context.specs.KeptContexts.{ResolvedContext}
 use Rattle.addr2line_lookups.proofs.AnsweredLoads.{file_left, plain_left}
 use Rattle.addr2line_lookups.proofs.PassedUnits.{decided_same}
-use Rattle.addr2line_context.proofs.ContextParts.{value_is, looks_since}
+use Rattle.addr2line_context.proofs.ContextParts.{value_is, looks_since, lines_since}
 use Rattle.addr2line_context.proofs.ContextLoads.{answer_of_context, same_plain_context, decided_in_context}
 use Rattle.addr2line_context.proofs.KeptUnits.{holds_after}
 use Rattle.addr2line_context.proofs.context.Context.answer_load.Goals as goal
@@ -41,8 +40,7 @@ pub returns-clause-cost : goal.returns-clause-cost
 returns-clause-cost g c = looks_since _ _ _ _ c.self.view_is 0 c.answer_at.new.self c.answer_at.ensures.cost
 
 pub returns-clause-lines : goal.returns-clause-lines
-returns-clause-lines g c =
-    subst (λ (x : ResolvedContext). ReadsNoLines x.units c.answer_at.new.self) c.self.view_is c.answer_at.ensures.lines
+returns-clause-lines g c = lines_since _ _ _ _ c.self.view_is c.answer_at.new.self c.answer_at.ensures.lines
 
 pub returns-clause-decided : goal.returns-clause-decided
 returns-clause-decided g c =
