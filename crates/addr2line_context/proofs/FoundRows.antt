@@ -1,5 +1,5 @@
 -- What a lookup of a place leaves of a context.
-use Rattle.std.proofs.Common.{◌≡◌, ◌≢◌, ℕ, List, map, Result, Err, sym, ap, subst}
+use Rattle.std.proofs.Common.{◌≡◌, ◌≢◌, ℕ, List, map, Result, Ok, Err, sym, ap, subst}
 use Rattle.addr2line_lookups.specs.Error.{Error}
 use Rattle.addr2line_lookups.specs.Error.TheVariants.{Memory}
 use Rattle.addr2line_lookups.specs.DwarfFiles.{DwarfFile}
@@ -52,3 +52,10 @@ refusal A e = Err e
 
 pub same_refusal : {A B : Type 0} (e : Error) → refusal A e ≢ refusal A Memory → refusal B e ≢ refusal B Memory
 same_refusal {A} e other is = let same : e ≡ Memory = cc in other (ap (refusal A) same)
+
+-- a row that was found isn't out of memory
+abbrev answer : (A : Type 0) → A → Result A Error
+answer A x = Ok x
+
+pub found_row : {A : Type 0} (x : A) → answer A x ≢ refusal A Memory
+found_row {A} x same = cc
