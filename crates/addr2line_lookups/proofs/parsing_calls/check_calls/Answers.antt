@@ -12,7 +12,7 @@ use Rattle.addr2line_lookups.proofs.UnitProbes.{looks_none, looks_after}
 use Rattle.addr2line_lookups.proofs.parsing_calls.check_calls.Goals as goal
 
 pub loop-number-init : goal.loop-number-init
-loop-number-init g c = 
+loop-number-init g c =
     let us = c.args.units.now.items in (refl, c.requires, looks_none 0 us, no_lines_none us)
 
 pub loop-number-smaller : goal.loop-number-smaller
