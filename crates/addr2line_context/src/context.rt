@@ -211,7 +211,10 @@ impl<R: Reader> Context<R> {
 
     // The next stretch of a walk. The lines of the units that it comes to are read, unless they are
     // kept, and kept.
-    pub(crate) fn next_stretch(&mut self, walk: &mut RangeWalk) -> Result<Option<UnitStretch>, Error>
+    pub(crate) fn next_stretch(
+        &mut self,
+        walk: &mut RangeWalk,
+    ) -> Result<Option<UnitStretch>, Error>
         ensures stretch { FindsStretch self.old.value.plain.context.units result
             (left_in self.old walk.old) (left_in self.old walk.new) }
         ensures after { AfterLookup 0 self.old self.new }
