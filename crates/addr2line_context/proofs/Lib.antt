@@ -16,3 +16,4 @@ pub mod ResumedLookups
 pub mod UnitRuns
 pub mod FrameLoads
 pub mod UnitLoads
+pub mod FoundStretches

@@ -17,9 +17,8 @@ use Rattle.addr2line_resolved.specs.LineCursor.{LineCursor}
 use Rattle.addr2line_resolved.specs.LineCursors.{lines_left}
 use Rattle.addr2line_resolved.specs.RowStretch.{RowStretch}
 use Rattle.addr2line_resolved.specs.Stretches.{stretch_of_row}
-use Rattle.addr2line_resolved.specs.LineIndexes.{CountedLines, counted_lines}
 use Rattle.addr2line_resolved.specs.ContextUnits.{unit_places, ordered_ranges}
-use Rattle.addr2line_resolved.specs.ResolvedUnits.{ResolvedUnit, plain_unit, value_of_unit, if_kept, location_of_row}
+use Rattle.addr2line_resolved.specs.ResolvedUnits.{ResolvedUnit, plain_unit, value_of_unit, location_of_row}
 use Rattle.addr2line_resolved.proofs.UnitViews.{stretches_of_views, stretches_by_numbers}
 use Rattle.addr2line_lookups.specs.KeptUnits.{lines_of_unit, lines_at, location_of_unit_row}
 use Rattle.addr2line_lookups.specs.RangeWalks.{clipped_left, unit_left, rows_left, BeginsRange, IsStretchOf, FirstStretch, NextInRange, NextOfRows, walk_left, stretches_left, FindsStretch}
@@ -35,39 +34,17 @@ pub lines_by_number : (us : List ResolvedUnit) (n : ℕ) (o : Option ResolvedUni
 lines_by_number us n o found =
     ap lines_of_unit (slice_get-map plain_unit us n ∙ ap (option_map plain_unit) (sym found))
 
--- lines that are kept, with the name of their counter
-module _ (name : ℕ) where
-  counted_ok : (r : Result Lines Error) (i : CountedLines) → counted_lines name r ≡ Ok i → r ≡ Ok i.lines
-  counted_ok (Ok l) i h =
-      let same : record { lines = l; counter = name } ≡ i = cc in ap (λ (x : CountedLines). Ok x.lines) same
-  counted_ok (Err e) i h = absurd cc
+-- lines that can be read
+pub lines_read : (us : List ResolvedUnit) (n : ℕ) (u : ResolvedUnit) (l : Lines) → Some u ≡ slice_get us n
+    → u.value.unit.lines ≡ Ok l → lines_at (map plain_unit us) n ≡ Ok (Some l)
+lines_read us n u l found is =
+    lines_by_number us n (Some u) found ∙ ap (λ x. and_then x (λ (l : Lines). Ok (Some l))) is
 
-  counted_err : (r : Result Lines Error) (e : Error) → counted_lines name r ≡ Err e → r ≡ Err e
-  counted_err (Ok l) e h = absurd cc
-  counted_err (Err d) e h = let same : d ≡ e = cc in ap Err same
-
-  kept_is : (b : Bool) (r : Result Lines Error) (o : Option (Result CountedLines Error))
-      → o ≡ if_kept b (counted_lines name r) → b ≡ true → o ≡ Some (counted_lines name r)
-  kept_is b r o is kept = is ∙ ap (λ k. if_kept k (counted_lines name r)) kept
-
-  module _ (b : Bool) (r : Result Lines Error) (o : Option (Result CountedLines Error))
-      (is : o ≡ if_kept b (counted_lines name r)) (kept : b ≡ true) where
-    pub kept_lines_are : (i : CountedLines) → o ≡ Some (Ok i)
-        → and_then r (λ (l : Lines). Ok (Some l)) ≡ Ok (Some i.lines)
-    kept_lines_are i h =
-        let same : counted_lines name r ≡ Ok i =
-        let both : Some (counted_lines name r) ≡ Some (Ok i) = sym (kept_is b r o is kept) ∙ h in cc in
-        ap (λ x. and_then x (λ (l : Lines). Ok (Some l))) (counted_ok r i same)
-
-    pub kept_refusal_is : (e : Error) → o ≡ Some (Err e) → and_then r (λ (l : Lines). Ok (Some l)) ≡ Err e
-    kept_refusal_is e h =
-        let same : counted_lines name r ≡ Err e =
-        let both : Some (counted_lines name r) ≡ Some (Err e) = sym (kept_is b r o is kept) ∙ h in cc in
-        ap (λ x. and_then x (λ (l : Lines). Ok (Some l))) (counted_err r e same)
-
-    pub kept_lines_there : o ≡ None → ⊥
-    kept_lines_there h =
-        let both : Some (counted_lines name r) ≡ None = sym (kept_is b r o is kept) ∙ h in absurd cc
+-- or are refused
+pub lines_not_read : (us : List ResolvedUnit) (n : ℕ) (u : ResolvedUnit) (e : Error) → Some u ≡ slice_get us n
+    → u.value.unit.lines ≡ Err e → lines_at (map plain_unit us) n ≡ Err e
+lines_not_read us n u e found is =
+    lines_by_number us n (Some u) found ∙ ap (λ x. and_then x (λ (l : Lines). Ok (Some l))) is
 
 -- ---- the unit of a range
 
