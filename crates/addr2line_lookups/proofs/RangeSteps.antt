@@ -1,6 +1,7 @@
 -- Walks over the stretches between two ends, one step after the other.
-use Rattle.std.proofs.Common.{◌≡◌, ℕ, max, min, Bool, true, List, [], ◌∷◌, drop, map, slice_get, Option, Some, None, option_map, Result, Ok, Err, refl, sym, ap, ◌∙◌, subst}
+use Rattle.std.proofs.Common.{◌≡◌, ℕ, max, min, List, [], ◌∷◌, drop, map, slice_get, Option, Some, None, option_map, Result, Ok, Err, refl, sym, ap, ◌∙◌, subst}
 use Rattle.std.specs.Prelude.{◌≢◌, option_and_then}
+use Rattle.std.specs.Borrow.{Bor}
 use Rattle.std.proofs.lemmas.Option.{slice_get-map}
 use Rattle.addr2line_resolved.specs.Error.{Error}
 use Rattle.addr2line_resolved.specs.Error.TheVariants.{Memory}
@@ -17,15 +18,14 @@ use Rattle.addr2line_resolved.specs.LineCursor.{LineCursor}
 use Rattle.addr2line_resolved.specs.LineCursors.{lines_left}
 use Rattle.addr2line_resolved.specs.RowStretch.{RowStretch}
 use Rattle.addr2line_resolved.specs.Stretches.{stretch_of_row}
-use Rattle.addr2line_resolved.specs.ContextUnits.{unit_places, ordered_ranges}
-use Rattle.addr2line_resolved.specs.ResolvedUnits.{ResolvedUnit, plain_unit, value_of_unit, location_of_row}
+use Rattle.addr2line_resolved.specs.ContextUnits.{unit_places}
+use Rattle.addr2line_resolved.specs.ResolvedUnits.{ResolvedUnit, plain_unit, location_of_row}
 use Rattle.addr2line_resolved.proofs.UnitViews.{stretches_of_views, stretches_by_numbers}
-use Rattle.addr2line_lookups.specs.KeptUnits.{lines_of_unit, lines_at, location_of_unit_row}
-use Rattle.addr2line_lookups.specs.RangeWalks.{clipped_left, unit_left, rows_left, BeginsRange, IsStretchOf, FirstStretch, NextInRange, NextOfRows, walk_left, stretches_left, FindsStretch}
+use Rattle.addr2line_lookups.specs.KeptUnits.{lines_of_unit, lines_at}
+use Rattle.addr2line_lookups.specs.RangeWalks.{clipped_left, unit_left, rows_left, BeginsRange, FirstStretch, NextInRange, NextOfRows, walk_left, stretches_left, FindsStretch}
 use Rattle.addr2line_lookups.specs.declared.range_walk.RangeRows.{RangeRows}
 use Rattle.addr2line_lookups.specs.declared.range_walk.RangeWalk.{RangeWalk}
 use Rattle.addr2line_lookups.specs.declared.range_walk.UnitStretch.{UnitStretch}
-use Rattle.addr2line_lookups.proofs.KeptLines.{same_plain}
 
 -- ---- the lines of the unit of a number
 
@@ -45,6 +45,10 @@ pub lines_not_read : (us : List ResolvedUnit) (n : ℕ) (u : ResolvedUnit) (e : 
     → u.value.unit.lines ≡ Err e → lines_at (map plain_unit us) n ≡ Err e
 lines_not_read us n u e found is =
     lines_by_number us n (Some u) found ∙ ap (λ x. and_then x (λ (l : Lines). Ok (Some l))) is
+
+-- lines behind a reference, if there are any
+abbrev pub ok_lines : Option (Bor Lines) → Result (Option Lines) Error
+ok_lines o = Ok (option_map (λ l. l.now) o)
 
 -- ---- the unit of a range
 
@@ -165,10 +169,16 @@ module _ (low high : ℕ) (r : UnitRange) where
       at_number us r.unit (λ p. unit_left low high r.range c p ≡ [])
       (none_of_refused_unit c (slice_get us r.unit) e h)
 
+  -- between the clipped ends
+  clipped : (l : Lines) (c : LineCursor) (a b : ℕ) → a ≡ from → b ≡ to → lines_left l from to c ≡ lines_left l a b c
+  clipped l c a b low_is high_is =
+      sym (ap (λ n. lines_left l n b c) low_is ∙ ap (λ n. lines_left l from n c) high_is)
+
   -- nor after the last row
-  pub none_after_rows : (us : List ContextUnit) (c : LineCursor) (l : Lines) → lines_at us r.unit ≡ Ok (Some l)
-      → lines_left l from to c ≡ [] → NextInRange us low high (record { range = r; cursor = c }) None
-  none_after_rows us c l h none = left_in_unit us c l h ∙ none
+  pub none_after_rows : (us : List ContextUnit) (c : LineCursor) (l : Lines) (a b : ℕ) → a ≡ from → b ≡ to
+      → lines_at us r.unit ≡ Ok (Some l) → lines_left l a b c ≡ []
+      → NextInRange us low high (record { range = r; cursor = c }) None
+  none_after_rows us c l a b low_is high_is h none = left_in_unit us c l h ∙ clipped l c a b low_is high_is ∙ none
 
   location_in : (x : Result Lines Error) (l : Lines) (s : RowStretch)
       → and_then x (λ (l : Lines). Ok (Some l)) ≡ Ok (Some l)
@@ -187,16 +197,18 @@ module _ (low high : ℕ) (r : UnitRange) where
 
   -- the next row is the next stretch
   pub next_of_lines : (us : List ContextUnit) (c d : LineCursor) (l : Lines) (s : RowStretch) (t : UnitStretch)
-      → lines_at us r.unit ≡ Ok (Some l) → t ≡ stretch_in_unit s
-      → lines_left l from to c ≡ stretch_of_row l.files s ∷ lines_left l from to d
+      (a b : ℕ) → a ≡ from → b ≡ to → lines_at us r.unit ≡ Ok (Some l) → t ≡ stretch_in_unit s
+      → lines_left l a b c ≡ stretch_of_row l.files s ∷ lines_left l a b d
       → NextInRange us low high (record { range = r; cursor = c }) (Some (t, record { range = r; cursor = d }))
-  next_of_lines us c d l s t h is first =
+  next_of_lines us c d l s t a b low_is high_is h is first =
       subst (λ (x : UnitStretch). FirstStretch us x
       (unit_left low high r.range c (slice_get (map unit_places us) r.unit))
       (unit_left low high r.range d (slice_get (map unit_places us) r.unit))) (sym is) (
         stretch_of_row l.files s,
         record { address = refl; length = refl; location = location_of (slice_get us r.unit) l s h },
-        left_in_unit us c l h ∙ first ∙ ap (λ ts. stretch_of_row l.files s ∷ ts) (sym (left_in_unit us d l h)),
+        left_in_unit us c l h ∙ clipped l c a b low_is high_is ∙ first
+            ∙ ap (λ ts. stretch_of_row l.files s ∷ ts)
+            (sym (left_in_unit us d l h ∙ clipped l d a b low_is high_is)),
       )
 
 -- ---- one range after the other
@@ -248,3 +260,17 @@ first_left units ranges s old new h =
     let rest = stretches_from us old.low old.high (overlapping_ranges old.low old.high (drop old.next ranges)) in
     subst (λ (x : RangeWalk). FindsStretch units (Ok (Some s)) (walk_left us ranges old) (walk_left us ranges x))
     (sym h.0) (h.1.0, h.1.1, ap (λ ts. prepend ts rest) h.1.2)
+
+-- a stretch that was found, if one was
+abbrev pub ok_stretch : Option UnitStretch → Result (Option UnitStretch) Error
+ok_stretch o = Ok o
+
+-- where the walk's range has no more, the walk stays
+pub stays_empty : (units : List ContextUnit) (old new : RangeWalk) (o : Option UnitStretch) → o ≡ None
+    → NextOfRows units (Ok o) old new
+    → (new ≡ old) × (rows_left (map unit_places units) new.low new.high new.rows ≡ [])
+stays_empty units old new o none h =
+    let stays : NextOfRows units (Ok None) old new = subst (λ x. NextOfRows units (Ok x) old new) none h in (
+      stays.0,
+      subst (λ (w : RangeWalk). rows_left (map unit_places units) w.low w.high w.rows ≡ []) (sym stays.0) stays.1,
+    )

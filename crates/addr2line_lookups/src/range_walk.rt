@@ -1,7 +1,7 @@
 //! Walks over the stretches between two ends. The lines of a unit are read where a walk comes to
 //! it, and kept.
 
-ghost use Rattle.std.specs.Prelude.{◌≡◌, ℕ, List, map, option_map};
+ghost use Rattle.std.specs.Prelude.{◌≡◌, ℕ, List, map, option_map, MatchOption};
 ghost use Rattle.addr2line_resolved.specs.Calls.{ReturnsAs};
 ghost use Rattle.addr2line_resolved.specs.Contexts.{ContextUnit, ranges_of, lines_of};
 ghost use Rattle.addr2line_resolved.specs.PlaceLookups.{stretches_between};
@@ -131,7 +131,8 @@ fn next_in<R: Reader>(
     high: u64,
 ) -> Option<(UnitStretch, RangeRows)>
     requires { KeepsAt units.now rows.range.unit }
-    ensures { NextInRange (map plain_unit units.now) low high rows result }
+    ensures stretch { NextInRange (map plain_unit units.now) low high rows result }
+    ensures unit { MatchOption result (Unit {0}) (λ f. f.0.row.unit ≡ rows.range.unit) }
 {
     let RangeRows { range, cursor } = rows;
     match lines_at(units, range.unit) {
