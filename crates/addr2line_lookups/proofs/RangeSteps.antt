@@ -5,46 +5,27 @@ use Rattle.std.specs.Borrow.{Bor}
 use Rattle.std.proofs.lemmas.Option.{slice_get-map}
 use Rattle.addr2line_resolved.specs.Error.{Error}
 use Rattle.addr2line_resolved.specs.Error.TheVariants.{Memory}
-use Rattle.addr2line_resolved.specs.Repetition.{Listing, no_items, prepend}
+use Rattle.addr2line_resolved.specs.Repetition.{no_items, prepend}
 use Rattle.addr2line_resolved.specs.Results.{and_then}
-use Rattle.addr2line_resolved.specs.Lines.{Lines, Stretch, lines_between, row_location}
+use Rattle.addr2line_resolved.specs.Lines.{Lines, row_location}
 use Rattle.addr2line_resolved.specs.Contexts.{ContextUnit, ranges_of, lines_of}
-use Rattle.addr2line_resolved.specs.PlaceLookups.{with_stretches, stretches_between}
+use Rattle.addr2line_resolved.specs.PlaceLookups.{stretches_between}
 use Rattle.addr2line_resolved.specs.UnitRange.{UnitRange}
 use Rattle.addr2line_resolved.specs.UnitPlaces.{UnitPlaces}
 use Rattle.addr2line_resolved.specs.NumberedRanges.{overlapping_ranges}
-use Rattle.addr2line_resolved.specs.RangeIndexLaws.{with_unit_stretches, stretches_from}
+use Rattle.addr2line_resolved.specs.RangeIndexLaws.{stretches_from}
 use Rattle.addr2line_resolved.specs.LineCursor.{LineCursor}
 use Rattle.addr2line_resolved.specs.LineCursors.{lines_left}
 use Rattle.addr2line_resolved.specs.RowStretch.{RowStretch}
 use Rattle.addr2line_resolved.specs.Stretches.{stretch_of_row}
 use Rattle.addr2line_resolved.specs.ContextUnits.{unit_places}
-use Rattle.addr2line_resolved.specs.ResolvedUnits.{ResolvedUnit, plain_unit, location_of_row}
+use Rattle.addr2line_resolved.specs.ResolvedUnits.{location_of_row}
 use Rattle.addr2line_resolved.proofs.UnitViews.{stretches_of_views, stretches_by_numbers}
 use Rattle.addr2line_lookups.specs.KeptUnits.{lines_of_unit, lines_at}
 use Rattle.addr2line_lookups.specs.RangeWalks.{clipped_left, unit_left, rows_left, BeginsRange, FirstStretch, NextInRange, NextOfRows, walk_left, stretches_left, FindsStretch}
 use Rattle.addr2line_lookups.specs.declared.range_walk.RangeRows.{RangeRows}
 use Rattle.addr2line_lookups.specs.declared.range_walk.RangeWalk.{RangeWalk}
 use Rattle.addr2line_lookups.specs.declared.range_walk.UnitStretch.{UnitStretch}
-
--- ---- the lines of the unit of a number
-
-pub lines_by_number : (us : List ResolvedUnit) (n : ℕ) (o : Option ResolvedUnit) → o ≡ slice_get us n
-    → lines_at (map plain_unit us) n ≡ lines_of_unit (option_map plain_unit o)
-lines_by_number us n o found =
-    ap lines_of_unit (slice_get-map plain_unit us n ∙ ap (option_map plain_unit) (sym found))
-
--- lines that can be read
-pub lines_read : (us : List ResolvedUnit) (n : ℕ) (u : ResolvedUnit) (l : Lines) → Some u ≡ slice_get us n
-    → u.value.unit.lines ≡ Ok l → lines_at (map plain_unit us) n ≡ Ok (Some l)
-lines_read us n u l found is =
-    lines_by_number us n (Some u) found ∙ ap (λ x. and_then x (λ (l : Lines). Ok (Some l))) is
-
--- or are refused
-pub lines_not_read : (us : List ResolvedUnit) (n : ℕ) (u : ResolvedUnit) (e : Error) → Some u ≡ slice_get us n
-    → u.value.unit.lines ≡ Err e → lines_at (map plain_unit us) n ≡ Err e
-lines_not_read us n u e found is =
-    lines_by_number us n (Some u) found ∙ ap (λ x. and_then x (λ (l : Lines). Ok (Some l))) is
 
 -- lines behind a reference, if there are any
 abbrev pub ok_lines : Option (Bor Lines) → Result (Option Lines) Error
@@ -64,66 +45,9 @@ module _ (low high : ℕ) (r : UnitRange) where
   abbrev to : ℕ
   to = min high r.range.end
 
-  begins_lines : (c : LineCursor) (x : Result Lines Error) (l : Lines) (rest : Listing (Unit {0}) Stretch)
-      → and_then x (λ (l : Lines). Ok (Some l)) ≡ Ok (Some l) → lines_left l from to c ≡ lines_between l from to
-      → with_stretches low high r.range x rest ≡ prepend (clipped_left low high r.range c x) rest
-  begins_lines c (Ok m) l rest h start =
-      let same : m ≡ l = cc in
-      ap (λ (k : Lines). prepend (lines_between k from to) rest) same
-      ∙ ap (λ ts. prepend ts rest) (sym start)
-      ∙ ap (λ (k : Lines). prepend (lines_left k from to c) rest) (sym same)
-  begins_lines c (Err e) l rest h start = absurd cc
-
-  begins_unit : (c : LineCursor) (o : Option ContextUnit) (l : Lines) (rest : Listing (Unit {0}) Stretch)
-      → lines_of_unit o ≡ Ok (Some l) → lines_left l from to c ≡ lines_between l from to
-      → with_unit_stretches low high r.range (option_map unit_places o) rest
-      ≡ prepend (unit_left low high r.range c (option_map unit_places o)) rest
-  begins_unit c None l rest h start = absurd cc
-  begins_unit c (Some u) l rest h start = begins_lines c u.lines l rest h start
-
-  -- a walk begins in lines that can be read
-  pub begins_with : (us : List ContextUnit) (c : LineCursor) (l : Lines) → lines_at us r.unit ≡ Ok (Some l)
-      → lines_left l from to c ≡ lines_between l from to
-      → BeginsRange (map unit_places us) low high r (Ok (Some (record { range = r; cursor = c })))
-  begins_with us c l h start rest =
-      at_number us r.unit
-      (λ p. with_unit_stretches low high r.range p rest ≡ prepend (unit_left low high r.range c p) rest)
-      (begins_unit c (slice_get us r.unit) l rest h start)
-
   no_lines_of : (x : Result Lines Error) → and_then x (λ (l : Lines). Ok (Some l)) ≡ Ok None → ⊥
   no_lines_of (Ok l) h = absurd cc
   no_lines_of (Err e) h = absurd cc
-
-  begins_without : (o : Option ContextUnit) (rest : Listing (Unit {0}) Stretch) → lines_of_unit o ≡ Ok None
-      → with_unit_stretches low high r.range (option_map unit_places o) rest ≡ rest
-  begins_without None rest h = refl
-  begins_without (Some u) rest h = absurd (no_lines_of u.lines h)
-
-  -- not where there is no unit
-  pub begins_nowhere : (us : List ContextUnit) → lines_at us r.unit ≡ Ok None
-      → BeginsRange (map unit_places us) low high r (Ok None)
-  begins_nowhere us h rest =
-      at_number us r.unit (λ p. with_unit_stretches low high r.range p rest ≡ rest)
-      (begins_without (slice_get us r.unit) rest h)
-
-  refused_lines : (x : Result Lines Error) (e : Error) (rest : Listing (Unit {0}) Stretch)
-      → and_then x (λ (l : Lines). Ok (Some l)) ≡ Err e → with_stretches low high r.range x rest ≡ no_items (Err e)
-  refused_lines (Ok l) e rest h = absurd cc
-  refused_lines (Err d) e rest h = let same : d ≡ e = cc in ap (λ x. no_items (Err x)) same
-
-  refused_unit : (o : Option ContextUnit) (e : Error) (rest : Listing (Unit {0}) Stretch) → lines_of_unit o ≡ Err e
-      → with_unit_stretches low high r.range (option_map unit_places o) rest ≡ no_items (Err e)
-  refused_unit None e rest h = absurd cc
-  refused_unit (Some u) e rest h = refused_lines u.lines e rest h
-
-  -- nor where its lines are refused
-  pub begins_refused : (us : List ContextUnit) (e : Error) → lines_at us r.unit ≡ Err e
-      → BeginsRange (map unit_places us) low high r (Err e)
-  begins_refused us e h other rest =
-      at_number us r.unit (λ p. with_unit_stretches low high r.range p rest ≡ no_items (Err e))
-      (refused_unit (slice_get us r.unit) e rest h)
-
-  -- ---- what is left of it
 
   left_of_lines : (c : LineCursor) (x : Result Lines Error) (l : Lines)
       → and_then x (λ (l : Lines). Ok (Some l)) ≡ Ok (Some l) → clipped_left low high r.range c x ≡ lines_left l from to c

@@ -1,7 +1,7 @@
 use Rattle.std.proofs.Common.{◌≡◌, ◌∙◌, List, [], Option, Some, None, ap, map, refl, subst, sym}
 use Rattle.addr2line_resolved.specs.Contexts.{ContextUnit}
 use Rattle.addr2line_resolved.specs.ContextUnits.{unit_places}
-use Rattle.addr2line_resolved.specs.ResolvedUnits.{ResolvedUnit, plain_unit}
+use Rattle.addr2line_resolved.specs.ResolvedUnits.{plain_unit}
 use Rattle.addr2line_lookups.specs.KeptUnits.{KeepsAt}
 use Rattle.addr2line_lookups.specs.RangeWalks.{rows_left, FirstStretch, NextInRange}
 use Rattle.addr2line_lookups.specs.declared.range_walk.RangeRows.{RangeRows}

@@ -1,10 +1,9 @@
-use Rattle.std.proofs.Common.{◌≡◌, ◌∙◌, List, [], Ok, Err, ap, map, subst, sym}
+use Rattle.std.proofs.Common.{◌≡◌, ◌∙◌, List, Ok, Err, ap, map, subst, sym}
 use Rattle.std.proofs.lemmas.Result.{err_from_is_err_and}
 use Rattle.addr2line_resolved.specs.Contexts.{ContextUnit}
 use Rattle.addr2line_resolved.specs.ContextUnits.{unit_places}
 use Rattle.addr2line_resolved.specs.ResolvedUnits.{plain_unit}
-use Rattle.addr2line_lookups.specs.RangeWalks.{BeginsRange, NextOfRows, rows_left, walk_left}
-use Rattle.addr2line_lookups.specs.declared.range_walk.RangeWalk.{RangeWalk}
+use Rattle.addr2line_lookups.specs.RangeWalks.{BeginsRange, NextOfRows, walk_left}
 use Rattle.addr2line_lookups.proofs.CallsLeft.{leaves_both}
 use Rattle.addr2line_lookups.proofs.KeptLines.{same_plain}
 use Rattle.addr2line_lookups.proofs.RangeSteps.{first_left, next_range, refused_range, no_range, stays_empty, ok_stretch}
