@@ -16,4 +16,3 @@ pub mod ResumedLookups
 pub mod UnitRuns
 pub mod FrameLoads
 pub mod UnitLoads
-pub mod FoundStretches
