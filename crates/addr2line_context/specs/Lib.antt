@@ -45,7 +45,11 @@ pub mod MainFiles
 pub use Rattle.addr2line_lookups.specs.ContextUnits
 pub use Rattle.addr2line_lookups.specs.ResolvedUnits
 pub use Rattle.addr2line_lookups.specs.KeptUnits
-pub use Rattle.addr2line_lookups.specs.RangeItems
+pub use Rattle.addr2line_lookups.specs.RangeWalks
+pub use Rattle.addr2line_lookups.specs.declared.range_walk.RangeWalk
+pub use Rattle.addr2line_lookups.specs.Location
+pub mod RangeItems
+pub mod LocationRanges
 pub mod AnsweredContexts
 pub mod Progresses
 pub mod KeptContexts

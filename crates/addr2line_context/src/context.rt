@@ -1,7 +1,7 @@
 //! A context, and what lookups find in it.
 
 ghost use Rattle.std.specs.Prelude.{◌≡◌, ◌≢◌, ◌<◌, ◌≤◌, ◌+◌, None, Ok, Err, IfOk, IfErr, IfSome, OnOk, length, map, slice_get, option_map};
-ghost use Rattle.addr2line_lookups.specs.Calls.{ReturnsAsOrNoMemory, ReturnsOrNoMemory};
+ghost use Rattle.addr2line_lookups.specs.Calls.{ReturnsAs, ReturnsAsOrNoMemory, ReturnsOrNoMemory};
 ghost use Rattle.addr2line_lookups.specs.Contexts.{location, stretches, file_context, all_lines_or_refusal};
 ghost use Rattle.addr2line_lookups.specs.Error.TheVariants.{Memory};
 ghost use Rattle.addr2line_lookups.specs.Lookups.{answer_load, map_output};
@@ -10,6 +10,9 @@ ghost use Rattle.addr2line_lookups.specs.BorrowedLocations.{location_value};
 ghost use Rattle.addr2line_lookups.specs.ResolvedUnits.{value_of_unit, RunForRangesAlone};
 ghost use Rattle.addr2line_lookups.specs.KeptUnits.{KeepsAsked, ReadsAsked, ReadsNoLines, AsksForLines};
 ghost use Rattle.addr2line_lookups.specs.LookupCosts.{AtMostLooks};
+ghost use Rattle.addr2line_lookups.specs.KeptUnits.{KeepsAt};
+ghost use Rattle.addr2line_lookups.specs.Lines.{Stretch};
+ghost use Rattle.addr2line_lookups.specs.RangeWalks.{FindsStretch, IsStretchOf, KeepsStretch};
 ghost use Rattle.addr2line_lookups.specs.UnitLookups.{SettlesFrames, SettlesUnit};
 ghost use Rattle.addr2line_lookups.specs.LoadAnswers.{AnswersOrNoMemory};
 ghost use Rattle.addr2line_lookups.specs.Histories.{functions_or_refusal, calls_or_refusal};
@@ -18,19 +21,22 @@ ghost use Rattle.addr2line_lookups.specs.Preloads.{load_at, load_of_item};
 ghost use Rattle.addr2line_context.specs.AnsweredContexts.{HasNoAnswers};
 ghost use Rattle.addr2line_context.specs.ContextCosts.{runs_of_unit, location_looks, AsksForPlace, AfterLookup, AfterSearch, AfterReading};
 ghost use Rattle.addr2line_context.specs.ContextParses.{ParsesOrNoMemory};
+ghost use Rattle.addr2line_context.specs.LocationRanges.{left_in};
+ghost use Rattle.addr2line_context.specs.RangeItems.{stretch_of_item};
 ghost use Rattle.addr2line_context.specs.SettledLookups.{frames_in, unit_in, loads_in, after_answer, IsFor, LoadOf, LeavesAnswer};
 ghost use Rattle.addr2line_context.specs.SkippedLoads.{FindsFrames, FindsUnit};
 ghost use Rattle.addr2line_context.specs.Suspended.{IfLoad, IfSkipped, FollowsLookup, RestsUnlessWaiting};
 
 use crate::find_frames::FindFrames;
 use crate::find_unit::FindUnit;
+use crate::location_range::LocationRangeIter;
 use crate::lookup::LookupResult;
 use crate::outcomes::memory_alone;
 use crate::progress::Progress;
 use crate::runs::runs_at;
 use addr2line_lookups::{
-    ArangeIndex, Dwarf, Error, FramePlace, Location, LocationRangeIter, Reader, Runs, Settled,
-    SplitDwarfLoad, Unit, UnitToken, Units, frame_without_function, units_of_file,
+    ArangeIndex, Dwarf, Error, FramePlace, Location, RangeWalk, Reader, Runs, Settled,
+    SplitDwarfLoad, Unit, UnitStretch, UnitToken, Units, frame_without_function, units_of_file,
     units_of_supplement,
 };
 use std::alloc::Global;
@@ -91,7 +97,7 @@ impl<R: Reader> Model for Context<R> {
 }
 
 impl<R: Reader> Context<R> {
-    ghost use Rattle.std.specs.Borrow.{sem};
+    ghost use Rattle.std.specs.Borrow.{sem, RestsIfErr};
     ghost use Rattle.std.specs.Io.BufRead.{Rests};
     ghost use Rattle.addr2line_context.specs.contracts.context.Context.{the_row};
 
@@ -184,17 +190,56 @@ impl<R: Reader> Context<R> {
 
     /// The stretches of addresses between two ends, with their places: of the units with a range
     /// there, in the order in which lookups ask them, those of their rows between the ends, both
-    /// clipped to that range. The lines of these units are read, unless they are kept, and kept.
+    /// clipped to that range. Here nothing is read and no memory is taken, so that it is never
+    /// refused; the iterator reads the lines of each unit where it comes to it. Once it is let go,
+    /// the context's value is what the iterator's calls left.
     pub fn find_location_range(
         &mut self,
         probe_low: u64,
         probe_high: u64,
     ) -> Result<LocationRangeIter<'_, R>, Error>
-        ensures { ReturnsOrNoMemory result
+        ensures stretches { ReturnsAs (λ i. left_in i.context.now i.walk) result
             (Ok (stretches self.old.value.plain.context probe_low probe_high)) }
+        ensures context { IfOk result (λ i. i.context.now ≡ self.old) }
+        ensures same_reference { IfOk result (λ i. i.context.ghost_name ≡ self.entry.ghost_name) }
+        ensures* after { sem 𝓛 (RestsIfErr (the_row R.row R.Endian.row R.Offset.row R.Reader
+            R.Endian.Endianity.own R.Endian.Debug R.Endian.Default R.Endian.PartialEq
+            R.Offset.ReaderOffset.own R.Offset.Debug R.Offset.PartialEq R.Offset.Ord.own
+            R.Offset.PartialOrd.own R.Offset.Hash.own) self.entry (λ i. i.context.ghost_name)
+            result (λ left. left ≡ self.old)) }
     {
-        self.units.read_between(probe_low, probe_high)?;
-        Ok(self.units.stretches(probe_low, probe_high))
+        let walk = RangeWalk::new(probe_low, probe_high);
+        Ok(LocationRangeIter {
+            context: self,
+            walk,
+        })
+    }
+
+    // The next stretch of a walk. The lines of the units that it comes to are read, unless they are
+    // kept, and kept.
+    pub(crate) fn next_stretch(
+        &mut self,
+        walk: &mut RangeWalk,
+    ) -> Result<Option<UnitStretch>, Error>
+        ensures stretch { FindsStretch self.old.value.plain.context.units result
+            (left_in self.old walk.old) (left_in self.old walk.new) }
+        ensures after { AfterLookup 0 self.old self.new }
+        ensures kept { KeepsStretch self.new.units result }
+    {
+        self.units.next_stretch(walk)
+    }
+
+    // A stretch that was found, with its place.
+    pub(crate) fn stretch_with_place(&self, found: UnitStretch) -> (u64, u64, Location<'_>)
+        requires kept { KeepsAt self.now.units found.row.unit }
+        requires found { (x : Stretch) × IsStretchOf self.now.value.plain.context.units found x }
+        ensures { (x : Stretch) → IsStretchOf self.now.value.plain.context.units found x
+            → stretch_of_item result ≡ x }
+    {
+        match self.units.place_in(found.row) {
+            Some(place) => (found.address, found.length, place),
+            None => unreachable!(),
+        }
     }
 
     /// Whether the lines of all units can be read, or else the first refusal, by the units'

@@ -6,10 +6,11 @@ pub mod context;
 pub mod find_frames;
 pub mod find_unit;
 pub mod frame_loads;
-pub mod kept_stretches;
+pub mod location_range;
 pub mod lookup;
 mod outcomes;
 mod progress;
+pub mod range_steps;
 mod runs;
 mod sections;
 pub mod skip_laws;
@@ -20,12 +21,13 @@ pub use addr2line_lookups::{
     DebugAbbrev, DebugAbbrevOffset, DebugAddrIndex, DebugLineStrOffset, DebugRngListsIndex,
     DebugStrOffset, DebugStrOffsetsIndex, DwLang, Dwarf, DwarfFileType, DwoId, EndianBytes,
     EndianSlice, Error, Format, Frame, FrameIter, FunctionName, Lines, LinesBuilder, LittleEndian,
-    Location, LocationLists, LocationRangeIter, Range, RangeLists, RangeListsOffset,
-    RawRangeListsOffset, Reader, ReaderOffsetId, ResUnit, RunTimeEndian, Runs, SectionId,
-    SplitDwarfLoad, Unit, UnitLines, UnitOffset, UnitRef, UnitRoot, UnitToken, file_text,
+    Location, LocationLists, Range, RangeLists, RangeListsOffset, RangeWalk, RawRangeListsOffset,
+    Reader, ReaderOffsetId, ResUnit, RunTimeEndian, Runs, SectionId, SplitDwarfLoad, Unit,
+    UnitLines, UnitOffset, UnitRef, UnitRoot, UnitStretch, UnitToken, file_text,
     file_text_of_bytes, is_rooted, join, language_of, ranges_of_attributes,
 };
 pub use context::Context;
 pub use find_frames::FindFrames;
 pub use find_unit::FindUnit;
+pub use location_range::LocationRangeIter;
 pub use lookup::{LookupContinuation, LookupResult};

@@ -8,7 +8,6 @@ pub mod StableOrder
 pub mod NumberedRangeLemmas
 pub mod UnitViews
 pub mod StretchLemmas
-pub mod StretchesLeftLemmas
 pub mod SortedOrder
 pub mod SortedLast
 pub mod RangeLevelLemmas

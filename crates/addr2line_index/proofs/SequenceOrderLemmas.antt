@@ -1,10 +1,12 @@
 -- Sequences by their starts: what a sort in place makes of them, and what a walk over them finds.
-use Rattle.std.proofs.Common.{◌≡◌, ℕ, zero, suc, ◌+◌, ◌<◌, ◌≤◌, max, Bool, true, false, not, cond, nat_lt, nat_le, List, [], ◌∷◌, ◌++◌, length, get_or, drop, slice_get, filter, flat_map, refl, ap, sym, ◌∙◌, subst, arith, append_assoc, append-nil, length-append}
+use Rattle.std.proofs.Common.{◌≡◌, ℕ, zero, suc, ◌+◌, ◌<◌, ◌≤◌, max, Bool, true, false, not, cond, nat_lt, nat_le, List, [], ◌∷◌, ◌++◌, length, get_or, drop, slice_get, filter, flat_map, refl, ap, sym, ◌∙◌, subst, arith, append_assoc, length-append}
 use Rattle.std.specs.Prelude.{◌==◌, ◌&&◌, ◌||◌, Some}
 use Rattle.std.specs.Cmp.{IsStrictWeakOrder}
 use Rattle.std.specs.List.{All, AllZip, prefix_len}
 use Rattle.std.specs.List.Sorted.{IsPermutation, IsSortedBy, IsStableBy, IsNonDecreasingBy, ties}
 use Rattle.std.proofs.lemmas.Bool.Decides.{nat_tests}
+use Rattle.std.proofs.lemmas.List.{at_drop_more}
+use Rattle.std.proofs.lemmas.List.Concat.{flat_map-append}
 use Rattle.std.proofs.lemmas.List.Elements.{All-nil, All-cons, All-head, All-tail, All-filter, filter_passes, filter-append}
 use Rattle.std.proofs.lemmas.List.Sorted.{All-permutation, sum_by-IsPermutation}
 use Rattle.std.proofs.lemmas.List.Sums.{length-filter}
@@ -15,7 +17,7 @@ use Rattle.addr2line_index.specs.PartialLines.{as_list}
 use Rattle.addr2line_index.specs.SequenceOrders.{entry_of, entries_from, comes_before, with_greatest_ends, by_start, greatest_end_of, bounded_by, sequence_at, sequences_at, StartFrom, EndBy, AreByStart}
 use Rattle.addr2line_index.proofs.HolderViews.{at_place}
 use Rattle.addr2line_index.proofs.SortedOrder.{NotLess, Ascends, Ascends-in_order, in_order-sorted}
-use Rattle.addr2line_index.proofs.StretchLemmas.{starts_before, starts_is_order, parts_of_filter}
+use Rattle.addr2line_index.proofs.StretchLemmas.{starts_before, starts_is_order}
 
 -- ---- the order
 
@@ -246,15 +248,11 @@ module _ (all : List Sequence) where
     ),
   )
 
-  pub AreByStart-drop : (n : ℕ) (es : List OrderedSequence) → AreByStart all es → AreByStart all (drop n es)
-  AreByStart-drop zero es h = h
-  AreByStart-drop (suc n) [] h = h
-  AreByStart-drop (suc n) (e ∷ es) h = AreByStart-drop n es h.1.1
-
-  pub first_ends : (es : List OrderedSequence) (d : OrderedSequence) → 1 ≤ length es → AreByStart all es
-      → EndBy (get_or es 0 d).end (sequence_at all (get_or es 0 d))
-  first_ends [] d some h = absurd (omega arith)
-  first_ends (e ∷ es) d some h = h.1.0
+  pub entry_ends : (n : ℕ) (es : List OrderedSequence) (d : OrderedSequence) → n < length es → AreByStart all es
+      → EndBy (get_or es n d).end (sequence_at all (get_or es n d))
+  entry_ends n [] d within h = absurd (omega arith)
+  entry_ends zero (e ∷ es) d within h = h.1.0
+  entry_ends (suc n) (e ∷ es) d within h = entry_ends n es d (omega arith) h.1.1
 
   -- ---- by their greatest ends
 
@@ -322,20 +320,30 @@ module _ (all : List Sequence) where
 
     module _ {A : Type 0} (parts : Sequence → List A) where
       abbrev found_at : List Sequence → List A
-      found_at ss = parts_of_filter (reaches low high) parts ss
+      found_at ss = flat_map parts (filter (reaches low high) ss)
 
-      pub walk_stops : (found : List A) (es : List OrderedSequence) (d : OrderedSequence) → 1 ≤ length es
-          → AreByStart all es → high ≤ (get_or es 0 d).start → found ≡ found ++ found_at (sequences_at all es)
-      walk_stops found [] d some by h = absurd (omega arith)
-      walk_stops found (e ∷ es) d some by h =
-          sym (ap (λ l. found ++ flat_map parts l) (none_reach e.start (sequences_at all (e ∷ es)) h by.0)
-          ∙ append-nil found)
+      pub walk_stops : (n : ℕ) (es : List OrderedSequence) (d : OrderedSequence) → n < length es → AreByStart all es
+          → high ≤ (get_or es n d).start → found_at (sequences_at all (drop n es)) ≡ []
+      walk_stops n [] d within by h = absurd (omega arith)
+      walk_stops zero (e ∷ es) d within by h =
+          ap (flat_map parts) (none_reach e.start (sequences_at all (e ∷ es)) h by.0)
+      walk_stops (suc n) (e ∷ es) d within by h = walk_stops n es d (omega arith) by.1.1 h
 
       -- it skips what ends at or below the low end
-      pub walk_skips : (found : List A) (e : OrderedSequence) → e.end ≤ low → EndBy e.end (sequence_at all e)
-          → found ≡ found ++ found_at (sequence_at all e)
-      walk_skips found e h by =
-          sym (ap (λ l. found ++ flat_map parts l) (ended e.end (sequence_at all e) h by) ∙ append-nil found)
+      pub walk_skips : (e : OrderedSequence) → e.end ≤ low → EndBy e.end (sequence_at all e)
+          → found_at (sequence_at all e) ≡ []
+      walk_skips e h by = ap (flat_map parts) (ended e.end (sequence_at all e) h by)
+
+      -- the next sequence comes first
+      pub walk_next : (n : ℕ) (es : List OrderedSequence) (d : OrderedSequence) → n < length es
+          → found_at (sequences_at all (drop n es))
+          ≡ found_at (sequence_at all (get_or es n d)) ++ found_at (sequences_at all (drop (n + 1) es))
+      walk_next n es d within =
+          at_drop_more (λ l. found_at (sequences_at all l)) es n d within
+          ∙ ap (flat_map parts)
+          (filter-append (reaches low high) (sequence_at all (get_or es n d)) (sequences_at all (drop (n + 1) es)))
+          ∙ flat_map-append parts (filter (reaches low high) (sequence_at all (get_or es n d)))
+          (filter (reaches low high) (sequences_at all (drop (n + 1) es)))
 
 in_order_refers : (n : ℕ) (before ss : List Sequence) → n ≡ length before
     → AllZip (RefersTo (before ++ ss)) (in_order after (entries_from n ss)) (in_order starts_after ss)

@@ -1,12 +1,15 @@
 -- Rows between two ends: parts of lists, one element on.
-use Rattle.std.proofs.Common.{◌≡◌, ℕ, suc, zero, ◌-◌, Bool, true, false, cond, nat_lt, List, [], ◌∷◌, ◌++◌, length, length-drop, filter, flat_map, take, drop, refl, sym, ap, ◌∙◌, arith, append_assoc, append-nil}
-use Rattle.std.specs.Prelude.{◌==◌, ◌&&◌, ◌||◌, Result, Ok, Err, IfOk}
+use Rattle.std.proofs.Common.{◌≡◌, ℕ, suc, zero, ◌+◌, ◌-◌, Bool, true, false, cond, nat_lt, List, [], ◌∷◌, length, length-drop, flat_map, take, drop, Option, Some, None, refl, sym, ap, ◌∙◌, arith, append-nil}
+use Rattle.std.specs.Prelude.{◌==◌, ◌&&◌, ◌||◌, MatchOption}
 use Rattle.std.specs.Cmp.{IsStrictWeakOrder}
 use Rattle.std.specs.List.{take_while}
 use Rattle.std.proofs.lemmas.Bool.Decides.{nat_tests}
-use Rattle.std.proofs.lemmas.List.{take_all}
+use Rattle.std.proofs.lemmas.List.{take_all, drop-drop}
 use Rattle.std.proofs.lemmas.List.Sums.{take_while-cons}
-use Rattle.addr2line_spec.specs.Lines.{LineRow, Sequence, rows_to, stretches_of, sequence_between, reaches, starts_after}
+use Rattle.addr2line_spec.specs.Lines.{LineRow, Sequence, Stretch, row_location, rows_to, next_address, stretches_of, sequence_between, reaches, starts_after}
+use Rattle.addr2line_index.specs.declared.stretches.RowStretch.{RowStretch}
+use Rattle.addr2line_index.specs.Stretches.{stretch_of_row, stretches_below, sequence_from}
+use Rattle.addr2line_index.specs.LineCursors.{stretches_among}
 
 -- ---- rows
 
@@ -20,15 +23,67 @@ stretches_of-drop files end (suc k) (r ∷ rs) = stretches_of-drop files end k r
 pub rest_from : {X : Type 0} (n : ℕ) (xs : List X) → take (length xs - n) (drop n xs) ≡ drop n xs
 rest_from n xs = take_all (length xs - n) (drop n xs) (omega (arith, length-drop n xs))
 
--- of a sequence that reaches between the ends, the stretches from a row on
-pub between_from : (files : List (List ℕ)) (low high : ℕ) (s : Sequence) (first : ℕ) → first ≡ rows_to low s.rows - 1
-    → reaches low high s ≡ true
-    → take_while (λ t. nat_lt t.address high) (stretches_of files s.end (drop first s.rows))
-    ≡ cond (reaches low high s) (sequence_between files low high s) []
-between_from files low high s first e h =
-    ap (take_while (λ t. nat_lt t.address high))
-    (stretches_of-drop files s.end first s.rows ∙ ap (λ n. drop n (stretches_of files s.end s.rows)) e)
-    ∙ sym (ap (λ b. cond b (sequence_between files low high s) []) h)
+-- a row as a stretch
+stretch_is : (files : List (List ℕ)) (end next : ℕ) (r : LineRow) (rest : List LineRow) (s : RowStretch) → s.row ≡ r
+    → s.address ≡ r.address → s.length ≡ next - s.address → next ≡ next_address rest end
+    → stretches_of files end (r ∷ rest) ≡ stretch_of_row files s ∷ stretches_of files end rest
+stretch_is files end next r rest s row address length after =
+    let made : ℕ → ℕ → LineRow → Stretch =
+    λ a n x. record { address = a; length = n; location = row_location files x } in
+    let long : s.length ≡ next_address rest end - r.address =
+    length ∙ ap (λ n. n - s.address) after ∙ ap (λ a. next_address rest end - a) address in
+    sym (ap (λ t. t ∷ stretches_of files end rest)
+    (ap (made s.address s.length) row ∙ ap (λ a. made a s.length r) address ∙ ap (λ n. made r.address n r) long))
+
+-- the first of rows, if it begins below the high end
+pub first_below : (files : List (List ℕ)) (end high next : ℕ) (rows : List LineRow) (r : LineRow) (rest : List LineRow)
+    (s : RowStretch) → rows ≡ r ∷ rest → s.row ≡ r → s.address ≡ r.address → s.length ≡ next - s.address
+    → next ≡ next_address rest end → nat_lt s.address high ≡ true
+    → stretches_below files end high rows ≡ stretch_of_row files s ∷ stretches_below files end high (drop 1 rows)
+first_below files end high next rows r rest s whole row address length after below =
+    let p : Stretch → Bool = λ t. nat_lt t.address high in
+    ap (stretches_below files end high) whole
+    ∙ ap (take_while p) (stretch_is files end next r rest s row address length after)
+    ∙ take_while-cons p (stretch_of_row files s) (stretches_of files end rest)
+    ∙ ap (λ b. cond b (stretch_of_row files s ∷ stretches_below files end high rest) []) below
+    ∙ ap (λ l. stretch_of_row files s ∷ stretches_below files end high (drop 1 l)) (sym whole)
+
+pub none_below_end : (files : List (List ℕ)) (end high : ℕ) (rows : List LineRow) (r : LineRow) (rest : List LineRow)
+    → rows ≡ r ∷ rest → nat_lt r.address high ≡ false → stretches_below files end high rows ≡ []
+none_below_end files end high rows r rest whole above =
+    let p : Stretch → Bool = λ t. nat_lt t.address high in
+    let x : Stretch =
+    record { address = r.address; length = next_address rest end - r.address; location = row_location files r } in
+    ap (stretches_below files end high) whole
+    ∙ take_while-cons p x (stretches_of files end rest)
+    ∙ ap (λ b. cond b (x ∷ stretches_below files end high rest) []) above
+
+-- the first row from a number on
+pub first_from : (files : List (List ℕ)) (end high n : ℕ) (rows : List LineRow) (o : Option RowStretch)
+    → MatchOption o (stretches_below files end high (take (length rows - n) (drop n rows)) ≡ [])
+    (λ s. stretches_below files end high (take (length rows - n) (drop n rows))
+    ≡ stretch_of_row files s ∷ stretches_below files end high (drop 1 (take (length rows - n) (drop n rows))))
+    → MatchOption o (stretches_below files end high (drop n rows) ≡ [])
+    (λ s. stretches_below files end high (drop n rows)
+    ≡ stretch_of_row files s ∷ stretches_below files end high (drop (n + 1) rows))
+first_from files end high n rows None h = ap (stretches_below files end high) (sym (rest_from n rows)) ∙ h
+first_from files end high n rows (Some s) h =
+    ap (stretches_below files end high) (sym (rest_from n rows))
+    ∙ h
+    ∙ ap (λ l. stretch_of_row files s ∷ stretches_below files end high l)
+    (ap (drop 1) (rest_from n rows) ∙ drop-drop 1 n rows)
+
+-- of a sequence that reaches between the ends, the stretches from its first row there on
+pub sequence_first : (files : List (List ℕ)) (low high : ℕ) (s : Sequence) (o : Option ℕ)
+    → MatchOption o (reaches low high s ≡ false) (λ n. (reaches low high s ≡ true) × (n ≡ rows_to low s.rows - 1))
+    → MatchOption o (stretches_among files low high (s ∷ []) ≡ [])
+    (λ n. stretches_among files low high (s ∷ []) ≡ sequence_from files high n (Some s))
+sequence_first files low high s None h = ap (λ b. flat_map (sequence_between files low high) (cond b (s ∷ []) [])) h
+sequence_first files low high s (Some n) h =
+    ap (λ b. flat_map (sequence_between files low high) (cond b (s ∷ []) [])) h.0
+    ∙ append-nil (sequence_between files low high s)
+    ∙ ap (take_while (λ t. nat_lt t.address high))
+    (ap (λ k. drop k (stretches_of files s.end s.rows)) (sym h.1) ∙ sym (stretches_of-drop files s.end n s.rows))
 
 -- ---- order
 
@@ -51,34 +106,3 @@ starts_is_order view = record {
   chain = λ x y z h k.
       starts_chain (view x).start (view x).end (view y).start (view y).end (view z).start (view z).end h k;
 }
-
--- what follows from the value, where there is one
-pub if_ok-follows : {T E : Type 0} {P Q : T → Type 0} (r : Result T E) → ((x : T) → P x → Q x) → IfOk r P → IfOk r Q
-if_ok-follows (Ok x) f h = f x h
-if_ok-follows (Err e) f h = tt
-
--- what is joined of those that pass a test
-abbrev pub parts_of_filter : {X A : Type 0} → (X → Bool) → (X → List A) → List X → List A
-parts_of_filter keep parts xs = flat_map parts (filter keep xs)
-
-pub parts_of_filter-cons : {X A : Type 0} (keep : X → Bool) (parts : X → List A) (x : X) (xs : List X)
-    → parts_of_filter keep parts (x ∷ xs) ≡ (cond (keep x) (parts x) []) ++ parts_of_filter keep parts xs
-parts_of_filter-cons keep parts x xs =
-    elim (keep x) as (λ b. flat_map parts (cond b (x ∷ filter keep xs) (filter keep xs))
-    ≡ (cond b (parts x) []) ++ flat_map parts (filter keep xs)) [
-      | true ↦ refl
-      | false ↦ refl
-    ]
-
--- what was taken, and one more
-pub take_while-more : {X : Type 0} (p : X → Bool) (found more : List X) (x : X) (xs : List X) → p x ≡ true
-    → more ≡ found ++ x ∷ [] → more ++ take_while p xs ≡ found ++ take_while p (x ∷ xs)
-take_while-more p found more x xs h e =
-    ap (λ l. l ++ take_while p xs) e
-    ∙ append_assoc found (x ∷ []) (take_while p xs)
-    ∙ ap (λ l. found ++ l) (sym (take_while-cons p x xs ∙ ap (λ b. cond b (x ∷ take_while p xs) []) h))
-
-pub take_while-end : {X : Type 0} (p : X → Bool) (found : List X) (x : X) (xs : List X) → p x ≡ false
-    → found ≡ found ++ take_while p (x ∷ xs)
-take_while-end p found x xs h =
-    sym (ap (λ l. found ++ l) (take_while-cons p x xs ∙ ap (λ b. cond b (x ∷ take_while p xs) []) h) ∙ append-nil found)

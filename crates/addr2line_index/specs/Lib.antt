@@ -29,7 +29,7 @@ pub mod UnitPlaces
 pub mod RangeLevels
 pub mod RowIndexes
 pub mod LineIndexes
-pub mod NextStretches
+pub mod LineCursors
 pub mod StretchesLeft
 pub mod BoundedRanges
 pub mod SequenceOrders

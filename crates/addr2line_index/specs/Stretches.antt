@@ -1,14 +1,20 @@
--- Rows between two ends, with their places, as contracts see them.
-use Rattle.std.specs.Prelude.{ℕ, ◌-◌, List}
-use Rattle.addr2line_spec.specs.Lines.{LineRow, Stretch, row_location}
-use Rattle.addr2line_index.specs.declared.location.LineStretch.{LineStretch}
-use Rattle.addr2line_index.specs.BorrowedLocations.{location_value}
+-- The rows of a sequence between two ends, as stretches of addresses.
+use Rattle.std.specs.Prelude.{ℕ, List, [], drop, nat_lt, Option, Some, None}
+use Rattle.std.specs.List.{take_while}
+use Rattle.addr2line_spec.specs.Lines.{LineRow, Sequence, Stretch, row_location, stretches_of}
+use Rattle.addr2line_index.specs.declared.stretches.RowStretch.{RowStretch}
 
-abbrev pub stretch_of : LineStretch → Stretch
-stretch_of s =
-    record { address = s.address; length = s.length; location = location_value s.location }
+-- the addresses that a row stands for, with its place by the texts of files
+abbrev pub stretch_of_row : List (List ℕ) → RowStretch → Stretch
+stretch_of_row files s =
+    record { address = s.address; length = s.length; location = row_location files s.row }
 
--- a row up to the next address
-abbrev pub stretch_to : List (List ℕ) → ℕ → LineRow → Stretch
-stretch_to files next r =
-    record { address = r.address; length = next - r.address; location = row_location files r }
+-- rows as stretches, while they begin below the high end
+abbrev pub stretches_below : List (List ℕ) → ℕ → ℕ → List LineRow → List Stretch
+stretches_below files end high rows =
+    take_while (λ t. nat_lt t.address high) (stretches_of files end rows)
+
+-- those of a sequence from the row of a number on, if there is a sequence
+abbrev pub sequence_from : List (List ℕ) → ℕ → ℕ → Option Sequence → List Stretch
+sequence_from files high row None = []
+sequence_from files high row (Some s) = stretches_below files s.end high (drop row s.rows)

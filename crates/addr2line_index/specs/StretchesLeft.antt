@@ -1,30 +1,13 @@
 -- The stretches between two ends that are left, from an index among the ranges of all units on.
-use Rattle.std.specs.Prelude.{◌≡◌, ◌≢◌, ℕ, max, min, List, [], ◌∷◌, drop, Option, Some, None, Result, Ok, Err}
+use Rattle.std.specs.Prelude.{◌≡◌, ◌≢◌, ℕ, List, [], ◌∷◌, drop, Option, Some, None, Result, Ok, Err}
 use Rattle.addr2line_spec.specs.Error.{Error}
 use Rattle.addr2line_spec.specs.Error.TheVariants.{Memory}
 use Rattle.addr2line_spec.specs.Repetition.{Listing, no_items, prepend}
-use Rattle.addr2line_spec.specs.Range.{Range}
-use Rattle.addr2line_spec.specs.Lines.{Lines, Stretch, lines_between}
+use Rattle.addr2line_spec.specs.Lines.{Stretch}
 use Rattle.addr2line_index.specs.declared.unit_range.UnitRange.{UnitRange}
 use Rattle.addr2line_index.specs.RangeIndexLaws.{stretches_from}
 use Rattle.addr2line_index.specs.NumberedRanges.{overlapping_ranges}
 use Rattle.addr2line_index.specs.UnitPlaces.{UnitPlaces}
-
--- ---- one range
-
--- the stretches of lines between two ends, both clipped to a range, or the refusal of the lines
-abbrev pub clipped_stretches : ℕ → ℕ → Range → Result Lines Error
-    → Result (List Stretch) Error
-clipped_stretches low high r (Ok l) = Ok (lines_between l (max low r.begin) (min high r.end))
-clipped_stretches low high r (Err e) = Err e
-
--- those of a unit, if there is one
-abbrev pub clipped_stretches_if_any : ℕ → ℕ → Range → Option UnitPlaces
-    → Result (List Stretch) Error
-clipped_stretches_if_any low high r None = Ok []
-clipped_stretches_if_any low high r (Some u) = clipped_stretches low high r u.lines
-
--- ---- all that are left
 
 -- the stretches of the units of the ranges from an index on
 abbrev pub stretches_from_index : List UnitPlaces → ℕ → ℕ → List UnitRange → ℕ

@@ -17,14 +17,3 @@ pub struct Location<'a> {
     /// the flag is.
     pub discriminator: Option<u64>,
 }
-
-/// The addresses that a row stands for, and its place.
-#[derive(Clone, Copy, Debug, PartialEq)]
-pub struct LineStretch<'a> {
-    /// The row's address.
-    pub address: u64,
-    /// How many addresses there are from it on: up to the next row, or the sequence's end; none
-    /// where that is lower.
-    pub length: u64,
-    pub location: Location<'a>,
-}

@@ -3,11 +3,11 @@ use Rattle.std.specs.Prelude.{◌≡◌, ◌≢◌, ◌⊎◌, ℕ, ◌<◌, tru
 use Rattle.addr2line_resolved.specs.Error.{Error}
 use Rattle.addr2line_resolved.specs.Error.TheVariants.{Memory}
 use Rattle.addr2line_resolved.specs.Results.{and_then}
-use Rattle.addr2line_resolved.specs.Lines.{LineRow, Location}
+use Rattle.addr2line_resolved.specs.Lines.{Lines, LineRow, Location}
 use Rattle.addr2line_resolved.specs.Contexts.{ContextUnit, ranges_of, lines_of}
 use Rattle.addr2line_resolved.specs.PlaceLookups.{location_at}
 use Rattle.addr2line_resolved.specs.UnitRange.{UnitRange}
-use Rattle.addr2line_resolved.specs.NumberedRanges.{covering_ranges, overlapping_ranges}
+use Rattle.addr2line_resolved.specs.NumberedRanges.{covering_ranges}
 use Rattle.addr2line_resolved.specs.ContextUnits.{ordered_ranges}
 use Rattle.addr2line_resolved.specs.KeptFunctions.{kept_at}
 use Rattle.addr2line_resolved.specs.ResolvedUnits.{ResolvedUnit, plain_unit, KeepsLines, row_or_refusal, location_of_row}
@@ -18,16 +18,6 @@ use Rattle.addr2line_lookups.specs.declared.settle.UnitRow.{UnitRow}
 -- the lines of the unit of a number are kept, if there is such a unit
 abbrev pub KeepsAt : List ResolvedUnit → ℕ → Type 0
 KeepsAt us number = IfSome (slice_get us number) KeepsLines
-
--- those of the units of ranges
-abbrev pub KeepsRanges : List ResolvedUnit → List UnitRange → Type 0
-KeepsRanges us [] = Unit {0}
-KeepsRanges us (r ∷ rs) = KeepsAt us r.unit × KeepsRanges us rs
-
--- those of the units with a range between two ends
-abbrev pub KeepsBetween : ℕ → ℕ → List ResolvedUnit → Type 0
-KeepsBetween low high us =
-    KeepsRanges us (overlapping_ranges low high (ordered_ranges (map plain_unit us)))
 
 -- those of all units that a call asks
 abbrev pub KeepsAsked : (ℕ → Type 0) → List ResolvedUnit → Type 0
@@ -75,6 +65,17 @@ pub record KeepsMoreFunctions (old new : ResolvedUnit) : Type 0 where
 pub record KeepMoreFunctions (old new : List ResolvedUnit) : Type 0 where
   pub functions : HoldsStill KeepsFunctionList old new
   pub calls : (function : ℕ) → HoldsStill (KeepsFunctionCalls function) old new
+
+-- ---- lines
+
+-- the lines of a unit, if there is one, or the refusal of them
+abbrev pub lines_of_unit : Option ContextUnit → Result (Option Lines) Error
+lines_of_unit None = Ok None
+lines_of_unit (Some u) = and_then u.lines (λ l. Ok (Some l))
+
+-- those of the unit of a number
+abbrev pub lines_at : List ContextUnit → ℕ → Result (Option Lines) Error
+lines_at units number = lines_of_unit (slice_get units number)
 
 -- ---- places
 

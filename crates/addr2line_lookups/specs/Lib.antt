@@ -11,6 +11,9 @@ pub use Rattle.addr2line_resolved.specs.NumberedRanges
 pub use Rattle.addr2line_resolved.specs.RangeIndexLaws
 pub use Rattle.addr2line_resolved.specs.Stretches
 pub use Rattle.addr2line_resolved.specs.StretchesLeft
+pub use Rattle.addr2line_resolved.specs.LineCursors
+pub use Rattle.addr2line_resolved.specs.LineCursor
+pub use Rattle.addr2line_resolved.specs.RowStretch
 pub use Rattle.addr2line_resolved.specs.UnitPlaces
 pub use Rattle.addr2line_resolved.specs.Location
 pub use Rattle.addr2line_resolved.specs.UnitRange
@@ -64,7 +67,7 @@ pub use Rattle.addr2line_resolved.specs.KeptFunctions
 pub use Rattle.addr2line_resolved.specs.ResolvedUnits
 pub mod AnsweredUnits
 pub mod KeptUnits
-pub mod RangeItems
+pub mod RangeWalks
 pub mod LoadAnswers
 pub mod Preloads
 pub mod KeptCalls

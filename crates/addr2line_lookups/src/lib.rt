@@ -6,12 +6,12 @@ mod covering;
 pub mod frame_place;
 mod function_place;
 mod load_answers;
-pub mod location_range;
 mod lookups;
 mod parsing;
 mod parsing_calls;
 mod parsing_functions;
 mod preload;
+pub mod range_walk;
 pub mod settle;
 pub mod settled;
 pub mod token;
@@ -31,7 +31,7 @@ pub use addr2line_resolved::{
     units_of_supplement,
 };
 pub use frame_place::FramePlace;
-pub use location_range::LocationRangeIter;
+pub use range_walk::{RangeWalk, UnitStretch};
 pub use settle::UnitRow;
 pub use settled::Settled;
 pub use token::UnitToken;

@@ -4,12 +4,12 @@ ghost use Rattle.std.specs.Prelude.{◌≡◌, ◌≢◌, map, option_map, slice
 ghost use Rattle.addr2line_resolved.specs.Calls.{ReturnsOrNoMemory};
 ghost use Rattle.addr2line_resolved.specs.Error.TheVariants.{Memory};
 ghost use Rattle.addr2line_resolved.specs.BorrowedLocations.{location_value};
-ghost use Rattle.addr2line_resolved.specs.NumberedRanges.{covering_ranges, overlapping_ranges};
+ghost use Rattle.addr2line_resolved.specs.NumberedRanges.{covering_ranges};
 ghost use Rattle.addr2line_resolved.specs.ContextUnits.{ordered_ranges};
 ghost use Rattle.addr2line_resolved.specs.ResolvedUnits.{plain_unit, value_of_unit};
 ghost use Rattle.addr2line_lookups.specs.KeptCalls.{LeavesCalls, kept_calls_of};
 ghost use Rattle.addr2line_lookups.specs.FunctionPlaces.{chain_of};
-ghost use Rattle.addr2line_lookups.specs.KeptUnits.{KeepsAt, KeepsRanges, KeepsAsked, ReadsAsked, AsksAmong, row_at_number, location_of_unit_row, FindsRow, KeepsFound};
+ghost use Rattle.addr2line_lookups.specs.KeptUnits.{KeepsAt, KeepsAsked, ReadsAsked, AsksAmong, row_at_number, location_of_unit_row, FindsRow, KeepsFound};
 ghost use Rattle.addr2line_lookups.specs.LookupCosts.{AtMostLooks, row_probes_at, probes_among};
 
 use addr2line_resolved::{Error, LineRow, Location, Reader, ResUnit, UnitRanges};
@@ -108,10 +108,10 @@ pub(crate) fn find_row<R: Reader>(
     Ok(None)
 }
 
-// ---- two ends
+// ---- all lines
 
 // Reads the lines of the unit of a number, unless they are kept.
-fn read_at<R: Reader>(
+pub(crate) fn read_at<R: Reader>(
     alloc: Global,
     units: &mut Vec<ResUnit<R>>,
     number: usize,
@@ -127,28 +127,4 @@ fn read_at<R: Reader>(
     }
     let unit = &mut units[number];
     unit.read_lines(alloc)
-}
-
-// Reads the lines of the units with a range between two ends, unless they are kept. A refusal is
-// kept too: the only error is out of memory.
-pub(crate) fn read_between<R: Reader>(
-    alloc: Global,
-    units: &mut Vec<ResUnit<R>>,
-    ranges: &UnitRanges,
-    low: u64,
-    high: u64,
-) -> Result<(), Error>
-    ensures values { map value_of_unit units.new.items ≡ map value_of_unit units.old.items }
-    ensures calls { LeavesCalls units.old.items units.new.items }
-    ensures kept { OnOk result
-        (KeepsRanges units.new.items (overlapping_ranges low high ranges.now)) }
-    ensures cost { AtMostLooks 0 units.old.items units.new.items }
-    ensures refusal { IfErr result (λ e. e ≡ Memory) }
-{
-    let mut from = 0;
-    while let Some((range, next)) = ranges.next_overlapping(from, low, high) {
-        read_at(alloc, units, range.unit)?;
-        from = next;
-    }
-    Ok(())
 }

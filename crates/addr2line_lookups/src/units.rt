@@ -1,10 +1,9 @@
 //! The units of a context with their ranges, in the order in which lookups ask them.
 
-ghost use Rattle.std.specs.Prelude.{◌≡◌, ◌≢◌, None, Ok, Err, map, option_map, IfOk, OnOk, IfErr};
+ghost use Rattle.std.specs.Prelude.{◌≡◌, ◌≢◌, None, Ok, Err, map, option_map, IfOk, IfErr};
 ghost use Rattle.addr2line_resolved.specs.Calls.{ReturnsAsOrNoMemory, ReturnsOrNoMemory};
 ghost use Rattle.addr2line_resolved.specs.Error.TheVariants.{Memory};
-ghost use Rattle.addr2line_resolved.specs.PlaceLookups.{stretches_between};
-ghost use Rattle.addr2line_resolved.specs.Contexts.{ranges_of, lines_of, all_lines_or_refusal};
+ghost use Rattle.addr2line_resolved.specs.Contexts.{all_lines_or_refusal};
 ghost use Rattle.addr2line_resolved.specs.BorrowedLocations.{location_value};
 ghost use Rattle.addr2line_resolved.specs.Lookups.{one_each};
 ghost use Rattle.addr2line_resolved.specs.NumberedRanges.{covering_ranges};
@@ -17,19 +16,20 @@ ghost use Rattle.addr2line_lookups.specs.FramePlaces.{LendsFrames};
 ghost use Rattle.addr2line_lookups.specs.PassedUnits.{PassFrames, PassUnits, PassLoads};
 ghost use Rattle.addr2line_lookups.specs.UnitLookups.{frames_among, SettlesFrames, unit_among, SettlesUnit, unit_at_number};
 ghost use Rattle.addr2line_resolved.specs.BorrowedFrames.{frames_left};
-ghost use Rattle.addr2line_lookups.specs.KeptUnits.{KeepsAt, KeepsBetween, KeepsFound, KeepsAsked, ReadsAsked, ReadsNoLines, IsUnitOf, AsksForRow, AsksForLines, FindsRow, location_of_unit_row};
+ghost use Rattle.addr2line_lookups.specs.KeptUnits.{KeepsAt, KeepsFound, KeepsAsked, ReadsAsked, ReadsNoLines, IsUnitOf, AsksForRow, AsksForLines, FindsRow, location_of_unit_row};
+ghost use Rattle.addr2line_lookups.specs.RangeWalks.{FindsStretch, KeepsStretch, stretches_left};
 ghost use Rattle.addr2line_lookups.specs.LookupCosts.{AtMostLooks, row_probes_at, frame_probes_at, probes_among};
 ghost use Rattle.addr2line_lookups.specs.UnitParses.{WalksOrNoMemory, check_functions_of, check_calls_of};
 
 use crate::frame_place::{FramePlace, frames_at_place};
 use crate::load_answers::answer_at;
-use crate::location_range::LocationRangeIter;
 use crate::lookups::{functions_unit_at, settle_frames, settle_unit};
 use crate::parsing::check_lines;
 use crate::parsing_calls::check_calls;
 use crate::parsing_functions::check_functions;
 use crate::preload::pending_loads;
-use crate::settle::{UnitRow, find_row, place_in, read_between};
+use crate::range_walk::{RangeWalk, UnitStretch, next_stretch};
+use crate::settle::{UnitRow, find_row, place_in};
 use crate::settled::Settled;
 use crate::token::UnitToken;
 use crate::waiting::{first_load, first_waiting};
@@ -113,26 +113,19 @@ impl<R: Reader> Units<R> {
         place_in(self.units.as_slice(), found)
     }
 
-    // Reads the lines of the units with a range between two ends, unless they are kept.
-    pub fn read_between(&mut self, low: u64, high: u64) -> Result<(), Error>
+    // The next stretch of a walk. The lines of the units that it comes to are read, unless they are
+    // kept, and kept.
+    pub fn next_stretch(&mut self, walk: &mut RangeWalk) -> Result<Option<UnitStretch>, Error>
         ensures values { map value_of_unit self.new ≡ map value_of_unit self.old }
         ensures calls { LeavesCalls self.old self.new }
         ensures cost { AtMostLooks 0 self.old self.new }
-        ensures kept { OnOk result (KeepsBetween low high self.new) }
-        ensures refusal { IfErr result (λ e. e ≡ Memory) }
+        ensures stretch { FindsStretch (map plain_unit self.old) result
+            (stretches_left (map plain_unit self.old) walk.old)
+            (stretches_left (map plain_unit self.old) walk.new) }
+        ensures kept { KeepsStretch self.new result }
     {
         let alloc = *self.units.allocator();
-        read_between(alloc, &mut self.units, &self.ranges, low, high)
-    }
-
-    // The stretches between two ends, of units whose lines are kept.
-    pub fn stretches(&self, low: u64, high: u64) -> LocationRangeIter<'_, R>
-        requires { KeepsBetween low high self.now }
-        ensures { result
-            ≡ stretches_between ranges_of lines_of (map plain_unit self.now) low high }
-    {
-        let alloc = *self.units.allocator();
-        LocationRangeIter::new(alloc, self.units.as_slice(), &self.ranges, low, high)
+        next_stretch(alloc, &mut self.units, &self.ranges, walk)
     }
 
     // Whether the lines of all units can be read, or else the first refusal. They are read, unless

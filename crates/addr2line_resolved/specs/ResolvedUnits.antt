@@ -3,8 +3,7 @@ use Rattle.std.specs.Prelude.{◌≡◌, ℕ, Bool, true, false, List, [], ◌�
 use Rattle.std.specs.List.{filter_map, AllByRecursion}
 use Rattle.std.specs.Option.{option_to_list}
 use Rattle.addr2line_functions.specs.Error.{Error}
-use Rattle.addr2line_functions.specs.Error.TheVariants.{Memory, NoSuchUnit}
-use Rattle.addr2line_functions.specs.UnitPlaces.{UnitPlaces}
+use Rattle.addr2line_functions.specs.Error.TheVariants.{NoSuchUnit}
 use Rattle.addr2line_functions.specs.Repetition.{fault_of}
 use Rattle.addr2line_functions.specs.Results.{and_then, unless, each, ◌>>=◌}
 use Rattle.addr2line_functions.specs.OptionalValues.{if_any}
@@ -189,17 +188,6 @@ kept_probes a (Some (Err e)) = 0
 abbrev pub location_of_row : LineRow → Result Lines Error → Option Location
 location_of_row r (Ok l) = Some (row_location l.files r)
 location_of_row r (Err e) = None
-
--- lines that are kept, and else out of memory
-abbrev pub lines_if_kept : Bool → Result Lines Error → Result Lines Error
-lines_if_kept keeps lines = if keeps then lines else Err Memory
-
--- what lookups find of a unit that is kept
-abbrev pub kept_places : ResolvedUnit → UnitPlaces
-kept_places u = record {
-  ranges = u.value.unit.ranges;
-  lines = lines_if_kept u.keeps_lines u.value.unit.lines;
-}
 
 -- the lines were read and are kept, be it a refusal
 abbrev pub KeepsLines : ResolvedUnit → Type 0

@@ -20,8 +20,8 @@ use crate::owned_unit::OwnedUnit;
 use crate::unit_functions::UnitFunctions;
 use addr2line_functions::{
     ArangeIndex, DebugFile, DebuggingInformationEntry, DwLang, Error, FrameIter, FunctionCalls,
-    Functions, HasLines, HasUnit, HoldingUnit, LineIndex, Lines, Location, Names, Probes, Range,
-    Reader, Runs, Unit, UnitLines, UnitRoot, calls_of_function, functions_of_unit,
+    Functions, HasUnit, HoldingUnit, LineIndex, Location, Names, Probes, Range, Reader, Runs, Unit,
+    UnitLines, UnitRoot, calls_of_function, functions_of_unit,
 };
 use addr2line_units::LineRow;
 use std::alloc::Global;
@@ -503,21 +503,6 @@ impl<R: Reader> ResUnit<R> {
         let chain = self.chain.as_slice();
         self.functions
             .frames(self.language, lines, place, function, chain)
-    }
-}
-
-impl<R: Reader> HasLines for ResUnit<R> {
-    ghost use Rattle.addr2line_resolved.specs.ResolvedUnits.{kept_places};
-
-    ghost places = { kept_places };
-
-    // Lines that aren't kept are refused as out of memory.
-    fn lines(&self) -> Result<&Lines, Error> {
-        match self.kept_lines() {
-            Some(Ok(lines)) => Ok(lines.lines()),
-            Some(Err(error)) => Err(*error),
-            None => Err(Error::Memory),
-        }
     }
 }
 

@@ -7,6 +7,9 @@ pub use Rattle.addr2line_index.specs.Searches
 pub use Rattle.addr2line_index.specs.RangeIndexLaws
 pub use Rattle.addr2line_index.specs.Stretches
 pub use Rattle.addr2line_index.specs.StretchesLeft
+pub use Rattle.addr2line_index.specs.LineCursors
+pub use Rattle.addr2line_index.specs.declared.line_cursor.LineCursor
+pub use Rattle.addr2line_index.specs.declared.stretches.RowStretch
 pub use Rattle.addr2line_index.specs.UnitPlaces
 pub use Rattle.addr2line_index.specs.declared.location.Location
 pub use Rattle.addr2line_index.specs.declared.unit_range.UnitRange

@@ -16,8 +16,8 @@ mod unit_arange;
 pub mod unit_lines;
 
 pub use addr2line_index::{
-    HasLines, LineIndex, LineRow, Lines, LinesBuilder, Location, Probes, RangeIndex, Ranged,
-    StretchesBetween, UnitRanges, UnitRangesBuilder, file_text, file_text_of_bytes, is_rooted,
+    LineCursor, LineIndex, LineRow, Lines, LinesBuilder, Location, Probes, RangeIndex, Ranged,
+    RowStretch, UnitRange, UnitRanges, UnitRangesBuilder, file_text, file_text_of_bytes, is_rooted,
     join,
 };
 pub use arange_index::ArangeIndex;

@@ -1,0 +1,109 @@
+-- The stretches between two ends that are left of a walk over the units' ranges.
+use Rattle.std.specs.Prelude.{◌≡◌, ◌≢◌, ℕ, max, min, List, [], ◌∷◌, map, slice_get, Option, Some, None, Result, Ok, Err}
+use Rattle.addr2line_resolved.specs.Error.{Error}
+use Rattle.addr2line_resolved.specs.Error.TheVariants.{Memory}
+use Rattle.addr2line_resolved.specs.Repetition.{Listing, no_items, prepend}
+use Rattle.addr2line_resolved.specs.Range.{Range}
+use Rattle.addr2line_resolved.specs.Lines.{Lines, Stretch}
+use Rattle.addr2line_resolved.specs.Contexts.{ContextUnit}
+use Rattle.addr2line_resolved.specs.UnitRange.{UnitRange}
+use Rattle.addr2line_resolved.specs.UnitPlaces.{UnitPlaces}
+use Rattle.addr2line_resolved.specs.RangeIndexLaws.{with_unit_stretches}
+use Rattle.addr2line_resolved.specs.LineCursor.{LineCursor}
+use Rattle.addr2line_resolved.specs.LineCursors.{lines_left}
+use Rattle.addr2line_resolved.specs.StretchesLeft.{stretches_from_index}
+use Rattle.addr2line_resolved.specs.ContextUnits.{unit_places, ordered_ranges}
+use Rattle.addr2line_resolved.specs.ResolvedUnits.{ResolvedUnit}
+use Rattle.addr2line_lookups.specs.KeptUnits.{KeepsAt, location_of_unit_row}
+use Rattle.addr2line_lookups.specs.declared.range_walk.RangeRows.{RangeRows}
+use Rattle.addr2line_lookups.specs.declared.range_walk.RangeWalk.{RangeWalk}
+use Rattle.addr2line_lookups.specs.declared.range_walk.UnitStretch.{UnitStretch}
+
+-- ---- one range
+
+-- the stretches of lines that are left at a cursor, between two ends, both clipped to a range; none
+-- where the lines are refused
+abbrev pub clipped_left : ℕ → ℕ → Range → LineCursor → Result Lines Error → List Stretch
+clipped_left low high r c (Ok l) = lines_left l (max low r.begin) (min high r.end) c
+clipped_left low high r c (Err e) = []
+
+-- those of a unit, if there is one
+abbrev pub unit_left : ℕ → ℕ → Range → LineCursor → Option UnitPlaces → List Stretch
+unit_left low high r c None = []
+unit_left low high r c (Some u) = clipped_left low high r c u.lines
+
+-- those of the unit of the range that the walk is in, if it is in one
+abbrev pub rows_left : List UnitPlaces → ℕ → ℕ → Option RangeRows → List Stretch
+rows_left us low high None = []
+rows_left us low high (Some r) =
+    unit_left low high r.range.range r.cursor (slice_get us r.range.unit)
+
+-- the rows of a unit's range come before the others, or the refusal of its lines ends all
+abbrev pub BeginsRange : List UnitPlaces → ℕ → ℕ → UnitRange → Result (Option RangeRows) Error
+    → Type 0
+BeginsRange us low high r (Ok rows) =
+    (rest : Listing (Unit {0}) Stretch)
+    → with_unit_stretches low high r.range (slice_get us r.unit) rest
+    ≡ prepend (rows_left us low high rows) rest
+BeginsRange us low high r (Err e) =
+    e ≢ Memory → (rest : Listing (Unit {0}) Stretch)
+    → with_unit_stretches low high r.range (slice_get us r.unit) rest ≡ no_items (Err e)
+
+-- ---- stretches
+
+-- a stretch is that of a unit's row
+pub record IsStretchOf (units : List ContextUnit) (s : UnitStretch) (x : Stretch) : Type 0 where
+  pub address : x.address ≡ s.address
+  pub length : x.length ≡ s.length
+  pub location : location_of_unit_row units s.row ≡ Some x.location
+
+-- the first of some stretches is that of a unit's row, and the others are left
+abbrev pub FirstStretch : List ContextUnit → UnitStretch → List Stretch → List Stretch → Type 0
+FirstStretch units s old new = (x : Stretch) × IsStretchOf units s x × (old ≡ x ∷ new)
+
+-- the next of the stretches of a unit's range, if there is one
+abbrev pub NextInRange : List ContextUnit → ℕ → ℕ → RangeRows → Option (UnitStretch × RangeRows)
+    → Type 0
+NextInRange units low high r None = rows_left (map unit_places units) low high (Some r) ≡ []
+NextInRange units low high r (Some f) =
+    FirstStretch units f.0 (rows_left (map unit_places units) low high (Some r))
+    (rows_left (map unit_places units) low high (Some f.1))
+
+-- The next of the stretches of the range that a walk is in, if there is one; else the walk stays
+-- where it was.
+abbrev pub NextOfRows : List ContextUnit → Result (Option UnitStretch) Error → RangeWalk
+    → RangeWalk → Type 0
+NextOfRows units (Ok (Some s)) old new =
+    (new ≡ record old { rows = new.rows })
+    × FirstStretch units s (rows_left (map unit_places units) old.low old.high old.rows)
+    (rows_left (map unit_places units) old.low old.high new.rows)
+NextOfRows units (Ok None) old new =
+    (new ≡ old) × (rows_left (map unit_places units) old.low old.high old.rows ≡ [])
+NextOfRows units (Err e) old new = (new ≡ old) × (e ≡ Memory)
+
+-- the lines of the unit whose row was found are kept
+abbrev pub KeepsStretch : List ResolvedUnit → Result (Option UnitStretch) Error → Type 0
+KeepsStretch us (Ok (Some s)) = KeepsAt us s.row.unit
+KeepsStretch us _ = Unit {0}
+
+-- ---- all that are left
+
+-- those of the range that a walk is in, and those of the ranges after it
+abbrev pub walk_left : List UnitPlaces → List UnitRange → RangeWalk → Listing (Unit {0}) Stretch
+walk_left us ranges w =
+    prepend (rows_left us w.low w.high w.rows)
+    (stretches_from_index us w.low w.high ranges w.next)
+
+-- the same in units
+abbrev pub stretches_left : List ContextUnit → RangeWalk → Listing (Unit {0}) Stretch
+stretches_left units w = walk_left (map unit_places units) (ordered_ranges units) w
+
+-- What was left before is the stretch of the row that is found, and then what is left after it.
+-- Where none was left none is found, or the refusal that ended them. Nothing changes then, nor when
+-- out of memory.
+abbrev pub FindsStretch : List ContextUnit → Result (Option UnitStretch) Error
+    → Listing (Unit {0}) Stretch → Listing (Unit {0}) Stretch → Type 0
+FindsStretch units (Ok (Some s)) old new =
+    (x : Stretch) × IsStretchOf units s x × (old ≡ prepend (x ∷ []) new)
+FindsStretch units (Ok None) old new = (old ≡ no_items (Ok tt)) × (new ≡ old)
+FindsStretch units (Err e) old new = (e ≢ Memory → old ≡ no_items (Err e)) × (new ≡ old)

@@ -1,0 +1,225 @@
+//! Walks over the stretches between two ends. The lines of a unit are read where a walk comes to
+//! it, and kept.
+
+ghost use Rattle.std.specs.Prelude.{◌≡◌, ℕ, List, map, option_map, MatchOption};
+ghost use Rattle.addr2line_resolved.specs.Calls.{ReturnsAs};
+ghost use Rattle.addr2line_resolved.specs.Contexts.{ContextUnit, ranges_of, lines_of};
+ghost use Rattle.addr2line_resolved.specs.PlaceLookups.{stretches_between};
+ghost use Rattle.addr2line_resolved.specs.ContextUnits.{unit_places};
+ghost use Rattle.addr2line_resolved.specs.ResolvedUnits.{KeepsLines, plain_unit, value_of_unit};
+ghost use Rattle.addr2line_lookups.specs.KeptCalls.{LeavesCalls};
+ghost use Rattle.addr2line_lookups.specs.KeptUnits.{KeepsAt, lines_at};
+ghost use Rattle.addr2line_lookups.specs.LookupCosts.{AtMostLooks};
+ghost use Rattle.addr2line_lookups.specs.RangeWalks.{BeginsRange, NextInRange, NextOfRows, KeepsStretch, FindsStretch, walk_left, stretches_left};
+
+use crate::settle::{UnitRow, read_at, unit_at};
+use addr2line_resolved::{
+    Error, LineCursor, Lines, Reader, ResUnit, RowStretch, UnitRange, UnitRanges,
+};
+use std::alloc::Global;
+
+/// The rows of the unit of a range, from one of them on.
+#[derive(Clone, Copy, Debug)]
+pub struct RangeRows {
+    pub(crate) range: UnitRange,
+    pub(crate) cursor: LineCursor,
+}
+
+/// The addresses that a row of a unit's lines stands for, and the row.
+#[derive(Clone, Copy, Debug)]
+pub struct UnitStretch {
+    pub address: u64,
+    pub length: u64,
+    pub row: UnitRow,
+}
+
+/// How far a walk over the stretches between two ends came. It borrows nothing of the units.
+#[derive(Clone, Copy, Debug)]
+pub struct RangeWalk {
+    pub(crate) low: u64,
+    pub(crate) high: u64,
+    /// The rows of the range that it is in, if it is in one.
+    pub(crate) rows: Option<RangeRows>,
+    /// The index of the next range among those of all units.
+    pub(crate) next: usize,
+}
+
+impl RangeWalk {
+    /// The walk before the first stretch.
+    pub fn new(low: u64, high: u64) -> Self
+        ensures { (units : List ContextUnit) → stretches_left units result
+            ≡ stretches_between ranges_of lines_of units low high }
+    {
+        RangeWalk {
+            low,
+            high,
+            rows: None,
+            next: 0,
+        }
+    }
+}
+
+// The lines of a unit, or the refusal of them. They are kept.
+fn lines_of<R: Reader>(unit: &ResUnit<R>) -> Result<&Lines, Error>
+    requires { KeepsLines unit.now }
+    ensures { ReturnsAs (λ l. l.now) result unit.now.value.unit.lines }
+{
+    match unit.kept_lines() {
+        Some(Ok(lines)) => Ok(lines.lines()),
+        Some(Err(error)) => Err(*error),
+        None => unreachable!(),
+    }
+}
+
+// Those of the unit of a number, if there is one.
+fn lines_at<R: Reader>(units: &[ResUnit<R>], number: usize) -> Result<Option<&Lines>, Error>
+    requires { KeepsAt units.now number }
+    ensures { ReturnsAs (option_map (λ l. l.now)) result
+        (lines_at (map plain_unit units.now) number) }
+{
+    match unit_at(units, number) {
+        Some(unit) => match lines_of(unit) {
+            Ok(lines) => Ok(Some(lines)),
+            Err(error) => Err(error),
+        },
+        None => Ok(None),
+    }
+}
+
+// The rows of the unit of a range, or the refusal of its lines. They are kept.
+fn rows_in<R: Reader>(
+    units: &[ResUnit<R>],
+    range: UnitRange,
+    low: u64,
+) -> Result<Option<RangeRows>, Error>
+    requires { KeepsAt units.now range.unit }
+    ensures { (high : ℕ) → BeginsRange (map unit_places (map plain_unit units.now)) low high range
+        result }
+{
+    match lines_at(units, range.unit) {
+        Ok(Some(lines)) => {
+            let cursor = lines.cursor_from(low.max(range.range.begin));
+            Ok(Some(RangeRows { range, cursor }))
+        }
+        Ok(None) => Ok(None),
+        Err(error) => Err(error),
+    }
+}
+
+// A row of the unit of a range as a stretch.
+fn unit_stretch(range: UnitRange, stretch: RowStretch) -> UnitStretch
+    ensures { result ≡ record {
+      address = stretch.address;
+      length = stretch.length;
+      row = record { unit = range.unit; row = stretch.row };
+    } }
+{
+    let unit = range.unit;
+    let row = stretch.row;
+    UnitStretch {
+        address: stretch.address,
+        length: stretch.length,
+        row: UnitRow { unit, row },
+    }
+}
+
+// The next stretch of the unit of a range, and the rows after it. The unit's lines are kept.
+fn next_in<R: Reader>(
+    units: &[ResUnit<R>],
+    rows: RangeRows,
+    low: u64,
+    high: u64,
+) -> Option<(UnitStretch, RangeRows)>
+    requires { KeepsAt units.now rows.range.unit }
+    ensures stretch { NextInRange (map plain_unit units.now) low high rows result }
+    ensures unit { MatchOption result (Unit {0}) (λ f. f.0.row.unit ≡ rows.range.unit) }
+{
+    let RangeRows { range, cursor } = rows;
+    match lines_at(units, range.unit) {
+        Ok(Some(lines)) => {
+            let low = low.max(range.range.begin);
+            let high = high.min(range.range.end);
+            match lines.next_between(cursor, low, high) {
+                Some((stretch, cursor)) => {
+                    Some((unit_stretch(range, stretch), RangeRows { range, cursor }))
+                }
+                None => None,
+            }
+        }
+        Ok(None) => None,
+        Err(_) => None,
+    }
+}
+
+// The rows of the unit of a range, or the refusal of its lines, which are read before, unless they
+// are kept.
+fn first_rows<R: Reader>(
+    alloc: Global,
+    units: &mut Vec<ResUnit<R>>,
+    range: UnitRange,
+    low: u64,
+) -> Result<Option<RangeRows>, Error>
+    ensures values { map value_of_unit units.new.items ≡ map value_of_unit units.old.items }
+    ensures calls { LeavesCalls units.old.items units.new.items }
+    ensures cost { AtMostLooks 0 units.old.items units.new.items }
+    ensures rows { (high : ℕ) → BeginsRange (map unit_places (map plain_unit units.old.items)) low
+        high range result }
+{
+    read_at(alloc, units, range.unit)?;
+    rows_in(units.as_slice(), range, low)
+}
+
+// The next stretch of the unit of the range that a walk is in, if it is in one. The unit's lines
+// are read before, unless they are kept: the only error is out of memory.
+fn next_of_rows<R: Reader>(
+    alloc: Global,
+    units: &mut Vec<ResUnit<R>>,
+    walk: &mut RangeWalk,
+) -> Result<Option<UnitStretch>, Error>
+    ensures values { map value_of_unit units.new.items ≡ map value_of_unit units.old.items }
+    ensures calls { LeavesCalls units.old.items units.new.items }
+    ensures cost { AtMostLooks 0 units.old.items units.new.items }
+    ensures stretch { NextOfRows (map plain_unit units.old.items) result walk.old walk.new }
+    ensures kept { KeepsStretch units.new.items result }
+{
+    let Some(rows) = walk.rows else {
+        return Ok(None);
+    };
+    read_at(alloc, units, rows.range.unit)?;
+    match next_in(units.as_slice(), rows, walk.low, walk.high) {
+        Some((stretch, rest)) => {
+            walk.rows = Some(rest);
+            Ok(Some(stretch))
+        }
+        None => Ok(None),
+    }
+}
+
+// The next stretch of a walk: that of the range that it is in, or else of the first range after it
+// that has one. The lines of the units on the way are read, unless they are kept. A refusal of them
+// leaves the walk before that unit.
+pub(crate) fn next_stretch<R: Reader>(
+    alloc: Global,
+    units: &mut Vec<ResUnit<R>>,
+    ranges: &UnitRanges,
+    walk: &mut RangeWalk,
+) -> Result<Option<UnitStretch>, Error>
+    ensures values { map value_of_unit units.new.items ≡ map value_of_unit units.old.items }
+    ensures calls { LeavesCalls units.old.items units.new.items }
+    ensures cost { AtMostLooks 0 units.old.items units.new.items }
+    ensures stretch { FindsStretch (map plain_unit units.old.items) result
+        (walk_left (map unit_places (map plain_unit units.old.items)) ranges.now walk.old)
+        (walk_left (map unit_places (map plain_unit units.old.items)) ranges.now walk.new) }
+    ensures kept { KeepsStretch units.new.items result }
+{
+    'range: loop {
+        if let Some(stretch) = next_of_rows(alloc, units, walk)? {
+            return Ok(Some(stretch));
+        }
+        let Some((range, next)) = ranges.next_overlapping(walk.next, walk.low, walk.high) else {
+            return Ok(None);
+        };
+        walk.rows = first_rows(alloc, units, range, walk.low)?;
+        walk.next = next;
+    }
+}
