@@ -54,17 +54,32 @@ pub fn stretches<R: Reader>(found: Result<LocationRangeIter<'_, R>, Error>, out:
     }
 }
 
-// Whether there is one, or a refusal.
+// The next one, and whether there is one.
 fn next_stretch<R: Reader>(found: &mut LocationRangeIter<'_, R>, out: &mut Answer) -> bool {
-    let next = match found.next() {
+    let next = match stretch(found.next(), out) {
         Err(Error::Memory) => {
             out.again();
-            found.next()
+            stretch(found.next(), out)
         }
         next => next,
     };
     match next {
-        Ok(Some((begin, length, location))) => {
+        Ok(is_there) => is_there,
+        Err(error) => {
+            out.refuse(error);
+            again(found, out);
+            false
+        }
+    }
+}
+
+// A stretch, and whether there is one.
+fn stretch(
+    next: Result<Option<(u64, u64, Location<'_>)>, Error>,
+    out: &mut Answer,
+) -> Result<bool, Error> {
+    match next? {
+        Some((begin, length, location)) => {
             out.text("[");
             out.hex(begin);
             out.text("+");
@@ -72,14 +87,9 @@ fn next_stretch<R: Reader>(found: &mut LocationRangeIter<'_, R>, out: &mut Answe
             out.text(" ");
             place(Some(&location), out);
             out.text("]");
-            true
+            Ok(true)
         }
-        Ok(None) => false,
-        Err(error) => {
-            out.refuse(error);
-            again(found, out);
-            false
-        }
+        None => Ok(false),
     }
 }
 

@@ -10,6 +10,7 @@ pub mod location_range;
 pub mod lookup;
 mod outcomes;
 mod progress;
+pub mod range_steps;
 mod runs;
 mod sections;
 pub mod skip_laws;
@@ -20,9 +21,9 @@ pub use addr2line_lookups::{
     DebugAbbrev, DebugAbbrevOffset, DebugAddrIndex, DebugLineStrOffset, DebugRngListsIndex,
     DebugStrOffset, DebugStrOffsetsIndex, DwLang, Dwarf, DwarfFileType, DwoId, EndianBytes,
     EndianSlice, Error, Format, Frame, FrameIter, FunctionName, Lines, LinesBuilder, LittleEndian,
-    Location, LocationLists, Range, RangeLists, RangeListsOffset,
-    RawRangeListsOffset, Reader, ReaderOffsetId, ResUnit, RunTimeEndian, Runs, SectionId,
-    SplitDwarfLoad, Unit, UnitLines, UnitOffset, UnitRef, UnitRoot, UnitToken, file_text,
+    Location, LocationLists, Range, RangeLists, RangeListsOffset, RangeWalk, RawRangeListsOffset,
+    Reader, ReaderOffsetId, ResUnit, RunTimeEndian, Runs, SectionId, SplitDwarfLoad, Unit,
+    UnitLines, UnitOffset, UnitRef, UnitRoot, UnitStretch, UnitToken, file_text,
     file_text_of_bytes, is_rooted, join, language_of, ranges_of_attributes,
 };
 pub use context::Context;

@@ -1,6 +1,6 @@
 //! The places between two ends, one after the other.
 
-ghost use Rattle.std.specs.Prelude.{◌≡◌, ℕ};
+ghost use Rattle.std.specs.Prelude.{◌≡◌, []};
 ghost use Rattle.addr2line_lookups.specs.KeptUnits.{KeepsAt};
 ghost use Rattle.addr2line_lookups.specs.Lines.{Stretch};
 ghost use Rattle.addr2line_lookups.specs.RangeWalks.{FindsStretch, IsStretchOf, KeepsStretch};

@@ -1,7 +1,6 @@
 pub mod LoadedFiles
 pub mod FileLoads
 pub mod SourceAnswers
-pub mod KeptStretches
 pub use Rattle.addr2line_context.specs.Contexts
 pub use Rattle.addr2line_context.specs.DwarfFiles
 pub use Rattle.addr2line_context.specs.Results

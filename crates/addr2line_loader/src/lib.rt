@@ -11,4 +11,3 @@ mod sections;
 pub mod stretches;
 
 pub use loader::Loader;
-pub use stretches::LinesBetween;

@@ -2,8 +2,9 @@
 
 ghost use Rattle.std.specs.Prelude.{◌≡◌, Ok, option_map};
 ghost use Rattle.addr2line_context.specs.BorrowedLocations.{location_value};
-ghost use Rattle.addr2line_context.specs.Calls.{ReturnsAsOrNoMemory, ReturnsOrNoMemory};
+ghost use Rattle.addr2line_context.specs.Calls.{ReturnsAs, ReturnsAsOrNoMemory};
 ghost use Rattle.addr2line_context.specs.Contexts.{location, stretches};
+ghost use Rattle.addr2line_context.specs.LocationRanges.{left_in};
 ghost use Rattle.addr2line_split.specs.ElfImages.{section_range};
 ghost use Rattle.addr2line_split.specs.ElfSymbols.{symbol_at};
 ghost use Rattle.addr2line_split.specs.ImageLoading.{LoadsOrNoMemory};
@@ -103,13 +104,14 @@ impl Loader {
     }
 
     /// The stretches of addresses between two ends, with their places, as
-    /// `Context::find_location_range` finds them.
+    /// `Context::find_location_range` finds them. Here nothing is read and no memory is taken, so
+    /// that it is never refused.
     pub fn find_location_range(
         &mut self,
         probe_low: u64,
         probe_high: u64,
     ) -> Result<LocationRangeIter<'_, ImageReader>, Error>
-        ensures { ReturnsOrNoMemory result
+        ensures { ReturnsAs (λ i. left_in i.context.now i.walk) result
             (Ok (stretches self.old.context.context probe_low probe_high)) }
     {
         self.context.find_location_range(probe_low, probe_high)

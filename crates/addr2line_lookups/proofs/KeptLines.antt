@@ -5,24 +5,12 @@ use Rattle.std.proofs.lemmas.Simd.{map-map}
 use Rattle.std.proofs.lemmas.Option.{slice_get-get_or, slice_get-map, slice_get_past}
 use Rattle.std.proofs.Math.Seq.{drop-cons}
 use Rattle.addr2line_resolved.specs.Error.{Error}
-use Rattle.addr2line_resolved.specs.Repetition.{Listing}
 use Rattle.addr2line_resolved.specs.Results.{and_then}
-use Rattle.addr2line_resolved.specs.Range.{Range}
-use Rattle.addr2line_resolved.specs.Lines.{Lines, Stretch}
-use Rattle.addr2line_resolved.specs.Contexts.{ContextUnit, ranges_of, lines_of, all_lines, all_lines_or_refusal}
-use Rattle.addr2line_resolved.specs.PlaceLookups.{stretches_between}
-use Rattle.addr2line_resolved.specs.UnitRange.{UnitRange}
-use Rattle.addr2line_resolved.specs.NumberedRanges.{unit_ranges, overlapping_ranges}
-use Rattle.addr2line_resolved.specs.UnitPlaces.{UnitPlaces, ranges_in_order}
-use Rattle.addr2line_resolved.specs.RangeIndexLaws.{with_unit_stretches, stretches_from, stretches_of_units}
-use Rattle.addr2line_resolved.specs.ContextUnits.{unit_places, ordered_ranges}
-use Rattle.addr2line_resolved.specs.ResolvedUnits.{ResolvedUnit, value_of_unit, plain_unit, kept_places, lines_if_kept, KeepsLines}
+use Rattle.addr2line_resolved.specs.Lines.{Lines}
+use Rattle.addr2line_resolved.specs.Contexts.{ContextUnit, all_lines, all_lines_or_refusal}
+use Rattle.addr2line_resolved.specs.ResolvedUnits.{ResolvedUnit, value_of_unit, plain_unit, KeepsLines}
 use Rattle.addr2line_resolved.proofs.NewUnits.{unit_of}
-use Rattle.addr2line_resolved.proofs.UnitViews.{stretches_of_views, stretches_by_numbers}
-use Rattle.addr2line_lookups.specs.KeptUnits.{KeepsAt, KeepsRanges, KeepsBetween, KeepsMore, check_of, check_at}
-
-abbrev ranges_in : UnitPlaces → List Range
-ranges_in u = u.ranges
+use Rattle.addr2line_lookups.specs.KeptUnits.{KeepsAt, check_of, check_at}
 
 -- ---- kept lines
 
@@ -41,87 +29,6 @@ pub keeps_set : (us : List ResolvedUnit) (number : ℕ) (u : ResolvedUnit) → K
 keeps_set [] number u keeps = tt
 keeps_set (v ∷ us) zero u keeps = keeps
 keeps_set (v ∷ us) (suc n) u keeps = keeps_set us n u keeps
-
-places_of_kept : (u : ResolvedUnit) → KeepsLines u → kept_places u ≡ unit_places (plain_unit u)
-places_of_kept u keeps =
-    ap (λ b. record { ranges = u.value.unit.ranges; lines = lines_if_kept b u.value.unit.lines }) keeps
-
-with_kept_unit : (low high : ℕ) (r : Range) (o : Option ResolvedUnit) (rest : Listing (Unit {0}) Stretch)
-    → IfSome o KeepsLines
-    → with_unit_stretches low high r (option_map kept_places o) rest
-    ≡ with_unit_stretches low high r (option_map unit_places (option_map plain_unit o)) rest
-with_kept_unit low high r None rest h = refl
-with_kept_unit low high r (Some u) rest h = ap (λ p. with_unit_stretches low high r (Some p) rest) (places_of_kept u h)
-
--- where lines are kept, what is kept is all there is
-kept_stretches : (us : List ResolvedUnit) (low high : ℕ) (rs : List UnitRange) → KeepsRanges us rs
-    → stretches_from (map kept_places us) low high rs ≡ stretches_from (map unit_places (map plain_unit us)) low high rs
-kept_stretches us low high [] h = refl
-kept_stretches us low high (r ∷ rs) h =
-    ap (with_unit_stretches low high r.range (slice_get (map kept_places us) r.unit))
-    (kept_stretches us low high rs h.1)
-    ∙ ap (λ o. with_unit_stretches low high r.range o
-    (stretches_from (map unit_places (map plain_unit us)) low high rs))
-    (slice_get-map kept_places us r.unit)
-    ∙ with_kept_unit low high r.range (slice_get us r.unit)
-    (stretches_from (map unit_places (map plain_unit us)) low high rs) h.0
-    ∙ ap (λ o. with_unit_stretches low high r.range o
-    (stretches_from (map unit_places (map plain_unit us)) low high rs))
-    (sym (slice_get-map unit_places (map plain_unit us) r.unit
-    ∙ ap (option_map unit_places) (slice_get-map plain_unit us r.unit)))
-
-kept_order : (us : List ResolvedUnit) → ranges_in_order (map kept_places us) ≡ ordered_ranges (map plain_unit us)
-kept_order us =
-    ap unit_ranges (map-map ranges_in kept_places us
-    ∙ sym (ap (map ranges_in) (map-map unit_places plain_unit us)
-    ∙ map-map ranges_in (λ u. unit_places (plain_unit u)) us))
-
--- the ranges of kept places are those of the units
-pub order_of_kept : (us : List ResolvedUnit) (rs : List UnitRange) → rs ≡ ordered_ranges (map plain_unit us)
-    → rs ≡ ranges_in_order (map kept_places us)
-order_of_kept us rs h = h ∙ sym (kept_order us)
-
--- the stretches of kept places are those of the units
-pub stretches_of_kept : (us : List ResolvedUnit) (low high : ℕ) → KeepsBetween low high us
-    → stretches_of_units (map kept_places us) low high
-    ≡ stretches_between ranges_of lines_of (map plain_unit us) low high
-stretches_of_kept us low high h =
-    stretches_by_numbers (map kept_places us) low high
-    ∙ ap (λ l. stretches_from (map kept_places us) low high (overlapping_ranges low high l)) (kept_order us)
-    ∙ kept_stretches us low high (overlapping_ranges low high (ordered_ranges (map plain_unit us))) h
-    ∙ sym (stretches_by_numbers (map unit_places (map plain_unit us)) low high)
-    ∙ stretches_of_views unit_places (map plain_unit us) low high
-
--- lines that are kept still
-keeps_ranges : (us vs : List ResolvedUnit) → KeepsMore us vs → (rs : List UnitRange) → KeepsRanges us rs
-    → KeepsRanges vs rs
-keeps_ranges us vs more [] h = tt
-keeps_ranges us vs more (r ∷ rs) h = (more r.unit h.0, keeps_ranges us vs more rs h.1)
-
-module _ (us : List ResolvedUnit) (r : UnitRange) (old rest : List UnitRange) (is : old ≡ r ∷ rest)
-    (h : KeepsRanges us old) where
-  -- those of the first range
-  pub keeps_first : KeepsAt us r.unit
-  keeps_first = (subst (KeepsRanges us) is h).0
-
-  -- and of the others, later
-  pub keeps_rest : (vs : List ResolvedUnit) → KeepsMore us vs → KeepsRanges vs rest
-  keeps_rest vs more = keeps_ranges us vs more rest (subst (KeepsRanges us) is h).1
-
--- ---- ranges one after the other
-
--- Where the rest of some ranges are kept, in units that keep at least these lines, all are.
-abbrev pub LeavesRanges : List ResolvedUnit → List UnitRange → List UnitRange → Type 0
-LeavesRanges us rest all = (vs : List ResolvedUnit) → KeepsMore us vs → KeepsRanges vs rest → KeepsRanges vs all
-
-pub leaves_next : (us vs : List ResolvedUnit) (r : UnitRange) (before rest all : List UnitRange) → before ≡ r ∷ rest
-    → LeavesRanges us before all → KeepsMore us vs → KeepsAt vs r.unit → LeavesRanges vs rest all
-leaves_next us vs r before rest all is h more kept ws further keeps =
-    h ws (λ n at. further n (more n at)) (subst (KeepsRanges ws) (sym is) (further r.unit kept, keeps))
-
-pub leaves_none : (us : List ResolvedUnit) (rest all : List UnitRange) → rest ≡ [] → LeavesRanges us rest all
-    → KeepsRanges us all
-leaves_none us rest all is h = h us (λ n at. at) (subst (KeepsRanges us) (sym is) tt)
 
 -- ---- what refuses all lines
 

@@ -11,6 +11,7 @@ pub use Rattle.addr2line_resolved.proofs.ResolvedViews
 pub use Rattle.addr2line_resolved.proofs.RangeNumbers
 pub mod ContextOfUnits
 pub mod KeptLines
+pub mod RangeSteps
 pub mod UnitProbes
 pub mod UnitRows
 pub mod PendingUnits
@@ -30,3 +31,4 @@ pub mod SettledUnits
 pub mod FirstLoads
 pub mod PassedUnits
 pub mod AskedLines
+pub mod KeptFunctionLists

@@ -1,73 +1,35 @@
 -- Walks over the stretches between two ends, one step after the other.
-use Rattle.std.proofs.Common.{◌≡◌, ℕ, max, min, Bool, true, List, [], ◌∷◌, drop, map, slice_get, Option, Some, None, option_map, Result, Ok, Err, refl, sym, ap, ◌∙◌, subst}
+use Rattle.std.proofs.Common.{◌≡◌, ℕ, max, min, List, [], ◌∷◌, drop, map, slice_get, Option, Some, None, option_map, Result, Ok, Err, refl, sym, ap, ◌∙◌, subst}
 use Rattle.std.specs.Prelude.{◌≢◌, option_and_then}
+use Rattle.std.specs.Borrow.{Bor}
 use Rattle.std.proofs.lemmas.Option.{slice_get-map}
 use Rattle.addr2line_resolved.specs.Error.{Error}
 use Rattle.addr2line_resolved.specs.Error.TheVariants.{Memory}
-use Rattle.addr2line_resolved.specs.Repetition.{Listing, no_items, prepend}
+use Rattle.addr2line_resolved.specs.Repetition.{no_items, prepend}
 use Rattle.addr2line_resolved.specs.Results.{and_then}
-use Rattle.addr2line_resolved.specs.Lines.{Lines, Stretch, lines_between, row_location}
+use Rattle.addr2line_resolved.specs.Lines.{Lines, row_location}
 use Rattle.addr2line_resolved.specs.Contexts.{ContextUnit, ranges_of, lines_of}
-use Rattle.addr2line_resolved.specs.PlaceLookups.{with_stretches, stretches_between}
+use Rattle.addr2line_resolved.specs.PlaceLookups.{stretches_between}
 use Rattle.addr2line_resolved.specs.UnitRange.{UnitRange}
 use Rattle.addr2line_resolved.specs.UnitPlaces.{UnitPlaces}
 use Rattle.addr2line_resolved.specs.NumberedRanges.{overlapping_ranges}
-use Rattle.addr2line_resolved.specs.RangeIndexLaws.{with_unit_stretches, stretches_from}
+use Rattle.addr2line_resolved.specs.RangeIndexLaws.{stretches_from}
 use Rattle.addr2line_resolved.specs.LineCursor.{LineCursor}
 use Rattle.addr2line_resolved.specs.LineCursors.{lines_left}
 use Rattle.addr2line_resolved.specs.RowStretch.{RowStretch}
 use Rattle.addr2line_resolved.specs.Stretches.{stretch_of_row}
-use Rattle.addr2line_resolved.specs.LineIndexes.{CountedLines, counted_lines}
-use Rattle.addr2line_resolved.specs.ContextUnits.{unit_places, ordered_ranges}
-use Rattle.addr2line_resolved.specs.ResolvedUnits.{ResolvedUnit, plain_unit, value_of_unit, if_kept, location_of_row}
+use Rattle.addr2line_resolved.specs.ContextUnits.{unit_places}
+use Rattle.addr2line_resolved.specs.ResolvedUnits.{location_of_row}
 use Rattle.addr2line_resolved.proofs.UnitViews.{stretches_of_views, stretches_by_numbers}
-use Rattle.addr2line_lookups.specs.KeptUnits.{lines_of_unit, lines_at, location_of_unit_row}
-use Rattle.addr2line_lookups.specs.RangeWalks.{clipped_left, unit_left, rows_left, BeginsRange, IsStretchOf, FirstStretch, NextInRange, NextOfRows, walk_left, stretches_left, FindsStretch}
+use Rattle.addr2line_lookups.specs.KeptUnits.{lines_of_unit, lines_at}
+use Rattle.addr2line_lookups.specs.RangeWalks.{clipped_left, unit_left, rows_left, BeginsRange, FirstStretch, NextInRange, NextOfRows, walk_left, stretches_left, FindsStretch}
 use Rattle.addr2line_lookups.specs.declared.range_walk.RangeRows.{RangeRows}
 use Rattle.addr2line_lookups.specs.declared.range_walk.RangeWalk.{RangeWalk}
 use Rattle.addr2line_lookups.specs.declared.range_walk.UnitStretch.{UnitStretch}
-use Rattle.addr2line_lookups.proofs.KeptLines.{same_plain}
 
--- ---- the lines of the unit of a number
-
-pub lines_by_number : (us : List ResolvedUnit) (n : ℕ) (o : Option ResolvedUnit) → o ≡ slice_get us n
-    → lines_at (map plain_unit us) n ≡ lines_of_unit (option_map plain_unit o)
-lines_by_number us n o found =
-    ap lines_of_unit (slice_get-map plain_unit us n ∙ ap (option_map plain_unit) (sym found))
-
--- lines that are kept, with the name of their counter
-module _ (name : ℕ) where
-  counted_ok : (r : Result Lines Error) (i : CountedLines) → counted_lines name r ≡ Ok i → r ≡ Ok i.lines
-  counted_ok (Ok l) i h =
-      let same : record { lines = l; counter = name } ≡ i = cc in ap (λ (x : CountedLines). Ok x.lines) same
-  counted_ok (Err e) i h = absurd cc
-
-  counted_err : (r : Result Lines Error) (e : Error) → counted_lines name r ≡ Err e → r ≡ Err e
-  counted_err (Ok l) e h = absurd cc
-  counted_err (Err d) e h = let same : d ≡ e = cc in ap Err same
-
-  kept_is : (b : Bool) (r : Result Lines Error) (o : Option (Result CountedLines Error))
-      → o ≡ if_kept b (counted_lines name r) → b ≡ true → o ≡ Some (counted_lines name r)
-  kept_is b r o is kept = is ∙ ap (λ k. if_kept k (counted_lines name r)) kept
-
-  module _ (b : Bool) (r : Result Lines Error) (o : Option (Result CountedLines Error))
-      (is : o ≡ if_kept b (counted_lines name r)) (kept : b ≡ true) where
-    pub kept_lines_are : (i : CountedLines) → o ≡ Some (Ok i)
-        → and_then r (λ (l : Lines). Ok (Some l)) ≡ Ok (Some i.lines)
-    kept_lines_are i h =
-        let same : counted_lines name r ≡ Ok i =
-        let both : Some (counted_lines name r) ≡ Some (Ok i) = sym (kept_is b r o is kept) ∙ h in cc in
-        ap (λ x. and_then x (λ (l : Lines). Ok (Some l))) (counted_ok r i same)
-
-    pub kept_refusal_is : (e : Error) → o ≡ Some (Err e) → and_then r (λ (l : Lines). Ok (Some l)) ≡ Err e
-    kept_refusal_is e h =
-        let same : counted_lines name r ≡ Err e =
-        let both : Some (counted_lines name r) ≡ Some (Err e) = sym (kept_is b r o is kept) ∙ h in cc in
-        ap (λ x. and_then x (λ (l : Lines). Ok (Some l))) (counted_err r e same)
-
-    pub kept_lines_there : o ≡ None → ⊥
-    kept_lines_there h =
-        let both : Some (counted_lines name r) ≡ None = sym (kept_is b r o is kept) ∙ h in absurd cc
+-- lines behind a reference, if there are any
+abbrev pub ok_lines : Option (Bor Lines) → Result (Option Lines) Error
+ok_lines o = Ok (option_map (λ l. l.now) o)
 
 -- ---- the unit of a range
 
@@ -83,66 +45,9 @@ module _ (low high : ℕ) (r : UnitRange) where
   abbrev to : ℕ
   to = min high r.range.end
 
-  begins_lines : (c : LineCursor) (x : Result Lines Error) (l : Lines) (rest : Listing (Unit {0}) Stretch)
-      → and_then x (λ (l : Lines). Ok (Some l)) ≡ Ok (Some l) → lines_left l from to c ≡ lines_between l from to
-      → with_stretches low high r.range x rest ≡ prepend (clipped_left low high r.range c x) rest
-  begins_lines c (Ok m) l rest h start =
-      let same : m ≡ l = cc in
-      ap (λ (k : Lines). prepend (lines_between k from to) rest) same
-      ∙ ap (λ ts. prepend ts rest) (sym start)
-      ∙ ap (λ (k : Lines). prepend (lines_left k from to c) rest) (sym same)
-  begins_lines c (Err e) l rest h start = absurd cc
-
-  begins_unit : (c : LineCursor) (o : Option ContextUnit) (l : Lines) (rest : Listing (Unit {0}) Stretch)
-      → lines_of_unit o ≡ Ok (Some l) → lines_left l from to c ≡ lines_between l from to
-      → with_unit_stretches low high r.range (option_map unit_places o) rest
-      ≡ prepend (unit_left low high r.range c (option_map unit_places o)) rest
-  begins_unit c None l rest h start = absurd cc
-  begins_unit c (Some u) l rest h start = begins_lines c u.lines l rest h start
-
-  -- a walk begins in lines that can be read
-  pub begins_with : (us : List ContextUnit) (c : LineCursor) (l : Lines) → lines_at us r.unit ≡ Ok (Some l)
-      → lines_left l from to c ≡ lines_between l from to
-      → BeginsRange (map unit_places us) low high r (Ok (Some (record { range = r; cursor = c })))
-  begins_with us c l h start rest =
-      at_number us r.unit
-      (λ p. with_unit_stretches low high r.range p rest ≡ prepend (unit_left low high r.range c p) rest)
-      (begins_unit c (slice_get us r.unit) l rest h start)
-
   no_lines_of : (x : Result Lines Error) → and_then x (λ (l : Lines). Ok (Some l)) ≡ Ok None → ⊥
   no_lines_of (Ok l) h = absurd cc
   no_lines_of (Err e) h = absurd cc
-
-  begins_without : (o : Option ContextUnit) (rest : Listing (Unit {0}) Stretch) → lines_of_unit o ≡ Ok None
-      → with_unit_stretches low high r.range (option_map unit_places o) rest ≡ rest
-  begins_without None rest h = refl
-  begins_without (Some u) rest h = absurd (no_lines_of u.lines h)
-
-  -- not where there is no unit
-  pub begins_nowhere : (us : List ContextUnit) → lines_at us r.unit ≡ Ok None
-      → BeginsRange (map unit_places us) low high r (Ok None)
-  begins_nowhere us h rest =
-      at_number us r.unit (λ p. with_unit_stretches low high r.range p rest ≡ rest)
-      (begins_without (slice_get us r.unit) rest h)
-
-  refused_lines : (x : Result Lines Error) (e : Error) (rest : Listing (Unit {0}) Stretch)
-      → and_then x (λ (l : Lines). Ok (Some l)) ≡ Err e → with_stretches low high r.range x rest ≡ no_items (Err e)
-  refused_lines (Ok l) e rest h = absurd cc
-  refused_lines (Err d) e rest h = let same : d ≡ e = cc in ap (λ x. no_items (Err x)) same
-
-  refused_unit : (o : Option ContextUnit) (e : Error) (rest : Listing (Unit {0}) Stretch) → lines_of_unit o ≡ Err e
-      → with_unit_stretches low high r.range (option_map unit_places o) rest ≡ no_items (Err e)
-  refused_unit None e rest h = absurd cc
-  refused_unit (Some u) e rest h = refused_lines u.lines e rest h
-
-  -- nor where its lines are refused
-  pub begins_refused : (us : List ContextUnit) (e : Error) → lines_at us r.unit ≡ Err e
-      → BeginsRange (map unit_places us) low high r (Err e)
-  begins_refused us e h other rest =
-      at_number us r.unit (λ p. with_unit_stretches low high r.range p rest ≡ no_items (Err e))
-      (refused_unit (slice_get us r.unit) e rest h)
-
-  -- ---- what is left of it
 
   left_of_lines : (c : LineCursor) (x : Result Lines Error) (l : Lines)
       → and_then x (λ (l : Lines). Ok (Some l)) ≡ Ok (Some l) → clipped_left low high r.range c x ≡ lines_left l from to c
@@ -188,10 +93,16 @@ module _ (low high : ℕ) (r : UnitRange) where
       at_number us r.unit (λ p. unit_left low high r.range c p ≡ [])
       (none_of_refused_unit c (slice_get us r.unit) e h)
 
+  -- between the clipped ends
+  clipped : (l : Lines) (c : LineCursor) (a b : ℕ) → a ≡ from → b ≡ to → lines_left l from to c ≡ lines_left l a b c
+  clipped l c a b low_is high_is =
+      sym (ap (λ n. lines_left l n b c) low_is ∙ ap (λ n. lines_left l from n c) high_is)
+
   -- nor after the last row
-  pub none_after_rows : (us : List ContextUnit) (c : LineCursor) (l : Lines) → lines_at us r.unit ≡ Ok (Some l)
-      → lines_left l from to c ≡ [] → NextInRange us low high (record { range = r; cursor = c }) None
-  none_after_rows us c l h none = left_in_unit us c l h ∙ none
+  pub none_after_rows : (us : List ContextUnit) (c : LineCursor) (l : Lines) (a b : ℕ) → a ≡ from → b ≡ to
+      → lines_at us r.unit ≡ Ok (Some l) → lines_left l a b c ≡ []
+      → NextInRange us low high (record { range = r; cursor = c }) None
+  none_after_rows us c l a b low_is high_is h none = left_in_unit us c l h ∙ clipped l c a b low_is high_is ∙ none
 
   location_in : (x : Result Lines Error) (l : Lines) (s : RowStretch)
       → and_then x (λ (l : Lines). Ok (Some l)) ≡ Ok (Some l)
@@ -210,16 +121,18 @@ module _ (low high : ℕ) (r : UnitRange) where
 
   -- the next row is the next stretch
   pub next_of_lines : (us : List ContextUnit) (c d : LineCursor) (l : Lines) (s : RowStretch) (t : UnitStretch)
-      → lines_at us r.unit ≡ Ok (Some l) → t ≡ stretch_in_unit s
-      → lines_left l from to c ≡ stretch_of_row l.files s ∷ lines_left l from to d
+      (a b : ℕ) → a ≡ from → b ≡ to → lines_at us r.unit ≡ Ok (Some l) → t ≡ stretch_in_unit s
+      → lines_left l a b c ≡ stretch_of_row l.files s ∷ lines_left l a b d
       → NextInRange us low high (record { range = r; cursor = c }) (Some (t, record { range = r; cursor = d }))
-  next_of_lines us c d l s t h is first =
+  next_of_lines us c d l s t a b low_is high_is h is first =
       subst (λ (x : UnitStretch). FirstStretch us x
       (unit_left low high r.range c (slice_get (map unit_places us) r.unit))
       (unit_left low high r.range d (slice_get (map unit_places us) r.unit))) (sym is) (
         stretch_of_row l.files s,
         record { address = refl; length = refl; location = location_of (slice_get us r.unit) l s h },
-        left_in_unit us c l h ∙ first ∙ ap (λ ts. stretch_of_row l.files s ∷ ts) (sym (left_in_unit us d l h)),
+        left_in_unit us c l h ∙ clipped l c a b low_is high_is ∙ first
+            ∙ ap (λ ts. stretch_of_row l.files s ∷ ts)
+            (sym (left_in_unit us d l h ∙ clipped l d a b low_is high_is)),
       )
 
 -- ---- one range after the other
@@ -271,3 +184,17 @@ first_left units ranges s old new h =
     let rest = stretches_from us old.low old.high (overlapping_ranges old.low old.high (drop old.next ranges)) in
     subst (λ (x : RangeWalk). FindsStretch units (Ok (Some s)) (walk_left us ranges old) (walk_left us ranges x))
     (sym h.0) (h.1.0, h.1.1, ap (λ ts. prepend ts rest) h.1.2)
+
+-- a stretch that was found, if one was
+abbrev pub ok_stretch : Option UnitStretch → Result (Option UnitStretch) Error
+ok_stretch o = Ok o
+
+-- where the walk's range has no more, the walk stays
+pub stays_empty : (units : List ContextUnit) (old new : RangeWalk) (o : Option UnitStretch) → o ≡ None
+    → NextOfRows units (Ok o) old new
+    → (new ≡ old) × (rows_left (map unit_places units) new.low new.high new.rows ≡ [])
+stays_empty units old new o none h =
+    let stays : NextOfRows units (Ok None) old new = subst (λ x. NextOfRows units (Ok x) old new) none h in (
+      stays.0,
+      subst (λ (w : RangeWalk). rows_left (map unit_places units) w.low w.high w.rows ≡ []) (sym stays.0) stays.1,
+    )

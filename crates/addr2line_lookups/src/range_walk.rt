@@ -1,12 +1,12 @@
 //! Walks over the stretches between two ends. The lines of a unit are read where a walk comes to
 //! it, and kept.
 
-ghost use Rattle.std.specs.Prelude.{◌≡◌, ℕ, List, Ok, map, option_map, slice_get, OnOk};
+ghost use Rattle.std.specs.Prelude.{◌≡◌, ℕ, List, map, option_map, MatchOption};
 ghost use Rattle.addr2line_resolved.specs.Calls.{ReturnsAs};
 ghost use Rattle.addr2line_resolved.specs.Contexts.{ContextUnit, ranges_of, lines_of};
 ghost use Rattle.addr2line_resolved.specs.PlaceLookups.{stretches_between};
 ghost use Rattle.addr2line_resolved.specs.ContextUnits.{unit_places};
-ghost use Rattle.addr2line_resolved.specs.ResolvedUnits.{plain_unit, value_of_unit};
+ghost use Rattle.addr2line_resolved.specs.ResolvedUnits.{KeepsLines, plain_unit, value_of_unit};
 ghost use Rattle.addr2line_lookups.specs.KeptCalls.{LeavesCalls};
 ghost use Rattle.addr2line_lookups.specs.KeptUnits.{KeepsAt, lines_at};
 ghost use Rattle.addr2line_lookups.specs.LookupCosts.{AtMostLooks};
@@ -59,17 +59,28 @@ impl RangeWalk {
     }
 }
 
-// The lines of the unit of a number, if there is one, or the refusal of them. They are kept.
+// The lines of a unit, or the refusal of them. They are kept.
+fn lines_of<R: Reader>(unit: &ResUnit<R>) -> Result<&Lines, Error>
+    requires { KeepsLines unit.now }
+    ensures { ReturnsAs (λ l. l.now) result unit.now.value.unit.lines }
+{
+    match unit.kept_lines() {
+        Some(Ok(lines)) => Ok(lines.lines()),
+        Some(Err(error)) => Err(*error),
+        None => unreachable!(),
+    }
+}
+
+// Those of the unit of a number, if there is one.
 fn lines_at<R: Reader>(units: &[ResUnit<R>], number: usize) -> Result<Option<&Lines>, Error>
     requires { KeepsAt units.now number }
     ensures { ReturnsAs (option_map (λ l. l.now)) result
         (lines_at (map plain_unit units.now) number) }
 {
     match unit_at(units, number) {
-        Some(unit) => match unit.kept_lines() {
-            Some(Ok(lines)) => Ok(Some(lines.lines())),
-            Some(Err(error)) => Err(*error),
-            None => Ok(None),
+        Some(unit) => match lines_of(unit) {
+            Ok(lines) => Ok(Some(lines)),
+            Err(error) => Err(error),
         },
         None => Ok(None),
     }
@@ -120,7 +131,8 @@ fn next_in<R: Reader>(
     high: u64,
 ) -> Option<(UnitStretch, RangeRows)>
     requires { KeepsAt units.now rows.range.unit }
-    ensures { NextInRange (map plain_unit units.now) low high rows result }
+    ensures stretch { NextInRange (map plain_unit units.now) low high rows result }
+    ensures unit { MatchOption result (Unit {0}) (λ f. f.0.row.unit ≡ rows.range.unit) }
 {
     let RangeRows { range, cursor } = rows;
     match lines_at(units, range.unit) {

@@ -7,8 +7,9 @@ ghost use Rattle.gimli_core_base.specs.ErrorText.{error_text};
 ghost use Rattle.linemap_output.specs.ErrorLine.{error_line};
 ghost use Rattle.linemap_lookup.specs.Programs.{RefusesBy, RefusesOrNoMemory, all_if_asked, begins_of, is_above};
 
-use addr2line_context::{Error, LocationRangeIter, Reader};
+use addr2line_context::{Error, RangeWalk};
 use addr2line_loader::Loader;
+use addr2line_loader::stretches::next_stretch;
 use linemap_output::{Ended, Options, fail, out_of_memory};
 use std::alloc::Global;
 use std::io::Write;
@@ -23,34 +24,24 @@ fn is_above(last: Option<u64>, address: u64) -> bool
     }
 }
 
-// The addresses at which stretches begin, those that are above all before them.
-fn begins_of<R: Reader>(
-    alloc: Global,
-    stretches: LocationRangeIter<'_, R>,
-) -> Result<Vec<u64>, Error>
-    ensures { ReturnsAsOrNoMemory (λ addresses. addresses.items) result
-        (begins_of stretches.entry) }
+// All addresses at which stretches begin, those that are above all before them. The lines of all
+// units are read, unless they are kept, and kept.
+fn all_addresses(alloc: Global, loader: &mut Loader) -> Result<Vec<u64>, Error>
+    ensures addresses { ReturnsAsOrNoMemory (λ addresses. addresses.items) result
+        (begins_of (stretches loader.old.context.context 0 (2 ^ 64 - 1))) }
+    ensures same { loader.new ≡ loader.old }
 {
-    let mut stretches = stretches;
+    let mut walk = RangeWalk::new(0, u64::MAX);
     let mut addresses = Vec::new(alloc);
     let mut last = None;
-    'stretch: while let Some((address, _, _)) = stretches.next()? {
+    'stretch: while let Some(stretch) = next_stretch(loader, &mut walk)? {
+        let address = stretch.address;
         if is_above(last, address) {
             addresses.push(address)?;
             last = Some(address);
         }
     }
     Ok(addresses)
-}
-
-// All addresses. The lines of all units are read, unless they are kept, and kept.
-fn all_addresses(alloc: Global, loader: &mut Loader) -> Result<Vec<u64>, Error>
-    ensures addresses { ReturnsAsOrNoMemory (λ addresses. addresses.items) result
-        (begins_of (stretches loader.old.context.context 0 (2 ^ 64 - 1))) }
-    ensures same { loader.new ≡ loader.old }
-{
-    let lines = loader.read_lines_between(0, u64::MAX)?;
-    begins_of(alloc, lines.stretches())
 }
 
 // Reports that not all addresses are found.

@@ -1,6 +1,8 @@
 //! Copies of stretches.
 
-ghost use Rattle.std.specs.Prelude.{map};
+ghost use Rattle.std.specs.Prelude.{◌≡◌, map};
+ghost use Rattle.addr2line_context.specs.Contexts.{stretches};
+ghost use Rattle.addr2line_context.specs.KeptUnits.{KeepsMore};
 ghost use Rattle.addr2line_context.specs.Histories.{stretches_answer};
 ghost use Rattle.addr2line_context.specs.RangeItems.{stretch_of_item};
 ghost use Rattle.linemap_replay.specs.Outcomes.{CopiesOrNoMemory};
@@ -9,7 +11,7 @@ ghost use Rattle.linemap_replay.specs.StretchEnds.{EndsBy};
 
 use crate::answer::{Answer, OwnedStretch};
 use crate::copies::copy_location;
-use addr2line_context::{Error, Location, LocationRangeIter, Reader};
+use addr2line_context::{Context, Error, Location, Reader};
 use std::alloc::Global;
 
 fn copy_stretch(alloc: Global, item: (u64, u64, Location<'_>)) -> Result<OwnedStretch, Error>
@@ -33,16 +35,21 @@ fn end_by(copies: Vec<OwnedStretch>, error: Error) -> Result<Answer, Error>
     }
 }
 
-// Copies of the stretches that are left, and the refusal that ends them, if one does.
+// Copies of the stretches between two ends, and the refusal that ends them, if one does.
 pub(crate) fn copy_stretches<R: Reader>(
     alloc: Global,
-    stretches: LocationRangeIter<'_, R>,
+    context: &mut Context<R>,
+    low: u64,
+    high: u64,
 ) -> Result<Answer, Error>
-    ensures { CopiesOrNoMemory answer_of result (copied_answer (stretches_answer stretches.entry)) }
+    ensures answer { CopiesOrNoMemory answer_of result
+        (copied_answer (stretches_answer (stretches context.old.value.plain.context low high))) }
+    ensures value { context.new.value ≡ context.old.value }
+    ensures kept { KeepsMore context.old.units context.new.units }
 {
-    let mut stretches = stretches;
+    let mut stretches = context.find_location_range(low, high)?;
     let mut copies = Vec::new(alloc);
-    loop {
+    'item: loop {
         match stretches.next() {
             Ok(Some(item)) => copies.push(copy_stretch(alloc, item)?)?,
             Ok(None) => return Ok(Answer::Range(copies, None)),

@@ -14,7 +14,6 @@ use crate::copied_stretches::copy_stretches;
 use crate::copies::answer_place;
 use crate::loads::{resume_frames, resume_unit};
 use addr2line_context::frame_loads::find_decided_frames;
-use addr2line_context::kept_stretches::{kept_stretches, read_lines_between};
 use addr2line_context::unit_loads::{find_decided_unit, functions_unit};
 use addr2line_context::{Context, Dwarf, Error, Reader};
 use std::alloc::Global;
@@ -49,8 +48,7 @@ pub(crate) fn find_stretches<R: Reader>(
     ensures value { context.new.value ≡ context.old.value }
     ensures kept { KeepsMore context.old.units context.new.units }
 {
-    read_lines_between(context, low, high)?;
-    copy_stretches(alloc, kept_stretches(context, low, high))
+    copy_stretches(alloc, context, low, high)
 }
 
 // The frames of an address, unless the lookup waits for more loads than there are places.

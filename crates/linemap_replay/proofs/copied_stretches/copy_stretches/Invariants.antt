@@ -1,11 +1,21 @@
--- The copies so far, and the stretches that are left, are all.
+-- The copies so far, and the stretches that are left, are all; and the context's value is the same.
 use Rattle.std.proofs.Common.{◌≡◌, length, map}
+use Rattle.addr2line_context.specs.Contexts.{stretches}
+use Rattle.addr2line_context.specs.KeptUnits.{KeepsMore}
+use Rattle.addr2line_context.specs.LocationRanges.{left_in}
 use Rattle.addr2line_context.specs.Repetition.{prepend}
 use Rattle.linemap_replay.specs.OwnedAnswers.{stretch_of}
 use Rattle.linemap_replay.proofs.copied_stretches.copy_stretches.Given as goal
 
-abbrev pub invariant-loop-item : goal.invariant-loop-item
-invariant-loop-item g l = prepend (map stretch_of l.copies.items) l.stretches ≡ l.fn.stretches
+abbrev pub invariant-item : goal.invariant-item
+invariant-item g l = record {
+  same_reference : l.stretches.context.ghost_name ≡ l.initial.stretches.context.ghost_name;
+  value : l.stretches.context.now.value ≡ l.fn.context.value;
+  kept : KeepsMore l.fn.context.units l.stretches.context.now.units;
+  copied :
+      prepend (map stretch_of l.copies.items) (left_in l.stretches.context.now l.stretches.walk)
+      ≡ stretches l.fn.context.value.plain.context l.fn.low l.fn.high;
+}
 
-abbrev pub decreases-loop-item : goal.decreases-loop-item
-decreases-loop-item g l = length l.stretches.items
+abbrev pub decreases-item : goal.decreases-item
+decreases-item g l = length (left_in l.stretches.context.now l.stretches.walk).items

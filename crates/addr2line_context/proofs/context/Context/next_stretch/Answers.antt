@@ -1,0 +1,21 @@
+use Rattle.std.proofs.Common.{refl, subst}
+use Rattle.addr2line_lookups.specs.RangeWalks.{FindsStretch}
+use Rattle.addr2line_context.specs.KeptContexts.{ResolvedContext}
+use Rattle.addr2line_context.specs.LocationRanges.{left_in}
+use Rattle.addr2line_context.proofs.ContextParts.{after_lookup}
+use Rattle.addr2line_context.proofs.KeptUnits.{holds_same}
+use Rattle.addr2line_context.proofs.context.Context.next_stretch.Goals as goal
+
+pub returns-clause-stretch : goal.returns-clause-stretch
+returns-clause-stretch g c =
+    subst (λ (x : ResolvedContext). FindsStretch x.value.plain.context.units c.next_stretch.result
+    (left_in x c.args.walk.now) (left_in x c.next_stretch.new.walk)) c.self.view_is c.next_stretch.ensures.stretch
+
+pub returns-clause-after : goal.returns-clause-after
+returns-clause-after g c =
+    after_lookup _ _ _ _ c.self.view_is 0 0 c.next_stretch.new.self refl c.next_stretch.ensures.values
+    c.next_stretch.ensures.cost
+
+pub invariant_of-self : goal.invariant_of-self
+invariant_of-self g c =
+    holds_same _ _ _ _ c.self.invariant c.next_stretch.ensures.values c.next_stretch.ensures.calls

@@ -1,0 +1,41 @@
+use Rattle.std.proofs.Common.{◌≡◌, ◌∙◌, List, [], Option, Some, None, ap, map, refl, subst, sym}
+use Rattle.addr2line_resolved.specs.Contexts.{ContextUnit}
+use Rattle.addr2line_resolved.specs.ContextUnits.{unit_places}
+use Rattle.addr2line_resolved.specs.ResolvedUnits.{plain_unit}
+use Rattle.addr2line_lookups.specs.KeptUnits.{KeepsAt}
+use Rattle.addr2line_lookups.specs.RangeWalks.{rows_left, FirstStretch, NextInRange}
+use Rattle.addr2line_lookups.specs.declared.range_walk.RangeRows.{RangeRows}
+use Rattle.addr2line_lookups.proofs.KeptLines.{same_plain}
+use Rattle.addr2line_lookups.proofs.range_walk.next_of_rows.Goals as goal
+
+pub returns-in-Some-next_in-clause-stretch : goal.returns-in-Some-next_in-clause-stretch
+returns-in-Some-next_in-clause-stretch g c =
+    let w = c.args.walk.now in
+    let units = map plain_unit c.args.units.now.items in
+    let us = map unit_places units in
+    let s = c.in-Some-next_in.stretch in
+    let rest = rows_left us w.low w.high (Some c.in-Some-next_in.rest) in (
+      refl,
+      subst (λ (o : Option RangeRows). FirstStretch units s (rows_left us w.low w.high o) rest) (sym c.in-Some.is)
+          (subst (λ (xs : List ContextUnit). NextInRange xs w.low w.high c.in-Some.rows
+          (Some (s, c.in-Some-next_in.rest)))
+          (ap (map plain_unit) c.as_slice.ensures.value
+          ∙ same_plain c.read_at.new.units.items c.args.units.now.items c.in_ok-read_at.ensures.values)
+          c.in-Some-next_in.ensures.stretch),
+    )
+
+pub returns-in-Some-next_in-clause-kept : goal.returns-in-Some-next_in-clause-kept
+returns-in-Some-next_in-clause-kept g c =
+    subst (KeepsAt c.read_at.new.units.items) (sym c.in-Some-next_in.ensures.unit) c.in_ok-read_at.ensures.kept
+
+pub returns-in-None-clause-stretch : goal.returns-in-None-clause-stretch
+returns-in-None-clause-stretch g c =
+    let w = c.args.walk.now in
+    let us = map unit_places (map plain_unit c.args.units.now.items) in (
+      refl,
+      subst (λ (o : Option RangeRows). rows_left us w.low w.high o ≡ []) (sym c.in-Some.is)
+          (subst (λ (xs : List ContextUnit). NextInRange xs w.low w.high c.in-Some.rows None)
+          (ap (map plain_unit) c.as_slice.ensures.value
+          ∙ same_plain c.read_at.new.units.items c.args.units.now.items c.in_ok-read_at.ensures.values)
+          c.in-None.ensures.stretch),
+    )

@@ -1,0 +1,98 @@
+use Rattle.std.proofs.Common.{◌≡◌, ◌∙◌, List, Ok, Err, ap, map, subst, sym}
+use Rattle.std.proofs.lemmas.Result.{err_from_is_err_and}
+use Rattle.addr2line_resolved.specs.Contexts.{ContextUnit}
+use Rattle.addr2line_resolved.specs.ContextUnits.{unit_places}
+use Rattle.addr2line_resolved.specs.ResolvedUnits.{plain_unit}
+use Rattle.addr2line_lookups.specs.RangeWalks.{BeginsRange, NextOfRows, walk_left}
+use Rattle.addr2line_lookups.proofs.CallsLeft.{leaves_both}
+use Rattle.addr2line_lookups.proofs.KeptLines.{same_plain}
+use Rattle.addr2line_lookups.proofs.RangeSteps.{first_left, next_range, refused_range, no_range, stays_empty, ok_stretch}
+use Rattle.addr2line_lookups.proofs.UnitProbes.{looks_after}
+use Rattle.addr2line_lookups.proofs.range_walk.next_stretch.Goals as goal
+
+pub returns-in-Some-clause-stretch : goal.returns-in-Some-clause-stretch
+returns-in-Some-clause-stretch g c =
+    let units = map plain_unit c.args.units.now.items in
+    let found =
+    first_left units c.args.ranges.now c.in-Some.stretch c.range.walk c.next_of_rows.new.walk
+    (subst (λ r. NextOfRows units r c.range.walk c.next_of_rows.new.walk) (ap ok_stretch c.in-Some.is)
+    (subst (λ (xs : List ContextUnit). NextOfRows xs (Ok c.in_ok-stretch.field-0) c.range.walk c.next_of_rows.new.walk)
+    (same_plain c.range.units.items c.args.units.now.items c.range.invariant.values)
+    c.in_ok-stretch.ensures.stretch)) in (found.0, found.1, sym c.range.invariant.left ∙ found.2)
+
+pub returns-in_default-next_overlapping-clause-stretch : goal.returns-in_default-next_overlapping-clause-stretch
+returns-in_default-next_overlapping-clause-stretch g c =
+    let units = map plain_unit c.args.units.now.items in
+    let us = map unit_places units in
+    let ranges = c.args.ranges.now in
+    let w = c.next_of_rows.new.walk in
+    let stays =
+    stays_empty units c.range.walk w c.in_ok-stretch.field-0 c.in_default.is
+    (subst (λ (xs : List ContextUnit). NextOfRows xs (Ok c.in_ok-stretch.field-0) c.range.walk w)
+    (same_plain c.range.units.items c.args.units.now.items c.range.invariant.values)
+    c.in_ok-stretch.ensures.stretch) in
+    let same : walk_left us ranges w ≡ walk_left us ranges c.args.walk.now =
+    ap (walk_left us ranges) stays.0 ∙ c.range.invariant.left in
+    (sym same ∙ no_range us ranges w stays.1 c.in_default-next_overlapping.ensures, same)
+
+pub returns-in_err-walk-clause-stretch : goal.returns-in_err-walk-clause-stretch
+returns-in_err-walk-clause-stretch g c =
+    let p = err_from_is_err_and c.from_residual-in_err-walk.result c.from_residual-in_err-walk.ensures.1 in
+    let units = map plain_unit c.args.units.now.items in
+    let us = map unit_places units in
+    let ranges = c.args.ranges.now in
+    let w = c.next_of_rows.new.walk in
+    let r = c.in-Some-next_overlapping.range in
+    let e = c.in_err-walk.field-0.0 in
+    let stays =
+    stays_empty units c.range.walk w c.in_ok-stretch.field-0 c.in_default.is
+    (subst (λ (xs : List ContextUnit). NextOfRows xs (Ok c.in_ok-stretch.field-0) c.range.walk w)
+    (same_plain c.range.units.items c.args.units.now.items c.range.invariant.values)
+    c.in_ok-stretch.ensures.stretch) in
+    let same : walk_left us ranges w ≡ walk_left us ranges c.args.walk.now =
+    ap (walk_left us ranges) stays.0 ∙ c.range.invariant.left in
+    let refuses : BeginsRange us w.low w.high r (Err e) =
+    subst (λ (xs : List ContextUnit). BeginsRange (map unit_places xs) w.low w.high r (Err e))
+    (same_plain c.next_of_rows.new.units.items c.args.units.now.items
+    (c.in_ok-stretch.ensures.values ∙ c.range.invariant.values)) (c.in_err-walk.ensures.rows w.high) in
+    rw (p.1, p.2) (
+      λ other.
+          sym same
+          ∙ refused_range us ranges w stays.1 r c.in-Some-next_overlapping.next e c.in-Some-next_overlapping.ensures
+          refuses other,
+      same,
+    )
+
+pub range-preserved : goal.range-preserved
+range-preserved g c =
+    let old = c.args.units.now.items in
+    let units = map plain_unit old in
+    let us = map unit_places units in
+    let ranges = c.args.ranges.now in
+    let w = c.next_of_rows.new.walk in
+    let r = c.in-Some-next_overlapping.range in
+    let next = c.in-Some-next_overlapping.next in
+    let now = c.next_of_rows.new.units.items in
+    let rows = c.in_ok-walk.field-0 in
+    let stays =
+    stays_empty units c.range.walk w c.in_ok-stretch.field-0 c.in_default.is
+    (subst (λ (xs : List ContextUnit). NextOfRows xs (Ok c.in_ok-stretch.field-0) c.range.walk w)
+    (same_plain c.range.units.items old c.range.invariant.values) c.in_ok-stretch.ensures.stretch) in
+    let begins : BeginsRange us w.low w.high r (Ok rows) =
+    subst (λ (xs : List ContextUnit). BeginsRange (map unit_places xs) w.low w.high r (Ok rows))
+    (same_plain now old (c.in_ok-stretch.ensures.values ∙ c.range.invariant.values))
+    (c.in_ok-walk.ensures.rows w.high) in
+    record {
+      values = c.in_ok-walk.ensures.values ∙ c.in_ok-stretch.ensures.values ∙ c.range.invariant.values;
+      left =
+          next_range us ranges w stays.1 r next rows c.in-Some-next_overlapping.ensures begins
+          ∙ ap (walk_left us ranges) stays.0 ∙ c.range.invariant.left;
+      calls =
+          leaves_both old now c.first_rows.new.units.items
+          (leaves_both old c.range.units.items now c.range.invariant.calls c.in_ok-stretch.ensures.calls)
+          c.in_ok-walk.ensures.calls;
+      cost =
+          looks_after 0 old now c.first_rows.new.units.items
+          (looks_after 0 old c.range.units.items now c.range.invariant.cost c.in_ok-stretch.ensures.cost)
+          c.in_ok-walk.ensures.cost;
+    }

@@ -1,0 +1,30 @@
+use Rattle.std.proofs.Common.{◌∙◌, List, ap, sym, subst, map}
+use Rattle.addr2line_resolved.specs.UnitRange.{UnitRange}
+use Rattle.addr2line_resolved.specs.ContextUnits.{unit_places, ordered_ranges}
+use Rattle.addr2line_resolved.specs.ResolvedUnits.{ResolvedUnit, plain_unit}
+use Rattle.addr2line_lookups.specs.KeptCalls.{LeavesCalls}
+use Rattle.addr2line_lookups.specs.RangeWalks.{FindsStretch, walk_left, stretches_left}
+use Rattle.addr2line_lookups.proofs.KeptLines.{same_plain}
+use Rattle.addr2line_lookups.proofs.units.Units.next_stretch.Goals as goal
+
+pub invariant_of-self : goal.invariant_of-self
+invariant_of-self g c =
+    c.self.invariant
+    ∙ ap ordered_ranges
+    (sym (same_plain c.next_stretch.new.units.items c.self.inside.units.items c.next_stretch.ensures.values))
+
+pub returns-clause-stretch : goal.returns-clause-stretch
+returns-clause-stretch g c =
+    let old = c.args.walk.now in
+    let new = c.next_stretch.new.walk in
+    let units = map plain_unit c.self.inside.units.items in
+    let us = map unit_places units in
+    subst (λ (xs : List ResolvedUnit). FindsStretch (map plain_unit xs) c.next_stretch.result
+    (stretches_left (map plain_unit xs) old) (stretches_left (map plain_unit xs) new)) c.self.view_is
+    (subst (λ (rs : List UnitRange). FindsStretch units c.next_stretch.result (walk_left us rs old)
+    (walk_left us rs new)) c.self.invariant c.next_stretch.ensures.stretch)
+
+pub returns-clause-calls : goal.returns-clause-calls
+returns-clause-calls g c =
+    subst (λ (us : List ResolvedUnit). LeavesCalls us c.next_stretch.new.units.items) c.self.view_is
+    c.next_stretch.ensures.calls
