@@ -11,14 +11,14 @@ use Rattle.addr2line_lookups.specs.NumberedRanges.{numbered_range, covering_rang
 use Rattle.addr2line_lookups.specs.ContextUnits.{ordered_ranges}
 use Rattle.addr2line_lookups.specs.ResolvedUnits.{AnsweredUnit, ResolvedUnit, value_of_unit, plain_unit}
 use Rattle.addr2line_lookups.specs.AnsweredUnits.{answers_of, IsOfFile, AreOfFile}
-use Rattle.addr2line_lookups.specs.KeptUnits.{KeepsRanges}
+use Rattle.addr2line_lookups.specs.KeptUnits.{AsksAmong, AsksForRow}
 use Rattle.addr2line_lookups.specs.KeptCalls.{known_among}
 use Rattle.addr2line_lookups.specs.LookupCosts.{probes_among, row_probes_at, frame_probes_at}
 use Rattle.addr2line_lookups.specs.ContextNames.{known_units}
 use Rattle.addr2line_lookups.proofs.NewUnits.{unit_of}
 use Rattle.addr2line_lookups.proofs.PendingUnits.{covering_by_numbers}
 use Rattle.addr2line_context.specs.AnsweredContexts.{AnsweredContext}
-use Rattle.addr2line_context.specs.ContextCosts.{answered_unit, units_with_answers, answered_units, ranges_over, location_looks, frame_looks}
+use Rattle.addr2line_context.specs.ContextCosts.{answered_unit, units_with_answers, answered_units, ranges_over, location_looks, frame_looks, AsksForPlace}
 use Rattle.addr2line_context.proofs.ContextParts.{context_with}
 use Rattle.addr2line_context.proofs.ContextWalks.{known_in}
 
@@ -55,7 +55,7 @@ module _ (file : DwarfFile) (us : List ResolvedUnit) (s : List UnitFacts)
   abbrev pairs_over : List ContextUnit → List UnitRange
   pairs_over units = map numbered_range (covering_pairs ranges_of units a)
 
-  ranges_here : covering ≡ ranges_over c a
+  pub ranges_here : covering ≡ ranges_over c a
   ranges_here =
       ap (λ units. covering_ranges a (ordered_ranges units)) (sym same_units)
       ∙ covering_by_numbers file vs of_file a
@@ -75,6 +75,13 @@ module _ (file : DwarfFile) (us : List ResolvedUnit) (s : List UnitFacts)
       ∙ ap (λ ws. probes_among (frame_probes_at (known_units c.plain) ws a) covering) (sym answered_here)
       ∙ ap (probes_among (frame_probes_at (known_units c.plain) (answered_units c) a)) ranges_here
 
-  -- lines that are kept of the units over an address
-  pub keeps_here : KeepsRanges us (ranges_over c a) → KeepsRanges us covering
-  keeps_here = subst (KeepsRanges us) (sym ranges_here)
+  -- the units that are asked for a place
+  pub asks_here : (P : (ℕ → Type 0) → Type 0) → P (AsksForRow (map plain_unit us) a) → P (AsksForPlace c a)
+  asks_here P h =
+      subst (λ (x : AnsweredContext). P (AsksAmong x.plain.context.units a (ranges_over c a))) is
+      (subst (λ rs. P (AsksAmong (map plain_unit us) a rs)) ranges_here h)
+
+  pub asks_there : (P : (ℕ → Type 0) → Type 0) → P (AsksForPlace c a) → P (AsksForRow (map plain_unit us) a)
+  asks_there P h =
+      subst (λ rs. P (AsksAmong (map plain_unit us) a rs)) (sym ranges_here)
+      (subst (λ (x : AnsweredContext). P (AsksAmong x.plain.context.units a (ranges_over c a))) (sym is) h)

@@ -16,6 +16,7 @@ use Rattle.addr2line_lookups.proofs.ContextOfUnits.{context_of_units}
 use Rattle.addr2line_context.specs.AnsweredContexts.{AnsweredContext}
 use Rattle.addr2line_context.specs.KeptContexts.{ResolvedContext}
 use Rattle.addr2line_context.specs.ContextCosts.{AfterLookup}
+use Rattle.addr2line_lookups.specs.KeptUnits.{ReadsNoLines}
 use Rattle.addr2line_lookups.specs.LookupCosts.{AtMostLooks}
 use Rattle.addr2line_lookups.specs.AnsweredUnits.{answers_of}
 use Rattle.addr2line_lookups.specs.KeptCalls.{facts_of}
@@ -133,6 +134,10 @@ module _ (file : DwarfFile) (us : List ResolvedUnit) (supplement_units : List Un
   -- the looks since then
   pub looks_since : (n : ℕ) (vs : List ResolvedUnit) → AtMostLooks n us vs → AtMostLooks n c.units vs
   looks_since n vs = subst (λ (x : ResolvedContext). AtMostLooks n x.units vs) is
+
+  -- where no lines were read since then
+  pub lines_since : (vs : List ResolvedUnit) → ReadsNoLines us vs → ReadsNoLines c.units vs
+  lines_since vs = subst (λ (x : ResolvedContext). ReadsNoLines x.units vs) is
 
   -- a lookup that leaves the units' values
   pub after_lookup : (n m : ℕ) (vs : List ResolvedUnit) → n ≡ m → map value_of_unit vs ≡ map value_of_unit us

@@ -5,10 +5,12 @@ use Rattle.addr2line_lookups.specs.DwarfFiles.{DwarfFile}
 use Rattle.addr2line_lookups.specs.UnitFacts.{UnitFacts, UnitInFile}
 use Rattle.addr2line_lookups.specs.Frames.{Frame}
 use Rattle.addr2line_lookups.specs.FirstAnswers.{Lookup}
+use Rattle.addr2line_lookups.specs.UnitRange.{UnitRange}
 use Rattle.addr2line_lookups.specs.NumberedRanges.{covering_ranges}
 use Rattle.addr2line_lookups.specs.ContextUnits.{ordered_ranges}
 use Rattle.addr2line_lookups.specs.ResolvedUnits.{AnsweredUnit, ResolvedUnit, value_of_unit, plain_unit}
 use Rattle.addr2line_lookups.specs.AnsweredUnits.{AreOfFile}
+use Rattle.addr2line_lookups.specs.KeptUnits.{ReadsAsked, IsUnitOf}
 use Rattle.addr2line_lookups.specs.KeptCalls.{known_among, HoldCalls}
 use Rattle.addr2line_lookups.specs.LookupCosts.{AtMostLooks, probes_among, frame_probes_at}
 use Rattle.addr2line_lookups.specs.UnitLookups.{frames_among, SettlesFrames, unit_among, SettlesUnit}
@@ -18,10 +20,10 @@ use Rattle.addr2line_lookups.proofs.CallsLeft.{known_same}
 use Rattle.addr2line_context.specs.Progresses.{IsIndexFor, PassFramesIn, PassUnitsIn}
 use Rattle.addr2line_context.specs.KeptContexts.{ResolvedContext, HoldsUnits}
 use Rattle.addr2line_context.specs.declared.progress.Progress.{Progress}
-use Rattle.addr2line_context.specs.ContextCosts.{frame_looks, AfterLookup}
+use Rattle.addr2line_context.specs.ContextCosts.{ranges_over, frame_looks, AfterSearch}
 use Rattle.addr2line_context.specs.SettledLookups.{frames_in, unit_in}
 use Rattle.addr2line_context.proofs.ContextParts.{resolved_with, value_is, after_lookup}
-use Rattle.addr2line_context.proofs.ContextLooks.{frame_looks_here}
+use Rattle.addr2line_context.proofs.ContextLooks.{ranges_here, frame_looks_here}
 use Rattle.addr2line_context.proofs.KeptUnits.{pass_for, frames_first, units_first, holds_calls}
 use Rattle.addr2line_context.proofs.AskedUnits.{frames_in_context, unit_in_context}
 
@@ -74,11 +76,20 @@ module _ (file : DwarfFile) (us : List ResolvedUnit) (s : List UnitFacts) {frame
 
       -- its looks
       pub after_settling : AtMostLooks (looks_given given) us new
-          → AfterLookup (frame_looks c.value a) c (resolved_with file new s)
-      after_settling looks =
+          → ReadsAsked (IsUnitOf (covering_ranges a (ordered_ranges (map plain_unit us)))) us new
+          → AfterSearch a c (resolved_with file new s)
+      after_settling looks reads =
+          let value = value_is file us s c is in
+          let after =
           after_lookup file us s c is (looks_given given) (frame_looks c.value a) new
-          (ap looks_given given_is ∙ frame_looks_here file us s holds.are_of_file a c.value (value_is file us s c is))
-          same looks
+          (ap looks_given given_is ∙ frame_looks_here file us s holds.are_of_file a c.value value) same looks in
+          let P : List UnitRange → Type 0 = λ rs. ReadsAsked (IsUnitOf rs) us new in
+          let Q : ResolvedContext → Type 0 = λ x. ReadsAsked (IsUnitOf (ranges_over c.value a)) x.units new in
+          record {
+            value = after.value;
+            cost = after.cost;
+            reads = subst Q is (subst P (ranges_here file us s holds.are_of_file a c.value value) reads);
+          }
 
       -- the frames that it finds
       abbrev frames_given : List UnitFacts → Lookup (Result (List Frame) Error)

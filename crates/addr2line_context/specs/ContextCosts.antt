@@ -1,5 +1,7 @@
 -- How many looks at what is kept lookups of a context take, and what they leave of it.
-use Rattle.std.specs.Prelude.{◌≡◌, ℕ, List, [], ◌∷◌, map, Option, None}
+use Rattle.std.specs.Prelude.{◌≡◌, ◌≢◌, ℕ, List, [], ◌∷◌, map, Option, None, Result, Err}
+use Rattle.addr2line_lookups.specs.Error.{Error}
+use Rattle.addr2line_lookups.specs.Error.TheVariants.{Memory}
 use Rattle.addr2line_lookups.specs.DwarfFiles.{DwarfFile}
 use Rattle.addr2line_lookups.specs.FirstAnswers.{FirstAnswer, FirstAnswers}
 use Rattle.addr2line_lookups.specs.Pairs.{covering_pairs}
@@ -8,7 +10,7 @@ use Rattle.addr2line_lookups.specs.Contexts.{ContextUnit, ranges_of}
 use Rattle.addr2line_lookups.specs.UnitRange.{UnitRange}
 use Rattle.addr2line_lookups.specs.NumberedRanges.{numbered_range}
 use Rattle.addr2line_lookups.specs.ResolvedUnits.{AnsweredUnit, ResolvedUnit, runs_if_kept}
-use Rattle.addr2line_lookups.specs.KeptUnits.{KeepsRanges}
+use Rattle.addr2line_lookups.specs.KeptUnits.{AsksAmong, KeepsAsked, ReadsAsked, IsUnitOf}
 use Rattle.addr2line_lookups.specs.LookupCosts.{AtMostLooks, probes_among, row_probes_at, frame_probes_at}
 use Rattle.addr2line_context.specs.AnsweredContexts.{AnsweredContext}
 use Rattle.addr2line_context.specs.KeptContexts.{ResolvedContext}
@@ -50,12 +52,29 @@ frame_looks c a =
 
 -- ---- what a lookup leaves
 
--- the lines of each unit with a range over an address are kept
-abbrev pub KeepsLinesOver : ResolvedContext → ℕ → Type 0
-KeepsLinesOver c a = KeepsRanges c.units (ranges_over c.value a)
+-- The lookup of the place of an address asks the unit of a number: one with a range over it, no
+-- later than the first whose lines have a row for it or are refused.
+abbrev pub AsksForPlace : AnsweredContext → ℕ → ℕ → Type 0
+AsksForPlace c a = AsksAmong c.plain.context.units a (ranges_over c a)
 
--- The context's value is what it was. There were no more than n looks at what is kept, and lines
--- that were kept are kept still, so that no line number program is run again.
+-- The context's value is what it was. There were no more than n looks at what is kept. Lines,
+-- functions and calls that were kept are kept still, so that no line number program is run again.
 pub record AfterLookup (n : ℕ) (old new : ResolvedContext) : Type 0 where
   pub value : new.value ≡ old.value
   pub cost : AtMostLooks n old.units new.units
+
+-- The same after a lookup of the frames of an address, or of its unit. It reads lines of no units
+-- but those with a range over the address.
+pub record AfterSearch (a : ℕ) (old new : ResolvedContext) : Type 0 where
+  pub value : new.value ≡ old.value
+  pub cost : AtMostLooks (frame_looks old.value a) old.units new.units
+  pub reads : ReadsAsked (IsUnitOf (ranges_over old.value a)) old.units new.units
+
+-- The same after a call with this result that asks units for their lines. Unless it was out of
+-- memory, these are kept; it reads no others.
+pub record AfterReading {A : Type 0} (asks : ℕ → Type 0) (n : ℕ) (result : Result A Error)
+    (old new : ResolvedContext) : Type 0 where
+  pub value : new.value ≡ old.value
+  pub cost : AtMostLooks n old.units new.units
+  pub asked : result ≢ Err Memory → KeepsAsked asks new.units
+  pub reads : ReadsAsked asks old.units new.units

@@ -8,10 +8,11 @@ use Rattle.addr2line_lookups.specs.Frames.{Frame}
 use Rattle.addr2line_lookups.specs.FirstAnswers.{FirstAnswers, PendingLoad, SplitLoad, Lookup}
 use Rattle.addr2line_lookups.specs.Lookups.{frames, unit, loads, answer_load}
 use Rattle.addr2line_lookups.specs.ContextNames.{naming_in}
+use Rattle.addr2line_lookups.specs.KeptUnits.{ReadsAsked, IsUnitOf}
 use Rattle.addr2line_lookups.specs.LookupCosts.{AtMostLooks}
 use Rattle.addr2line_context.specs.AnsweredContexts.{AnsweredContext}
 use Rattle.addr2line_context.specs.KeptContexts.{ResolvedContext}
-use Rattle.addr2line_context.specs.ContextCosts.{frame_looks, AfterLookup}
+use Rattle.addr2line_context.specs.ContextCosts.{ranges_over, frame_looks, AfterSearch}
 
 -- ---- lookups
 
@@ -49,12 +50,13 @@ pub record AfterAnswer (old : ResolvedContext) (a : ℕ) (file : Option DwarfFil
     (new : ResolvedContext) : Type 0 where
   pub value : LeavesAnswer old.value a file new.value
   pub cost : AtMostLooks (frame_looks (after_answer old.value a file) a) old.units new.units
+  pub reads : ReadsAsked (IsUnitOf (ranges_over old.value a)) old.units new.units
 
 -- ---- lookups that wait
 
 -- a lookup waits in the context that it found, at an address that has a load
 pub record IsFor (old : ResolvedContext) (a : ℕ) (now : ResolvedContext) (probe : ℕ) : Type 0 where
-  pub after : AfterLookup (frame_looks old.value a) old now
+  pub after : AfterSearch a old now
   pub place : probe ≡ a
   pub has_load : 0 < length (loads_in old.value a)
 
@@ -63,6 +65,7 @@ pub record WaitsAgain (old : ResolvedContext) (a : ℕ) (file : Option DwarfFile
     (now : ResolvedContext) (probe : ℕ) : Type 0 where
   pub value : now.value ≡ after_answer old.value a file
   pub cost : AtMostLooks (frame_looks (after_answer old.value a file) a) old.units now.units
+  pub reads : ReadsAsked (IsUnitOf (ranges_over old.value a)) old.units now.units
   pub place : probe ≡ a
 
 -- the first of some loads, or out of memory

@@ -7,7 +7,8 @@ ghost use Rattle.addr2line_lookups.specs.Error.TheVariants.{Memory};
 ghost use Rattle.addr2line_lookups.specs.Lookups.{answer_load, map_output};
 ghost use Rattle.addr2line_lookups.specs.BorrowedFrames.{frames_left};
 ghost use Rattle.addr2line_lookups.specs.BorrowedLocations.{location_value};
-ghost use Rattle.addr2line_lookups.specs.ResolvedUnits.{value_of_unit};
+ghost use Rattle.addr2line_lookups.specs.ResolvedUnits.{value_of_unit, RunForRangesAlone};
+ghost use Rattle.addr2line_lookups.specs.KeptUnits.{KeepsAsked, ReadsAsked, ReadsNoLines, AsksForLines};
 ghost use Rattle.addr2line_lookups.specs.LookupCosts.{AtMostLooks};
 ghost use Rattle.addr2line_lookups.specs.KeptUnits.{KeepsAt};
 ghost use Rattle.addr2line_lookups.specs.Lines.{Stretch};
@@ -18,7 +19,7 @@ ghost use Rattle.addr2line_lookups.specs.Histories.{functions_or_refusal, calls_
 ghost use Rattle.addr2line_lookups.specs.ContextNames.{naming_in};
 ghost use Rattle.addr2line_lookups.specs.Preloads.{load_at, load_of_item};
 ghost use Rattle.addr2line_context.specs.AnsweredContexts.{HasNoAnswers};
-ghost use Rattle.addr2line_context.specs.ContextCosts.{runs_of_unit, location_looks, frame_looks, KeepsLinesOver, AfterLookup};
+ghost use Rattle.addr2line_context.specs.ContextCosts.{runs_of_unit, location_looks, AsksForPlace, AfterLookup, AfterSearch, AfterReading};
 ghost use Rattle.addr2line_context.specs.ContextParses.{ParsesOrNoMemory};
 ghost use Rattle.addr2line_context.specs.LocationRanges.{left_in};
 ghost use Rattle.addr2line_context.specs.RangeItems.{stretch_of_item};
@@ -106,6 +107,7 @@ impl<R: Reader> Context<R> {
         ensures context { ReturnsAsOrNoMemory (λ c. c.value.plain) result
             (file_context sections.file) }
         ensures answers { IfOk result (λ c. HasNoAnswers c.value) }
+        ensures lines { IfOk result (λ c. RunForRangesAlone c.units) }
     {
         match Rc::new(alloc, sections) {
             Ok(sections) => Context::from_arc_dwarf(alloc, sections),
@@ -121,6 +123,7 @@ impl<R: Reader> Context<R> {
         ensures context { ReturnsAsOrNoMemory (λ c. c.value.plain) result
             (file_context sections.value.file) }
         ensures answers { IfOk result (λ c. HasNoAnswers c.value) }
+        ensures lines { IfOk result (λ c. RunForRangesAlone c.units) }
     {
         let dwarf = sections.as_ref();
         let aranges = ArangeIndex::read(alloc, dwarf)?;
@@ -163,18 +166,21 @@ impl<R: Reader> Context<R> {
 
     /// The place of an address: of the units with a range over it, by the ranges' ends, the first
     /// that has a place for it. A unit whose lines are refused ends the search with that refusal.
-    /// The lines of the units that it asks are read, unless they are kept, and kept; else it takes
-    /// no memory. In each it searches the sequences, and the rows of one. The context's value stays
-    /// the same.
+    /// The lines of the units that it asks are read, unless they are kept, and kept, those of no
+    /// other unit; else it takes no memory, so that the same address again never is out of memory.
+    /// In each unit it searches the sequences, and the rows of one. The context's value stays the
+    /// same.
     pub fn find_location(&mut self, probe: u64) -> Result<Option<Location<'_>>, Error>
         ensures place { ReturnsAsOrNoMemory (option_map location_value) result
             (location self.old.value.plain.context probe) }
-        ensures free { KeepsLinesOver self.old probe → result ≢ Err Memory }
+        ensures free { KeepsAsked (AsksForPlace self.old.value probe) self.old.units
+            → result ≢ Err Memory }
         ensures* after { sem 𝓛 (Rests (the_row R.row R.Endian.row R.Offset.row R.Reader
             R.Endian.Endianity.own R.Endian.Debug R.Endian.Default R.Endian.PartialEq
             R.Offset.ReaderOffset.own R.Offset.Debug R.Offset.PartialEq R.Offset.Ord.own
             R.Offset.PartialOrd.own R.Offset.Hash.own) self.entry
-            (AfterLookup (location_looks self.old.value probe) self.old)) }
+            (AfterReading (AsksForPlace self.old.value probe)
+            (location_looks self.old.value probe) result self.old)) }
     {
         match self.units.find_row(probe)? {
             Some(found) => Ok(self.units.place_in(found)),
@@ -237,11 +243,18 @@ impl<R: Reader> Context<R> {
     }
 
     /// Whether the lines of all units can be read, or else the first refusal, by the units'
-    /// numbers. They are read, unless they are kept, and kept, up to that refusal.
+    /// numbers. They are read, unless they are kept, and kept, up to that refusal. Where these are
+    /// kept it takes no memory.
     pub fn parse_lines(&mut self) -> Result<(), Error>
         ensures lines { ReturnsOrNoMemory result
             (all_lines_or_refusal self.old.value.plain.context.units) }
         ensures after { AfterLookup 0 self.old self.new }
+        ensures asked { result ≢ Err Memory
+            → KeepsAsked (AsksForLines self.old.value.plain.context.units) self.new.units }
+        ensures reads { ReadsAsked (AsksForLines self.old.value.plain.context.units)
+            self.old.units self.new.units }
+        ensures free { KeepsAsked (AsksForLines self.old.value.plain.context.units) self.old.units
+            → result ≢ Err Memory }
     {
         self.units.check_lines()
     }
@@ -256,6 +269,7 @@ impl<R: Reader> Context<R> {
             result self.old.value.answers self.new.value.answers }
         ensures plain { self.new.value.plain ≡ self.old.value.plain }
         ensures cost { AtMostLooks 0 self.old.units self.new.units }
+        ensures lines { ReadsNoLines self.old.units self.new.units }
     {
         self.frames_progress = Progress::none();
         self.unit_progress = Progress::none();
@@ -271,6 +285,7 @@ impl<R: Reader> Context<R> {
             result self.old.value.answers self.new.value.answers }
         ensures plain { self.new.value.plain ≡ self.old.value.plain }
         ensures cost { AtMostLooks 0 self.old.units self.new.units }
+        ensures lines { ReadsNoLines self.old.units self.new.units }
     {
         self.frames_progress = Progress::none();
         self.unit_progress = Progress::none();
@@ -309,6 +324,7 @@ impl<R: Reader> Context<R> {
             (option_map (λ f. f.value.file) file) ≡ (result, self.new.value.answers) }
         ensures plain { self.new.value.plain ≡ self.old.value.plain }
         ensures cost { AtMostLooks 0 self.old.units self.new.units }
+        ensures lines { ReadsNoLines self.old.units self.new.units }
     {
         self.units.answer_at(token.number(), file)
     }
@@ -334,7 +350,7 @@ impl<R: Reader> Context<R> {
             R.Offset.ReaderOffset.own R.Offset.Debug R.Offset.PartialEq R.Offset.Ord.own
             R.Offset.PartialOrd.own R.Offset.Hash.own) self.entry
             (λ w. w.context.ghost_name) result
-            (AfterLookup (frame_looks self.old.value probe) self.old)) }
+            (AfterSearch probe self.old)) }
     {
         match self.settle_frames(probe) {
             Ok(Settled::Waits) => LookupResult::Load(FindFrames {
@@ -365,7 +381,7 @@ impl<R: Reader> Context<R> {
             R.Offset.ReaderOffset.own R.Offset.Debug R.Offset.PartialEq R.Offset.Ord.own
             R.Offset.PartialOrd.own R.Offset.Hash.own) self.entry
             (λ w. w.context.ghost_name) result
-            (AfterLookup (frame_looks self.old.value probe) self.old)) }
+            (AfterSearch probe self.old)) }
     {
         match self.settle_unit(probe) {
             Ok(Settled::Waits) => LookupResult::Load(FindUnit {
@@ -383,7 +399,7 @@ impl<R: Reader> Context<R> {
     // Where the frames of an address are, unless a load needs an answer before.
     pub(crate) fn settle_frames(&mut self, probe: u64) -> Result<Settled<FramePlace>, Error>
         ensures found { SettlesFrames self.new.units (frames_in self.old.value probe) result }
-        ensures after { AfterLookup (frame_looks self.old.value probe) self.old self.new }
+        ensures after { AfterSearch probe self.old self.new }
     {
         let supplement_units = self.supplement_units.as_slice();
         let mut index = self.frames_progress.index_for(probe);
@@ -398,7 +414,7 @@ impl<R: Reader> Context<R> {
     pub(crate) fn settle_unit(&mut self, probe: u64) -> Result<Settled<usize>, Error>
         ensures found { SettlesUnit (map value_of_unit self.new.units)
             (unit_in self.old.value probe) result }
-        ensures after { AfterLookup (frame_looks self.old.value probe) self.old self.new }
+        ensures after { AfterSearch probe self.old self.new }
     {
         let supplement_units = self.supplement_units.as_slice();
         let mut index = self.unit_progress.index_for(probe);
@@ -423,6 +439,7 @@ impl<R: Reader> Context<R> {
             self.new.value }
         ensures refusal { IfErr result (λ e. e ≡ Memory) }
         ensures cost { AtMostLooks 0 self.old.units self.new.units }
+        ensures lines { ReadsNoLines self.old.units self.new.units }
     {
         let from = self.frames_progress.furthest_for(self.unit_progress, probe);
         let Some(number) = self.units.first_waiting(probe, from) else {

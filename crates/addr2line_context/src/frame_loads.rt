@@ -6,8 +6,9 @@ ghost use Rattle.std.specs.Borrow.{sem};
 ghost use Rattle.std.specs.Io.BufRead.{Rests};
 ghost use Rattle.addr2line_lookups.specs.BorrowedFrames.{frames_left};
 ghost use Rattle.addr2line_lookups.specs.Error.TheVariants.{Memory};
+ghost use Rattle.addr2line_lookups.specs.KeptUnits.{ReadsNoLines};
 ghost use Rattle.addr2line_lookups.specs.LookupCosts.{AtMostLooks};
-ghost use Rattle.addr2line_context.specs.ContextCosts.{frame_looks, AfterLookup};
+ghost use Rattle.addr2line_context.specs.ContextCosts.{AfterSearch};
 ghost use Rattle.addr2line_context.specs.FrameLoads.{IsDone, TellsWaiting, TellsIfWaiting, GivesDecided};
 ghost use Rattle.addr2line_context.specs.SettledLookups.{frames_in, loads_in, after_answer, LoadOf};
 ghost use Rattle.addr2line_context.specs.contracts.context.Context.{the_row};
@@ -36,7 +37,7 @@ pub(crate) fn is_waiting<P: Drop>(settled: Result<Settled<P>, Error>) -> Result<
 /// Whether the frames of an address wait for a load. What is read on the way is kept. The only
 /// error is out of memory.
 pub fn frames_wait<R: Reader>(context: &mut Context<R>, probe: u64) -> Result<bool, Error>
-    ensures after { AfterLookup (frame_looks context.old.value probe) context.old context.new }
+    ensures after { AfterSearch probe context.old context.new }
     ensures waits { TellsWaiting (frames_in context.old.value probe) result }
 {
     let settled = context.settle_frames(probe);
@@ -69,6 +70,7 @@ pub fn answer_first<R: Reader>(
         ⊎ (context.new.value.answers ≡ context.old.value.answers) }
     ensures refusal { IfErr result (λ e. e ≡ Memory) }
     ensures cost { AtMostLooks 0 context.old.units context.new.units }
+    ensures lines { ReadsNoLines context.old.units context.new.units }
 {
     context.answer_first(probe, file)
 }
@@ -84,7 +86,7 @@ pub fn find_decided_frames<R: Reader>(
         R.Endian.Endianity.own R.Endian.Debug R.Endian.Default R.Endian.PartialEq
         R.Offset.ReaderOffset.own R.Offset.Debug R.Offset.PartialEq R.Offset.Ord.own
         R.Offset.PartialOrd.own R.Offset.Hash.own) context.entry
-        (AfterLookup (frame_looks context.old.value probe) context.old)) }
+        (AfterSearch probe context.old)) }
 {
     match context.settle_frames(probe) {
         Ok(Settled::Found(place)) => Ok(context.units.frames_at_place(place)),

@@ -4,6 +4,7 @@ ghost use Rattle.std.specs.Prelude.{◌≡◌, IfOk, IfErr};
 ghost use Rattle.addr2line_lookups.specs.Calls.{ReturnsAsOrNoMemory};
 ghost use Rattle.addr2line_lookups.specs.Contexts.{file_context};
 ghost use Rattle.addr2line_lookups.specs.Error.TheVariants.{Memory};
+ghost use Rattle.addr2line_lookups.specs.ResolvedUnits.{RunForRangesAlone};
 ghost use Rattle.addr2line_context.specs.AnsweredContexts.{HasNoAnswers};
 ghost use Rattle.addr2line_context.specs.MainFiles.{main_file};
 
@@ -67,6 +68,7 @@ impl<R: Reader> Context<R> {
             debug_line debug_line_str debug_ranges debug_rnglists debug_str debug_str_offsets
             (R.view default_section))) }
         ensures answers { IfOk result (λ c. HasNoAnswers c.value) }
+        ensures lines { IfOk result (λ c. RunForRangesAlone c.units) }
     {
         let defaults = DefaultSections::copies_of(&default_section)?;
         let sections = Dwarf {

@@ -1,13 +1,151 @@
--- Where a lookup asks units for a row one after the other, the lines of those that it asked are kept.
-use Rattle.std.proofs.Common.{◌≡◌, ◌≢◌, ℕ, List, [], ◌∷◌, map, Option, Some, None, Result, Ok, Err, sym, ap, ◌∙◌, subst}
+-- Calls read lines of the units that they ask alone; where one asks units one after the other, their lines are kept.
+use Rattle.std.proofs.Common.{◌≡◌, ◌≢◌, ◌⊎◌, inl, inr, ℕ, zero, suc, ◌+◌, ◌<◌, ◌≤◌, List, [], ◌∷◌, ◌++◌, length, get_or, set, map, Option, Some, None, Result, Ok, Err, refl, sym, ap, ◌∙◌, subst, arith}
+use Rattle.std.proofs.Math.Nat.{eq-or-lt_of_le}
 use Rattle.addr2line_resolved.specs.Error.{Error}
 use Rattle.addr2line_resolved.specs.Error.TheVariants.{Memory}
 use Rattle.addr2line_resolved.specs.Lines.{LineRow}
 use Rattle.addr2line_resolved.specs.Contexts.{ContextUnit}
 use Rattle.addr2line_resolved.specs.UnitRange.{UnitRange}
-use Rattle.addr2line_resolved.specs.ResolvedUnits.{ResolvedUnit, value_of_unit, plain_unit}
-use Rattle.addr2line_lookups.specs.KeptUnits.{KeepsAt, KeepsMore, KeepsAsked, row_at_number}
-use Rattle.addr2line_lookups.proofs.KeptLines.{same_plain}
+use Rattle.addr2line_resolved.specs.ResolvedUnits.{ResolvedUnit, KeepsLines, value_of_unit, plain_unit}
+use Rattle.addr2line_lookups.specs.KeptUnits.{KeepsAt, KeepsMore, KeepsAsked, ReadsAsked, ReadsNoLines, IsUnitOf, AsksAmong, AsksForLines, row_at_number, check_at}
+use Rattle.addr2line_lookups.proofs.KeptLines.{same_plain, keeps_past}
+
+-- ---- one unit
+
+step_on : {A : Type 0} (n k : ℕ) → A ⊎ (n ≡ k) → A ⊎ (suc n ≡ suc k)
+step_on n k (inl x) = inl x
+step_on n k (inr is) = inr (ap suc is)
+
+-- one that is put back
+pub reads_set : (us : List ResolvedUnit) (k : ℕ) (new : ResolvedUnit) → ReadsAsked (λ n. n ≡ k) us (set us k new)
+reads_set [] k new n kept = inl kept
+reads_set (v ∷ us) zero new zero kept = inr refl
+reads_set (v ∷ us) zero new (suc n) kept = inl kept
+reads_set (v ∷ us) (suc k) new zero kept = inl kept
+reads_set (v ∷ us) (suc k) new (suc n) kept = step_on n k (reads_set us k new n kept)
+
+no_lines_put : (us : List ResolvedUnit) (k : ℕ) (u new : ResolvedUnit) → u ≡ get_or us k u
+    → new.keeps_lines ≡ u.keeps_lines → ReadsNoLines us (set us k new)
+no_lines_put [] k u new is same n kept = kept
+no_lines_put (v ∷ us) zero u new is same zero kept = subst KeepsLines is (sym same ∙ kept)
+no_lines_put (v ∷ us) zero u new is same (suc n) kept = kept
+no_lines_put (v ∷ us) (suc k) u new is same zero kept = kept
+no_lines_put (v ∷ us) (suc k) u new is same (suc n) kept = no_lines_put us k u new is same n kept
+
+-- one whose lines weren't read
+pub no_lines_set : (us : List ResolvedUnit) (k : ℕ) (u : ResolvedUnit) → u ≡ get_or us k u → (new : ResolvedUnit)
+    → new.keeps_lines ≡ u.keeps_lines → ReadsNoLines us (set us k new)
+no_lines_set us k u is new same = no_lines_put us k u new is same
+
+-- ---- one change after the other
+
+pub no_lines_none : (us : List ResolvedUnit) → ReadsNoLines us us
+no_lines_none us n kept = kept
+
+pub no_lines_both : (us vs ws : List ResolvedUnit) → ReadsNoLines us vs → ReadsNoLines vs ws → ReadsNoLines us ws
+no_lines_both us vs ws first then n kept = first n (then n kept)
+
+pub reads_none : (asks : ℕ → Type 0) (us : List ResolvedUnit) → ReadsAsked asks us us
+reads_none asks us n kept = inl kept
+
+-- where no lines were read
+pub reads_nothing : (asks : ℕ → Type 0) (us vs : List ResolvedUnit) → ReadsNoLines us vs → ReadsAsked asks us vs
+reads_nothing asks us vs none n kept = inl (none n kept)
+
+-- or weren't before
+pub reads_after : (asks : ℕ → Type 0) (us vs ws : List ResolvedUnit) → ReadsNoLines us vs → ReadsAsked asks vs ws
+    → ReadsAsked asks us ws
+reads_after asks us vs ws none reads n kept = by (reads n kept)
+  where
+    by : KeepsAt vs n ⊎ asks n → KeepsAt us n ⊎ asks n
+    by (inl before) = inl (none n before)
+    by (inr asked) = inr asked
+
+-- where lines of a unit that is asked are read last
+pub reads_both : (asks : ℕ → Type 0) (us vs ws : List ResolvedUnit) (k : ℕ) → asks k → ReadsAsked asks us vs
+    → ReadsAsked (λ n. n ≡ k) vs ws → ReadsAsked asks us ws
+reads_both asks us vs ws k asked first reads n kept = by (reads n kept)
+  where
+    by : KeepsAt vs n ⊎ (n ≡ k) → KeepsAt us n ⊎ asks n
+    by (inl before) = first n before
+    by (inr is) = inr (subst asks (sym is) asked)
+
+-- ---- units of ranges
+
+unit_after : (passed old : List UnitRange) (n : ℕ) → IsUnitOf old n → IsUnitOf (passed ++ old) n
+unit_after [] old n h = h
+unit_after (r ∷ passed) old n h = inr (unit_after passed old n h)
+
+-- that of the first that is left
+pub unit_of_first : (all passed old rest : List UnitRange) (r : UnitRange) → all ≡ passed ++ old → old ≡ r ∷ rest
+    → IsUnitOf all r.unit
+unit_of_first all passed old rest r are_all is =
+    let P : List UnitRange → Type 0 = λ rs. IsUnitOf rs r.unit in
+    subst P (sym are_all) (unit_after passed old r.unit (subst P (sym is) (inl refl)))
+
+-- ---- one unit after the other
+
+-- A call comes to units that it asks. Lines of the others that it asks are kept already, lines that were kept are kept
+-- still, and no others were read.
+pub record AsksOn (asks comes_to : ℕ → Type 0) (old us : List ResolvedUnit) : Type 0 where
+  pub are_asked : (n : ℕ) → comes_to n → asks n
+  pub are_kept : (n : ℕ) → asks n → KeepsAt us n ⊎ comes_to n
+  pub more : KeepsMore old us
+  pub reads : ReadsAsked asks old us
+
+-- before the first
+pub asks_all : (asks : ℕ → Type 0) (us : List ResolvedUnit) → AsksOn asks asks us us
+asks_all asks us = record {
+  are_asked = λ n asked. asked;
+  are_kept = λ n asked. inr asked;
+  more = λ n kept. kept;
+  reads = reads_none asks us;
+}
+
+-- after the last
+pub asks_none : (asks comes_to : ℕ → Type 0) (old us : List ResolvedUnit) → ((n : ℕ) → comes_to n → KeepsAt us n)
+    → AsksOn asks comes_to old us → KeepsAsked asks us
+asks_none asks comes_to old us kept h n asked = by (h.are_kept n asked)
+  where
+    by : KeepsAt us n ⊎ comes_to n → KeepsAt us n
+    by (inl is) = is
+    by (inr left) = kept n left
+
+module _ (asks comes_to : ℕ → Type 0) (old us : List ResolvedUnit) (k : ℕ) (here : comes_to k)
+    (h : AsksOn asks comes_to old us) where
+  -- where all that it asks was kept, so is this one
+  pub kept_already : KeepsAsked asks old → KeepsAt us k
+  kept_already kept = h.more k (kept k (h.are_asked k here))
+
+  module _ (vs : List ResolvedUnit) (reads : ReadsAsked (λ n. n ≡ k) us vs) where
+    pub reads_here : ReadsAsked asks old vs
+    reads_here = reads_both asks old us vs k (h.are_asked k here) h.reads reads
+
+    -- one more
+    pub asks_next : (rest : ℕ → Type 0) → ((n : ℕ) → rest n → comes_to n)
+        → ((n : ℕ) → comes_to n → (n ≡ k) ⊎ rest n) → KeepsMore us vs → KeepsAt vs k → AsksOn asks rest old vs
+    asks_next rest first then more kept = record {
+      are_asked = λ n left. h.are_asked n (first n left);
+      are_kept = λ n asked. by n (h.are_kept n asked);
+      more = λ n before. more n (h.more n before);
+      reads = reads_here;
+    }
+      where
+        turn : (n : ℕ) → (n ≡ k) ⊎ rest n → KeepsAt vs n ⊎ rest n
+        turn n (inl is) = inl (subst (KeepsAt vs) (sym is) kept)
+        turn n (inr left) = inr left
+
+        by : (n : ℕ) → KeepsAt us n ⊎ comes_to n → KeepsAt vs n ⊎ rest n
+        by n (inl before) = inl (more n before)
+        by n (inr left) = turn n (then n left)
+
+    -- the last
+    pub asks_last : ((n : ℕ) → comes_to n → n ≡ k) → KeepsMore us vs → KeepsAt vs k → KeepsAsked asks vs
+    asks_last last more kept =
+        asks_none asks (λ n. ⊥) old vs (λ n left. absurd left)
+        (asks_next (λ n. ⊥) (λ n left. absurd left) (λ n left. inl (last n left)) more kept)
+
+-- ---- for a row
 
 abbrev answer : Option LineRow → Result (Option LineRow) Error
 answer o = Ok o
@@ -25,46 +163,157 @@ answer_refused r e refused none = let same : refusal e ≡ answer None = sym ref
 row_missing : (r : Result (Option LineRow) Error) (row : LineRow) → r ≡ answer (Some row) → r ≡ answer None → ⊥
 row_missing r row found none = let same : answer (Some row) ≡ answer None = sym found ∙ none in cc
 
--- Where those of the rest are kept, in units that keep at least these lines, those of all ranges are.
-abbrev pub LeavesAsked : ℕ → List ResolvedUnit → List UnitRange → List UnitRange → Type 0
-LeavesAsked a us rest all = (ws : List ResolvedUnit) → KeepsMore us ws → KeepsAsked a ws rest → KeepsAsked a ws all
+module _ (a : ℕ) (us : List ResolvedUnit) (all : List UnitRange) where
+  abbrev comes_to : List UnitRange → ℕ → Type 0
+  comes_to rs = AsksAmong (map plain_unit us) a rs
 
--- before the first
-pub asked_begin : (a : ℕ) (us : List ResolvedUnit) (rest all : List UnitRange) → rest ≡ all → LeavesAsked a us rest all
-asked_begin a us rest all is ws more h = subst (KeepsAsked a ws) is h
+  -- the ranges that are left of some
+  abbrev pub AsksRanges : List UnitRange → List ResolvedUnit → Type 0
+  AsksRanges rest vs = AsksOn (comes_to all) (comes_to rest) us vs
 
--- after the last
-pub asked_end : (a : ℕ) (us : List ResolvedUnit) (rest all : List UnitRange) → rest ≡ [] → LeavesAsked a us rest all
-    → KeepsAsked a us all
-asked_end a us rest all is h = h us (λ n at. at) (subst (KeepsAsked a us) (sym is) tt)
+  pub ranges_begin : (rest : List UnitRange) → rest ≡ all → AsksRanges rest us
+  ranges_begin rest is = subst (λ rs. AsksRanges rs us) (sym is) (asks_all (comes_to all) us)
 
-module _ (a : ℕ) (us vs : List ResolvedUnit) (r : UnitRange) (before rest all : List UnitRange)
-    (is : before ≡ r ∷ rest) (h : LeavesAsked a us before all) (more : KeepsMore us vs) where
-  -- one that has no row
-  pub asked_next : KeepsAt vs r.unit → LeavesAsked a vs rest all
-  asked_next kept ws further keeps =
-      h ws (λ n at. further n (more n at)) (subst (KeepsAsked a ws) (sym is) (further r.unit kept, λ none. keeps))
+  pub ranges_end : (rest : List UnitRange) (vs : List ResolvedUnit) → rest ≡ [] → AsksRanges rest vs
+      → KeepsAsked (comes_to all) vs
+  ranges_end rest vs is h =
+      asks_none (comes_to all) (comes_to []) us vs (λ n left. absurd left) (subst (λ rs. AsksRanges rs vs) is h)
 
-  module _ (same : map value_of_unit vs ≡ map value_of_unit us) where
-    -- one that has something is the last
-    asked_last : KeepsAt vs r.unit → (row_at_number (map plain_unit us) a r.unit ≡ Ok None → ⊥) → KeepsAsked a vs all
-    asked_last kept something =
-        h vs more
-        (subst (KeepsAsked a vs) (sym is) (
-          kept,
-          λ none.
-              absurd (something (ap (λ (l : List ContextUnit). row_at_number l a r.unit) (same_plain us vs (sym same))
-              ∙ none)),
-        ))
+  module _ (vs : List ResolvedUnit) (r : UnitRange) (before rest : List UnitRange) (is : before ≡ r ∷ rest)
+      (h : AsksRanges before vs) where
+    here : AsksRanges (r ∷ rest) vs
+    here = subst (λ rs. AsksRanges rs vs) is h
 
-    pub asked_found : (row : LineRow) → row_at_number (map plain_unit us) a r.unit ≡ Ok (Some row)
-        → KeepsAt vs r.unit → KeepsAsked a vs all
-    asked_found row found kept =
-        asked_last kept (row_missing (row_at_number (map plain_unit us) a r.unit) row found)
+    pub range_kept : KeepsAsked (comes_to all) us → KeepsAt vs r.unit
+    range_kept kept = kept_already (comes_to all) (comes_to (r ∷ rest)) us vs r.unit (inl refl) here kept
 
-    pub asked_refused : (e : Error) → refusal e ≢ refusal Memory
-        → (e ≢ Memory → row_at_number (map plain_unit us) a r.unit ≡ Err e)
-        → (refusal e ≢ refusal Memory → KeepsAt vs r.unit) → KeepsAsked a vs all
-    asked_refused e other refused kept =
-        asked_last (kept other)
-        (answer_refused (row_at_number (map plain_unit us) a r.unit) e (refused (λ is. other (ap refusal is))))
+    module _ (ws : List ResolvedUnit) (reads : ReadsAsked (λ n. n ≡ r.unit) vs ws) where
+      pub range_reads : ReadsAsked (comes_to all) us ws
+      range_reads = reads_here (comes_to all) (comes_to (r ∷ rest)) us vs r.unit (inl refl) here ws reads
+
+      module _ (same : map value_of_unit vs ≡ map value_of_unit us) (more : KeepsMore vs ws) where
+        row_same : row_at_number (map plain_unit us) a r.unit ≡ row_at_number (map plain_unit vs) a r.unit
+        row_same = ap (λ (l : List ContextUnit). row_at_number l a r.unit) (sym (same_plain vs us same))
+
+        -- one that has no row
+        pub range_next : row_at_number (map plain_unit vs) a r.unit ≡ Ok None → KeepsAt ws r.unit → AsksRanges rest ws
+        range_next none kept =
+            asks_next (comes_to all) (comes_to (r ∷ rest)) us vs r.unit (inl refl) here ws reads (comes_to rest)
+            (λ n left. inr (row_same ∙ none, left)) (λ n left. by n left) more kept
+          where
+            by : (n : ℕ) → comes_to (r ∷ rest) n → (n ≡ r.unit) ⊎ comes_to rest n
+            by n (inl first) = inl first
+            by n (inr left) = inr left.1
+
+        -- one that has something is the last
+        range_last : (row_at_number (map plain_unit vs) a r.unit ≡ Ok None → ⊥) → KeepsAt ws r.unit
+            → KeepsAsked (comes_to all) ws
+        range_last something kept =
+            asks_last (comes_to all) (comes_to (r ∷ rest)) us vs r.unit (inl refl) here ws reads (λ n left. by n left)
+            more kept
+          where
+            by : (n : ℕ) → comes_to (r ∷ rest) n → n ≡ r.unit
+            by n (inl first) = first
+            by n (inr left) = absurd (something (sym row_same ∙ left.0))
+
+        pub range_found : (row : LineRow) → row_at_number (map plain_unit vs) a r.unit ≡ Ok (Some row)
+            → KeepsAt ws r.unit → KeepsAsked (comes_to all) ws
+        range_found row found kept =
+            range_last (row_missing (row_at_number (map plain_unit vs) a r.unit) row found) kept
+
+        pub range_refused : (e : Error) → refusal e ≢ refusal Memory
+            → (e ≢ Memory → row_at_number (map plain_unit vs) a r.unit ≡ Err e)
+            → (refusal e ≢ refusal Memory → KeepsAt ws r.unit) → KeepsAsked (comes_to all) ws
+        range_refused e other refused kept =
+            range_last
+            (answer_refused (row_at_number (map plain_unit vs) a r.unit) e (refused (λ is. other (ap refusal is))))
+            (kept other)
+
+-- ---- for lines
+
+abbrev done : Unit {0} → Result (Unit {0}) Error
+done x = Ok x
+
+abbrev stopped : Error → Result (Unit {0}) Error
+stopped e = Err e
+
+-- reading that isn't refused isn't out of memory
+pub no_stop : (x : Unit {0}) → done x ≢ stopped Memory
+no_stop x same = cc
+
+not_done : (r : Result (Unit {0}) Error) (e : Error) → r ≡ stopped e → r ≡ done tt → ⊥
+not_done r e refused passed = let same : stopped e ≡ done tt = sym refused ∙ passed in cc
+
+module _ (us : List ResolvedUnit) where
+  abbrev asks : ℕ → Type 0
+  asks = AsksForLines (map plain_unit us)
+
+  -- those from a number on
+  abbrev pub AsksFrom : ℕ → ℕ → Type 0
+  AsksFrom k n = asks n × (k ≤ n)
+
+  -- all before it can be read
+  pub record AsksUnits (k : ℕ) (vs : List ResolvedUnit) : Type 0 where
+    pub comes_here : asks k
+    pub walk : AsksOn asks (AsksFrom k) us vs
+
+  pub units_begin : (k : ℕ) → k ≡ 0 → AsksUnits k us
+  units_begin k is = record {
+    comes_here = λ n below. absurd (omega (arith, is, below));
+    walk = record {
+      are_asked = λ n left. left.0;
+      are_kept = λ n asked. inr (asked, omega (arith, is));
+      more = λ n kept. kept;
+      reads = reads_none asks us;
+    };
+  }
+
+  module _ (vs : List ResolvedUnit) (k : ℕ) (h : AsksUnits k vs) where
+    pub units_end : length vs ≤ k → KeepsAsked asks vs
+    units_end past =
+        asks_none asks (AsksFrom k) us vs (λ n left. keeps_past vs n (omega (arith, past, left.1))) h.walk
+
+    pub unit_kept : KeepsAsked asks us → KeepsAt vs k
+    unit_kept kept = kept_already asks (AsksFrom k) us vs k (h.comes_here, omega arith) h.walk kept
+
+    module _ (ws : List ResolvedUnit) (reads : ReadsAsked (λ n. n ≡ k) vs ws) where
+      pub unit_reads : ReadsAsked asks us ws
+      unit_reads = reads_here asks (AsksFrom k) us vs k (h.comes_here, omega arith) h.walk ws reads
+
+      module _ (same : map value_of_unit vs ≡ map value_of_unit us) (more : KeepsMore vs ws) where
+        check_same : check_at (map plain_unit us) k ≡ check_at (map plain_unit vs) k
+        check_same = ap (λ (l : List ContextUnit). check_at l k) (sym (same_plain vs us same))
+
+        -- one whose lines can be read
+        pub unit_next : check_at (map plain_unit vs) k ≡ Ok tt → KeepsAt ws k → AsksUnits (k + 1) ws
+        unit_next passed kept = record {
+          comes_here = λ n below. let none_after : n ≤ k = omega (arith, below) in by n (eq-or-lt_of_le none_after);
+          walk =
+              asks_next asks (AsksFrom k) us vs k (h.comes_here, omega arith) h.walk ws reads (AsksFrom (k + 1))
+              (λ n left. (left.0, omega (arith, left.1))) (λ n left. turn n left (eq-or-lt_of_le left.1)) more kept;
+        }
+          where
+            by : (n : ℕ) → (n ≡ k) ⊎ (n < k) → check_at (map plain_unit us) n ≡ Ok tt
+            by n (inl is) = ap (check_at (map plain_unit us)) is ∙ check_same ∙ passed
+            by n (inr below) = h.comes_here n below
+
+            turn : (n : ℕ) → AsksFrom k n → (k ≡ n) ⊎ (k < n) → (n ≡ k) ⊎ AsksFrom (k + 1) n
+            turn n left (inl is) = inl (sym is)
+            turn n left (inr below) = inr (left.0, omega (arith, below))
+
+        -- one whose lines are refused is the last
+        pub unit_refused : (e : Error) → stopped e ≢ stopped Memory
+            → (e ≢ Memory → check_at (map plain_unit vs) k ≡ Err e)
+            → (stopped e ≢ stopped Memory → KeepsAt ws k) → KeepsAsked asks ws
+        unit_refused e other refused kept =
+            asks_last asks (AsksFrom k) us vs k (h.comes_here, omega arith) h.walk ws reads
+            (λ n left. turn n left (eq-or-lt_of_le left.1)) more (kept other)
+          where
+            never : (n : ℕ) → AsksFrom k n → k < n → ⊥
+            never n left below =
+                not_done (check_at (map plain_unit vs) k) e (refused (λ is. other (ap stopped is)))
+                (sym check_same ∙ left.0 k below)
+
+            turn : (n : ℕ) → AsksFrom k n → (k ≡ n) ⊎ (k < n) → n ≡ k
+            turn n left (inl is) = sym is
+            turn n left (inr below) = absurd (never n left below)

@@ -8,10 +8,9 @@ use Rattle.addr2line_resolved.specs.Error.{Error}
 use Rattle.addr2line_resolved.specs.Results.{and_then}
 use Rattle.addr2line_resolved.specs.Lines.{Lines}
 use Rattle.addr2line_resolved.specs.Contexts.{ContextUnit, all_lines, all_lines_or_refusal}
-use Rattle.addr2line_resolved.specs.UnitRange.{UnitRange}
 use Rattle.addr2line_resolved.specs.ResolvedUnits.{ResolvedUnit, value_of_unit, plain_unit, KeepsLines}
 use Rattle.addr2line_resolved.proofs.NewUnits.{unit_of}
-use Rattle.addr2line_lookups.specs.KeptUnits.{KeepsAt, KeepsRanges, KeepsMore, check_of, check_at}
+use Rattle.addr2line_lookups.specs.KeptUnits.{KeepsAt, check_of, check_at}
 
 -- ---- kept lines
 
@@ -30,22 +29,6 @@ pub keeps_set : (us : List ResolvedUnit) (number : ℕ) (u : ResolvedUnit) → K
 keeps_set [] number u keeps = tt
 keeps_set (v ∷ us) zero u keeps = keeps
 keeps_set (v ∷ us) (suc n) u keeps = keeps_set us n u keeps
-
--- lines that are kept still
-keeps_ranges : (us vs : List ResolvedUnit) → KeepsMore us vs → (rs : List UnitRange) → KeepsRanges us rs
-    → KeepsRanges vs rs
-keeps_ranges us vs more [] h = tt
-keeps_ranges us vs more (r ∷ rs) h = (more r.unit h.0, keeps_ranges us vs more rs h.1)
-
-module _ (us : List ResolvedUnit) (r : UnitRange) (old rest : List UnitRange) (is : old ≡ r ∷ rest)
-    (h : KeepsRanges us old) where
-  -- those of the first range
-  pub keeps_first : KeepsAt us r.unit
-  keeps_first = (subst (KeepsRanges us) is h).0
-
-  -- and of the others, later
-  pub keeps_rest : (vs : List ResolvedUnit) → KeepsMore us vs → KeepsRanges vs rest
-  keeps_rest vs more = keeps_ranges us vs more rest (subst (KeepsRanges us) is h).1
 
 -- ---- what refuses all lines
 

@@ -31,3 +31,4 @@ pub mod SettledUnits
 pub mod FirstLoads
 pub mod PassedUnits
 pub mod AskedLines
+pub mod KeptFunctionLists

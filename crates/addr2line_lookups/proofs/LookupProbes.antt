@@ -7,12 +7,14 @@ use Rattle.addr2line_resolved.specs.EntryReferences.{KnownUnits}
 use Rattle.addr2line_resolved.specs.Searches.{AtMostProbes}
 use Rattle.addr2line_resolved.specs.KeptFunctions.{kept_at, number_probes, kept_chain_probes}
 use Rattle.addr2line_resolved.specs.ResolvedUnits.{ResolvedUnit, AnsweredUnit, KeepsLines, value_of_unit, functions_of, lines_probes, with_functions, with_probes}
+use Rattle.addr2line_lookups.specs.KeptUnits.{KeepsMoreFunctions}
 use Rattle.addr2line_lookups.specs.KeptCalls.{known_among, HoldsCalls}
 use Rattle.addr2line_lookups.specs.FunctionPlaces.{function_number_at, calls_of_any}
 use Rattle.addr2line_lookups.specs.LookupCosts.{AtMostLooksOf, AtMostLooks, row_probes_of, row_probes_at, number_probes_of, number_probes_at, chain_probes_at, found_chain_probes, function_probes_at, frame_probes_at, probes_among}
 use Rattle.addr2line_lookups.proofs.CallsLeft.{known_same}
 use Rattle.addr2line_lookups.proofs.CallsOfUnits.{value_left, counts_left, value_here}
 use Rattle.addr2line_lookups.proofs.FoundFunctions.{kept_is}
+use Rattle.addr2line_lookups.proofs.KeptFunctionLists.{functions_same, functions_read, functions_both_of}
 use Rattle.addr2line_lookups.proofs.UnitProbes.{LooksLeft, looks_set, looks_both, looks_weaker, looks_next, looks_stop}
 
 -- ---- a search
@@ -29,16 +31,25 @@ looks_for_function_of u w new read looked probes =
           (value_left u w read)
           (subst (λ p. AtMostProbes (number_probes (functions_of w.value)) p new.probes) counts.0 probes);
       more = λ kept. ap (λ (x : ResolvedUnit). x.keeps_lines) looked ∙ counts.1 ∙ kept;
+      functions =
+          functions_both_of u w new (functions_read u w read)
+          (functions_same w new (ap (λ (x : ResolvedUnit). x.keeps_functions) looked)
+          (ap (λ (x : ResolvedUnit). x.calls) looked));
     }
 
 module _ (us : List ResolvedUnit) (n : ℕ) (u : ResolvedUnit) (below : n < length us) (is : u ≡ get_or us n u)
     (new : ResolvedUnit) where
   -- among sequences and rows
   pub looks_for_row : (a : ℕ) → AtMostProbes (lines_probes a u.value.unit.lines) u.probes new.probes
-      → (KeepsLines u → KeepsLines new) → AtMostLooks (row_probes_at (map value_of_unit us) a n) us (set us n new)
-  looks_for_row a probes more =
+      → (KeepsLines u → KeepsLines new) → KeepsMoreFunctions u new
+      → AtMostLooks (row_probes_at (map value_of_unit us) a n) us (set us n new)
+  looks_for_row a probes more functions =
       subst (λ m. AtMostLooks m us (set us n new)) (sym (ap (row_probes_of a) (value_here us n u below is)))
-      (looks_set us n u below is new (lines_probes a u.value.unit.lines) (record { probes = probes; more = more }))
+      (looks_set us n u below is new (lines_probes a u.value.unit.lines) (record {
+        probes = probes;
+        more = more;
+        functions = functions;
+      }))
 
   -- among functions
   pub looks_for_number : AtMostLooksOf (number_probes (functions_of u.value)) u new

@@ -6,28 +6,31 @@ use Rattle.addr2line_resolved.specs.Error.{Error}
 use Rattle.addr2line_resolved.specs.UnitRange.{UnitRange}
 use Rattle.addr2line_resolved.specs.ProbedLists.{ProbeCount}
 use Rattle.addr2line_resolved.specs.ResolvedUnits.{ResolvedUnit, KeepsLines}
-use Rattle.addr2line_lookups.specs.KeptUnits.{KeepsMore}
+use Rattle.addr2line_lookups.specs.KeptUnits.{KeepsMoreFunctions}
 use Rattle.addr2line_lookups.specs.LookupCosts.{counter_of, count_of, AtMostLooksOf, AtMostLooks, probes_among}
+use Rattle.addr2line_lookups.proofs.KeptFunctionLists.{functions_unchanged, functions_both_of, functions_none, functions_both, functions_put, holds_put}
 
 -- ---- one unit
 
 -- nothing is looked at
 pub looks_same : (old new : ResolvedUnit) → new.probes ≡ old.probes → (KeepsLines old → KeepsLines new)
-    → AtMostLooksOf 0 old new
-looks_same old new same more = record {
+    → KeepsMoreFunctions old new → AtMostLooksOf 0 old new
+looks_same old new same more functions = record {
   probes = (ap (λ (p : ProbeCount). p.name) same, omega (arith, ap (λ (p : ProbeCount). p.count) same));
   more = more;
+  functions = functions;
 }
 
 -- it isn't, and no lines are read
 pub looks_nowhere : (old new : ResolvedUnit) → new.probes ≡ old.probes → new.keeps_lines ≡ old.keeps_lines
-    → AtMostLooksOf 0 old new
-looks_nowhere old new same lines = looks_same old new same (λ kept. lines ∙ kept)
+    → KeepsMoreFunctions old new → AtMostLooksOf 0 old new
+looks_nowhere old new same lines functions = looks_same old new same (λ kept. lines ∙ kept) functions
 
 -- nothing changes
 pub looks_unchanged : (n : ℕ) (old new : ResolvedUnit) → new ≡ old → AtMostLooksOf n old new
 looks_unchanged n old new same =
-    let here : AtMostLooksOf n old old = record { probes = (refl, omega arith); more = λ kept. kept } in
+    let here : AtMostLooksOf n old old =
+    record { probes = (refl, omega arith); more = λ kept. kept; functions = functions_unchanged old old refl } in
     subst (AtMostLooksOf n old) (sym same) here
 
 -- one change after the other
@@ -36,13 +39,15 @@ pub looks_both_of : (m n : ℕ) (u v w : ResolvedUnit) → AtMostLooksOf m u v �
 looks_both_of m n u v w first then = record {
   probes = (then.probes.0 ∙ first.probes.0, omega (arith, first.probes.1, then.probes.1));
   more = λ kept. then.more (first.more kept);
+  functions = functions_both_of u v w first.functions then.functions;
 }
 
 -- ---- units
 
 -- nothing changes
 pub looks_none : (n : ℕ) (us : List ResolvedUnit) → AtMostLooks n us us
-looks_none n us = record { counters = refl; probes = omega arith; more = λ number kept. kept }
+looks_none n us =
+    record { counters = refl; probes = omega arith; more = λ number kept. kept; functions = functions_none us }
 
 pub looks_both : (m n : ℕ) (us vs ws : List ResolvedUnit) → AtMostLooks m us vs → AtMostLooks n vs ws
     → AtMostLooks (m + n) us ws
@@ -50,6 +55,7 @@ looks_both m n us vs ws first then = record {
   counters = then.counters ∙ first.counters;
   probes = omega (arith, first.probes, then.probes);
   more = λ number kept. then.more number (first.more number kept);
+  functions = functions_both us vs ws first.functions then.functions;
 }
 
 pub looks_weaker : (m n : ℕ) (us vs : List ResolvedUnit) → m ≤ n → AtMostLooks m us vs → AtMostLooks n us vs
@@ -57,6 +63,7 @@ looks_weaker m n us vs less h = record {
   counters = h.counters;
   probes = omega (arith, less, h.probes);
   more = h.more;
+  functions = h.functions;
 }
 
 -- where nothing was looked at
@@ -70,14 +77,6 @@ looks_after n us vs ws first then = looks_weaker (0 + n) n us ws (omega arith) (
 
 -- ---- the unit of a number
 
-put_more : (us : List ResolvedUnit) (n : ℕ) (u new : ResolvedUnit) → u ≡ get_or us n u
-    → (KeepsLines u → KeepsLines new) → KeepsMore us (set us n new)
-put_more [] n u new is more m kept = kept
-put_more (v ∷ us) zero u new is more zero kept = more (subst KeepsLines (sym is) kept)
-put_more (v ∷ us) zero u new is more (suc m) kept = kept
-put_more (v ∷ us) (suc n) u new is more zero kept = kept
-put_more (v ∷ us) (suc n) u new is more (suc m) kept = put_more us n u new is more m kept
-
 -- it is put back
 pub looks_set : (us : List ResolvedUnit) (n : ℕ) (u : ResolvedUnit) → n < length us → u ≡ get_or us n u
     → (new : ResolvedUnit) (m : ℕ) → AtMostLooksOf m u new → AtMostLooks m us (set us n new)
@@ -88,7 +87,8 @@ looks_set us n u below is new m h =
     record {
       counters = map-set_same counter_of us n new u (h.probes.0 ∙ ap counter_of is);
       probes = omega (arith, total, here, looks);
-      more = put_more us n u new is h.more;
+      more = holds_put KeepsLines us n u new is h.more;
+      functions = functions_put us n u new is h.functions;
     }
 
 -- ---- the units of ranges

@@ -1,5 +1,5 @@
--- Which units' lines are kept, and what lookups find of the unit of a number.
-use Rattle.std.specs.Prelude.{◌≡◌, ◌≢◌, ℕ, List, [], ◌∷◌, map, slice_get, Option, Some, None, IfSome, option_and_then, Result, Ok, Err}
+-- What is kept of units, and what lookups find of the unit of a number.
+use Rattle.std.specs.Prelude.{◌≡◌, ◌≢◌, ◌⊎◌, ℕ, ◌<◌, true, List, [], ◌∷◌, map, slice_get, Option, Some, None, IfSome, is_some, option_and_then, Result, Ok, Err}
 use Rattle.addr2line_resolved.specs.Error.{Error}
 use Rattle.addr2line_resolved.specs.Error.TheVariants.{Memory}
 use Rattle.addr2line_resolved.specs.Results.{and_then}
@@ -9,6 +9,7 @@ use Rattle.addr2line_resolved.specs.PlaceLookups.{location_at}
 use Rattle.addr2line_resolved.specs.UnitRange.{UnitRange}
 use Rattle.addr2line_resolved.specs.NumberedRanges.{covering_ranges}
 use Rattle.addr2line_resolved.specs.ContextUnits.{ordered_ranges}
+use Rattle.addr2line_resolved.specs.KeptFunctions.{kept_at}
 use Rattle.addr2line_resolved.specs.ResolvedUnits.{ResolvedUnit, plain_unit, KeepsLines, row_or_refusal, location_of_row}
 use Rattle.addr2line_lookups.specs.declared.settle.UnitRow.{UnitRow}
 
@@ -18,18 +19,52 @@ use Rattle.addr2line_lookups.specs.declared.settle.UnitRow.{UnitRow}
 abbrev pub KeepsAt : List ResolvedUnit → ℕ → Type 0
 KeepsAt us number = IfSome (slice_get us number) KeepsLines
 
--- those of the units of ranges
-abbrev pub KeepsRanges : List ResolvedUnit → List UnitRange → Type 0
-KeepsRanges us [] = Unit {0}
-KeepsRanges us (r ∷ rs) = KeepsAt us r.unit × KeepsRanges us rs
+-- those of all units that a call asks
+abbrev pub KeepsAsked : (ℕ → Type 0) → List ResolvedUnit → Type 0
+KeepsAsked asks us = (number : ℕ) → asks number → KeepsAt us number
 
--- those of the units with a range over an address
-abbrev pub KeepsCovering : ℕ → List ResolvedUnit → Type 0
-KeepsCovering a us = KeepsRanges us (covering_ranges a (ordered_ranges (map plain_unit us)))
+-- what holds of the unit of a number, if there is such a unit, holds still
+abbrev pub HoldsStill : (ResolvedUnit → Type 0) → List ResolvedUnit → List ResolvedUnit → Type 0
+HoldsStill P old new =
+    (number : ℕ) → IfSome (slice_get old number) P → IfSome (slice_get new number) P
 
 -- lines that were kept before are kept still
 abbrev pub KeepsMore : List ResolvedUnit → List ResolvedUnit → Type 0
-KeepsMore old new = (number : ℕ) → KeepsAt old number → KeepsAt new number
+KeepsMore old new = HoldsStill KeepsLines old new
+
+-- lines that are kept were kept before, or are those of units that a call asks
+abbrev pub ReadsAsked : (ℕ → Type 0) → List ResolvedUnit → List ResolvedUnit → Type 0
+ReadsAsked asks old new = (number : ℕ) → KeepsAt new number → KeepsAt old number ⊎ asks number
+
+-- no lines were read
+abbrev pub ReadsNoLines : List ResolvedUnit → List ResolvedUnit → Type 0
+ReadsNoLines old new = KeepsMore new old
+
+-- the unit of a number is one of those of ranges
+abbrev pub IsUnitOf : List UnitRange → ℕ → Type 0
+IsUnitOf [] number = ⊥
+IsUnitOf (r ∷ rs) number = (number ≡ r.unit) ⊎ IsUnitOf rs number
+
+-- ---- kept functions
+
+-- the functions of a unit were read and are kept, be it a refusal
+abbrev pub KeepsFunctionList : ResolvedUnit → Type 0
+KeepsFunctionList u = u.keeps_functions ≡ true
+
+-- so are the calls of one of them
+abbrev pub KeepsFunctionCalls : ℕ → ResolvedUnit → Type 0
+KeepsFunctionCalls function u =
+    KeepsFunctionList u × (is_some (kept_at u.calls function) ≡ true)
+
+-- what was kept of a unit's functions is kept still
+pub record KeepsMoreFunctions (old new : ResolvedUnit) : Type 0 where
+  pub functions : KeepsFunctionList old → KeepsFunctionList new
+  pub calls : (function : ℕ) → KeepsFunctionCalls function old → KeepsFunctionCalls function new
+
+-- the same of units
+pub record KeepMoreFunctions (old new : List ResolvedUnit) : Type 0 where
+  pub functions : HoldsStill KeepsFunctionList old new
+  pub calls : (function : ℕ) → HoldsStill (KeepsFunctionCalls function) old new
 
 -- ---- lines
 
@@ -65,12 +100,17 @@ FindsRow units a (Ok (Some r)) =
     location_at ranges_of lines_of units a ≡ Ok (location_of_unit_row units r)
 FindsRow units a (Err e) = e ≢ Memory → location_at ranges_of lines_of units a ≡ Err e
 
--- The lines of the units of ranges are kept, up to the first that have a row of an address or are
--- refused.
-abbrev pub KeepsAsked : ℕ → List ResolvedUnit → List UnitRange → Type 0
-KeepsAsked a us [] = Unit {0}
-KeepsAsked a us (r ∷ rs) =
-    KeepsAt us r.unit × (row_at_number (map plain_unit us) a r.unit ≡ Ok None → KeepsAsked a us rs)
+-- The unit of a number is one of those of ranges, up to the first whose lines have a row of an
+-- address or are refused.
+abbrev pub AsksAmong : List ContextUnit → ℕ → List UnitRange → ℕ → Type 0
+AsksAmong units a [] number = ⊥
+AsksAmong units a (r ∷ rs) number =
+    (number ≡ r.unit)
+    ⊎ ((row_at_number units a r.unit ≡ Ok None) × AsksAmong units a rs number)
+
+-- a lookup of the place of an address asks the unit of a number
+abbrev pub AsksForRow : List ContextUnit → ℕ → ℕ → Type 0
+AsksForRow units a = AsksAmong units a (covering_ranges a (ordered_ranges units))
 
 -- the lines of the unit whose row was found are kept
 abbrev pub KeepsFound : List ResolvedUnit → Result (Option UnitRow) Error → Type 0
@@ -87,3 +127,7 @@ check_of (Some u) = and_then u.lines (λ lines. Ok tt)
 -- those of the unit of a number
 abbrev pub check_at : List ContextUnit → ℕ → Result (Unit {0}) Error
 check_at units number = check_of (slice_get units number)
+
+-- the unit of a number comes no later than the first whose lines are refused
+abbrev pub AsksForLines : List ContextUnit → ℕ → Type 0
+AsksForLines units number = (n : ℕ) → n < number → check_at units n ≡ Ok tt

@@ -1,4 +1,4 @@
--- How many looks at what is kept lookups take. Lines that were kept stay kept.
+-- How many looks at what is kept lookups take. What was kept stays kept.
 use Rattle.std.specs.Prelude.{◌≡◌, ℕ, ◌+◌, ◌≤◌, List, map, sum_by, slice_get, Option, Some, None, Result, Ok, Err}
 use Rattle.addr2line_resolved.specs.Error.{Error}
 use Rattle.addr2line_resolved.specs.UnitRange.{UnitRange}
@@ -6,7 +6,7 @@ use Rattle.addr2line_resolved.specs.Searches.{AtMostProbes}
 use Rattle.addr2line_resolved.specs.EntryReferences.{KnownUnits}
 use Rattle.addr2line_resolved.specs.KeptFunctions.{number_probes, kept_chain_probes}
 use Rattle.addr2line_resolved.specs.ResolvedUnits.{ResolvedUnit, AnsweredUnit, KeepsLines, functions_of, lines_probes}
-use Rattle.addr2line_lookups.specs.KeptUnits.{KeepsMore}
+use Rattle.addr2line_lookups.specs.KeptUnits.{KeepsMore, KeepsMoreFunctions, KeepMoreFunctions}
 use Rattle.addr2line_lookups.specs.FunctionPlaces.{function_number_at, function_calls_at}
 
 -- ---- looks
@@ -23,17 +23,19 @@ count_of u = u.probes.count
 abbrev pub probes_of : List ResolvedUnit → ℕ
 probes_of us = sum_by count_of us
 
--- A call looked at what is kept of a unit no more than n times. Lines that were kept are kept
--- still, so that the unit's line number program isn't run again.
+-- A call looked at what is kept of a unit no more than n times. Lines, functions and calls that
+-- were kept are kept still, so that the unit's line number program isn't run again.
 pub record AtMostLooksOf (n : ℕ) (old new : ResolvedUnit) : Type 0 where
   pub probes : AtMostProbes n old.probes new.probes
   pub more : KeepsLines old → KeepsLines new
+  pub functions : KeepsMoreFunctions old new
 
 -- The same of units, in all. Each has the counter that it had.
 pub record AtMostLooks (n : ℕ) (old new : List ResolvedUnit) : Type 0 where
   pub counters : map counter_of new ≡ map counter_of old
   pub probes : probes_of new ≤ probes_of old + n
   pub more : KeepsMore old new
+  pub functions : KeepMoreFunctions old new
 
 -- ---- in the unit of a number
 

@@ -8,6 +8,7 @@ use Rattle.addr2line_resolved.specs.Functions.{functions_of_unit}
 use Rattle.addr2line_resolved.specs.InlinedCalls.{calls_of_function}
 use Rattle.addr2line_resolved.specs.EntryReferences.{KnownUnits}
 use Rattle.addr2line_resolved.specs.ResolvedUnits.{AnsweredUnit, ResolvedUnit, main_unit, first_answer, unit_of_functions, functions_of, with_unit_answer}
+use Rattle.addr2line_lookups.specs.KeptUnits.{KeepsFunctionList}
 use Rattle.addr2line_lookups.specs.KeptCalls.{naming_from, calls_among}
 
 -- ---- one unit
@@ -58,7 +59,7 @@ check_unit_at check vs number = check_if_any check (slice_get vs number)
 
 -- the functions of the unit of a number are kept
 abbrev pub KeepsFunctionsAt : List ResolvedUnit → ℕ → Type 0
-KeepsFunctionsAt us number = IfSome (slice_get us number) (λ u. u.keeps_functions ≡ true)
+KeepsFunctionsAt us number = IfSome (slice_get us number) KeepsFunctionList
 
 -- whether the calls of the function of a number can be read
 abbrev pub check_call_of : KnownUnits → ℕ → AnsweredUnit → Result (Unit {0}) Error

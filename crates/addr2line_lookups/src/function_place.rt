@@ -8,6 +8,7 @@ ghost use Rattle.addr2line_resolved.specs.OrderedUnits.{AreKnownInOrder};
 ghost use Rattle.addr2line_resolved.specs.KeptFunctions.{number_in, number_probes};
 ghost use Rattle.addr2line_resolved.specs.ResolvedUnits.{functions_of, pending_load, value_of_unit};
 ghost use Rattle.addr2line_lookups.specs.Preloads.{load_at};
+ghost use Rattle.addr2line_lookups.specs.KeptUnits.{ReadsNoLines};
 ghost use Rattle.addr2line_lookups.specs.KeptCalls.{known_among, calls_among, HoldCalls, LeavesCallsOf, LeavesCalls};
 ghost use Rattle.addr2line_lookups.specs.FunctionPlaces.{HasFunction, HasFunctionAt, KeepsCallsAt, count_at, function_number_at, function_calls_at, function_with_calls_at, chain_of, FindsCalls, FindsFunction};
 ghost use Rattle.addr2line_lookups.specs.LookupCosts.{AtMostLooks, AtMostLooksOf, number_probes_at, chain_probes_at, function_probes_at};
@@ -29,6 +30,7 @@ fn find_number<R: Reader>(
     ensures calls { LeavesCallsOf unit.old unit.new }
     ensures cost { AtMostLooksOf (number_probes (functions_of unit.old.value))
         unit.old unit.new }
+    ensures lines { unit.new.keeps_lines ≡ unit.old.keeps_lines }
     ensures number { ReturnsOrNoMemory result (number_in (functions_of unit.old.value) probe) }
     ensures below { IfOk result (λ number. IfSome number (λ k. HasFunction k unit.new)) }
 {
@@ -49,6 +51,7 @@ fn find_number_at<R: Reader>(
     ensures calls { LeavesCalls units.old.items units.new.items }
     ensures cost { AtMostLooks (number_probes_at (map value_of_unit units.old.items) number)
         units.old.items units.new.items }
+    ensures lines { ReadsNoLines units.old.items units.new.items }
     ensures number { ReturnsOrNoMemory result
         (function_number_at (map value_of_unit units.old.items) probe number) }
     ensures below { IfOk result
@@ -102,6 +105,7 @@ pub(crate) fn keep_calls<R: Reader>(
     ensures same { KeepsCallsAt units.old.items number function
         → units.new.items ≡ units.old.items }
     ensures cost { AtMostLooks 0 units.old.items units.new.items }
+    ensures lines { ReadsNoLines units.old.items units.new.items }
     ensures refusal { IfErr result (λ e. e ≡ Memory) }
 {
     let unit = &units[number];
@@ -138,6 +142,7 @@ fn find_calls<R: Reader>(
         (chain_probes_at (known_among units.old.items supplement_units.now)
         (map value_of_unit units.old.items) probe function number)
         units.old.items units.new.items }
+    ensures lines { ReadsNoLines units.old.items units.new.items }
 {
     keep_calls(alloc, units, supplement_units, number, function)?;
     let unit = &mut units[number];
@@ -169,6 +174,7 @@ pub(crate) fn find_function_at<R: Reader>(
     ensures cost { AtMostLooks
         (function_probes_at (known_among units.old.items supplement_units.now)
         (map value_of_unit units.old.items) probe number) units.old.items units.new.items }
+    ensures lines { ReadsNoLines units.old.items units.new.items }
 {
     let Some(function) = find_number_at(alloc, units, number, probe)? else {
         return Ok(None);

@@ -5,6 +5,7 @@ ghost use Rattle.addr2line_resolved.specs.Calls.{Returns};
 ghost use Rattle.addr2line_resolved.specs.Error.TheVariants.{Memory};
 ghost use Rattle.addr2line_resolved.specs.FirstAnswers.{answer_of};
 ghost use Rattle.addr2line_resolved.specs.ResolvedUnits.{pending_load, value_of_unit};
+ghost use Rattle.addr2line_lookups.specs.KeptUnits.{ReadsNoLines};
 ghost use Rattle.addr2line_lookups.specs.KeptCalls.{LeavesCalls, LeavesCallsOf};
 ghost use Rattle.addr2line_lookups.specs.LoadAnswers.{AnswersOrNoMemory, check_unit, answer_unit, answer_at};
 ghost use Rattle.addr2line_lookups.specs.LookupCosts.{AtMostLooks, AtMostLooksOf};
@@ -51,6 +52,7 @@ fn record_answer<R: Reader>(
         (answer_unit unit.old.value (option_map (λ f. f.value.file) file)) }
     ensures calls { LeavesCallsOf unit.old unit.new }
     ensures cost { AtMostLooksOf 0 unit.old unit.new }
+    ensures lines { unit.new.keeps_lines ≡ unit.old.keeps_lines }
 {
     let answer = answer_or_refusal(alloc, unit.main().unit(), file)?;
     unit.record_answer(answer);
@@ -71,6 +73,7 @@ fn answer_unit<R: Reader>(
         ≡ (result, unit.new.value) }
     ensures calls { LeavesCallsOf unit.old unit.new }
     ensures cost { AtMostLooksOf 0 unit.old unit.new }
+    ensures lines { unit.new.keeps_lines ≡ unit.old.keeps_lines }
 {
     if unit.pending_load().is_none() {
         drop(file);
@@ -95,6 +98,7 @@ pub(crate) fn answer_at<R: Reader>(
         (option_map (λ f. f.value.file) file) ≡ (result, map value_of_unit units.new.items) }
     ensures calls { LeavesCalls units.old.items units.new.items }
     ensures cost { AtMostLooks 0 units.old.items units.new.items }
+    ensures lines { ReadsNoLines units.old.items units.new.items }
 {
     if number >= units.len() {
         drop(file);

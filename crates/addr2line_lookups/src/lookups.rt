@@ -3,6 +3,7 @@
 ghost use Rattle.std.specs.Prelude.{◌≡◌, map, option_map, is_some};
 ghost use Rattle.addr2line_resolved.specs.NumberedRanges.{covering_ranges};
 ghost use Rattle.addr2line_resolved.specs.ResolvedUnits.{value_of_unit};
+ghost use Rattle.addr2line_lookups.specs.KeptUnits.{ReadsAsked, IsUnitOf};
 ghost use Rattle.addr2line_lookups.specs.KeptCalls.{known_among, HoldCalls};
 ghost use Rattle.addr2line_lookups.specs.Preloads.{load_at};
 ghost use Rattle.addr2line_lookups.specs.UnitLookups.{frames_asked, frames_among, SettlesFrames, unit_asked, unit_among, SettlesUnit, unit_at_number};
@@ -43,6 +44,7 @@ fn settle_frames_at<R: Reader>(
     ensures cost { AtMostLooks
         (frame_probes_at (known_among units.old.items supplement_units.now)
         (map value_of_unit units.old.items) probe number) units.old.items units.new.items }
+    ensures reads { ReadsAsked (λ n. n ≡ number) units.old.items units.new.items }
 {
     if waits_at(units, number) {
         return Ok(Settled::Waits);
@@ -75,6 +77,8 @@ pub(crate) fn settle_frames<R: Reader>(
     ensures cost { AtMostLooks (probes_among
         (frame_probes_at (known_among units.old.items supplement_units.now)
         (map value_of_unit units.old.items) probe) (covering_ranges probe ranges.now))
+        units.old.items units.new.items }
+    ensures reads { ReadsAsked (IsUnitOf (covering_ranges probe ranges.now))
         units.old.items units.new.items }
     ensures passed { PassFrames (known_among units.old.items supplement_units.now)
         (map value_of_unit units.old.items) probe from.new ranges.now }
@@ -109,6 +113,7 @@ fn settle_unit_at<R: Reader>(
     ensures cost { AtMostLooks
         (frame_probes_at (known_among units.old.items supplement_units.now)
         (map value_of_unit units.old.items) probe number) units.old.items units.new.items }
+    ensures reads { ReadsAsked (λ n. n ≡ number) units.old.items units.new.items }
 {
     if waits_at(units, number) {
         return Ok(Settled::Waits);
@@ -145,6 +150,8 @@ pub(crate) fn settle_unit<R: Reader>(
     ensures cost { AtMostLooks (probes_among
         (frame_probes_at (known_among units.old.items supplement_units.now)
         (map value_of_unit units.old.items) probe) (covering_ranges probe ranges.now))
+        units.old.items units.new.items }
+    ensures reads { ReadsAsked (IsUnitOf (covering_ranges probe ranges.now))
         units.old.items units.new.items }
     ensures passed { PassUnits (known_among units.old.items supplement_units.now)
         (map value_of_unit units.old.items) probe from.new ranges.now }

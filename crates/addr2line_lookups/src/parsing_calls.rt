@@ -3,6 +3,7 @@
 ghost use Rattle.std.specs.Prelude.{◌≡◌, ◌<◌, Ok, IfSome, length, map};
 ghost use Rattle.addr2line_resolved.specs.KeptFunctions.{kept_at};
 ghost use Rattle.addr2line_resolved.specs.ResolvedUnits.{value_of_unit};
+ghost use Rattle.addr2line_lookups.specs.KeptUnits.{ReadsNoLines};
 ghost use Rattle.addr2line_lookups.specs.KeptCalls.{known_among, HoldCalls};
 ghost use Rattle.addr2line_lookups.specs.FunctionPlaces.{count_at};
 ghost use Rattle.addr2line_lookups.specs.LookupCosts.{AtMostLooks};
@@ -40,6 +41,7 @@ fn parse_calls_of<R: Reader>(
     ensures values { map value_of_unit units.new.items ≡ map value_of_unit units.old.items }
     ensures calls { HoldCalls (known_among units.old.items supplement_units.now) units.new.items }
     ensures cost { AtMostLooks 0 units.old.items units.new.items }
+    ensures lines { ReadsNoLines units.old.items units.new.items }
     ensures count { count_at units.new.items number ≡ count_at units.old.items number }
     ensures found { ChecksOrNoMemory result
         (check_unit_at (check_call_of (known_among units.old.items supplement_units.now) function)
@@ -66,6 +68,7 @@ fn parse_calls_at<R: Reader>(
     ensures values { map value_of_unit units.new.items ≡ map value_of_unit units.old.items }
     ensures calls { HoldCalls (known_among units.old.items supplement_units.now) units.new.items }
     ensures cost { AtMostLooks 0 units.old.items units.new.items }
+    ensures lines { ReadsNoLines units.old.items units.new.items }
     ensures found { ChecksOrNoMemory result
         (check_unit_at (check_calls_of (known_among units.old.items supplement_units.now))
         (map value_of_unit units.old.items) number) }
@@ -95,6 +98,7 @@ fn parse_unit_at<R: Reader>(
         ≡ after_turn (map value_of_unit units.old.items) number }
     ensures calls { HoldCalls (known_among units.old.items supplement_units.now) units.new.items }
     ensures cost { AtMostLooks 0 units.old.items units.new.items }
+    ensures lines { ReadsNoLines units.old.items units.new.items }
     ensures found { ChecksOrNoMemory result
         (check_unit_at (check_calls_of (known_among units.old.items supplement_units.now))
         (map value_of_unit units.new.items) number) }
@@ -117,6 +121,7 @@ pub(crate) fn check_calls<R: Reader>(
         (map value_of_unit units.old.items) (map value_of_unit units.new.items) }
     ensures calls { HoldCalls (known_among units.new.items supplement_units.now) units.new.items }
     ensures cost { AtMostLooks 0 units.old.items units.new.items }
+    ensures lines { ReadsNoLines units.old.items units.new.items }
 {
     let mut number = 0;
     while number < units.len() {

@@ -2,6 +2,7 @@
 
 ghost use Rattle.std.specs.Prelude.{◌≡◌, ◌<◌, true, None, OnOk, map};
 ghost use Rattle.addr2line_resolved.specs.ResolvedUnits.{pending_load, value_of_unit};
+ghost use Rattle.addr2line_lookups.specs.KeptUnits.{ReadsNoLines};
 ghost use Rattle.addr2line_lookups.specs.KeptCalls.{LeavesCalls, LeavesCallsOf};
 ghost use Rattle.addr2line_lookups.specs.LookupCosts.{AtMostLooks, AtMostLooksOf};
 ghost use Rattle.addr2line_lookups.specs.UnitParses.{without_load, check_functions_of, ChecksOrNoMemory, after_turn, check_unit_at, KeepsFunctionsAt, WalksOrNoMemory};
@@ -15,6 +16,7 @@ fn skip_load<R: Reader>(unit: &mut ResUnit<R>)
     ensures load { pending_load unit.new.value ≡ None }
     ensures calls { LeavesCallsOf unit.old unit.new }
     ensures cost { AtMostLooksOf 0 unit.old unit.new }
+    ensures lines { unit.new.keeps_lines ≡ unit.old.keeps_lines }
 {
     unit.record_answer(Ok(None));
 }
@@ -38,6 +40,7 @@ fn check_functions_of<R: Reader>(alloc: Global, unit: &mut ResUnit<R>) -> Result
     ensures kept { OnOk result (unit.new.keeps_functions ≡ true) }
     ensures calls { LeavesCallsOf unit.old unit.new }
     ensures cost { AtMostLooksOf 0 unit.old unit.new }
+    ensures lines { unit.new.keeps_lines ≡ unit.old.keeps_lines }
 {
     unit.read_functions(alloc)?;
     check_kept(unit)
@@ -56,6 +59,7 @@ pub(crate) fn parse_functions_at<R: Reader>(
     ensures kept { OnOk result (KeepsFunctionsAt units.new.items number) }
     ensures calls { LeavesCalls units.old.items units.new.items }
     ensures cost { AtMostLooks 0 units.old.items units.new.items }
+    ensures lines { ReadsNoLines units.old.items units.new.items }
 {
     if number >= units.len() {
         return Ok(());
@@ -74,6 +78,7 @@ pub(crate) fn check_functions<R: Reader>(
         (map value_of_unit units.new.items) }
     ensures calls { LeavesCalls units.old.items units.new.items }
     ensures cost { AtMostLooks 0 units.old.items units.new.items }
+    ensures lines { ReadsNoLines units.old.items units.new.items }
 {
     let mut number = 0;
     while number < units.len() {

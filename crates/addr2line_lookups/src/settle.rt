@@ -9,7 +9,7 @@ ghost use Rattle.addr2line_resolved.specs.ContextUnits.{ordered_ranges};
 ghost use Rattle.addr2line_resolved.specs.ResolvedUnits.{plain_unit, value_of_unit};
 ghost use Rattle.addr2line_lookups.specs.KeptCalls.{LeavesCalls, kept_calls_of};
 ghost use Rattle.addr2line_lookups.specs.FunctionPlaces.{chain_of};
-ghost use Rattle.addr2line_lookups.specs.KeptUnits.{KeepsAt, KeepsRanges, KeepsAsked, row_at_number, location_of_unit_row, FindsRow, KeepsFound};
+ghost use Rattle.addr2line_lookups.specs.KeptUnits.{KeepsAt, KeepsAsked, ReadsAsked, AsksAmong, row_at_number, location_of_unit_row, FindsRow, KeepsFound};
 ghost use Rattle.addr2line_lookups.specs.LookupCosts.{AtMostLooks, row_probes_at, probes_among};
 
 use addr2line_resolved::{Error, LineRow, Location, Reader, ResUnit, UnitRanges};
@@ -61,6 +61,7 @@ pub(crate) fn find_row_at<R: Reader>(
     ensures kept { result ≢ Err Memory → KeepsAt units.new.items number }
     ensures cost { AtMostLooks (row_probes_at (map value_of_unit units.old.items) probe number)
         units.old.items units.new.items }
+    ensures reads { ReadsAsked (λ n. n ≡ number) units.old.items units.new.items }
     ensures free { KeepsAt units.old.items number → result ≢ Err Memory }
 {
     if number >= units.len() {
@@ -84,13 +85,18 @@ pub(crate) fn find_row<R: Reader>(
     ensures calls { LeavesCalls units.old.items units.new.items }
     ensures found { FindsRow (map plain_unit units.old.items) probe result }
     ensures kept { KeepsFound units.new.items result }
-    ensures asked { result ≢ Err Memory
-        → KeepsAsked probe units.new.items (covering_ranges probe ranges.now) }
+    ensures asked { result ≢ Err Memory → KeepsAsked
+        (AsksAmong (map plain_unit units.old.items) probe (covering_ranges probe ranges.now))
+        units.new.items }
+    ensures reads { ReadsAsked
+        (AsksAmong (map plain_unit units.old.items) probe (covering_ranges probe ranges.now))
+        units.old.items units.new.items }
     ensures cost { AtMostLooks (probes_among
         (row_probes_at (map value_of_unit units.old.items) probe)
         (covering_ranges probe ranges.now)) units.old.items units.new.items }
-    ensures free { KeepsRanges units.old.items (covering_ranges probe ranges.now)
-        → result ≢ Err Memory }
+    ensures free { KeepsAsked
+        (AsksAmong (map plain_unit units.old.items) probe (covering_ranges probe ranges.now))
+        units.old.items → result ≢ Err Memory }
 {
     let mut covering = ranges.covering(probe);
     while let Some(range) = covering.next() {

@@ -16,7 +16,7 @@ ghost use Rattle.addr2line_lookups.specs.FramePlaces.{LendsFrames};
 ghost use Rattle.addr2line_lookups.specs.PassedUnits.{PassFrames, PassUnits, PassLoads};
 ghost use Rattle.addr2line_lookups.specs.UnitLookups.{frames_among, SettlesFrames, unit_among, SettlesUnit, unit_at_number};
 ghost use Rattle.addr2line_resolved.specs.BorrowedFrames.{frames_left};
-ghost use Rattle.addr2line_lookups.specs.KeptUnits.{KeepsAt, KeepsCovering, KeepsFound, KeepsAsked, FindsRow, location_of_unit_row};
+ghost use Rattle.addr2line_lookups.specs.KeptUnits.{KeepsAt, KeepsFound, KeepsAsked, ReadsAsked, ReadsNoLines, IsUnitOf, AsksForRow, AsksForLines, FindsRow, location_of_unit_row};
 ghost use Rattle.addr2line_lookups.specs.RangeWalks.{FindsStretch, KeepsStretch, stretches_left};
 ghost use Rattle.addr2line_lookups.specs.LookupCosts.{AtMostLooks, row_probes_at, frame_probes_at, probes_among};
 ghost use Rattle.addr2line_lookups.specs.UnitParses.{WalksOrNoMemory, check_functions_of, check_calls_of};
@@ -85,17 +85,21 @@ impl<R: Reader> Units<R> {
         self.units.as_slice()
     }
 
-    // The row whose place an address has, with its unit's number. The unit's lines are kept.
+    // The row whose place an address has, with its unit's number. The lines of the units that it
+    // asks are read, unless they are kept, and kept.
     pub fn find_row(&mut self, probe: u64) -> Result<Option<UnitRow>, Error>
         ensures values { map value_of_unit self.new ≡ map value_of_unit self.old }
         ensures calls { LeavesCalls self.old self.new }
         ensures found { FindsRow (map plain_unit self.old) probe result }
         ensures kept { KeepsFound self.new result }
-        ensures asked { result ≢ Err Memory → KeepsAsked probe self.new
-            (covering_ranges probe (ordered_ranges (map plain_unit self.old))) }
+        ensures asked { result ≢ Err Memory
+            → KeepsAsked (AsksForRow (map plain_unit self.old) probe) self.new }
+        ensures reads { ReadsAsked (AsksForRow (map plain_unit self.old) probe)
+            self.old self.new }
         ensures cost { AtMostLooks (probes_among (row_probes_at (map value_of_unit self.old) probe)
             (covering_ranges probe (ordered_ranges (map plain_unit self.old)))) self.old self.new }
-        ensures free { KeepsCovering probe self.old → result ≢ Err Memory }
+        ensures free { KeepsAsked (AsksForRow (map plain_unit self.old) probe) self.old
+            → result ≢ Err Memory }
     {
         let alloc = *self.units.allocator();
         find_row(alloc, &mut self.units, &self.ranges, probe)
@@ -124,12 +128,18 @@ impl<R: Reader> Units<R> {
         next_stretch(alloc, &mut self.units, &self.ranges, walk)
     }
 
-    // Whether the lines of all units can be read, or else the first refusal.
+    // Whether the lines of all units can be read, or else the first refusal. They are read, unless
+    // they are kept, and kept, up to that refusal.
     pub fn check_lines(&mut self) -> Result<(), Error>
         ensures values { map value_of_unit self.new ≡ map value_of_unit self.old }
         ensures calls { LeavesCalls self.old self.new }
         ensures cost { AtMostLooks 0 self.old self.new }
         ensures found { ReturnsOrNoMemory result (all_lines_or_refusal (map plain_unit self.old)) }
+        ensures asked { result ≢ Err Memory
+            → KeepsAsked (AsksForLines (map plain_unit self.old)) self.new }
+        ensures reads { ReadsAsked (AsksForLines (map plain_unit self.old)) self.old self.new }
+        ensures free { KeepsAsked (AsksForLines (map plain_unit self.old)) self.old
+            → result ≢ Err Memory }
     {
         let alloc = *self.units.allocator();
         check_lines(alloc, &mut self.units)
@@ -142,6 +152,7 @@ impl<R: Reader> Units<R> {
             (map value_of_unit self.new) }
         ensures calls { LeavesCalls self.old self.new }
         ensures cost { AtMostLooks 0 self.old self.new }
+        ensures lines { ReadsNoLines self.old self.new }
     {
         let alloc = *self.units.allocator();
         check_functions(alloc, &mut self.units)
@@ -156,6 +167,7 @@ impl<R: Reader> Units<R> {
             (map value_of_unit self.old) (map value_of_unit self.new) }
         ensures calls { HoldCalls (known_among self.new supplement_units.now) self.new }
         ensures cost { AtMostLooks 0 self.old self.new }
+        ensures lines { ReadsNoLines self.old self.new }
     {
         let alloc = *self.units.allocator();
         check_calls(alloc, &mut self.units, supplement_units)
@@ -182,6 +194,7 @@ impl<R: Reader> Units<R> {
             ≡ (result, map value_of_unit self.new) }
         ensures calls { LeavesCalls self.old self.new }
         ensures cost { AtMostLooks 0 self.old self.new }
+        ensures lines { ReadsNoLines self.old self.new }
     {
         let alloc = *self.units.allocator();
         answer_at(alloc, &mut self.units, number, file)
@@ -210,6 +223,8 @@ impl<R: Reader> Units<R> {
         ensures cost { AtMostLooks (probes_among
             (frame_probes_at (known_among self.old supplement_units.now)
             (map value_of_unit self.old) probe)
+            (covering_ranges probe (ordered_ranges (map plain_unit self.old)))) self.old self.new }
+        ensures reads { ReadsAsked (IsUnitOf
             (covering_ranges probe (ordered_ranges (map plain_unit self.old)))) self.old self.new }
         ensures passed { PassFrames (known_among self.old supplement_units.now)
             (map value_of_unit self.old) probe from.new (ordered_ranges (map plain_unit self.old)) }
@@ -245,6 +260,8 @@ impl<R: Reader> Units<R> {
         ensures cost { AtMostLooks (probes_among
             (frame_probes_at (known_among self.old supplement_units.now)
             (map value_of_unit self.old) probe)
+            (covering_ranges probe (ordered_ranges (map plain_unit self.old)))) self.old self.new }
+        ensures reads { ReadsAsked (IsUnitOf
             (covering_ranges probe (ordered_ranges (map plain_unit self.old)))) self.old self.new }
         ensures passed { PassUnits (known_among self.old supplement_units.now)
             (map value_of_unit self.old) probe from.new (ordered_ranges (map plain_unit self.old)) }

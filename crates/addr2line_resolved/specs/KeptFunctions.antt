@@ -1,7 +1,7 @@
 -- The functions of a unit and their calls, as far as they were read and are kept.
 use Rattle.std.specs.Prelude.{◌≡◌, ℕ, List, [], length, replicate, set, slice_get, Option, Some, None, option_map, option_and_then, Result, Ok, Err}
 use Rattle.addr2line_functions.specs.Error.{Error}
-use Rattle.addr2line_functions.specs.Calls.{ReturnsAsOrNoMemory}
+use Rattle.addr2line_functions.specs.Calls.{ReturnsAs, ReturnsAsOrNoMemory}
 use Rattle.addr2line_functions.specs.Lines.{Location}
 use Rattle.addr2line_functions.specs.Functions.{Function, function_number}
 use Rattle.addr2line_functions.specs.InlinedCalls.{FunctionCalls, chain_at}
@@ -115,10 +115,10 @@ kept_function k n =
     (kept_function_in k.functions n)
 
 -- A call found numbers of the calls that hold an address, the outermost first, among calls that are
--- kept, or their refusal, or it was out of memory.
+-- kept, or their refusal, or it was out of memory; none where the calls aren't kept.
 abbrev pub FindsChain : {A : Type 0} → (A → List ℕ) → Option (Result FunctionCalls Error) → ℕ
     → Result A Error → Type 0
-FindsChain see None a result = Unit {0}
+FindsChain see None a result = ReturnsAs see result (Ok [])
 FindsChain see (Some (Err e)) a result = result ≡ Err e
 FindsChain see (Some (Ok c)) a result =
     ReturnsAsOrNoMemory (λ x. calls_of_numbers c.calls (see x)) result (Ok (chain_at c.calls a))

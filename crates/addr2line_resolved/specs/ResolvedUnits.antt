@@ -265,6 +265,10 @@ with_unit_of_header file h units = do
 abbrev pub RunsForRangesAlone : ResolvedUnit → Type 0
 RunsForRangesAlone u = KeepsLines u → u.value.unit.ranges ≡ ranges_of_lines u.value.unit.lines
 
+-- so they are of each of some units
+abbrev pub RunForRangesAlone : List ResolvedUnit → Type 0
+RunForRangesAlone us = AllByRecursion RunsForRangesAlone us
+
 -- a context's units of a file, or the first fault
 abbrev pub new_units : DwarfFile → Result (List AnsweredUnit) Error
 new_units file = do

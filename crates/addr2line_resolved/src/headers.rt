@@ -6,7 +6,7 @@ ghost use Rattle.addr2line_functions.specs.EntryViews.{entry_of};
 ghost use Rattle.addr2line_functions.specs.UnitFacts.{in_file};
 ghost use Rattle.addr2line_functions.specs.Contexts.{is_of_types, facts_of_code_unit};
 ghost use Rattle.addr2line_units.specs.ArangeIndexes.{IsIndexOf};
-ghost use Rattle.addr2line_resolved.specs.ResolvedUnits.{HasRoot, value_of_unit, with_new_unit, with_unit_of_header, KeepNoFunctions};
+ghost use Rattle.addr2line_resolved.specs.ResolvedUnits.{HasRoot, value_of_unit, with_new_unit, with_unit_of_header, KeepNoFunctions, RunForRangesAlone};
 
 use crate::load::share;
 use crate::owned_unit::OwnedUnit;
@@ -54,6 +54,8 @@ pub(crate) fn push_context_unit<R: Reader>(
     requires { IsIndexOf sections.now.value.file aranges.now }
     ensures units { ReturnsAsOrNoMemory (λ _. map value_of_unit units.new.items) result
         (with_unit_of_header sections.now.value.file header (map value_of_unit units.old.items)) }
+    ensures lines { OnOk result
+        (RunForRangesAlone units.old.items → RunForRangesAlone units.new.items) }
     ensures functions { OnOk result
         (KeepNoFunctions units.old.items → KeepNoFunctions units.new.items) }
 {
@@ -75,6 +77,8 @@ fn push_unit<R: Reader>(
     requires root { HasRoot main (entry_of R.view R.Offset.count entry.now) }
     ensures units { ReturnsAsOrNoMemory (λ _. map value_of_unit units.new.items) result
         (with_new_unit main (map value_of_unit units.old.items)) }
+    ensures lines { OnOk result
+        (RunForRangesAlone units.old.items → RunForRangesAlone units.new.items) }
     ensures functions { OnOk result
         (KeepNoFunctions units.old.items → KeepNoFunctions units.new.items) }
 {

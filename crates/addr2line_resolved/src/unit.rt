@@ -313,9 +313,10 @@ impl<R: Reader> ResUnit<R> {
             (and_then self.old.value.unit.lines (λ lines. Ok tt)) }
         ensures kept { result ≢ Err Memory → KeepsLines self.new }
         ensures more { KeepsLines self.old → KeepsLines self.new }
+        ensures free { KeepsLines self.old → result ≢ Err Memory }
     {
         self.read_lines(alloc)?;
-        match self.kept_lines() {
+        match self.lines.result() {
             Some(Err(error)) => Err(*error),
             _ => Ok(()),
         }

@@ -3,7 +3,7 @@
 ghost use Rattle.std.specs.Prelude.{IfOk, map};
 ghost use Rattle.addr2line_functions.specs.Calls.{ReturnsAsOrNoMemory};
 ghost use Rattle.addr2line_units.specs.ArangeIndexes.{IsIndexOf};
-ghost use Rattle.addr2line_resolved.specs.ResolvedUnits.{value_of_unit, new_units, KeepNoFunctions};
+ghost use Rattle.addr2line_resolved.specs.ResolvedUnits.{value_of_unit, new_units, KeepNoFunctions, RunForRangesAlone};
 
 use crate::headers::push_context_unit;
 use crate::unit::ResUnit;
@@ -12,7 +12,8 @@ use std::alloc::Global;
 use std::rc::Rc;
 
 /// A context's units of a file. Refused by the first refusal of such a unit's ranges, or by a
-/// header that can't be read, which ends the units. No functions are read.
+/// header that can't be read, which ends the units. The lines of a unit are read only where its
+/// ranges are those of its lines, and no functions are.
 pub fn units_of_file<R: Reader>(
     alloc: Global,
     sections: &Rc<Dwarf<R>>,
@@ -21,6 +22,7 @@ pub fn units_of_file<R: Reader>(
     requires { IsIndexOf sections.now.value.file aranges.now }
     ensures units { ReturnsAsOrNoMemory (λ units. map value_of_unit units.items) result
         (new_units sections.now.value.file) }
+    ensures lines { IfOk result (λ units. RunForRangesAlone units.items) }
     ensures functions { IfOk result (λ units. KeepNoFunctions units.items) }
 {
     let mut units = Vec::new(alloc);

@@ -1,6 +1,7 @@
-use Rattle.std.proofs.Common.{map, refl, arith}
+use Rattle.std.proofs.Common.{◌≡◌, map, refl, arith}
 use Rattle.addr2line_resolved.specs.ResolvedUnits.{value_of_unit}
 use Rattle.addr2line_lookups.specs.KeptCalls.{known_among}
+use Rattle.addr2line_lookups.proofs.AskedLines.{reads_none}
 use Rattle.addr2line_lookups.proofs.FoundFrames.{none_past}
 use Rattle.addr2line_lookups.proofs.UnitProbes.{looks_none}
 use Rattle.addr2line_lookups.proofs.frame_place.find_frames_at.Goals as goal
@@ -15,6 +16,7 @@ returns-then-number-len g c =
           none_past (known_among us c.args.supplement_units.now) c.args.probe c.args.number us (map value_of_unit us)
           refl (omega arith);
       cost = looks_none _ us;
+      reads = reads_none (λ n. n ≡ c.args.number) us;
     }
 
 pub find_place_at-requires : goal.find_place_at-requires

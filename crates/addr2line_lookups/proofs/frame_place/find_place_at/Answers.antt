@@ -1,4 +1,4 @@
-use Rattle.std.proofs.Common.{ℕ, List, map, Option, Ok, sym, ap, ◌∙◌, subst}
+use Rattle.std.proofs.Common.{◌≡◌, ℕ, List, map, Option, Ok, sym, ap, ◌∙◌, subst}
 use Rattle.std.proofs.lemmas.Result.{err_from_is_err_and}
 use Rattle.addr2line_resolved.specs.Contexts.{ContextUnit}
 use Rattle.addr2line_resolved.specs.ResolvedUnits.{value_of_unit}
@@ -8,7 +8,7 @@ use Rattle.addr2line_lookups.specs.KeptCalls.{known_among}
 use Rattle.addr2line_lookups.specs.FunctionPlaces.{function_with_calls_at, chain_of, FindsFunction}
 use Rattle.addr2line_lookups.specs.FramePlaces.{frames_at_number, FindsFrames}
 use Rattle.addr2line_lookups.proofs.KeptLines.{same_plain}
-use Rattle.addr2line_lookups.proofs.AskedLines.{no_refusal}
+use Rattle.addr2line_lookups.proofs.AskedLines.{no_refusal, reads_nothing, reads_after}
 use Rattle.addr2line_lookups.proofs.CallsOfUnits.{hold_same}
 use Rattle.addr2line_lookups.proofs.FoundFrames.{function_refuses, found_function, lines_refuse, function_stays, frames_found}
 use Rattle.addr2line_lookups.proofs.LookupProbes.{looks_without_row, looks_for_frames}
@@ -23,6 +23,8 @@ returns-in_err-function g c =
     record {
       values = refused.values;
       calls = refused.calls;
+      reads =
+          reads_nothing (λ n. n ≡ c.args.number) us c.find_function_at.new.units.items refused.lines;
       found =
           rw (p.1, p.2) (λ m.
           function_refuses known c.args.probe c.args.number (map value_of_unit us) _ (refused.found m));
@@ -50,6 +52,7 @@ returns-in_err-row g c =
     record {
       values = refused.values ∙ found.values;
       calls = hold_same known ws xs refused.values refused.same found.calls;
+      reads = reads_after (λ m. m ≡ n) us ws xs found.lines refused.reads;
       found = rw (p.1, p.2) (λ m. lines_refuse known a n ws vs found.values f.0 _ f.1 (refused.found m));
       cost =
           looks_for_frames us ws xs found.values c.args.supplement_units.now a n known found.cost refused.cost;
@@ -75,6 +78,7 @@ returns g c =
     record {
       values = rows.values ∙ found.values;
       calls = hold_same known ws xs rows.values rows.same found.calls;
+      reads = reads_after (λ m. m ≡ n) us ws xs found.lines rows.reads;
       found =
           subst P (sym c.place_if_any.ensures)
           (frames_found known a n xs vs (rows.values ∙ found.values) (rows.kept (no_refusal row)) function row

@@ -6,11 +6,13 @@ use Rattle.addr2line_resolved.specs.KeptFunctions.{kept_at, FindsChain}
 use Rattle.addr2line_resolved.specs.ResolvedUnits.{ResolvedUnit, AnsweredUnit, value_of_unit}
 use Rattle.addr2line_lookups.specs.KeptCalls.{known_among, kept_calls_of}
 use Rattle.addr2line_lookups.specs.FunctionPlaces.{function_calls_at, FindsCalls}
+use Rattle.addr2line_lookups.proofs.AskedLines.{no_lines_set, no_lines_both}
 use Rattle.addr2line_lookups.proofs.KeptLines.{same_length}
 use Rattle.addr2line_lookups.proofs.UnitRows.{same_values}
 use Rattle.addr2line_lookups.proofs.CallsOfUnits.{value_here, if_here, holds_here, set_here, holds_set, holds_same, chain_set}
 use Rattle.addr2line_lookups.proofs.FoundFunctions.{calls_found}
 use Rattle.addr2line_lookups.specs.LookupCosts.{chain_probes_at}
+use Rattle.addr2line_lookups.proofs.KeptFunctionLists.{functions_same}
 use Rattle.addr2line_lookups.proofs.UnitProbes.{looks_after, looks_more}
 use Rattle.addr2line_lookups.proofs.LookupProbes.{looks_for_chain}
 use Rattle.addr2line_lookups.proofs.function_place.find_calls.Goals as goal
@@ -64,7 +66,12 @@ returns g c =
           (holds_here ws n u below is known settled.calls) has (record {
             probes = c.find_chain.ensures.cost;
             more = λ kept. ap (λ (x : ResolvedUnit). x.keeps_lines) c.find_chain.ensures.unit ∙ kept;
+            functions =
+                functions_same u new (ap (λ (x : ResolvedUnit). x.keeps_functions) c.find_chain.ensures.unit) calls;
           }));
+      lines =
+          no_lines_both us ws (set ws n new) settled.lines
+          (no_lines_set ws n u is new (ap (λ (x : ResolvedUnit). x.keeps_lines) c.find_chain.ensures.unit));
     }
 
 pub returns-in_err-keep_calls : goal.returns-in_err-keep_calls
@@ -76,4 +83,5 @@ returns-in_err-keep_calls g c =
       calls = refused.calls;
       found = rw (p.1, p.2) (λ m. absurd (m refused.refusal));
       cost = looks_more _ c.args.units.now.items c.keep_calls.new.units.items refused.cost;
+      lines = refused.lines;
     }

@@ -6,6 +6,7 @@ use Rattle.addr2line_resolved.specs.EntryReferences.{KnownUnits}
 use Rattle.addr2line_resolved.specs.ResolvedUnits.{value_of_unit}
 use Rattle.addr2line_lookups.specs.KeptCalls.{known_among, HoldCalls}
 use Rattle.addr2line_lookups.specs.FunctionPlaces.{HasFunctionAt, HoldsChain, chain_of}
+use Rattle.addr2line_lookups.proofs.AskedLines.{no_lines_both}
 use Rattle.addr2line_lookups.proofs.KeptLines.{same_length}
 use Rattle.addr2line_lookups.proofs.CallsLeft.{known_same}
 use Rattle.addr2line_lookups.proofs.FoundFunctions.{ok_number, refused_functions, none_there, refused_calls, same_function_calls, function_found}
@@ -36,6 +37,7 @@ returns-in_err-function g c =
     record {
       values = refused.values;
       calls = refused.calls known c.requires.calls;
+      lines = refused.lines;
       found =
           rw (p.1, p.2) (λ m.
           refused_functions known c.args.probe c.args.number (map value_of_unit us) _ (refused.number m));
@@ -52,6 +54,7 @@ returns-in_default g c =
     record {
       values = found.values;
       calls = found.calls known c.requires.calls;
+      lines = found.lines;
       found =
           none_there known c.args.probe c.args.number (map value_of_unit us)
           (found.number ∙ ap ok_number c.in_default.is);
@@ -77,6 +80,7 @@ returns-in_err-find_calls g c =
     record {
       values = refused.values ∙ found.values;
       calls = subst P (known_same us ws found.values s) refused.calls;
+      lines = no_lines_both us ws xs found.lines refused.lines;
       found =
           rw (p.1, p.2) (λ m.
           refused_calls known c.args.probe n (map value_of_unit us) k _ (found.number ∙ ap ok_number c.in-Some.is)
@@ -104,6 +108,7 @@ returns g c =
     record {
       values = calls.values ∙ found.values;
       calls = subst P (known_same us ws found.values s) calls.calls;
+      lines = no_lines_both us ws xs found.lines calls.lines;
       found =
           function_found known a n xs (map value_of_unit us) k chain (calls.values ∙ found.values)
           (found.number ∙ ap ok_number c.in-Some.is)

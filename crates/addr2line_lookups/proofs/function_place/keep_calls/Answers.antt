@@ -3,12 +3,14 @@ use Rattle.std.proofs.lemmas.Result.{on_ok_weaker}
 use Rattle.addr2line_resolved.specs.Calls.{ReturnsAsOrNoMemory}
 use Rattle.addr2line_resolved.specs.CountedFunctions.{CountedCalls}
 use Rattle.addr2line_resolved.specs.OrderedUnits.{AreKnownInOrder}
-use Rattle.addr2line_resolved.specs.KeptFunctions.{kept_at}
+use Rattle.addr2line_resolved.specs.KeptFunctions.{kept_at, plain_calls}
 use Rattle.addr2line_resolved.specs.ResolvedUnits.{ResolvedUnit}
 use Rattle.addr2line_lookups.specs.KeptCalls.{known_among, calls_among}
 use Rattle.addr2line_lookups.specs.FunctionPlaces.{HasFunction}
+use Rattle.addr2line_lookups.proofs.AskedLines.{no_lines_set}
 use Rattle.addr2line_lookups.proofs.UnitRows.{same_values}
 use Rattle.addr2line_lookups.proofs.CallsOfUnits.{if_here, if_there, same_unit, holds_here, holds_set, kept_set, same_count, holds_kept, value_kept, length_kept, counts_kept, keeps_kept, kept_there, not_kept}
+use Rattle.addr2line_lookups.proofs.KeptFunctionLists.{functions_called}
 use Rattle.addr2line_lookups.proofs.UnitProbes.{looks_none, looks_set, looks_nowhere}
 use Rattle.addr2line_lookups.proofs.function_place.keep_calls.Goals as goal
 
@@ -27,6 +29,7 @@ returns-then-is_some g c =
           c.if-is_some.true);
       same = λ kept. refl;
       cost = looks_none 0 us;
+      lines = λ m before. before;
       refusal = tt;
     }
 
@@ -70,6 +73,7 @@ returns g c =
     let r = c.keep_calls.result in
     let kept = c.keep_calls.ensures in
     let below = c.requires.unit in
+    let counts = counts_kept known u new k read r kept.ok kept.err in
     let P : List ResolvedUnit → Type 0 = λ l.
     ReturnsAsOrNoMemory (λ (x : CountedCalls). x.function) read
     (calls_among (known_among l s) c.index-unit.result.now.value k) in
@@ -96,7 +100,9 @@ returns g c =
           (if_here us n c.index-unit.result.now below c.index-unit.ensures (λ w. is_some (kept_at w.calls k) ≡ true)
           before));
       cost =
-          let counts = counts_kept known u new k read r kept.ok kept.err in
-          looks_set us n u below is new 0 (looks_nowhere u new counts.0 counts.1);
+          looks_set us n u below is new 0
+          (looks_nowhere u new counts.0 counts.1
+          (functions_called u new k (plain_calls read) r kept.ok kept.err));
+      lines = no_lines_set us n u is new counts.1;
       refusal = kept.refusal;
     }

@@ -1,4 +1,5 @@
 use Rattle.std.proofs.Common.{◌<◌, length, arith}
+use Rattle.addr2line_lookups.proofs.AskedLines.{no_lines_set}
 use Rattle.addr2line_lookups.proofs.CallsOfUnits.{leaves_calls, is_decided}
 use Rattle.addr2line_lookups.proofs.AnsweredLoads.{answer_there, answer_is}
 use Rattle.addr2line_lookups.proofs.UnitProbes.{looks_set}
@@ -20,4 +21,5 @@ returns g c =
           (c.answer_unit.ensures.decided (is_decided us n unit below c.index_mut-unit.ensures.value none));
       calls = leaves_calls us n unit below c.index_mut-unit.ensures.value new c.answer_unit.ensures.calls;
       cost = looks_set us n unit below c.index_mut-unit.ensures.value new 0 c.answer_unit.ensures.cost;
+      lines = no_lines_set us n unit c.index_mut-unit.ensures.value new c.answer_unit.ensures.lines;
     }

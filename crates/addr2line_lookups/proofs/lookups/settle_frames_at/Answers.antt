@@ -1,9 +1,10 @@
-use Rattle.std.proofs.Common.{map, subst, Option, Ok, []}
+use Rattle.std.proofs.Common.{◌≡◌, map, subst, Option, Ok, []}
 use Rattle.std.proofs.lemmas.Result.{err_from_is_err_and}
 use Rattle.addr2line_resolved.specs.ResolvedUnits.{value_of_unit}
 use Rattle.addr2line_lookups.specs.KeptCalls.{known_among}
 use Rattle.addr2line_lookups.specs.FramePlaces.{FindsFrames, frames_of_answered, frames_at_number}
 use Rattle.addr2line_lookups.specs.declared.frame_place.FramePlace.{FramePlace}
+use Rattle.addr2line_lookups.proofs.AskedLines.{reads_none}
 use Rattle.addr2line_lookups.proofs.SettledUnits.{waits_here, decided_here, frames_decided, output_of}
 use Rattle.addr2line_lookups.proofs.lookups.settle_frames_at.Goals as goal
 
@@ -17,6 +18,9 @@ returns-then-waits_at-clause-found g c =
     waits_here us c.deref.result.now c.args.number c.deref.ensures.value
     (frames_of_answered (known_among us c.args.supplement_units.now) c.args.probe) (Ok []) c.if-waits_at.ensures
 
+pub returns-then-waits_at-clause-reads : goal.returns-then-waits_at-clause-reads
+returns-then-waits_at-clause-reads g c = reads_none (λ n. n ≡ c.args.number) c.args.units.now.items
+
 pub returns-in_err-place : goal.returns-in_err-place
 returns-in_err-place g c =
     let p = err_from_is_err_and c.from_residual.result c.from_residual.ensures.1 in
@@ -28,6 +32,7 @@ returns-in_err-place g c =
       values = c.in_err-place.ensures.values;
       calls = c.in_err-place.ensures.calls;
       cost = c.in_err-place.ensures.cost;
+      reads = c.in_err-place.ensures.reads;
       found =
           rw (p.1, p.2) (λ m.
           output_of _ _ _ (frames_decided known vs c.args.probe c.args.number decided)
@@ -47,6 +52,7 @@ returns-in-Some g c =
       values = c.in_ok-place.ensures.values;
       calls = c.in_ok-place.ensures.calls;
       cost = c.in_ok-place.ensures.cost;
+      reads = c.in_ok-place.ensures.reads;
       found = record {
         answer = answer;
         is_found = frames_decided known vs c.args.probe c.args.number decided;
@@ -67,6 +73,7 @@ returns-in-None g c =
       values = c.in_ok-place.ensures.values;
       calls = c.in_ok-place.ensures.calls;
       cost = c.in_ok-place.ensures.cost;
+      reads = c.in_ok-place.ensures.reads;
       found =
           output_of _ _ _ (frames_decided known vs c.args.probe c.args.number decided)
           (subst found c.in-None.is c.in_ok-place.ensures.found);

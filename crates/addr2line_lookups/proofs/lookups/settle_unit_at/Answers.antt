@@ -1,9 +1,10 @@
-use Rattle.std.proofs.Common.{map, subst, Option, None, Ok}
+use Rattle.std.proofs.Common.{◌≡◌, map, subst, Option, None, Ok}
 use Rattle.addr2line_resolved.specs.ResolvedUnits.{value_of_unit}
 use Rattle.addr2line_lookups.specs.KeptCalls.{known_among}
 use Rattle.addr2line_lookups.specs.FramePlaces.{FindsFrames, frames_at_number}
 use Rattle.addr2line_lookups.specs.UnitLookups.{unit_of_answered}
 use Rattle.addr2line_lookups.specs.declared.frame_place.FramePlace.{FramePlace}
+use Rattle.addr2line_lookups.proofs.AskedLines.{reads_none}
 use Rattle.addr2line_lookups.proofs.SettledUnits.{waits_here, decided_here, unit_with_frames, unit_without_frames, unit_is_there, no_frames_has, refused_has, has_some_frames}
 use Rattle.addr2line_lookups.proofs.lookups.settle_unit_at.Goals as goal
 
@@ -16,6 +17,9 @@ returns-then-waits_at-clause-found g c =
     let us = c.args.units.now.items in
     waits_here us c.deref.result.now c.args.number c.deref.ensures.value
     (unit_of_answered (known_among us c.args.supplement_units.now) c.args.probe) None c.if-waits_at.ensures
+
+pub returns-then-waits_at-clause-reads : goal.returns-then-waits_at-clause-reads
+returns-then-waits_at-clause-reads g c = reads_none (λ n. n ≡ c.args.number) c.args.units.now.items
 
 pub returns-in-Ok-Some : goal.returns-in-Ok-Some
 returns-in-Ok-Some g c =
@@ -32,6 +36,7 @@ returns-in-Ok-Some g c =
       values = c.in-Ok-Some.ensures.values;
       calls = c.in-Ok-Some.ensures.calls;
       cost = c.in-Ok-Some.ensures.cost;
+      reads = c.in-Ok-Some.ensures.reads;
       found = record {
         is_found = unit_with_frames known vs c.args.probe n decided has;
         is_one = unit_is_there known vs c.args.probe n decided has;
@@ -52,6 +57,7 @@ returns-in-Ok-None g c =
       values = c.in-Ok-None.ensures.values;
       calls = c.in-Ok-None.ensures.calls;
       cost = c.in-Ok-None.ensures.cost;
+      reads = c.in-Ok-None.ensures.reads;
       found =
           unit_without_frames known vs c.args.probe n decided
           (no_frames_has answer (subst found c.in-Ok-None.field-0-is c.in-Ok-None.ensures.found));
@@ -69,6 +75,7 @@ returns-in_default g c =
       values = c.in-Err.ensures.values;
       calls = c.in-Err.ensures.calls;
       cost = c.in-Err.ensures.cost;
+      reads = c.in-Err.ensures.reads;
       found =
           unit_without_frames known vs c.args.probe n decided
           (refused_has answer c.in-Err.error (c.in-Err.ensures.found (λ m. c.in_default.not-Memory m)));

@@ -5,13 +5,15 @@ use Rattle.addr2line_resolved.specs.EntryReferences.{KnownUnits}
 use Rattle.addr2line_resolved.specs.ResolvedUnits.{value_of_unit, plain_unit}
 use Rattle.addr2line_lookups.specs.KeptCalls.{known_among, HoldCalls}
 use Rattle.addr2line_lookups.specs.UnitParses.{ChecksOrNoMemory, check_unit_at, check_calls_of}
+use Rattle.addr2line_lookups.proofs.AskedLines.{no_lines_none, no_lines_both}
 use Rattle.addr2line_lookups.proofs.CallsLeft.{same_known}
 use Rattle.addr2line_lookups.proofs.UnitWalks.{walk_goes_on, walk_refused, walk_ends, plain_so_far, plain_after_turn}
 use Rattle.addr2line_lookups.proofs.UnitProbes.{looks_none, looks_after}
 use Rattle.addr2line_lookups.proofs.parsing_calls.check_calls.Goals as goal
 
 pub loop-number-init : goal.loop-number-init
-loop-number-init g c = (refl, c.requires, looks_none 0 c.args.units.now.items)
+loop-number-init g c =
+    let us = c.args.units.now.items in (refl, c.requires, looks_none 0 us, no_lines_none us)
 
 pub loop-number-smaller : goal.loop-number-smaller
 loop-number-smaller g c =
@@ -51,6 +53,7 @@ loop-number-preserved g c =
           (subst P known c.in_ok-parse_unit_at.ensures.found),
       subst (λ (k : KnownUnits). HoldCalls k ws) known c.in_ok-parse_unit_at.ensures.calls,
       looks_after 0 us vs ws c.loop-number.invariant.2 c.in_ok-parse_unit_at.ensures.cost,
+      no_lines_both us vs ws c.loop-number.invariant.3 c.in_ok-parse_unit_at.ensures.lines,
     )
 
 pub returns-in_err-parse_unit_at : goal.returns-in_err-parse_unit_at
@@ -74,6 +77,7 @@ returns-in_err-parse_unit_at g c =
           c.in_err-parse_unit_at.ensures.values (subst P known c.in_err-parse_unit_at.ensures.found);
       calls = subst (λ (k : KnownUnits). HoldCalls k ws) (sym turn) c.in_err-parse_unit_at.ensures.calls;
       cost = looks_after 0 us vs ws c.loop-number.invariant.2 c.in_err-parse_unit_at.ensures.cost;
+      lines = no_lines_both us vs ws c.loop-number.invariant.3 c.in_err-parse_unit_at.ensures.lines;
     }
 
 pub returns : goal.returns
@@ -92,4 +96,5 @@ returns g c =
           (sym (same_known us vs s (plain_so_far check n us vs c.loop-number.invariant.0)))
           c.loop-number.invariant.1;
       cost = c.loop-number.invariant.2;
+      lines = c.loop-number.invariant.3;
     }

@@ -5,6 +5,7 @@ use Rattle.addr2line_resolved.specs.EntryReferences.{KnownUnits}
 use Rattle.addr2line_resolved.specs.ResolvedUnits.{value_of_unit}
 use Rattle.addr2line_lookups.specs.KeptCalls.{known_among, HoldCalls}
 use Rattle.addr2line_lookups.specs.UnitParses.{ChecksOrNoMemory, check_unit_at, check_calls_of}
+use Rattle.addr2line_lookups.proofs.AskedLines.{no_lines_none, no_lines_both}
 use Rattle.addr2line_lookups.proofs.KeptLines.{same_length}
 use Rattle.addr2line_lookups.proofs.UnitTurns.{no_check_past}
 use Rattle.addr2line_lookups.proofs.CallsOfUnits.{count_here}
@@ -17,6 +18,9 @@ returns-then-number-len-clause-found g c =
     no_check_past c.args.units.now.items c.args.number
     (check_calls_of (known_among c.args.units.now.items c.args.supplement_units.now)) (omega arith)
 
+pub returns-then-number-len-clause-lines : goal.returns-then-number-len-clause-lines
+returns-then-number-len-clause-lines g c = no_lines_none c.args.units.now.items
+
 pub loop-function-init : goal.loop-function-init
 loop-function-init g c =
     let us = c.args.units.now.items in
@@ -27,6 +31,7 @@ loop-function-init g c =
       count_here us n c.index.result.now below c.index.ensures ∙ sym c.function_count-count.ensures.calls,
       λ m less. absurd (omega (arith, less)),
       looks_none 0 us,
+      no_lines_none us,
     )
 
 pub parse_calls_of-requires : goal.parse_calls_of-requires
@@ -60,6 +65,7 @@ loop-function-preserved g c =
       pass_further s us n f c.loop-function.invariant.3
           (checked_now s us n vs c.loop-function.invariant.0 f (Ok tt) c.in_ok-parse_calls_of.ensures.found),
       looks_after 0 us vs ws c.loop-function.invariant.4 c.in_ok-parse_calls_of.ensures.cost,
+      no_lines_both us vs ws c.loop-function.invariant.5 c.in_ok-parse_calls_of.ensures.lines,
     )
 
 pub returns-in_err-parse_calls_of : goal.returns-in_err-parse_calls_of
@@ -82,6 +88,7 @@ returns-in_err-parse_calls_of g c =
       values = c.in_err-parse_calls_of.ensures.values ∙ c.loop-function.invariant.0;
       calls = subst (λ (k : KnownUnits). HoldCalls k ws) known c.in_err-parse_calls_of.ensures.calls;
       cost = looks_after 0 us vs ws c.loop-function.invariant.4 c.in_err-parse_calls_of.ensures.cost;
+      lines = no_lines_both us vs ws c.loop-function.invariant.5 c.in_err-parse_calls_of.ensures.lines;
       found =
           subst P (sym (p.1 ∙ ap Err p.2))
           (refused_at s us n u below c.index.ensures c.function_count-count.result count f _ c.loop-function-test.true
@@ -102,6 +109,7 @@ returns g c =
       values = c.loop-function.invariant.0;
       calls = c.loop-function.invariant.1;
       cost = c.loop-function.invariant.4;
+      lines = c.loop-function.invariant.5;
       found =
           all_checked s us n u below c.index.ensures c.function_count-count.result count c.loop-function.function
           (omega (arith, c.loop-function-test.false)) c.requires.readable c.loop-function.invariant.3;

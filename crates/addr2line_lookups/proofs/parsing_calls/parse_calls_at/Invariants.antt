@@ -1,6 +1,8 @@
--- The calls of the functions before a number can be read, what is kept is the definition's, and nothing was looked at.
+-- The calls of the functions before a number can be read, what is kept is the definition's, nothing was looked at, and
+-- no lines were read.
 use Rattle.std.proofs.Common.{◌≡◌, ◌-◌, map}
 use Rattle.addr2line_resolved.specs.ResolvedUnits.{value_of_unit}
+use Rattle.addr2line_lookups.specs.KeptUnits.{ReadsNoLines}
 use Rattle.addr2line_lookups.specs.KeptCalls.{known_among, HoldCalls}
 use Rattle.addr2line_lookups.specs.FunctionPlaces.{count_at}
 use Rattle.addr2line_lookups.proofs.KeptCallsAt.{PassBelow}
@@ -14,6 +16,7 @@ invariant-loop-function g l =
     × (count_at l.units.items l.number ≡ l.count)
     × PassBelow l.supplement_units l.fn.units.items l.number l.function
     × AtMostLooks 0 l.fn.units.items l.units.items
+    × ReadsNoLines l.fn.units.items l.units.items
 
 abbrev pub decreases-loop-function : goal.decreases-loop-function
 decreases-loop-function g l = l.count - l.function

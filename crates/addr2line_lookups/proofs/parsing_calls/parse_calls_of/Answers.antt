@@ -14,6 +14,7 @@ returns-in_err-keep_calls g c =
       calls = c.in_err-keep_calls.ensures.calls;
       count = c.in_err-keep_calls.ensures.count;
       cost = c.in_err-keep_calls.ensures.cost;
+      lines = c.in_err-keep_calls.ensures.lines;
       found = inr (p.1 ∙ ap Err (p.2 ∙ c.in_err-keep_calls.ensures.refusal));
     }
 
@@ -41,6 +42,7 @@ returns g c =
       calls = c.in_ok-keep_calls.ensures.calls;
       count = c.in_ok-keep_calls.ensures.count;
       cost = c.in_ok-keep_calls.ensures.cost;
+      lines = c.in_ok-keep_calls.ensures.lines;
       found =
           call_checked (known_among us c.args.supplement_units.now) us vs c.args.number c.args.function
           c.index.result.now c.check_kept.result c.in_ok-keep_calls.ensures.values below c.index.ensures

@@ -5,6 +5,7 @@ use Rattle.addr2line_resolved.specs.EntryReferences.{KnownUnits}
 use Rattle.addr2line_resolved.specs.ResolvedUnits.{AnsweredUnit, value_of_unit}
 use Rattle.addr2line_lookups.specs.KeptCalls.{known_among, HoldCalls}
 use Rattle.addr2line_lookups.specs.UnitParses.{ChecksOrNoMemory, check_unit_at, check_calls_of}
+use Rattle.addr2line_lookups.proofs.AskedLines.{no_lines_both}
 use Rattle.addr2line_lookups.proofs.UnitWalks.{plain_after_turn}
 use Rattle.addr2line_lookups.proofs.CallsLeft.{same_known}
 use Rattle.addr2line_lookups.proofs.KeptCallsAt.{functions_refused_at, readable_of}
@@ -38,6 +39,7 @@ returns-in_err-parse_functions_at g c =
       values = c.in_err-parse_functions_at.ensures.values;
       calls = c.in_err-parse_functions_at.ensures.calls (known_among us s) c.requires;
       cost = c.in_err-parse_functions_at.ensures.cost;
+      lines = c.in_err-parse_functions_at.ensures.lines;
       found =
           subst P (sym (p.1 ∙ ap Err p.2))
           (functions_refused_at (known_among us s) (map value_of_unit vs) c.args.number _
@@ -61,5 +63,6 @@ returns g c =
       values = c.parse_calls_at.ensures.values ∙ c.in_ok-parse_functions_at.ensures.values;
       calls = subst (λ (k : KnownUnits). HoldCalls k ws) known c.parse_calls_at.ensures.calls;
       cost = looks_after 0 us vs ws c.in_ok-parse_functions_at.ensures.cost c.parse_calls_at.ensures.cost;
+      lines = no_lines_both us vs ws c.in_ok-parse_functions_at.ensures.lines c.parse_calls_at.ensures.lines;
       found = subst Q (sym c.parse_calls_at.ensures.values) (subst P known c.parse_calls_at.ensures.found);
     }

@@ -3,13 +3,15 @@ use Rattle.std.proofs.lemmas.Result.{err_from_is_err_and}
 use Rattle.std.proofs.lemmas.List.{length-map}
 use Rattle.addr2line_resolved.specs.ResolvedUnits.{value_of_unit}
 use Rattle.addr2line_lookups.specs.UnitParses.{check_functions_of}
+use Rattle.addr2line_lookups.proofs.AskedLines.{no_lines_none, no_lines_both}
 use Rattle.addr2line_lookups.proofs.CallsLeft.{leaves_none, leaves_both}
 use Rattle.addr2line_lookups.proofs.UnitWalks.{walk_goes_on, walk_ends, walk_refused}
 use Rattle.addr2line_lookups.proofs.UnitProbes.{looks_none, looks_after}
 use Rattle.addr2line_lookups.proofs.parsing_functions.check_functions.Goals as goal
 
 pub loop-number-init : goal.loop-number-init
-loop-number-init g c = (refl, leaves_none c.args.units.now.items, looks_none 0 c.args.units.now.items)
+loop-number-init g c =
+    let us = c.args.units.now.items in (refl, leaves_none us, looks_none 0 us, no_lines_none us)
 
 pub loop-number-preserved : goal.loop-number-preserved
 loop-number-preserved g c =
@@ -21,6 +23,7 @@ loop-number-preserved g c =
           c.in_ok-parse_functions_at.ensures.found,
       leaves_both us vs ws c.loop-number.invariant.1 c.in_ok-parse_functions_at.ensures.calls,
       looks_after 0 us vs ws c.loop-number.invariant.2 c.in_ok-parse_functions_at.ensures.cost,
+      no_lines_both us vs ws c.loop-number.invariant.3 c.in_ok-parse_functions_at.ensures.lines,
     )
 
 pub returns-in_err-parse_functions_at : goal.returns-in_err-parse_functions_at
@@ -36,6 +39,7 @@ returns-in_err-parse_functions_at g c =
           c.in_err-parse_functions_at.ensures.values c.in_err-parse_functions_at.ensures.found;
       calls = leaves_both us vs ws c.loop-number.invariant.1 c.in_err-parse_functions_at.ensures.calls;
       cost = looks_after 0 us vs ws c.loop-number.invariant.2 c.in_err-parse_functions_at.ensures.cost;
+      lines = no_lines_both us vs ws c.loop-number.invariant.3 c.in_err-parse_functions_at.ensures.lines;
     }
 
 pub returns : goal.returns
@@ -48,4 +52,5 @@ returns g c =
           c.loop-number.invariant.0 (omega (arith, length-map vs value_of_unit));
       calls = c.loop-number.invariant.1;
       cost = c.loop-number.invariant.2;
+      lines = c.loop-number.invariant.3;
     }

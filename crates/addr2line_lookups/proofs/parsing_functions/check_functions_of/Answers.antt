@@ -5,6 +5,7 @@ use Rattle.addr2line_lookups.specs.UnitParses.{check_functions_of}
 use Rattle.addr2line_lookups.proofs.CallsLeft.{leaves_functions, leaves_value}
 use Rattle.addr2line_lookups.proofs.UnitCalls.{on_ok_always}
 use Rattle.addr2line_lookups.proofs.CallsOfUnits.{value_left, functions_kept, counts_left}
+use Rattle.addr2line_lookups.proofs.KeptFunctionLists.{functions_read}
 use Rattle.addr2line_lookups.proofs.UnitProbes.{looks_nowhere, looks_unchanged}
 use Rattle.addr2line_lookups.proofs.parsing_functions.check_functions_of.Goals as goal
 
@@ -21,6 +22,7 @@ returns-in_err-read_functions g c =
           leaves_value old new (ap (λ (u : ResolvedUnit). u.value) c.in_err-read_functions.ensures.err)
           (ap (λ (u : ResolvedUnit). u.calls) c.in_err-read_functions.ensures.err);
       cost = looks_unchanged 0 old new c.in_err-read_functions.ensures.err;
+      lines = ap (λ (u : ResolvedUnit). u.keeps_lines) c.in_err-read_functions.ensures.err;
     }
 
 pub returns : goal.returns
@@ -29,10 +31,12 @@ returns g c =
     let new = c.read_functions.new.self in
     let read = c.in_ok-read_functions.ensures.ok in
     let kept = functions_kept old new read in
+    let counts = counts_left old new read in
     record {
       value = value_left old new read;
       found = inl (ap check_functions_of (sym (value_left old new read)) ∙ c.check_kept.ensures kept);
       kept = on_ok_always c.check_kept.result kept;
       calls = leaves_functions old new read;
-      cost = let counts = counts_left old new read in looks_nowhere old new counts.0 counts.1;
+      cost = looks_nowhere old new counts.0 counts.1 (functions_read old new read);
+      lines = counts.1;
     }

@@ -1,6 +1,7 @@
 use Rattle.std.proofs.Common.{◌<◌, ◌∙◌, sym, length, subst, arith}
 use Rattle.std.proofs.lemmas.Result.{on_ok_weaker}
 use Rattle.addr2line_lookups.specs.UnitParses.{check_functions_of, ChecksOrNoMemory}
+use Rattle.addr2line_lookups.proofs.AskedLines.{no_lines_set}
 use Rattle.addr2line_lookups.proofs.CallsOfUnits.{leaves_calls}
 use Rattle.addr2line_lookups.proofs.CallsLeft.{leaves_both_of}
 use Rattle.addr2line_lookups.proofs.UnitTurns.{turn_there, check_there, functions_there}
@@ -32,4 +33,5 @@ returns g c =
       cost =
           looks_set us n unit below is new 0
           (looks_both_of 0 0 unit turned new c.skip_load.ensures.cost c.check_functions_of.ensures.cost);
+      lines = no_lines_set us n unit is new (c.check_functions_of.ensures.lines ∙ c.skip_load.ensures.lines);
     }

@@ -5,12 +5,10 @@ use Rattle.addr2line_resolved.specs.Lines.{LineRow}
 use Rattle.addr2line_resolved.specs.PlaceLookups.{location_at}
 use Rattle.addr2line_resolved.specs.Contexts.{ranges_of, lines_of}
 use Rattle.addr2line_resolved.specs.ResolvedUnits.{plain_unit}
-use Rattle.addr2line_lookups.proofs.AskedLines.{asked_begin, asked_end, asked_next, asked_found, asked_refused, no_refusal}
+use Rattle.addr2line_lookups.proofs.AskedLines.{ranges_begin, ranges_end, range_next, range_found, range_refused, range_reads, range_kept, no_refusal}
 use Rattle.addr2line_lookups.proofs.CallsLeft.{leaves_none, leaves_both}
 use Rattle.addr2line_lookups.proofs.UnitRows.{ok_row, answers_start, row_found, none_found, refusal_found}
 use Rattle.addr2line_lookups.specs.declared.settle.UnitRow.{UnitRow}
-use Rattle.addr2line_lookups.specs.KeptUnits.{KeepsRanges}
-use Rattle.addr2line_lookups.proofs.KeptLines.{keeps_first, keeps_rest}
 use Rattle.addr2line_lookups.proofs.UnitProbes.{looks_begin, looks_end, refused_so}
 use Rattle.addr2line_lookups.proofs.LookupProbes.{row_probes_among, rows_further, rows_stop}
 use Rattle.addr2line_resolved.specs.NumberedRanges.{covering_ranges}
@@ -25,9 +23,8 @@ loop-range-init g c = (
   looks_begin (row_probes_among c.args.units.now.items c.args.probe (covering_ranges c.args.probe c.args.ranges.now))
       (row_probes_among c.args.units.now.items c.args.probe c.covering-covering.result) c.args.units.now.items
       (ap (row_probes_among c.args.units.now.items c.args.probe) c.covering-covering.ensures),
-  λ kept. subst (KeepsRanges c.args.units.now.items) (sym c.covering-covering.ensures) kept,
-  asked_begin c.args.probe c.args.units.now.items c.covering-covering.result
-      (covering_ranges c.args.probe c.args.ranges.now) c.covering-covering.ensures,
+  ranges_begin c.args.probe c.args.units.now.items (covering_ranges c.args.probe c.args.ranges.now)
+      c.covering-covering.result c.covering-covering.ensures,
 )
 
 pub returns-in_err-row-clause-found : goal.returns-in_err-row-clause-found
@@ -61,12 +58,11 @@ loop-range-preserved g c =
           (row_probes_among us c.args.probe (covering_ranges c.args.probe c.args.ranges.now)) c.in-Some.range
           c.loop-range.covering c.next.new.self c.in-Some.ensures.none c.find_row_at.new.units.items
           c.loop-range.invariant.3 c.in_ok-row.ensures.cost,
-      λ kept.
-          keeps_rest vs c.in-Some.range c.loop-range.covering c.next.new.self c.in-Some.ensures.none
-          (c.loop-range.invariant.4 kept) c.find_row_at.new.units.items c.in_ok-row.ensures.cost.more,
-      asked_next c.args.probe vs c.find_row_at.new.units.items c.in-Some.range c.loop-range.covering c.next.new.self
-          (covering_ranges c.args.probe c.args.ranges.now) c.in-Some.ensures.none c.loop-range.invariant.5
-          c.in_ok-row.ensures.cost.more (c.in_ok-row.ensures.kept (no_refusal _)),
+      range_next c.args.probe us (covering_ranges c.args.probe c.args.ranges.now) vs c.in-Some.range
+          c.loop-range.covering c.next.new.self c.in-Some.ensures.none c.loop-range.invariant.4
+          c.find_row_at.new.units.items c.in_ok-row.ensures.reads c.loop-range.invariant.0
+          c.in_ok-row.ensures.cost.more (c.in_ok-row.ensures.found ∙ ap ok_row c.in_default-2.is)
+          (c.in_ok-row.ensures.kept (no_refusal _)),
     )
 
 pub returns-in-Some-2-clause-kept : goal.returns-in-Some-2-clause-kept
@@ -76,23 +72,39 @@ pub returns-in_err-row-clause-asked : goal.returns-in_err-row-clause-asked
 returns-in_err-row-clause-asked g c =
     let p = err_from_is_err_and c.from_residual.result c.from_residual.ensures.1 in
     rw (p.1, p.2) (λ other.
-    asked_refused c.args.probe c.loop-range.units.items c.find_row_at.new.units.items c.in-Some.range
-    c.loop-range.covering c.next.new.self (covering_ranges c.args.probe c.args.ranges.now) c.in-Some.ensures.none
-    c.loop-range.invariant.5 c.in_err-row.ensures.cost.more c.in_err-row.ensures.values _
-    (refused_so (Option UnitRow) (Option LineRow) _ Memory other) c.in_err-row.ensures.found
-    c.in_err-row.ensures.kept)
+    range_refused c.args.probe c.args.units.now.items (covering_ranges c.args.probe c.args.ranges.now)
+    c.loop-range.units.items c.in-Some.range c.loop-range.covering c.next.new.self c.in-Some.ensures.none
+    c.loop-range.invariant.4 c.find_row_at.new.units.items c.in_err-row.ensures.reads c.loop-range.invariant.0
+    c.in_err-row.ensures.cost.more _ (refused_so (Option UnitRow) (Option LineRow) _ Memory other)
+    c.in_err-row.ensures.found c.in_err-row.ensures.kept)
 
 pub returns-in-Some-2-clause-asked : goal.returns-in-Some-2-clause-asked
 returns-in-Some-2-clause-asked g c = λ answered.
-    asked_found c.args.probe c.loop-range.units.items c.find_row_at.new.units.items c.in-Some.range
-    c.loop-range.covering c.next.new.self (covering_ranges c.args.probe c.args.ranges.now) c.in-Some.ensures.none
-    c.loop-range.invariant.5 c.in_ok-row.ensures.cost.more c.in_ok-row.ensures.values c.in-Some-2.row
-    (c.in_ok-row.ensures.found ∙ ap ok_row c.in-Some-2.is) (c.in_ok-row.ensures.kept (no_refusal _))
+    range_found c.args.probe c.args.units.now.items (covering_ranges c.args.probe c.args.ranges.now)
+    c.loop-range.units.items c.in-Some.range c.loop-range.covering c.next.new.self c.in-Some.ensures.none
+    c.loop-range.invariant.4 c.find_row_at.new.units.items c.in_ok-row.ensures.reads c.loop-range.invariant.0
+    c.in_ok-row.ensures.cost.more c.in-Some-2.row (c.in_ok-row.ensures.found ∙ ap ok_row c.in-Some-2.is)
+    (c.in_ok-row.ensures.kept (no_refusal _))
 
 pub returns-clause-asked : goal.returns-clause-asked
 returns-clause-asked g c = λ answered.
-    asked_end c.args.probe c.loop-range.units.items c.loop-range.covering
-    (covering_ranges c.args.probe c.args.ranges.now) c.in_default.ensures.none c.loop-range.invariant.5
+    ranges_end c.args.probe c.args.units.now.items (covering_ranges c.args.probe c.args.ranges.now)
+    c.loop-range.covering c.loop-range.units.items c.in_default.ensures.none c.loop-range.invariant.4
+
+pub returns-in_err-row-clause-reads : goal.returns-in_err-row-clause-reads
+returns-in_err-row-clause-reads g c =
+    range_reads c.args.probe c.args.units.now.items (covering_ranges c.args.probe c.args.ranges.now)
+    c.loop-range.units.items c.in-Some.range c.loop-range.covering c.next.new.self c.in-Some.ensures.none
+    c.loop-range.invariant.4 c.find_row_at.new.units.items c.in_err-row.ensures.reads
+
+pub returns-in-Some-2-clause-reads : goal.returns-in-Some-2-clause-reads
+returns-in-Some-2-clause-reads g c =
+    range_reads c.args.probe c.args.units.now.items (covering_ranges c.args.probe c.args.ranges.now)
+    c.loop-range.units.items c.in-Some.range c.loop-range.covering c.next.new.self c.in-Some.ensures.none
+    c.loop-range.invariant.4 c.find_row_at.new.units.items c.in_ok-row.ensures.reads
+
+pub returns-clause-reads : goal.returns-clause-reads
+returns-clause-reads g c = c.loop-range.invariant.4.reads
 
 pub returns-in_err-row-clause-calls : goal.returns-in_err-row-clause-calls
 returns-in_err-row-clause-calls g c =
@@ -135,5 +147,6 @@ returns-in_err-row-clause-free g c =
     rw (p.1, p.2) (λ kept.
     refused_so (Option LineRow) (Option UnitRow) _ Memory
     (c.in_err-row.ensures.free
-    (keeps_first c.loop-range.units.items c.in-Some.range c.loop-range.covering c.next.new.self
-    c.in-Some.ensures.none (c.loop-range.invariant.4 kept))))
+    (range_kept c.args.probe c.args.units.now.items (covering_ranges c.args.probe c.args.ranges.now)
+    c.loop-range.units.items c.in-Some.range c.loop-range.covering c.next.new.self c.in-Some.ensures.none
+    c.loop-range.invariant.4 kept)))

@@ -1,6 +1,6 @@
 -- The answer is that of the ranges that are left, the units' values are the same, and calls that are kept stay the
--- definition's. Looks are left for the ranges that are left, lines that were kept are kept, and so are those of the
--- units that were asked.
+-- definition's. Looks are left for the ranges that are left. The lines of the units that were asked are kept, and no
+-- others were read.
 use Rattle.std.proofs.Common.{◌≡◌, length, map}
 use Rattle.addr2line_resolved.specs.PlaceLookups.{location_at}
 use Rattle.addr2line_resolved.specs.Contexts.{ranges_of, lines_of}
@@ -9,8 +9,7 @@ use Rattle.addr2line_resolved.specs.ContextUnits.{unit_places}
 use Rattle.addr2line_resolved.specs.ResolvedUnits.{plain_unit, value_of_unit}
 use Rattle.addr2line_lookups.specs.KeptCalls.{LeavesCalls}
 use Rattle.addr2line_resolved.specs.NumberedRanges.{covering_ranges}
-use Rattle.addr2line_lookups.specs.KeptUnits.{KeepsRanges}
-use Rattle.addr2line_lookups.proofs.AskedLines.{LeavesAsked}
+use Rattle.addr2line_lookups.proofs.AskedLines.{AsksRanges}
 use Rattle.addr2line_lookups.proofs.UnitProbes.{LooksLeft}
 use Rattle.addr2line_lookups.proofs.LookupProbes.{row_probes_among}
 use Rattle.addr2line_lookups.proofs.settle.find_row.Given as goal
@@ -23,8 +22,7 @@ invariant-loop-range g l =
     × LeavesCalls l.fn.units.items l.units.items
     × LooksLeft (row_probes_among l.fn.units.items l.probe (covering_ranges l.probe l.ranges))
     (row_probes_among l.fn.units.items l.probe l.covering) l.fn.units.items l.units.items
-    × (KeepsRanges l.fn.units.items (covering_ranges l.probe l.ranges) → KeepsRanges l.units.items l.covering)
-    × LeavesAsked l.probe l.units.items l.covering (covering_ranges l.probe l.ranges)
+    × AsksRanges l.probe l.fn.units.items (covering_ranges l.probe l.ranges) l.covering l.units.items
 
 abbrev pub decreases-loop-range : goal.decreases-loop-range
 decreases-loop-range g l = length l.covering

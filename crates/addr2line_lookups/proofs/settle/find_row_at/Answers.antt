@@ -4,8 +4,10 @@ use Rattle.addr2line_resolved.specs.Calls.{ReturnsOrNoMemory}
 use Rattle.addr2line_resolved.specs.Lines.{LineRow}
 use Rattle.addr2line_resolved.specs.ResolvedUnits.{ResolvedUnit, KeepsLines, value_of_unit}
 use Rattle.addr2line_lookups.specs.KeptCalls.{kept_calls_of}
+use Rattle.addr2line_lookups.proofs.AskedLines.{reads_set}
 use Rattle.addr2line_lookups.proofs.CallsOfUnits.{if_here, leaves_calls, same_calls, same_chain}
 use Rattle.addr2line_lookups.proofs.CallsLeft.{leaves_value}
+use Rattle.addr2line_lookups.proofs.KeptFunctionLists.{functions_same}
 use Rattle.addr2line_lookups.proofs.KeptLines.{keeps_set}
 use Rattle.addr2line_lookups.proofs.UnitRows.{row_here, same_values}
 use Rattle.addr2line_lookups.proofs.LookupProbes.{looks_for_row}
@@ -35,6 +37,9 @@ returns g c =
           (ap (λ (u : ResolvedUnit). u.chain) c.find_row.ensures.unit);
       cost =
           looks_for_row us n unit below c.index_mut-unit.ensures.value new c.args.probe c.find_row.ensures.cost
-          c.find_row.ensures.more;
+          c.find_row.ensures.more
+          (functions_same unit new (ap (λ (u : ResolvedUnit). u.keeps_functions) c.find_row.ensures.unit)
+          (ap (λ (u : ResolvedUnit). u.calls) c.find_row.ensures.unit));
+      reads = reads_set us n new;
       free = λ kept. c.find_row.ensures.free (if_here us n unit below c.index_mut-unit.ensures.value KeepsLines kept);
     }

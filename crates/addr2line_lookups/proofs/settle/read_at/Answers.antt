@@ -3,6 +3,7 @@ use Rattle.std.proofs.lemmas.Result.{on_ok_weaker}
 use Rattle.addr2line_resolved.specs.ResolvedUnits.{ResolvedUnit, value_of_unit}
 use Rattle.addr2line_lookups.proofs.CallsOfUnits.{leaves_calls}
 use Rattle.addr2line_lookups.proofs.CallsLeft.{leaves_value}
+use Rattle.addr2line_lookups.proofs.KeptFunctionLists.{functions_same}
 use Rattle.addr2line_lookups.proofs.KeptLines.{keeps_set}
 use Rattle.addr2line_lookups.proofs.UnitRows.{same_values}
 use Rattle.addr2line_lookups.proofs.UnitProbes.{looks_set, looks_same, keeps_still}
@@ -23,7 +24,9 @@ returns g c =
       cost =
           looks_set us n unit below c.index_mut-unit.ensures.value new 0
           (looks_same unit new (ap (λ (u : ResolvedUnit). u.probes) c.read_lines.ensures.unit)
-          (keeps_still c.read_lines.result unit new c.read_lines.ensures.kept c.read_lines.ensures.free));
+          (keeps_still c.read_lines.result unit new c.read_lines.ensures.kept c.read_lines.ensures.free)
+          (functions_same unit new (ap (λ (u : ResolvedUnit). u.keeps_functions) c.read_lines.ensures.unit)
+          (ap (λ (u : ResolvedUnit). u.calls) c.read_lines.ensures.unit)));
       refusal = c.read_lines.ensures.refusal;
       calls =
           leaves_calls us n unit below c.index_mut-unit.ensures.value new

@@ -6,7 +6,7 @@ use Rattle.addr2line_functions.specs.UnitFacts.{in_file}
 use Rattle.addr2line_units.specs.CachedFiles.{CachedFile}
 use Rattle.addr2line_functions.specs.DwarfFiles.{DwarfFile}
 use Rattle.addr2line_functions.specs.Contexts.{facts_of_code_unit, headers_of}
-use Rattle.addr2line_resolved.specs.ResolvedUnits.{value_of_unit, new_unit, new_units, KeepNoFunctions}
+use Rattle.addr2line_resolved.specs.ResolvedUnits.{value_of_unit, new_unit, new_units, KeepNoFunctions, RunForRangesAlone}
 use Rattle.addr2line_resolved.proofs.UnitReading.{read_start, read_ended, append_more, append_refused}
 use Rattle.addr2line_resolved.proofs.units.units_of_file.Goals as goal
 
@@ -26,6 +26,7 @@ loop-headers-init g c =
           ∙ ap (λ n. units_to_come n (whole_section c.as_ref.result.now.file.sections.debug_info))
           (sym c.in_ok-headers.ensures.limit)
           ∙ ap (λ (s : CachedFile). headers_of s.file) of_file);
+      lines = subst RunForRangesAlone (sym c.new-units.ensures.items) tt;
       functions = subst KeepNoFunctions (sym c.new-units.ensures.items) tt;
     }
 
@@ -66,5 +67,6 @@ loop-headers-preserved g c =
           c.in_ok-header.field-0 c.in-Some.header (map value_of_unit c.loop-headers.units.items) c.in-Some.is
           c.in_ok-header.ensures.order (new_units file) c.loop-headers.invariant.units
           (map value_of_unit c.push_context_unit.new.units.items) c.in_ok-push_context_unit.ensures.units;
+      lines = c.in_ok-push_context_unit.ensures.lines c.loop-headers.invariant.lines;
       functions = c.in_ok-push_context_unit.ensures.functions c.loop-headers.invariant.functions;
     }

@@ -1,9 +1,10 @@
--- What was read, and what the headers that are left give, is what all give; no functions are kept.
+-- What was read, and what the headers that are left give, is what all give. Lines are kept only where the ranges are
+-- those of the lines, and no functions are.
 use Rattle.std.proofs.Common.{◌≡◌, length, map}
 use Rattle.addr2line_functions.specs.UnitHeaders.{units_to_come}
 use Rattle.addr2line_functions.specs.UnitFacts.{in_file}
 use Rattle.addr2line_functions.specs.Contexts.{facts_of_code_unit}
-use Rattle.addr2line_resolved.specs.ResolvedUnits.{value_of_unit, new_unit, new_units, KeepNoFunctions}
+use Rattle.addr2line_resolved.specs.ResolvedUnits.{value_of_unit, new_unit, new_units, KeepNoFunctions, RunForRangesAlone}
 use Rattle.addr2line_resolved.proofs.UnitReading.{append_to, read_all}
 use Rattle.addr2line_resolved.proofs.units.units_of_file.Given as goal
 
@@ -15,6 +16,7 @@ invariant-loop-headers g l =
           (read_all (facts_of_code_unit l.sections.value.file) (λ u. new_unit (in_file l.sections.value.file u))
           (units_to_come limit l.headers))
           ≡ new_units l.sections.value.file;
+      lines : RunForRangesAlone l.units.items;
       functions : KeepNoFunctions l.units.items;
     }
 

@@ -2,7 +2,7 @@ use Rattle.std.proofs.Common.{inl, option_map, sym, ◌∙◌}
 use Rattle.addr2line_lookups.proofs.AnsweredLoads.{file_left, plain_left}
 use Rattle.addr2line_lookups.proofs.UnitProbes.{looks_none}
 use Rattle.addr2line_lookups.proofs.PassedUnits.{decided_same}
-use Rattle.addr2line_context.proofs.ContextParts.{value_is, looks_since}
+use Rattle.addr2line_context.proofs.ContextParts.{value_is, looks_since, lines_since}
 use Rattle.addr2line_context.proofs.KeptUnits.{holds_after, loads_pending}
 use Rattle.addr2line_context.proofs.FirstLoads.{none_answered, none_fewer, answer_left, answered_ok, answered_refusal, answered_fewer}
 use Rattle.addr2line_context.proofs.context.Context.answer_first.Goals as goal
@@ -24,6 +24,7 @@ returns g c =
       left = answer_left _ _ _ of_file a _ is _ n first new _ h;
       refusal = answered_refusal _ _ _ of_file a _ is _ n first new _ h r alone;
       cost = looks_since _ _ _ _ c.self.view_is 0 new c.answer_at-answered.ensures.cost;
+      lines = lines_since _ _ _ _ c.self.view_is new c.answer_at-answered.ensures.lines;
     }
 
 pub returns-in_default : goal.returns-in_default
@@ -39,6 +40,7 @@ returns-in_default g c =
       left = inl same;
       refusal = tt;
       cost = looks_none 0 _;
+      lines = λ number kept. kept;
     }
 
 pub invariant_of-self : goal.invariant_of-self

@@ -7,7 +7,7 @@ use Rattle.addr2line_lookups.specs.Preloads.{load_at}
 use Rattle.addr2line_context.specs.KeptContexts.{ResolvedContext}
 use Rattle.addr2line_lookups.proofs.AnsweredLoads.{file_left, plain_left}
 use Rattle.addr2line_lookups.proofs.PassedUnits.{decided_same}
-use Rattle.addr2line_context.proofs.ContextParts.{value_is, looks_since}
+use Rattle.addr2line_context.proofs.ContextParts.{value_is, looks_since, lines_since}
 use Rattle.addr2line_context.proofs.ContextLoads.{answer_of_context, same_plain_context, decided_in_context}
 use Rattle.addr2line_context.proofs.KeptUnits.{holds_after}
 use Rattle.addr2line_context.proofs.context.Context.answer_load.Goals as goal
@@ -38,6 +38,9 @@ returns-clause-plain g c =
 
 pub returns-clause-cost : goal.returns-clause-cost
 returns-clause-cost g c = looks_since _ _ _ _ c.self.view_is 0 c.answer_at.new.self c.answer_at.ensures.cost
+
+pub returns-clause-lines : goal.returns-clause-lines
+returns-clause-lines g c = lines_since _ _ _ _ c.self.view_is c.answer_at.new.self c.answer_at.ensures.lines
 
 pub returns-clause-decided : goal.returns-clause-decided
 returns-clause-decided g c =

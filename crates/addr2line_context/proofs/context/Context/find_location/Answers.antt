@@ -6,7 +6,7 @@ use Rattle.addr2line_lookups.specs.ResolvedUnits.{plain_unit}
 use Rattle.addr2line_lookups.specs.KeptUnits.{FindsRow, KeepsFound, KeepsAt}
 use Rattle.addr2line_lookups.proofs.UnitRows.{place_found}
 use Rattle.addr2line_context.specs.KeptContexts.{ResolvedContext}
-use Rattle.addr2line_context.proofs.FoundRows.{after_row, keeps_row, same_refusal}
+use Rattle.addr2line_context.proofs.FoundRows.{after_row, keeps_row, found_row, same_refusal}
 use Rattle.addr2line_context.proofs.KeptUnits.{holds_same}
 use Rattle.addr2line_context.proofs.context.Context.find_location.Goals as goal
 
@@ -15,7 +15,13 @@ returns-in_err-found g c =
     let a = c.args.probe in
     let p = err_from_is_err_and c.from_residual.result c.from_residual.ensures.1 in
     let of_file = c.self.invariant.are_of_file in (
-      (refl, λ _. tt, after_row _ _ _ of_file a _ c.self.view_is _ c.find_row.ensures.values c.find_row.ensures.cost),
+      (
+        refl,
+        λ _. tt,
+        after_row _ _ _ of_file a _ c.self.view_is _ c.find_row.ensures.values c.find_row.ensures.cost
+            c.find_row.ensures.reads c.from_residual.result
+            (rw (p.1, p.2) (λ other. c.in_err-found.ensures.asked (same_refusal c.in_err-found.field-0.0 other))),
+      ),
       record {
         place =
             rw (p.1, p.2) (λ m.
@@ -38,7 +44,12 @@ returns-in-Some g c =
     let of_file = c.self.invariant.are_of_file in
     let place = option_map location_value c.place_in.result in
     let kept : KeepsAt vs found.unit = subst (λ o. KeepsFound vs (Ok o)) c.in-Some.is c.in_ok-found.ensures.kept in (
-      (refl, λ _. tt, after_row _ _ _ of_file a _ c.self.view_is _ c.find_row.ensures.values c.find_row.ensures.cost),
+      (
+        refl,
+        λ _. tt,
+        after_row _ _ _ of_file a _ c.self.view_is _ c.find_row.ensures.values c.find_row.ensures.cost
+            c.find_row.ensures.reads _ (λ answered. c.in_ok-found.ensures.asked (found_row _)),
+      ),
       record {
         place =
             subst (λ (x : ResolvedContext). location x.value.plain.context a ≡ Ok place) c.self.view_is
@@ -53,7 +64,12 @@ pub returns-in-None : goal.returns-in-None
 returns-in-None g c =
     let a = c.args.probe in
     let of_file = c.self.invariant.are_of_file in (
-      (refl, λ _. tt, after_row _ _ _ of_file a _ c.self.view_is _ c.find_row.ensures.values c.find_row.ensures.cost),
+      (
+        refl,
+        λ _. tt,
+        after_row _ _ _ of_file a _ c.self.view_is _ c.find_row.ensures.values c.find_row.ensures.cost
+            c.find_row.ensures.reads _ (λ answered. c.in_ok-found.ensures.asked (found_row _)),
+      ),
       record {
         place =
             subst (λ (x : ResolvedContext). location x.value.plain.context a ≡ Ok None) c.self.view_is

@@ -5,7 +5,7 @@ use Rattle.addr2line_lookups.specs.ArangeIndexes.{IsIndexOf, fault_of_sets}
 use Rattle.addr2line_lookups.specs.DwarfFiles.{supplement}
 use Rattle.addr2line_lookups.specs.Contexts.{units_of_supplement, file_context}
 use Rattle.addr2line_lookups.specs.FirstAnswers.{no_answers}
-use Rattle.addr2line_lookups.specs.ResolvedUnits.{ResolvedUnit, value_of_unit, plain_unit}
+use Rattle.addr2line_lookups.specs.ResolvedUnits.{ResolvedUnit, value_of_unit, plain_unit, RunForRangesAlone}
 use Rattle.addr2line_context.proofs.ContextParts.{made_units, refused_units, file_context_of_parts, supplement_refused, units_refused, file_context_with}
 use Rattle.addr2line_lookups.specs.AnsweredUnits.{answers_of}
 use Rattle.addr2line_context.specs.KeptContexts.{HoldsUnits}
@@ -59,6 +59,9 @@ returns-clause-answers g c =
     subst (λ (us : List ResolvedUnit). answers_of (map value_of_unit us) ≡ no_answers (length (map plain_unit us)))
     (sym c.in_ok-kept.ensures.ok)
     (new_without_answers c.args.sections.value.file c.in_ok-units.units.items c.in_ok-units.ensures.units)
+
+pub returns-clause-lines : goal.returns-clause-lines
+returns-clause-lines g c = subst RunForRangesAlone (sym c.in_ok-kept.ensures.ok) c.in_ok-units.ensures.lines
 
 pub invariant_of-result : goal.invariant_of-result
 invariant_of-result g c =

@@ -1,7 +1,7 @@
 use Rattle.addr2line_lookups.specs.Histories.{functions_or_refusal}
 use Rattle.addr2line_lookups.specs.UnitParses.{check_functions_of}
 use Rattle.addr2line_lookups.proofs.UnitWalks.{plain_walked}
-use Rattle.addr2line_context.proofs.ContextParts.{file_context_with, value_is, looks_since}
+use Rattle.addr2line_context.proofs.ContextParts.{file_context_with, value_is, looks_since, lines_since}
 use Rattle.addr2line_context.proofs.ContextWalks.{says_functions, walk_of_context, same_plain_walked, of_file_walked}
 use Rattle.addr2line_context.proofs.KeptUnits.{holds_anew}
 use Rattle.addr2line_context.proofs.context.Context.parse_functions.Goals as goal
@@ -41,3 +41,6 @@ returns-clause-plain g c =
 
 pub returns-clause-cost : goal.returns-clause-cost
 returns-clause-cost g c = looks_since _ _ _ _ c.self.view_is 0 c.check_functions.new.self c.check_functions.ensures.cost
+
+pub returns-clause-lines : goal.returns-clause-lines
+returns-clause-lines g c = lines_since _ _ _ _ c.self.view_is c.check_functions.new.self c.check_functions.ensures.lines

@@ -1,7 +1,7 @@
 use Rattle.std.proofs.Common.{List, sym, subst}
 use Rattle.addr2line_lookups.specs.UnitFacts.{UnitFacts}
 use Rattle.addr2line_lookups.specs.KeptCalls.{known_among, HoldCalls}
-use Rattle.addr2line_context.proofs.ContextParts.{value_is, looks_since}
+use Rattle.addr2line_context.proofs.ContextParts.{value_is, looks_since, lines_since}
 use Rattle.addr2line_context.proofs.ContextWalks.{of_file_calls, calls_of_context, same_plain_calls}
 use Rattle.addr2line_context.proofs.KeptUnits.{frames_first, units_first}
 use Rattle.addr2line_context.proofs.context.Context.parse_inlined_functions.Goals as goal
@@ -35,3 +35,6 @@ returns-clause-plain g c =
 
 pub returns-clause-cost : goal.returns-clause-cost
 returns-clause-cost g c = looks_since _ _ _ _ c.self.view_is 0 c.check_calls.new.self c.check_calls.ensures.cost
+
+pub returns-clause-lines : goal.returns-clause-lines
+returns-clause-lines g c = lines_since _ _ _ _ c.self.view_is c.check_calls.new.self c.check_calls.ensures.lines

@@ -1,4 +1,6 @@
-use Rattle.std.proofs.Common.{refl}
+use Rattle.std.proofs.Common.{refl, sym, subst}
+use Rattle.addr2line_lookups.specs.KeptUnits.{KeepsAsked, ReadsAsked, AsksForLines}
+use Rattle.addr2line_context.specs.KeptContexts.{ResolvedContext}
 use Rattle.addr2line_context.proofs.ContextParts.{after_lookup}
 use Rattle.addr2line_context.proofs.KeptUnits.{holds_same}
 use Rattle.addr2line_context.proofs.context.Context.parse_lines.Goals as goal
@@ -11,3 +13,20 @@ returns-clause-after g c =
 pub invariant_of-self : goal.invariant_of-self
 invariant_of-self g c =
     holds_same _ _ _ _ c.self.invariant c.check_lines.ensures.values c.check_lines.ensures.calls
+
+pub returns-clause-asked : goal.returns-clause-asked
+returns-clause-asked g c = λ answered.
+    let P : ResolvedContext → Type 0 =
+    λ x. KeepsAsked (AsksForLines x.value.plain.context.units) c.check_lines.new.self in
+    subst P c.self.view_is (c.check_lines.ensures.asked answered)
+
+pub returns-clause-reads : goal.returns-clause-reads
+returns-clause-reads g c =
+    let P : ResolvedContext → Type 0 =
+    λ x. ReadsAsked (AsksForLines x.value.plain.context.units) x.units c.check_lines.new.self in
+    subst P c.self.view_is c.check_lines.ensures.reads
+
+pub returns-clause-free : goal.returns-clause-free
+returns-clause-free g c = λ kept.
+    let P : ResolvedContext → Type 0 = λ x. KeepsAsked (AsksForLines x.value.plain.context.units) x.units in
+    c.check_lines.ensures.free (subst P (sym c.self.view_is) kept)

@@ -26,3 +26,4 @@ pub returns-clause-after : goal.returns-clause-after
 returns-clause-after g c =
     after_settling _ _ _ c.self.invariant _ c.as_slice-supplement_units.ensures.value _
     c.settle_unit-settled.ensures.values c.args.probe _ c.self.view_is c.settle_unit-settled.ensures.cost
+    c.settle_unit-settled.ensures.reads

@@ -21,7 +21,7 @@ returns-in-Ok g c =
       (
         refl,
         c.find_frames.follows.holds,
-        after_again old mid a file ok free _ c.find_frames.follows.holds-at-none,
+        after_again old mid a file ok free c.in-Ok.ensures.lines _ c.find_frames.follows.holds-at-none,
       ),
       record {
         fewer = fewer_left old mid a (λ w. w.context.now) (λ w. w.probe) c.in-Ok.ensures.fewer result waits;
@@ -29,7 +29,7 @@ returns-in-Ok g c =
         found =
             subst (λ (x : AnsweredContext). FollowsLookup frames_left result (frames_in x a)) ok
             c.find_frames.ensures.found;
-        again = waits_again old mid a file ok free (λ w. w.context.now) (λ w. w.probe) result waits;
+        again = waits_again old mid a file ok free c.in-Ok.ensures.lines (λ w. w.context.now) (λ w. w.probe) result waits;
         skips =
             λ none found h.
             finds_after frames_left frames_in frames_still_found old.value a found
@@ -42,7 +42,7 @@ returns-in-Ok g c =
 
 pub returns-in-Err : goal.returns-in-Err
 returns-in-Err g c = (
-  (refl, λ w. tt, after_error _ _ _ _ c.in-Err.ensures.left c.in-Err.ensures.cost),
+  (refl, λ w. tt, after_error _ _ _ _ c.in-Err.ensures.left c.in-Err.ensures.cost c.in-Err.ensures.lines),
   record {
     fewer = omega arith;
     waits = tt;

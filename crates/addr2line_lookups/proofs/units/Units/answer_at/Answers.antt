@@ -1,6 +1,7 @@
 use Rattle.std.proofs.Common.{◌≡◌, ◌∙◌, ap, sym, subst, map, option_map, List, None}
 use Rattle.addr2line_resolved.specs.ContextUnits.{ordered_ranges}
 use Rattle.addr2line_resolved.specs.ResolvedUnits.{ResolvedUnit, value_of_unit}
+use Rattle.addr2line_lookups.specs.KeptUnits.{ReadsNoLines}
 use Rattle.addr2line_lookups.specs.KeptCalls.{LeavesCalls}
 use Rattle.addr2line_lookups.specs.Preloads.{load_at}
 use Rattle.addr2line_lookups.specs.LoadAnswers.{AnswersOrNoMemory, answer_at}
@@ -31,3 +32,8 @@ returns-clause-decided g c =
     subst (λ (us : List ResolvedUnit). load_at (map value_of_unit us) c.args.number ≡ None
     → answer_at (map value_of_unit us) c.args.number (option_map (λ f. f.value.file) c.args.file)
     ≡ (c.answer_at.result, map value_of_unit c.answer_at.new.units.items)) c.self.view_is c.answer_at.ensures.decided
+
+pub returns-clause-lines : goal.returns-clause-lines
+returns-clause-lines g c =
+    subst (λ (us : List ResolvedUnit). ReadsNoLines us c.answer_at.new.units.items) c.self.view_is
+    c.answer_at.ensures.lines

@@ -1,6 +1,7 @@
 use Rattle.std.proofs.Common.{◌∙◌, List, map, ap, sym, subst}
 use Rattle.addr2line_resolved.specs.ContextUnits.{ordered_ranges}
 use Rattle.addr2line_resolved.specs.ResolvedUnits.{ResolvedUnit, value_of_unit}
+use Rattle.addr2line_lookups.specs.KeptUnits.{ReadsNoLines}
 use Rattle.addr2line_lookups.specs.KeptCalls.{known_among, HoldCalls}
 use Rattle.addr2line_lookups.specs.UnitParses.{check_calls_of, WalksOrNoMemory}
 use Rattle.addr2line_lookups.proofs.UnitWalks.{plain_walked}
@@ -27,3 +28,8 @@ returns-clause-walk g c =
 
 pub returns-clause-calls : goal.returns-clause-calls
 returns-clause-calls g c = c.check_calls.ensures.calls
+
+pub returns-clause-lines : goal.returns-clause-lines
+returns-clause-lines g c =
+    subst (λ (us : List ResolvedUnit). ReadsNoLines us c.check_calls.new.units.items) c.self.view_is
+    c.check_calls.ensures.lines

@@ -1,6 +1,7 @@
 use Rattle.std.proofs.Common.{◌∙◌, List, map, ap, sym, subst}
 use Rattle.addr2line_resolved.specs.ContextUnits.{ordered_ranges}
 use Rattle.addr2line_resolved.specs.ResolvedUnits.{ResolvedUnit, value_of_unit}
+use Rattle.addr2line_lookups.specs.KeptUnits.{ReadsNoLines}
 use Rattle.addr2line_lookups.specs.KeptCalls.{LeavesCalls}
 use Rattle.addr2line_lookups.specs.UnitParses.{check_functions_of, WalksOrNoMemory}
 use Rattle.addr2line_lookups.proofs.UnitWalks.{plain_walked}
@@ -23,3 +24,8 @@ pub returns-clause-calls : goal.returns-clause-calls
 returns-clause-calls g c =
     subst (λ (us : List ResolvedUnit). LeavesCalls us c.check_functions.new.units.items) c.self.view_is
     c.check_functions.ensures.calls
+
+pub returns-clause-lines : goal.returns-clause-lines
+returns-clause-lines g c =
+    subst (λ (us : List ResolvedUnit). ReadsNoLines us c.check_functions.new.units.items) c.self.view_is
+    c.check_functions.ensures.lines

@@ -1,7 +1,8 @@
-use Rattle.std.proofs.Common.{◌∙◌, List, ap, sym, subst}
+use Rattle.std.proofs.Common.{◌∙◌, List, map, ap, sym, subst}
 use Rattle.addr2line_resolved.specs.ContextUnits.{ordered_ranges}
-use Rattle.addr2line_resolved.specs.ResolvedUnits.{ResolvedUnit}
+use Rattle.addr2line_resolved.specs.ResolvedUnits.{ResolvedUnit, plain_unit}
 use Rattle.addr2line_lookups.specs.KeptCalls.{LeavesCalls}
+use Rattle.addr2line_lookups.specs.KeptUnits.{KeepsAsked, ReadsAsked, AsksForLines}
 use Rattle.addr2line_lookups.proofs.KeptLines.{same_plain}
 use Rattle.addr2line_lookups.proofs.units.Units.check_lines.Goals as goal
 
@@ -15,3 +16,20 @@ pub returns-clause-calls : goal.returns-clause-calls
 returns-clause-calls g c =
     subst (λ (us : List ResolvedUnit). LeavesCalls us c.check_lines.new.units.items) c.self.view_is
     c.check_lines.ensures.calls
+
+pub returns-clause-asked : goal.returns-clause-asked
+returns-clause-asked g c = λ answered.
+    let Q : List ResolvedUnit → Type 0 =
+    λ us. KeepsAsked (AsksForLines (map plain_unit us)) c.check_lines.new.units.items in
+    subst Q c.self.view_is (c.check_lines.ensures.asked answered)
+
+pub returns-clause-reads : goal.returns-clause-reads
+returns-clause-reads g c =
+    let Q : List ResolvedUnit → Type 0 =
+    λ us. ReadsAsked (AsksForLines (map plain_unit us)) us c.check_lines.new.units.items in
+    subst Q c.self.view_is c.check_lines.ensures.reads
+
+pub returns-clause-free : goal.returns-clause-free
+returns-clause-free g c = λ kept.
+    let Q : List ResolvedUnit → Type 0 = λ us. KeepsAsked (AsksForLines (map plain_unit us)) us in
+    c.check_lines.ensures.free (subst Q (sym c.self.view_is) kept)

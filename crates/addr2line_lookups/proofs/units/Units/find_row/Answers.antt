@@ -5,7 +5,7 @@ use Rattle.addr2line_lookups.specs.KeptCalls.{LeavesCalls}
 use Rattle.addr2line_lookups.proofs.KeptLines.{same_plain}
 use Rattle.addr2line_resolved.specs.UnitRange.{UnitRange}
 use Rattle.addr2line_resolved.specs.NumberedRanges.{covering_ranges}
-use Rattle.addr2line_lookups.specs.KeptUnits.{KeepsRanges, KeepsCovering, KeepsAsked}
+use Rattle.addr2line_lookups.specs.KeptUnits.{KeepsAsked, ReadsAsked, AsksAmong, AsksForRow}
 use Rattle.addr2line_lookups.specs.LookupCosts.{AtMostLooks}
 use Rattle.addr2line_lookups.proofs.LookupProbes.{row_probes_among}
 use Rattle.addr2line_lookups.proofs.units.Units.find_row.Goals as goal
@@ -34,14 +34,27 @@ pub returns-clause-free : goal.returns-clause-free
 returns-clause-free g c = λ kept.
     let us = c.self.inside.units.items in
     let a = c.args.probe in
-    c.find_row.ensures.free
-    (subst (λ (rs : List UnitRange). KeepsRanges us (covering_ranges a rs)) (sym c.self.invariant)
-    (subst (KeepsCovering a) (sym c.self.view_is) kept))
+    let P : List UnitRange → Type 0 =
+    λ rs. KeepsAsked (AsksAmong (map plain_unit us) a (covering_ranges a rs)) us in
+    let Q : List ResolvedUnit → Type 0 = λ vs. KeepsAsked (AsksForRow (map plain_unit vs) a) vs in
+    c.find_row.ensures.free (subst P (sym c.self.invariant) (subst Q (sym c.self.view_is) kept))
 
 pub returns-clause-asked : goal.returns-clause-asked
 returns-clause-asked g c = λ answered.
+    let us = c.self.inside.units.items in
+    let new = c.find_row.new.units.items in
     let a = c.args.probe in
-    let asked : List UnitRange → Type 0 =
-    λ rs. KeepsAsked a c.find_row.new.units.items (covering_ranges a rs) in
-    subst (λ (us : List ResolvedUnit). asked (ordered_ranges (map plain_unit us))) c.self.view_is
-    (subst asked c.self.invariant (c.find_row.ensures.asked answered))
+    let P : List UnitRange → Type 0 =
+    λ rs. KeepsAsked (AsksAmong (map plain_unit us) a (covering_ranges a rs)) new in
+    let Q : List ResolvedUnit → Type 0 = λ vs. KeepsAsked (AsksForRow (map plain_unit vs) a) new in
+    subst Q c.self.view_is (subst P c.self.invariant (c.find_row.ensures.asked answered))
+
+pub returns-clause-reads : goal.returns-clause-reads
+returns-clause-reads g c =
+    let us = c.self.inside.units.items in
+    let new = c.find_row.new.units.items in
+    let a = c.args.probe in
+    let P : List UnitRange → Type 0 =
+    λ rs. ReadsAsked (AsksAmong (map plain_unit us) a (covering_ranges a rs)) us new in
+    let Q : List ResolvedUnit → Type 0 = λ vs. ReadsAsked (AsksForRow (map plain_unit vs) a) vs new in
+    subst Q c.self.view_is (subst P c.self.invariant c.find_row.ensures.reads)

@@ -3,6 +3,7 @@ use Rattle.addr2line_resolved.specs.UnitRange.{UnitRange}
 use Rattle.addr2line_resolved.specs.NumberedRanges.{covering_ranges}
 use Rattle.addr2line_resolved.specs.ContextUnits.{ordered_ranges}
 use Rattle.addr2line_resolved.specs.ResolvedUnits.{ResolvedUnit, plain_unit, value_of_unit}
+use Rattle.addr2line_lookups.specs.KeptUnits.{ReadsAsked, IsUnitOf}
 use Rattle.addr2line_lookups.specs.KeptCalls.{known_among, HoldCalls}
 use Rattle.addr2line_lookups.specs.UnitLookups.{unit_among, SettlesUnit}
 use Rattle.addr2line_lookups.specs.PassedUnits.{PassUnits}
@@ -44,6 +45,8 @@ returns g c =
     λ us rs. AtMostLooks (frame_probes_among us s a (covering_ranges a rs)) us new in
     let passes : List ResolvedUnit → List UnitRange → Type 0 =
     λ us rs. PassUnits (known_among us s) (map value_of_unit us) a c.settle_unit.new.from rs in
+    let reads : List ResolvedUnit → List UnitRange → Type 0 =
+    λ us rs. ReadsAsked (IsUnitOf (covering_ranges a rs)) us new in
     record {
       values = c.settle_unit.ensures.values ∙ ap (map value_of_unit) c.self.view_is;
       calls =
@@ -55,6 +58,9 @@ returns g c =
       cost =
           subst (λ (us : List ResolvedUnit). looks us (ordered_ranges (map plain_unit us))) c.self.view_is
           (subst (looks us) c.self.invariant c.settle_unit.ensures.cost);
+      reads =
+          subst (λ (us : List ResolvedUnit). reads us (ordered_ranges (map plain_unit us))) c.self.view_is
+          (subst (reads us) c.self.invariant c.settle_unit.ensures.reads);
       passed =
           subst (λ (us : List ResolvedUnit). passes us (ordered_ranges (map plain_unit us))) c.self.view_is
           (subst (passes us) c.self.invariant c.settle_unit.ensures.passed);
