@@ -21,7 +21,7 @@ use Rattle.addr2line_resolved.specs.Stretches.{stretch_of_row}
 use Rattle.addr2line_resolved.specs.ContextUnits.{unit_places}
 use Rattle.addr2line_resolved.specs.ResolvedUnits.{location_of_row}
 use Rattle.addr2line_resolved.proofs.UnitViews.{stretches_of_views, stretches_by_numbers}
-use Rattle.addr2line_lookups.specs.KeptUnits.{lines_of_unit, lines_at}
+use Rattle.addr2line_lookups.specs.KeptUnits.{lines_if_unit, lines_at}
 use Rattle.addr2line_lookups.specs.RangeWalks.{clipped_left, unit_left, rows_left, BeginsRange, FirstStretch, NextInRange, NextOfRows, walk_left, stretches_left, FindsStretch}
 use Rattle.addr2line_lookups.specs.declared.range_walk.RangeRows.{RangeRows}
 use Rattle.addr2line_lookups.specs.declared.range_walk.RangeWalk.{RangeWalk}
@@ -54,7 +54,7 @@ module _ (low high : ℕ) (r : UnitRange) where
   left_of_lines c (Ok m) l h = let same : m ≡ l = cc in ap (λ (k : Lines). lines_left k from to c) same
   left_of_lines c (Err e) l h = absurd cc
 
-  left_of_unit : (c : LineCursor) (o : Option ContextUnit) (l : Lines) → lines_of_unit o ≡ Ok (Some l)
+  left_of_unit : (c : LineCursor) (o : Option ContextUnit) (l : Lines) → lines_if_unit o ≡ Ok (Some l)
       → unit_left low high r.range c (option_map unit_places o) ≡ lines_left l from to c
   left_of_unit c None l h = absurd cc
   left_of_unit c (Some u) l h = left_of_lines c u.lines l h
@@ -65,7 +65,7 @@ module _ (low high : ℕ) (r : UnitRange) where
       at_number us r.unit (λ p. unit_left low high r.range c p ≡ lines_left l from to c)
       (left_of_unit c (slice_get us r.unit) l h)
 
-  none_of_unit : (c : LineCursor) (o : Option ContextUnit) → lines_of_unit o ≡ Ok None
+  none_of_unit : (c : LineCursor) (o : Option ContextUnit) → lines_if_unit o ≡ Ok None
       → unit_left low high r.range c (option_map unit_places o) ≡ []
   none_of_unit c None h = refl
   none_of_unit c (Some u) h = absurd (no_lines_of u.lines h)
@@ -75,7 +75,7 @@ module _ (low high : ℕ) (r : UnitRange) where
   none_of_refused c (Ok l) e h = absurd cc
   none_of_refused c (Err d) e h = refl
 
-  none_of_refused_unit : (c : LineCursor) (o : Option ContextUnit) (e : Error) → lines_of_unit o ≡ Err e
+  none_of_refused_unit : (c : LineCursor) (o : Option ContextUnit) (e : Error) → lines_if_unit o ≡ Err e
       → unit_left low high r.range c (option_map unit_places o) ≡ []
   none_of_refused_unit c None e h = absurd cc
   none_of_refused_unit c (Some u) e h = none_of_refused c u.lines e h
@@ -110,7 +110,7 @@ module _ (low high : ℕ) (r : UnitRange) where
   location_in (Ok m) l s h = let same : m ≡ l = cc in ap (λ (k : Lines). Some (row_location k.files s.row)) same
   location_in (Err e) l s h = absurd cc
 
-  location_of : (o : Option ContextUnit) (l : Lines) (s : RowStretch) → lines_of_unit o ≡ Ok (Some l)
+  location_of : (o : Option ContextUnit) (l : Lines) (s : RowStretch) → lines_if_unit o ≡ Ok (Some l)
       → option_and_then (λ (u : ContextUnit). location_of_row s.row u.lines) o ≡ Some (row_location l.files s.row)
   location_of None l s h = absurd cc
   location_of (Some u) l s h = location_in u.lines l s h

@@ -69,13 +69,13 @@ pub record KeepMoreFunctions (old new : List ResolvedUnit) : Type 0 where
 -- ---- lines
 
 -- the lines of a unit, if there is one, or the refusal of them
-abbrev pub lines_of_unit : Option ContextUnit → Result (Option Lines) Error
-lines_of_unit None = Ok None
-lines_of_unit (Some u) = and_then u.lines (λ l. Ok (Some l))
+abbrev pub lines_if_unit : Option ContextUnit → Result (Option Lines) Error
+lines_if_unit None = Ok None
+lines_if_unit (Some u) = and_then u.lines (λ l. Ok (Some l))
 
 -- those of the unit of a number
 abbrev pub lines_at : List ContextUnit → ℕ → Result (Option Lines) Error
-lines_at units number = lines_of_unit (slice_get units number)
+lines_at units number = lines_if_unit (slice_get units number)
 
 -- ---- places
 

@@ -96,3 +96,24 @@ range-preserved g c =
           (looks_after 0 old c.range.units.items now c.range.invariant.cost c.in_ok-stretch.ensures.cost)
           c.in_ok-walk.ensures.cost;
     }
+
+pub returns-in_err-stretch-clause-calls : goal.returns-in_err-stretch-clause-calls
+returns-in_err-stretch-clause-calls g c =
+    leaves_both c.args.units.now.items c.range.units.items c.next_of_rows.new.units.items c.range.invariant.calls
+    c.in_err-stretch.ensures.calls
+
+pub returns-in-Some-clause-calls : goal.returns-in-Some-clause-calls
+returns-in-Some-clause-calls g c =
+    leaves_both c.args.units.now.items c.range.units.items c.next_of_rows.new.units.items c.range.invariant.calls
+    c.in_ok-stretch.ensures.calls
+
+pub returns-in_default-next_overlapping-clause-calls : goal.returns-in_default-next_overlapping-clause-calls
+returns-in_default-next_overlapping-clause-calls g c =
+    leaves_both c.args.units.now.items c.range.units.items c.next_of_rows.new.units.items c.range.invariant.calls
+    c.in_ok-stretch.ensures.calls
+
+pub returns-in_err-walk-clause-calls : goal.returns-in_err-walk-clause-calls
+returns-in_err-walk-clause-calls g c =
+    leaves_both c.args.units.now.items c.next_of_rows.new.units.items c.first_rows.new.units.items
+    (leaves_both c.args.units.now.items c.range.units.items c.next_of_rows.new.units.items c.range.invariant.calls
+    c.in_ok-stretch.ensures.calls) c.in_err-walk.ensures.calls

@@ -6,7 +6,7 @@ use Rattle.linemap_lookup.proofs.all.all_addresses.Given as goal
 
 -- the file is the same, and some addresses are taken
 abbrev pub invariant-stretch : goal.invariant-stretch
-invariant-stretch g l = record {
+invariant-stretch l = record {
   same : l.loader ≡ l.fn.loader;
   taken :
       TakesSoFar l.addresses.items l.last (stretches_left l.fn.loader.context.context.units l.walk)
@@ -15,4 +15,4 @@ invariant-stretch g l = record {
 
 -- each stretch is one less
 abbrev pub decreases-stretch : goal.decreases-stretch
-decreases-stretch g l = length (stretches_left l.fn.loader.context.context.units l.walk).items
+decreases-stretch l = length (stretches_left l.fn.loader.context.context.units l.walk).items
