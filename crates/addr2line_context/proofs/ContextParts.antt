@@ -1,5 +1,5 @@
 -- A context from its parts.
-use Rattle.std.proofs.Common.{◌≡◌, ℕ, List, map, Option, None, Some, Result, Ok, Err, sym, ap, ◌∙◌, subst}
+use Rattle.std.proofs.Common.{◌≡◌, ℕ, List, map, Option, None, Some, Result, Ok, Err, refl, sym, ap, ◌∙◌, subst}
 use Rattle.std.proofs.lemmas.Simd.{map-map}
 use Rattle.addr2line_lookups.specs.Error.{Error}
 use Rattle.addr2line_lookups.specs.Repetition.{fault_of}
@@ -15,8 +15,11 @@ use Rattle.addr2line_lookups.proofs.NewUnits.{unit_of, units_alone, units_of_new
 use Rattle.addr2line_lookups.proofs.ContextOfUnits.{context_of_units}
 use Rattle.addr2line_context.specs.AnsweredContexts.{AnsweredContext}
 use Rattle.addr2line_context.specs.KeptContexts.{ResolvedContext}
-use Rattle.addr2line_context.specs.ContextCosts.{AfterLookup}
-use Rattle.addr2line_lookups.specs.KeptUnits.{ReadsNoLines}
+use Rattle.addr2line_context.specs.ContextCosts.{AfterLookup, AfterStep, AsksForStretches}
+use Rattle.addr2line_lookups.specs.ContextUnits.{ordered_ranges}
+use Rattle.addr2line_lookups.specs.KeptUnits.{ReadsAsked, ReadsNoLines}
+use Rattle.addr2line_lookups.specs.RangeWalks.{ComesTo, StaysOnItsWay}
+use Rattle.addr2line_lookups.specs.declared.range_walk.RangeWalk.{RangeWalk}
 use Rattle.addr2line_lookups.specs.LookupCosts.{AtMostLooks}
 use Rattle.addr2line_lookups.specs.AnsweredUnits.{answers_of}
 use Rattle.addr2line_lookups.specs.KeptCalls.{facts_of}
@@ -146,3 +149,19 @@ module _ (file : DwarfFile) (us : List ResolvedUnit) (supplement_units : List Un
     value = same_context file us vs supplement_units c.value same value_is;
     cost = subst (λ k. AtMostLooks k c.units vs) same_count (looks_since n vs looks);
   }
+
+  -- a step of a walk between two ends
+  pub after_step : (old new : RangeWalk) (vs : List ResolvedUnit) → map value_of_unit vs ≡ map value_of_unit us
+      → AtMostLooks 0 us vs → ReadsAsked (ComesTo (ordered_ranges (map plain_unit us)) old) us vs
+      → StaysOnItsWay (ordered_ranges (map plain_unit us)) old new
+      → AfterStep old new c (resolved_with file vs supplement_units)
+  after_step old new vs same looks reads way =
+      let after = after_lookup 0 0 vs refl same looks in
+      let on_way : AnsweredContext → Type 0 =
+      λ x. (n : ℕ) → AsksForStretches x new n → AsksForStretches x old n in
+      record {
+        value = after.value;
+        cost = after.cost;
+        reads = subst (λ (x : ResolvedContext). ReadsAsked (AsksForStretches x.value old) x.units vs) is reads;
+        way = subst on_way value_is way;
+      }

@@ -8,9 +8,12 @@ use Rattle.addr2line_lookups.specs.Pairs.{covering_pairs}
 use Rattle.addr2line_lookups.specs.ContextNames.{known_units}
 use Rattle.addr2line_lookups.specs.Contexts.{ContextUnit, ranges_of}
 use Rattle.addr2line_lookups.specs.UnitRange.{UnitRange}
-use Rattle.addr2line_lookups.specs.NumberedRanges.{numbered_range}
+use Rattle.addr2line_lookups.specs.NumberedRanges.{numbered_range, overlapping_ranges}
+use Rattle.addr2line_lookups.specs.ContextUnits.{ordered_ranges}
 use Rattle.addr2line_lookups.specs.ResolvedUnits.{AnsweredUnit, ResolvedUnit, runs_if_kept}
 use Rattle.addr2line_lookups.specs.KeptUnits.{AsksAmong, KeepsAsked, ReadsAsked, IsUnitOf}
+use Rattle.addr2line_lookups.specs.RangeWalks.{ComesTo}
+use Rattle.addr2line_lookups.specs.declared.range_walk.RangeWalk.{RangeWalk}
 use Rattle.addr2line_lookups.specs.LookupCosts.{AtMostLooks, probes_among, row_probes_at, frame_probes_at}
 use Rattle.addr2line_context.specs.AnsweredContexts.{AnsweredContext}
 use Rattle.addr2line_context.specs.KeptContexts.{ResolvedContext}
@@ -57,6 +60,15 @@ frame_looks c a =
 abbrev pub AsksForPlace : AnsweredContext → ℕ → ℕ → Type 0
 AsksForPlace c a = AsksAmong c.plain.context.units a (ranges_over c a)
 
+-- the unit of a number is one with a range between two ends
+abbrev pub HasRangeBetween : AnsweredContext → ℕ → ℕ → ℕ → Type 0
+HasRangeBetween c low high =
+    IsUnitOf (overlapping_ranges low high (ordered_ranges c.plain.context.units))
+
+-- it is one that a walk over the stretches between two ends still asks for its lines
+abbrev pub AsksForStretches : AnsweredContext → RangeWalk → ℕ → Type 0
+AsksForStretches c w = ComesTo (ordered_ranges c.plain.context.units) w
+
 -- The context's value is what it was. There were no more than n looks at what is kept. Lines,
 -- functions and calls that were kept are kept still, so that no line number program is run again.
 pub record AfterLookup (n : ℕ) (old new : ResolvedContext) : Type 0 where
@@ -78,3 +90,12 @@ pub record AfterReading {A : Type 0} (asks : ℕ → Type 0) (n : ℕ) (result :
   pub cost : AtMostLooks n old.units new.units
   pub asked : result ≢ Err Memory → KeepsAsked asks new.units
   pub reads : ReadsAsked asks old.units new.units
+
+-- The same after a step of a walk between two ends. It reads lines of no units but those that the
+-- walk still asked, and the walk asks no others later.
+pub record AfterStep (old_walk new_walk : RangeWalk) (old new : ResolvedContext) : Type 0 where
+  pub value : new.value ≡ old.value
+  pub cost : AtMostLooks 0 old.units new.units
+  pub reads : ReadsAsked (AsksForStretches old.value old_walk) old.units new.units
+  pub way : (number : ℕ) → AsksForStretches old.value new_walk number
+      → AsksForStretches old.value old_walk number

@@ -19,7 +19,7 @@ ghost use Rattle.addr2line_lookups.specs.Histories.{functions_or_refusal, calls_
 ghost use Rattle.addr2line_lookups.specs.ContextNames.{naming_in};
 ghost use Rattle.addr2line_lookups.specs.Preloads.{load_at, load_of_item};
 ghost use Rattle.addr2line_context.specs.AnsweredContexts.{HasNoAnswers};
-ghost use Rattle.addr2line_context.specs.ContextCosts.{runs_of_unit, location_looks, AsksForPlace, AfterLookup, AfterSearch, AfterReading};
+ghost use Rattle.addr2line_context.specs.ContextCosts.{runs_of_unit, location_looks, AsksForPlace, AsksForStretches, HasRangeBetween, AfterLookup, AfterSearch, AfterReading, AfterStep};
 ghost use Rattle.addr2line_context.specs.ContextParses.{ParsesOrNoMemory};
 ghost use Rattle.addr2line_context.specs.LocationRanges.{left_in};
 ghost use Rattle.addr2line_context.specs.RangeItems.{stretch_of_item};
@@ -191,8 +191,8 @@ impl<R: Reader> Context<R> {
     /// The stretches of addresses between two ends, with their places: of the units with a range
     /// there, in the order in which lookups ask them, those of their rows between the ends, both
     /// clipped to that range. Here nothing is read and no memory is taken, so that it is never
-    /// refused; the iterator reads the lines of each unit where it comes to it. Once it is let go,
-    /// the context's value is what the iterator's calls left.
+    /// refused; the iterator reads the lines of each unit where it comes to it, those of no other
+    /// unit. Once it is let go, the context's value is what the iterator's calls left.
     pub fn find_location_range(
         &mut self,
         probe_low: u64,
@@ -201,6 +201,9 @@ impl<R: Reader> Context<R> {
         ensures stretches { ReturnsAs (λ i. left_in i.context.now i.walk) result
             (Ok (stretches self.old.value.plain.context probe_low probe_high)) }
         ensures context { IfOk result (λ i. i.context.now ≡ self.old) }
+        ensures asks { IfOk result (λ i. (number : ℕ)
+            → AsksForStretches self.old.value i.walk number
+            → HasRangeBetween self.old.value probe_low probe_high number) }
         ensures same_reference { IfOk result (λ i. i.context.ghost_name ≡ self.entry.ghost_name) }
         ensures* after { sem 𝓛 (RestsIfErr (the_row R.row R.Endian.row R.Offset.row R.Reader
             R.Endian.Endianity.own R.Endian.Debug R.Endian.Default R.Endian.PartialEq
@@ -223,7 +226,7 @@ impl<R: Reader> Context<R> {
     ) -> Result<Option<UnitStretch>, Error>
         ensures stretch { FindsStretch self.old.value.plain.context.units result
             (left_in self.old walk.old) (left_in self.old walk.new) }
-        ensures after { AfterLookup 0 self.old self.new }
+        ensures after { AfterStep walk.old walk.new self.old self.new }
         ensures kept { KeepsStretch self.new.units result }
     {
         self.units.next_stretch(walk)

@@ -4,7 +4,7 @@ ghost use Rattle.std.specs.Prelude.{◌≡◌, []};
 ghost use Rattle.addr2line_lookups.specs.KeptUnits.{KeepsAt};
 ghost use Rattle.addr2line_lookups.specs.Lines.{Stretch};
 ghost use Rattle.addr2line_lookups.specs.RangeWalks.{FindsStretch, IsStretchOf, KeepsStretch};
-ghost use Rattle.addr2line_context.specs.ContextCosts.{AfterLookup};
+ghost use Rattle.addr2line_context.specs.ContextCosts.{AfterStep};
 ghost use Rattle.addr2line_context.specs.LocationRanges.{left_in};
 ghost use Rattle.addr2line_context.specs.RangeItems.{stretch_of_item};
 
@@ -33,7 +33,8 @@ impl<'ctx, R: Reader> LocationRangeIter<'ctx, R> {
         ensures stretch { FindsStretch self.old.context.now.value.plain.context.units result
             (left_in self.old.context.now self.old.walk)
             (left_in self.new.context.now self.new.walk) }
-        ensures after { AfterLookup 0 self.old.context.now self.new.context.now }
+        ensures after { AfterStep self.old.walk self.new.walk self.old.context.now
+            self.new.context.now }
         ensures kept { KeepsStretch self.new.context.now.units result }
     {
         self.context.next_stretch(&mut self.walk)

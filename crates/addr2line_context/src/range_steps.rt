@@ -2,7 +2,7 @@
 //! itself how far it came. Nothing is lent.
 
 ghost use Rattle.addr2line_lookups.specs.RangeWalks.{FindsStretch};
-ghost use Rattle.addr2line_context.specs.ContextCosts.{AfterLookup};
+ghost use Rattle.addr2line_context.specs.ContextCosts.{AfterStep};
 ghost use Rattle.addr2line_context.specs.LocationRanges.{left_in};
 
 use crate::context::Context;
@@ -17,7 +17,7 @@ pub fn next_stretch<R: Reader>(
 ) -> Result<Option<UnitStretch>, Error>
     ensures stretch { FindsStretch context.old.value.plain.context.units result
         (left_in context.old walk.old) (left_in context.old walk.new) }
-    ensures after { AfterLookup 0 context.old context.new }
+    ensures after { AfterStep walk.old walk.new context.old context.new }
 {
     context.next_stretch(walk)
 }

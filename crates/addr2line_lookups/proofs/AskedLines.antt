@@ -61,14 +61,19 @@ reads_after asks us vs ws none reads n kept = by (reads n kept)
     by (inl before) = inl (none n before)
     by (inr asked) = inr asked
 
--- where lines of a unit that is asked are read last
+-- where lines of units that are asked are read last
+pub reads_more : (asks here : ℕ → Type 0) (us vs ws : List ResolvedUnit) → ((n : ℕ) → here n → asks n)
+    → ReadsAsked asks us vs → ReadsAsked here vs ws → ReadsAsked asks us ws
+reads_more asks here us vs ws are_asked first reads n kept = by (reads n kept)
+  where
+    by : KeepsAt vs n ⊎ here n → KeepsAt us n ⊎ asks n
+    by (inl before) = first n before
+    by (inr is) = inr (are_asked n is)
+
+-- where those of one are
 pub reads_both : (asks : ℕ → Type 0) (us vs ws : List ResolvedUnit) (k : ℕ) → asks k → ReadsAsked asks us vs
     → ReadsAsked (λ n. n ≡ k) vs ws → ReadsAsked asks us ws
-reads_both asks us vs ws k asked first reads n kept = by (reads n kept)
-  where
-    by : KeepsAt vs n ⊎ (n ≡ k) → KeepsAt us n ⊎ asks n
-    by (inl before) = first n before
-    by (inr is) = inr (subst asks (sym is) asked)
+reads_both asks us vs ws k asked = reads_more asks (λ n. n ≡ k) us vs ws (λ n is. subst asks (sym is) asked)
 
 -- ---- units of ranges
 

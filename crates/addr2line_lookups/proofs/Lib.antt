@@ -31,4 +31,5 @@ pub mod SettledUnits
 pub mod FirstLoads
 pub mod PassedUnits
 pub mod AskedLines
+pub mod RangeUnits
 pub mod KeptFunctionLists

@@ -1,5 +1,5 @@
 -- The stretches between two ends that are left of a walk over the units' ranges.
-use Rattle.std.specs.Prelude.{◌≡◌, ◌≢◌, ℕ, max, min, List, [], ◌∷◌, map, slice_get, Option, Some, None, Result, Ok, Err}
+use Rattle.std.specs.Prelude.{◌≡◌, ◌≢◌, ◌⊎◌, ℕ, max, min, List, [], ◌∷◌, drop, map, slice_get, Option, Some, None, Result, Ok, Err}
 use Rattle.addr2line_resolved.specs.Error.{Error}
 use Rattle.addr2line_resolved.specs.Error.TheVariants.{Memory}
 use Rattle.addr2line_resolved.specs.Repetition.{Listing, no_items, prepend}
@@ -7,6 +7,7 @@ use Rattle.addr2line_resolved.specs.Range.{Range}
 use Rattle.addr2line_resolved.specs.Lines.{Lines, Stretch}
 use Rattle.addr2line_resolved.specs.Contexts.{ContextUnit}
 use Rattle.addr2line_resolved.specs.UnitRange.{UnitRange}
+use Rattle.addr2line_resolved.specs.NumberedRanges.{overlapping_ranges}
 use Rattle.addr2line_resolved.specs.UnitPlaces.{UnitPlaces}
 use Rattle.addr2line_resolved.specs.RangeIndexLaws.{with_unit_stretches}
 use Rattle.addr2line_resolved.specs.LineCursor.{LineCursor}
@@ -14,7 +15,7 @@ use Rattle.addr2line_resolved.specs.LineCursors.{lines_left}
 use Rattle.addr2line_resolved.specs.StretchesLeft.{stretches_from_index}
 use Rattle.addr2line_resolved.specs.ContextUnits.{unit_places, ordered_ranges}
 use Rattle.addr2line_resolved.specs.ResolvedUnits.{ResolvedUnit}
-use Rattle.addr2line_lookups.specs.KeptUnits.{KeepsAt, location_of_unit_row}
+use Rattle.addr2line_lookups.specs.KeptUnits.{KeepsAt, IsUnitOf, location_of_unit_row}
 use Rattle.addr2line_lookups.specs.declared.range_walk.RangeRows.{RangeRows}
 use Rattle.addr2line_lookups.specs.declared.range_walk.RangeWalk.{RangeWalk}
 use Rattle.addr2line_lookups.specs.declared.range_walk.UnitStretch.{UnitStretch}
@@ -107,3 +108,25 @@ FindsStretch units (Ok (Some s)) old new =
     (x : Stretch) × IsStretchOf units s x × (old ≡ prepend (x ∷ []) new)
 FindsStretch units (Ok None) old new = (old ≡ no_items (Ok tt)) × (new ≡ old)
 FindsStretch units (Err e) old new = (e ≢ Memory → old ≡ no_items (Err e)) × (new ≡ old)
+
+-- ---- units that are asked
+
+-- the unit of a number is that of the range that a walk is in
+abbrev pub IsUnitOfRows : Option RangeRows → ℕ → Type 0
+IsUnitOfRows None number = ⊥
+IsUnitOfRows (Some r) number = number ≡ r.range.unit
+
+-- the unit of a number is that of this range, or of one that the walk comes to after it
+abbrev pub ComesTo : List UnitRange → RangeWalk → ℕ → Type 0
+ComesTo ranges w number =
+    IsUnitOfRows w.rows number
+    ⊎ IsUnitOf (overlapping_ranges w.low w.high (drop w.next ranges)) number
+
+-- a walk later comes to no other units
+abbrev pub StaysOnItsWay : List UnitRange → RangeWalk → RangeWalk → Type 0
+StaysOnItsWay ranges old new = (number : ℕ) → ComesTo ranges new number → ComesTo ranges old number
+
+-- rows are those of a range, if there are any
+abbrev pub AreOfRange : UnitRange → Option RangeRows → Type 0
+AreOfRange range None = Unit {0}
+AreOfRange range (Some r) = r.range ≡ range

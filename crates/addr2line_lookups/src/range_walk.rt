@@ -1,16 +1,18 @@
 //! Walks over the stretches between two ends. The lines of a unit are read where a walk comes to
 //! it, and kept.
 
-ghost use Rattle.std.specs.Prelude.{◌≡◌, ℕ, List, map, option_map, MatchOption};
+ghost use Rattle.std.specs.Prelude.{◌≡◌, ℕ, List, map, option_map, MatchOption, IfOk};
 ghost use Rattle.addr2line_resolved.specs.Calls.{ReturnsAs};
 ghost use Rattle.addr2line_resolved.specs.Contexts.{ContextUnit, ranges_of, lines_of};
 ghost use Rattle.addr2line_resolved.specs.PlaceLookups.{stretches_between};
+ghost use Rattle.addr2line_resolved.specs.UnitRange.{UnitRange as Numbered};
+ghost use Rattle.addr2line_resolved.specs.NumberedRanges.{overlapping_ranges};
 ghost use Rattle.addr2line_resolved.specs.ContextUnits.{unit_places};
 ghost use Rattle.addr2line_resolved.specs.ResolvedUnits.{KeepsLines, plain_unit, value_of_unit};
 ghost use Rattle.addr2line_lookups.specs.KeptCalls.{LeavesCalls};
-ghost use Rattle.addr2line_lookups.specs.KeptUnits.{KeepsAt, lines_at};
+ghost use Rattle.addr2line_lookups.specs.KeptUnits.{KeepsAt, ReadsAsked, IsUnitOf, lines_at};
 ghost use Rattle.addr2line_lookups.specs.LookupCosts.{AtMostLooks};
-ghost use Rattle.addr2line_lookups.specs.RangeWalks.{BeginsRange, NextInRange, NextOfRows, KeepsStretch, FindsStretch, walk_left, stretches_left};
+ghost use Rattle.addr2line_lookups.specs.RangeWalks.{BeginsRange, NextInRange, NextOfRows, KeepsStretch, FindsStretch, walk_left, stretches_left, AreOfRange, IsUnitOfRows, ComesTo, StaysOnItsWay};
 
 use crate::settle::{UnitRow, read_at, unit_at};
 use addr2line_resolved::{
@@ -47,8 +49,10 @@ pub struct RangeWalk {
 impl RangeWalk {
     /// The walk before the first stretch.
     pub fn new(low: u64, high: u64) -> Self
-        ensures { (units : List ContextUnit) → stretches_left units result
+        ensures stretches { (units : List ContextUnit) → stretches_left units result
             ≡ stretches_between ranges_of lines_of units low high }
+        ensures units { (ranges : List Numbered) → (number : ℕ) → ComesTo ranges result number
+            → IsUnitOf (overlapping_ranges low high ranges) number }
     {
         RangeWalk {
             low,
@@ -93,8 +97,9 @@ fn rows_in<R: Reader>(
     low: u64,
 ) -> Result<Option<RangeRows>, Error>
     requires { KeepsAt units.now range.unit }
-    ensures { (high : ℕ) → BeginsRange (map unit_places (map plain_unit units.now)) low high range
-        result }
+    ensures rows { (high : ℕ) → BeginsRange (map unit_places (map plain_unit units.now)) low high
+        range result }
+    ensures range { IfOk result (AreOfRange range) }
 {
     match lines_at(units, range.unit) {
         Ok(Some(lines)) => {
@@ -133,6 +138,7 @@ fn next_in<R: Reader>(
     requires { KeepsAt units.now rows.range.unit }
     ensures stretch { NextInRange (map plain_unit units.now) low high rows result }
     ensures unit { MatchOption result (Unit {0}) (λ f. f.0.row.unit ≡ rows.range.unit) }
+    ensures range { MatchOption result (Unit {0}) (λ f. f.1.range ≡ rows.range) }
 {
     let RangeRows { range, cursor } = rows;
     match lines_at(units, range.unit) {
@@ -162,8 +168,10 @@ fn first_rows<R: Reader>(
     ensures values { map value_of_unit units.new.items ≡ map value_of_unit units.old.items }
     ensures calls { LeavesCalls units.old.items units.new.items }
     ensures cost { AtMostLooks 0 units.old.items units.new.items }
+    ensures reads { ReadsAsked (λ n. n ≡ range.unit) units.old.items units.new.items }
     ensures rows { (high : ℕ) → BeginsRange (map unit_places (map plain_unit units.old.items)) low
         high range result }
+    ensures range { IfOk result (AreOfRange range) }
 {
     read_at(alloc, units, range.unit)?;
     rows_in(units.as_slice(), range, low)
@@ -179,7 +187,9 @@ fn next_of_rows<R: Reader>(
     ensures values { map value_of_unit units.new.items ≡ map value_of_unit units.old.items }
     ensures calls { LeavesCalls units.old.items units.new.items }
     ensures cost { AtMostLooks 0 units.old.items units.new.items }
+    ensures reads { ReadsAsked (IsUnitOfRows walk.old.rows) units.old.items units.new.items }
     ensures stretch { NextOfRows (map plain_unit units.old.items) result walk.old walk.new }
+    ensures unit { (n : ℕ) → IsUnitOfRows walk.new.rows n → IsUnitOfRows walk.old.rows n }
     ensures kept { KeepsStretch units.new.items result }
 {
     let Some(rows) = walk.rows else {
@@ -211,6 +221,8 @@ pub(crate) fn next_stretch<R: Reader>(
         (walk_left (map unit_places (map plain_unit units.old.items)) ranges.now walk.old)
         (walk_left (map unit_places (map plain_unit units.old.items)) ranges.now walk.new) }
     ensures kept { KeepsStretch units.new.items result }
+    ensures reads { ReadsAsked (ComesTo ranges.now walk.old) units.old.items units.new.items }
+    ensures way { StaysOnItsWay ranges.now walk.old walk.new }
 {
     'range: loop {
         if let Some(stretch) = next_of_rows(alloc, units, walk)? {

@@ -120,6 +120,7 @@ pub(crate) fn read_at<R: Reader>(
     ensures calls { LeavesCalls units.old.items units.new.items }
     ensures kept { OnOk result (KeepsAt units.new.items number) }
     ensures cost { AtMostLooks 0 units.old.items units.new.items }
+    ensures reads { ReadsAsked (λ n. n ≡ number) units.old.items units.new.items }
     ensures refusal { IfErr result (λ e. e ≡ Memory) }
 {
     if number >= units.len() {

@@ -17,7 +17,7 @@ ghost use Rattle.addr2line_lookups.specs.PassedUnits.{PassFrames, PassUnits, Pas
 ghost use Rattle.addr2line_lookups.specs.UnitLookups.{frames_among, SettlesFrames, unit_among, SettlesUnit, unit_at_number};
 ghost use Rattle.addr2line_resolved.specs.BorrowedFrames.{frames_left};
 ghost use Rattle.addr2line_lookups.specs.KeptUnits.{KeepsAt, KeepsFound, KeepsAsked, ReadsAsked, ReadsNoLines, IsUnitOf, AsksForRow, AsksForLines, FindsRow, location_of_unit_row};
-ghost use Rattle.addr2line_lookups.specs.RangeWalks.{FindsStretch, KeepsStretch, stretches_left};
+ghost use Rattle.addr2line_lookups.specs.RangeWalks.{FindsStretch, KeepsStretch, stretches_left, ComesTo, StaysOnItsWay};
 ghost use Rattle.addr2line_lookups.specs.LookupCosts.{AtMostLooks, row_probes_at, frame_probes_at, probes_among};
 ghost use Rattle.addr2line_lookups.specs.UnitParses.{WalksOrNoMemory, check_functions_of, check_calls_of};
 
@@ -123,6 +123,9 @@ impl<R: Reader> Units<R> {
             (stretches_left (map plain_unit self.old) walk.old)
             (stretches_left (map plain_unit self.old) walk.new) }
         ensures kept { KeepsStretch self.new result }
+        ensures reads { ReadsAsked (ComesTo (ordered_ranges (map plain_unit self.old)) walk.old)
+            self.old self.new }
+        ensures way { StaysOnItsWay (ordered_ranges (map plain_unit self.old)) walk.old walk.new }
     {
         let alloc = *self.units.allocator();
         next_stretch(alloc, &mut self.units, &self.ranges, walk)

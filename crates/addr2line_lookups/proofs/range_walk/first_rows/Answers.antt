@@ -11,4 +11,4 @@ returns-clause-rows g c high =
     subst (λ (us : List ContextUnit). BeginsRange (map unit_places us) c.args.low high c.args.range c.rows_in.result)
     (ap (map plain_unit) c.as_slice.ensures.value
     ∙ same_plain c.read_at.new.units.items c.args.units.now.items c.in_ok-read_at.ensures.values)
-    (c.rows_in.ensures high)
+    (c.rows_in.ensures.rows high)

@@ -1,9 +1,10 @@
 use Rattle.std.proofs.Common.{◌≡◌, ◌∙◌, List, [], Option, Some, None, ap, map, refl, subst, sym}
 use Rattle.addr2line_resolved.specs.Contexts.{ContextUnit}
+use Rattle.addr2line_resolved.specs.UnitRange.{UnitRange}
 use Rattle.addr2line_resolved.specs.ContextUnits.{unit_places}
 use Rattle.addr2line_resolved.specs.ResolvedUnits.{plain_unit}
-use Rattle.addr2line_lookups.specs.KeptUnits.{KeepsAt}
-use Rattle.addr2line_lookups.specs.RangeWalks.{rows_left, FirstStretch, NextInRange}
+use Rattle.addr2line_lookups.specs.KeptUnits.{KeepsAt, ReadsAsked}
+use Rattle.addr2line_lookups.specs.RangeWalks.{rows_left, FirstStretch, NextInRange, IsUnitOfRows}
 use Rattle.addr2line_lookups.specs.declared.range_walk.RangeRows.{RangeRows}
 use Rattle.addr2line_lookups.proofs.KeptLines.{same_plain}
 use Rattle.addr2line_lookups.proofs.range_walk.next_of_rows.Goals as goal
@@ -39,3 +40,26 @@ returns-in-None-clause-stretch g c =
           ∙ same_plain c.read_at.new.units.items c.args.units.now.items c.in_ok-read_at.ensures.values)
           c.in-None.ensures.stretch),
     )
+
+pub returns-in_err-read_at-clause-reads : goal.returns-in_err-read_at-clause-reads
+returns-in_err-read_at-clause-reads g c =
+    let reads : Option RangeRows → Type 0 =
+    λ o. ReadsAsked (IsUnitOfRows o) c.args.units.now.items c.read_at.new.units.items in
+    subst reads (sym c.in-Some.is) c.in_err-read_at.ensures.reads
+
+pub returns-in-Some-next_in-clause-reads : goal.returns-in-Some-next_in-clause-reads
+returns-in-Some-next_in-clause-reads g c =
+    let reads : Option RangeRows → Type 0 =
+    λ o. ReadsAsked (IsUnitOfRows o) c.args.units.now.items c.read_at.new.units.items in
+    subst reads (sym c.in-Some.is) c.in_ok-read_at.ensures.reads
+
+pub returns-in-None-clause-reads : goal.returns-in-None-clause-reads
+returns-in-None-clause-reads g c =
+    let reads : Option RangeRows → Type 0 =
+    λ o. ReadsAsked (IsUnitOfRows o) c.args.units.now.items c.read_at.new.units.items in
+    subst reads (sym c.in-Some.is) c.in_ok-read_at.ensures.reads
+
+pub returns-in-Some-next_in-clause-unit : goal.returns-in-Some-next_in-clause-unit
+returns-in-Some-next_in-clause-unit g c n is =
+    subst (λ (o : Option RangeRows). IsUnitOfRows o n) (sym c.in-Some.is)
+    (is ∙ ap (λ (r : UnitRange). r.unit) c.in-Some-next_in.ensures.range)

@@ -1,12 +1,14 @@
-use Rattle.std.proofs.Common.{◌≡◌, ◌∙◌, List, Ok, Err, ap, map, subst, sym}
+use Rattle.std.proofs.Common.{◌≡◌, ◌∙◌, List, Ok, Err, inl, ap, map, subst, sym}
 use Rattle.std.proofs.lemmas.Result.{err_from_is_err_and}
 use Rattle.addr2line_resolved.specs.Contexts.{ContextUnit}
 use Rattle.addr2line_resolved.specs.ContextUnits.{unit_places}
 use Rattle.addr2line_resolved.specs.ResolvedUnits.{plain_unit}
-use Rattle.addr2line_lookups.specs.RangeWalks.{BeginsRange, NextOfRows, walk_left}
+use Rattle.addr2line_lookups.specs.RangeWalks.{BeginsRange, NextOfRows, walk_left, IsUnitOfRows, ComesTo, StaysOnItsWay}
+use Rattle.addr2line_lookups.proofs.AskedLines.{reads_more, reads_both}
 use Rattle.addr2line_lookups.proofs.CallsLeft.{leaves_both}
 use Rattle.addr2line_lookups.proofs.KeptLines.{same_plain}
 use Rattle.addr2line_lookups.proofs.RangeSteps.{first_left, next_range, refused_range, no_range, stays_empty, ok_stretch}
+use Rattle.addr2line_lookups.proofs.RangeUnits.{way_of_rows, way_of_range, comes_next}
 use Rattle.addr2line_lookups.proofs.UnitProbes.{looks_after}
 use Rattle.addr2line_lookups.proofs.range_walk.next_stretch.Goals as goal
 
@@ -82,6 +84,9 @@ range-preserved g c =
     subst (λ (xs : List ContextUnit). BeginsRange (map unit_places xs) w.low w.high r (Ok rows))
     (same_plain now old (c.in_ok-stretch.ensures.values ∙ c.range.invariant.values))
     (c.in_ok-walk.ensures.rows w.high) in
+    let on_way : StaysOnItsWay ranges c.range.walk w =
+    way_of_rows (map plain_unit c.range.units.items) ranges (Ok c.in_ok-stretch.field-0) c.range.walk w
+    c.in_ok-stretch.ensures.stretch c.in_ok-stretch.ensures.unit in
     record {
       values = c.in_ok-walk.ensures.values ∙ c.in_ok-stretch.ensures.values ∙ c.range.invariant.values;
       left =
@@ -95,6 +100,15 @@ range-preserved g c =
           looks_after 0 old now c.first_rows.new.units.items
           (looks_after 0 old c.range.units.items now c.range.invariant.cost c.in_ok-stretch.ensures.cost)
           c.in_ok-walk.ensures.cost;
+      reads =
+          reads_both (ComesTo ranges c.args.walk.now) old now c.first_rows.new.units.items r.unit
+          (c.range.invariant.way r.unit (on_way r.unit (comes_next ranges w r next c.in-Some-next_overlapping.ensures)))
+          (reads_more (ComesTo ranges c.args.walk.now) (IsUnitOfRows c.range.walk.rows) old c.range.units.items now
+          (λ n is. c.range.invariant.way n (inl is)) c.range.invariant.reads c.in_ok-stretch.ensures.reads)
+          c.in_ok-walk.ensures.reads;
+      way = λ n come.
+          c.range.invariant.way n
+          (on_way n (way_of_range ranges w r next c.in-Some-next_overlapping.ensures rows c.in_ok-walk.ensures.range n come));
     }
 
 pub returns-in_err-stretch-clause-calls : goal.returns-in_err-stretch-clause-calls
@@ -117,3 +131,62 @@ returns-in_err-walk-clause-calls g c =
     leaves_both c.args.units.now.items c.next_of_rows.new.units.items c.first_rows.new.units.items
     (leaves_both c.args.units.now.items c.range.units.items c.next_of_rows.new.units.items c.range.invariant.calls
     c.in_ok-stretch.ensures.calls) c.in_err-walk.ensures.calls
+
+pub returns-in_err-stretch-clause-reads : goal.returns-in_err-stretch-clause-reads
+returns-in_err-stretch-clause-reads g c =
+    reads_more (ComesTo c.args.ranges.now c.args.walk.now) (IsUnitOfRows c.range.walk.rows) c.args.units.now.items
+    c.range.units.items c.next_of_rows.new.units.items (λ n is. c.range.invariant.way n (inl is))
+    c.range.invariant.reads c.in_err-stretch.ensures.reads
+
+pub returns-in-Some-clause-reads : goal.returns-in-Some-clause-reads
+returns-in-Some-clause-reads g c =
+    reads_more (ComesTo c.args.ranges.now c.args.walk.now) (IsUnitOfRows c.range.walk.rows) c.args.units.now.items
+    c.range.units.items c.next_of_rows.new.units.items (λ n is. c.range.invariant.way n (inl is))
+    c.range.invariant.reads c.in_ok-stretch.ensures.reads
+
+pub returns-in_default-next_overlapping-clause-reads : goal.returns-in_default-next_overlapping-clause-reads
+returns-in_default-next_overlapping-clause-reads g c =
+    reads_more (ComesTo c.args.ranges.now c.args.walk.now) (IsUnitOfRows c.range.walk.rows) c.args.units.now.items
+    c.range.units.items c.next_of_rows.new.units.items (λ n is. c.range.invariant.way n (inl is))
+    c.range.invariant.reads c.in_ok-stretch.ensures.reads
+
+pub returns-in_err-walk-clause-reads : goal.returns-in_err-walk-clause-reads
+returns-in_err-walk-clause-reads g c =
+    let ranges = c.args.ranges.now in
+    let w = c.next_of_rows.new.walk in
+    let r = c.in-Some-next_overlapping.range in
+    let old = c.args.units.now.items in
+    let now = c.next_of_rows.new.units.items in
+    let on_way : StaysOnItsWay ranges c.range.walk w =
+    way_of_rows (map plain_unit c.range.units.items) ranges (Ok c.in_ok-stretch.field-0) c.range.walk w
+    c.in_ok-stretch.ensures.stretch c.in_ok-stretch.ensures.unit in
+    reads_both (ComesTo ranges c.args.walk.now) old now c.first_rows.new.units.items r.unit
+    (c.range.invariant.way r.unit (on_way r.unit
+    (comes_next ranges w r c.in-Some-next_overlapping.next c.in-Some-next_overlapping.ensures)))
+    (reads_more (ComesTo ranges c.args.walk.now) (IsUnitOfRows c.range.walk.rows) old c.range.units.items now
+    (λ n is. c.range.invariant.way n (inl is)) c.range.invariant.reads c.in_ok-stretch.ensures.reads)
+    c.in_err-walk.ensures.reads
+
+pub returns-in_err-stretch-clause-way : goal.returns-in_err-stretch-clause-way
+returns-in_err-stretch-clause-way g c n come =
+    c.range.invariant.way n
+    (way_of_rows (map plain_unit c.range.units.items) c.args.ranges.now (Err c.in_err-stretch.field-0.0) c.range.walk
+    c.next_of_rows.new.walk c.in_err-stretch.ensures.stretch c.in_err-stretch.ensures.unit n come)
+
+pub returns-in-Some-clause-way : goal.returns-in-Some-clause-way
+returns-in-Some-clause-way g c n come =
+    c.range.invariant.way n
+    (way_of_rows (map plain_unit c.range.units.items) c.args.ranges.now (Ok c.in_ok-stretch.field-0) c.range.walk
+    c.next_of_rows.new.walk c.in_ok-stretch.ensures.stretch c.in_ok-stretch.ensures.unit n come)
+
+pub returns-in_default-next_overlapping-clause-way : goal.returns-in_default-next_overlapping-clause-way
+returns-in_default-next_overlapping-clause-way g c n come =
+    c.range.invariant.way n
+    (way_of_rows (map plain_unit c.range.units.items) c.args.ranges.now (Ok c.in_ok-stretch.field-0) c.range.walk
+    c.next_of_rows.new.walk c.in_ok-stretch.ensures.stretch c.in_ok-stretch.ensures.unit n come)
+
+pub returns-in_err-walk-clause-way : goal.returns-in_err-walk-clause-way
+returns-in_err-walk-clause-way g c n come =
+    c.range.invariant.way n
+    (way_of_rows (map plain_unit c.range.units.items) c.args.ranges.now (Ok c.in_ok-stretch.field-0) c.range.walk
+    c.next_of_rows.new.walk c.in_ok-stretch.ensures.stretch c.in_ok-stretch.ensures.unit n come)

@@ -1,6 +1,7 @@
 use Rattle.std.proofs.Common.{◌<◌, length, ap, arith}
 use Rattle.std.proofs.lemmas.Result.{on_ok_weaker}
 use Rattle.addr2line_resolved.specs.ResolvedUnits.{ResolvedUnit, value_of_unit}
+use Rattle.addr2line_lookups.proofs.AskedLines.{reads_set}
 use Rattle.addr2line_lookups.proofs.CallsOfUnits.{leaves_calls}
 use Rattle.addr2line_lookups.proofs.CallsLeft.{leaves_value}
 use Rattle.addr2line_lookups.proofs.KeptFunctionLists.{functions_same}
@@ -27,6 +28,7 @@ returns g c =
           (keeps_still c.read_lines.result unit new c.read_lines.ensures.kept c.read_lines.ensures.free)
           (functions_same unit new (ap (λ (u : ResolvedUnit). u.keeps_functions) c.read_lines.ensures.unit)
           (ap (λ (u : ResolvedUnit). u.calls) c.read_lines.ensures.unit)));
+      reads = reads_set us n new;
       refusal = c.read_lines.ensures.refusal;
       calls =
           leaves_calls us n unit below c.index_mut-unit.ensures.value new

@@ -1,5 +1,9 @@
 use Rattle.addr2line_lookups.proofs.RangeSteps.{all_left}
+use Rattle.addr2line_lookups.proofs.RangeUnits.{comes_first}
 use Rattle.addr2line_lookups.proofs.range_walk.RangeWalk.new.Goals as goal
 
-pub returns : goal.returns
-returns c units = all_left units c.args.low c.args.high
+pub returns-clause-stretches : goal.returns-clause-stretches
+returns-clause-stretches c units = all_left units c.args.low c.args.high
+
+pub returns-clause-units : goal.returns-clause-units
+returns-clause-units c ranges n come = comes_first ranges c.args.low c.args.high n come

@@ -2,8 +2,9 @@ use Rattle.std.proofs.Common.{◌∙◌, List, ap, sym, subst, map}
 use Rattle.addr2line_resolved.specs.UnitRange.{UnitRange}
 use Rattle.addr2line_resolved.specs.ContextUnits.{unit_places, ordered_ranges}
 use Rattle.addr2line_resolved.specs.ResolvedUnits.{ResolvedUnit, plain_unit}
+use Rattle.addr2line_lookups.specs.KeptUnits.{ReadsAsked}
 use Rattle.addr2line_lookups.specs.KeptCalls.{LeavesCalls}
-use Rattle.addr2line_lookups.specs.RangeWalks.{FindsStretch, walk_left, stretches_left}
+use Rattle.addr2line_lookups.specs.RangeWalks.{FindsStretch, walk_left, stretches_left, ComesTo, StaysOnItsWay}
 use Rattle.addr2line_lookups.proofs.KeptLines.{same_plain}
 use Rattle.addr2line_lookups.proofs.units.Units.next_stretch.Goals as goal
 
@@ -28,3 +29,17 @@ pub returns-clause-calls : goal.returns-clause-calls
 returns-clause-calls g c =
     subst (λ (us : List ResolvedUnit). LeavesCalls us c.next_stretch.new.units.items) c.self.view_is
     c.next_stretch.ensures.calls
+
+pub returns-clause-reads : goal.returns-clause-reads
+returns-clause-reads g c =
+    let w = c.args.walk.now in
+    let new = c.next_stretch.new.units.items in
+    let reads : List ResolvedUnit → List UnitRange → Type 0 = λ us rs. ReadsAsked (ComesTo rs w) us new in
+    subst (λ (us : List ResolvedUnit). reads us (ordered_ranges (map plain_unit us))) c.self.view_is
+    (subst (reads c.self.inside.units.items) c.self.invariant c.next_stretch.ensures.reads)
+
+pub returns-clause-way : goal.returns-clause-way
+returns-clause-way g c =
+    let way : List UnitRange → Type 0 = λ rs. StaysOnItsWay rs c.args.walk.now c.next_stretch.new.walk in
+    subst (λ (us : List ResolvedUnit). way (ordered_ranges (map plain_unit us))) c.self.view_is
+    (subst way c.self.invariant c.next_stretch.ensures.way)

@@ -1,0 +1,43 @@
+-- Which units a walk over ranges comes to, one step after the other.
+use Rattle.std.proofs.Common.{◌≡◌, inl, inr, ℕ, List, ◌∷◌, drop, Option, Some, None, Result, Ok, Err, refl, sym, ap, ◌∙◌, subst}
+use Rattle.addr2line_resolved.specs.Error.{Error}
+use Rattle.addr2line_resolved.specs.Contexts.{ContextUnit}
+use Rattle.addr2line_resolved.specs.UnitRange.{UnitRange}
+use Rattle.addr2line_resolved.specs.NumberedRanges.{overlapping_ranges}
+use Rattle.addr2line_lookups.specs.KeptUnits.{IsUnitOf}
+use Rattle.addr2line_lookups.specs.RangeWalks.{NextOfRows, IsUnitOfRows, ComesTo, StaysOnItsWay, AreOfRange}
+use Rattle.addr2line_lookups.specs.declared.range_walk.RangeRows.{RangeRows}
+use Rattle.addr2line_lookups.specs.declared.range_walk.RangeWalk.{RangeWalk}
+use Rattle.addr2line_lookups.specs.declared.range_walk.UnitStretch.{UnitStretch}
+
+-- before the first range it comes to those of all
+pub comes_first : (ranges : List UnitRange) (low high n : ℕ)
+    → ComesTo ranges (record { low = low; high = high; rows = None; next = 0 }) n
+    → IsUnitOf (overlapping_ranges low high ranges) n
+comes_first ranges low high n (inl is) = absurd is
+comes_first ranges low high n (inr later) = later
+
+-- in the range that it is in
+pub way_of_rows : (units : List ContextUnit) (ranges : List UnitRange) (result : Result (Option UnitStretch) Error)
+    (old new : RangeWalk) → NextOfRows units result old new
+    → ((n : ℕ) → IsUnitOfRows new.rows n → IsUnitOfRows old.rows n) → StaysOnItsWay ranges old new
+way_of_rows units ranges (Ok (Some s)) old new h rows n (inl is) = inl (rows n is)
+way_of_rows units ranges (Ok (Some s)) old new h rows n (inr later) =
+    inr (subst (λ (w : RangeWalk). IsUnitOf (overlapping_ranges w.low w.high (drop w.next ranges)) n) h.0 later)
+way_of_rows units ranges (Ok None) old new h rows n come = subst (λ (w : RangeWalk). ComesTo ranges w n) h.0 come
+way_of_rows units ranges (Err e) old new h rows n come = subst (λ (w : RangeWalk). ComesTo ranges w n) h.0 come
+
+module _ (ranges : List UnitRange) (w : RangeWalk) (r : UnitRange) (next : ℕ)
+    (is : overlapping_ranges w.low w.high (drop w.next ranges)
+    ≡ r ∷ overlapping_ranges w.low w.high (drop next ranges)) where
+  -- in the next range
+  pub comes_next : ComesTo ranges w r.unit
+  comes_next = inr (subst (λ rs. IsUnitOf rs r.unit) (sym is) (inl refl))
+
+  pub way_of_range : (rows : Option RangeRows) → AreOfRange r rows
+      → StaysOnItsWay ranges w (record { low = w.low; high = w.high; rows = rows; next = next })
+  way_of_range None h n (inl same) = absurd same
+  way_of_range (Some x) h n (inl same) =
+      subst (ComesTo ranges w) (sym (same ∙ ap (λ (q : UnitRange). q.unit) h)) comes_next
+  way_of_range None h n (inr later) = inr (subst (λ rs. IsUnitOf rs n) (sym is) (inr later))
+  way_of_range (Some x) h n (inr later) = inr (subst (λ rs. IsUnitOf rs n) (sym is) (inr later))
