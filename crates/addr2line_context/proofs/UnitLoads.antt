@@ -1,5 +1,5 @@
 -- The load for which the unit of an address waits.
-use Rattle.std.proofs.Common.{◌≡◌, ℕ, List, ◌∷◌, map, Bool, Option, None, Result, Ok, Err, sym, subst}
+use Rattle.std.proofs.Common.{◌≡◌, ℕ, List, ◌∷◌, Bool, Option, None, Result, Ok, Err, sym, subst}
 use Rattle.addr2line_lookups.specs.Error.{Error}
 use Rattle.addr2line_lookups.specs.FirstAnswers.{FirstAnswer, PendingLoad, Lookup, pending}
 use Rattle.addr2line_lookups.specs.UnitFacts.{UnitInFile}

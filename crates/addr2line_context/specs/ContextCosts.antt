@@ -60,14 +60,15 @@ frame_looks c a =
 abbrev pub AsksForPlace : AnsweredContext → ℕ → ℕ → Type 0
 AsksForPlace c a = AsksAmong c.plain.context.units a (ranges_over c a)
 
--- the unit of a number is one with a range between two ends
-abbrev pub HasRangeBetween : AnsweredContext → ℕ → ℕ → ℕ → Type 0
-HasRangeBetween c low high =
-    IsUnitOf (overlapping_ranges low high (ordered_ranges c.plain.context.units))
-
--- it is one that a walk over the stretches between two ends still asks for its lines
+-- the unit of a number is one that a walk over stretches still asks for its lines
 abbrev pub AsksForStretches : AnsweredContext → RangeWalk → ℕ → Type 0
 AsksForStretches c w = ComesTo (ordered_ranges c.plain.context.units) w
+
+-- a walk asks no units but those with a range between two ends
+abbrev pub AsksBetween : AnsweredContext → ℕ → ℕ → RangeWalk → Type 0
+AsksBetween c low high w =
+    (number : ℕ) → AsksForStretches c w number
+    → IsUnitOf (overlapping_ranges low high (ordered_ranges c.plain.context.units)) number
 
 -- The context's value is what it was. There were no more than n looks at what is kept. Lines,
 -- functions and calls that were kept are kept still, so that no line number program is run again.

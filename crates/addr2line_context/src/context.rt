@@ -19,7 +19,7 @@ ghost use Rattle.addr2line_lookups.specs.Histories.{functions_or_refusal, calls_
 ghost use Rattle.addr2line_lookups.specs.ContextNames.{naming_in};
 ghost use Rattle.addr2line_lookups.specs.Preloads.{load_at, load_of_item};
 ghost use Rattle.addr2line_context.specs.AnsweredContexts.{HasNoAnswers};
-ghost use Rattle.addr2line_context.specs.ContextCosts.{runs_of_unit, location_looks, AsksForPlace, AsksForStretches, HasRangeBetween, AfterLookup, AfterSearch, AfterReading, AfterStep};
+ghost use Rattle.addr2line_context.specs.ContextCosts.{runs_of_unit, location_looks, AsksForPlace, AsksBetween, AfterLookup, AfterSearch, AfterReading, AfterStep};
 ghost use Rattle.addr2line_context.specs.ContextParses.{ParsesOrNoMemory};
 ghost use Rattle.addr2line_context.specs.LocationRanges.{left_in};
 ghost use Rattle.addr2line_context.specs.RangeItems.{stretch_of_item};
@@ -201,9 +201,8 @@ impl<R: Reader> Context<R> {
         ensures stretches { ReturnsAs (λ i. left_in i.context.now i.walk) result
             (Ok (stretches self.old.value.plain.context probe_low probe_high)) }
         ensures context { IfOk result (λ i. i.context.now ≡ self.old) }
-        ensures asks { IfOk result (λ i. (number : ℕ)
-            → AsksForStretches self.old.value i.walk number
-            → HasRangeBetween self.old.value probe_low probe_high number) }
+        ensures asks { IfOk result
+            (λ i. AsksBetween self.old.value probe_low probe_high i.walk) }
         ensures same_reference { IfOk result (λ i. i.context.ghost_name ≡ self.entry.ghost_name) }
         ensures* after { sem 𝓛 (RestsIfErr (the_row R.row R.Endian.row R.Offset.row R.Reader
             R.Endian.Endianity.own R.Endian.Debug R.Endian.Default R.Endian.PartialEq

@@ -2,6 +2,5 @@ pub mod AnsweredPlaces
 pub mod AnsweredCalls
 pub mod CopiedAnswers
 pub mod AnsweredTokens
-pub mod CopiedStretches
 pub mod NoLoads
 pub mod TableCalls

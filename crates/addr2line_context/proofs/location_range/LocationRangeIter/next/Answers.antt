@@ -1,4 +1,4 @@
-use Rattle.std.proofs.Common.{◌≡◌, ◌∙◌, ◌∷◌, [], Option, Ok, Some, ap, refl, subst, sym}
+use Rattle.std.proofs.Common.{◌∙◌, ◌∷◌, [], Option, Ok, Some, ap, refl, subst, sym}
 use Rattle.addr2line_lookups.specs.Repetition.{prepend}
 use Rattle.addr2line_lookups.specs.Lines.{Stretch}
 use Rattle.addr2line_lookups.specs.RangeWalks.{FindsStretch, IsStretchOf}
