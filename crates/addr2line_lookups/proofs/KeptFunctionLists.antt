@@ -1,5 +1,5 @@
 -- Functions and calls that are kept stay kept, whatever is read.
-use Rattle.std.proofs.Common.{◌≡◌, ℕ, zero, suc, true, cond, List, [], ◌∷◌, set, get_or, Option, Some, is_some, Result, Ok, Err, OnOk, OnErr, refl, sym, ap, ◌∙◌, subst}
+use Rattle.std.proofs.Common.{◌≡◌, ℕ, zero, suc, true, cond, List, [], ◌∷◌, set, get_or, slice_get, Option, Some, None, IfSome, is_some, Result, Ok, Err, OnOk, OnErr, refl, sym, ap, ◌∙◌, subst}
 use Rattle.addr2line_resolved.specs.Error.{Error}
 use Rattle.addr2line_resolved.specs.InlinedCalls.{FunctionCalls}
 use Rattle.addr2line_resolved.specs.KeptFunctions.{kept_at, calls_of_none, count_of_functions}
