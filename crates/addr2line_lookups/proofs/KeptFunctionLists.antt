@@ -50,7 +50,8 @@ kept_put (c ∷ cs) (suc n) (suc k) r kept = kept_put cs n k r kept
 
 -- calls of one of them are read
 pub functions_called : (old new : ResolvedUnit) (n : ℕ) (r : Result FunctionCalls Error)
-    (result : Result (Unit {0}) Error) → OnOk result (new ≡ with_calls old n r) → OnErr result (new ≡ old) → KeepsMoreFunctions old new
+    (result : Result (Unit {0}) Error) → OnOk result (new ≡ with_calls old n r) → OnErr result (new ≡ old)
+    → KeepsMoreFunctions old new
 functions_called old new n r (Ok x) is same = record {
   functions = λ kept. ap (λ (u : ResolvedUnit). u.keeps_functions) is ∙ kept;
   calls = λ k kept. subst (KeepsFunctionCalls k) (sym is) (kept.0, kept_put old.calls n k r kept.1);

@@ -108,7 +108,8 @@ range-preserved g c =
           c.in_ok-walk.ensures.reads;
       way = λ n come.
           c.range.invariant.way n
-          (on_way n (way_of_range ranges w r next c.in-Some-next_overlapping.ensures rows c.in_ok-walk.ensures.range n come));
+          (on_way n (way_of_range ranges w r next c.in-Some-next_overlapping.ensures rows c.in_ok-walk.ensures.range n
+          come));
     }
 
 pub returns-in_err-stretch-clause-calls : goal.returns-in_err-stretch-clause-calls
