@@ -243,15 +243,19 @@ fn ask<R: Reader>(
         Question::FramesOfEach(steps) => frames_of_each(context, steps, out),
         Question::Name(probe) => frames::name_at(context, probe, out),
         Question::Unit(probe) => loads::unit_at(context, probe, out),
-        Question::Stretches(low, high) => places::stretches(
-            context.find_location_range(low, high),
-            out,
-        ),
+        Question::Stretches(low, high) => stretches(context, low, high, out),
         Question::Lines => out.outcome(context.parse_lines()),
         Question::Functions => out.outcome(context.parse_functions()),
         Question::Calls => out.outcome(context.parse_inlined_functions()),
         Question::HasUnit(number) => loads::has_unit(context, number, out),
         _ => ask_about_loads(context, question, named, out),
+    }
+}
+
+fn stretches<R: Reader>(context: &mut Context<R>, low: u64, high: u64, out: &mut Answer) {
+    match context.find_location_range(low, high) {
+        Ok(mut found) => places::stretches(&mut found, out),
+        Err(error) => out.refuse(error),
     }
 }
 

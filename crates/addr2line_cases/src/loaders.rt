@@ -140,7 +140,10 @@ fn place(loader: &mut Loader, probe: u64, out: &mut Answer) {
 }
 
 fn stretches(loader: &mut Loader, low: u64, high: u64, out: &mut Answer) {
-    places::stretches(loader.find_location_range(low, high), out);
+    match loader.find_location_range(low, high) {
+        Ok(mut found) => places::stretches(&mut found, out),
+        Err(error) => out.refuse(error),
+    }
 }
 
 fn frames<S: SplitSource>(loader: &mut Loader, probe: u64, source: &mut S, out: &mut Answer) {

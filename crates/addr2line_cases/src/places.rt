@@ -41,16 +41,11 @@ pub fn place_found(found: Result<Option<Location<'_>>, Error>, out: &mut Answer)
 }
 
 /// Stretches, up to ten, and after a refusal the next answer.
-pub fn stretches<R: Reader>(found: Result<LocationRangeIter<'_, R>, Error>, out: &mut Answer) {
-    match found {
-        Ok(mut found) => {
-            for _ in 0..10 {
-                if !next_stretch(&mut found, out) {
-                    break;
-                }
-            }
+pub fn stretches<R: Reader>(found: &mut LocationRangeIter<'_, R>, out: &mut Answer) {
+    for _ in 0..10 {
+        if !next_stretch(found, out) {
+            break;
         }
-        Err(error) => out.refuse(error),
     }
 }
 
