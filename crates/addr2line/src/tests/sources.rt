@@ -56,8 +56,22 @@ fn files_in_memory(rt: HostRuntime) -> Result<(), Fail> {
 #[test]
 fn files_of_the_file_system(rt: HostRuntime) {
     let mut source = FileSource::new(&rt);
-    assert!(rt; gives(&mut source, b"/no/such", b"/proc/sys/kernel/ostype", Some(b"Linux\n")));
-    assert!(rt; gives(&mut source, b"/proc/sys/kernel", b"ostype", Some(b"Linux\n")));
+    assert!(rt;
+        gives(
+            &mut source,
+            b"/no/such",
+            b"/proc/sys/kernel/ostype",
+            Some(b"Linux\n")
+        )
+    );
+    assert!(rt;
+        gives(
+            &mut source,
+            b"/proc/sys/kernel",
+            b"ostype",
+            Some(b"Linux\n")
+        )
+    );
     assert!(rt; gives(&mut source, b"/no/such", b"/dev/null", None));
     assert!(rt; gives(&mut source, b"/dev", b"null", None));
     assert!(rt; gives(&mut source, b"/dev", b"no such file", None));
