@@ -9,12 +9,12 @@ pub returns-in_err-rows : goal.returns-in_err-rows
 returns-in_err-rows g c =
     refusal_returned (λ addresses. addresses.items) c.from_residual.result
     (row_addresses g.R.Offset.ReaderOffset.limit c.args.header) _ c.from_residual.ensures.1
-    (λ ne. cc (c.in_err-rows.ensures ne))
+    (λ ne. cc (c.in_err-rows.ensures.value ne))
 
 pub loop-rows-init : goal.loop-rows-init
 loop-rows-init g c =
     let limit = g.R.Offset.ReaderOffset.limit in
-    let first : c.in_ok-rows.rows ≡ program_rows c.args.header = cc c.in_ok-rows.ensures in
+    let first : c.in_ok-rows.rows ≡ program_rows c.args.header = cc c.in_ok-rows.ensures.value in
     ap (λ xs. append_to xs (addresses_of (rows_to_come limit c.in_ok-rows.rows))) c.new-addresses.ensures.items
     ∙ append_to_nothing (addresses_of (rows_to_come limit c.in_ok-rows.rows))
     ∙ ap (λ s. addresses_of (rows_to_come limit s)) first
