@@ -67,7 +67,8 @@ fn next_sequence(lines: &Lines, from: usize, low: u64, high: u64) -> Option<Line
 impl Lines {
     /// Where a walk over the rows from a low end on begins. It is a bisection.
     pub fn cursor_from(&self, low: u64) -> LineCursor
-        ensures { (high : ℕ) → lines_left self.now low high result ≡ lines_between self.now low high }
+        ensures { (high : ℕ)
+            → lines_left self.now low high result ≡ lines_between self.now low high }
     {
         LineCursor {
             place: RowPlace {
