@@ -1,16 +1,32 @@
 -- Texts that are written one after the other, each with its zero byte.
-use Rattle.std.proofs.Common.{◌≡◌, ℕ, List, [], ◌∷◌, ◌++◌, length, take, Result, Ok, Err, refl, sym, ap, ◌∙◌, append_assoc}
-use Rattle.std.proofs.lemmas.List.{append-nil}
-use Rattle.std.proofs.Math.Seq.{take-append_seam}
-use Rattle.gimli_lines_write_rows.specs.WriteError.{Error}
-use Rattle.gimli_lines_write_rows.specs.OutputBytes.{WriterContents, first_bytes, append, append_result, Writes}
-use Rattle.gimli_lines_write_rows.specs.EntryBytes.{Extends, Continues}
+use Rattle.std.proofs.Common.{◌≡◌, ℕ, ◌+◌, ◌<◌, ◌≤◌, List, [], ◌∷◌, ◌++◌, length, map, drop, get_or, add-one, Ok, refl, sym, ap, ◌∙◌, append_assoc}
+use Rattle.std.proofs.lemmas.List.{append-nil, drop_all}
+use Rattle.std.proofs.Math.Seq.{drop-cons}
+use Rattle.std.specs.Global.{Vec}
+use Rattle.gimli_lines_write_rows.specs.OutputBytes.{WriterContents, append, append_result}
+use Rattle.gimli_lines_write_rows.specs.EntryBytes.{Extends}
 use Rattle.gimli_lines_write_tables.specs.StringSections.{section_of}
 
 -- What is left of texts that are being written after other bytes.
 pub record TextsLeft (start now : WriterContents) (texts rest : List (List ℕ)) : Type 0 where
   pub bytes : now.bytes ++ section_of rest ≡ start.bytes ++ section_of texts
   pub begins : Extends start now
+
+-- the next text, before those after it
+pub next_bytes : (texts : List (Vec ℕ)) (i : ℕ) (t : Vec ℕ) (bytes : List ℕ) → i < length texts → t ≡ get_or texts i t
+    → bytes ≡ t.items
+    → map (λ (x : Vec ℕ). x.items) (drop i texts) ≡ bytes ∷ map (λ (x : Vec ℕ). x.items) (drop (i + 1) texts)
+next_bytes texts i t bytes h is same =
+    ap (map (λ (x : Vec ℕ). x.items)) next
+    ∙ ap (λ (x : Vec ℕ). x.items ∷ map (λ (y : Vec ℕ). y.items) (drop (i + 1) texts)) (sym is)
+    ∙ ap (λ l. l ∷ map (λ (y : Vec ℕ). y.items) (drop (i + 1) texts)) (sym same)
+  where
+    next : drop i texts ≡ get_or texts i t ∷ drop (i + 1) texts
+    next = rw add-one (drop-cons texts i t h)
+
+-- past the last there is none
+pub none_left : (texts : List (Vec ℕ)) (i : ℕ) → length texts ≤ i → map (λ (x : Vec ℕ). x.items) (drop i texts) ≡ []
+none_left texts i h = ap (map (λ (x : Vec ℕ). x.items)) (drop_all i texts h)
 
 -- before the first
 pub none_done : (start : WriterContents) (texts : List (List ℕ)) → TextsLeft start start texts texts
@@ -41,31 +57,11 @@ module _ (start now : WriterContents) (texts : List (List ℕ)) (t : List ℕ) (
         };
       }
 
--- where one is refused
-pub one_refused : {A B : Type 0} (start now new : WriterContents) (texts rest : List (List ℕ)) (t : List ℕ) (e : Error)
-    → TextsLeft start now texts rest → Continues {A} (Err e) now new (Ok t)
-    → Continues {B} (Err e) start new (Ok (section_of texts))
-one_refused start now new texts rest t e left h = (
-  λ n. absurd (let k = h.0 n in cc),
-  record {
-    more = left.begins.more ++ h.1.more;
-    bytes = h.1.bytes ∙ ap (λ l. l ++ h.1.more) left.begins.bytes
-        ∙ append_assoc start.bytes left.begins.more h.1.more;
-    order = h.1.order ∙ left.begins.order;
-  },
-)
-
 -- after the last
 pub all_done : (start now : WriterContents) (texts : List (List ℕ)) → TextsLeft start now texts []
     → append_result (Ok (section_of texts)) start ≡ Ok now
 unfolding section_of
-all_done start now texts left = let b : start.bytes ++ section_of texts ≡ now.bytes = sym left.bytes ∙ append-nil now.bytes in
+all_done start now texts left =
+    let b : start.bytes ++ section_of texts ≡ now.bytes = sym left.bytes ∙ append-nil now.bytes in
     ap (λ l. Ok (record { bytes = l; is_big = start.is_big })) b
     ∙ ap (λ b. Ok (record { bytes = now.bytes; is_big = b })) (sym left.begins.order)
-
--- Back at the bytes that were there, the writer is as it was.
-pub undone : (old new : WriterContents) (n : ℕ) → Extends old new → n ≡ length old.bytes → first_bytes n new ≡ old
-undone old new n more is =
-    ap (λ l. record { bytes = l; is_big = new.is_big })
-    (ap (take n) more.bytes ∙ ap (λ k. take k (old.bytes ++ more.more)) is ∙ take-append_seam old.bytes more.more)
-    ∙ ap (λ b. record { bytes = old.bytes; is_big = b }) more.order

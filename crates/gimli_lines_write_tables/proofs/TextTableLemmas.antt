@@ -91,7 +91,7 @@ with_text-new texts t h = ap (λ b. cond b texts (texts ++ t ∷ [])) h
 pub text_table-none : IsTextTable [] [] 0
 unfolding section_of
 text_table-none =
-    record { same_length = refl; begins = λ i h. absurd (omega arith); size = refl; no_zeros = search rules }
+    record { same_length = refl; begins = λ i h. absurd (omega arith); ends = refl; no_zeros = search rules }
 
 -- the section with one more text
 length-push : (texts : List (List ℕ)) (t : List ℕ) → length (section_of (texts ++ t ∷ []))
@@ -106,7 +106,7 @@ pub text_table-push : (texts : List (List ℕ)) (offsets : List ℕ) (size : ℕ
 text_table-push texts offsets size t sound is_text = record {
   same_length = omega (arith, length-append offsets (size ∷ []), length-append texts (t ∷ []), sound.same_length);
   begins = begins;
-  size = ap (λ n. n + (length t + 1)) sound.size ∙ sym (length-push texts t);
+  ends = ap (λ n. n + (length t + 1)) sound.ends ∙ sym (length-push texts t);
   no_zeros = All-push IsText texts t sound.no_zeros is_text;
 }
   where
@@ -125,7 +125,7 @@ text_table-push texts offsets size t sound is_text = record {
         at_end : (j : ℕ) → j ≡ length texts → slice_index (offsets ++ size ∷ []) j
             ≡ offset_of (texts ++ t ∷ []) j
         at_end j e = ap (λ k. slice_index (offsets ++ size ∷ []) k) (e ∙ sym sound.same_length)
-            ∙ get_or-append_seam offsets size [] 0 ∙ sound.size ∙ sym (offset_of-end texts)
+            ∙ get_or-append_seam offsets size [] 0 ∙ sound.ends ∙ sym (offset_of-end texts)
             ∙ ap (offset_of texts) (sym e) ∙ sym (offset_of-before texts t j (omega arith))
 
 -- ---- texts as the keys of a set

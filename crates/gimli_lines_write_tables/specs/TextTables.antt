@@ -10,7 +10,7 @@ use Rattle.gimli_lines_write_tables.specs.StringSections.{IsText, section_of, of
 pub record IsTextTable (texts : List (List ℕ)) (offsets : List ℕ) (size : ℕ) : Type 0 where
   pub same_length : length offsets ≡ length texts
   pub begins : (i : ℕ) → i < length texts → slice_index offsets i ≡ offset_of texts i
-  pub size : size ≡ length (section_of texts)
+  pub ends : size ≡ length (section_of texts)
   pub no_zeros : All IsText texts
 
 -- the texts of a set, in its order
