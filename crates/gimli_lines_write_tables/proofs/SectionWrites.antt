@@ -1,5 +1,5 @@
 -- Texts that are written one after the other, each with its zero byte.
-use Rattle.std.proofs.Common.{◌≡◌, ℕ, ◌+◌, ◌<◌, ◌≤◌, List, [], ◌∷◌, ◌++◌, length, map, drop, get_or, add-one, Ok, refl, sym, ap, ◌∙◌, append_assoc}
+use Rattle.std.proofs.Common.{◌≡◌, ℕ, ◌+◌, ◌<◌, ◌≤◌, List, [], ◌∷◌, ◌++◌, length, map, drop, get_or, add-one, Ok, sym, ap, ◌∙◌, append_assoc}
 use Rattle.std.proofs.lemmas.List.{append-nil, drop_all}
 use Rattle.std.proofs.Math.Seq.{drop-cons}
 use Rattle.std.specs.Global.{Vec}
@@ -27,11 +27,6 @@ next_bytes texts i t bytes h is same =
 -- past the last there is none
 pub none_left : (texts : List (Vec ℕ)) (i : ℕ) → length texts ≤ i → map (λ (x : Vec ℕ). x.items) (drop i texts) ≡ []
 none_left texts i h = ap (map (λ (x : Vec ℕ). x.items)) (drop_all i texts h)
-
--- before the first
-pub none_done : (start : WriterContents) (texts : List (List ℕ)) → TextsLeft start start texts texts
-none_done start texts =
-    record { bytes = refl; begins = record { more = []; bytes = sym (append-nil start.bytes); order = refl } }
 
 -- a text and its zero byte, before those after it
 section_of-cons : (t : List ℕ) (rest : List (List ℕ)) → (t ++ 0 ∷ []) ++ section_of rest ≡ section_of (t ∷ rest)

@@ -82,14 +82,14 @@ impl TextId for LineStringId {
     }
 }
 
-/// The texts of `.debug_str`.
+/// The texts of `.debug_str`, each kept once.
 pub type StringTable = TextTable<StringId>;
 
-/// The texts of `.debug_line_str`.
+/// The texts of `.debug_line_str`, each kept once.
 pub type LineStringTable = TextTable<LineStringId>;
 
-/// The texts of a string section, each once (DWARF 5, 7.26). Their bytes are kept once, and aren't
-/// in the section's form before `write`. A contract sees them in the order of their first adds.
+/// The texts of a string section, each once (DWARF 5, 7.26). The bytes of a text are kept once;
+/// `write` makes the section of them. A contract sees the texts in the order of their first adds.
 #[derive(Drop)]
 pub struct TextTable<I> {
     texts: Texts,
@@ -175,7 +175,7 @@ impl<I: TextId> TextTable<I> {
         I::offset_after(self.texts.offset(id.index()))
     }
 
-    /// Writes the section, text by text, in the time of its bytes and texts. It takes no memory but
+    /// Writes the section, text by text, in time that grows with its length. It takes no memory but
     /// the writer's. Refused, the writer is as before.
     pub fn write<W: Writer>(&self, w: &mut W) -> Result<(), Error>
         ensures { Writes result (W.contents w.old) (W.contents w.new)

@@ -59,8 +59,8 @@ impl Texts {
         }
     }
 
-    // Adds a text that isn't there. No machine has memory for texts whose section is longer than
-    // `usize::MAX`, so that refusal is out of memory too.
+    // Adds a text that isn't there. Texts whose section is longer than `usize::MAX` fit in no
+    // memory, so they are refused as out of memory too.
     fn push(&mut self, alloc: Global, bytes: &[u8]) -> Result<usize, Error>
         requires text { IsText bytes.now }
         requires absent { list_any (same_bytes bytes.now) self.old ≡ false }
