@@ -8,6 +8,10 @@ pub record WriterContents : Type 0 where
   pub bytes : List ℕ
   pub is_big : Bool
 
+-- the first of them
+abbrev pub first_bytes : ℕ → WriterContents → WriterContents
+first_bytes n w = record { bytes = take n w.bytes; is_big = w.is_big }
+
 -- bytes after those
 abbrev pub append : List ℕ → WriterContents → WriterContents
 append bytes w = record { bytes = w.bytes ++ bytes; is_big = w.is_big }

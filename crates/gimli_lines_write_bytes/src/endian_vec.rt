@@ -92,6 +92,10 @@ impl<E: Endianity> Writer for EndianVec<E> {
         Ok(())
     }
 
+    fn truncate(&mut self, len: usize) {
+        self.vec.truncate(len);
+    }
+
     fn write_address(&mut self, address: Address, size: u8) -> Result<(), Error> {
         match address {
             Address::Constant(val) => {

@@ -4,7 +4,7 @@ ghost use Rattle.std.specs.Prelude.{◌≡◌, ◌+◌, ◌<◌, ◌^◌, ℕ, R
 ghost use Rattle.gimli_core_base.specs.FormatSizes.{word_size};
 ghost use Rattle.gimli_core_base.specs.Fixed.{number_bytes};
 ghost use Rattle.gimli_core_base.specs.Spelling.{unsigned_string, signed_string};
-ghost use Rattle.gimli_lines_write_bytes.specs.OutputBytes.{WriterContents, append, append_result, replace_within, replace_result, Writes, Overwrites};
+ghost use Rattle.gimli_lines_write_bytes.specs.OutputBytes.{WriterContents, first_bytes, append, append_result, replace_within, replace_result, Writes, Overwrites};
 ghost use Rattle.gimli_lines_write_bytes.specs.NumberBytes.{bytes_in_width, signed_bytes_in_width, address_bytes, escape, length_bytes};
 ghost use Rattle.gimli_lines_write_bytes.specs.declared.error.Error.{Error};
 ghost use Rattle.gimli_lines_write_bytes.specs.declared.address.Address.{Address};
@@ -49,6 +49,11 @@ pub trait Writer {
     fn write_at(&mut self, offset: usize, bytes: &[u8]) -> Result<(), Error>
         ensures { Overwrites result (contents self.old) (contents self.new)
             (replace_within offset bytes.now (contents self.old)) };
+
+    /// Drops what is written after the first `len` bytes, if anything. So a write of several parts
+    /// can be undone. It takes no memory.
+    fn truncate(&mut self, len: usize)
+        ensures { contents self.new ≡ first_bytes len (contents self.old) };
 
     /// Writes an address of `size` bytes. A writer that relocates decides what is written of a
     /// symbol.

@@ -5,5 +5,6 @@ pub use Rattle.gimli_lines_write_rows.proofs.FewInstructions
 pub use Rattle.gimli_lines_write_rows.proofs.RowsDecoding
 pub mod TextTableLemmas
 pub mod SectionTexts
+mod SectionWrites
 pub mod Keys
 pub mod Additions

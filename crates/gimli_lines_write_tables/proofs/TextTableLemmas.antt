@@ -88,26 +88,32 @@ pub with_text-new : (texts : List (List ℕ)) (t : List ℕ) → list_any (same_
     ≡ texts ++ t ∷ []
 with_text-new texts t h = ap (λ b. cond b texts (texts ++ t ∷ [])) h
 
-pub text_table-none : IsTextTable [] [] []
+pub text_table-none : IsTextTable [] [] 0
 unfolding section_of
 text_table-none =
-    record { same_length = refl; begins = λ i h. absurd (omega arith); bytes = refl; no_zeros = search rules }
+    record { same_length = refl; begins = λ i h. absurd (omega arith); ends = refl; no_zeros = search rules }
 
-pub text_table-push : (texts : List (List ℕ)) (offsets section t : List ℕ) → IsTextTable texts offsets section
+-- the section with one more text
+length-push : (texts : List (List ℕ)) (t : List ℕ) → length (section_of (texts ++ t ∷ []))
+    ≡ length (section_of texts) + (length t + 1)
+length-push texts t = ap length (section_of-push texts t) ∙ length-append (section_of texts) (t ++ 0 ∷ [])
+    ∙ ap (λ n. length (section_of texts) + n) (length-append t (0 ∷ []))
+
+pub text_table-push : (texts : List (List ℕ)) (offsets : List ℕ) (size : ℕ) (t : List ℕ)
+    → IsTextTable texts offsets size
     → IsText t
-    → IsTextTable (texts ++ t ∷ []) (offsets ++ length section ∷ []) (section ++ (t ++ 0 ∷ []))
-text_table-push texts offsets section t sound is_text = record {
-  same_length =
-      omega (arith, length-append offsets (length section ∷ []), length-append texts (t ∷ []), sound.same_length);
+    → IsTextTable (texts ++ t ∷ []) (offsets ++ size ∷ []) (size + (length t + 1))
+text_table-push texts offsets size t sound is_text = record {
+  same_length = omega (arith, length-append offsets (size ∷ []), length-append texts (t ∷ []), sound.same_length);
   begins = begins;
-  bytes = ap (λ s. s ++ (t ++ 0 ∷ [])) sound.bytes ∙ sym (section_of-push texts t);
+  ends = ap (λ n. n + (length t + 1)) sound.ends ∙ sym (length-push texts t);
   no_zeros = All-push IsText texts t sound.no_zeros is_text;
 }
   where
-    begins : (i : ℕ) → i < length (texts ++ t ∷ []) → slice_index (offsets ++ length section ∷ []) i
+    begins : (i : ℕ) → i < length (texts ++ t ∷ []) → slice_index (offsets ++ size ∷ []) i
         ≡ offset_of (texts ++ t ∷ []) i
     begins i h = elim (eq-or-lt_of_le (at_most i h)) [
-      | inr below ↦ get_or-append offsets (length section ∷ []) 0 i (omega (arith, sound.same_length))
+      | inr below ↦ get_or-append offsets (size ∷ []) 0 i (omega (arith, sound.same_length))
           ∙ sound.begins i below
           ∙ sym (offset_of-before texts t i (omega arith))
       | inl at ↦ at_end i at
@@ -116,10 +122,10 @@ text_table-push texts offsets section t sound is_text = record {
         at_most : (j : ℕ) → j < length (texts ++ t ∷ []) → j ≤ length texts
         at_most j g = omega (arith, length-append texts (t ∷ []))
 
-        at_end : (j : ℕ) → j ≡ length texts → slice_index (offsets ++ length section ∷ []) j
+        at_end : (j : ℕ) → j ≡ length texts → slice_index (offsets ++ size ∷ []) j
             ≡ offset_of (texts ++ t ∷ []) j
-        at_end j e = ap (λ k. slice_index (offsets ++ length section ∷ []) k) (e ∙ sym sound.same_length)
-            ∙ get_or-append_seam offsets (length section) [] 0 ∙ ap length sound.bytes ∙ sym (offset_of-end texts)
+        at_end j e = ap (λ k. slice_index (offsets ++ size ∷ []) k) (e ∙ sym sound.same_length)
+            ∙ get_or-append_seam offsets size [] 0 ∙ sound.ends ∙ sym (offset_of-end texts)
             ∙ ap (offset_of texts) (sym e) ∙ sym (offset_of-before texts t j (omega arith))
 
 -- ---- texts as the keys of a set

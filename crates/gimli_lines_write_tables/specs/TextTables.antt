@@ -1,4 +1,4 @@
--- How a table stores its texts: with the offset of each, and the section's bytes.
+-- How a table stores its texts: with the offset of each, and the section's size.
 use Rattle.std.specs.Prelude.{◌≡◌, ℕ, ◌<◌, List, All, map, length, slice_index}
 use Rattle.std.specs.Global.{Vec}
 use Rattle.std.specs.declared.hash.FoldHasher.{FoldHasher}
@@ -6,11 +6,11 @@ use Rattle.std.specs.declared.hash.BuildHasherDefault.{BuildHasherDefault}
 use Rattle.indexmap.specs.IndexSet.{IndexSet}
 use Rattle.gimli_lines_write_tables.specs.StringSections.{IsText, section_of, offset_of}
 
--- The offsets and the section are those of the texts, none of which holds a zero byte.
-pub record IsTextTable (texts : List (List ℕ)) (offsets section : List ℕ) : Type 0 where
+-- The offsets and the size are those of the texts' section; no text holds a zero byte.
+pub record IsTextTable (texts : List (List ℕ)) (offsets : List ℕ) (size : ℕ) : Type 0 where
   pub same_length : length offsets ≡ length texts
   pub begins : (i : ℕ) → i < length texts → slice_index offsets i ≡ offset_of texts i
-  pub bytes : section ≡ section_of texts
+  pub ends : size ≡ length (section_of texts)
   pub no_zeros : All IsText texts
 
 -- the texts of a set, in its order

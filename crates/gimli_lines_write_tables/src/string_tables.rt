@@ -1,8 +1,9 @@
 //! The sections `.debug_str` and `.debug_line_str` as they are built: a table each, whose texts
 //! have ids of their own.
 
-ghost use Rattle.std.specs.Prelude.{◌≡◌, ℕ, ◌<◌, [], Ok, Some, All, length, slice_get, OnOk, OnErr, IfOk, IfErr};
+ghost use Rattle.std.specs.Prelude.{◌≡◌, ℕ, ◌<◌, [], ◌∷◌, ◌++◌, Ok, Some, All, length, map, slice_get, OnOk, OnErr, IfOk, IfErr};
 ghost use Rattle.gimli_lines_write_rows.specs.OutputBytes.{append, Writes};
+ghost use Rattle.gimli_lines_write_rows.specs.EntryBytes.{Continues};
 ghost use Rattle.gimli_lines_write_rows.specs.WriteError.TheVariants.{Memory};
 ghost use Rattle.gimli_lines_write_tables.specs.StringSections.{IsText, with_text, text_index, section_of, offset_of};
 
@@ -81,14 +82,14 @@ impl TextId for LineStringId {
     }
 }
 
-/// The texts of `.debug_str`.
+/// The texts of `.debug_str`, each kept once.
 pub type StringTable = TextTable<StringId>;
 
-/// The texts of `.debug_line_str`.
+/// The texts of `.debug_line_str`, each kept once.
 pub type LineStringTable = TextTable<LineStringId>;
 
-/// The texts of a string section, each once (DWARF 5, 7.26). A contract sees them in the order of
-/// their first adds.
+/// The texts of a string section, each once (DWARF 5, 7.26). The bytes of a text are kept once;
+/// `write` makes the section of them. A contract sees the texts in the order of their first adds.
 #[derive(Drop)]
 pub struct TextTable<I> {
     texts: Texts,
@@ -104,6 +105,25 @@ impl<I> Model for TextTable<I> {
     ghost coded = { coded_list (coded_list coded_ℕ) };
 
     ghost view = { λ t. t.texts };
+}
+
+// Writes a text and its zero byte.
+fn write_text<W: Writer>(w: &mut W, text: &[u8]) -> Result<(), Error>
+    ensures { Continues result (W.contents w.old) (W.contents w.new) (Ok (text.now ++ 0 ∷ [])) }
+{
+    w.write(text)?;
+    w.write_u8(0)
+}
+
+// Writes texts, one after the other. Refused, the writer may have a prefix of their bytes.
+fn write_texts<W: Writer>(w: &mut W, texts: &[Vec<u8>]) -> Result<(), Error>
+    ensures { Continues result (W.contents w.old) (W.contents w.new)
+        (Ok (section_of (map (λ t. t.items) texts.now))) }
+{
+    for text in texts {
+        write_text(w, text.as_slice())?;
+    }
+    Ok(())
 }
 
 impl<I: TextId> TextTable<I> {
@@ -155,11 +175,17 @@ impl<I: TextId> TextTable<I> {
         I::offset_after(self.texts.offset(id.index()))
     }
 
-    /// Writes the section.
+    /// Writes the section, text by text, in time that grows with its length. It takes no memory but
+    /// the writer's. Refused, the writer is as before.
     pub fn write<W: Writer>(&self, w: &mut W) -> Result<(), Error>
         ensures { Writes result (W.contents w.old) (W.contents w.new)
             (Ok (append (section_of self.now) (W.contents w.old))) }
     {
-        w.write(self.texts.section())
+        let len = w.len();
+        if let Err(refusal) = write_texts(w, self.texts.as_slice()) {
+            w.truncate(len);
+            return Err(refusal);
+        }
+        Ok(())
     }
 }

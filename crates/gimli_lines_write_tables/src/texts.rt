@@ -1,21 +1,22 @@
-//! Texts, each once, and the bytes of the section that holds them.
+//! Texts, each once, and where they begin in the section that holds them.
 
-ghost use Rattle.std.specs.Prelude.{◌≡◌, ◌<◌, ◌++◌, ◌∷◌, [], Some, All, length, slice_get, false, OnOk, OnErr, IfOk, IfErr};
+ghost use Rattle.std.specs.Prelude.{◌≡◌, ◌<◌, ◌++◌, ◌∷◌, [], Some, All, length, map, slice_get, false, OnOk, OnErr, IfOk, IfErr};
 ghost use Rattle.std.specs.List.{list_any};
 ghost use Rattle.gimli_lines_write_rows.specs.WriteError.TheVariants.{Memory};
-ghost use Rattle.gimli_lines_write_tables.specs.StringSections.{IsText, same_bytes, with_text, text_index, section_of, offset_of};
+ghost use Rattle.gimli_lines_write_tables.specs.StringSections.{IsText, same_bytes, with_text, text_index, offset_of};
 
 use gimli_lines_write_rows::Error;
 use indexmap::IndexSet;
 use std::alloc::Global;
 use std::marker::Model;
 
-/// Texts in the order of their first adds.
+/// Texts in the order of their first adds. The bytes of each are kept once.
 #[derive(Drop)]
 pub struct Texts {
     texts: IndexSet<Vec<u8>>,
     offsets: Vec<usize>,
-    section: Vec<u8>,
+    // How long the section is: the offset of the next text.
+    size: usize,
 }
 
 impl Model for Texts {
@@ -29,22 +30,7 @@ impl Model for Texts {
 
     ghost view = { λ t. texts_of t.texts };
 
-    ghost invariant = { λ t. IsTextTable (texts_of t.texts) t.offsets.items t.section.items };
-}
-
-// Puts a text and its zero byte after the section's bytes.
-fn append(section: &mut Vec<u8>, bytes: &[u8]) -> Result<(), Error>
-    ensures ok { OnOk result (section.new.items ≡ section.old.items ++ (bytes.now ++ 0 ∷ [])) }
-    ensures err { OnErr result (section.new.items ≡ section.old.items) }
-    ensures refusal { IfErr result (λ e. e ≡ Memory) }
-{
-    let len = section.len();
-    section.extend_from_slice(bytes)?;
-    if let Err(_refused) = section.push(0) {
-        section.truncate(len);
-        return Err(Error::Memory);
-    }
-    Ok(())
+    ghost invariant = { λ t. IsTextTable (texts_of t.texts) t.offsets.items t.size };
 }
 
 impl Texts {
@@ -55,7 +41,7 @@ impl Texts {
         Texts {
             texts: IndexSet::new(alloc),
             offsets: Vec::new(alloc),
-            section: Vec::new(alloc),
+            size: 0,
         }
     }
 
@@ -73,7 +59,8 @@ impl Texts {
         }
     }
 
-    // Adds a text that isn't there.
+    // Adds a text that isn't there. Texts whose section is longer than `usize::MAX` fit in no
+    // memory, so they are refused as out of memory too.
     fn push(&mut self, alloc: Global, bytes: &[u8]) -> Result<usize, Error>
         requires text { IsText bytes.now }
         requires absent { list_any (same_bytes bytes.now) self.old ≡ false }
@@ -82,21 +69,14 @@ impl Texts {
         ensures err { OnErr result (self.new ≡ self.old) }
         ensures refusal { IfErr result (λ e. e ≡ Memory) }
     {
+        let size = self.size.checked_add(bytes.len() + 1).ok_or(Error::Memory)?;
         let text = Vec::from_slice(alloc, bytes)?;
         let place = self.texts.len();
-        let offset = self.section.len();
         self.offsets.reserve(1)?;
-        append(&mut self.section, bytes)?;
-        match self.texts.insert(text) {
-            Ok(_added) => {
-                self.offsets.push(offset)?;
-                Ok(place)
-            }
-            Err(_refused) => {
-                self.section.truncate(offset);
-                Err(Error::Memory)
-            }
-        }
+        self.texts.insert(text)?;
+        self.offsets.push(self.size)?;
+        self.size = size;
+        Ok(place)
     }
 
     /// How many texts there are.
@@ -123,10 +103,10 @@ impl Texts {
         self.offsets[place]
     }
 
-    /// The bytes of the section.
-    pub fn section(&self) -> &[u8]
-        ensures { result.now ≡ section_of self.now }
+    /// The texts, in order.
+    pub fn as_slice(&self) -> &[Vec<u8>]
+        ensures { map (λ t. t.items) result.now ≡ self.now }
     {
-        self.section.as_slice()
+        self.texts.as_slice()
     }
 }
