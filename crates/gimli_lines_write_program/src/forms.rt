@@ -1,8 +1,7 @@
 //! Texts of one form.
 
 ghost use Rattle.std.specs.Prelude.{◌≡◌, ◌==◌, map};
-ghost use Rattle.std.specs.List.{list_all};
-ghost use Rattle.gimli_lines_write_laws.specs.FileTables.{File, Info, text_of, file_of, info_of};
+ghost use Rattle.gimli_lines_write_laws.specs.FileTables.{text_of, file_of, info_of};
 ghost use Rattle.gimli_lines_write_laws.specs.HeaderContents.{first_source};
 ghost use Rattle.gimli_lines_write_laws.specs.ExpressiblePrograms.{text_form, list_form, paths_of};
 ghost use Rattle.gimli_lines_write_program.specs.FormTests.{needed_form, have_form, have_paths_of_form, source_has_form, have_sources_of_form};

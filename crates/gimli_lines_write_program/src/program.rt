@@ -1,14 +1,14 @@
 //! The builder of line number programs.
 
-ghost use Rattle.std.specs.Prelude.{◌≡◌, ◌≢◌, ◌↔◌, ◌≤◌, ◌<◌, ◌^◌, All, ℕ, List, ◌++◌, [], ◌==◌, ◌&&◌, true, false, length, map, set, Some, slice_get, option_map, OnOk, OnErr, IfOk, IfErr};
+ghost use Rattle.std.specs.Prelude.{◌≡◌, ◌≢◌, ◌↔◌, ◌≤◌, ◌<◌, ◌^◌, All, [], ◌==◌, ◌&&◌, true, false, length, map, set, Some, slice_get, option_map, OnOk, OnErr, IfOk, IfErr};
 ghost use Rattle.gimli_lines_write_laws.specs.WriteError.TheVariants.{Memory};
 ghost use Rattle.gimli_lines_write_laws.specs.RowPieces.{IsBuildable};
-ghost use Rattle.gimli_lines_write_laws.specs.FileTables.{Text, text_of, file_of, info_of, is_same, is_same_file, with_directory, with_file, HasNoZero, HasBytes, IsConsistent};
+ghost use Rattle.gimli_lines_write_laws.specs.FileTables.{text_of, file_of, info_of, is_same, is_same_file, with_directory, with_file, HasNoZero, HasBytes, IsConsistent};
 ghost use Rattle.gimli_lines_write_laws.specs.StringSections.{item_index};
 ghost use Rattle.gimli_lines_write_laws.specs.ProgramReadBack.{InfoFits};
 ghost use Rattle.gimli_lines_write_program.specs.TextTests.{has_texts};
 ghost use Rattle.gimli_lines_write_program.specs.FormTests.{has_version, has_forms, is_writable};
-ghost use Rattle.gimli_lines_write_program.specs.BuiltPrograms.{Program, rules_with, no_rows, new_program, none_program, IsBuilt, HasItsTexts, CanBeWritten, program_bytes, ReadsBack, WritesIfExpressible, strings_with, line_strings_with};
+ghost use Rattle.gimli_lines_write_program.specs.BuiltPrograms.{Program, rules_with, new_program, none_program, IsBuilt, HasItsTexts, CanBeWritten, program_bytes, ReadsBack, WritesIfExpressible, strings_with, line_strings_with};
 ghost use Rattle.gimli_lines_write_laws.specs.BuiltRows.{first_row, row_after_row, can_place, can_follow};
 ghost use Rattle.gimli_lines_write_laws.specs.EntryBytes.{Continues};
 ghost use Rattle.gimli_lines_write_laws.specs.LineEntry.TheVariants.{Row, EndSequence};

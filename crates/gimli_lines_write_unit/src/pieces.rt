@@ -5,7 +5,7 @@ ghost use Rattle.gimli_lines_write_tables.specs.WriteError.TheVariants.{Memory};
 ghost use Rattle.gimli_lines_write_tables.specs.Spelling.{unsigned_string};
 ghost use Rattle.gimli_lines_write_tables.specs.EntryBytes.{Continues};
 ghost use Rattle.gimli_lines_write_tables.specs.RowPieces.{when};
-ghost use Rattle.gimli_lines_write_spec.specs.EntryFields.{directory_formats, file_formats, spelled_format, spelled_formats, field_format};
+ghost use Rattle.gimli_lines_write_spec.specs.EntryFields.{file_formats, spelled_format, spelled_formats, field_format};
 ghost use Rattle.gimli_lines_write_spec.specs.HeaderSpelling.{spelled_parameters, spelled_opcodes, spelled_sizes};
 ghost use Rattle.gimli_lines_write_unit.specs.HeaderContents.{details_of};
 

@@ -1,6 +1,6 @@
 //! The texts of files.
 
-ghost use Rattle.std.specs.Prelude.{◌≡◌, ◌<◌, [], map, option_map, is_none, length, OnOk, OnErr, IfOk, IfErr};
+ghost use Rattle.std.specs.Prelude.{◌≡◌, ◌<◌, [], map, option_map, is_none, OnOk, OnErr, IfOk, IfErr};
 ghost use Rattle.std.specs.List.{list_any};
 ghost use Rattle.gimli_lines_write_tables.specs.WriteError.TheVariants.{Memory};
 ghost use Rattle.gimli_lines_write_tables.specs.FileTables.{Info, text_of, info_of};

@@ -1,12 +1,11 @@
 //! The tables of a header: its directories and files.
 
-ghost use Rattle.std.specs.Prelude.{◌≡◌, ℕ, List, ◌<◌, [], ◌∷◌, All, true, false, Ok, map, length, nat_le, unwrap_or, if◌then◌else◌};
-ghost use Rattle.gimli_lines_write_tables.specs.EntryBytes.{Continues, join_bytes};
+ghost use Rattle.std.specs.Prelude.{◌≡◌, ℕ, List, ◌<◌, All, true, Ok, map, length, unwrap_or};
+ghost use Rattle.gimli_lines_write_tables.specs.EntryBytes.{Continues};
 ghost use Rattle.gimli_lines_write_tables.specs.FileTables.{text_of, file_of, info_of};
 ghost use Rattle.gimli_lines_write_spec.specs.HeaderTexts.{form_in};
-ghost use Rattle.gimli_lines_write_spec.specs.EntryFields.{directory_formats, spelled_formats};
 ghost use Rattle.gimli_lines_write_unit.specs.HeaderContents.{header_text, header_files, details_of, IsKnown};
-ghost use Rattle.gimli_lines_write_unit.specs.HeaderBytes.{all_bytes, text_bytes, file_bytes_of_5, directory_entries_bytes, directories_bytes, form_of_paths, form_of_sources};
+ghost use Rattle.gimli_lines_write_unit.specs.HeaderBytes.{all_bytes, file_bytes_of_5, directory_entries_bytes, directories_bytes, form_of_paths, form_of_sources};
 
 use crate::details::FileDetails;
 use crate::files::{FileForms, source_or, write_file};

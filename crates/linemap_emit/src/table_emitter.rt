@@ -1,6 +1,6 @@
 //! A table's units, emitted one after the other.
 
-ghost use Rattle.std.specs.Prelude.{◌≡◌, ◌<◌, ◌+◌, ◌^◌, nat_le, [], All, map, length, Ok, IfOk, IfErr, IsOk, OnOk, if◌then◌else◌};
+ghost use Rattle.std.specs.Prelude.{◌≡◌, ◌<◌, ◌+◌, ◌^◌, nat_le, [], All, map, length, Ok, IfOk, IfErr, OnOk, if◌then◌else◌};
 ghost use Rattle.linemap_emit_fits.specs.WriteError.TheVariants.{Memory};
 ghost use Rattle.linemap_emit_fits.specs.EmittedRanges.{spelled_lists};
 ghost use Rattle.linemap_emit_fits.specs.NumberBytes.{length_limit};

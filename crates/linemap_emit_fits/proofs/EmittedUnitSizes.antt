@@ -1,5 +1,5 @@
 -- What is emitted of a sound table fits, unit by unit.
-use Rattle.std.proofs.Common.{◌≡◌, ℕ, ◌+◌, ◌*◌, ◌<◌, ◌≤◌, ◌^◌, Bool, true, List, [], ◌∷◌, ◌++◌, length, sum_by, ap, arith}
+use Rattle.std.proofs.Common.{◌≡◌, ℕ, ◌+◌, ◌*◌, ◌<◌, ◌≤◌, ◌^◌, Bool, true, List, [], ◌∷◌, length, sum_by, ap, arith}
 use Rattle.std.proofs.lemmas.List.{length-append}
 use Rattle.std.proofs.lemmas.List.Elements.{All-nil}
 use Rattle.std.proofs.lemmas.List.Sums.{sum_by-cons}
@@ -8,7 +8,7 @@ use Rattle.linemap_emit_units.specs.StringSections.{IsText, section_of}
 use Rattle.linemap_emit_units.specs.Conditions.{IsSound}
 use Rattle.linemap_emit_units.specs.EncodingFits.{fits}
 use Rattle.linemap_emit_units.specs.TableParts.{FilePart, UnitPart}
-use Rattle.linemap_emit_units.specs.TableWeight.{file_weight, function_weight, sequence_weight, unit_weight, table_weight}
+use Rattle.linemap_emit_units.specs.TableWeight.{file_weight, sequence_weight, unit_weight, table_weight}
 use Rattle.linemap_emit_units.specs.EmittedEntryRows.{spelled_entries}
 use Rattle.linemap_emit_units.specs.EmittedUnits.{spelled_fields}
 use Rattle.linemap_emit_units.specs.SoundSequences.{CanEmitSequences, AllCanEmitSequences}

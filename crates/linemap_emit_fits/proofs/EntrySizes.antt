@@ -19,7 +19,7 @@ use Rattle.linemap_emit_units.specs.Entry.TheVariants.{CompileUnit, AbstractFunc
 use Rattle.linemap_emit_units.specs.EmittedEntries.{AllFit, attributes_of, spelled_entry}
 use Rattle.linemap_emit_units.specs.EmittedEntryRows.{spelled_entries}
 use Rattle.linemap_emit_units.specs.EmittedRanges.{spelled_ranges}
-use Rattle.linemap_emit_units.specs.EmittedUnits.{entries_start, abstract_offset}
+use Rattle.linemap_emit_units.specs.EmittedUnits.{entries_start}
 use Rattle.linemap_emit_units.specs.InlinedNames.{inlined_names}
 use Rattle.linemap_emit_units.specs.UnitEmission.{EmittedUnit, text_offset, with_name, with_list, list_offset, with_entry, has_calls, with_end_of_children, with_abstract_functions, origin_of, with_call, with_calls, with_function_entry, with_function, with_functions, with_unit_entry, with_unit}
 use Rattle.linemap_emit_fits.specs.EmissionBounds.{IsUnitBounded}

@@ -1,5 +1,5 @@
 -- How many bytes a unit's line number program takes, and that none of them is refused.
-use Rattle.std.proofs.Common.{◌≡◌, ℕ, suc, ◌+◌, ◌*◌, ◌<◌, ◌≤◌, ◌^◌, ◌==◌, Bool, true, false, cond, not, ◌&&◌, List, [], ◌∷◌, ◌++◌, length, map, drop, sum_by, negsuc, Option, Result, Ok, Err, refl, sym, ap, subst, ◌∙◌, arith}
+use Rattle.std.proofs.Common.{◌≡◌, ℕ, ◌+◌, ◌<◌, ◌≤◌, ◌^◌, Bool, true, false, cond, ◌&&◌, List, [], ◌∷◌, ◌++◌, length, map, drop, sum_by, negsuc, Option, Result, Ok, Err, refl, sym, subst, ◌∙◌, arith}
 use Rattle.std.specs.Prelude.{All, nat_le, nat_lt}
 use Rattle.std.proofs.lemmas.Bool.{eq-eqb, le-ltb, lt-ltb}
 use Rattle.std.proofs.lemmas.List.{length-append}
@@ -20,9 +20,9 @@ use Rattle.linemap_emit_units.specs.StringSections.{IsText, section_of, offset_o
 use Rattle.linemap_emit_units.specs.FileTables.{Text, in_header, of_strings, of_line_strings, File, Info}
 use Rattle.linemap_emit_units.specs.HeaderTexts.{WrittenText, form_of, form_in}
 use Rattle.linemap_emit_units.specs.HeaderSpelling.{Tables, spelled_parameters, spelled_opcodes, spelled_sizes}
-use Rattle.linemap_emit_units.specs.EntryFields.{WrittenFile, Details, directory_formats, file_formats, spelled_formats}
+use Rattle.linemap_emit_units.specs.EntryFields.{WrittenFile, directory_formats, file_formats, spelled_formats}
 use Rattle.linemap_emit_units.specs.HeaderContents.{header_text, header_file, header_files, listed_directories, tables_with, records_source, details_of, empty_text, strings_after, line_strings_after}
-use Rattle.linemap_emit_units.specs.HeaderBytes.{text_bytes, all_bytes, bytes_after_path, details_bytes, file_bytes_to_4, file_bytes_of_5, directory_entries_bytes, directories_bytes, entries_of_files, described_files, files_bytes, tables_bytes, header_bytes, form_of_paths, form_of_sources}
+use Rattle.linemap_emit_units.specs.HeaderBytes.{text_bytes, all_bytes, bytes_after_path, details_bytes, file_bytes_to_4, file_bytes_of_5, directories_bytes, described_files, files_bytes, header_bytes, form_of_paths, form_of_sources}
 use Rattle.linemap_emit_units.specs.UnitBytes.{body_bytes, unit_with_length, unit_bytes}
 use Rattle.linemap_emit_units.specs.BuiltPrograms.{no_details}
 use Rattle.linemap_emit_units.specs.EmittedFiles.{EmittedFiles, HasTableTexts, first_unit_files, unit_files, unit_file_ids, place_in}

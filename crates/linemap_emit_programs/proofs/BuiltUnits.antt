@@ -4,8 +4,8 @@ use Rattle.std.specs.Prelude.{nat_le, is_none}
 use Rattle.std.specs.List.{list_any}
 use Rattle.gimli_lines_write_laws.specs.FileTables.{Text, Info}
 use Rattle.gimli_lines_write_laws.specs.FileDetails.{FileDetails}
-use Rattle.gimli_lines_write_laws.specs.HeaderContents.{empty_form, first_source, strings_after, line_strings_after}
-use Rattle.gimli_lines_write_program.specs.BuiltPrograms.{Program, no_details, strings_with, line_strings_with}
+use Rattle.gimli_lines_write_laws.specs.HeaderContents.{empty_form, first_source, line_strings_after}
+use Rattle.gimli_lines_write_program.specs.BuiltPrograms.{Program, no_details, line_strings_with}
 use Rattle.linemap_emit_rows.specs.TableParts.{FilePart}
 use Rattle.linemap_emit_programs.specs.EmittedFiles.{EmittedFiles, with_table_file, table_file_ids}
 

@@ -3,7 +3,6 @@ use Rattle.std.proofs.Common.{◌≡◌, ◌≢◌, ℕ, zero, suc, ◌+◌, ◌
 use Rattle.std.specs.Prelude.{All, nat_le}
 use Rattle.std.specs.List.{zip}
 use Rattle.std.specs.Str.{IsUtf8}
-use Rattle.std.specs.Str.Lossy.{utf8_lossy}
 use Rattle.std.proofs.Math.Nat.{mod-eq_of_lt}
 use Rattle.std.proofs.lemmas.Bool.{ne_eqb, eqb-true, eqb-false}
 use Rattle.std.proofs.lemmas.List.{length-map}
@@ -24,7 +23,7 @@ use Rattle.linemap_emit_rows.specs.LineHeaders.{LineHeader, directory_at, file_a
 use Rattle.linemap_emit_rows.specs.DwarfFiles.{DwarfFile}
 use Rattle.linemap_emit_rows.specs.UnitFacts.{UnitFacts, UnitInFile, in_file}
 use Rattle.linemap_emit_rows.specs.FilePaths.{is_rooted, join, file_text_of_bytes}
-use Rattle.linemap_emit_rows.specs.FileTexts.{bytes_of as bytes_in, text_bytes, text_bytes_if_any, directory_of, text_of_file, text_of_file_0, texts_of_files, files_from_1}
+use Rattle.linemap_emit_rows.specs.FileTexts.{bytes_of as bytes_in, text_bytes, text_bytes_if_any, text_of_file, text_of_file_0, texts_of_files, files_from_1}
 use Rattle.linemap_emit_rows.specs.TableParts.{FilePart, UnitPart}
 use Rattle.linemap_emit_rows.specs.FileText.{file_text}
 use Rattle.linemap_emit_rows.proofs.FilePathLemmas.{utf8_text_is_unchanged}

@@ -1,8 +1,8 @@
 -- Texts as the headers of a version have them.
-use Rattle.std.proofs.Common.{◌≡◌, ◌≢◌, ℕ, ◌≤◌, ◌<◌, List, length, ap, sym, subst, ◌∙◌}
-use Rattle.std.specs.Prelude.{nat_le, if◌then◌else◌}
+use Rattle.std.proofs.Common.{◌≡◌, ◌≢◌, ℕ, List, length, ap, sym, subst, ◌∙◌}
+use Rattle.std.specs.Prelude.{if◌then◌else◌}
 use Rattle.std.proofs.lemmas.Bool.{le-leb, lt-leb}
-use Rattle.gimli_lines_write_laws.specs.FileTables.{Text, in_header, of_line_strings, text_of, HasNoZero, HasBytes}
+use Rattle.gimli_lines_write_laws.specs.FileTables.{in_header, of_line_strings, text_of, HasNoZero, HasBytes}
 use Rattle.gimli_lines_write_laws.specs.StringSections.{IsText, text_index}
 use Rattle.gimli_lines_write_laws.specs.LineStrings.{HoldsText}
 use Rattle.gimli_lines_write_tables.specs.declared.line_string.LineString.{LineString}

@@ -1,5 +1,5 @@
 -- The files of a table are among those of a program, each at its place.
-use Rattle.std.proofs.Common.{◌≡◌, ℕ, zero, suc, ◌+◌, ◌<◌, ◌≤◌, ◌%◌, ◌^◌, Bool, true, false, cond, List, [], ◌∷◌, ◌++◌, length, Some, slice_get, refl, sym, ap, subst, ◌∙◌, arith}
+use Rattle.std.proofs.Common.{◌≡◌, ℕ, zero, suc, ◌+◌, ◌<◌, ◌≤◌, ◌%◌, ◌^◌, Bool, true, false, cond, List, [], ◌∷◌, length, Some, slice_get, refl, subst, arith}
 use Rattle.std.specs.Prelude.{nat_le}
 use Rattle.gimli_lines_write_tables.specs.StringSections.{with_text, text_index}
 use Rattle.gimli_lines_write_tables.specs.LineStrings.{table_after}

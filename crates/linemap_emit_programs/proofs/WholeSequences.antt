@@ -1,5 +1,5 @@
 -- A sequence that was added, from its first row on.
-use Rattle.std.proofs.Common.{◌≡◌, ℕ, List, [], ◌∷◌, map, Some, slice_get, sym, ap, subst, ◌∙◌}
+use Rattle.std.proofs.Common.{◌≡◌, ℕ, List, [], ◌∷◌, map, Some, slice_get, ap, ◌∙◌}
 use Rattle.linemap_emit_rows.specs.Address.TheVariants.{Constant}
 use Rattle.linemap_emit_rows.specs.RowsBuilding.{BuilderState, with_sequence}
 use Rattle.gimli_lines_write_program.specs.BuiltPrograms.{Program}

@@ -1,9 +1,7 @@
 -- The directories and files that a program has so far.
 use Rattle.std.specs.Prelude.{◌≡◌, ℕ, List}
-use Rattle.linemap_emit_rows.specs.Encoding.{Encoding}
 use Rattle.gimli_lines_write_program.specs.BuiltPrograms.{Program}
-use Rattle.linemap_emit_rows.specs.TableParts.{UnitPart}
-use Rattle.linemap_emit_programs.specs.EmittedFiles.{EmittedFiles, first_unit_files}
+use Rattle.linemap_emit_programs.specs.EmittedFiles.{EmittedFiles}
 
 -- with the texts of `.debug_line_str`
 abbrev pub files_of : Program → List (List ℕ) → EmittedFiles

@@ -1,6 +1,6 @@
 //! The line number program of a table's unit, with its directories and files.
 
-ghost use Rattle.std.specs.Prelude.{◌≡◌, ◌≤◌, ◌<◌, [], length, map, false, IsOk, OnOk, IfOk, IfErr};
+ghost use Rattle.std.specs.Prelude.{◌≡◌, ◌<◌, [], length, map, false, IsOk, OnOk, IfOk, IfErr};
 ghost use Rattle.linemap_emit_rows.specs.WriteError.TheVariants.{Memory};
 ghost use Rattle.linemap_emit_rows.specs.NumberBytes.{constant_of};
 ghost use Rattle.linemap_emit_rows.specs.RowPieces.{IsBuildable};

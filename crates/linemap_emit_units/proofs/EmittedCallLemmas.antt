@@ -1,6 +1,6 @@
 -- Calls, one level at a time.
 use Rattle.std.proofs.Math.Seq.{drop-cons}
-use Rattle.std.proofs.Common.{◌≡◌, ℕ, suc, ◌+◌, ◌<◌, drop, get_or, Bool, true, false, not, eqb, List, [], ◌∷◌, ◌++◌, All, length, slice_get, Some, ap, refl, sym, subst, ◌∙◌, arith}
+use Rattle.std.proofs.Common.{◌≡◌, ℕ, suc, ◌+◌, ◌<◌, drop, get_or, Bool, true, false, not, eqb, List, [], ◌∷◌, length, slice_get, Some, ap, refl, sym, ◌∙◌, arith}
 use Rattle.std.proofs.lemmas.Bool.{ne_eqb}
 use Rattle.std.proofs.lemmas.Option.{slice_get_within, get_or_from_slice_get}
 use Rattle.linemap_emit_programs.specs.TableViews.{call_part, calls_part}

@@ -1,6 +1,6 @@
 //! The entries of units, with their texts and range lists.
 
-ghost use Rattle.std.specs.Prelude.{◌≡◌, ◌<◌, ◌+◌, ◌^◌, [], All, ◌≢◌, map, length, string_bytes, OnOk, IfOk, IfErr, true};
+ghost use Rattle.std.specs.Prelude.{◌≡◌, ◌<◌, ◌+◌, ◌^◌, [], map, length, OnOk, IfOk, IfErr, true};
 ghost use Rattle.linemap_emit_programs.specs.LookupAgreement.{lookup_range};
 ghost use Rattle.gimli_lines_write_tables.specs.StringSections.{IsText, section_of};
 ghost use Rattle.gimli_lines_write_tables.specs.WriteError.TheVariants.{Memory};
@@ -9,7 +9,7 @@ ghost use Rattle.gimli_lines_write_tables.specs.NumberParsers.{is_address_size};
 ghost use Rattle.linemap_emit_programs.specs.WriteResults.{Appends};
 ghost use Rattle.linemap_emit_programs.specs.EmittedRanges.{AllWritable};
 ghost use Rattle.linemap_emit_programs.specs.EmittedFiles.{file_number};
-ghost use Rattle.linemap_emit_units.specs.UnitEmission.{text_offset, with_name, with_list, list_offset, with_entry, has_calls, with_end_of_children, with_abstract_functions, with_function_entry, with_call, CanEmit, CanEmitCalls, CanEmitFunctions, CanEmitUnit, with_calls, with_function, with_functions, with_unit_entry, with_unit, without_entries};
+ghost use Rattle.linemap_emit_units.specs.UnitEmission.{text_offset, with_name, with_list, list_offset, with_entry, with_end_of_children, with_abstract_functions, with_function_entry, with_call, CanEmit, CanEmitCalls, CanEmitFunctions, CanEmitUnit, with_calls, with_functions, with_unit_entry, with_unit, without_entries};
 ghost use Rattle.linemap_emit_units.specs.InlinedNames.{NamesAre, FunctionNamesAre, IsAmong};
 
 use crate::file_numbers::number_in;

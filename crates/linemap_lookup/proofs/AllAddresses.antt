@@ -1,10 +1,8 @@
 -- The addresses at which stretches begin, one after the other.
-use Rattle.std.proofs.Common.{◌≡◌, ◌∙◌, Bool, true, false, List, [], ◌∷◌, ◌++◌, ℕ, Option, Some, None, Result, Ok, Err, map, cond, refl, sym, ap, append-nil, append_assoc}
-use Rattle.addr2line_context.specs.Error.{Error}
+use Rattle.std.proofs.Common.{◌≡◌, List, ◌++◌, ℕ, Option, None, map}
 use Rattle.addr2line_context.specs.Lines.{Stretch}
-use Rattle.addr2line_context.specs.Repetition.{Listing, no_items, prepend}
-use Rattle.addr2line_context.specs.Results.{and_then}
-use Rattle.linemap_lookup.specs.Programs.{ascending_after, begins_of, is_above}
+use Rattle.addr2line_context.specs.Repetition.{Listing}
+use Rattle.linemap_lookup.specs.Programs.{ascending_after}
 
 abbrev addresses_of : Listing (Unit {0}) Stretch → List ℕ
 addresses_of l = map (λ (s : Stretch). s.address) l.items

@@ -1,5 +1,5 @@
 -- Addresses that are answered and written one after the other.
-use Rattle.std.proofs.Common.{◌≡◌, ◌∙◌, Bool, true, false, List, [], ◌∷◌, ◌++◌, ℕ, Option, Some, Result, map, Ok, Err, Global, String, string_bytes, ◌+◌, ◌<◌, ◌≤◌, length, take, drop, get_or, inl, inr, refl, sym, ap, subst, append-nil, append_assoc}
+use Rattle.std.proofs.Common.{◌≡◌, ◌∙◌, Bool, true, false, List, [], ◌∷◌, ◌++◌, ℕ, Option, Some, Result, map, Ok, Err, Global, String, string_bytes, ◌+◌, ◌<◌, ◌≤◌, length, take, drop, get_or, inl, refl, sym, ap, subst, append-nil, append_assoc}
 use Rattle.std.specs.Prelude.{◌||◌, IfErr}
 use Rattle.std.specs.List.{FoldsTo, flat_map, list_any}
 use Rattle.std.specs.Io.KnownBytes.{Appends}
@@ -12,8 +12,8 @@ use Rattle.linemap_output.specs.ErrorLine.{EndsOutOfMemory}
 use Rattle.linemap_output.proofs.WritingLemmas.{appends_more, appends_nothing, keeps_same, prefix_none}
 use Rattle.linemap_output.specs.declared.ended.Ended.{Ended}
 use Rattle.linemap_output.specs.declared.options.Options.{Options}
-use Rattle.linemap_lookup.specs.LookupAnswers.{AddressAnswer, Answer, AnswersAddress, AnswersAddresses, LookupState}
-use Rattle.linemap_lookup.specs.LookupRuns.{Records, Stops, StopsAmong, StopsBefore, Streams, Writes, WritesAddress, WritesAddresses, answers_together, nothing, with_flags}
+use Rattle.linemap_lookup.specs.LookupAnswers.{AddressAnswer, AnswersAddress, LookupState}
+use Rattle.linemap_lookup.specs.LookupRuns.{Records, Stops, StopsAmong, StopsBefore, Streams, WritesAddress, WritesAddresses, nothing, with_flags}
 use Rattle.linemap_lookup.proofs.AnswerSteps.{or_false}
 
 -- one more step of a fold

@@ -2,9 +2,9 @@
 
 ghost use Rattle.std.specs.Prelude.{◌≡◌, ◌++◌, None, OnOk, codes, decimal, option_map, unwrap_or};
 ghost use Rattle.std.specs.String.{string_bytes};
-ghost use Rattle.linemap_meaning.specs.AnswerTexts.{discriminator_text, number_text, place_text, unknown_text};
+ghost use Rattle.linemap_meaning.specs.AnswerTexts.{discriminator_text, number_text, unknown_text};
 ghost use Rattle.addr2line_context.specs.BorrowedLocations.{location_value};
-ghost use Rattle.linemap_lookup.specs.AddressTexts.{address_text, printed_address, last_component, location_text, location_text_if_any, printed_file, statement_text, text_with_column};
+ghost use Rattle.linemap_lookup.specs.AddressTexts.{address_text, printed_address, last_component, location_text, location_text_if_any, printed_file, statement_text};
 
 use addr2line_context::Location;
 use linemap_output::Options;

@@ -1,6 +1,6 @@
 //! Calls on one context, one after the other.
 
-ghost use Rattle.std.specs.Prelude.{◌≡◌, OnOk, IfErr, map, option_map};
+ghost use Rattle.std.specs.Prelude.{◌≡◌, OnOk, map, option_map};
 ghost use Rattle.addr2line_context.specs.KeptUnits.{KeepsMore};
 ghost use Rattle.linemap_replay.specs.Outcomes.{CopiesOrNoMemory};
 ghost use Rattle.linemap_replay.specs.OwnedAnswers.{answer_of, copied_answer};

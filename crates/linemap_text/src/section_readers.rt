@@ -1,7 +1,6 @@
 //! Emitted sections as those of a file.
 
 ghost use Rattle.std.specs.Prelude.{◌≡◌, ◌^◌};
-ghost use Rattle.addr2line_context.specs.RunTimeEndian.{RunTimeEndian as Order};
 ghost use Rattle.linemap_emit.specs.SectionBytesById.{bytes_of};
 ghost use Rattle.linemap_emit.specs.ByteOrders.{is_big_endian};
 ghost use Rattle.linemap_text.specs.WordLaws.{file_of};

@@ -1,8 +1,7 @@
 //! The lines that answer words.
 
-ghost use Rattle.std.specs.Prelude.{◌≡◌, ◌≢◌, ◌++◌, Err, IfOk, option_map};
+ghost use Rattle.std.specs.Prelude.{◌≡◌, ◌++◌, Err, IfOk, option_map};
 ghost use Rattle.std.specs.String.{string_bytes};
-ghost use Rattle.addr2line_context.specs.Error.{Error as Fault};
 ghost use Rattle.addr2line_context.specs.BorrowedLocations.{location_value};
 ghost use Rattle.addr2line_context.specs.Contexts.{location};
 ghost use Rattle.linemap_emit.specs.AnswerTexts.{discriminator_text, place_text};

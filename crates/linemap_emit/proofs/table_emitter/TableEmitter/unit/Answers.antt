@@ -1,4 +1,4 @@
-use Rattle.std.proofs.Common.{◌≡◌, ◌^◌, ℕ, All, List, [], length, ap, subst, sym, ◌∙◌}
+use Rattle.std.proofs.Common.{◌^◌, ℕ, All, List, [], length, ap, subst, sym, ◌∙◌}
 use Rattle.std.specs.Prelude.{IsOk}
 use Rattle.linemap_table.specs.TableViews.{unit_part}
 use Rattle.linemap_emit_fits.specs.FileId.{FileId}

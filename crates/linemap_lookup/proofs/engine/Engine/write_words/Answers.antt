@@ -1,4 +1,4 @@
-use Rattle.std.proofs.Common.{◌∙◌, ◌+◌, ap, drop, subst, take}
+use Rattle.std.proofs.Common.{◌∙◌, ◌+◌, ap, drop, subst}
 use Rattle.std.proofs.lemmas.Result.{err_from_is_err_and}
 use Rattle.linemap_meaning.specs.AnswerTexts.{word_address}
 use Rattle.linemap_lookup.specs.LookupRuns.{WritesAddresses}
