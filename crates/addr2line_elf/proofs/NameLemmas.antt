@@ -214,7 +214,8 @@ module _ (bs : List ℕ) (n t i k : ℕ) (longest : IsLongestText bs n) (last : 
   named =
       elim (cases_lt 0 k) [
         | inl some ↦
-            let size : eqb (length text) 0 ≡ false = ne_eqb (length text) 0 (λ e. let is = length_is in absurd (omega arith)) in
+            let size : eqb (length text) 0 ≡ false =
+            ne_eqb (length text) 0 (λ e. let is = length_is in absurd (omega arith)) in
             let not_zero : eqb (byte bs i) 0 ≡ false =
             ne_eqb (byte bs i) 0 (λ e. not_before i (omega arith) (omega arith) e) in
             ap (λ b. not b && is_utf8 text) size

@@ -109,7 +109,9 @@ module _ (texts : List ℕ) (b n t : ℕ) (parts : List NamePart) (longest : IsL
       record {
         order = IsNonDecreasingBy-push end_of parts p so_far.order
             (λ d some. let at_most = EndBy-at b parts (length parts - 1) d so_far.ended (omega arith) in omega arith);
-        ended = EndBy-push (b + n + 1) parts p (EndBy-later b (b + n + 1) parts (omega arith) so_far.ended) (omega arith);
+        ended =
+            EndBy-push (b + n + 1) parts p (EndBy-later b (b + n + 1) parts (omega arith) so_far.ended)
+            (omega arith);
         begins = λ o below. elim (cases_lt o b) [
           | inl before ↦
               so_far.begins o before
@@ -117,7 +119,8 @@ module _ (texts : List ℕ) (b n t : ℕ) (parts : List NamePart) (longest : IsL
           | inr from ↦
               names_left o from below
               ∙ sym (ap (λ c. c && begins_text (byte texts o))
-              (past_all o parts (p ∷ []) (EndBy-later b o parts from so_far.ended) ∙ in_last o b t from p begin_is end_is))
+              (past_all o parts (p ∷ []) (EndBy-later b o parts from so_far.ended)
+              ∙ in_last o b t from p begin_is end_is))
         ];
       }
 

@@ -8,10 +8,11 @@ ghost use Rattle.gimli_core_base.specs.NumberParsers.{offset_below};
 
 use crate::error::Error;
 use std::fmt::Debug;
-use std::hash::Hash;
 
-/// A type of offsets and lengths, which holds the numbers below a limit.
-pub trait ReaderOffset: Debug + Copy + Eq + Ord + Hash {
+/// A type of offsets and lengths, which holds the numbers below a limit. The numbers of 32 and 64
+/// bits and `usize` can be compared and hashed too; code over any type that does so says it in a
+/// bound of its own.
+pub trait ReaderOffset: Copy + Debug {
     /// The number that an offset stands for.
     ghost count: { Self → ℕ };
 

@@ -4,11 +4,10 @@ ghost use Rattle.std.specs.Prelude.{◌≡◌, ◌≤◌, ◌++◌, ℕ, Bool, t
 ghost use Rattle.std.specs.Int.{w16, w32, w64, cast_signed};
 ghost use Rattle.gimli_core_base.specs.Fixed.{number, number_bytes};
 
-use std::fmt::Debug;
-
 /// An order of bytes. Each read takes the first bytes of a slice, and each write puts its bytes
-/// there.
-pub trait Endianity: Debug + Default + Clone + Copy + PartialEq + Eq {
+/// there. The orders of this crate can be compared and printed too; code over any order that does
+/// so says it in a bound of its own.
+pub trait Endianity: Copy {
     /// Whether the more significant byte comes first.
     ghost is_big: { Self → Bool };
 

@@ -15,6 +15,3 @@ pub use linemap_text::{
     out_of_memory, words_not_text,
 };
 pub use linemap_words::{Options, Request, WordsError, explain, read_words};
-
-#[cfg(test)]
-mod tests;

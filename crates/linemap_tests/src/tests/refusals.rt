@@ -1,7 +1,7 @@
 //! Tables that are refused: an error line, status 1, and nothing on the output.
 use super::answers::run;
 use super::tables::{TABLE_A, table_c, with_calls};
-use crate::Ended;
+use linemap_text::Ended;
 use std::test::Fail;
 
 #[test]

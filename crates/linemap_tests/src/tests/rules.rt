@@ -1,6 +1,6 @@
 //! Tables as values: which are read, and the number of each refusal.
 use super::tables::{TABLE_A, table_c, with_calls};
-use crate::{
+use linemap_text::{
     Table, TableCall, TableError, TableFile, TableFunction, TableRange, TableRow, TableSequence,
     TableUnit,
 };

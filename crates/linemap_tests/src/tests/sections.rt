@@ -1,9 +1,8 @@
 //! What is emitted of tables.
-use crate::{
-    EmitError, Sections, Table, TableCall, TableFile, TableFunction, TableRange, TableRow,
-    TableSequence, TableUnit, Target, emit_sections,
+use linemap_text::{
+    EmitError, Format, SectionId, Sections, Table, TableCall, TableFile, TableFunction, TableRange,
+    TableRow, TableSequence, TableUnit, Target, emit_sections,
 };
-use linemap_text::{Format, SectionId};
 use std::alloc::{AllocError, Global};
 use std::test::Fail;
 

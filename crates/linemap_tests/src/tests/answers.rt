@@ -1,7 +1,7 @@
 //! Answers of tables, as text.
 use super::fake::FakeWriter;
 use super::tables::{TABLE_A, small_table, table_c, table_with_discriminator};
-use crate::{Ended, ask};
+use linemap_text::{Ended, ask};
 use std::alloc::{AllocError, Global};
 use std::test::Fail;
 

@@ -1,7 +1,8 @@
 //! Command lines.
 use super::answers::copies_of;
 use super::fake::FakeWriter;
-use crate::{Ended, Request, WordsError, explain, read_words};
+use linemap_text::Ended;
+use linemap_words::{Request, WordsError, explain, read_words};
 use std::alloc::{AllocError, Global};
 use std::io::ErrorKind;
 use std::test::Fail;

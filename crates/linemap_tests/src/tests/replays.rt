@@ -1,13 +1,12 @@
 //! Calls on one context, one after the other: over a table's sections, and over a small file by
 //! hand with a split unit.
 use super::tables::table_c;
-use crate::{
-    Answer, Call, OwnedFrame, OwnedLocation, OwnedStretch, OwnedUnit, Sections, Table, Target,
-    emit_sections, replay,
+use linemap_replay::{
+    Answer, Call, DwarfFileType, DwoId, OwnedFrame, OwnedLocation, OwnedStretch, OwnedUnit, replay,
 };
-use linemap_replay::{DwarfFileType, DwoId};
 use linemap_text::{
-    Context, Dwarf, EndianSlice, Error, Format, RunTimeEndian, SectionId, dwarf_of,
+    Context, Dwarf, EndianSlice, Error, Format, RunTimeEndian, SectionId, Sections, Table, Target,
+    dwarf_of, emit_sections,
 };
 use std::alloc::{AllocError, Global};
 use std::test::Fail;

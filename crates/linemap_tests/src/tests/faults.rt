@@ -2,7 +2,7 @@
 use super::answers::{ask_about, copies_of};
 use super::fake::FakeWriter;
 use super::tables::TABLE_A;
-use crate::Ended;
+use linemap_text::Ended;
 use std::io::ErrorKind;
 use std::test::Fail;
 

@@ -1,8 +1,8 @@
 //! Places in the bytes of emitted sections.
 use super::tables::TABLE_A;
-use crate::{Sections, Table, Target, emit_sections};
 use linemap_text::{
-    Context, Dwarf, EndianSlice, Error, Format, RunTimeEndian, SectionId, place_line,
+    Context, Dwarf, EndianSlice, Error, Format, RunTimeEndian, SectionId, Sections, Table, Target,
+    emit_sections, place_line,
 };
 use std::alloc::Global;
 use std::test::Fail;
