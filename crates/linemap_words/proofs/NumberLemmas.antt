@@ -5,7 +5,8 @@ use Rattle.clap.specs.Matches.{ReadsOne}
 use Rattle.linemap_words.specs.WordsRequest.{IsDecimal}
 
 -- a number that is read is that of the text
-pub number_of_text : (E : Type 0) (G : List ℕ → Result ℕ E → Type 0) (o : Option (List ℕ)) (r : Option ℕ) → (o ≡ None → r ≡ None)
+pub number_of_text : (E : Type 0) (G : List ℕ → Result ℕ E → Type 0) (o : Option (List ℕ)) (r : Option ℕ)
+    → (o ≡ None → r ≡ None)
     → ((t : List ℕ) → o ≡ Some t → ReadsOne G t r) → ((t : List ℕ) (x : Result ℕ E) → G t x → ParsesUnsigned 16 10 t x)
     → IfSome r (λ n. IsSomeAnd o (λ text. IsDecimal text n))
 number_of_text E G None None none value only = tt

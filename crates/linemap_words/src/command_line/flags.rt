@@ -1,5 +1,5 @@
 //! Options that take no value, and options that take one.
-ghost use Rattle.std.specs.Prelude.{◌≡◌, Some, false};
+ghost use Rattle.std.specs.Prelude.{◌≡◌, false};
 ghost use Rattle.clap.specs.Words.{rule_of};
 ghost use Rattle.linemap_words.specs.CommandLine.{flag_rule, number_rule, option_rule, with_short};
 

@@ -13,4 +13,5 @@ returns c =
     ) in
     let sources = with_arguments _ _ _ _ _ c.in_ok-args.ensures c.in_ok-sources.ensures start in
     let details = with_arguments _ _ _ _ _ c.in_ok-args-2.ensures c.in_ok-details.ensures sources in
-    with_last_argument _ c.arg.result _ _ _ c.arg.ensures c.addresses_argument.ensures.rule c.addresses_argument.ensures.local details
+    with_last_argument _ c.arg.result _ _ _ c.arg.ensures c.addresses_argument.ensures.rule
+    c.addresses_argument.ensures.local details
