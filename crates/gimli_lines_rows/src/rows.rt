@@ -148,13 +148,8 @@ impl<R: Reader, P: LineProgram<R> + Drop> LineRows<R, P> {
         ensures free { IsTrue R.copies_freely → TakesNoFile P.takes_files self.old.header
             → IfErr result (λ e. rows_to_come R.Offset.limit self.old ≡ Err e ∷ []) }
         ensures* rest { sem 𝓛 (Rests (the_row R.row P.row R.Endian.row R.Offset.row R.Reader
-            R.Endian.Endianity.own (record { debug_output = R.Endian.debug_output })
-            (record { is_default = R.Endian.is_default }) (record { eq = R.Endian.eq })
-            R.Offset.ReaderOffset.own (record { debug_output = R.Offset.debug_output })
-            (record { eq = R.Offset.eq }) (record { cmp = R.Offset.cmp })
-            (record { partial_cmp = R.Offset.partial_cmp })
-            (record { hash_input = R.Offset.hash_input }) P.LineProgram) self.entry (λ left.
-            ReturnsNextOrNoMemory (λ p. lent_row p.0.now p.1.now) result
+            R.Endian.Endianity R.Offset.ReaderOffset.own R.Offset.Debug P.LineProgram) self.entry
+            (λ left. ReturnsNextOrNoMemory (λ p. lent_row p.0.now p.1.now) result
             (rows_to_come R.Offset.limit self.old) (rows_to_come R.Offset.limit left))) }
     {
         if self.advance()? {
