@@ -176,9 +176,8 @@ impl<R: Reader> Context<R> {
         ensures free { KeepsAsked (AsksForPlace self.old.value probe) self.old.units
             → result ≢ Err Memory }
         ensures* after { sem 𝓛 (Rests (the_row R.row R.Endian.row R.Offset.row R.Reader
-            R.Endian.Endianity.own R.Endian.Debug R.Endian.Default R.Endian.PartialEq
-            R.Offset.ReaderOffset.own R.Offset.Debug R.Offset.PartialEq R.Offset.Ord.own
-            R.Offset.PartialOrd.own R.Offset.Hash.own) self.entry
+            R.Endian.Endianity
+            R.Offset.ReaderOffset.own R.Offset.Debug) self.entry
             (AfterReading (AsksForPlace self.old.value probe)
             (location_looks self.old.value probe) result self.old)) }
     {
@@ -205,9 +204,8 @@ impl<R: Reader> Context<R> {
             (λ i. AsksBetween self.old.value probe_low probe_high i.walk) }
         ensures same_reference { IfOk result (λ i. i.context.ghost_name ≡ self.entry.ghost_name) }
         ensures* after { sem 𝓛 (RestsIfErr (the_row R.row R.Endian.row R.Offset.row R.Reader
-            R.Endian.Endianity.own R.Endian.Debug R.Endian.Default R.Endian.PartialEq
-            R.Offset.ReaderOffset.own R.Offset.Debug R.Offset.PartialEq R.Offset.Ord.own
-            R.Offset.PartialOrd.own R.Offset.Hash.own) self.entry (λ i. i.context.ghost_name)
+            R.Endian.Endianity
+            R.Offset.ReaderOffset.own R.Offset.Debug) self.entry (λ i. i.context.ghost_name)
             result (λ left. left ≡ self.old)) }
     {
         let walk = RangeWalk::new(probe_low, probe_high);
@@ -348,9 +346,8 @@ impl<R: Reader> Context<R> {
             (λ w found. FindsFrames frames_left w.context.now.value w.probe found) result
             (FindsFrames frames_left self.old.value probe) }
         ensures* after { sem 𝓛 (RestsUnlessWaiting (the_row R.row R.Endian.row R.Offset.row R.Reader
-            R.Endian.Endianity.own R.Endian.Debug R.Endian.Default R.Endian.PartialEq
-            R.Offset.ReaderOffset.own R.Offset.Debug R.Offset.PartialEq R.Offset.Ord.own
-            R.Offset.PartialOrd.own R.Offset.Hash.own) self.entry
+            R.Endian.Endianity
+            R.Offset.ReaderOffset.own R.Offset.Debug) self.entry
             (λ w. w.context.ghost_name) result
             (AfterSearch probe self.old)) }
     {
@@ -379,9 +376,8 @@ impl<R: Reader> Context<R> {
         ensures skips { IfSkipped (λ w found. FindsUnit w.context.now.value w.probe found) result
             (FindsUnit self.old.value probe) }
         ensures* after { sem 𝓛 (RestsUnlessWaiting (the_row R.row R.Endian.row R.Offset.row R.Reader
-            R.Endian.Endianity.own R.Endian.Debug R.Endian.Default R.Endian.PartialEq
-            R.Offset.ReaderOffset.own R.Offset.Debug R.Offset.PartialEq R.Offset.Ord.own
-            R.Offset.PartialOrd.own R.Offset.Hash.own) self.entry
+            R.Endian.Endianity
+            R.Offset.ReaderOffset.own R.Offset.Debug) self.entry
             (λ w. w.context.ghost_name) result
             (AfterSearch probe self.old)) }
     {

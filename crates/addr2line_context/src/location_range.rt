@@ -57,9 +57,8 @@ impl<'ctx, R: Reader> LocationRangeIter<'ctx, R> {
     /// the iterator where it was: only a unit's lines take memory, and what was read is kept.
     pub fn next<'a>(&'a mut self) -> Result<Option<(u64, u64, Location<'a>)>, Error>
         ensures* after { sem 𝓛 (Rests (the_row (record { mir = named 0; lft = [] }) R.row
-            R.Endian.row R.Offset.row R.Reader R.Endian.Endianity.own R.Endian.Debug
-            R.Endian.Default R.Endian.PartialEq R.Offset.ReaderOffset.own R.Offset.Debug
-            R.Offset.PartialEq R.Offset.Ord.own R.Offset.PartialOrd.own R.Offset.Hash.own)
+            R.Endian.row R.Offset.row R.Reader R.Endian.Endianity
+            R.Offset.ReaderOffset.own R.Offset.Debug)
             self.entry (λ left. MovesOn result self.old.context self.old.walk left.context
             left.walk)) }
     {
