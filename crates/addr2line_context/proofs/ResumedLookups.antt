@@ -31,7 +31,8 @@ after_error old new a file left free none = record {
 module _ (old mid : ResolvedContext) (a : ℕ) (file : Option DwarfFile)
     (answered : mid.value ≡ after_answer old.value a file) (free : AtMostLooks 0 old.units mid.units)
     (none : ReadsNoLines old.units mid.units) where
-  looks_again : (new : ResolvedContext) → AfterSearch a mid new → AtMostLooks (looks_after old a file) old.units new.units
+  looks_again : (new : ResolvedContext) → AfterSearch a mid new
+      → AtMostLooks (looks_after old a file) old.units new.units
   looks_again new after =
       subst (λ (c : AnsweredContext). AtMostLooks (frame_looks c a) old.units new.units) answered
       (looks_weaker (0 + frame_looks mid.value a) (frame_looks mid.value a) old.units new.units (omega arith)

@@ -19,7 +19,7 @@ ghost use Rattle.addr2line_lookups.specs.Histories.{functions_or_refusal, calls_
 ghost use Rattle.addr2line_lookups.specs.ContextNames.{naming_in};
 ghost use Rattle.addr2line_lookups.specs.Preloads.{load_at, load_of_item};
 ghost use Rattle.addr2line_context.specs.AnsweredContexts.{HasNoAnswers};
-ghost use Rattle.addr2line_context.specs.ContextCosts.{runs_of_unit, location_looks, AsksForPlace, AsksBetween, AfterLookup, AfterSearch, AfterReading, AfterStep};
+ghost use Rattle.addr2line_context.specs.ContextCosts.{runs_of_unit, location_looks, AsksForPlace, AsksForNext, AsksBetween, AfterLookup, AfterSearch, AfterReading, AfterStep};
 ghost use Rattle.addr2line_context.specs.ContextParses.{ParsesOrNoMemory};
 ghost use Rattle.addr2line_context.specs.LocationRanges.{left_in};
 ghost use Rattle.addr2line_context.specs.RangeItems.{stretch_of_item};
@@ -176,8 +176,7 @@ impl<R: Reader> Context<R> {
         ensures free { KeepsAsked (AsksForPlace self.old.value probe) self.old.units
             → result ≢ Err Memory }
         ensures* after { sem 𝓛 (Rests (the_row R.row R.Endian.row R.Offset.row R.Reader
-            R.Endian.Endianity
-            R.Offset.ReaderOffset.own R.Offset.Debug) self.entry
+            R.Endian.Endianity R.Offset.ReaderOffset.own R.Offset.Debug) self.entry
             (AfterReading (AsksForPlace self.old.value probe)
             (location_looks self.old.value probe) result self.old)) }
     {
@@ -191,7 +190,8 @@ impl<R: Reader> Context<R> {
     /// there, in the order in which lookups ask them, those of their rows between the ends, both
     /// clipped to that range. Here nothing is read and no memory is taken, so that it is never
     /// refused; the iterator reads the lines of each unit where it comes to it, those of no other
-    /// unit. Once it is let go, the context's value is what the iterator's calls left.
+    /// unit, and takes memory for nothing else. Once it is let go, the context's value is what the
+    /// iterator's calls left.
     pub fn find_location_range(
         &mut self,
         probe_low: u64,
@@ -204,9 +204,8 @@ impl<R: Reader> Context<R> {
             (λ i. AsksBetween self.old.value probe_low probe_high i.walk) }
         ensures same_reference { IfOk result (λ i. i.context.ghost_name ≡ self.entry.ghost_name) }
         ensures* after { sem 𝓛 (RestsIfErr (the_row R.row R.Endian.row R.Offset.row R.Reader
-            R.Endian.Endianity
-            R.Offset.ReaderOffset.own R.Offset.Debug) self.entry (λ i. i.context.ghost_name)
-            result (λ left. left ≡ self.old)) }
+            R.Endian.Endianity R.Offset.ReaderOffset.own R.Offset.Debug) self.entry
+            (λ i. i.context.ghost_name) result (λ left. left ≡ self.old)) }
     {
         let walk = RangeWalk::new(probe_low, probe_high);
         Ok(LocationRangeIter {
@@ -215,16 +214,18 @@ impl<R: Reader> Context<R> {
         })
     }
 
-    // The next stretch of a walk. The lines of the units that it comes to are read, unless they are
-    // kept, and kept.
+    // The next stretch of a walk. The lines of the units that it asks are read, unless they are
+    // kept, and kept; else it takes no memory.
     pub(crate) fn next_stretch(
         &mut self,
         walk: &mut RangeWalk,
     ) -> Result<Option<UnitStretch>, Error>
         ensures stretch { FindsStretch self.old.value.plain.context.units result
             (left_in self.old walk.old) (left_in self.old walk.new) }
-        ensures after { AfterStep walk.old walk.new self.old self.new }
+        ensures after { AfterStep result walk.old walk.new self.old self.new }
         ensures kept { KeepsStretch self.new.units result }
+        ensures free { KeepsAsked (AsksForNext self.old.value walk.old) self.old.units
+            → result ≢ Err Memory }
     {
         self.units.next_stretch(walk)
     }
@@ -346,8 +347,7 @@ impl<R: Reader> Context<R> {
             (λ w found. FindsFrames frames_left w.context.now.value w.probe found) result
             (FindsFrames frames_left self.old.value probe) }
         ensures* after { sem 𝓛 (RestsUnlessWaiting (the_row R.row R.Endian.row R.Offset.row R.Reader
-            R.Endian.Endianity
-            R.Offset.ReaderOffset.own R.Offset.Debug) self.entry
+            R.Endian.Endianity R.Offset.ReaderOffset.own R.Offset.Debug) self.entry
             (λ w. w.context.ghost_name) result
             (AfterSearch probe self.old)) }
     {
@@ -376,8 +376,7 @@ impl<R: Reader> Context<R> {
         ensures skips { IfSkipped (λ w found. FindsUnit w.context.now.value w.probe found) result
             (FindsUnit self.old.value probe) }
         ensures* after { sem 𝓛 (RestsUnlessWaiting (the_row R.row R.Endian.row R.Offset.row R.Reader
-            R.Endian.Endianity
-            R.Offset.ReaderOffset.own R.Offset.Debug) self.entry
+            R.Endian.Endianity R.Offset.ReaderOffset.own R.Offset.Debug) self.entry
             (λ w. w.context.ghost_name) result
             (AfterSearch probe self.old)) }
     {

@@ -66,8 +66,7 @@ impl<'ctx, R: Reader> LookupContinuation for FindUnit<'ctx, R> {
             (λ w found. FindsUnit w.context.now.value w.probe found) result
             (FindsUnit self.entry.context.now.value self.entry.probe) }
         ensures* after { sem 𝓛 (RestsUnlessWaiting (the_row R.row R.Endian.row R.Offset.row R.Reader
-            R.Endian.Endianity
-            R.Offset.ReaderOffset.own R.Offset.Debug)
+            R.Endian.Endianity R.Offset.ReaderOffset.own R.Offset.Debug)
             self.entry.context (λ w. w.context.ghost_name) result
             (AfterAnswer self.entry.context.now self.entry.probe
             (option_map (λ f. f.value.file) input))) }

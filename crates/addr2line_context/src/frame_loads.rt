@@ -83,8 +83,7 @@ pub fn find_decided_frames<R: Reader>(
     requires { IsDone (frames_in context.old.value probe) }
     ensures found { GivesDecided frames_left result (frames_in context.old.value probe) }
     ensures* after { sem 𝓛 (Rests (the_row R.row R.Endian.row R.Offset.row R.Reader
-        R.Endian.Endianity
-            R.Offset.ReaderOffset.own R.Offset.Debug) context.entry
+        R.Endian.Endianity R.Offset.ReaderOffset.own R.Offset.Debug) context.entry
         (AfterSearch probe context.old)) }
 {
     match context.settle_frames(probe) {

@@ -1,6 +1,6 @@
 //! Lookups of frames and of units, settled by the units' numbers.
 
-ghost use Rattle.std.specs.Prelude.{◌≡◌, map, option_map, is_some};
+ghost use Rattle.std.specs.Prelude.{◌≡◌, map, is_some};
 ghost use Rattle.addr2line_resolved.specs.NumberedRanges.{covering_ranges};
 ghost use Rattle.addr2line_resolved.specs.ResolvedUnits.{value_of_unit};
 ghost use Rattle.addr2line_lookups.specs.KeptUnits.{ReadsAsked, IsUnitOf};

@@ -17,7 +17,7 @@ ghost use Rattle.addr2line_lookups.specs.PassedUnits.{PassFrames, PassUnits, Pas
 ghost use Rattle.addr2line_lookups.specs.UnitLookups.{frames_among, SettlesFrames, unit_among, SettlesUnit, unit_at_number};
 ghost use Rattle.addr2line_resolved.specs.BorrowedFrames.{frames_left};
 ghost use Rattle.addr2line_lookups.specs.KeptUnits.{KeepsAt, KeepsFound, KeepsAsked, ReadsAsked, ReadsNoLines, IsUnitOf, AsksForRow, AsksForLines, FindsRow, location_of_unit_row};
-ghost use Rattle.addr2line_lookups.specs.RangeWalks.{FindsStretch, KeepsStretch, stretches_left, ComesTo, StaysOnItsWay};
+ghost use Rattle.addr2line_lookups.specs.RangeWalks.{FindsStretch, KeepsStretch, stretches_left, AsksForNextStretch, StaysOnItsWay};
 ghost use Rattle.addr2line_lookups.specs.LookupCosts.{AtMostLooks, row_probes_at, frame_probes_at, probes_among};
 ghost use Rattle.addr2line_lookups.specs.UnitParses.{WalksOrNoMemory, check_functions_of, check_calls_of};
 
@@ -113,8 +113,8 @@ impl<R: Reader> Units<R> {
         place_in(self.units.as_slice(), found)
     }
 
-    // The next stretch of a walk. The lines of the units that it comes to are read, unless they are
-    // kept, and kept.
+    // The next stretch of a walk. The lines of the units that it asks are read, unless they are
+    // kept, and kept; else it takes no memory.
     pub fn next_stretch(&mut self, walk: &mut RangeWalk) -> Result<Option<UnitStretch>, Error>
         ensures values { map value_of_unit self.new ≡ map value_of_unit self.old }
         ensures calls { LeavesCalls self.old self.new }
@@ -123,8 +123,12 @@ impl<R: Reader> Units<R> {
             (stretches_left (map plain_unit self.old) walk.old)
             (stretches_left (map plain_unit self.old) walk.new) }
         ensures kept { KeepsStretch self.new result }
-        ensures reads { ReadsAsked (ComesTo (ordered_ranges (map plain_unit self.old)) walk.old)
+        ensures asked { result ≢ Err Memory
+            → KeepsAsked (AsksForNextStretch (map plain_unit self.old) walk.old) self.new }
+        ensures reads { ReadsAsked (AsksForNextStretch (map plain_unit self.old) walk.old)
             self.old self.new }
+        ensures free { KeepsAsked (AsksForNextStretch (map plain_unit self.old) walk.old) self.old
+            → result ≢ Err Memory }
         ensures way { StaysOnItsWay (ordered_ranges (map plain_unit self.old)) walk.old walk.new }
     {
         let alloc = *self.units.allocator();

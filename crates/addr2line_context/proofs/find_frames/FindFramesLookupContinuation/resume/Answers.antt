@@ -29,7 +29,8 @@ returns-in-Ok g c =
         found =
             subst (λ (x : AnsweredContext). FollowsLookup frames_left result (frames_in x a)) ok
             c.find_frames.ensures.found;
-        again = waits_again old mid a file ok free c.in-Ok.ensures.lines (λ w. w.context.now) (λ w. w.probe) result waits;
+        again =
+            waits_again old mid a file ok free c.in-Ok.ensures.lines (λ w. w.context.now) (λ w. w.probe) result waits;
         skips =
             λ none found h.
             finds_after frames_left frames_in frames_still_found old.value a found

@@ -29,7 +29,8 @@ returns-in-Ok g c =
         found =
             subst (λ (x : AnsweredContext). FollowsLookup (λ u. u) result (map_output (λ u. Ok u) (unit_in x a))) ok
             c.find_dwarf_and_unit.ensures.found;
-        again = waits_again old mid a file ok free c.in-Ok.ensures.lines (λ w. w.context.now) (λ w. w.probe) result waits;
+        again =
+            waits_again old mid a file ok free c.in-Ok.ensures.lines (λ w. w.context.now) (λ w. w.probe) result waits;
         skips =
             λ none found h.
             finds_after (λ u. u) unit_or_refusal unit_or_refusal_still_found old.value a found
