@@ -15,6 +15,7 @@ use Rattle.addr2line_lookups.specs.KeptUnits.{AsksAmong, KeepsAsked, ReadsAsked,
 use Rattle.addr2line_lookups.specs.RangeWalks.{ComesTo, AsksForStretch}
 use Rattle.addr2line_lookups.specs.declared.range_walk.RangeWalk.{RangeWalk}
 use Rattle.addr2line_lookups.specs.LookupCosts.{AtMostLooks, probes_among, row_probes_at, frame_probes_at}
+use Rattle.addr2line_lookups.specs.PassedUnits.{AsksFramesAmong, AsksUnitAmong}
 use Rattle.addr2line_context.specs.AnsweredContexts.{AnsweredContext}
 use Rattle.addr2line_context.specs.KeptContexts.{ResolvedContext}
 
@@ -60,6 +61,16 @@ frame_looks c a =
 abbrev pub AsksForPlace : AnsweredContext → ℕ → ℕ → Type 0
 AsksForPlace c a = AsksAmong c.plain.context.units a (ranges_over c a)
 
+-- The lookup of the frames of an address asks the unit of a number: one with a range over it, no
+-- later than the first that has some or is refused, or whose load needs an answer.
+abbrev pub AsksForFrames : AnsweredContext → ℕ → ℕ → Type 0
+AsksForFrames c a = AsksFramesAmong (known_units c.plain) (answered_units c) a (ranges_over c a)
+
+-- The lookup of the unit of an address asks the unit of a number: one with a range over it, no
+-- later than the first that is the unit of the address, or whose load needs an answer.
+abbrev pub AsksForUnit : AnsweredContext → ℕ → ℕ → Type 0
+AsksForUnit c a = AsksUnitAmong (known_units c.plain) (answered_units c) a (ranges_over c a)
+
 -- the unit of a number is one that a walk over stretches may still ask for its lines
 abbrev pub AsksForStretches : AnsweredContext → RangeWalk → ℕ → Type 0
 AsksForStretches c w = ComesTo (ordered_ranges c.plain.context.units) w
@@ -82,12 +93,13 @@ pub record AfterLookup (n : ℕ) (old new : ResolvedContext) : Type 0 where
   pub value : new.value ≡ old.value
   pub cost : AtMostLooks n old.units new.units
 
--- The same after a lookup of the frames of an address, or of its unit. It reads lines of no units
--- but those with a range over the address.
-pub record AfterSearch (a : ℕ) (old new : ResolvedContext) : Type 0 where
+-- The same after a lookup of the frames of an address, or of its unit, which asks units. It reads
+-- lines of no others.
+pub record AfterSearch (asks : AnsweredContext → ℕ → ℕ → Type 0) (a : ℕ)
+    (old new : ResolvedContext) : Type 0 where
   pub value : new.value ≡ old.value
   pub cost : AtMostLooks (frame_looks old.value a) old.units new.units
-  pub reads : ReadsAsked (IsUnitOf (ranges_over old.value a)) old.units new.units
+  pub reads : ReadsAsked (asks old.value a) old.units new.units
 
 -- The same after a call with this result that asks units for their lines. Unless it was out of
 -- memory, these are kept; it reads no others.

@@ -1,5 +1,5 @@
 -- Calls read lines of the units that they ask alone; where one asks units one after the other, their lines are kept.
-use Rattle.std.proofs.Common.{◌≡◌, ◌≢◌, ◌⊎◌, inl, inr, ℕ, zero, suc, ◌+◌, ◌<◌, ◌≤◌, List, [], ◌∷◌, ◌++◌, length, get_or, set, map, Option, Some, None, Result, Ok, Err, refl, sym, ap, ◌∙◌, subst, arith}
+use Rattle.std.proofs.Common.{◌≡◌, ◌≢◌, ◌⊎◌, inl, inr, ℕ, zero, suc, ◌+◌, ◌<◌, ◌≤◌, List, [], ◌∷◌, length, get_or, set, map, Option, Some, None, Result, Ok, Err, refl, sym, ap, ◌∙◌, subst, arith}
 use Rattle.std.proofs.Math.Nat.{eq-or-lt_of_le}
 use Rattle.addr2line_resolved.specs.Error.{Error}
 use Rattle.addr2line_resolved.specs.Error.TheVariants.{Memory}
@@ -7,7 +7,7 @@ use Rattle.addr2line_resolved.specs.Lines.{LineRow}
 use Rattle.addr2line_resolved.specs.Contexts.{ContextUnit}
 use Rattle.addr2line_resolved.specs.UnitRange.{UnitRange}
 use Rattle.addr2line_resolved.specs.ResolvedUnits.{ResolvedUnit, KeepsLines, value_of_unit, plain_unit}
-use Rattle.addr2line_lookups.specs.KeptUnits.{KeepsAt, KeepsMore, KeepsAsked, ReadsAsked, ReadsNoLines, IsUnitOf, AsksAmong, AsksForLines, row_at_number, check_at}
+use Rattle.addr2line_lookups.specs.KeptUnits.{KeepsAt, KeepsMore, KeepsAsked, ReadsAsked, ReadsNoLines, AsksAmong, AsksForLines, row_at_number, check_at}
 use Rattle.addr2line_lookups.proofs.KeptLines.{same_plain, keeps_past}
 
 -- ---- one unit
@@ -74,19 +74,6 @@ reads_more asks here us vs ws are_asked first reads n kept = by (reads n kept)
 pub reads_both : (asks : ℕ → Type 0) (us vs ws : List ResolvedUnit) (k : ℕ) → asks k → ReadsAsked asks us vs
     → ReadsAsked (λ n. n ≡ k) vs ws → ReadsAsked asks us ws
 reads_both asks us vs ws k asked = reads_more asks (λ n. n ≡ k) us vs ws (λ n is. subst asks (sym is) asked)
-
--- ---- units of ranges
-
-unit_after : (passed old : List UnitRange) (n : ℕ) → IsUnitOf old n → IsUnitOf (passed ++ old) n
-unit_after [] old n h = h
-unit_after (r ∷ passed) old n h = inr (unit_after passed old n h)
-
--- that of the first that is left
-pub unit_of_first : (all passed old rest : List UnitRange) (r : UnitRange) → all ≡ passed ++ old → old ≡ r ∷ rest
-    → IsUnitOf all r.unit
-unit_of_first all passed old rest r are_all is =
-    let P : List UnitRange → Type 0 = λ rs. IsUnitOf rs r.unit in
-    subst P (sym are_all) (unit_after passed old r.unit (subst P (sym is) (inl refl)))
 
 -- ---- one unit after the other
 

@@ -13,10 +13,10 @@ ghost use Rattle.addr2line_lookups.specs.KeptCalls.{LeavesCalls, HoldCalls, know
 ghost use Rattle.addr2line_lookups.specs.LoadAnswers.{AnswersOrNoMemory, answer_at};
 ghost use Rattle.addr2line_lookups.specs.Preloads.{load_at, loads_at, load_of_item, first_number, first_load};
 ghost use Rattle.addr2line_lookups.specs.FramePlaces.{LendsFrames};
-ghost use Rattle.addr2line_lookups.specs.PassedUnits.{PassFrames, PassUnits, PassLoads};
+ghost use Rattle.addr2line_lookups.specs.PassedUnits.{PassFrames, PassUnits, PassLoads, AsksFramesAmong, AsksUnitAmong};
 ghost use Rattle.addr2line_lookups.specs.UnitLookups.{frames_among, SettlesFrames, unit_among, SettlesUnit, unit_at_number};
 ghost use Rattle.addr2line_resolved.specs.BorrowedFrames.{frames_left};
-ghost use Rattle.addr2line_lookups.specs.KeptUnits.{KeepsAt, KeepsFound, KeepsAsked, ReadsAsked, ReadsNoLines, IsUnitOf, AsksForRow, AsksForLines, FindsRow, location_of_unit_row};
+ghost use Rattle.addr2line_lookups.specs.KeptUnits.{KeepsAt, KeepsFound, KeepsAsked, ReadsAsked, ReadsNoLines, AsksForRow, AsksForLines, FindsRow, location_of_unit_row};
 ghost use Rattle.addr2line_lookups.specs.RangeWalks.{FindsStretch, KeepsStretch, stretches_left, AsksForNextStretch, StaysOnItsWay};
 ghost use Rattle.addr2line_lookups.specs.LookupCosts.{AtMostLooks, row_probes_at, frame_probes_at, probes_among};
 ghost use Rattle.addr2line_lookups.specs.UnitParses.{WalksOrNoMemory, check_functions_of, check_calls_of};
@@ -211,8 +211,9 @@ impl<R: Reader> Units<R> {
 
     /// Where the frames of an address are: of the units with a range over it, in their order, in
     /// the first that has some, unless one is refused or waits for its load before.
-    /// What is read is kept. The search begins at an index among all ranges, before which no unit
-    /// has frames, and moves it on: so one that is asked again after an answer goes on there.
+    /// What is read is kept, and no lines of units after the one in which it ends are read. The
+    /// search begins at an index among all ranges, before which no unit has frames, and moves it
+    /// on: so one that is asked again after an answer goes on there.
     pub fn settle_frames(
         &mut self,
         supplement_units: &[Unit<R>],
@@ -231,7 +232,8 @@ impl<R: Reader> Units<R> {
             (frame_probes_at (known_among self.old supplement_units.now)
             (map value_of_unit self.old) probe)
             (covering_ranges probe (ordered_ranges (map plain_unit self.old)))) self.old self.new }
-        ensures reads { ReadsAsked (IsUnitOf
+        ensures reads { ReadsAsked (AsksFramesAmong (known_among self.old supplement_units.now)
+            (map value_of_unit self.old) probe
             (covering_ranges probe (ordered_ranges (map plain_unit self.old)))) self.old self.new }
         ensures passed { PassFrames (known_among self.old supplement_units.now)
             (map value_of_unit self.old) probe from.new (ordered_ranges (map plain_unit self.old)) }
@@ -248,8 +250,9 @@ impl<R: Reader> Units<R> {
     }
 
     /// The number of the first unit, of those with a range over an address, that has a function or
-    /// a place for it, unless one waits for its load before. What is read is kept. The search
-    /// begins at an index before which no unit has any, and moves it on.
+    /// a place for it, unless one waits for its load before. What is read is kept, and no lines of
+    /// units after the one in which it ends are read. The search begins at an index before which no
+    /// unit has any, and moves it on.
     pub fn settle_unit(
         &mut self,
         supplement_units: &[Unit<R>],
@@ -268,7 +271,8 @@ impl<R: Reader> Units<R> {
             (frame_probes_at (known_among self.old supplement_units.now)
             (map value_of_unit self.old) probe)
             (covering_ranges probe (ordered_ranges (map plain_unit self.old)))) self.old self.new }
-        ensures reads { ReadsAsked (IsUnitOf
+        ensures reads { ReadsAsked (AsksUnitAmong (known_among self.old supplement_units.now)
+            (map value_of_unit self.old) probe
             (covering_ranges probe (ordered_ranges (map plain_unit self.old)))) self.old self.new }
         ensures passed { PassUnits (known_among self.old supplement_units.now)
             (map value_of_unit self.old) probe from.new (ordered_ranges (map plain_unit self.old)) }
