@@ -43,13 +43,13 @@ module _ (file : DwarfFile) (us : List ResolvedUnit) (s : List UnitFacts)
   same_units : map unit_of vs ≡ map plain_unit us
   same_units = map-map unit_of value_of_unit us
 
-  answered_here : answered_units c ≡ vs
+  pub answered_here : answered_units c ≡ vs
   answered_here =
       ap answered_units (sym is)
       ∙ ap (λ units. units_with_answers file units (answers_of vs)) (sym same_units)
       ∙ units_again file vs of_file
 
-  known_here : known_units c.plain ≡ known_among us s
+  pub known_here : known_units c.plain ≡ known_among us s
   known_here = ap (λ (x : AnsweredContext). known_units x.plain) (sym is) ∙ known_in file us s
 
   abbrev pairs_over : List ContextUnit → List UnitRange

@@ -1,7 +1,8 @@
 -- A context from its parts.
-use Rattle.std.proofs.Common.{◌≡◌, ℕ, List, map, Option, None, Some, Result, Ok, Err, refl, sym, ap, ◌∙◌, subst}
+use Rattle.std.proofs.Common.{◌≡◌, ◌≢◌, ℕ, List, map, Option, None, Some, Result, Ok, Err, refl, sym, ap, ◌∙◌, subst}
 use Rattle.std.proofs.lemmas.Simd.{map-map}
 use Rattle.addr2line_lookups.specs.Error.{Error}
+use Rattle.addr2line_lookups.specs.Error.TheVariants.{Memory}
 use Rattle.addr2line_lookups.specs.Repetition.{fault_of}
 use Rattle.addr2line_lookups.specs.ArangeSets.{sets_to_come}
 use Rattle.addr2line_lookups.specs.Tiling.{whole_section}
@@ -15,16 +16,17 @@ use Rattle.addr2line_lookups.proofs.NewUnits.{unit_of, units_alone, units_of_new
 use Rattle.addr2line_lookups.proofs.ContextOfUnits.{context_of_units}
 use Rattle.addr2line_context.specs.AnsweredContexts.{AnsweredContext}
 use Rattle.addr2line_context.specs.KeptContexts.{ResolvedContext}
-use Rattle.addr2line_context.specs.ContextCosts.{AfterLookup, AfterStep, AsksForStretches}
-use Rattle.addr2line_lookups.specs.ContextUnits.{ordered_ranges}
-use Rattle.addr2line_lookups.specs.KeptUnits.{ReadsAsked, ReadsNoLines}
-use Rattle.addr2line_lookups.specs.RangeWalks.{ComesTo, StaysOnItsWay}
+use Rattle.addr2line_context.specs.ContextCosts.{AfterLookup, AfterStep, AsksForNext, AsksForStretches}
+use Rattle.addr2line_lookups.specs.ContextUnits.{unit_places, ordered_ranges}
+use Rattle.addr2line_lookups.specs.KeptUnits.{KeepsAsked, ReadsAsked, ReadsNoLines}
+use Rattle.addr2line_lookups.specs.RangeWalks.{AsksForNextStretch, StaysOnItsWay}
 use Rattle.addr2line_lookups.specs.declared.range_walk.RangeWalk.{RangeWalk}
 use Rattle.addr2line_lookups.specs.LookupCosts.{AtMostLooks}
 use Rattle.addr2line_lookups.specs.AnsweredUnits.{answers_of}
 use Rattle.addr2line_lookups.specs.KeptCalls.{facts_of}
 use Rattle.addr2line_lookups.specs.OrderedUnits.{AreInOrder}
 use Rattle.addr2line_lookups.proofs.KeptLines.{same_plain}
+use Rattle.addr2line_lookups.proofs.RangeUnits.{asked_on_way}
 use Rattle.addr2line_lookups.proofs.UnitsInOrder.{units_in_order}
 
 -- ---- units
@@ -151,17 +153,41 @@ module _ (file : DwarfFile) (us : List ResolvedUnit) (supplement_units : List Un
   }
 
   -- a step of a walk between two ends
-  pub after_step : (old new : RangeWalk) (vs : List ResolvedUnit) → map value_of_unit vs ≡ map value_of_unit us
-      → AtMostLooks 0 us vs → ReadsAsked (ComesTo (ordered_ranges (map plain_unit us)) old) us vs
+  pub after_step : {A : Type 0} (result : Result A Error) (old new : RangeWalk) (vs : List ResolvedUnit)
+      → map value_of_unit vs ≡ map value_of_unit us → AtMostLooks 0 us vs
+      → (result ≢ Err Memory → KeepsAsked (AsksForNextStretch (map plain_unit us) old) vs)
+      → ReadsAsked (AsksForNextStretch (map plain_unit us) old) us vs
       → StaysOnItsWay (ordered_ranges (map plain_unit us)) old new
-      → AfterStep old new c (resolved_with file vs supplement_units)
-  after_step old new vs same looks reads way =
+      → AfterStep result old new c (resolved_with file vs supplement_units)
+  after_step result old new vs same looks asked reads way =
       let after = after_lookup 0 0 vs refl same looks in
       let on_way : AnsweredContext → Type 0 =
       λ x. (n : ℕ) → AsksForStretches x new n → AsksForStretches x old n in
       record {
         value = after.value;
         cost = after.cost;
-        reads = subst (λ (x : ResolvedContext). ReadsAsked (AsksForStretches x.value old) x.units vs) is reads;
+        asked = λ answered. subst (λ x. KeepsAsked (AsksForNext x old) vs) value_is (asked answered);
+        reads = subst (λ (x : ResolvedContext). ReadsAsked (AsksForNext x.value old) x.units vs) is reads;
+        asks = λ n asks.
+            asked_on_way (map unit_places c.value.plain.context.units) (ordered_ranges c.value.plain.context.units)
+            old n asks;
         way = subst on_way value_is way;
       }
+
+  -- the lines that it asks for are kept
+  pub keeps_stretch : (old : RangeWalk) → KeepsAsked (AsksForNext c.value old) c.units
+      → KeepsAsked (AsksForNextStretch (map plain_unit us) old) us
+  keeps_stretch old = subst (λ (x : ResolvedContext). KeepsAsked (AsksForNext x.value old) x.units) (sym is)
+
+-- the same step with another result
+pub with_result : {A B : Type 0} (r : Result A Error) (result : Result B Error) (old_walk new_walk : RangeWalk)
+    (old new : ResolvedContext) → AfterStep r old_walk new_walk old new → (result ≢ Err Memory → r ≢ Err Memory)
+    → AfterStep result old_walk new_walk old new
+with_result r result old_walk new_walk old new h refused = record {
+  value = h.value;
+  cost = h.cost;
+  asked = λ answered. h.asked (refused answered);
+  reads = h.reads;
+  asks = h.asks;
+  way = h.way;
+}

@@ -6,24 +6,28 @@ use Rattle.addr2line_lookups.specs.UnitFacts.{UnitFacts, UnitInFile}
 use Rattle.addr2line_lookups.specs.Frames.{Frame}
 use Rattle.addr2line_lookups.specs.FirstAnswers.{Lookup}
 use Rattle.addr2line_lookups.specs.UnitRange.{UnitRange}
+use Rattle.addr2line_lookups.specs.EntryReferences.{KnownUnits}
+use Rattle.addr2line_lookups.specs.ContextNames.{known_units}
 use Rattle.addr2line_lookups.specs.NumberedRanges.{covering_ranges}
 use Rattle.addr2line_lookups.specs.ContextUnits.{ordered_ranges}
 use Rattle.addr2line_lookups.specs.ResolvedUnits.{AnsweredUnit, ResolvedUnit, value_of_unit, plain_unit}
 use Rattle.addr2line_lookups.specs.AnsweredUnits.{AreOfFile}
-use Rattle.addr2line_lookups.specs.KeptUnits.{ReadsAsked, IsUnitOf}
+use Rattle.addr2line_lookups.specs.KeptUnits.{ReadsAsked}
 use Rattle.addr2line_lookups.specs.KeptCalls.{known_among, HoldCalls}
 use Rattle.addr2line_lookups.specs.LookupCosts.{AtMostLooks, probes_among, frame_probes_at}
 use Rattle.addr2line_lookups.specs.UnitLookups.{frames_among, SettlesFrames, unit_among, SettlesUnit}
+use Rattle.addr2line_lookups.specs.PassedUnits.{AsksFramesAmong, AsksUnitAmong}
 use Rattle.addr2line_lookups.specs.declared.frame_place.FramePlace.{FramePlace}
 use Rattle.addr2line_lookups.specs.declared.settled.Settled.{Settled}
 use Rattle.addr2line_lookups.proofs.CallsLeft.{known_same}
+use Rattle.addr2line_context.specs.AnsweredContexts.{AnsweredContext}
 use Rattle.addr2line_context.specs.Progresses.{IsIndexFor, PassFramesIn, PassUnitsIn}
 use Rattle.addr2line_context.specs.KeptContexts.{ResolvedContext, HoldsUnits}
 use Rattle.addr2line_context.specs.declared.progress.Progress.{Progress}
-use Rattle.addr2line_context.specs.ContextCosts.{ranges_over, frame_looks, AfterSearch}
+use Rattle.addr2line_context.specs.ContextCosts.{answered_units, ranges_over, frame_looks, AsksForFrames, AsksForUnit, AfterSearch}
 use Rattle.addr2line_context.specs.SettledLookups.{frames_in, unit_in}
 use Rattle.addr2line_context.proofs.ContextParts.{resolved_with, value_is, after_lookup}
-use Rattle.addr2line_context.proofs.ContextLooks.{ranges_here, frame_looks_here}
+use Rattle.addr2line_context.proofs.ContextLooks.{answered_here, known_here, ranges_here, frame_looks_here}
 use Rattle.addr2line_context.proofs.KeptUnits.{pass_for, frames_first, units_first, holds_calls}
 use Rattle.addr2line_context.proofs.AskedUnits.{frames_in_context, unit_in_context}
 
@@ -74,22 +78,49 @@ module _ (file : DwarfFile) (us : List ResolvedUnit) (s : List UnitFacts) {frame
           probes_among (frame_probes_at (known_among us units) (map value_of_unit us) a)
           (covering_ranges a (ordered_ranges (map plain_unit us)))
 
-      -- its looks
-      pub after_settling : AtMostLooks (looks_given given) us new
-          → ReadsAsked (IsUnitOf (covering_ranges a (ordered_ranges (map plain_unit us)))) us new
-          → AfterSearch a c (resolved_with file new s)
-      after_settling looks reads =
+      -- the lines that it reads are those of the units that it asks
+      reads_here : (asks : KnownUnits → List AnsweredUnit → List UnitRange → ℕ → Type 0)
+          → ReadsAsked (asks (known_among us given) (map value_of_unit us)
+          (covering_ranges a (ordered_ranges (map plain_unit us)))) us new
+          → ReadsAsked (asks (known_units c.value.plain) (answered_units c.value) (ranges_over c.value a)) c.units new
+      reads_here asks reads =
+          let value = value_is file us s c is in
+          let known = known_units c.value.plain in
+          let covering = covering_ranges a (ordered_ranges (map plain_unit us)) in
+          let P : KnownUnits → Type 0 = λ k. ReadsAsked (asks k (map value_of_unit us) covering) us new in
+          let Q : List AnsweredUnit → Type 0 = λ vs. ReadsAsked (asks known vs covering) us new in
+          let R : List UnitRange → Type 0 = λ rs. ReadsAsked (asks known (answered_units c.value) rs) us new in
+          let S : ResolvedContext → Type 0 =
+          λ x. ReadsAsked (asks known (answered_units c.value) (ranges_over c.value a)) x.units new in
+          subst S is
+          (subst R (ranges_here file us s holds.are_of_file a c.value value)
+          (subst Q (sym (answered_here file us s holds.are_of_file a c.value value))
+          (subst P (sym (known_here file us s holds.are_of_file a c.value value))
+          (subst (λ (units : List UnitFacts). P (known_among us units)) given_is reads))))
+
+      -- what it leaves
+      after_search : (asks : AnsweredContext → ℕ → ℕ → Type 0) → AtMostLooks (looks_given given) us new
+          → ReadsAsked (asks c.value a) c.units new → AfterSearch asks a c (resolved_with file new s)
+      after_search asks looks reads =
           let value = value_is file us s c is in
           let after =
           after_lookup file us s c is (looks_given given) (frame_looks c.value a) new
           (ap looks_given given_is ∙ frame_looks_here file us s holds.are_of_file a c.value value) same looks in
-          let P : List UnitRange → Type 0 = λ rs. ReadsAsked (IsUnitOf rs) us new in
-          let Q : ResolvedContext → Type 0 = λ x. ReadsAsked (IsUnitOf (ranges_over c.value a)) x.units new in
-          record {
-            value = after.value;
-            cost = after.cost;
-            reads = subst Q is (subst P (ranges_here file us s holds.are_of_file a c.value value) reads);
-          }
+          record { value = after.value; cost = after.cost; reads = reads }
+
+      pub after_frames : AtMostLooks (looks_given given) us new
+          → ReadsAsked (AsksFramesAmong (known_among us given) (map value_of_unit us) a
+          (covering_ranges a (ordered_ranges (map plain_unit us)))) us new
+          → AfterSearch AsksForFrames a c (resolved_with file new s)
+      after_frames looks reads =
+          after_search AsksForFrames looks (reads_here (λ known vs rs. AsksFramesAmong known vs a rs) reads)
+
+      pub after_unit : AtMostLooks (looks_given given) us new
+          → ReadsAsked (AsksUnitAmong (known_among us given) (map value_of_unit us) a
+          (covering_ranges a (ordered_ranges (map plain_unit us)))) us new
+          → AfterSearch AsksForUnit a c (resolved_with file new s)
+      after_unit looks reads =
+          after_search AsksForUnit looks (reads_here (λ known vs rs. AsksUnitAmong known vs a rs) reads)
 
       -- the frames that it finds
       abbrev frames_given : List UnitFacts → Lookup (Result (List Frame) Error)

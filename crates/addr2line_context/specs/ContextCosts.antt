@@ -9,12 +9,13 @@ use Rattle.addr2line_lookups.specs.ContextNames.{known_units}
 use Rattle.addr2line_lookups.specs.Contexts.{ContextUnit, ranges_of}
 use Rattle.addr2line_lookups.specs.UnitRange.{UnitRange}
 use Rattle.addr2line_lookups.specs.NumberedRanges.{numbered_range, overlapping_ranges}
-use Rattle.addr2line_lookups.specs.ContextUnits.{ordered_ranges}
+use Rattle.addr2line_lookups.specs.ContextUnits.{unit_places, ordered_ranges}
 use Rattle.addr2line_lookups.specs.ResolvedUnits.{AnsweredUnit, ResolvedUnit, runs_if_kept}
 use Rattle.addr2line_lookups.specs.KeptUnits.{AsksAmong, KeepsAsked, ReadsAsked, IsUnitOf}
-use Rattle.addr2line_lookups.specs.RangeWalks.{ComesTo}
+use Rattle.addr2line_lookups.specs.RangeWalks.{ComesTo, AsksForStretch}
 use Rattle.addr2line_lookups.specs.declared.range_walk.RangeWalk.{RangeWalk}
 use Rattle.addr2line_lookups.specs.LookupCosts.{AtMostLooks, probes_among, row_probes_at, frame_probes_at}
+use Rattle.addr2line_lookups.specs.PassedUnits.{AsksFramesAmong, AsksUnitAmong}
 use Rattle.addr2line_context.specs.AnsweredContexts.{AnsweredContext}
 use Rattle.addr2line_context.specs.KeptContexts.{ResolvedContext}
 
@@ -60,9 +61,25 @@ frame_looks c a =
 abbrev pub AsksForPlace : AnsweredContext → ℕ → ℕ → Type 0
 AsksForPlace c a = AsksAmong c.plain.context.units a (ranges_over c a)
 
--- the unit of a number is one that a walk over stretches still asks for its lines
+-- The lookup of the frames of an address asks the unit of a number: one with a range over it, no
+-- later than the first that has some or is refused, or whose load needs an answer.
+abbrev pub AsksForFrames : AnsweredContext → ℕ → ℕ → Type 0
+AsksForFrames c a = AsksFramesAmong (known_units c.plain) (answered_units c) a (ranges_over c a)
+
+-- The lookup of the unit of an address asks the unit of a number: one with a range over it, no
+-- later than the first that is the unit of the address, or whose load needs an answer.
+abbrev pub AsksForUnit : AnsweredContext → ℕ → ℕ → Type 0
+AsksForUnit c a = AsksUnitAmong (known_units c.plain) (answered_units c) a (ranges_over c a)
+
+-- the unit of a number is one that a walk over stretches may still ask for its lines
 abbrev pub AsksForStretches : AnsweredContext → RangeWalk → ℕ → Type 0
 AsksForStretches c w = ComesTo (ordered_ranges c.plain.context.units) w
+
+-- The next step of a walk asks the unit of a number: that of the range that it is in, or, where
+-- that has no stretch left, one of the ranges after it, up to the first that has one or is refused.
+abbrev pub AsksForNext : AnsweredContext → RangeWalk → ℕ → Type 0
+AsksForNext c w =
+    AsksForStretch (map unit_places c.plain.context.units) (ordered_ranges c.plain.context.units) w
 
 -- a walk asks no units but those with a range between two ends
 abbrev pub AsksBetween : AnsweredContext → ℕ → ℕ → RangeWalk → Type 0
@@ -76,12 +93,13 @@ pub record AfterLookup (n : ℕ) (old new : ResolvedContext) : Type 0 where
   pub value : new.value ≡ old.value
   pub cost : AtMostLooks n old.units new.units
 
--- The same after a lookup of the frames of an address, or of its unit. It reads lines of no units
--- but those with a range over the address.
-pub record AfterSearch (a : ℕ) (old new : ResolvedContext) : Type 0 where
+-- The same after a lookup of the frames of an address, or of its unit, which asks units. It reads
+-- lines of no others.
+pub record AfterSearch (asks : AnsweredContext → ℕ → ℕ → Type 0) (a : ℕ)
+    (old new : ResolvedContext) : Type 0 where
   pub value : new.value ≡ old.value
   pub cost : AtMostLooks (frame_looks old.value a) old.units new.units
-  pub reads : ReadsAsked (IsUnitOf (ranges_over old.value a)) old.units new.units
+  pub reads : ReadsAsked (asks old.value a) old.units new.units
 
 -- The same after a call with this result that asks units for their lines. Unless it was out of
 -- memory, these are kept; it reads no others.
@@ -92,11 +110,15 @@ pub record AfterReading {A : Type 0} (asks : ℕ → Type 0) (n : ℕ) (result :
   pub asked : result ≢ Err Memory → KeepsAsked asks new.units
   pub reads : ReadsAsked asks old.units new.units
 
--- The same after a step of a walk between two ends. It reads lines of no units but those that the
--- walk still asked, and the walk asks no others later.
-pub record AfterStep (old_walk new_walk : RangeWalk) (old new : ResolvedContext) : Type 0 where
+-- The same after a step with this result of a walk between two ends. The step asks only units that
+-- the walk may still ask, and later the walk asks no others.
+pub record AfterStep {A : Type 0} (result : Result A Error) (old_walk new_walk : RangeWalk)
+    (old new : ResolvedContext) : Type 0 where
   pub value : new.value ≡ old.value
   pub cost : AtMostLooks 0 old.units new.units
-  pub reads : ReadsAsked (AsksForStretches old.value old_walk) old.units new.units
+  pub asked : result ≢ Err Memory → KeepsAsked (AsksForNext old.value old_walk) new.units
+  pub reads : ReadsAsked (AsksForNext old.value old_walk) old.units new.units
+  pub asks : (number : ℕ) → AsksForNext old.value old_walk number
+      → AsksForStretches old.value old_walk number
   pub way : (number : ℕ) → AsksForStretches old.value new_walk number
       → AsksForStretches old.value old_walk number

@@ -17,12 +17,12 @@ abbrev pub left_in : ResolvedContext → RangeWalk → Listing (Unit {0}) Stretc
 left_in c w = stretches_left c.value.plain.context.units w
 
 -- What an iterator's next item leaves of it: it holds the same context, of which more lines may be
--- kept, those of units that it still asked, and what was left is the item, and then what is left
--- now.
+-- kept, those of units that it asked for this item, and what was left is the item, and then what is
+-- left now.
 pub record MovesOn (result : Result (Option (ℕ × ℕ × Location)) Error)
     (old : MutBor ResolvedContext) (old_walk : RangeWalk) (new : MutBor ResolvedContext)
     (new_walk : RangeWalk) : Type 0 where
   pub same_reference : new.ghost_name ≡ old.ghost_name
   pub item : StretchComesNext stretch_of_item result (left_in old.now old_walk)
       (left_in new.now new_walk)
-  pub after : AfterStep old_walk new_walk old.now new.now
+  pub after : AfterStep result old_walk new_walk old.now new.now

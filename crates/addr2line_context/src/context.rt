@@ -19,7 +19,7 @@ ghost use Rattle.addr2line_lookups.specs.Histories.{functions_or_refusal, calls_
 ghost use Rattle.addr2line_lookups.specs.ContextNames.{naming_in};
 ghost use Rattle.addr2line_lookups.specs.Preloads.{load_at, load_of_item};
 ghost use Rattle.addr2line_context.specs.AnsweredContexts.{HasNoAnswers};
-ghost use Rattle.addr2line_context.specs.ContextCosts.{runs_of_unit, location_looks, AsksForPlace, AsksBetween, AfterLookup, AfterSearch, AfterReading, AfterStep};
+ghost use Rattle.addr2line_context.specs.ContextCosts.{runs_of_unit, location_looks, AsksForPlace, AsksForFrames, AsksForUnit, AsksForNext, AsksBetween, AfterLookup, AfterSearch, AfterReading, AfterStep};
 ghost use Rattle.addr2line_context.specs.ContextParses.{ParsesOrNoMemory};
 ghost use Rattle.addr2line_context.specs.LocationRanges.{left_in};
 ghost use Rattle.addr2line_context.specs.RangeItems.{stretch_of_item};
@@ -176,8 +176,7 @@ impl<R: Reader> Context<R> {
         ensures free { KeepsAsked (AsksForPlace self.old.value probe) self.old.units
             → result ≢ Err Memory }
         ensures* after { sem 𝓛 (Rests (the_row R.row R.Endian.row R.Offset.row R.Reader
-            R.Endian.Endianity
-            R.Offset.ReaderOffset.own R.Offset.Debug) self.entry
+            R.Endian.Endianity R.Offset.ReaderOffset.own R.Offset.Debug) self.entry
             (AfterReading (AsksForPlace self.old.value probe)
             (location_looks self.old.value probe) result self.old)) }
     {
@@ -191,7 +190,8 @@ impl<R: Reader> Context<R> {
     /// there, in the order in which lookups ask them, those of their rows between the ends, both
     /// clipped to that range. Here nothing is read and no memory is taken, so that it is never
     /// refused; the iterator reads the lines of each unit where it comes to it, those of no other
-    /// unit. Once it is let go, the context's value is what the iterator's calls left.
+    /// unit, and takes memory for nothing else. Once it is let go, the context's value is what the
+    /// iterator's calls left.
     pub fn find_location_range(
         &mut self,
         probe_low: u64,
@@ -204,9 +204,8 @@ impl<R: Reader> Context<R> {
             (λ i. AsksBetween self.old.value probe_low probe_high i.walk) }
         ensures same_reference { IfOk result (λ i. i.context.ghost_name ≡ self.entry.ghost_name) }
         ensures* after { sem 𝓛 (RestsIfErr (the_row R.row R.Endian.row R.Offset.row R.Reader
-            R.Endian.Endianity
-            R.Offset.ReaderOffset.own R.Offset.Debug) self.entry (λ i. i.context.ghost_name)
-            result (λ left. left ≡ self.old)) }
+            R.Endian.Endianity R.Offset.ReaderOffset.own R.Offset.Debug) self.entry
+            (λ i. i.context.ghost_name) result (λ left. left ≡ self.old)) }
     {
         let walk = RangeWalk::new(probe_low, probe_high);
         Ok(LocationRangeIter {
@@ -215,16 +214,18 @@ impl<R: Reader> Context<R> {
         })
     }
 
-    // The next stretch of a walk. The lines of the units that it comes to are read, unless they are
-    // kept, and kept.
+    // The next stretch of a walk. The lines of the units that it asks are read, unless they are
+    // kept, and kept; else it takes no memory.
     pub(crate) fn next_stretch(
         &mut self,
         walk: &mut RangeWalk,
     ) -> Result<Option<UnitStretch>, Error>
         ensures stretch { FindsStretch self.old.value.plain.context.units result
             (left_in self.old walk.old) (left_in self.old walk.new) }
-        ensures after { AfterStep walk.old walk.new self.old self.new }
+        ensures after { AfterStep result walk.old walk.new self.old self.new }
         ensures kept { KeepsStretch self.new.units result }
+        ensures free { KeepsAsked (AsksForNext self.old.value walk.old) self.old.units
+            → result ≢ Err Memory }
     {
         self.units.next_stretch(walk)
     }
@@ -335,21 +336,22 @@ impl<R: Reader> Context<R> {
     /// the ranges' ends, those of the first that has some, unless one is refused before. Where the
     /// functions of a unit are in another file that wasn't asked for yet (DWARF 5, 3.1.3), the
     /// lookup waits for that load first. Refused by what decides a unit, by its functions, by the
-    /// function that holds the address, or by its lines, in this order. What is read is kept. In
-    /// each unit it searches the functions, the calls of one at each depth, the sequences, and the
-    /// rows of one. The frames borrow what is kept; each takes memory only for a copy of its name's
-    /// reader. The context's value stays the same.
+    /// function that holds the address, or by its lines, in this order. What is read is kept, and
+    /// no lines are read of units after the one in which the search ends: the first that has some,
+    /// is refused, or waits. In each unit it searches the functions, the calls of one at each
+    /// depth, the sequences, and the rows of one. The frames borrow what is kept; each takes memory
+    /// only for a copy of its name's reader. The context's value stays the same.
     pub fn find_frames(&mut self, probe: u64) -> LookupResult<FindFrames<'_, R>>
         ensures found { FollowsLookup frames_left result (frames_in self.old.value probe) }
-        ensures waits { IfLoad (λ w. IsFor self.old probe w.context.now w.probe) result }
+        ensures waits { IfLoad
+            (λ w. IsFor AsksForFrames self.old probe w.context.now w.probe) result }
         ensures skips { IfSkipped
             (λ w found. FindsFrames frames_left w.context.now.value w.probe found) result
             (FindsFrames frames_left self.old.value probe) }
         ensures* after { sem 𝓛 (RestsUnlessWaiting (the_row R.row R.Endian.row R.Offset.row R.Reader
-            R.Endian.Endianity
-            R.Offset.ReaderOffset.own R.Offset.Debug) self.entry
+            R.Endian.Endianity R.Offset.ReaderOffset.own R.Offset.Debug) self.entry
             (λ w. w.context.ghost_name) result
-            (AfterSearch probe self.old)) }
+            (AfterSearch AsksForFrames probe self.old)) }
     {
         match self.settle_frames(probe) {
             Ok(Settled::Waits) => LookupResult::Load(FindFrames {
@@ -367,19 +369,19 @@ impl<R: Reader> Context<R> {
     /// The unit of an address, with its file's sections: of the units with a range over it, by the
     /// ranges' ends, the first that has a function or a place for it, whatever is refused before;
     /// the split unit where one has its functions. It waits for loads, and searches, as
-    /// `find_frames` does. The only error is out of memory. What is read is kept. The context's
-    /// value stays the same.
+    /// `find_frames` does. The only error is out of memory. What is read is kept, and no lines are
+    /// read of units after that one, or after one that waits. The context's value stays the same.
     pub fn find_dwarf_and_unit(&mut self, probe: u64) -> LookupResult<FindUnit<'_, R>>
         ensures found { FollowsLookup (λ u. u) result
             (map_output (λ u. Ok u) (unit_in self.old.value probe)) }
-        ensures waits { IfLoad (λ w. IsFor self.old probe w.context.now w.probe) result }
+        ensures waits { IfLoad
+            (λ w. IsFor AsksForUnit self.old probe w.context.now w.probe) result }
         ensures skips { IfSkipped (λ w found. FindsUnit w.context.now.value w.probe found) result
             (FindsUnit self.old.value probe) }
         ensures* after { sem 𝓛 (RestsUnlessWaiting (the_row R.row R.Endian.row R.Offset.row R.Reader
-            R.Endian.Endianity
-            R.Offset.ReaderOffset.own R.Offset.Debug) self.entry
+            R.Endian.Endianity R.Offset.ReaderOffset.own R.Offset.Debug) self.entry
             (λ w. w.context.ghost_name) result
-            (AfterSearch probe self.old)) }
+            (AfterSearch AsksForUnit probe self.old)) }
     {
         match self.settle_unit(probe) {
             Ok(Settled::Waits) => LookupResult::Load(FindUnit {
@@ -397,7 +399,7 @@ impl<R: Reader> Context<R> {
     // Where the frames of an address are, unless a load needs an answer before.
     pub(crate) fn settle_frames(&mut self, probe: u64) -> Result<Settled<FramePlace>, Error>
         ensures found { SettlesFrames self.new.units (frames_in self.old.value probe) result }
-        ensures after { AfterSearch probe self.old self.new }
+        ensures after { AfterSearch AsksForFrames probe self.old self.new }
     {
         let supplement_units = self.supplement_units.as_slice();
         let mut index = self.frames_progress.index_for(probe);
@@ -412,7 +414,7 @@ impl<R: Reader> Context<R> {
     pub(crate) fn settle_unit(&mut self, probe: u64) -> Result<Settled<usize>, Error>
         ensures found { SettlesUnit (map value_of_unit self.new.units)
             (unit_in self.old.value probe) result }
-        ensures after { AfterSearch probe self.old self.new }
+        ensures after { AfterSearch AsksForUnit probe self.old self.new }
     {
         let supplement_units = self.supplement_units.as_slice();
         let mut index = self.unit_progress.index_for(probe);

@@ -2,6 +2,7 @@
 
 ghost use Rattle.std.specs.Prelude.{◌≡◌, ◌≤◌, ◌<◌, None, length, option_map};
 ghost use Rattle.addr2line_lookups.specs.BorrowedFrames.{frames_left};
+ghost use Rattle.addr2line_context.specs.ContextCosts.{AsksForFrames};
 ghost use Rattle.addr2line_context.specs.SettledLookups.{frames_in, loads_in, after_answer, LoadOf, AfterAnswer, WaitsAgain};
 ghost use Rattle.addr2line_context.specs.SkippedLoads.{FindsFrames};
 ghost use Rattle.addr2line_context.specs.Suspended.{IfLoad, IfSkipped, FollowsLookup, RestsUnlessWaiting, loads_left};
@@ -23,6 +24,7 @@ impl<'ctx, R: Reader> LookupContinuation for FindFrames<'ctx, R> {
     ghost use Rattle.std.specs.Prelude.{◌≡◌, ◌≤◌, ◌<◌, None, length, option_map};
     ghost use Rattle.addr2line_lookups.specs.BorrowedFrames.{frames_left};
     ghost use Rattle.addr2line_context.specs.contracts.context.Context.{the_row};
+    ghost use Rattle.addr2line_context.specs.ContextCosts.{AsksForFrames};
     ghost use Rattle.addr2line_context.specs.SettledLookups.{frames_in, loads_in, after_answer, LoadOf, AfterAnswer, WaitsAgain};
     ghost use Rattle.addr2line_context.specs.SkippedLoads.{FindsFrames};
     ghost use Rattle.addr2line_context.specs.Suspended.{IfLoad, IfSkipped, FollowsLookup, RestsUnlessWaiting, loads_left};
@@ -52,7 +54,8 @@ impl<'ctx, R: Reader> LookupContinuation for FindFrames<'ctx, R> {
     }
 
     /// Answers that load by the sections of the other file, or by none where there is no such file,
-    /// and goes on.
+    /// and goes on: it reads lines of no units but those that the lookup asks after that answer. A
+    /// refusal of the file is recorded too; out of memory, the answer is recorded or not.
     fn resume(self, input: Option<Rc<Dwarf<R>>>) -> LookupResult<FindFrames<'ctx, R>>
         ensures fewer { loads_left (λ w. length (loads_in w.context.now.value w.probe)) result
             ≤ length (loads_in self.entry.context.now.value self.entry.probe) }
@@ -60,16 +63,15 @@ impl<'ctx, R: Reader> LookupContinuation for FindFrames<'ctx, R> {
         ensures found { FollowsLookup frames_left result
             (frames_in (after_answer self.entry.context.now.value self.entry.probe
             (option_map (λ f. f.value.file) input)) self.entry.probe) }
-        ensures again { IfLoad (λ w. WaitsAgain self.entry.context.now self.entry.probe
-            (option_map (λ f. f.value.file) input) w.context.now w.probe) result }
+        ensures again { IfLoad (λ w. WaitsAgain AsksForFrames self.entry.context.now
+            self.entry.probe (option_map (λ f. f.value.file) input) w.context.now w.probe) result }
         ensures skips { input ≡ None → IfSkipped
             (λ w found. FindsFrames frames_left w.context.now.value w.probe found) result
             (FindsFrames frames_left self.entry.context.now.value self.entry.probe) }
         ensures* after { sem 𝓛 (RestsUnlessWaiting (the_row R.row R.Endian.row R.Offset.row R.Reader
-            R.Endian.Endianity
-            R.Offset.ReaderOffset.own R.Offset.Debug)
+            R.Endian.Endianity R.Offset.ReaderOffset.own R.Offset.Debug)
             self.entry.context (λ w. w.context.ghost_name) result
-            (AfterAnswer self.entry.context.now self.entry.probe
+            (AfterAnswer AsksForFrames result self.entry.context.now self.entry.probe
             (option_map (λ f. f.value.file) input))) }
     {
         let FindFrames { context, probe } = self;

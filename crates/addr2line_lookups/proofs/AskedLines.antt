@@ -1,5 +1,5 @@
 -- Calls read lines of the units that they ask alone; where one asks units one after the other, their lines are kept.
-use Rattle.std.proofs.Common.{◌≡◌, ◌≢◌, ◌⊎◌, inl, inr, ℕ, zero, suc, ◌+◌, ◌<◌, ◌≤◌, List, [], ◌∷◌, ◌++◌, length, get_or, set, map, Option, Some, None, Result, Ok, Err, refl, sym, ap, ◌∙◌, subst, arith}
+use Rattle.std.proofs.Common.{◌≡◌, ◌≢◌, ◌⊎◌, inl, inr, ℕ, zero, suc, ◌+◌, ◌<◌, ◌≤◌, List, [], ◌∷◌, length, get_or, set, map, Option, Some, None, Result, Ok, Err, refl, sym, ap, ◌∙◌, subst, arith}
 use Rattle.std.proofs.Math.Nat.{eq-or-lt_of_le}
 use Rattle.addr2line_resolved.specs.Error.{Error}
 use Rattle.addr2line_resolved.specs.Error.TheVariants.{Memory}
@@ -7,7 +7,7 @@ use Rattle.addr2line_resolved.specs.Lines.{LineRow}
 use Rattle.addr2line_resolved.specs.Contexts.{ContextUnit}
 use Rattle.addr2line_resolved.specs.UnitRange.{UnitRange}
 use Rattle.addr2line_resolved.specs.ResolvedUnits.{ResolvedUnit, KeepsLines, value_of_unit, plain_unit}
-use Rattle.addr2line_lookups.specs.KeptUnits.{KeepsAt, KeepsMore, KeepsAsked, ReadsAsked, ReadsNoLines, IsUnitOf, AsksAmong, AsksForLines, row_at_number, check_at}
+use Rattle.addr2line_lookups.specs.KeptUnits.{KeepsAt, KeepsMore, KeepsAsked, ReadsAsked, ReadsNoLines, AsksAmong, AsksForLines, row_at_number, check_at}
 use Rattle.addr2line_lookups.proofs.KeptLines.{same_plain, keeps_past}
 
 -- ---- one unit
@@ -75,19 +75,6 @@ pub reads_both : (asks : ℕ → Type 0) (us vs ws : List ResolvedUnit) (k : ℕ
     → ReadsAsked (λ n. n ≡ k) vs ws → ReadsAsked asks us ws
 reads_both asks us vs ws k asked = reads_more asks (λ n. n ≡ k) us vs ws (λ n is. subst asks (sym is) asked)
 
--- ---- units of ranges
-
-unit_after : (passed old : List UnitRange) (n : ℕ) → IsUnitOf old n → IsUnitOf (passed ++ old) n
-unit_after [] old n h = h
-unit_after (r ∷ passed) old n h = inr (unit_after passed old n h)
-
--- that of the first that is left
-pub unit_of_first : (all passed old rest : List UnitRange) (r : UnitRange) → all ≡ passed ++ old → old ≡ r ∷ rest
-    → IsUnitOf all r.unit
-unit_of_first all passed old rest r are_all is =
-    let P : List UnitRange → Type 0 = λ rs. IsUnitOf rs r.unit in
-    subst P (sym are_all) (unit_after passed old r.unit (subst P (sym is) (inl refl)))
-
 -- ---- one unit after the other
 
 -- A call comes to units that it asks. Lines of the others that it asks are kept already, lines that were kept are kept
@@ -116,39 +103,69 @@ asks_none asks comes_to old us kept h n asked = by (h.are_kept n asked)
     by (inl is) = is
     by (inr left) = kept n left
 
-module _ (asks comes_to : ℕ → Type 0) (old us : List ResolvedUnit) (k : ℕ) (here : comes_to k)
+module _ (asks comes_to here : ℕ → Type 0) (old us : List ResolvedUnit) (come_here : (n : ℕ) → here n → comes_to n)
     (h : AsksOn asks comes_to old us) where
-  -- where all that it asks was kept, so is this one
-  pub kept_already : KeepsAsked asks old → KeepsAt us k
-  kept_already kept = h.more k (kept k (h.are_asked k here))
+  -- where all that it asks was kept, so are these
+  pub all_kept_already : KeepsAsked asks old → KeepsAsked here us
+  all_kept_already kept n is = h.more n (kept n (h.are_asked n (come_here n is)))
 
-  module _ (vs : List ResolvedUnit) (reads : ReadsAsked (λ n. n ≡ k) us vs) where
-    pub reads_here : ReadsAsked asks old vs
-    reads_here = reads_both asks old us vs k (h.are_asked k here) h.reads reads
+  module _ (vs : List ResolvedUnit) (reads : ReadsAsked here us vs) where
+    pub reads_all_here : ReadsAsked asks old vs
+    reads_all_here = reads_more asks here old us vs (λ n is. h.are_asked n (come_here n is)) h.reads reads
 
-    -- one more
-    pub asks_next : (rest : ℕ → Type 0) → ((n : ℕ) → rest n → comes_to n)
-        → ((n : ℕ) → comes_to n → (n ≡ k) ⊎ rest n) → KeepsMore us vs → KeepsAt vs k → AsksOn asks rest old vs
-    asks_next rest first then more kept = record {
+    -- some more
+    pub asks_more : (rest : ℕ → Type 0) → ((n : ℕ) → rest n → comes_to n) → ((n : ℕ) → comes_to n → here n ⊎ rest n)
+        → KeepsMore us vs → KeepsAsked here vs → AsksOn asks rest old vs
+    asks_more rest first then more kept = record {
       are_asked = λ n left. h.are_asked n (first n left);
       are_kept = λ n asked. by n (h.are_kept n asked);
       more = λ n before. more n (h.more n before);
-      reads = reads_here;
+      reads = reads_all_here;
     }
       where
-        turn : (n : ℕ) → (n ≡ k) ⊎ rest n → KeepsAt vs n ⊎ rest n
-        turn n (inl is) = inl (subst (KeepsAt vs) (sym is) kept)
+        turn : (n : ℕ) → here n ⊎ rest n → KeepsAt vs n ⊎ rest n
+        turn n (inl is) = inl (kept n is)
         turn n (inr left) = inr left
 
         by : (n : ℕ) → KeepsAt us n ⊎ comes_to n → KeepsAt vs n ⊎ rest n
         by n (inl before) = inl (more n before)
         by n (inr left) = turn n (then n left)
 
+    -- the last ones
+    pub asks_last_of : ((n : ℕ) → comes_to n → here n) → KeepsMore us vs → KeepsAsked here vs → KeepsAsked asks vs
+    asks_last_of last more kept =
+        asks_none asks (λ n. ⊥) old vs (λ n left. absurd left)
+        (asks_more (λ n. ⊥) (λ n left. absurd left) (λ n left. inl (last n left)) more kept)
+
+module _ (asks comes_to : ℕ → Type 0) (old us : List ResolvedUnit) (k : ℕ) (here : comes_to k)
+    (h : AsksOn asks comes_to old us) where
+  abbrev is_one : ℕ → Type 0
+  is_one n = n ≡ k
+
+  one_here : (n : ℕ) → is_one n → comes_to n
+  one_here n is = subst comes_to (sym is) here
+
+  -- where all that it asks was kept, so is this one
+  pub kept_already : KeepsAsked asks old → KeepsAt us k
+  kept_already kept = all_kept_already asks comes_to is_one old us one_here h kept k refl
+
+  module _ (vs : List ResolvedUnit) (reads : ReadsAsked (λ n. n ≡ k) us vs) where
+    pub reads_here : ReadsAsked asks old vs
+    reads_here = reads_all_here asks comes_to is_one old us one_here h vs reads
+
+    one_kept : KeepsAt vs k → KeepsAsked is_one vs
+    one_kept kept n is = subst (KeepsAt vs) (sym is) kept
+
+    -- one more
+    pub asks_next : (rest : ℕ → Type 0) → ((n : ℕ) → rest n → comes_to n)
+        → ((n : ℕ) → comes_to n → (n ≡ k) ⊎ rest n) → KeepsMore us vs → KeepsAt vs k → AsksOn asks rest old vs
+    asks_next rest first then more kept =
+        asks_more asks comes_to is_one old us one_here h vs reads rest first then more (one_kept kept)
+
     -- the last
     pub asks_last : ((n : ℕ) → comes_to n → n ≡ k) → KeepsMore us vs → KeepsAt vs k → KeepsAsked asks vs
     asks_last last more kept =
-        asks_none asks (λ n. ⊥) old vs (λ n left. absurd left)
-        (asks_next (λ n. ⊥) (λ n left. absurd left) (λ n left. inl (last n left)) more kept)
+        asks_last_of asks comes_to is_one old us one_here h vs reads last more (one_kept kept)
 
 -- ---- for a row
 
@@ -245,6 +262,9 @@ stopped e = Err e
 -- reading that isn't refused isn't out of memory
 pub no_stop : (x : Unit {0}) → done x ≢ stopped Memory
 no_stop x same = cc
+
+pub no_stop_of : (r : Result (Unit {0}) Error) → r ≡ done tt → r ≢ stopped Memory
+no_stop_of r is same = no_stop tt (sym is ∙ same)
 
 not_done : (r : Result (Unit {0}) Error) (e : Error) → r ≡ stopped e → r ≡ done tt → ⊥
 not_done r e refused passed = let same : stopped e ≡ done tt = sym refused ∙ passed in cc

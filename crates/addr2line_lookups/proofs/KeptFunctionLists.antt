@@ -1,5 +1,5 @@
 -- Functions and calls that are kept stay kept, whatever is read.
-use Rattle.std.proofs.Common.{◌≡◌, ℕ, zero, suc, true, cond, List, [], ◌∷◌, set, get_or, slice_get, Option, Some, None, IfSome, is_some, Result, Ok, Err, OnOk, OnErr, refl, sym, ap, ◌∙◌, subst}
+use Rattle.std.proofs.Common.{◌≡◌, ℕ, zero, suc, true, cond, List, [], ◌∷◌, set, get_or, Option, Some, is_some, Result, Ok, Err, OnOk, OnErr, refl, sym, ap, ◌∙◌, subst}
 use Rattle.addr2line_resolved.specs.Error.{Error}
 use Rattle.addr2line_resolved.specs.InlinedCalls.{FunctionCalls}
 use Rattle.addr2line_resolved.specs.KeptFunctions.{kept_at, calls_of_none, count_of_functions}
@@ -50,7 +50,8 @@ kept_put (c ∷ cs) (suc n) (suc k) r kept = kept_put cs n k r kept
 
 -- calls of one of them are read
 pub functions_called : (old new : ResolvedUnit) (n : ℕ) (r : Result FunctionCalls Error)
-    (result : Result (Unit {0}) Error) → OnOk result (new ≡ with_calls old n r) → OnErr result (new ≡ old) → KeepsMoreFunctions old new
+    (result : Result (Unit {0}) Error) → OnOk result (new ≡ with_calls old n r) → OnErr result (new ≡ old)
+    → KeepsMoreFunctions old new
 functions_called old new n r (Ok x) is same = record {
   functions = λ kept. ap (λ (u : ResolvedUnit). u.keeps_functions) is ∙ kept;
   calls = λ k kept. subst (KeepsFunctionCalls k) (sym is) (kept.0, kept_put old.calls n k r kept.1);

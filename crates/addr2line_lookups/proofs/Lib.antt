@@ -31,5 +31,6 @@ pub mod SettledUnits
 pub mod FirstLoads
 pub mod PassedUnits
 pub mod AskedLines
+pub mod AskedStretches
 pub mod RangeUnits
 pub mod KeptFunctionLists

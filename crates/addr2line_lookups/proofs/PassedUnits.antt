@@ -16,7 +16,7 @@ use Rattle.addr2line_lookups.specs.Preloads.{numbered_load, load_at, loads_at}
 use Rattle.addr2line_lookups.specs.LoadAnswers.{AnswersOrNoMemory, unit_after, answer_among, answer_at}
 use Rattle.addr2line_lookups.specs.LookupCosts.{probes_among}
 use Rattle.addr2line_lookups.specs.UnitLookups.{unless_waiting, ask_if_any, ask_at, first_asked}
-use Rattle.addr2line_lookups.specs.PassedUnits.{ComesNext, KnowsNothing, Pass}
+use Rattle.addr2line_lookups.specs.PassedUnits.{ComesNext, KnowsNothing, Pass, AsksUntil}
 use Rattle.addr2line_lookups.proofs.AnsweredLoads.{set_same, decided_stays}
 use Rattle.addr2line_lookups.proofs.FirstLoads.{loads_further}
 use Rattle.addr2line_lookups.proofs.SettledUnits.{first_passes}
@@ -111,6 +111,16 @@ module _ {A : Type 0} (ask : AnsweredUnit → A) (nothing : A) where
         (has_no_load r (All-head (KnowsNothing ask nothing vs) r rs h))
         ∙ loads_after rs rest (All-tail (KnowsNothing ask nothing vs) r rs h)
 
+    -- the units that are asked come after them
+    asked_past : (passed rest : List UnitRange) (n : ℕ) → All (KnowsNothing ask nothing vs) passed
+        → AsksUntil ask nothing vs rest n → AsksUntil ask nothing vs (passed ++ rest) n
+    asked_past [] rest n h asked = asked
+    asked_past (r ∷ rs) rest n h asked =
+        inr (
+          All-head (KnowsNothing ask nothing vs) r rs h,
+          asked_past rs rest n (All-tail (KnowsNothing ask nothing vs) r rs h) asked,
+        )
+
     -- ---- before an index
 
     module _ (a : ℕ) (rs : List UnitRange) where
@@ -130,6 +140,15 @@ module _ {A : Type 0} (ask : AnsweredUnit → A) (nothing : A) where
                   ∙ sym (append_assoc pass.passed (r ∷ []) (covering_ranges a (drop next rs)));
               know_nothing = All-push (KnowsNothing ask nothing vs) pass.passed r pass.know_nothing here;
             }
+
+        -- that of the next range is asked
+        pub asked_next : (number next : ℕ) → ComesNext a from rs number next
+            → AsksUntil ask nothing vs (covering_ranges a rs) number
+        asked_next number next comes =
+            let P : List UnitRange → Type 0 = λ qs. AsksUntil ask nothing vs qs number in
+            subst P (sym pass.are_first)
+            (asked_past pass.passed (covering_ranges a (drop from rs)) number pass.know_nothing
+            (subst P (sym comes.1) (inl refl)))
 
         pub asked_from : (is_something : A → Bool) → is_something nothing ≡ false
             → first_asked is_something ask nothing vs (covering_ranges a rs)

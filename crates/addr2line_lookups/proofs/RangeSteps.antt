@@ -50,7 +50,8 @@ module _ (low high : ℕ) (r : UnitRange) where
   no_lines_of (Err e) h = absurd cc
 
   left_of_lines : (c : LineCursor) (x : Result Lines Error) (l : Lines)
-      → and_then x (λ (l : Lines). Ok (Some l)) ≡ Ok (Some l) → clipped_left low high r.range c x ≡ lines_left l from to c
+      → and_then x (λ (l : Lines). Ok (Some l)) ≡ Ok (Some l)
+      → clipped_left low high r.range c x ≡ lines_left l from to c
   left_of_lines c (Ok m) l h = let same : m ≡ l = cc in ap (λ (k : Lines). lines_left k from to c) same
   left_of_lines c (Err e) l h = absurd cc
 

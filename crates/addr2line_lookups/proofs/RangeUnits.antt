@@ -1,11 +1,12 @@
 -- Which units a walk over ranges comes to, one step after the other.
-use Rattle.std.proofs.Common.{◌≡◌, inl, inr, ℕ, List, ◌∷◌, drop, Option, Some, None, Result, Ok, Err, refl, sym, ap, ◌∙◌, subst}
+use Rattle.std.proofs.Common.{◌≡◌, inl, inr, ℕ, List, [], ◌∷◌, drop, Option, Some, None, Result, Ok, Err, refl, sym, ap, ◌∙◌, subst}
 use Rattle.addr2line_resolved.specs.Error.{Error}
 use Rattle.addr2line_resolved.specs.Contexts.{ContextUnit}
 use Rattle.addr2line_resolved.specs.UnitRange.{UnitRange}
 use Rattle.addr2line_resolved.specs.NumberedRanges.{overlapping_ranges}
+use Rattle.addr2line_resolved.specs.UnitPlaces.{UnitPlaces}
 use Rattle.addr2line_lookups.specs.KeptUnits.{IsUnitOf}
-use Rattle.addr2line_lookups.specs.RangeWalks.{NextOfRows, IsUnitOfRows, ComesTo, StaysOnItsWay, AreOfRange}
+use Rattle.addr2line_lookups.specs.RangeWalks.{NextOfRows, IsUnitOfRows, ComesTo, AsksAlong, AsksForStretch, StaysOnItsWay, AreOfRange}
 use Rattle.addr2line_lookups.specs.declared.range_walk.RangeRows.{RangeRows}
 use Rattle.addr2line_lookups.specs.declared.range_walk.RangeWalk.{RangeWalk}
 use Rattle.addr2line_lookups.specs.declared.range_walk.UnitStretch.{UnitStretch}
@@ -41,3 +42,18 @@ module _ (ranges : List UnitRange) (w : RangeWalk) (r : UnitRange) (next : ℕ)
       subst (ComesTo ranges w) (sym (same ∙ ap (λ (q : UnitRange). q.unit) h)) comes_next
   way_of_range None h n (inr later) = inr (subst (λ rs. IsUnitOf rs n) (sym is) (inr later))
   way_of_range (Some x) h n (inr later) = inr (subst (λ rs. IsUnitOf rs n) (sym is) (inr later))
+
+-- ---- units that are asked
+
+along_is_unit : (us : List UnitPlaces) (low high : ℕ) (rs : List UnitRange) (n : ℕ) → AsksAlong us low high rs n
+    → IsUnitOf rs n
+along_is_unit us low high [] n asked = asked
+along_is_unit us low high (r ∷ rs) n (inl is) = inl is
+along_is_unit us low high (r ∷ rs) n (inr later) = inr (along_is_unit us low high rs n later.1)
+
+-- a step asks no units but those that the walk comes to
+pub asked_on_way : (us : List UnitPlaces) (ranges : List UnitRange) (w : RangeWalk) (n : ℕ)
+    → AsksForStretch us ranges w n → ComesTo ranges w n
+asked_on_way us ranges w n (inl is) = inl is
+asked_on_way us ranges w n (inr later) =
+    inr (along_is_unit us w.low w.high (overlapping_ranges w.low w.high (drop w.next ranges)) n later.1)

@@ -1,5 +1,5 @@
 -- What is kept of units, and what lookups find of the unit of a number.
-use Rattle.std.specs.Prelude.{◌≡◌, ◌≢◌, ◌⊎◌, ℕ, ◌<◌, true, List, [], ◌∷◌, map, slice_get, Option, Some, None, IfSome, is_some, option_and_then, Result, Ok, Err}
+use Rattle.std.specs.Prelude.{◌≡◌, ◌≢◌, ◌⊎◌, ℕ, ◌<◌, true, List, [], ◌∷◌, slice_get, Option, Some, None, IfSome, is_some, option_and_then, Result, Ok, Err}
 use Rattle.addr2line_resolved.specs.Error.{Error}
 use Rattle.addr2line_resolved.specs.Error.TheVariants.{Memory}
 use Rattle.addr2line_resolved.specs.Results.{and_then}
@@ -10,7 +10,7 @@ use Rattle.addr2line_resolved.specs.UnitRange.{UnitRange}
 use Rattle.addr2line_resolved.specs.NumberedRanges.{covering_ranges}
 use Rattle.addr2line_resolved.specs.ContextUnits.{ordered_ranges}
 use Rattle.addr2line_resolved.specs.KeptFunctions.{kept_at}
-use Rattle.addr2line_resolved.specs.ResolvedUnits.{ResolvedUnit, plain_unit, KeepsLines, row_or_refusal, location_of_row}
+use Rattle.addr2line_resolved.specs.ResolvedUnits.{ResolvedUnit, KeepsLines, row_or_refusal, location_of_row}
 use Rattle.addr2line_lookups.specs.declared.settle.UnitRow.{UnitRow}
 
 -- ---- kept lines

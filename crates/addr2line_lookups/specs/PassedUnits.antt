@@ -1,6 +1,6 @@
 -- How far a lookup of an address came among the ranges of all units. These are in the order in
 -- which lookups ask their units.
-use Rattle.std.specs.Prelude.{◌≡◌, ℕ, List, [], ◌∷◌, ◌++◌, drop, All, None, Ok}
+use Rattle.std.specs.Prelude.{◌≡◌, ◌⊎◌, ℕ, List, [], ◌∷◌, ◌++◌, drop, All, None, Ok}
 use Rattle.addr2line_resolved.specs.Range.{Range}
 use Rattle.addr2line_resolved.specs.UnitRange.{UnitRange}
 use Rattle.addr2line_resolved.specs.NumberedRanges.{covering_ranges}
@@ -43,3 +43,21 @@ PassUnits known vs a from rs = Pass (unit_of_answered known a) None vs a from rs
 abbrev pub PassLoads : List AnsweredUnit → ℕ → ℕ → List UnitRange → Type 0
 PassLoads vs a from rs =
     loads_at vs (covering_ranges a rs) ≡ loads_at vs (covering_ranges a (drop from rs))
+
+-- ---- units that are asked
+
+-- The unit of a number is one of those of ranges, up to the first that knows something of what is
+-- asked, or whose load needs an answer.
+abbrev pub AsksUntil : {A : Type 0} → (AnsweredUnit → A) → A → List AnsweredUnit → List UnitRange
+    → ℕ → Type 0
+AsksUntil ask nothing vs [] number = ⊥
+AsksUntil ask nothing vs (r ∷ rs) number =
+    (number ≡ r.unit) ⊎ (KnowsNothing ask nothing vs r × AsksUntil ask nothing vs rs number)
+
+-- a lookup of frames asks it
+abbrev pub AsksFramesAmong : KnownUnits → List AnsweredUnit → ℕ → List UnitRange → ℕ → Type 0
+AsksFramesAmong known vs a rs = AsksUntil (frames_of_answered known a) (Ok []) vs rs
+
+-- one of a unit does
+abbrev pub AsksUnitAmong : KnownUnits → List AnsweredUnit → ℕ → List UnitRange → ℕ → Type 0
+AsksUnitAmong known vs a rs = AsksUntil (unit_of_answered known a) None vs rs

@@ -122,6 +122,32 @@ ComesTo ranges w number =
     IsUnitOfRows w.rows number
     ⊎ IsUnitOf (overlapping_ranges w.low w.high (drop w.next ranges)) number
 
+-- nothing of a unit's range is between two ends, and nothing refuses its lines
+abbrev pub HasNoStretch : List UnitPlaces → ℕ → ℕ → UnitRange → Type 0
+HasNoStretch us low high r =
+    with_unit_stretches low high r.range (slice_get us r.unit) (no_items (Ok tt))
+    ≡ no_items (Ok tt)
+
+-- The unit of a number is one of those of ranges, up to the first that has a stretch between two
+-- ends or is refused.
+abbrev pub AsksAlong : List UnitPlaces → ℕ → ℕ → List UnitRange → ℕ → Type 0
+AsksAlong us low high [] number = ⊥
+AsksAlong us low high (r ∷ rs) number =
+    (number ≡ r.unit) ⊎ (HasNoStretch us low high r × AsksAlong us low high rs number)
+
+-- The next step of a walk asks the unit of a number: that of the range that it is in, or, where
+-- that has no stretch left, one of the ranges after it, up to the first that has one or is refused.
+abbrev pub AsksForStretch : List UnitPlaces → List UnitRange → RangeWalk → ℕ → Type 0
+AsksForStretch us ranges w number =
+    IsUnitOfRows w.rows number
+    ⊎ ((rows_left us w.low w.high w.rows ≡ [])
+    × AsksAlong us w.low w.high (overlapping_ranges w.low w.high (drop w.next ranges)) number)
+
+-- the same in units
+abbrev pub AsksForNextStretch : List ContextUnit → RangeWalk → ℕ → Type 0
+AsksForNextStretch units w =
+    AsksForStretch (map unit_places units) (ordered_ranges units) w
+
 -- a walk later comes to no other units
 abbrev pub StaysOnItsWay : List UnitRange → RangeWalk → RangeWalk → Type 0
 StaysOnItsWay ranges old new = (number : ℕ) → ComesTo ranges new number → ComesTo ranges old number

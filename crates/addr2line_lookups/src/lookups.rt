@@ -1,14 +1,14 @@
 //! Lookups of frames and of units, settled by the units' numbers.
 
-ghost use Rattle.std.specs.Prelude.{◌≡◌, map, option_map, is_some};
+ghost use Rattle.std.specs.Prelude.{◌≡◌, map, is_some};
 ghost use Rattle.addr2line_resolved.specs.NumberedRanges.{covering_ranges};
 ghost use Rattle.addr2line_resolved.specs.ResolvedUnits.{value_of_unit};
-ghost use Rattle.addr2line_lookups.specs.KeptUnits.{ReadsAsked, IsUnitOf};
+ghost use Rattle.addr2line_lookups.specs.KeptUnits.{ReadsAsked};
 ghost use Rattle.addr2line_lookups.specs.KeptCalls.{known_among, HoldCalls};
 ghost use Rattle.addr2line_lookups.specs.Preloads.{load_at};
 ghost use Rattle.addr2line_lookups.specs.UnitLookups.{frames_asked, frames_among, SettlesFrames, unit_asked, unit_among, SettlesUnit, unit_at_number};
 ghost use Rattle.addr2line_lookups.specs.LookupCosts.{AtMostLooks, frame_probes_at, probes_among};
-ghost use Rattle.addr2line_lookups.specs.PassedUnits.{PassFrames, PassUnits};
+ghost use Rattle.addr2line_lookups.specs.PassedUnits.{PassFrames, PassUnits, AsksFramesAmong, AsksUnitAmong};
 
 use crate::covering::next_covering;
 use crate::frame_place::{FramePlace, find_frames_at};
@@ -78,7 +78,8 @@ pub(crate) fn settle_frames<R: Reader>(
         (frame_probes_at (known_among units.old.items supplement_units.now)
         (map value_of_unit units.old.items) probe) (covering_ranges probe ranges.now))
         units.old.items units.new.items }
-    ensures reads { ReadsAsked (IsUnitOf (covering_ranges probe ranges.now))
+    ensures reads { ReadsAsked (AsksFramesAmong (known_among units.old.items supplement_units.now)
+        (map value_of_unit units.old.items) probe (covering_ranges probe ranges.now))
         units.old.items units.new.items }
     ensures passed { PassFrames (known_among units.old.items supplement_units.now)
         (map value_of_unit units.old.items) probe from.new ranges.now }
@@ -151,7 +152,8 @@ pub(crate) fn settle_unit<R: Reader>(
         (frame_probes_at (known_among units.old.items supplement_units.now)
         (map value_of_unit units.old.items) probe) (covering_ranges probe ranges.now))
         units.old.items units.new.items }
-    ensures reads { ReadsAsked (IsUnitOf (covering_ranges probe ranges.now))
+    ensures reads { ReadsAsked (AsksUnitAmong (known_among units.old.items supplement_units.now)
+        (map value_of_unit units.old.items) probe (covering_ranges probe ranges.now))
         units.old.items units.new.items }
     ensures passed { PassUnits (known_among units.old.items supplement_units.now)
         (map value_of_unit units.old.items) probe from.new ranges.now }

@@ -14,7 +14,7 @@ use std::alloc::Global;
 
 // Whether the lines of the unit of a number can be read, or else the refusal; they are read and
 // kept.
-fn check_at<R: Reader>(
+pub(crate) fn check_at<R: Reader>(
     alloc: Global,
     units: &mut Vec<ResUnit<R>>,
     number: usize,

@@ -1,6 +1,6 @@
 //! The loads that lookups of an address may wait for.
 
-ghost use Rattle.std.specs.Prelude.{◌≡◌, Ok, OnOk, map, option_map, option_and_then, slice_get};
+ghost use Rattle.std.specs.Prelude.{◌≡◌, Ok, OnOk, map, option_map};
 ghost use Rattle.addr2line_resolved.specs.Calls.{ReturnsAsOrNoMemory};
 ghost use Rattle.addr2line_resolved.specs.Lookups.{one_each};
 ghost use Rattle.addr2line_resolved.specs.NumberedRanges.{covering_ranges};

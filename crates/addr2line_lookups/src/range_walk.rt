@@ -1,8 +1,9 @@
 //! Walks over the stretches between two ends. The lines of a unit are read where a walk comes to
 //! it, and kept.
 
-ghost use Rattle.std.specs.Prelude.{◌≡◌, ℕ, List, map, option_map, MatchOption, IfOk};
+ghost use Rattle.std.specs.Prelude.{◌≡◌, ◌≢◌, ℕ, List, Ok, Err, map, option_map, MatchOption, IfOk};
 ghost use Rattle.addr2line_resolved.specs.Calls.{ReturnsAs};
+ghost use Rattle.addr2line_resolved.specs.Error.TheVariants.{Memory};
 ghost use Rattle.addr2line_resolved.specs.Contexts.{ContextUnit, ranges_of, lines_of};
 ghost use Rattle.addr2line_resolved.specs.PlaceLookups.{stretches_between};
 ghost use Rattle.addr2line_resolved.specs.UnitRange.{UnitRange as Numbered};
@@ -10,10 +11,11 @@ ghost use Rattle.addr2line_resolved.specs.NumberedRanges.{overlapping_ranges};
 ghost use Rattle.addr2line_resolved.specs.ContextUnits.{unit_places};
 ghost use Rattle.addr2line_resolved.specs.ResolvedUnits.{KeepsLines, plain_unit, value_of_unit};
 ghost use Rattle.addr2line_lookups.specs.KeptCalls.{LeavesCalls};
-ghost use Rattle.addr2line_lookups.specs.KeptUnits.{KeepsAt, ReadsAsked, IsUnitOf, lines_at};
+ghost use Rattle.addr2line_lookups.specs.KeptUnits.{KeepsAt, KeepsAsked, ReadsAsked, IsUnitOf, lines_at, check_at};
 ghost use Rattle.addr2line_lookups.specs.LookupCosts.{AtMostLooks};
-ghost use Rattle.addr2line_lookups.specs.RangeWalks.{BeginsRange, NextInRange, NextOfRows, KeepsStretch, FindsStretch, walk_left, stretches_left, AreOfRange, IsUnitOfRows, ComesTo, StaysOnItsWay};
+ghost use Rattle.addr2line_lookups.specs.RangeWalks.{BeginsRange, NextInRange, NextOfRows, KeepsStretch, FindsStretch, walk_left, stretches_left, AreOfRange, IsUnitOfRows, ComesTo, AsksForStretch, StaysOnItsWay};
 
+use crate::parsing::check_at;
 use crate::settle::{UnitRow, read_at, unit_at};
 use addr2line_resolved::{
     Error, LineCursor, Lines, Reader, ResUnit, RowStretch, UnitRange, UnitRanges,
@@ -90,24 +92,21 @@ fn lines_at<R: Reader>(units: &[ResUnit<R>], number: usize) -> Result<Option<&Li
     }
 }
 
-// The rows of the unit of a range, or the refusal of its lines. They are kept.
-fn rows_in<R: Reader>(
-    units: &[ResUnit<R>],
-    range: UnitRange,
-    low: u64,
-) -> Result<Option<RangeRows>, Error>
-    requires { KeepsAt units.now range.unit }
+// The rows of the unit of a range, if there is one. Its lines are kept, and aren't refused.
+fn rows_in<R: Reader>(units: &[ResUnit<R>], range: UnitRange, low: u64) -> Option<RangeRows>
+    requires kept { KeepsAt units.now range.unit }
+    requires lines { check_at (map plain_unit units.now) range.unit ≡ Ok tt }
     ensures rows { (high : ℕ) → BeginsRange (map unit_places (map plain_unit units.now)) low high
-        range result }
-    ensures range { IfOk result (AreOfRange range) }
+        range (Ok result) }
+    ensures range { AreOfRange range result }
 {
     match lines_at(units, range.unit) {
         Ok(Some(lines)) => {
             let cursor = lines.cursor_from(low.max(range.range.begin));
-            Ok(Some(RangeRows { range, cursor }))
+            Some(RangeRows { range, cursor })
         }
-        Ok(None) => Ok(None),
-        Err(error) => Err(error),
+        Ok(None) => None,
+        Err(_) => unreachable!(),
     }
 }
 
@@ -172,9 +171,11 @@ fn first_rows<R: Reader>(
     ensures rows { (high : ℕ) → BeginsRange (map unit_places (map plain_unit units.old.items)) low
         high range result }
     ensures range { IfOk result (AreOfRange range) }
+    ensures kept { result ≢ Err Memory → KeepsAt units.new.items range.unit }
+    ensures free { KeepsAt units.old.items range.unit → result ≢ Err Memory }
 {
-    read_at(alloc, units, range.unit)?;
-    rows_in(units.as_slice(), range, low)
+    check_at(alloc, units, range.unit)?;
+    Ok(rows_in(units.as_slice(), range, low))
 }
 
 // The next stretch of the unit of the range that a walk is in, if it is in one. The unit's lines
@@ -191,6 +192,9 @@ fn next_of_rows<R: Reader>(
     ensures stretch { NextOfRows (map plain_unit units.old.items) result walk.old walk.new }
     ensures unit { (n : ℕ) → IsUnitOfRows walk.new.rows n → IsUnitOfRows walk.old.rows n }
     ensures kept { KeepsStretch units.new.items result }
+    ensures asked { result ≢ Err Memory
+        → KeepsAsked (IsUnitOfRows walk.old.rows) units.new.items }
+    ensures free { KeepsAsked (IsUnitOfRows walk.old.rows) units.old.items → result ≢ Err Memory }
 {
     let Some(rows) = walk.rows else {
         return Ok(None);
@@ -206,8 +210,8 @@ fn next_of_rows<R: Reader>(
 }
 
 // The next stretch of a walk: that of the range that it is in, or else of the first range after it
-// that has one. The lines of the units on the way are read, unless they are kept. A refusal of them
-// leaves the walk before that unit.
+// that has one. The lines of the units up to there are read, unless they are kept; else it takes no
+// memory. A refusal of them leaves the walk before that unit.
 pub(crate) fn next_stretch<R: Reader>(
     alloc: Global,
     units: &mut Vec<ResUnit<R>>,
@@ -221,7 +225,15 @@ pub(crate) fn next_stretch<R: Reader>(
         (walk_left (map unit_places (map plain_unit units.old.items)) ranges.now walk.old)
         (walk_left (map unit_places (map plain_unit units.old.items)) ranges.now walk.new) }
     ensures kept { KeepsStretch units.new.items result }
-    ensures reads { ReadsAsked (ComesTo ranges.now walk.old) units.old.items units.new.items }
+    ensures asked { result ≢ Err Memory → KeepsAsked
+        (AsksForStretch (map unit_places (map plain_unit units.old.items)) ranges.now walk.old)
+        units.new.items }
+    ensures reads { ReadsAsked
+        (AsksForStretch (map unit_places (map plain_unit units.old.items)) ranges.now walk.old)
+        units.old.items units.new.items }
+    ensures free { KeepsAsked
+        (AsksForStretch (map unit_places (map plain_unit units.old.items)) ranges.now walk.old)
+        units.old.items → result ≢ Err Memory }
     ensures way { StaysOnItsWay ranges.now walk.old walk.new }
 {
     'range: loop {

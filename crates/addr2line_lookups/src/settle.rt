@@ -122,6 +122,7 @@ pub(crate) fn read_at<R: Reader>(
     ensures cost { AtMostLooks 0 units.old.items units.new.items }
     ensures reads { ReadsAsked (λ n. n ≡ number) units.old.items units.new.items }
     ensures refusal { IfErr result (λ e. e ≡ Memory) }
+    ensures free { KeepsAt units.old.items number → result ≢ Err Memory }
 {
     if number >= units.len() {
         return Ok(());

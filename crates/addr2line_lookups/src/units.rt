@@ -13,11 +13,11 @@ ghost use Rattle.addr2line_lookups.specs.KeptCalls.{LeavesCalls, HoldCalls, know
 ghost use Rattle.addr2line_lookups.specs.LoadAnswers.{AnswersOrNoMemory, answer_at};
 ghost use Rattle.addr2line_lookups.specs.Preloads.{load_at, loads_at, load_of_item, first_number, first_load};
 ghost use Rattle.addr2line_lookups.specs.FramePlaces.{LendsFrames};
-ghost use Rattle.addr2line_lookups.specs.PassedUnits.{PassFrames, PassUnits, PassLoads};
+ghost use Rattle.addr2line_lookups.specs.PassedUnits.{PassFrames, PassUnits, PassLoads, AsksFramesAmong, AsksUnitAmong};
 ghost use Rattle.addr2line_lookups.specs.UnitLookups.{frames_among, SettlesFrames, unit_among, SettlesUnit, unit_at_number};
 ghost use Rattle.addr2line_resolved.specs.BorrowedFrames.{frames_left};
-ghost use Rattle.addr2line_lookups.specs.KeptUnits.{KeepsAt, KeepsFound, KeepsAsked, ReadsAsked, ReadsNoLines, IsUnitOf, AsksForRow, AsksForLines, FindsRow, location_of_unit_row};
-ghost use Rattle.addr2line_lookups.specs.RangeWalks.{FindsStretch, KeepsStretch, stretches_left, ComesTo, StaysOnItsWay};
+ghost use Rattle.addr2line_lookups.specs.KeptUnits.{KeepsAt, KeepsFound, KeepsAsked, ReadsAsked, ReadsNoLines, AsksForRow, AsksForLines, FindsRow, location_of_unit_row};
+ghost use Rattle.addr2line_lookups.specs.RangeWalks.{FindsStretch, KeepsStretch, stretches_left, AsksForNextStretch, StaysOnItsWay};
 ghost use Rattle.addr2line_lookups.specs.LookupCosts.{AtMostLooks, row_probes_at, frame_probes_at, probes_among};
 ghost use Rattle.addr2line_lookups.specs.UnitParses.{WalksOrNoMemory, check_functions_of, check_calls_of};
 
@@ -113,8 +113,8 @@ impl<R: Reader> Units<R> {
         place_in(self.units.as_slice(), found)
     }
 
-    // The next stretch of a walk. The lines of the units that it comes to are read, unless they are
-    // kept, and kept.
+    // The next stretch of a walk. The lines of the units that it asks are read, unless they are
+    // kept, and kept; else it takes no memory.
     pub fn next_stretch(&mut self, walk: &mut RangeWalk) -> Result<Option<UnitStretch>, Error>
         ensures values { map value_of_unit self.new ≡ map value_of_unit self.old }
         ensures calls { LeavesCalls self.old self.new }
@@ -123,8 +123,12 @@ impl<R: Reader> Units<R> {
             (stretches_left (map plain_unit self.old) walk.old)
             (stretches_left (map plain_unit self.old) walk.new) }
         ensures kept { KeepsStretch self.new result }
-        ensures reads { ReadsAsked (ComesTo (ordered_ranges (map plain_unit self.old)) walk.old)
+        ensures asked { result ≢ Err Memory
+            → KeepsAsked (AsksForNextStretch (map plain_unit self.old) walk.old) self.new }
+        ensures reads { ReadsAsked (AsksForNextStretch (map plain_unit self.old) walk.old)
             self.old self.new }
+        ensures free { KeepsAsked (AsksForNextStretch (map plain_unit self.old) walk.old) self.old
+            → result ≢ Err Memory }
         ensures way { StaysOnItsWay (ordered_ranges (map plain_unit self.old)) walk.old walk.new }
     {
         let alloc = *self.units.allocator();
@@ -207,8 +211,9 @@ impl<R: Reader> Units<R> {
 
     /// Where the frames of an address are: of the units with a range over it, in their order, in
     /// the first that has some, unless one is refused or waits for its load before.
-    /// What is read is kept. The search begins at an index among all ranges, before which no unit
-    /// has frames, and moves it on: so one that is asked again after an answer goes on there.
+    /// What is read is kept, and no lines of units after the one in which it ends are read. The
+    /// search begins at an index among all ranges, before which no unit has frames, and moves it
+    /// on: so one that is asked again after an answer goes on there.
     pub fn settle_frames(
         &mut self,
         supplement_units: &[Unit<R>],
@@ -227,7 +232,8 @@ impl<R: Reader> Units<R> {
             (frame_probes_at (known_among self.old supplement_units.now)
             (map value_of_unit self.old) probe)
             (covering_ranges probe (ordered_ranges (map plain_unit self.old)))) self.old self.new }
-        ensures reads { ReadsAsked (IsUnitOf
+        ensures reads { ReadsAsked (AsksFramesAmong (known_among self.old supplement_units.now)
+            (map value_of_unit self.old) probe
             (covering_ranges probe (ordered_ranges (map plain_unit self.old)))) self.old self.new }
         ensures passed { PassFrames (known_among self.old supplement_units.now)
             (map value_of_unit self.old) probe from.new (ordered_ranges (map plain_unit self.old)) }
@@ -244,8 +250,9 @@ impl<R: Reader> Units<R> {
     }
 
     /// The number of the first unit, of those with a range over an address, that has a function or
-    /// a place for it, unless one waits for its load before. What is read is kept. The search
-    /// begins at an index before which no unit has any, and moves it on.
+    /// a place for it, unless one waits for its load before. What is read is kept, and no lines of
+    /// units after the one in which it ends are read. The search begins at an index before which no
+    /// unit has any, and moves it on.
     pub fn settle_unit(
         &mut self,
         supplement_units: &[Unit<R>],
@@ -264,7 +271,8 @@ impl<R: Reader> Units<R> {
             (frame_probes_at (known_among self.old supplement_units.now)
             (map value_of_unit self.old) probe)
             (covering_ranges probe (ordered_ranges (map plain_unit self.old)))) self.old self.new }
-        ensures reads { ReadsAsked (IsUnitOf
+        ensures reads { ReadsAsked (AsksUnitAmong (known_among self.old supplement_units.now)
+            (map value_of_unit self.old) probe
             (covering_ranges probe (ordered_ranges (map plain_unit self.old)))) self.old self.new }
         ensures passed { PassUnits (known_among self.old supplement_units.now)
             (map value_of_unit self.old) probe from.new (ordered_ranges (map plain_unit self.old)) }

@@ -3,7 +3,7 @@ use Rattle.addr2line_lookups.specs.BorrowedFrames.{frames_left}
 use Rattle.addr2line_lookups.specs.FirstAnswers.{output}
 use Rattle.addr2line_lookups.specs.UnitLookups.{FoundFrames, SettlesFrames}
 use Rattle.addr2line_context.specs.KeptContexts.{ResolvedContext}
-use Rattle.addr2line_context.specs.ContextCosts.{AfterSearch}
+use Rattle.addr2line_context.specs.ContextCosts.{AsksForFrames, AfterSearch}
 use Rattle.addr2line_context.specs.SettledLookups.{frames_in}
 use Rattle.addr2line_context.proofs.FrameLoads.{waits_not}
 use Rattle.addr2line_context.proofs.LookupResults.{frames_lent}
@@ -17,7 +17,7 @@ returns-in-Ok-Nothing g c =
       (
         refl,
         λ w. tt,
-        subst (λ (x : ResolvedContext). AfterSearch a old x) (sym c.context.view_is)
+        subst (λ (x : ResolvedContext). AfterSearch AsksForFrames a old x) (sym c.context.view_is)
             c.in-Ok-Nothing.ensures.after,
       ),
       record {
@@ -36,7 +36,7 @@ returns-in-Err g c =
       (
         refl,
         λ w. tt,
-        subst (λ (x : ResolvedContext). AfterSearch a old x) (sym c.context.view_is)
+        subst (λ (x : ResolvedContext). AfterSearch AsksForFrames a old x) (sym c.context.view_is)
             c.in-Err.ensures.after,
       ),
       record { found = c.in-Err.ensures.found; after = tt },
@@ -56,7 +56,7 @@ returns-in-Ok-Found g c =
       (
         refl,
         λ w. tt,
-        subst (λ (x : ResolvedContext). AfterSearch a old x) (sym c.context.view_is)
+        subst (λ (x : ResolvedContext). AfterSearch AsksForFrames a old x) (sym c.context.view_is)
             c.in-Ok-Found.ensures.after,
       ),
       record {

@@ -4,13 +4,13 @@ use Rattle.addr2line_resolved.specs.Lookups.{is_answer}
 use Rattle.addr2line_resolved.specs.UnitRange.{UnitRange}
 use Rattle.addr2line_resolved.specs.NumberedRanges.{covering_ranges}
 use Rattle.addr2line_resolved.specs.ResolvedUnits.{value_of_unit}
-use Rattle.addr2line_lookups.specs.KeptUnits.{IsUnitOf}
 use Rattle.addr2line_lookups.specs.KeptCalls.{known_among}
 use Rattle.addr2line_lookups.specs.FramePlaces.{frames_of_answered}
 use Rattle.addr2line_lookups.specs.LookupCosts.{frame_probes_at}
 use Rattle.addr2line_lookups.specs.UnitLookups.{frames_among}
-use Rattle.addr2line_lookups.proofs.AskedLines.{reads_none, reads_both, unit_of_first}
-use Rattle.addr2line_lookups.proofs.PassedUnits.{pass_next, asked_from, probes_from}
+use Rattle.addr2line_lookups.specs.PassedUnits.{AsksFramesAmong}
+use Rattle.addr2line_lookups.proofs.AskedLines.{reads_none, reads_both}
+use Rattle.addr2line_lookups.proofs.PassedUnits.{pass_next, asked_next, asked_from, probes_from}
 use Rattle.addr2line_lookups.proofs.SettledUnits.{calls_same, calls_back, frames_step_refused, frames_step_waits, frames_step_found, frames_step_nothing, no_frames_left}
 use Rattle.addr2line_lookups.proofs.UnitProbes.{looks_begin_after, looks_end}
 use Rattle.addr2line_lookups.proofs.LookupProbes.{frame_probes_among, frames_further, frames_stop}
@@ -29,7 +29,7 @@ loop-unit-init g c =
           (frame_probes_among us s a (covering_ranges a (drop c.args.from.now rs))) us
           (probes_from (frames_of_answered (known_among us s) a) (Ok []) (map value_of_unit us) a rs c.args.from.now
           c.requires.passed (frame_probes_at (known_among us s) (map value_of_unit us) a)),
-      reads_none (IsUnitOf (covering_ranges a rs)) us,
+      reads_none (AsksFramesAmong (known_among us s) (map value_of_unit us) a (covering_ranges a rs)) us,
     )
 
 pub settle_frames_at-requires : goal.settle_frames_at-requires
@@ -58,9 +58,10 @@ returns-in_err-settle_frames_at g c =
       calls = calls_back us vs c.loop-unit.invariant.0 s new c.in_err-settle_frames_at.ensures.calls;
       passed = c.loop-unit.invariant.2;
       reads =
-          reads_both (IsUnitOf (covering_ranges a rs)) us vs new r.unit
-          (unit_of_first (covering_ranges a rs) c.loop-unit.invariant.2.passed old rest r
-          c.loop-unit.invariant.2.are_first c.in-Some.ensures.1) c.loop-unit.invariant.4
+          reads_both (AsksFramesAmong (known_among us s) (map value_of_unit us) a (covering_ranges a rs)) us vs new
+          r.unit
+          (asked_next (frames_of_answered (known_among us s) a) (Ok []) (map value_of_unit us) a rs c.loop-unit.from
+          c.loop-unit.invariant.2 c.in-Some.unit c.in-Some.next c.in-Some.ensures) c.loop-unit.invariant.4
           c.in_err-settle_frames_at.ensures.reads;
       cost =
           frames_stop us vs c.loop-unit.invariant.0 a (frame_probes_among us s a (covering_ranges a rs)) r old rest
@@ -92,9 +93,10 @@ returns-in-Waits g c =
       calls = calls_back us vs c.loop-unit.invariant.0 s new c.in_ok-settle_frames_at.ensures.calls;
       passed = c.loop-unit.invariant.2;
       reads =
-          reads_both (IsUnitOf (covering_ranges a rs)) us vs new r.unit
-          (unit_of_first (covering_ranges a rs) c.loop-unit.invariant.2.passed old rest r
-          c.loop-unit.invariant.2.are_first c.in-Some.ensures.1) c.loop-unit.invariant.4
+          reads_both (AsksFramesAmong (known_among us s) (map value_of_unit us) a (covering_ranges a rs)) us vs new
+          r.unit
+          (asked_next (frames_of_answered (known_among us s) a) (Ok []) (map value_of_unit us) a rs c.loop-unit.from
+          c.loop-unit.invariant.2 c.in-Some.unit c.in-Some.next c.in-Some.ensures) c.loop-unit.invariant.4
           c.in_ok-settle_frames_at.ensures.reads;
       cost =
           frames_stop us vs c.loop-unit.invariant.0 a (frame_probes_among us s a (covering_ranges a rs)) r old rest
@@ -125,9 +127,10 @@ returns-in-Found g c =
       calls = calls_back us vs c.loop-unit.invariant.0 s new c.in_ok-settle_frames_at.ensures.calls;
       passed = c.loop-unit.invariant.2;
       reads =
-          reads_both (IsUnitOf (covering_ranges a rs)) us vs new r.unit
-          (unit_of_first (covering_ranges a rs) c.loop-unit.invariant.2.passed old rest r
-          c.loop-unit.invariant.2.are_first c.in-Some.ensures.1) c.loop-unit.invariant.4
+          reads_both (AsksFramesAmong (known_among us s) (map value_of_unit us) a (covering_ranges a rs)) us vs new
+          r.unit
+          (asked_next (frames_of_answered (known_among us s) a) (Ok []) (map value_of_unit us) a rs c.loop-unit.from
+          c.loop-unit.invariant.2 c.in-Some.unit c.in-Some.next c.in-Some.ensures) c.loop-unit.invariant.4
           c.in_ok-settle_frames_at.ensures.reads;
       cost =
           frames_stop us vs c.loop-unit.invariant.0 a (frame_probes_among us s a (covering_ranges a rs)) r old rest
@@ -162,9 +165,9 @@ loop-unit-preserved g c =
           c.in_ok-settle_frames_at.field-0 c.in_ok-settle_frames_at.ensures.found c.in-Nothing.is),
       frames_further us vs c.loop-unit.invariant.0 a (frame_probes_among us s a (covering_ranges a rs)) r old rest
           c.in-Some.ensures.1 new s c.loop-unit.invariant.3 c.in_ok-settle_frames_at.ensures.cost,
-      reads_both (IsUnitOf (covering_ranges a rs)) us vs new r.unit
-          (unit_of_first (covering_ranges a rs) c.loop-unit.invariant.2.passed old rest r
-          c.loop-unit.invariant.2.are_first c.in-Some.ensures.1) c.loop-unit.invariant.4
+      reads_both (AsksFramesAmong (known_among us s) (map value_of_unit us) a (covering_ranges a rs)) us vs new r.unit
+          (asked_next (frames_of_answered (known_among us s) a) (Ok []) (map value_of_unit us) a rs c.loop-unit.from
+          c.loop-unit.invariant.2 c.in-Some.unit c.in-Some.next c.in-Some.ensures) c.loop-unit.invariant.4
           c.in_ok-settle_frames_at.ensures.reads,
     )
 

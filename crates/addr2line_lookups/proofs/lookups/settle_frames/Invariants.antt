@@ -1,11 +1,11 @@
 -- The units before the index know nothing, the units' values are the same, and looks are left for the ranges that are
--- left. No lines were read but of units with a range over the address.
+-- left. No lines were read but of units that are asked.
 use Rattle.std.proofs.Common.{◌≡◌, length, map, drop}
 use Rattle.addr2line_resolved.specs.NumberedRanges.{covering_ranges}
 use Rattle.addr2line_resolved.specs.ResolvedUnits.{value_of_unit}
-use Rattle.addr2line_lookups.specs.KeptUnits.{ReadsAsked, IsUnitOf}
+use Rattle.addr2line_lookups.specs.KeptUnits.{ReadsAsked}
 use Rattle.addr2line_lookups.specs.KeptCalls.{known_among, HoldCalls}
-use Rattle.addr2line_lookups.specs.PassedUnits.{PassFrames}
+use Rattle.addr2line_lookups.specs.PassedUnits.{PassFrames, AsksFramesAmong}
 use Rattle.addr2line_lookups.proofs.UnitProbes.{LooksLeft}
 use Rattle.addr2line_lookups.proofs.LookupProbes.{frame_probes_among}
 use Rattle.addr2line_lookups.proofs.lookups.settle_frames.Given as goal
@@ -19,7 +19,8 @@ invariant-loop-unit g l =
     × PassFrames known (map value_of_unit us) l.probe l.from l.ranges
     × LooksLeft (frame_probes_among us l.supplement_units l.probe (covering_ranges l.probe l.ranges))
     (frame_probes_among us l.supplement_units l.probe (covering_ranges l.probe (drop l.from l.ranges))) us l.units.items
-    × ReadsAsked (IsUnitOf (covering_ranges l.probe l.ranges)) us l.units.items
+    × ReadsAsked (AsksFramesAmong known (map value_of_unit us) l.probe (covering_ranges l.probe l.ranges)) us
+    l.units.items
 
 abbrev pub decreases-loop-unit : goal.decreases-loop-unit
 decreases-loop-unit g l = length (covering_ranges l.probe (drop l.from l.ranges))

@@ -4,12 +4,12 @@ use Rattle.addr2line_resolved.specs.Lookups.{is_there}
 use Rattle.addr2line_resolved.specs.UnitRange.{UnitRange}
 use Rattle.addr2line_resolved.specs.NumberedRanges.{covering_ranges}
 use Rattle.addr2line_resolved.specs.ResolvedUnits.{value_of_unit}
-use Rattle.addr2line_lookups.specs.KeptUnits.{IsUnitOf}
 use Rattle.addr2line_lookups.specs.KeptCalls.{known_among}
 use Rattle.addr2line_lookups.specs.LookupCosts.{frame_probes_at}
 use Rattle.addr2line_lookups.specs.UnitLookups.{unit_among, unit_of_answered}
-use Rattle.addr2line_lookups.proofs.AskedLines.{reads_none, reads_both, unit_of_first}
-use Rattle.addr2line_lookups.proofs.PassedUnits.{pass_next, asked_from, probes_from}
+use Rattle.addr2line_lookups.specs.PassedUnits.{AsksUnitAmong}
+use Rattle.addr2line_lookups.proofs.AskedLines.{reads_none, reads_both}
+use Rattle.addr2line_lookups.proofs.PassedUnits.{pass_next, asked_next, asked_from, probes_from}
 use Rattle.addr2line_lookups.proofs.SettledUnits.{calls_same, calls_back, unit_step_waits, unit_step_found, unit_step_nothing, no_unit_left}
 use Rattle.addr2line_lookups.proofs.UnitProbes.{looks_begin_after, looks_end}
 use Rattle.addr2line_lookups.proofs.LookupProbes.{frame_probes_among, frames_further, frames_stop}
@@ -28,7 +28,7 @@ loop-unit-init g c =
           (frame_probes_among us s a (covering_ranges a (drop c.args.from.now rs))) us
           (probes_from (unit_of_answered (known_among us s) a) None (map value_of_unit us) a rs c.args.from.now
           c.requires.passed (frame_probes_at (known_among us s) (map value_of_unit us) a)),
-      reads_none (IsUnitOf (covering_ranges a rs)) us,
+      reads_none (AsksUnitAmong (known_among us s) (map value_of_unit us) a (covering_ranges a rs)) us,
     )
 
 pub settle_unit_at-requires : goal.settle_unit_at-requires
@@ -57,9 +57,9 @@ returns-in_err-settle_unit_at g c =
       calls = calls_back us vs c.loop-unit.invariant.0 s new c.in_err-settle_unit_at.ensures.calls;
       passed = c.loop-unit.invariant.2;
       reads =
-          reads_both (IsUnitOf (covering_ranges a rs)) us vs new r.unit
-          (unit_of_first (covering_ranges a rs) c.loop-unit.invariant.2.passed old rest r
-          c.loop-unit.invariant.2.are_first c.in-Some.ensures.1) c.loop-unit.invariant.4
+          reads_both (AsksUnitAmong (known_among us s) (map value_of_unit us) a (covering_ranges a rs)) us vs new r.unit
+          (asked_next (unit_of_answered (known_among us s) a) None (map value_of_unit us) a rs c.loop-unit.from
+          c.loop-unit.invariant.2 c.in-Some.unit c.in-Some.next c.in-Some.ensures) c.loop-unit.invariant.4
           c.in_err-settle_unit_at.ensures.reads;
       cost =
           frames_stop us vs c.loop-unit.invariant.0 a (frame_probes_among us s a (covering_ranges a rs)) r old rest
@@ -88,9 +88,9 @@ returns-in-Waits g c =
       calls = calls_back us vs c.loop-unit.invariant.0 s new c.in_ok-settle_unit_at.ensures.calls;
       passed = c.loop-unit.invariant.2;
       reads =
-          reads_both (IsUnitOf (covering_ranges a rs)) us vs new r.unit
-          (unit_of_first (covering_ranges a rs) c.loop-unit.invariant.2.passed old rest r
-          c.loop-unit.invariant.2.are_first c.in-Some.ensures.1) c.loop-unit.invariant.4
+          reads_both (AsksUnitAmong (known_among us s) (map value_of_unit us) a (covering_ranges a rs)) us vs new r.unit
+          (asked_next (unit_of_answered (known_among us s) a) None (map value_of_unit us) a rs c.loop-unit.from
+          c.loop-unit.invariant.2 c.in-Some.unit c.in-Some.next c.in-Some.ensures) c.loop-unit.invariant.4
           c.in_ok-settle_unit_at.ensures.reads;
       cost =
           frames_stop us vs c.loop-unit.invariant.0 a (frame_probes_among us s a (covering_ranges a rs)) r old rest
@@ -121,9 +121,9 @@ returns-in-Found g c =
       calls = calls_back us vs c.loop-unit.invariant.0 s new c.in_ok-settle_unit_at.ensures.calls;
       passed = c.loop-unit.invariant.2;
       reads =
-          reads_both (IsUnitOf (covering_ranges a rs)) us vs new r.unit
-          (unit_of_first (covering_ranges a rs) c.loop-unit.invariant.2.passed old rest r
-          c.loop-unit.invariant.2.are_first c.in-Some.ensures.1) c.loop-unit.invariant.4
+          reads_both (AsksUnitAmong (known_among us s) (map value_of_unit us) a (covering_ranges a rs)) us vs new r.unit
+          (asked_next (unit_of_answered (known_among us s) a) None (map value_of_unit us) a rs c.loop-unit.from
+          c.loop-unit.invariant.2 c.in-Some.unit c.in-Some.next c.in-Some.ensures) c.loop-unit.invariant.4
           c.in_ok-settle_unit_at.ensures.reads;
       cost =
           frames_stop us vs c.loop-unit.invariant.0 a (frame_probes_among us s a (covering_ranges a rs)) r old rest
@@ -158,9 +158,9 @@ loop-unit-preserved g c =
           c.in_ok-settle_unit_at.field-0 c.in_ok-settle_unit_at.ensures.found c.in-Nothing.is),
       frames_further us vs c.loop-unit.invariant.0 a (frame_probes_among us s a (covering_ranges a rs)) r old rest
           c.in-Some.ensures.1 new s c.loop-unit.invariant.3 c.in_ok-settle_unit_at.ensures.cost,
-      reads_both (IsUnitOf (covering_ranges a rs)) us vs new r.unit
-          (unit_of_first (covering_ranges a rs) c.loop-unit.invariant.2.passed old rest r
-          c.loop-unit.invariant.2.are_first c.in-Some.ensures.1) c.loop-unit.invariant.4
+      reads_both (AsksUnitAmong (known_among us s) (map value_of_unit us) a (covering_ranges a rs)) us vs new r.unit
+          (asked_next (unit_of_answered (known_among us s) a) None (map value_of_unit us) a rs c.loop-unit.from
+          c.loop-unit.invariant.2 c.in-Some.unit c.in-Some.next c.in-Some.ensures) c.loop-unit.invariant.4
           c.in_ok-settle_unit_at.ensures.reads,
     )
 

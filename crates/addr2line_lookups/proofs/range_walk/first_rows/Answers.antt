@@ -1,14 +1,56 @@
-use Rattle.std.proofs.Common.{◌∙◌, List, ap, map, subst}
+use Rattle.std.proofs.Common.{◌≡◌, ◌∙◌, List, Option, Ok, ap, map, subst, sym}
+use Rattle.std.proofs.lemmas.Result.{err_from_is_err_and}
+use Rattle.addr2line_resolved.specs.Error.TheVariants.{Memory}
 use Rattle.addr2line_resolved.specs.Contexts.{ContextUnit}
 use Rattle.addr2line_resolved.specs.ContextUnits.{unit_places}
-use Rattle.addr2line_resolved.specs.ResolvedUnits.{plain_unit}
+use Rattle.addr2line_resolved.specs.ResolvedUnits.{ResolvedUnit, plain_unit}
+use Rattle.addr2line_lookups.specs.KeptUnits.{KeepsAt, check_at}
 use Rattle.addr2line_lookups.specs.RangeWalks.{BeginsRange}
+use Rattle.addr2line_lookups.specs.declared.range_walk.RangeRows.{RangeRows}
+use Rattle.addr2line_lookups.proofs.AskedLines.{no_stop}
+use Rattle.addr2line_lookups.proofs.AskedStretches.{refused_range_ends}
 use Rattle.addr2line_lookups.proofs.KeptLines.{same_plain}
+use Rattle.addr2line_lookups.proofs.UnitProbes.{refused_so}
 use Rattle.addr2line_lookups.proofs.range_walk.first_rows.Goals as goal
+
+pub returns-in_err-check_at-clause-rows : goal.returns-in_err-check_at-clause-rows
+returns-in_err-check_at-clause-rows g c high =
+    let p = err_from_is_err_and c.from_residual.result c.from_residual.ensures.1 in
+    rw (p.1, p.2) (λ other rest.
+    refused_range_ends c.args.low high c.args.range c.in_err-check_at.field-0.0 rest
+    (map plain_unit c.args.units.now.items) (c.in_err-check_at.ensures.found other))
+
+pub returns-in_err-check_at-clause-kept : goal.returns-in_err-check_at-clause-kept
+returns-in_err-check_at-clause-kept g c =
+    let p = err_from_is_err_and c.from_residual.result c.from_residual.ensures.1 in
+    rw (p.1, p.2) (λ other.
+    c.in_err-check_at.ensures.kept (refused_so (Option RangeRows) (Unit {0}) _ Memory other))
+
+pub returns-in_err-check_at-clause-free : goal.returns-in_err-check_at-clause-free
+returns-in_err-check_at-clause-free g c =
+    let p = err_from_is_err_and c.from_residual.result c.from_residual.ensures.1 in
+    rw (p.1, p.2) (λ kept.
+    refused_so (Unit {0}) (Option RangeRows) _ Memory (c.in_err-check_at.ensures.free kept))
+
+pub rows_in-requires-clause-kept : goal.rows_in-requires-clause-kept
+rows_in-requires-clause-kept g c =
+    subst (λ (us : List ResolvedUnit). KeepsAt us c.args.range.unit) (sym c.as_slice.ensures.value)
+    (c.in_ok-check_at.ensures.kept (no_stop _))
+
+pub rows_in-requires-clause-lines : goal.rows_in-requires-clause-lines
+rows_in-requires-clause-lines g c =
+    subst (λ (us : List ContextUnit). check_at us c.args.range.unit ≡ Ok tt)
+    (sym (ap (map plain_unit) c.as_slice.ensures.value
+    ∙ same_plain c.check_at.new.units.items c.args.units.now.items c.in_ok-check_at.ensures.values))
+    c.in_ok-check_at.ensures.found
 
 pub returns-clause-rows : goal.returns-clause-rows
 returns-clause-rows g c high =
-    subst (λ (us : List ContextUnit). BeginsRange (map unit_places us) c.args.low high c.args.range c.rows_in.result)
+    subst (λ (us : List ContextUnit).
+    BeginsRange (map unit_places us) c.args.low high c.args.range (Ok c.rows_in.result))
     (ap (map plain_unit) c.as_slice.ensures.value
-    ∙ same_plain c.read_at.new.units.items c.args.units.now.items c.in_ok-read_at.ensures.values)
+    ∙ same_plain c.check_at.new.units.items c.args.units.now.items c.in_ok-check_at.ensures.values)
     (c.rows_in.ensures.rows high)
+
+pub returns-clause-kept : goal.returns-clause-kept
+returns-clause-kept g c = λ answered. c.in_ok-check_at.ensures.kept (no_stop _)

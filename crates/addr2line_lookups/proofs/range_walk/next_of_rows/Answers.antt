@@ -1,4 +1,6 @@
 use Rattle.std.proofs.Common.{◌≡◌, ◌∙◌, List, [], Option, Some, None, ap, map, refl, subst, sym}
+use Rattle.std.proofs.lemmas.Result.{err_from_is_err_and}
+use Rattle.addr2line_resolved.specs.Error.TheVariants.{Memory}
 use Rattle.addr2line_resolved.specs.Contexts.{ContextUnit}
 use Rattle.addr2line_resolved.specs.UnitRange.{UnitRange}
 use Rattle.addr2line_resolved.specs.ContextUnits.{unit_places}
@@ -6,7 +8,10 @@ use Rattle.addr2line_resolved.specs.ResolvedUnits.{plain_unit}
 use Rattle.addr2line_lookups.specs.KeptUnits.{KeepsAt, ReadsAsked}
 use Rattle.addr2line_lookups.specs.RangeWalks.{rows_left, FirstStretch, NextInRange, IsUnitOfRows}
 use Rattle.addr2line_lookups.specs.declared.range_walk.RangeRows.{RangeRows}
+use Rattle.addr2line_lookups.specs.declared.range_walk.UnitStretch.{UnitStretch}
+use Rattle.addr2line_lookups.proofs.AskedStretches.{rows_are_kept, unit_is_kept, no_rows_kept, refused_stretch}
 use Rattle.addr2line_lookups.proofs.KeptLines.{same_plain}
+use Rattle.addr2line_lookups.proofs.UnitProbes.{refused_so}
 use Rattle.addr2line_lookups.proofs.range_walk.next_of_rows.Goals as goal
 
 pub returns-in-Some-next_in-clause-stretch : goal.returns-in-Some-next_in-clause-stretch
@@ -63,3 +68,30 @@ pub returns-in-Some-next_in-clause-unit : goal.returns-in-Some-next_in-clause-un
 returns-in-Some-next_in-clause-unit g c n is =
     subst (λ (o : Option RangeRows). IsUnitOfRows o n) (sym c.in-Some.is)
     (is ∙ ap (λ (r : UnitRange). r.unit) c.in-Some-next_in.ensures.range)
+
+pub returns-in_default-clause-asked : goal.returns-in_default-clause-asked
+returns-in_default-clause-asked g c = λ answered.
+    no_rows_kept c.args.walk.now.rows c.in_default.is c.args.units.now.items
+
+pub returns-in_err-read_at-clause-asked : goal.returns-in_err-read_at-clause-asked
+returns-in_err-read_at-clause-asked g c =
+    let p = err_from_is_err_and c.from_residual.result c.from_residual.ensures.1 in
+    rw (p.1, p.2) (λ other. absurd (other (ap refused_stretch c.in_err-read_at.ensures.refusal)))
+
+pub returns-in-Some-next_in-clause-asked : goal.returns-in-Some-next_in-clause-asked
+returns-in-Some-next_in-clause-asked g c = λ answered.
+    rows_are_kept c.args.walk.now.rows c.in-Some.rows c.in-Some.is c.read_at.new.units.items
+    c.in_ok-read_at.ensures.kept
+
+pub returns-in-None-clause-asked : goal.returns-in-None-clause-asked
+returns-in-None-clause-asked g c = λ answered.
+    rows_are_kept c.args.walk.now.rows c.in-Some.rows c.in-Some.is c.read_at.new.units.items
+    c.in_ok-read_at.ensures.kept
+
+pub returns-in_err-read_at-clause-free : goal.returns-in_err-read_at-clause-free
+returns-in_err-read_at-clause-free g c =
+    let p = err_from_is_err_and c.from_residual.result c.from_residual.ensures.1 in
+    rw (p.1, p.2) (λ kept.
+    refused_so (Unit {0}) (Option UnitStretch) _ Memory
+    (c.in_err-read_at.ensures.free
+    (unit_is_kept c.args.walk.now.rows c.in-Some.rows c.in-Some.is c.args.units.now.items kept)))

@@ -1,16 +1,32 @@
-use Rattle.std.proofs.Common.{◌≡◌, ◌∙◌, List, Ok, Err, inl, ap, map, subst, sym}
+use Rattle.std.proofs.Common.{◌≡◌, ◌∙◌, List, Option, Ok, Err, ap, map, refl, subst, sym}
 use Rattle.std.proofs.lemmas.Result.{err_from_is_err_and}
+use Rattle.addr2line_resolved.specs.Error.TheVariants.{Memory}
 use Rattle.addr2line_resolved.specs.Contexts.{ContextUnit}
 use Rattle.addr2line_resolved.specs.ContextUnits.{unit_places}
 use Rattle.addr2line_resolved.specs.ResolvedUnits.{plain_unit}
-use Rattle.addr2line_lookups.specs.RangeWalks.{BeginsRange, NextOfRows, walk_left, IsUnitOfRows, ComesTo, StaysOnItsWay}
-use Rattle.addr2line_lookups.proofs.AskedLines.{reads_more, reads_both}
-use Rattle.addr2line_lookups.proofs.CallsLeft.{leaves_both}
+use Rattle.addr2line_lookups.specs.RangeWalks.{BeginsRange, NextOfRows, walk_left, StaysOnItsWay}
+use Rattle.addr2line_lookups.specs.declared.range_walk.RangeRows.{RangeRows}
+use Rattle.addr2line_lookups.specs.declared.range_walk.UnitStretch.{UnitStretch}
+use Rattle.addr2line_lookups.proofs.AskedStretches.{AsksAfter, walk_begins, rows_found, rows_passed, rows_reads, rows_kept, walk_ends, next_begins, next_refused, next_reads, next_kept, refused_stretch, stretch_not_refused, rows_not_refused}
+use Rattle.addr2line_lookups.proofs.CallsLeft.{leaves_none, leaves_both}
 use Rattle.addr2line_lookups.proofs.KeptLines.{same_plain}
 use Rattle.addr2line_lookups.proofs.RangeSteps.{first_left, next_range, refused_range, no_range, stays_empty, ok_stretch}
-use Rattle.addr2line_lookups.proofs.RangeUnits.{way_of_rows, way_of_range, comes_next}
-use Rattle.addr2line_lookups.proofs.UnitProbes.{looks_after}
+use Rattle.addr2line_lookups.proofs.RangeUnits.{way_of_rows, way_of_range}
+use Rattle.addr2line_lookups.proofs.UnitProbes.{looks_none, looks_after, refused_so}
 use Rattle.addr2line_lookups.proofs.range_walk.next_stretch.Goals as goal
+
+pub range-init : goal.range-init
+range-init g c =
+    let us = c.args.units.now.items in
+    let left = walk_left (map unit_places (map plain_unit us)) c.args.ranges.now c.args.walk.now in
+    record {
+      values = refl;
+      left = refl {a = left};
+      calls = leaves_none us;
+      cost = looks_none 0 us;
+      asks = walk_begins us c.args.ranges.now c.args.walk.now;
+      way = λ n come. come;
+    }
 
 pub returns-in-Some-clause-stretch : goal.returns-in-Some-clause-stretch
 returns-in-Some-clause-stretch g c =
@@ -87,6 +103,11 @@ range-preserved g c =
     let on_way : StaysOnItsWay ranges c.range.walk w =
     way_of_rows (map plain_unit c.range.units.items) ranges (Ok c.in_ok-stretch.field-0) c.range.walk w
     c.in_ok-stretch.ensures.stretch c.in_ok-stretch.ensures.unit in
+    let passed : AsksAfter old ranges c.args.walk.now w now =
+    rows_passed old ranges c.args.walk.now c.range.walk c.range.units.items c.range.invariant.asks now
+    c.in_ok-stretch.ensures.reads c.in_ok-stretch.ensures.cost.more
+    (c.in_ok-stretch.ensures.asked (stretch_not_refused _)) c.range.invariant.values w c.in_ok-stretch.field-0
+    c.in_ok-stretch.ensures.stretch c.in_default.is in
     record {
       values = c.in_ok-walk.ensures.values ∙ c.in_ok-stretch.ensures.values ∙ c.range.invariant.values;
       left =
@@ -100,15 +121,14 @@ range-preserved g c =
           looks_after 0 old now c.first_rows.new.units.items
           (looks_after 0 old c.range.units.items now c.range.invariant.cost c.in_ok-stretch.ensures.cost)
           c.in_ok-walk.ensures.cost;
-      reads =
-          reads_both (ComesTo ranges c.args.walk.now) old now c.first_rows.new.units.items r.unit
-          (c.range.invariant.way r.unit (on_way r.unit (comes_next ranges w r next c.in-Some-next_overlapping.ensures)))
-          (reads_more (ComesTo ranges c.args.walk.now) (IsUnitOfRows c.range.walk.rows) old c.range.units.items now
-          (λ n is. c.range.invariant.way n (inl is)) c.range.invariant.reads c.in_ok-stretch.ensures.reads)
-          c.in_ok-walk.ensures.reads;
+      asks =
+          next_begins old ranges c.args.walk.now w now passed r next c.in-Some-next_overlapping.ensures
+          c.first_rows.new.units.items c.in_ok-walk.ensures.reads c.in_ok-walk.ensures.cost.more
+          (c.in_ok-walk.ensures.kept (rows_not_refused _)) rows c.in_ok-walk.ensures.range begins;
       way = λ n come.
           c.range.invariant.way n
-          (on_way n (way_of_range ranges w r next c.in-Some-next_overlapping.ensures rows c.in_ok-walk.ensures.range n come));
+          (on_way n
+          (way_of_range ranges w r next c.in-Some-next_overlapping.ensures rows c.in_ok-walk.ensures.range n come));
     }
 
 pub returns-in_err-stretch-clause-calls : goal.returns-in_err-stretch-clause-calls
@@ -132,40 +152,111 @@ returns-in_err-walk-clause-calls g c =
     (leaves_both c.args.units.now.items c.range.units.items c.next_of_rows.new.units.items c.range.invariant.calls
     c.in_ok-stretch.ensures.calls) c.in_err-walk.ensures.calls
 
+-- ---- lines that are asked for
+
+pub returns-in_err-stretch-clause-asked : goal.returns-in_err-stretch-clause-asked
+returns-in_err-stretch-clause-asked g c =
+    let p = err_from_is_err_and c.from_residual.result c.from_residual.ensures.1 in
+    rw (p.1, p.2) (λ other. absurd (other (ap refused_stretch c.in_err-stretch.ensures.stretch.1)))
+
+pub returns-in-Some-clause-asked : goal.returns-in-Some-clause-asked
+returns-in-Some-clause-asked g c = λ answered.
+    rows_found c.args.units.now.items c.args.ranges.now c.args.walk.now c.range.walk c.range.units.items
+    c.range.invariant.asks c.next_of_rows.new.units.items c.in_ok-stretch.ensures.reads
+    c.in_ok-stretch.ensures.cost.more (c.in_ok-stretch.ensures.asked (stretch_not_refused _))
+    c.range.invariant.values c.next_of_rows.new.walk c.in_ok-stretch.field-0 c.in_ok-stretch.ensures.stretch
+    c.in-Some.stretch c.in-Some.is
+
+pub returns-in_default-next_overlapping-clause-asked : goal.returns-in_default-next_overlapping-clause-asked
+returns-in_default-next_overlapping-clause-asked g c = λ answered.
+    let old = c.args.units.now.items in
+    let ranges = c.args.ranges.now in
+    let now = c.next_of_rows.new.units.items in
+    walk_ends old ranges c.args.walk.now c.next_of_rows.new.walk now
+    (rows_passed old ranges c.args.walk.now c.range.walk c.range.units.items c.range.invariant.asks now
+    c.in_ok-stretch.ensures.reads c.in_ok-stretch.ensures.cost.more
+    (c.in_ok-stretch.ensures.asked (stretch_not_refused _)) c.range.invariant.values c.next_of_rows.new.walk
+    c.in_ok-stretch.field-0 c.in_ok-stretch.ensures.stretch c.in_default.is) c.in_default-next_overlapping.ensures
+
+pub returns-in_err-walk-clause-asked : goal.returns-in_err-walk-clause-asked
+returns-in_err-walk-clause-asked g c =
+    let p = err_from_is_err_and c.from_residual-in_err-walk.result c.from_residual-in_err-walk.ensures.1 in
+    let old = c.args.units.now.items in
+    let ranges = c.args.ranges.now in
+    let w = c.next_of_rows.new.walk in
+    let now = c.next_of_rows.new.units.items in
+    let r = c.in-Some-next_overlapping.range in
+    let e = c.in_err-walk.field-0.0 in
+    let refuses : BeginsRange (map unit_places (map plain_unit old)) w.low w.high r (Err e) =
+    subst (λ (xs : List ContextUnit). BeginsRange (map unit_places xs) w.low w.high r (Err e))
+    (same_plain now old (c.in_ok-stretch.ensures.values ∙ c.range.invariant.values))
+    (c.in_err-walk.ensures.rows w.high) in
+    rw (p.1, p.2) (λ other.
+    next_refused old ranges c.args.walk.now w now
+    (rows_passed old ranges c.args.walk.now c.range.walk c.range.units.items c.range.invariant.asks now
+    c.in_ok-stretch.ensures.reads c.in_ok-stretch.ensures.cost.more
+    (c.in_ok-stretch.ensures.asked (stretch_not_refused _)) c.range.invariant.values w c.in_ok-stretch.field-0
+    c.in_ok-stretch.ensures.stretch c.in_default.is) r c.in-Some-next_overlapping.next
+    c.in-Some-next_overlapping.ensures c.first_rows.new.units.items c.in_err-walk.ensures.reads
+    c.in_err-walk.ensures.cost.more
+    (c.in_err-walk.ensures.kept (refused_so (Option UnitStretch) (Option RangeRows) _ Memory other)) e
+    (λ is. other (ap refused_stretch is)) refuses)
+
 pub returns-in_err-stretch-clause-reads : goal.returns-in_err-stretch-clause-reads
 returns-in_err-stretch-clause-reads g c =
-    reads_more (ComesTo c.args.ranges.now c.args.walk.now) (IsUnitOfRows c.range.walk.rows) c.args.units.now.items
-    c.range.units.items c.next_of_rows.new.units.items (λ n is. c.range.invariant.way n (inl is))
-    c.range.invariant.reads c.in_err-stretch.ensures.reads
+    rows_reads c.args.units.now.items c.args.ranges.now c.args.walk.now c.range.walk c.range.units.items
+    c.range.invariant.asks c.next_of_rows.new.units.items c.in_err-stretch.ensures.reads
 
 pub returns-in-Some-clause-reads : goal.returns-in-Some-clause-reads
 returns-in-Some-clause-reads g c =
-    reads_more (ComesTo c.args.ranges.now c.args.walk.now) (IsUnitOfRows c.range.walk.rows) c.args.units.now.items
-    c.range.units.items c.next_of_rows.new.units.items (λ n is. c.range.invariant.way n (inl is))
-    c.range.invariant.reads c.in_ok-stretch.ensures.reads
+    rows_reads c.args.units.now.items c.args.ranges.now c.args.walk.now c.range.walk c.range.units.items
+    c.range.invariant.asks c.next_of_rows.new.units.items c.in_ok-stretch.ensures.reads
 
 pub returns-in_default-next_overlapping-clause-reads : goal.returns-in_default-next_overlapping-clause-reads
 returns-in_default-next_overlapping-clause-reads g c =
-    reads_more (ComesTo c.args.ranges.now c.args.walk.now) (IsUnitOfRows c.range.walk.rows) c.args.units.now.items
-    c.range.units.items c.next_of_rows.new.units.items (λ n is. c.range.invariant.way n (inl is))
-    c.range.invariant.reads c.in_ok-stretch.ensures.reads
+    rows_reads c.args.units.now.items c.args.ranges.now c.args.walk.now c.range.walk c.range.units.items
+    c.range.invariant.asks c.next_of_rows.new.units.items c.in_ok-stretch.ensures.reads
 
 pub returns-in_err-walk-clause-reads : goal.returns-in_err-walk-clause-reads
 returns-in_err-walk-clause-reads g c =
+    let old = c.args.units.now.items in
     let ranges = c.args.ranges.now in
     let w = c.next_of_rows.new.walk in
-    let r = c.in-Some-next_overlapping.range in
-    let old = c.args.units.now.items in
     let now = c.next_of_rows.new.units.items in
-    let on_way : StaysOnItsWay ranges c.range.walk w =
-    way_of_rows (map plain_unit c.range.units.items) ranges (Ok c.in_ok-stretch.field-0) c.range.walk w
-    c.in_ok-stretch.ensures.stretch c.in_ok-stretch.ensures.unit in
-    reads_both (ComesTo ranges c.args.walk.now) old now c.first_rows.new.units.items r.unit
-    (c.range.invariant.way r.unit (on_way r.unit
-    (comes_next ranges w r c.in-Some-next_overlapping.next c.in-Some-next_overlapping.ensures)))
-    (reads_more (ComesTo ranges c.args.walk.now) (IsUnitOfRows c.range.walk.rows) old c.range.units.items now
-    (λ n is. c.range.invariant.way n (inl is)) c.range.invariant.reads c.in_ok-stretch.ensures.reads)
+    next_reads old ranges c.args.walk.now w now
+    (rows_passed old ranges c.args.walk.now c.range.walk c.range.units.items c.range.invariant.asks now
+    c.in_ok-stretch.ensures.reads c.in_ok-stretch.ensures.cost.more
+    (c.in_ok-stretch.ensures.asked (stretch_not_refused _)) c.range.invariant.values w c.in_ok-stretch.field-0
+    c.in_ok-stretch.ensures.stretch c.in_default.is) c.in-Some-next_overlapping.range
+    c.in-Some-next_overlapping.next c.in-Some-next_overlapping.ensures c.first_rows.new.units.items
     c.in_err-walk.ensures.reads
+
+pub returns-in_err-stretch-clause-free : goal.returns-in_err-stretch-clause-free
+returns-in_err-stretch-clause-free g c =
+    let p = err_from_is_err_and c.from_residual.result c.from_residual.ensures.1 in
+    rw (p.1, p.2) (λ kept.
+    c.in_err-stretch.ensures.free
+    (rows_kept c.args.units.now.items c.args.ranges.now c.args.walk.now c.range.walk c.range.units.items
+    c.range.invariant.asks kept))
+
+pub returns-in_err-walk-clause-free : goal.returns-in_err-walk-clause-free
+returns-in_err-walk-clause-free g c =
+    let p = err_from_is_err_and c.from_residual-in_err-walk.result c.from_residual-in_err-walk.ensures.1 in
+    let old = c.args.units.now.items in
+    let ranges = c.args.ranges.now in
+    let w = c.next_of_rows.new.walk in
+    let now = c.next_of_rows.new.units.items in
+    rw (p.1, p.2) (λ kept.
+    refused_so (Option RangeRows) (Option UnitStretch) _ Memory
+    (c.in_err-walk.ensures.free
+    (next_kept old ranges c.args.walk.now w now
+    (rows_passed old ranges c.args.walk.now c.range.walk c.range.units.items c.range.invariant.asks now
+    c.in_ok-stretch.ensures.reads c.in_ok-stretch.ensures.cost.more
+    (c.in_ok-stretch.ensures.asked (stretch_not_refused _)) c.range.invariant.values w c.in_ok-stretch.field-0
+    c.in_ok-stretch.ensures.stretch c.in_default.is) c.in-Some-next_overlapping.range
+    c.in-Some-next_overlapping.next c.in-Some-next_overlapping.ensures kept)))
+
+-- ---- units that the walk comes to
 
 pub returns-in_err-stretch-clause-way : goal.returns-in_err-stretch-clause-way
 returns-in_err-stretch-clause-way g c n come =

@@ -1,13 +1,14 @@
 -- What is left is what was left at first; the units' values are the same, calls that are kept stay the definition's,
--- and nothing was looked at. No lines were read but of units that the walk came to, and it comes to no others.
+-- and nothing was looked at. The lines of the units that were asked are kept, no others were read, and the walk comes
+-- to no others.
 use Rattle.std.proofs.Common.{◌≡◌, length, drop, map}
 use Rattle.addr2line_resolved.specs.NumberedRanges.{overlapping_ranges}
 use Rattle.addr2line_resolved.specs.ContextUnits.{unit_places}
 use Rattle.addr2line_resolved.specs.ResolvedUnits.{plain_unit, value_of_unit}
-use Rattle.addr2line_lookups.specs.KeptUnits.{ReadsAsked}
 use Rattle.addr2line_lookups.specs.KeptCalls.{LeavesCalls}
 use Rattle.addr2line_lookups.specs.LookupCosts.{AtMostLooks}
-use Rattle.addr2line_lookups.specs.RangeWalks.{walk_left, ComesTo, StaysOnItsWay}
+use Rattle.addr2line_lookups.specs.RangeWalks.{walk_left, StaysOnItsWay}
+use Rattle.addr2line_lookups.proofs.AskedStretches.{AsksWalk}
 use Rattle.addr2line_lookups.proofs.range_walk.next_stretch.Given as goal
 
 abbrev pub invariant-range : goal.invariant-range
@@ -17,7 +18,7 @@ invariant-range g l =
       left : walk_left us l.ranges l.walk ≡ walk_left us l.ranges l.fn.walk;
       calls : LeavesCalls l.fn.units.items l.units.items;
       cost : AtMostLooks 0 l.fn.units.items l.units.items;
-      reads : ReadsAsked (ComesTo l.ranges l.fn.walk) l.fn.units.items l.units.items;
+      asks : AsksWalk l.fn.units.items l.ranges l.fn.walk l.walk l.units.items;
       way : StaysOnItsWay l.ranges l.fn.walk l.walk;
     }
 

@@ -1,4 +1,4 @@
-use Rattle.std.proofs.Common.{◌∙◌, ap, map, refl, sym, subst, Option}
+use Rattle.std.proofs.Common.{◌∙◌, ap, map, refl, Option}
 use Rattle.std.proofs.lemmas.Result.{err_from_is_err_and}
 use Rattle.addr2line_resolved.specs.Error.TheVariants.{Memory}
 use Rattle.addr2line_resolved.specs.Lines.{LineRow}

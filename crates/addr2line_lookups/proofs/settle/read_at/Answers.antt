@@ -1,8 +1,8 @@
 use Rattle.std.proofs.Common.{◌<◌, length, ap, arith}
 use Rattle.std.proofs.lemmas.Result.{on_ok_weaker}
-use Rattle.addr2line_resolved.specs.ResolvedUnits.{ResolvedUnit, value_of_unit}
-use Rattle.addr2line_lookups.proofs.AskedLines.{reads_set}
-use Rattle.addr2line_lookups.proofs.CallsOfUnits.{leaves_calls}
+use Rattle.addr2line_resolved.specs.ResolvedUnits.{ResolvedUnit, KeepsLines, value_of_unit}
+use Rattle.addr2line_lookups.proofs.AskedLines.{reads_set, no_stop_of}
+use Rattle.addr2line_lookups.proofs.CallsOfUnits.{if_here, leaves_calls}
 use Rattle.addr2line_lookups.proofs.CallsLeft.{leaves_value}
 use Rattle.addr2line_lookups.proofs.KeptFunctionLists.{functions_same}
 use Rattle.addr2line_lookups.proofs.KeptLines.{keeps_set}
@@ -30,6 +30,9 @@ returns g c =
           (ap (λ (u : ResolvedUnit). u.calls) c.read_lines.ensures.unit)));
       reads = reads_set us n new;
       refusal = c.read_lines.ensures.refusal;
+      free = λ kept.
+          no_stop_of c.read_lines.result
+          (c.read_lines.ensures.free (if_here us n unit below c.index_mut-unit.ensures.value KeepsLines kept));
       calls =
           leaves_calls us n unit below c.index_mut-unit.ensures.value new
           (leaves_value unit new (ap value_of_unit c.read_lines.ensures.unit)

@@ -2,7 +2,7 @@ use Rattle.std.proofs.Common.{refl, subst, sym, map, None, Ok}
 use Rattle.addr2line_lookups.specs.ResolvedUnits.{value_of_unit}
 use Rattle.addr2line_lookups.specs.UnitLookups.{IsPending, FoundUnit, SettlesUnit}
 use Rattle.addr2line_context.specs.KeptContexts.{ResolvedContext}
-use Rattle.addr2line_context.specs.ContextCosts.{AfterSearch}
+use Rattle.addr2line_context.specs.ContextCosts.{AsksForUnit, AfterSearch}
 use Rattle.addr2line_context.specs.SettledLookups.{unit_in}
 use Rattle.addr2line_context.proofs.AnsweredFirst.{unit_has_load}
 use Rattle.addr2line_context.proofs.LookupResults.{unit_lent, no_unit, pending_unit}
@@ -43,7 +43,7 @@ returns-in-Ok-Found g c =
       (
         refl,
         λ w. tt,
-        subst (λ (x : ResolvedContext). AfterSearch a old x) (sym c.self.view_is)
+        subst (λ (x : ResolvedContext). AfterSearch AsksForUnit a old x) (sym c.self.view_is)
             c.in-Ok-Found.ensures.after,
       ),
       record {

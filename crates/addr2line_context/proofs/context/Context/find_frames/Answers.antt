@@ -3,7 +3,7 @@ use Rattle.addr2line_lookups.specs.BorrowedFrames.{frames_left}
 use Rattle.addr2line_lookups.specs.FirstAnswers.{output}
 use Rattle.addr2line_lookups.specs.UnitLookups.{IsPending, FoundFrames, SettlesFrames}
 use Rattle.addr2line_context.specs.KeptContexts.{ResolvedContext}
-use Rattle.addr2line_context.specs.ContextCosts.{AfterSearch}
+use Rattle.addr2line_context.specs.ContextCosts.{AsksForFrames, AfterSearch}
 use Rattle.addr2line_context.specs.SettledLookups.{frames_in}
 use Rattle.addr2line_context.proofs.AnsweredFirst.{frames_have_load}
 use Rattle.addr2line_context.proofs.LookupResults.{frames_lent}
@@ -43,7 +43,7 @@ returns-in-Ok-Found g c =
       (
         refl,
         λ w. tt,
-        subst (λ (x : ResolvedContext). AfterSearch a old x) (sym c.self.view_is)
+        subst (λ (x : ResolvedContext). AfterSearch AsksForFrames a old x) (sym c.self.view_is)
             c.in-Ok-Found.ensures.after,
       ),
       record {

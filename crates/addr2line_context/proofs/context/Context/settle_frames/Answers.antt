@@ -1,4 +1,4 @@
-use Rattle.addr2line_context.proofs.SettledContexts.{kept_calls, frames_go_on, frames_hold, after_settling, frames_settled}
+use Rattle.addr2line_context.proofs.SettledContexts.{kept_calls, frames_go_on, frames_hold, after_frames, frames_settled}
 use Rattle.addr2line_context.proofs.context.Context.settle_frames.Goals as goal
 
 pub settle_frames-settled-requires-clause-calls : goal.settle_frames-settled-requires-clause-calls
@@ -24,6 +24,6 @@ returns-clause-found g c =
 
 pub returns-clause-after : goal.returns-clause-after
 returns-clause-after g c =
-    after_settling _ _ _ c.self.invariant _ c.as_slice-supplement_units.ensures.value _
+    after_frames _ _ _ c.self.invariant _ c.as_slice-supplement_units.ensures.value _
     c.settle_frames-settled.ensures.values c.args.probe _ c.self.view_is c.settle_frames-settled.ensures.cost
     c.settle_frames-settled.ensures.reads

@@ -1,4 +1,4 @@
-use Rattle.addr2line_context.proofs.SettledContexts.{kept_calls, unit_goes_on, unit_holds, after_settling, unit_settled}
+use Rattle.addr2line_context.proofs.SettledContexts.{kept_calls, unit_goes_on, unit_holds, after_unit, unit_settled}
 use Rattle.addr2line_context.proofs.context.Context.settle_unit.Goals as goal
 
 pub settle_unit-settled-requires-clause-calls : goal.settle_unit-settled-requires-clause-calls
@@ -24,6 +24,6 @@ returns-clause-found g c =
 
 pub returns-clause-after : goal.returns-clause-after
 returns-clause-after g c =
-    after_settling _ _ _ c.self.invariant _ c.as_slice-supplement_units.ensures.value _
+    after_unit _ _ _ c.self.invariant _ c.as_slice-supplement_units.ensures.value _
     c.settle_unit-settled.ensures.values c.args.probe _ c.self.view_is c.settle_unit-settled.ensures.cost
     c.settle_unit-settled.ensures.reads

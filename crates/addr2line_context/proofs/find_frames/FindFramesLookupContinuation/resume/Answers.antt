@@ -1,6 +1,7 @@
 use Rattle.std.proofs.Common.{refl, ap, ◌∙◌, subst, option_map, arith}
 use Rattle.addr2line_lookups.specs.BorrowedFrames.{frames_left}
 use Rattle.addr2line_context.specs.AnsweredContexts.{AnsweredContext}
+use Rattle.addr2line_context.specs.ContextCosts.{AsksForFrames}
 use Rattle.addr2line_context.specs.Suspended.{FollowsLookup}
 use Rattle.addr2line_context.specs.SkippedLoads.{FindsFrames}
 use Rattle.addr2line_context.specs.SettledLookups.{frames_in, after_answer}
@@ -21,15 +22,19 @@ returns-in-Ok g c =
       (
         refl,
         c.find_frames.follows.holds,
-        after_again old mid a file ok free c.in-Ok.ensures.lines _ c.find_frames.follows.holds-at-none,
+        after_again AsksForFrames old mid a file ok free c.in-Ok.ensures.lines result _
+            c.find_frames.follows.holds-at-none,
       ),
       record {
-        fewer = fewer_left old mid a (λ w. w.context.now) (λ w. w.probe) c.in-Ok.ensures.fewer result waits;
-        waits = has_loads old mid a (λ w. w.context.now) (λ w. w.probe) result waits;
+        fewer =
+            fewer_left AsksForFrames old mid a (λ w. w.context.now) (λ w. w.probe) c.in-Ok.ensures.fewer result waits;
+        waits = has_loads AsksForFrames old mid a (λ w. w.context.now) (λ w. w.probe) result waits;
         found =
             subst (λ (x : AnsweredContext). FollowsLookup frames_left result (frames_in x a)) ok
             c.find_frames.ensures.found;
-        again = waits_again old mid a file ok free c.in-Ok.ensures.lines (λ w. w.context.now) (λ w. w.probe) result waits;
+        again =
+            waits_again AsksForFrames old mid a file ok free c.in-Ok.ensures.lines (λ w. w.context.now) (λ w. w.probe)
+            result waits;
         skips =
             λ none found h.
             finds_after frames_left frames_in frames_still_found old.value a found
@@ -42,7 +47,12 @@ returns-in-Ok g c =
 
 pub returns-in-Err : goal.returns-in-Err
 returns-in-Err g c = (
-  (refl, λ w. tt, after_error _ _ _ _ c.in-Err.ensures.left c.in-Err.ensures.cost c.in-Err.ensures.lines),
+  (
+    refl,
+    λ w. tt,
+    after_error AsksForFrames _ _ _ _ _ c.in-Err.ensures.refusal c.in-Err.ensures.left c.in-Err.ensures.cost
+        c.in-Err.ensures.lines,
+  ),
   record {
     fewer = omega arith;
     waits = tt;

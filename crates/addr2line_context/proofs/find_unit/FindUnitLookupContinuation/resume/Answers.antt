@@ -1,6 +1,7 @@
 use Rattle.std.proofs.Common.{refl, ap, ◌∙◌, subst, option_map, arith, Ok}
 use Rattle.addr2line_lookups.specs.Lookups.{map_output}
 use Rattle.addr2line_context.specs.AnsweredContexts.{AnsweredContext}
+use Rattle.addr2line_context.specs.ContextCosts.{AsksForUnit}
 use Rattle.addr2line_context.specs.Suspended.{FollowsLookup}
 use Rattle.addr2line_context.specs.SkippedLoads.{FindsUnit}
 use Rattle.addr2line_context.specs.SettledLookups.{unit_in, after_answer}
@@ -21,15 +22,18 @@ returns-in-Ok g c =
       (
         refl,
         c.find_dwarf_and_unit.follows.holds,
-        after_again old mid a file ok free c.in-Ok.ensures.lines _ c.find_dwarf_and_unit.follows.holds-at-none,
+        after_again AsksForUnit old mid a file ok free c.in-Ok.ensures.lines result _
+            c.find_dwarf_and_unit.follows.holds-at-none,
       ),
       record {
-        fewer = fewer_left old mid a (λ w. w.context.now) (λ w. w.probe) c.in-Ok.ensures.fewer result waits;
-        waits = has_loads old mid a (λ w. w.context.now) (λ w. w.probe) result waits;
+        fewer = fewer_left AsksForUnit old mid a (λ w. w.context.now) (λ w. w.probe) c.in-Ok.ensures.fewer result waits;
+        waits = has_loads AsksForUnit old mid a (λ w. w.context.now) (λ w. w.probe) result waits;
         found =
             subst (λ (x : AnsweredContext). FollowsLookup (λ u. u) result (map_output (λ u. Ok u) (unit_in x a))) ok
             c.find_dwarf_and_unit.ensures.found;
-        again = waits_again old mid a file ok free c.in-Ok.ensures.lines (λ w. w.context.now) (λ w. w.probe) result waits;
+        again =
+            waits_again AsksForUnit old mid a file ok free c.in-Ok.ensures.lines (λ w. w.context.now) (λ w. w.probe)
+            result waits;
         skips =
             λ none found h.
             finds_after (λ u. u) unit_or_refusal unit_or_refusal_still_found old.value a found
@@ -42,7 +46,12 @@ returns-in-Ok g c =
 
 pub returns-in-Err : goal.returns-in-Err
 returns-in-Err g c = (
-  (refl, λ w. tt, after_error _ _ _ _ c.in-Err.ensures.left c.in-Err.ensures.cost c.in-Err.ensures.lines),
+  (
+    refl,
+    λ w. tt,
+    after_error AsksForUnit _ _ _ _ _ c.in-Err.ensures.refusal c.in-Err.ensures.left c.in-Err.ensures.cost
+        c.in-Err.ensures.lines,
+  ),
   record {
     fewer = omega arith;
     waits = tt;

@@ -1,10 +1,13 @@
 use Rattle.std.proofs.Common.{◌∙◌, ◌∷◌, [], Option, Ok, Some, ap, refl, subst, sym}
+use Rattle.std.proofs.lemmas.Result.{err_from_is_err_and}
 use Rattle.addr2line_lookups.specs.Repetition.{prepend}
 use Rattle.addr2line_lookups.specs.Lines.{Stretch}
 use Rattle.addr2line_lookups.specs.RangeWalks.{FindsStretch, IsStretchOf}
 use Rattle.addr2line_lookups.specs.declared.range_walk.UnitStretch.{UnitStretch}
 use Rattle.addr2line_context.specs.AnsweredContexts.{AnsweredContext}
 use Rattle.addr2line_context.specs.LocationRanges.{left_in}
+use Rattle.addr2line_context.proofs.ContextParts.{with_result}
+use Rattle.addr2line_context.proofs.FoundRows.{found_row, same_refusal}
 use Rattle.addr2line_context.proofs.location_range.LocationRangeIter.next.Goals as goal
 
 pub returns-in-Some : goal.returns-in-Some
@@ -27,8 +30,48 @@ returns-in-Some g c =
         record {
           same_reference = c.in_ok-found.ensures.same_reference;
           item = step.2 ∙ ap (λ (x : Stretch). prepend (x ∷ []) rest) (sym (c.item.ensures step.0 here));
-          after = c.in_ok-found.ensures.after;
+          after = with_result _ _ _ _ _ _ c.in_ok-found.ensures.after (λ answered. found_row _);
         },
       ),
-      record { after = tt },
+      record { free = λ h is. cc; after = tt },
+    )
+
+pub returns-in-None : goal.returns-in-None
+returns-in-None g c =
+    let old = c.args.self.now in
+    let new = c.advance.new.self in
+    let units = old.context.now.value.plain.context.units in (
+      (
+        refl,
+        λ _. tt,
+        record {
+          same_reference = c.in_ok-found.ensures.same_reference;
+          item =
+              subst (λ (o : Option UnitStretch). FindsStretch units (Ok o) (left_in old.context.now old.walk)
+              (left_in new.context.now new.walk)) c.in-None.is c.in_ok-found.ensures.stretch;
+          after = with_result _ _ _ _ _ _ c.in_ok-found.ensures.after (λ answered. found_row _);
+        },
+      ),
+      record { free = λ h is. cc; after = tt },
+    )
+
+pub returns-in_err-found : goal.returns-in_err-found
+returns-in_err-found g c =
+    let p = err_from_is_err_and c.from_residual.result c.from_residual.ensures.1 in
+    let e = c.in_err-found.field-0.0 in (
+      (
+        refl,
+        λ _. tt,
+        record {
+          same_reference = c.in_err-found.ensures.same_reference;
+          item = rw (p.1, p.2) c.in_err-found.ensures.stretch;
+          after =
+              with_result _ c.from_residual.result _ _ _ _ c.in_err-found.ensures.after
+              (rw (p.1, p.2) (λ other. same_refusal e other));
+        },
+      ),
+      record {
+        free = rw (p.1, p.2) (λ h. same_refusal e (c.in_err-found.ensures.free h));
+        after = tt;
+      },
     )

@@ -2,9 +2,9 @@ use Rattle.std.proofs.Common.{◌∙◌, List, ap, sym, subst, map}
 use Rattle.addr2line_resolved.specs.UnitRange.{UnitRange}
 use Rattle.addr2line_resolved.specs.ContextUnits.{unit_places, ordered_ranges}
 use Rattle.addr2line_resolved.specs.ResolvedUnits.{ResolvedUnit, plain_unit}
-use Rattle.addr2line_lookups.specs.KeptUnits.{ReadsAsked}
+use Rattle.addr2line_lookups.specs.KeptUnits.{KeepsAsked, ReadsAsked}
 use Rattle.addr2line_lookups.specs.KeptCalls.{LeavesCalls}
-use Rattle.addr2line_lookups.specs.RangeWalks.{FindsStretch, walk_left, stretches_left, ComesTo, StaysOnItsWay}
+use Rattle.addr2line_lookups.specs.RangeWalks.{FindsStretch, walk_left, stretches_left, AsksForStretch, StaysOnItsWay}
 use Rattle.addr2line_lookups.proofs.KeptLines.{same_plain}
 use Rattle.addr2line_lookups.proofs.units.Units.next_stretch.Goals as goal
 
@@ -30,13 +30,32 @@ returns-clause-calls g c =
     subst (λ (us : List ResolvedUnit). LeavesCalls us c.next_stretch.new.units.items) c.self.view_is
     c.next_stretch.ensures.calls
 
+pub returns-clause-asked : goal.returns-clause-asked
+returns-clause-asked g c = λ answered.
+    let w = c.args.walk.now in
+    let new = c.next_stretch.new.units.items in
+    let keeps : List ResolvedUnit → List UnitRange → Type 0 =
+    λ us rs. KeepsAsked (AsksForStretch (map unit_places (map plain_unit us)) rs w) new in
+    subst (λ (us : List ResolvedUnit). keeps us (ordered_ranges (map plain_unit us))) c.self.view_is
+    (subst (keeps c.self.inside.units.items) c.self.invariant (c.next_stretch.ensures.asked answered))
+
 pub returns-clause-reads : goal.returns-clause-reads
 returns-clause-reads g c =
     let w = c.args.walk.now in
     let new = c.next_stretch.new.units.items in
-    let reads : List ResolvedUnit → List UnitRange → Type 0 = λ us rs. ReadsAsked (ComesTo rs w) us new in
+    let reads : List ResolvedUnit → List UnitRange → Type 0 =
+    λ us rs. ReadsAsked (AsksForStretch (map unit_places (map plain_unit us)) rs w) us new in
     subst (λ (us : List ResolvedUnit). reads us (ordered_ranges (map plain_unit us))) c.self.view_is
     (subst (reads c.self.inside.units.items) c.self.invariant c.next_stretch.ensures.reads)
+
+pub returns-clause-free : goal.returns-clause-free
+returns-clause-free g c = λ kept.
+    let w = c.args.walk.now in
+    let keeps : List ResolvedUnit → List UnitRange → Type 0 =
+    λ us rs. KeepsAsked (AsksForStretch (map unit_places (map plain_unit us)) rs w) us in
+    c.next_stretch.ensures.free
+    (subst (keeps c.self.inside.units.items) (sym c.self.invariant)
+    (subst (λ (us : List ResolvedUnit). keeps us (ordered_ranges (map plain_unit us))) (sym c.self.view_is) kept))
 
 pub returns-clause-way : goal.returns-clause-way
 returns-clause-way g c =

@@ -3,10 +3,10 @@ use Rattle.addr2line_resolved.specs.UnitRange.{UnitRange}
 use Rattle.addr2line_resolved.specs.NumberedRanges.{covering_ranges}
 use Rattle.addr2line_resolved.specs.ContextUnits.{ordered_ranges}
 use Rattle.addr2line_resolved.specs.ResolvedUnits.{ResolvedUnit, plain_unit, value_of_unit}
-use Rattle.addr2line_lookups.specs.KeptUnits.{ReadsAsked, IsUnitOf}
+use Rattle.addr2line_lookups.specs.KeptUnits.{ReadsAsked}
 use Rattle.addr2line_lookups.specs.KeptCalls.{known_among, HoldCalls}
 use Rattle.addr2line_lookups.specs.UnitLookups.{unit_among, SettlesUnit}
-use Rattle.addr2line_lookups.specs.PassedUnits.{PassUnits}
+use Rattle.addr2line_lookups.specs.PassedUnits.{PassUnits, AsksUnitAmong}
 use Rattle.addr2line_lookups.proofs.KeptLines.{same_plain}
 use Rattle.addr2line_lookups.specs.LookupCosts.{AtMostLooks}
 use Rattle.addr2line_lookups.proofs.LookupProbes.{frame_probes_among}
@@ -46,7 +46,7 @@ returns g c =
     let passes : List ResolvedUnit → List UnitRange → Type 0 =
     λ us rs. PassUnits (known_among us s) (map value_of_unit us) a c.settle_unit.new.from rs in
     let reads : List ResolvedUnit → List UnitRange → Type 0 =
-    λ us rs. ReadsAsked (IsUnitOf (covering_ranges a rs)) us new in
+    λ us rs. ReadsAsked (AsksUnitAmong (known_among us s) (map value_of_unit us) a (covering_ranges a rs)) us new in
     record {
       values = c.settle_unit.ensures.values ∙ ap (map value_of_unit) c.self.view_is;
       calls =
