@@ -1,4 +1,6 @@
 mod AnsweredLoads
+mod AskedUnits
+mod FrameReads
 mod FoundFrames
 mod SupplementSections
 mod FileReadLemmas
