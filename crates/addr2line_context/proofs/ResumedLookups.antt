@@ -1,5 +1,7 @@
 -- How often a lookup waits, and what one that goes on leaves.
-use Rattle.std.proofs.Common.{◌≡◌, inl, ℕ, ◌<◌, ◌≤◌, ◌+◌, length, Option, sym, ap, ◌∙◌, subst, arith}
+use Rattle.std.proofs.Common.{◌≡◌, inl, inr, ℕ, ◌<◌, ◌≤◌, ◌+◌, length, Option, Result, Err, sym, ap, ◌∙◌, subst, arith}
+use Rattle.addr2line_lookups.specs.Error.{Error}
+use Rattle.addr2line_lookups.specs.Error.TheVariants.{Memory}
 use Rattle.addr2line_lookups.specs.DwarfFiles.{DwarfFile}
 use Rattle.addr2line_lookups.specs.KeptUnits.{ReadsAsked, ReadsNoLines}
 use Rattle.addr2line_lookups.specs.LookupCosts.{AtMostLooks}
@@ -9,7 +11,7 @@ use Rattle.addr2line_context.specs.AnsweredContexts.{AnsweredContext}
 use Rattle.addr2line_context.specs.KeptContexts.{ResolvedContext}
 use Rattle.addr2line_context.specs.ContextCosts.{frame_looks, AfterSearch}
 use Rattle.addr2line_context.specs.Suspended.{IfLoad, loads_left}
-use Rattle.addr2line_context.specs.SettledLookups.{loads_in, after_answer, LeavesAnswer, AfterAnswer, IsFor, WaitsAgain}
+use Rattle.addr2line_context.specs.SettledLookups.{loads_in, after_answer, LeavesAnswer, RecordsAnswer, AfterAnswer, IsFor, WaitsAgain}
 use Rattle.addr2line_context.specs.declared.lookup.LookupResult.{LookupResult}
 use Rattle.addr2line_context.specs.declared.lookup.LookupResult.TheVariants.{Load, Output}
 
@@ -18,14 +20,23 @@ abbrev looks_after : ResolvedContext → ℕ → Option DwarfFile → ℕ
 looks_after old a file = frame_looks (after_answer old.value a file) a
 
 -- an answer that ended when out of memory
-pub after_error : (asks : AnsweredContext → ℕ → ℕ → Type 0) (old new : ResolvedContext) (a : ℕ)
-    (file : Option DwarfFile) → LeavesAnswer old.value a file new.value → AtMostLooks 0 old.units new.units
-    → ReadsNoLines old.units new.units → AfterAnswer asks old a file new
-after_error asks old new a file left free none = record {
-  value = left;
-  cost = looks_weaker 0 (looks_after old a file) old.units new.units (omega arith) free;
-  reads = reads_nothing (asks (after_answer old.value a file) a) old.units new.units none;
-}
+module _ {L X B W S E F : Type 0} where
+  abbrev refused : Error → LookupResult L (Result X Error) B W S E F
+  refused e = Output (Err e)
+
+  pub after_error : (asks : AnsweredContext → ℕ → ℕ → Type 0) (e : Error) (old new : ResolvedContext) (a : ℕ)
+      (file : Option DwarfFile) → e ≡ Memory → LeavesAnswer old.value a file new.value
+      → AtMostLooks 0 old.units new.units → ReadsNoLines old.units new.units
+      → AfterAnswer asks (refused e) old a file new
+  after_error asks e old new a file is left free none = record {
+    value = by left;
+    cost = looks_weaker 0 (looks_after old a file) old.units new.units (omega arith) free;
+    reads = reads_nothing (asks (after_answer old.value a file) a) old.units new.units none;
+  }
+    where
+      by : LeavesAnswer old.value a file new.value → RecordsAnswer (refused e) old.value a file new.value
+      by (inl recorded) = inl recorded
+      by (inr same) = inr (ap refused is, same)
 
 -- A lookup goes on in `mid`, the context after an answer to the first load of its address.
 module _ (asks : AnsweredContext → ℕ → ℕ → Type 0) (old mid : ResolvedContext) (a : ℕ) (file : Option DwarfFile)
@@ -45,8 +56,9 @@ module _ (asks : AnsweredContext → ℕ → ℕ → Type 0) (old mid : Resolved
       reads_after (asks (after_answer old.value a file) a) old.units mid.units new.units none
       (subst P answered after.reads)
 
-  pub after_again : (new : ResolvedContext) → AfterSearch asks a mid new → AfterAnswer asks old a file new
-  after_again new after = record {
+  pub after_again : {L X B W S E F : Type 0} (result : LookupResult L (Result X Error) B W S E F)
+      (new : ResolvedContext) → AfterSearch asks a mid new → AfterAnswer asks result old a file new
+  after_again result new after = record {
     value = inl (after.value ∙ answered);
     cost = looks_again new after;
     reads = reads_again new after;

@@ -1,6 +1,7 @@
 -- Lookups of a context under its own first answers, and what answers to their loads leave.
-use Rattle.std.specs.Prelude.{◌≡◌, ◌⊎◌, ℕ, ◌<◌, List, [], ◌∷◌, length, Option, Result, Ok}
+use Rattle.std.specs.Prelude.{◌≡◌, ◌⊎◌, ℕ, ◌<◌, List, [], ◌∷◌, length, Option, Result, Ok, Err}
 use Rattle.addr2line_lookups.specs.Error.{Error}
+use Rattle.addr2line_lookups.specs.Error.TheVariants.{Memory}
 use Rattle.addr2line_lookups.specs.Calls.{ReturnsOrNoMemory}
 use Rattle.addr2line_lookups.specs.DwarfFiles.{DwarfFile}
 use Rattle.addr2line_lookups.specs.UnitFacts.{UnitInFile}
@@ -13,6 +14,8 @@ use Rattle.addr2line_lookups.specs.LookupCosts.{AtMostLooks}
 use Rattle.addr2line_context.specs.AnsweredContexts.{AnsweredContext}
 use Rattle.addr2line_context.specs.KeptContexts.{ResolvedContext}
 use Rattle.addr2line_context.specs.ContextCosts.{frame_looks, AfterSearch}
+use Rattle.addr2line_context.specs.declared.lookup.LookupResult.{LookupResult}
+use Rattle.addr2line_context.specs.declared.lookup.LookupResult.TheVariants.{Output}
 
 -- ---- lookups
 
@@ -44,11 +47,19 @@ after_answer c a file = record c { answers = answers_with_first c (loads_in c a)
 abbrev pub LeavesAnswer : AnsweredContext → ℕ → Option DwarfFile → AnsweredContext → Type 0
 LeavesAnswer c a file new = (new ≡ after_answer c a file) ⊎ (new ≡ c)
 
--- A context after an answer to the first load of an address, or as it was, and after the lookup
--- that goes on there. It reads lines of no units but those that it asks after that answer.
-pub record AfterAnswer (asks : AnsweredContext → ℕ → ℕ → Type 0) (old : ResolvedContext) (a : ℕ)
+-- That answer is recorded by a lookup that goes on with this result; or that is out of memory, and
+-- nothing changes.
+abbrev pub RecordsAnswer : {L X B W S E F : Type 0} → LookupResult L (Result X Error) B W S E F
+    → AnsweredContext → ℕ → Option DwarfFile → AnsweredContext → Type 0
+RecordsAnswer result c a file new =
+    (new ≡ after_answer c a file) ⊎ ((result ≡ Output (Err Memory)) × (new ≡ c))
+
+-- A context after an answer to the first load of an address, and after the lookup that goes on
+-- there with this result. It reads lines of no units but those that it asks after that answer.
+pub record AfterAnswer {L X B W S E F : Type 0} (asks : AnsweredContext → ℕ → ℕ → Type 0)
+    (result : LookupResult L (Result X Error) B W S E F) (old : ResolvedContext) (a : ℕ)
     (file : Option DwarfFile) (new : ResolvedContext) : Type 0 where
-  pub value : LeavesAnswer old.value a file new.value
+  pub value : RecordsAnswer result old.value a file new.value
   pub cost : AtMostLooks (frame_looks (after_answer old.value a file) a) old.units new.units
   pub reads : ReadsAsked (asks (after_answer old.value a file) a) old.units new.units
 

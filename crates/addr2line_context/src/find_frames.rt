@@ -54,7 +54,8 @@ impl<'ctx, R: Reader> LookupContinuation for FindFrames<'ctx, R> {
     }
 
     /// Answers that load by the sections of the other file, or by none where there is no such file,
-    /// and goes on: it reads lines of no units but those that the lookup asks after that answer.
+    /// and goes on: it reads lines of no units but those that the lookup asks after that answer. A
+    /// refusal of the file is recorded too; out of memory, the answer is recorded or not.
     fn resume(self, input: Option<Rc<Dwarf<R>>>) -> LookupResult<FindFrames<'ctx, R>>
         ensures fewer { loads_left (λ w. length (loads_in w.context.now.value w.probe)) result
             ≤ length (loads_in self.entry.context.now.value self.entry.probe) }
@@ -70,7 +71,7 @@ impl<'ctx, R: Reader> LookupContinuation for FindFrames<'ctx, R> {
         ensures* after { sem 𝓛 (RestsUnlessWaiting (the_row R.row R.Endian.row R.Offset.row R.Reader
             R.Endian.Endianity R.Offset.ReaderOffset.own R.Offset.Debug)
             self.entry.context (λ w. w.context.ghost_name) result
-            (AfterAnswer AsksForFrames self.entry.context.now self.entry.probe
+            (AfterAnswer AsksForFrames result self.entry.context.now self.entry.probe
             (option_map (λ f. f.value.file) input))) }
     {
         let FindFrames { context, probe } = self;

@@ -22,7 +22,8 @@ returns-in-Ok g c =
       (
         refl,
         c.find_frames.follows.holds,
-        after_again AsksForFrames old mid a file ok free c.in-Ok.ensures.lines _ c.find_frames.follows.holds-at-none,
+        after_again AsksForFrames old mid a file ok free c.in-Ok.ensures.lines result _
+            c.find_frames.follows.holds-at-none,
       ),
       record {
         fewer =
@@ -46,7 +47,12 @@ returns-in-Ok g c =
 
 pub returns-in-Err : goal.returns-in-Err
 returns-in-Err g c = (
-  (refl, λ w. tt, after_error AsksForFrames _ _ _ _ c.in-Err.ensures.left c.in-Err.ensures.cost c.in-Err.ensures.lines),
+  (
+    refl,
+    λ w. tt,
+    after_error AsksForFrames _ _ _ _ _ c.in-Err.ensures.refusal c.in-Err.ensures.left c.in-Err.ensures.cost
+        c.in-Err.ensures.lines,
+  ),
   record {
     fewer = omega arith;
     waits = tt;

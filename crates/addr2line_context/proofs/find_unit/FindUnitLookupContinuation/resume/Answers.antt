@@ -22,7 +22,7 @@ returns-in-Ok g c =
       (
         refl,
         c.find_dwarf_and_unit.follows.holds,
-        after_again AsksForUnit old mid a file ok free c.in-Ok.ensures.lines _
+        after_again AsksForUnit old mid a file ok free c.in-Ok.ensures.lines result _
             c.find_dwarf_and_unit.follows.holds-at-none,
       ),
       record {
@@ -46,7 +46,12 @@ returns-in-Ok g c =
 
 pub returns-in-Err : goal.returns-in-Err
 returns-in-Err g c = (
-  (refl, λ w. tt, after_error AsksForUnit _ _ _ _ c.in-Err.ensures.left c.in-Err.ensures.cost c.in-Err.ensures.lines),
+  (
+    refl,
+    λ w. tt,
+    after_error AsksForUnit _ _ _ _ _ c.in-Err.ensures.refusal c.in-Err.ensures.left c.in-Err.ensures.cost
+        c.in-Err.ensures.lines,
+  ),
   record {
     fewer = omega arith;
     waits = tt;
