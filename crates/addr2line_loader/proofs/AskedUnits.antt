@@ -50,32 +50,32 @@ module _ (c : AnsweredContext) (m : ℕ) (file : Option DwarfFile) where
 
   -- an answer is recorded of none but a unit that needs it
   module _ (u : ContextUnit) (is : slice_get units m ≡ Some u) (n : ℕ) (none : load_at (answered_units c) n ≡ None)
-      where
-    needs_one : (load : SplitLoad) → load_of (unit_in c.plain u) ≡ Ok (Some load) → recorded_answer c.answers m ≡ None
-        → n ≡ m → ⊥
-    needs_one load has no_answer same =
-        let at : load_at (answered_units c) m ≡ Some (numbered_load m load) =
-        ap (λ o. option_map (numbered_load m) (option_and_then pending_load o))
-        (unit_with_answer c.plain.file units c.answers m ∙ ap (with_record c.answers m) is)
-        ∙ ap (option_map (numbered_load m)) (pending_is load has no_answer) in
-        some_not load (sym at ∙ ap (load_at (answered_units c)) (sym same) ∙ none)
-      where
-        pending_is : (load : SplitLoad) → load_of (unit_in c.plain u) ≡ Ok (Some load)
-            → recorded_answer c.answers m ≡ None
-            → pending_load (answered_unit c.plain.file u (recorded_answer c.answers m)) ≡ Some load
-        pending_is load has no_answer = rw (has, no_answer) refl
+    where
+      needs_one : (load : SplitLoad) → load_of (unit_in c.plain u) ≡ Ok (Some load) → recorded_answer c.answers m ≡ None
+          → n ≡ m → ⊥
+      needs_one load has no_answer same =
+          let at : load_at (answered_units c) m ≡ Some (numbered_load m load) =
+          ap (λ o. option_map (numbered_load m) (option_and_then pending_load o))
+          (unit_with_answer c.plain.file units c.answers m ∙ ap (with_record c.answers m) is)
+          ∙ ap (option_map (numbered_load m)) (pending_is load has no_answer) in
+          some_not load (sym at ∙ ap (load_at (answered_units c)) (sym same) ∙ none)
+        where
+          pending_is : (load : SplitLoad) → load_of (unit_in c.plain u) ≡ Ok (Some load)
+              → recorded_answer c.answers m ≡ None
+              → pending_load (answered_unit c.plain.file u (recorded_answer c.answers m)) ≡ Some load
+          pending_is load has no_answer = rw (has, no_answer) refl
 
-        some_not : (load : SplitLoad) → Some (numbered_load m load) ≡ None → ⊥
-        some_not load h = cc
+          some_not : (load : SplitLoad) → Some (numbered_load m load) ≡ None → ⊥
+          some_not load h = cc
 
-    same_record : (l : Result (Option SplitLoad) Error) (r : Option FirstAnswer) (later : FirstAnswer)
-        → load_of (unit_in c.plain u) ≡ l → recorded_answer c.answers m ≡ r
-        → recorded_answer (with_answer (decision m l r) later c.answers) n ≡ recorded_answer c.answers n
-    same_record (Ok None) r later has recorded = refl
-    same_record (Err e) r later has recorded = refl
-    same_record (Ok (Some load)) (Some first) later has recorded = refl
-    same_record (Ok (Some load)) None later has recorded =
-        ap (option_and_then (λ x. x)) (set_other c.answers m n (Some later) (needs_one load has recorded))
+      same_record : (l : Result (Option SplitLoad) Error) (r : Option FirstAnswer) (later : FirstAnswer)
+          → load_of (unit_in c.plain u) ≡ l → recorded_answer c.answers m ≡ r
+          → recorded_answer (with_answer (decision m l r) later c.answers) n ≡ recorded_answer c.answers n
+      same_record (Ok None) r later has recorded = refl
+      same_record (Err e) r later has recorded = refl
+      same_record (Ok (Some load)) (Some first) later has recorded = refl
+      same_record (Ok (Some load)) None later has recorded =
+          ap (option_and_then (λ x. x)) (set_other c.answers m n (Some later) (needs_one load has recorded))
 
   same_recorded : (n : ℕ) → load_at (answered_units c) n ≡ None → (o : Option ContextUnit) → slice_get units m ≡ o
       → recorded_answer (answer_unit_if_any c.plain c.answers m o file).1 n ≡ recorded_answer c.answers n

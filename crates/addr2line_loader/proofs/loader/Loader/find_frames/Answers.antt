@@ -1,6 +1,8 @@
-use Rattle.std.proofs.Common.{refl}
+use Rattle.std.proofs.Common.{refl, subst, sym}
 use Rattle.std.proofs.lemmas.Result.{err_from_is_err_and}
 use Rattle.addr2line_context.specs.BorrowedFrames.{frames_left}
+use Rattle.addr2line_context.specs.FrameLoads.{IsDone}
+use Rattle.addr2line_loader.specs.SourceAnswers.{frames_by_answers}
 use Rattle.addr2line_loader.proofs.FoundFrames.{finds_frames, stops_frames}
 use Rattle.addr2line_loader.proofs.loader.Loader.find_frames.Goals as goal
 
@@ -11,16 +13,16 @@ returns-in_err-answer_loads g c =
         refl,
         λ _. tt,
         rw (p.1, p.2) (stops_frames g.S.SplitSource.answers c.args.probe frames_left c.args.source.now
-        (record {
-          image = c.self.inside.elf;
-          symbols = c.self.inside.symbols;
-          sections = c.self.inside.sections.value;
-          context = c.self.inside.context.value.plain;
-          answers = c.self.inside.context.value.answers;
-        })
-        c.self.inside.context.units c.answer_loads.new.context c.answer_loads.new.source c.answer_loads.ensures.plain
-        c.in_err-answer_loads.field-0.0 c.in_err-answer_loads.ensures.loads c.answer_loads.ensures.units
-        c.answer_loads.ensures.alone c.args.self.now c.self.view_is),
+            (record {
+              image = c.self.inside.elf;
+              symbols = c.self.inside.symbols;
+              sections = c.self.inside.sections.value;
+              context = c.self.inside.context.value.plain;
+              answers = c.self.inside.context.value.answers;
+            })
+            c.self.inside.context.units c.answer_loads.new.context c.answer_loads.new.source c.answer_loads.ensures.plain
+            c.in_err-answer_loads.field-0.0 c.in_err-answer_loads.ensures.loads c.answer_loads.ensures.units
+            c.answer_loads.ensures.alone c.args.self.now c.self.view_is),
       ),
       record { after = tt },
     )
@@ -46,3 +48,8 @@ returns g c = (
   ),
   record { after = tt },
 )
+
+pub find_decided_frames-requires : goal.find_decided_frames-requires
+find_decided_frames-requires g c =
+    subst (λ p. IsDone (frames_by_answers p c.args.probe c.answer_loads.new.context.value.answers))
+    (sym c.answer_loads.ensures.plain) c.in_ok-answer_loads.ensures.loads.done
