@@ -20,7 +20,8 @@ returns-in_err-answer_loads g c =
               context = c.self.inside.context.value.plain;
               answers = c.self.inside.context.value.answers;
             })
-            c.self.inside.context.units c.answer_loads.new.context c.answer_loads.new.source c.answer_loads.ensures.plain
+            c.self.inside.context.units c.answer_loads.new.context c.answer_loads.new.source
+            c.answer_loads.ensures.plain
             c.in_err-answer_loads.field-0.0 c.in_err-answer_loads.ensures.loads c.answer_loads.ensures.units
             c.answer_loads.ensures.alone c.args.self.now c.self.view_is),
       ),
