@@ -38,5 +38,6 @@ pub use Rattle.addr2line_split.specs.FileReads
 pub use Rattle.addr2line_split.specs.ImageFiles
 pub use Rattle.addr2line_split.specs.SplitLoading
 pub use Rattle.addr2line_loader.specs.LoadedFiles
+pub use Rattle.addr2line_loader.specs.ResolvedFiles
 pub use Rattle.addr2line_loader.specs.FileLoads
 pub use Rattle.addr2line_loader.specs.SourceAnswers

@@ -1,4 +1,7 @@
 mod AnsweredLoads
+mod AskedUnits
+mod FrameReads
+mod FoundPlaces
 mod FoundFrames
 mod SupplementSections
 mod FileReadLemmas

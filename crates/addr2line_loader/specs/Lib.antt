@@ -1,4 +1,5 @@
 pub mod LoadedFiles
+pub mod ResolvedFiles
 pub mod FileLoads
 pub mod SourceAnswers
 pub use Rattle.addr2line_context.specs.Contexts

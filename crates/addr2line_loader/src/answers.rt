@@ -1,8 +1,10 @@
 //! The loads of a lookup, answered by the split files of a source.
 
-ghost use Rattle.std.specs.Prelude.{◌≡◌, ◌<◌, length, OnOk};
+ghost use Rattle.std.specs.Prelude.{◌≡◌, ◌<◌, ℕ, [], length, OnOk};
+ghost use Rattle.addr2line_context.specs.ContextCosts.{AsksForFrames, AfterSearch};
 ghost use Rattle.addr2line_context.specs.SettledLookups.{frames_in, loads_in};
 ghost use Rattle.addr2line_context.specs.UnitLookups.{IsPending};
+ghost use Rattle.addr2line_loader.specs.ResolvedFiles.{ReadsForFrames};
 ghost use Rattle.addr2line_loader.specs.SourceAnswers.{AnswersOneOrNoMemory, AnswersAllOrNoMemory};
 
 use addr2line_context::frame_loads::{answer_first, first_load, frames_wait};
@@ -22,6 +24,9 @@ pub(crate) fn answer_loads<S: SplitSource>(
     ensures loads { AnswersAllOrNoMemory S.answers context.old.value.plain probe
         (record { answers = context.old.value.answers; source = source.old }) result
         (record { answers = context.new.value.answers; source = source.new }) }
+    ensures units { ReadsForFrames context.new.value probe context.old.units context.new.units }
+    ensures alone { loads_in context.old.value probe ≡ []
+        → AfterSearch AsksForFrames probe context.old context.new }
 {
     while frames_wait(context, probe)? {
         answer_next(alloc, context, probe, source)?;
@@ -41,6 +46,9 @@ fn answer_next<S: SplitSource>(
     ensures loads { AnswersOneOrNoMemory S.answers context.old.value.plain probe
         (record { answers = context.old.value.answers; source = source.old }) result
         (record { answers = context.new.value.answers; source = source.new }) }
+    ensures units { ReadsForFrames context.new.value probe context.old.units context.new.units }
+    ensures asks { (number : ℕ) → AsksForFrames context.old.value probe number
+        → AsksForFrames context.new.value probe number }
     ensures fewer { OnOk result
         (length (loads_in context.new.value probe) < length (loads_in context.old.value probe)) }
 {

@@ -1,14 +1,19 @@
 //! A loader, and what it finds without split files.
 
-ghost use Rattle.std.specs.Prelude.{◌≡◌, Ok, option_map};
+ghost use Rattle.std.specs.Prelude.{◌≡◌, ◌≢◌, Ok, Err, IfOk, option_map};
 ghost use Rattle.addr2line_context.specs.BorrowedLocations.{location_value};
 ghost use Rattle.addr2line_context.specs.Calls.{ReturnsAs, ReturnsAsOrNoMemory};
+ghost use Rattle.addr2line_context.specs.ContextCosts.{AsksBetween, AsksForPlace};
 ghost use Rattle.addr2line_context.specs.Contexts.{location, stretches};
+ghost use Rattle.addr2line_context.specs.Error.TheVariants.{Memory};
+ghost use Rattle.addr2line_context.specs.KeptUnits.{KeepsAsked};
 ghost use Rattle.addr2line_context.specs.LocationRanges.{left_in};
+ghost use Rattle.addr2line_context.specs.ResolvedUnits.{RunForRangesAlone};
 ghost use Rattle.addr2line_split.specs.ElfImages.{section_range};
 ghost use Rattle.addr2line_split.specs.ElfSymbols.{symbol_at};
-ghost use Rattle.addr2line_split.specs.ImageLoading.{LoadsOrNoMemory};
+ghost use Rattle.addr2line_split.specs.ImageLoading.{LoadsAsOrNoMemory};
 ghost use Rattle.addr2line_loader.specs.LoadedFiles.{loaded_file, range_of, symbol_name};
+ghost use Rattle.addr2line_loader.specs.ResolvedFiles.{AfterPlace, answered_context, resolved_context};
 
 use crate::parts::{Parts, SharedContext, parts_of};
 use addr2line_context::{Context, Dwarf, Error, Location, LocationRangeIter, Range};
@@ -39,16 +44,19 @@ impl Drop for Loader {
 }
 
 impl Model for Loader {
-    ghost use Rattle.addr2line_loader.specs.LoadedFiles.{LoadedFile};
+    ghost use Rattle.addr2line_loader.specs.ResolvedFiles.{ResolvedFile};
 
-    ghost Value = { LoadedFile };
+    ghost Value = { ResolvedFile };
 
     ghost view = { λ l. record {
-      image = l.elf;
-      symbols = l.symbols;
-      sections = l.sections.value;
-      context = l.context.value.plain;
-      answers = l.context.value.answers;
+      file = record {
+        image = l.elf;
+        symbols = l.symbols;
+        sections = l.sections.value;
+        context = l.context.value.plain;
+        answers = l.context.value.answers;
+      };
+      units = l.context.units;
     } };
 }
 
@@ -59,13 +67,15 @@ impl Loader {
 
     /// Loads the file of some bytes, and its supplement, if there is one. It shares the bytes, and
     /// takes memory for its sections, its symbols, its units and the abbreviation tables that
-    /// these share, each of which is read once.
+    /// these share, each of which is read once. The lines of a unit are read here only where its
+    /// ranges are those of its lines.
     pub fn from_bytes(
         alloc: Global,
         image: Bytes,
         supplement: Option<Bytes>,
     ) -> Result<Loader, LoadError>
-        ensures { LoadsOrNoMemory result (loaded_file image supplement) }
+        ensures file { LoadsAsOrNoMemory (λ l. l.file) result (loaded_file image supplement) }
+        ensures lines { IfOk result (λ l. RunForRangesAlone l.units) }
     {
         let elf = Elf::parse(alloc, image)?;
         let Parts { symbols, debug } = parts_of(alloc, &elf, supplement)?;
@@ -81,7 +91,7 @@ impl Loader {
     /// The file's sections of debugging information, which the context shares. Their cache has the
     /// abbreviation tables that two units or more name, each once.
     pub fn sections(&self) -> &Rc<Dwarf<ImageReader>>
-        ensures { result.now.value ≡ self.now.sections }
+        ensures { result.now.value ≡ self.now.file.sections }
     {
         &self.sections
     }
@@ -94,11 +104,14 @@ impl Loader {
     }
 
     /// The place of an address, as `Context::find_location` finds it. The lines of the units that
-    /// it asks are read, unless they are kept, and kept.
+    /// it asks are read, unless they are kept, and kept, those of no other unit; else it takes no
+    /// memory, so that the same address again never is out of memory.
     pub fn find_location(&mut self, probe: u64) -> Result<Option<Location<'_>>, Error>
         ensures place { ReturnsAsOrNoMemory (option_map location_value) result
-            (location self.old.context.context probe) }
-        ensures* after { sem 𝓛 (Rests the_row self.entry (λ left. left ≡ self.old)) }
+            (location self.old.file.context.context probe) }
+        ensures free { KeepsAsked (AsksForPlace (answered_context self.old.file) probe)
+            self.old.units → result ≢ Err Memory }
+        ensures* after { sem 𝓛 (Rests the_row self.entry (AfterPlace probe result self.old)) }
     {
         self.context.find_location(probe)
     }
@@ -111,8 +124,11 @@ impl Loader {
         probe_low: u64,
         probe_high: u64,
     ) -> Result<LocationRangeIter<'_, ImageReader>, Error>
-        ensures { ReturnsAs (λ i. left_in i.context.now i.walk) result
-            (Ok (stretches self.old.context.context probe_low probe_high)) }
+        ensures stretches { ReturnsAs (λ i. left_in i.context.now i.walk) result
+            (Ok (stretches self.old.file.context.context probe_low probe_high)) }
+        ensures context { IfOk result (λ i. i.context.now ≡ resolved_context self.old) }
+        ensures asks { IfOk result (λ i.
+            AsksBetween (answered_context self.old.file) probe_low probe_high i.walk) }
     {
         self.context.find_location_range(probe_low, probe_high)
     }
@@ -120,7 +136,7 @@ impl Loader {
     /// The name of the symbol that holds an address. It takes no memory.
     pub fn find_symbol(&self, probe: u64) -> Option<&str>
         ensures { option_map (λ name. name.now) result
-            ≡ option_map symbol_name (symbol_at probe self.now.symbols) }
+            ≡ option_map symbol_name (symbol_at probe self.now.file.symbols) }
     {
         let symbol = self.find_symbol_info(probe)?;
         Some(symbol.name())
@@ -129,7 +145,7 @@ impl Loader {
     /// The symbol that holds an address: of several the one of the greatest address, and of these
     /// the first in the file. It is a bisection, and takes no memory.
     pub fn find_symbol_info(&self, probe: u64) -> Option<Symbol<'_>>
-        ensures { result ≡ symbol_at probe self.now.symbols }
+        ensures { result ≡ symbol_at probe self.now.file.symbols }
     {
         self.symbols.find(probe)
     }
@@ -137,7 +153,8 @@ impl Loader {
     /// The addresses of the first section of a name, if its end is an address of 64 bits. It looks
     /// at each section before.
     pub fn get_section_range(&self, section_name: &[u8]) -> Option<Range>
-        ensures { result ≡ option_map range_of (section_range section_name.now self.now.image) }
+        ensures { result
+            ≡ option_map range_of (section_range section_name.now self.now.file.image) }
     {
         let range = self.elf.get_section_range(section_name)?;
         Some(Range {

@@ -4,6 +4,7 @@
 ghost use Rattle.std.specs.Prelude.{◌≡◌, OnOk, IfErr, IfOk, Ok, Err};
 ghost use Rattle.addr2line_context.specs.AnsweredContexts.{HasNoAnswers};
 ghost use Rattle.addr2line_context.specs.Error.TheVariants.{Memory};
+ghost use Rattle.addr2line_context.specs.ResolvedUnits.{RunForRangesAlone};
 ghost use Rattle.addr2line_context.specs.Results.{and_then};
 ghost use Rattle.addr2line_split.specs.ImageLoading.{LoadsAsOrNoMemory};
 ghost use Rattle.addr2line_loader.specs.LoadedFiles.{with_supplement_if_any, with_shared_tables, parts_with, parts_of, context_over, shared_context};
@@ -43,6 +44,7 @@ pub(crate) fn parts_of(
       };
     }) result (parts_of elf.now supplement) }
     ensures answers { IfOk result (λ p. HasNoAnswers p.debug.context.value) }
+    ensures lines { IfOk result (λ p. RunForRangesAlone p.debug.context.units) }
 {
     match main_sections(alloc, elf) {
         Ok(main) => parts_with(alloc, elf, main, supplement),
@@ -65,6 +67,7 @@ fn parts_with(
       };
     }) result (parts_with elf.now main.file supplement) }
     ensures answers { IfOk result (λ p. HasNoAnswers p.debug.context.value) }
+    ensures lines { IfOk result (λ p. RunForRangesAlone p.debug.context.units) }
 {
     match elf.symbols(alloc) {
         Ok(symbols) => match context_with(alloc, main, supplement) {
@@ -85,6 +88,7 @@ fn context_with(
         (λ c. record { sections = c.sections.value; context = c.context.value.plain }) result
         (and_then (with_supplement_if_any supplement main.file) shared_context) }
     ensures answers { IfOk result (λ c. HasNoAnswers c.context.value) }
+    ensures lines { IfOk result (λ c. RunForRangesAlone c.context.units) }
 {
     let mut dwarf = main;
     match add_supplement(alloc, &mut dwarf, supplement) {
@@ -102,6 +106,7 @@ fn shared_context<R: Reader>(
         (λ c. record { sections = c.sections.value; context = c.context.value.plain }) result
         (shared_context sections.file) }
     ensures answers { IfOk result (λ c. HasNoAnswers c.context.value) }
+    ensures lines { IfOk result (λ c. RunForRangesAlone c.context.units) }
 {
     let mut dwarf = sections;
     match share_tables(alloc, &mut dwarf) {
@@ -127,6 +132,7 @@ fn context_over<R: Reader>(
         (λ c. record { sections = c.sections.value; context = c.context.value.plain }) result
         (context_over sections.value) }
     ensures answers { IfOk result (λ c. HasNoAnswers c.context.value) }
+    ensures lines { IfOk result (λ c. RunForRangesAlone c.context.units) }
 {
     let context = Context::from_arc_dwarf(alloc, sections.clone()?)?;
     Ok(SharedContext { sections, context })

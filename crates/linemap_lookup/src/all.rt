@@ -28,8 +28,8 @@ fn is_above(last: Option<u64>, address: u64) -> bool
 // units are read, unless they are kept, and kept.
 fn all_addresses(alloc: Global, loader: &mut Loader) -> Result<Vec<u64>, Error>
     ensures addresses { ReturnsAsOrNoMemory (λ addresses. addresses.items) result
-        (begins_of (stretches loader.old.context.context 0 (2 ^ 64 - 1))) }
-    ensures same { loader.new ≡ loader.old }
+        (begins_of (stretches loader.old.file.context.context 0 (2 ^ 64 - 1))) }
+    ensures same { loader.new.file ≡ loader.old.file }
 {
     let mut walk = RangeWalk::new(0, u64::MAX);
     let mut addresses = Vec::new(alloc);
@@ -64,12 +64,12 @@ pub(crate) fn find_all<E: Write>(
     err: &mut E,
 ) -> Result<Option<Vec<u64>>, Ended>
     ensures all { IfOk result (λ all.
-        all_if_asked options.now.all loader.old.context.context
+        all_if_asked options.now.all loader.old.file.context.context
         ≡ Ok (option_map (λ addresses. addresses.items) all)) }
     ensures same { OnOk result (err.new ≡ err.old) }
-    ensures file { loader.new ≡ loader.old }
+    ensures file { loader.new.file ≡ loader.old.file }
     ensures refusal { IfErr result (RefusesBy
-        (all_if_asked options.now.all loader.old.context.context)
+        (all_if_asked options.now.all loader.old.file.context.context)
         (E.contents err.old) (E.contents err.new)) }
 {
     if !options.all {

@@ -74,8 +74,8 @@ impl Engine {
         source: &mut S,
     ) -> Result<(), AllocError>
         ensures { OnOk result (GrowsByFrames S.answers options.now address
-            (option_map symbol_name (symbol_at address self.old.loader.symbols))
-            self.old.loader source.old self.old.answer self.new.answer self.new.loader
+            (option_map symbol_name (symbol_at address self.old.loader.file.symbols))
+            self.old.loader.file source.old self.old.answer self.new.answer self.new.loader.file
             source.new) }
     {
         let has_symbol = copy_symbol(&self.loader, address, &mut self.symbol)?;
@@ -112,8 +112,8 @@ impl Engine {
         source: &mut S,
     ) -> Result<(), AllocError>
         ensures { OnOk result (GrowsByLookup S.answers options.now (Some address)
-            (record { file = self.old.loader; source = source.old }) self.old.answer self.new.answer
-            (record { file = self.new.loader; source = source.new })) }
+            (record { file = self.old.loader.file; source = source.old }) self.old.answer
+            self.new.answer (record { file = self.new.loader.file; source = source.new })) }
     {
         if asks_frames(options) {
             self.answer_frames(options, address, source)
@@ -131,8 +131,8 @@ impl Engine {
         source: &mut S,
     ) -> Result<(), AllocError>
         ensures { OnOk result (GrowsByLookup S.answers options.now (looked_up section address)
-            (record { file = self.old.loader; source = source.old }) self.old.answer self.new.answer
-            (record { file = self.new.loader; source = source.new })) }
+            (record { file = self.old.loader.file; source = source.old }) self.old.answer
+            self.new.answer (record { file = self.new.loader.file; source = source.new })) }
     {
         match looked_up(section, address) {
             Some(address) => self.answer_lookup(options, address, source),
@@ -149,9 +149,9 @@ impl Engine {
         source: &mut S,
     ) -> Result<(), AllocError>
         ensures { OnOk result (AnswersAddress S.answers options.now section
-            (record { file = self.old.loader; source = source.old })
+            (record { file = self.old.loader.file; source = source.old })
             (answer_in address self.new.answer)
-            (record { file = self.new.loader; source = source.new })) }
+            (record { file = self.new.loader.file; source = source.new })) }
     {
         self.answer.clear();
         push_address(&mut self.answer.text, options, address.unwrap_or(0))?;

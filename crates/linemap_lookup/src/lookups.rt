@@ -55,8 +55,8 @@ pub(crate) fn answer_place(
     answer: &mut AnswerBuffer,
 ) -> Result<(), AllocError>
     ensures answer { OnOk result
-        (GrowsByPlace options.now address loader.old answer.old answer.new) }
-    ensures same { loader.new ≡ loader.old }
+        (GrowsByPlace options.now address loader.old.file answer.old answer.new) }
+    ensures same { loader.new.file ≡ loader.old.file }
 {
     match loader.find_location(address) {
         Ok(place) => push_place_line(&mut answer.text, options, place),
@@ -111,8 +111,8 @@ pub(crate) fn answer_frames<S: SplitSource>(
     answer: &mut AnswerBuffer,
 ) -> Result<(), AllocError>
     ensures { OnOk result (GrowsByFrames S.answers options.now address
-        (option_map (λ s. s.now) symbol.entry) loader.old source.old answer.old answer.new
-        loader.new source.new) }
+        (option_map (λ s. s.now) symbol.entry) loader.old.file source.old answer.old answer.new
+        loader.new.file source.new) }
 {
     match loader.find_frames(alloc, address, source) {
         Ok(frames) => push_found(alloc, options, address, symbol, frames, answer),
@@ -127,7 +127,7 @@ pub(crate) fn copy_symbol(
     name: &mut String,
 ) -> Result<bool, AllocError>
     ensures { IfOk result (λ found. (if found then Some (string_bytes name.new) else None)
-        ≡ option_map symbol_name (symbol_at address loader.now.symbols)) }
+        ≡ option_map symbol_name (symbol_at address loader.now.file.symbols)) }
 {
     name.clear();
     match loader.find_symbol(address) {

@@ -39,7 +39,7 @@ fn load<E: Write>(
     supplement: Option<Bytes>,
     err: &mut E,
 ) -> Result<Loader, Ended>
-    ensures file { IfOk result (λ file. loaded_file image supplement ≡ Ok file) }
+    ensures file { IfOk result (λ loader. loaded_file image supplement ≡ Ok loader.file) }
     ensures same { OnOk result (err.new ≡ err.old) }
     ensures refusal { IfErr result (RefusesBy
         (or_line (codes "failed to load debug info: ") text_of (loaded_file image supplement))
@@ -59,10 +59,10 @@ fn find_section<E: Write>(
     err: &mut E,
 ) -> Result<Option<Range>, Ended>
     ensures section { IfOk result (λ section. section_if_any
-        (option_map string_bytes options.now.section) loader.now.image ≡ Ok section) }
+        (option_map string_bytes options.now.section) loader.now.file.image ≡ Ok section) }
     ensures same { OnOk result (err.new ≡ err.old) }
     ensures refusal { IfErr result (RefusesBy
-        (section_if_any (option_map string_bytes options.now.section) loader.now.image)
+        (section_if_any (option_map string_bytes options.now.section) loader.now.file.image)
         (E.contents err.old) (E.contents err.new)) }
 {
     match &options.section {
@@ -91,14 +91,14 @@ impl Engine {
             question.entry.section
             (Asks (option_map (λ a. a.now) all.entry) (words_of question.entry.options.now)
             (R.remaining lines.old) (R.remaining lines.new))
-            (record { file = self.old.loader; source = source.old })
+            (record { file = self.old.loader.file; source = source.old })
             (record { out = O.contents out.old; err = E.contents err.old })
             (record { out = O.contents out.new; err = E.contents err.new }) ended.old ended.new) }
         ensures stop { IfErr result (AnswersSome S.answers question.entry.options.now
             question.entry.section
             (Asks (option_map (λ a. a.now) all.entry) (words_of question.entry.options.now)
             (R.remaining lines.old) (R.remaining lines.new))
-            (record { file = self.old.loader; source = source.old })
+            (record { file = self.old.loader.file; source = source.old })
             (record { out = O.contents out.old; err = E.contents err.old })
             (record { out = O.contents out.new; err = E.contents err.new }) ended.old) }
     {
@@ -122,7 +122,7 @@ impl Engine {
         ensures { RunsOn S.answers question.entry.options.now source.old (R.remaining lines.old)
             (R.remaining lines.new)
             (Ok (record {
-              file = self.old.loader;
+              file = self.old.loader.file;
               section = question.entry.section;
               all = option_map (λ a. a.now) all.entry;
             }))
@@ -146,7 +146,7 @@ impl Engine {
         err: &mut E,
     ) -> Ended
         ensures { Runs S.answers options.now source.old (R.remaining lines.old)
-            (R.remaining lines.new) (question_of options.now self.old.loader)
+            (R.remaining lines.new) (question_of options.now self.old.loader.file)
             (record { out = O.contents out.old; err = E.contents err.old })
             (record { out = O.contents out.new; err = E.contents err.new }) result }
     {

@@ -112,13 +112,13 @@ impl Engine {
     ) -> Result<(), Ended>
         ensures whole { OnOk result (WritesAddress S.answers question.entry.options.now
             question.entry.section address
-            (record { file = self.old.loader; source = source.old })
-            (record { file = self.new.loader; source = source.new })
+            (record { file = self.old.loader.file; source = source.old })
+            (record { file = self.new.loader.file; source = source.new })
             (record { out = O.contents out.old; err = E.contents err.old })
             (record { out = O.contents out.new; err = E.contents err.new }) ended.old ended.new) }
         ensures stop { IfErr result (StopsBefore S.answers question.entry.options.now
             question.entry.section (address ∷ [])
-            (record { file = self.old.loader; source = source.old })
+            (record { file = self.old.loader.file; source = source.old })
             (record { out = O.contents out.old; err = E.contents err.old })
             (record { out = O.contents out.new; err = E.contents err.new }) ended.old) }
     {
@@ -140,13 +140,13 @@ impl Engine {
     ) -> Result<(), Ended>
         ensures whole { OnOk result (WritesAddresses S.answers question.entry.options.now
             question.entry.section (map word_address (map string_bytes words.now))
-            (record { file = self.old.loader; source = source.old })
-            (record { file = self.new.loader; source = source.new })
+            (record { file = self.old.loader.file; source = source.old })
+            (record { file = self.new.loader.file; source = source.new })
             (record { out = O.contents out.old; err = E.contents err.old })
             (record { out = O.contents out.new; err = E.contents err.new }) ended.old ended.new) }
         ensures stop { IfErr result (StopsAmong S.answers question.entry.options.now
             question.entry.section (map word_address (map string_bytes words.now))
-            (record { file = self.old.loader; source = source.old })
+            (record { file = self.old.loader.file; source = source.old })
             (record { out = O.contents out.old; err = E.contents err.old })
             (record { out = O.contents out.new; err = E.contents err.new }) ended.old) }
     {
@@ -168,13 +168,13 @@ impl Engine {
     ) -> Result<(), Ended>
         ensures whole { OnOk result (WritesAddresses S.answers question.entry.options.now
             question.entry.section (map Some addresses.now)
-            (record { file = self.old.loader; source = source.old })
-            (record { file = self.new.loader; source = source.new })
+            (record { file = self.old.loader.file; source = source.old })
+            (record { file = self.new.loader.file; source = source.new })
             (record { out = O.contents out.old; err = E.contents err.old })
             (record { out = O.contents out.new; err = E.contents err.new }) ended.old ended.new) }
         ensures stop { IfErr result (StopsAmong S.answers question.entry.options.now
             question.entry.section (map Some addresses.now)
-            (record { file = self.old.loader; source = source.old })
+            (record { file = self.old.loader.file; source = source.old })
             (record { out = O.contents out.old; err = E.contents err.old })
             (record { out = O.contents out.new; err = E.contents err.new }) ended.old) }
     {

@@ -48,12 +48,12 @@ impl Engine {
     ) -> Result<(), Ended>
         ensures whole { OnOk result (AnswersAll S.answers question.entry.options.now
             question.entry.section (AsksLines (R.remaining lines.old) (R.remaining lines.new))
-            (record { file = self.old.loader; source = source.old })
+            (record { file = self.old.loader.file; source = source.old })
             (record { out = O.contents out.old; err = E.contents err.old })
             (record { out = O.contents out.new; err = E.contents err.new }) ended.old ended.new) }
         ensures stop { IfErr result (AnswersSome S.answers question.entry.options.now
             question.entry.section (AsksLines (R.remaining lines.old) (R.remaining lines.new))
-            (record { file = self.old.loader; source = source.old })
+            (record { file = self.old.loader.file; source = source.old })
             (record { out = O.contents out.old; err = E.contents err.old })
             (record { out = O.contents out.new; err = E.contents err.new }) ended.old) }
     {

@@ -7,6 +7,7 @@ use Rattle.addr2line_context.specs.FrameLoads.{TellsWaiting}
 use Rattle.addr2line_context.specs.SettledLookups.{frames_in}
 use Rattle.addr2line_loader.specs.SourceAnswers.{LoadState}
 use Rattle.addr2line_loader.proofs.AnsweredLoads.{answers_more, stops_at, stops_before, all_answered}
+use Rattle.addr2line_loader.proofs.FrameReads.{reads_both, reads_in, reads_then_search, search_alone, waits_somewhere}
 use Rattle.addr2line_loader.proofs.answers.answer_loads.Goals as goal
 
 pub returns-in_err-frames_wait-clause-loads : goal.returns-in_err-frames_wait-clause-loads
@@ -15,7 +16,8 @@ returns-in_err-frames_wait-clause-loads g c =
     let asked : FirstAnswers → LoadState g.row.S.Denot = λ x. record { answers = x; source = c.loop-context.source } in
     rw (p.1, p.2) (stops_before g.S.SplitSource.answers c.args.probe c.args.context.now.value.plain
     (record { answers = c.args.context.now.value.answers; source = c.args.source.now }) _ _
-    (ap asked (ap (λ (x : AnsweredContext). x.answers) c.frames_wait.ensures.after.value)) c.loop-context.invariant.1 _
+    (ap asked (ap (λ (x : AnsweredContext). x.answers) c.frames_wait.ensures.after.value))
+    c.loop-context.invariant.1 _
     c.in_err-frames_wait.ensures.waits)
 
 pub loop-context-preserved : goal.loop-context-preserved
@@ -29,6 +31,17 @@ loop-context-preserved g c =
           (ap asked (ap (λ (x : AnsweredContext). x.answers) c.frames_wait.ensures.after.value))
           c.loop-context.invariant.1 _
           c.in_ok-answer_next.ensures.loads,
+      reads_both c.answer_next.new.context.value c.args.probe _ _ _
+          (reads_in c.frames_wait.new.context.value c.args.probe c.answer_next.new.context.value
+          c.answer_next.ensures.asks _ _
+          (reads_then_search c.args.probe _ c.loop-context.context c.frames_wait.new.context
+          c.loop-context.invariant.2 c.frames_wait.ensures.after))
+          c.answer_next.ensures.units,
+      λ none. absurd
+          (waits_somewhere c.args.probe c.args.context.now c.loop-context.context (c.loop-context.invariant.3 none)
+          none
+          (subst (λ b. TellsWaiting (frames_in c.loop-context.context.value c.args.probe) (Ok b)) c.if-branch.true
+          c.in_ok-frames_wait.ensures.waits)),
     )
 
 pub returns-in_err-answer_next-clause-loads : goal.returns-in_err-answer_next-clause-loads
@@ -59,3 +72,39 @@ answer_next-requires g c =
     subst (λ (x : AnsweredContext). IsPending (frames_in x c.args.probe)) (sym c.frames_wait.ensures.after.value)
     (subst (λ b. TellsWaiting (frames_in c.loop-context.context.value c.args.probe) (Ok b)) c.if-branch.true
     c.in_ok-frames_wait.ensures.waits)
+
+pub returns-in_err-frames_wait-clause-units : goal.returns-in_err-frames_wait-clause-units
+returns-in_err-frames_wait-clause-units g c =
+    reads_then_search c.args.probe _ c.loop-context.context c.frames_wait.new.context c.loop-context.invariant.2
+    c.frames_wait.ensures.after
+
+pub returns-in_err-answer_next-clause-units : goal.returns-in_err-answer_next-clause-units
+returns-in_err-answer_next-clause-units g c =
+    reads_both c.answer_next.new.context.value c.args.probe _ _ _
+    (reads_in c.frames_wait.new.context.value c.args.probe c.answer_next.new.context.value c.answer_next.ensures.asks
+    _ _
+    (reads_then_search c.args.probe _ c.loop-context.context c.frames_wait.new.context c.loop-context.invariant.2
+    c.frames_wait.ensures.after))
+    c.answer_next.ensures.units
+
+pub returns-clause-units : goal.returns-clause-units
+returns-clause-units g c =
+    reads_then_search c.args.probe _ c.loop-context.context c.frames_wait.new.context c.loop-context.invariant.2
+    c.frames_wait.ensures.after
+
+pub returns-in_err-frames_wait-clause-alone : goal.returns-in_err-frames_wait-clause-alone
+returns-in_err-frames_wait-clause-alone g c = λ none.
+    search_alone c.args.probe c.args.context.now c.loop-context.context c.frames_wait.new.context
+    (c.loop-context.invariant.3 none) c.frames_wait.ensures.after
+
+pub returns-in_err-answer_next-clause-alone : goal.returns-in_err-answer_next-clause-alone
+returns-in_err-answer_next-clause-alone g c = λ none.
+    absurd
+    (waits_somewhere c.args.probe c.args.context.now c.loop-context.context (c.loop-context.invariant.3 none) none
+    (subst (λ b. TellsWaiting (frames_in c.loop-context.context.value c.args.probe) (Ok b)) c.if-branch.true
+    c.in_ok-frames_wait.ensures.waits))
+
+pub returns-clause-alone : goal.returns-clause-alone
+returns-clause-alone g c = λ none.
+    search_alone c.args.probe c.args.context.now c.loop-context.context c.frames_wait.new.context
+    (c.loop-context.invariant.3 none) c.frames_wait.ensures.after

@@ -1,6 +1,8 @@
--- Some loads are answered, in order; and there are fewer loads left.
-use Rattle.std.proofs.Common.{◌≡◌, length}
+-- Some loads are answered, in order; and there are fewer loads left. What was kept is kept still. Where there was no
+-- load, nothing was done yet.
+use Rattle.std.proofs.Common.{◌≡◌, [], length}
 use Rattle.addr2line_context.specs.SettledLookups.{loads_in}
+use Rattle.addr2line_loader.specs.ResolvedFiles.{ReadsForFrames}
 use Rattle.addr2line_loader.proofs.AnsweredLoads.{AnsweredTo}
 use Rattle.addr2line_loader.proofs.answers.answer_loads.Given as goal
 
@@ -13,3 +15,5 @@ invariant-loop-context g l =
     × AnsweredTo g.S.SplitSource.answers l.probe l.fn.context.value.plain
     (record { answers = l.fn.context.value.answers; source = l.fn.source })
     (record { answers = l.context.value.answers; source = l.source })
+    × ReadsForFrames l.context.value l.probe l.fn.context.units l.context.units
+    × (loads_in l.fn.context.value l.probe ≡ [] → l.context ≡ l.fn.context)

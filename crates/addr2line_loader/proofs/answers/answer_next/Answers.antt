@@ -4,6 +4,7 @@ use Rattle.addr2line_context.proofs.AnsweredFirst.{frames_have_load}
 use Rattle.addr2line_context.proofs.FrameLoads.{fewer_loads_of_frames}
 use Rattle.addr2line_split.specs.SplitLoading.{GetsFile}
 use Rattle.addr2line_loader.proofs.AnsweredLoads.{first_load_is, answers_one}
+use Rattle.addr2line_loader.proofs.FrameReads.{asks_left, reads_nothing, reads_by_answer}
 use Rattle.addr2line_loader.proofs.answers.answer_next.Goals as goal
 
 pub first_load-requires : goal.first_load-requires
@@ -45,3 +46,27 @@ returns-clause-fewer g c =
     fewer_loads_of_frames c.args.context.now.value c.answer_first.new.context.value c.args.probe c.answer_first.result
     c.requires
     c.answer_first.ensures.fewer
+
+pub returns-in_err-load-clause-units : goal.returns-in_err-load-clause-units
+returns-in_err-load-clause-units g c =
+    reads_nothing c.args.context.now.value c.args.probe c.args.context.now.units
+
+pub returns-in_err-file-clause-units : goal.returns-in_err-file-clause-units
+returns-in_err-file-clause-units g c =
+    reads_nothing c.args.context.now.value c.args.probe c.args.context.now.units
+
+pub returns-clause-units : goal.returns-clause-units
+returns-clause-units g c =
+    reads_by_answer c.answer_first.new.context.value c.args.probe 0 c.args.context.now.units
+    c.answer_first.new.context.units c.answer_first.ensures.cost c.answer_first.ensures.lines
+
+pub returns-in_err-load-clause-asks : goal.returns-in_err-load-clause-asks
+returns-in_err-load-clause-asks g c = λ n asked. asked
+
+pub returns-in_err-file-clause-asks : goal.returns-in_err-file-clause-asks
+returns-in_err-file-clause-asks g c = λ n asked. asked
+
+pub returns-clause-asks : goal.returns-clause-asks
+returns-clause-asks g c =
+    asks_left c.args.context.now.value c.answer_first.new.context.value c.args.probe
+    (option_map (λ d. d.value.file) c.in_ok-file.file) c.answer_first.ensures.plain c.answer_first.ensures.left

@@ -7,12 +7,12 @@ use Rattle.linemap_lookup.proofs.all.all_addresses.Given as goal
 -- the file is the same, and some addresses are taken
 abbrev pub invariant-stretch : goal.invariant-stretch
 invariant-stretch l = record {
-  same : l.loader ≡ l.fn.loader;
+  same : l.loader.file ≡ l.fn.loader.file;
   taken :
-      TakesSoFar l.addresses.items l.last (stretches_left l.fn.loader.context.context.units l.walk)
-      (stretches l.fn.loader.context.context 0 (2 ^ 64 - 1));
+      TakesSoFar l.addresses.items l.last (stretches_left l.fn.loader.file.context.context.units l.walk)
+      (stretches l.fn.loader.file.context.context 0 (2 ^ 64 - 1));
 }
 
 -- each stretch is one less
 abbrev pub decreases-stretch : goal.decreases-stretch
-decreases-stretch l = length (stretches_left l.fn.loader.context.context.units l.walk).items
+decreases-stretch l = length (stretches_left l.fn.loader.file.context.context.units l.walk).items

@@ -11,6 +11,7 @@ returns-in_err-image g c =
       image_is_read = c.in_err-image.ensures;
       supplement_is_read = (None, refl, tt, refl);
       loads = λ ne. refl;
+      lines = tt;
     })
 
 pub returns : goal.returns
@@ -19,5 +20,6 @@ returns g c = record {
   supplement = Ok None;
   image_is_read = tt;
   supplement_is_read = (None, refl, tt, refl);
-  loads = c.from_bytes.ensures;
+  loads = c.from_bytes.ensures.file;
+  lines = c.from_bytes.ensures.lines;
 }

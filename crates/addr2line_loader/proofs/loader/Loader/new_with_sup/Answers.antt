@@ -14,4 +14,5 @@ returns-in_err-image g c =
       image_is_read = c.in_err-image.ensures;
       supplement_is_read = other.1;
       loads = λ ne. refl;
+      lines = tt;
     })

@@ -7,8 +7,8 @@ pub returns : goal.returns
 returns g c =
     on_ok c.push_end.result
     (λ end. whole_answer g.S.SplitSource.answers c.args.options.now c.args.section c.args.address
-    (record { file = c.args.self.now.loader; source = c.args.source.now })
-    (record { file = c.answer_if_any.new.self.loader; source = c.answer_if_any.new.source }) c.clear.new.self
+    (record { file = c.args.self.now.loader.file; source = c.args.source.now })
+    (record { file = c.answer_if_any.new.self.loader.file; source = c.answer_if_any.new.source }) c.clear.new.self
     (record c.clear.new.self { text = c.push_address.new.text }) c.answer_if_any.new.self.answer
     (record c.answer_if_any.new.self.answer { text = c.push_end.new.text }) c.unwrap_or.result
     c.clear.ensures.text c.clear.ensures.errors c.clear.ensures.memory (search rules) c.in_ok-push_address.ensures refl

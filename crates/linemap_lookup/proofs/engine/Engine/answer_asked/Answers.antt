@@ -10,13 +10,13 @@ returns-in-Some-default-clause-whole g c =
     on_ok c.write_addresses.result
     (λ writes. all_answered g.S.SplitSource.answers c.args.question.options.now c.args.source.now
     (g.R.Read.remaining c.args.lines.now) (g.R.Read.remaining c.args.lines.now) c.args.question.section
-    (record { file = c.args.self.now.loader; source = c.args.source.now })
+    (record { file = c.args.self.now.loader.file; source = c.args.source.now })
     (record { out = g.O.Write.contents c.args.out.now; err = g.E.Write.contents c.args.err.now })
     (record { out = g.O.Write.contents c.write_addresses.new.out; err = g.E.Write.contents c.write_addresses.new.err })
     c.args.ended.now c.write_addresses.new.ended
     (option_map (λ (a : Bor (List ℕ)). a.now) c.args.all) (words_of c.args.question.options.now)
     c.in-Some-default.all.now
-    (record { file = c.write_addresses.new.self.loader; source = c.write_addresses.new.source })
+    (record { file = c.write_addresses.new.self.loader.file; source = c.write_addresses.new.source })
     (ap (option_map (λ (a : Bor (List ℕ)). a.now)) c.in-Some-default.is-0) refl c.requires writes)
     c.write_addresses.ensures.whole
 
@@ -25,13 +25,13 @@ returns-in-None-Some-clause-whole g c =
     on_ok c.write_words.result
     (λ writes. words_answered g.S.SplitSource.answers c.args.question.options.now c.args.source.now
     (g.R.Read.remaining c.args.lines.now) (g.R.Read.remaining c.args.lines.now) c.args.question.section
-    (record { file = c.args.self.now.loader; source = c.args.source.now })
+    (record { file = c.args.self.now.loader.file; source = c.args.source.now })
     (record { out = g.O.Write.contents c.args.out.now; err = g.E.Write.contents c.args.err.now })
     (record { out = g.O.Write.contents c.write_words.new.out; err = g.E.Write.contents c.write_words.new.err })
     c.args.ended.now c.write_words.new.ended
     (option_map (λ (a : Bor (List ℕ)). a.now) c.args.all) (words_of c.args.question.options.now)
     (map string_bytes c.deref.result.now)
-    (record { file = c.write_words.new.self.loader; source = c.write_words.new.source })
+    (record { file = c.write_words.new.self.loader.file; source = c.write_words.new.source })
     (ap (option_map (λ (a : Bor (List ℕ)). a.now)) c.in-None-Some.is-0)
     (words_are c.args.question.options.now c.in-None-Some.words c.deref.result.now c.in-None-Some.is-1
     c.deref.ensures.value)
@@ -42,7 +42,7 @@ returns-in-None-None-clause-whole g c =
     on_ok c.write_lines.result
     (λ all. lines_answered g.S.SplitSource.answers c.args.question.options.now c.args.source.now
     (g.R.Read.remaining c.args.lines.now) (g.R.Read.remaining c.write_lines.new.lines) c.args.question.section
-    (record { file = c.args.self.now.loader; source = c.args.source.now })
+    (record { file = c.args.self.now.loader.file; source = c.args.source.now })
     (record { out = g.O.Write.contents c.args.out.now; err = g.E.Write.contents c.args.err.now })
     (record { out = g.O.Write.contents c.write_lines.new.out; err = g.E.Write.contents c.write_lines.new.err })
     c.args.ended.now c.write_lines.new.ended

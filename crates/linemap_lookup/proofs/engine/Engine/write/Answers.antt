@@ -16,7 +16,7 @@ returns-in-Ok-clause-stop g c =
     if_err c.write_answer.result
     (λ e stops. record {
       partial = answer_of c.answer.new.self.answer;
-      is_answer = inr (record { file = c.answer.new.self.loader; source = c.answer.new.source }, c.in-Ok.ensures);
+      is_answer = inr (record { file = c.answer.new.self.loader.file; source = c.answer.new.source }, c.in-Ok.ensures);
       stops = stops;
     }) c.write_answer.ensures.stop
 

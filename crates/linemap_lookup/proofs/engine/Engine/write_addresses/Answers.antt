@@ -7,8 +7,8 @@ use Rattle.linemap_lookup.proofs.engine.Engine.write_addresses.Goals as goal
 pub loop-address-preserved : goal.loop-address-preserved
 loop-address-preserved g c =
     subst (λ xs. WritesAddresses g.S.SplitSource.answers c.args.question.options.now c.args.question.section xs
-    (record { file = c.args.self.now.loader; source = c.args.source.now })
-    (record { file = c.write.new.self.loader; source = c.write.new.source })
+    (record { file = c.args.self.now.loader.file; source = c.args.source.now })
+    (record { file = c.write.new.self.loader.file; source = c.write.new.source })
     (record { out = g.O.Write.contents c.args.out.now; err = g.E.Write.contents c.args.err.now })
     (record { out = g.O.Write.contents c.write.new.out; err = g.E.Write.contents c.write.new.err }) c.args.ended.now
     c.write.new.ended)
@@ -16,9 +16,9 @@ loop-address-preserved g c =
     (writes_more g.S.SplitSource.answers c.args.question.options.now c.args.question.section
     (map Some (take c.loop-address.address-index c.args.addresses.now))
     (Some (get_or c.args.addresses.now c.loop-address.address-index 0))
-    (record { file = c.args.self.now.loader; source = c.args.source.now })
-    (record { file = c.loop-address.self.loader; source = c.loop-address.source })
-    (record { file = c.write.new.self.loader; source = c.write.new.source })
+    (record { file = c.args.self.now.loader.file; source = c.args.source.now })
+    (record { file = c.loop-address.self.loader.file; source = c.loop-address.source })
+    (record { file = c.write.new.self.loader.file; source = c.write.new.source })
     (record { out = g.O.Write.contents c.args.out.now; err = g.E.Write.contents c.args.err.now })
     (record { out = g.O.Write.contents c.loop-address.out; err = g.E.Write.contents c.loop-address.err })
     (record { out = g.O.Write.contents c.write.new.out; err = g.E.Write.contents c.write.new.err }) c.args.ended.now
@@ -32,8 +32,8 @@ returns-in_err-write-clause-stop g c =
     (map Some (take c.loop-address.address-index c.args.addresses.now))
     (map Some (drop (c.loop-address.address-index + 1) c.args.addresses.now)) _
     (Some (get_or c.args.addresses.now c.loop-address.address-index 0))
-    (record { file = c.args.self.now.loader; source = c.args.source.now })
-    (record { file = c.loop-address.self.loader; source = c.loop-address.source })
+    (record { file = c.args.self.now.loader.file; source = c.args.source.now })
+    (record { file = c.loop-address.self.loader.file; source = c.loop-address.source })
     (record { out = g.O.Write.contents c.args.out.now; err = g.E.Write.contents c.args.err.now })
     (record { out = g.O.Write.contents c.loop-address.out; err = g.E.Write.contents c.loop-address.err })
     (record { out = g.O.Write.contents c.write.new.out; err = g.E.Write.contents c.write.new.err }) c.args.ended.now

@@ -7,7 +7,7 @@ pub line-init : goal.line-init
 line-init g c =
     lines_none g.S.SplitSource.answers c.args.question.options.now c.args.question.section
     (g.R.Read.remaining c.args.lines.now) c.new-buffer.result
-    (record { file = c.args.self.now.loader; source = c.args.source.now })
+    (record { file = c.args.self.now.loader.file; source = c.args.source.now })
     (record { out = g.O.Write.contents c.args.out.now; err = g.E.Write.contents c.args.err.now }) c.args.ended.now
     c.new-buffer.ensures.start
 
@@ -16,9 +16,9 @@ line-preserved g c =
     lines_more g.S.SplitSource.answers c.args.question.options.now c.args.question.section
     (g.R.Read.remaining c.args.lines.now) (g.R.Read.remaining c.line.lines)
     (g.R.Read.remaining c.next_address.new.lines) c.line.buffer c.next_address.new.buffer
-    (record { file = c.args.self.now.loader; source = c.args.source.now })
-    (record { file = c.line.self.loader; source = c.line.source })
-    (record { file = c.write.new.self.loader; source = c.write.new.source })
+    (record { file = c.args.self.now.loader.file; source = c.args.source.now })
+    (record { file = c.line.self.loader.file; source = c.line.source })
+    (record { file = c.write.new.self.loader.file; source = c.write.new.source })
     (record { out = g.O.Write.contents c.args.out.now; err = g.E.Write.contents c.args.err.now })
     (g.O.Write.contents c.line.out) (g.E.Write.contents c.line.err) (g.E.Write.contents c.next_address.new.err)
     (record { out = g.O.Write.contents c.write.new.out; err = g.E.Write.contents c.write.new.err }) c.args.ended.now
@@ -33,8 +33,8 @@ returns-in_err-address-clause-stop g c =
     (lines_out_of_memory g.S.SplitSource.answers c.args.question.options.now c.args.question.section
     (g.R.Read.remaining c.args.lines.now) (g.R.Read.remaining c.line.lines)
     (g.R.Read.remaining c.next_address.new.lines) c.line.buffer
-    (record { file = c.args.self.now.loader; source = c.args.source.now })
-    (record { file = c.line.self.loader; source = c.line.source })
+    (record { file = c.args.self.now.loader.file; source = c.args.source.now })
+    (record { file = c.line.self.loader.file; source = c.line.source })
     (record { out = g.O.Write.contents c.args.out.now; err = g.E.Write.contents c.args.err.now })
     (g.O.Write.contents c.line.out) (g.E.Write.contents c.line.err) (g.E.Write.contents c.next_address.new.err)
     c.args.ended.now c.line.ended c.in_err-address.field-0.0 c.line.invariant c.next_address.ensures.taken
@@ -47,8 +47,8 @@ returns-in_err-write-clause-stop g c =
     (lines_stop g.S.SplitSource.answers c.args.question.options.now c.args.question.section
     (g.R.Read.remaining c.args.lines.now) (g.R.Read.remaining c.line.lines)
     (g.R.Read.remaining c.next_address.new.lines) c.line.buffer c.next_address.new.buffer
-    (record { file = c.args.self.now.loader; source = c.args.source.now })
-    (record { file = c.line.self.loader; source = c.line.source })
+    (record { file = c.args.self.now.loader.file; source = c.args.source.now })
+    (record { file = c.line.self.loader.file; source = c.line.source })
     (record { out = g.O.Write.contents c.args.out.now; err = g.E.Write.contents c.args.err.now })
     (g.O.Write.contents c.line.out) (g.E.Write.contents c.line.err) (g.E.Write.contents c.next_address.new.err)
     (record { out = g.O.Write.contents c.write.new.out; err = g.E.Write.contents c.write.new.err }) c.args.ended.now
@@ -61,8 +61,8 @@ returns-clause-whole g c =
     lines_end g.S.SplitSource.answers c.args.question.options.now c.args.question.section
     (g.R.Read.remaining c.args.lines.now) (g.R.Read.remaining c.line.lines)
     (g.R.Read.remaining c.next_address.new.lines) c.line.buffer c.next_address.new.buffer
-    (record { file = c.args.self.now.loader; source = c.args.source.now })
-    (record { file = c.line.self.loader; source = c.line.source })
+    (record { file = c.args.self.now.loader.file; source = c.args.source.now })
+    (record { file = c.line.self.loader.file; source = c.line.source })
     (record { out = g.O.Write.contents c.args.out.now; err = g.E.Write.contents c.args.err.now })
     (g.O.Write.contents c.line.out) (g.E.Write.contents c.line.err) (g.E.Write.contents c.next_address.new.err)
     c.args.ended.now c.line.ended _ c.line.invariant (ap g.E.Write.contents c.in_ok-address.ensures.same)

@@ -1,0 +1,30 @@
+-- What a loader's lookups of places and stretches leave, and when they aren't out of memory.
+use Rattle.std.proofs.Common.{◌≡◌, ◌≢◌, ℕ, Result, Err, ap, subst}
+use Rattle.addr2line_context.specs.AnsweredContexts.{AnsweredContext}
+use Rattle.addr2line_context.specs.ContextCosts.{location_looks, AsksForPlace, AfterReading}
+use Rattle.addr2line_context.specs.Error.{Error}
+use Rattle.addr2line_context.specs.Error.TheVariants.{Memory}
+use Rattle.addr2line_context.specs.KeptContexts.{ResolvedContext}
+use Rattle.addr2line_context.specs.KeptUnits.{KeepsAsked}
+use Rattle.addr2line_loader.specs.LoadedFiles.{LoadedFile}
+use Rattle.addr2line_loader.specs.ResolvedFiles.{ResolvedFile, AfterPlace, answered_context}
+
+-- a file of this kind, over a context
+abbrev pub over : LoadedFile → ResolvedContext → ResolvedFile
+over f c = record { file = record f { context = c.value.plain; answers = c.value.answers }; units = c.units }
+
+pub after_place : {A : Type 0} (f : LoadedFile) (before after : ResolvedContext) (a : ℕ) (r : Result A Error)
+    → AfterReading (AsksForPlace before.value a) (location_looks before.value a) r before after
+    → (old : ResolvedFile) → over f before ≡ old → AfterPlace a r old (over f after)
+after_place f before after a r h old is =
+    subst (λ (x : ResolvedFile). AfterPlace a r x (over f after)) is (record {
+      file = ap (λ (v : AnsweredContext). record f { context = v.plain; answers = v.answers }) h.value;
+      context = h;
+    })
+
+-- the lines of the units that a call asks are kept
+pub free_of : {A : Type 0} (asks : AnsweredContext → ℕ → Type 0) (f : LoadedFile) (before : ResolvedContext)
+    (r : Result A Error) → (KeepsAsked (asks before.value) before.units → r ≢ Err Memory) → (old : ResolvedFile)
+    → over f before ≡ old → KeepsAsked (asks (answered_context old.file)) old.units → r ≢ Err Memory
+free_of asks f before r free old is =
+    subst (λ (x : ResolvedFile). KeepsAsked (asks (answered_context x.file)) x.units → r ≢ Err Memory) is free

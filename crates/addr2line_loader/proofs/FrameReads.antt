@@ -1,0 +1,142 @@
+-- What lookups of the frames of an address read, one after the other.
+use Rattle.std.proofs.Common.{arith, ◌≡◌, ◌∙◌, ◌⊎◌, inl, inr, ℕ, ◌*◌, ◌<◌, List, [], length, Option, sym, ap, subst}
+use Rattle.addr2line_context.specs.AnsweredContexts.{AnsweredContext}
+use Rattle.addr2line_context.specs.ContextCosts.{frame_looks, AsksForFrames, AfterSearch}
+use Rattle.addr2line_context.specs.Contexts.{FileContext}
+use Rattle.addr2line_context.specs.DwarfFiles.{DwarfFile}
+use Rattle.addr2line_context.specs.FirstAnswers.{FirstAnswers}
+use Rattle.addr2line_context.specs.KeptContexts.{ResolvedContext}
+use Rattle.addr2line_context.specs.KeptUnits.{KeepsAt, ReadsNoLines}
+use Rattle.addr2line_context.specs.LookupCosts.{AtMostLooks}
+use Rattle.addr2line_context.specs.ResolvedUnits.{ResolvedUnit}
+use Rattle.addr2line_context.specs.SettledLookups.{frames_in, loads_in, after_answer}
+use Rattle.addr2line_context.specs.UnitLookups.{IsPending}
+use Rattle.addr2line_context.proofs.AnsweredFirst.{frames_have_load}
+use Rattle.addr2line_loader.specs.ResolvedFiles.{ReadsForFrames}
+use Rattle.addr2line_loader.proofs.AskedUnits.{asks_still}
+
+-- ---- one call
+
+module _ (c : AnsweredContext) (a : ℕ) where
+  -- a call that changes nothing
+  pub reads_nothing : (us : List ResolvedUnit) → ReadsForFrames c a us us
+  reads_nothing us = record {
+    lines = λ n kept. kept;
+    functions = record { functions = λ n kept. kept; calls = λ f n kept. kept };
+    reads = λ n kept. inl kept;
+  }
+
+  -- an answer
+  pub reads_by_answer : (n : ℕ) (us vs : List ResolvedUnit) → AtMostLooks n us vs → ReadsNoLines us vs
+      → ReadsForFrames c a us vs
+  reads_by_answer n us vs cost lines = record {
+    lines = cost.more;
+    functions = cost.functions;
+    reads = λ k kept. inl (lines k kept);
+  }
+
+  -- one that leaves another context, in which a lookup asks no other units
+  pub reads_in : (last : AnsweredContext) → ((n : ℕ) → AsksForFrames c a n → AsksForFrames last a n)
+      → (us vs : List ResolvedUnit) → ReadsForFrames c a us vs → ReadsForFrames last a us vs
+  reads_in last asks us vs h = record {
+    lines = h.lines;
+    functions = h.functions;
+    reads = λ n kept. by n (h.reads n kept);
+  }
+    where
+      by : (n : ℕ) → KeepsAt us n ⊎ AsksForFrames c a n → KeepsAt us n ⊎ AsksForFrames last a n
+      by n (inl kept) = inl kept
+      by n (inr asked) = inr (asks n asked)
+
+  -- ---- one call after the other
+
+  pub reads_both : (us vs ws : List ResolvedUnit) → ReadsForFrames c a us vs → ReadsForFrames c a vs ws
+      → ReadsForFrames c a us ws
+  reads_both us vs ws h k = record {
+    lines = λ n kept. k.lines n (h.lines n kept);
+    functions = record {
+      functions = λ n kept. k.functions.functions n (h.functions.functions n kept);
+      calls = λ f n kept. k.functions.calls f n (h.functions.calls f n kept);
+    };
+    reads = λ n kept. before n (k.reads n kept);
+  }
+    where
+      before : (n : ℕ) → KeepsAt vs n ⊎ AsksForFrames c a n → KeepsAt us n ⊎ AsksForFrames c a n
+      before n (inl kept) = h.reads n kept
+      before n (inr asked) = inr asked
+
+-- a lookup, and calls before it
+pub reads_then_search : (a : ℕ) (us : List ResolvedUnit) (mid new : ResolvedContext)
+    → ReadsForFrames mid.value a us mid.units → AfterSearch AsksForFrames a mid new
+    → ReadsForFrames new.value a us new.units
+reads_then_search a us mid new h after =
+    subst (λ (x : AnsweredContext). ReadsForFrames x a us new.units) (sym after.value)
+    (reads_both mid.value a us mid.units new.units h
+    (record { lines = after.cost.more; functions = after.cost.functions; reads = after.reads }))
+
+abbrev answered : FileContext → FirstAnswers → AnsweredContext
+answered p first = record { plain = p; answers = first }
+
+-- an answer to the first load, or none
+pub asks_left : (old new : AnsweredContext) (a : ℕ) (file : Option DwarfFile) → new.plain ≡ old.plain
+    → (new.answers ≡ (after_answer old a file).answers) ⊎ (new.answers ≡ old.answers) → (n : ℕ)
+    → AsksForFrames old a n → AsksForFrames new a n
+asks_left old new a file same left n asked = by left
+  where
+    with_answers : (first : FirstAnswers) → new.answers ≡ first → new ≡ record old { answers = first }
+    with_answers first is = ap (λ p. answered p new.answers) same ∙ ap (answered old.plain) is
+
+    by : (new.answers ≡ (after_answer old a file).answers) ⊎ (new.answers ≡ old.answers) → AsksForFrames new a n
+    by (inl is) =
+        subst (λ (x : AnsweredContext). AsksForFrames x a n) (sym (with_answers (after_answer old a file).answers is))
+        (asks_still old a file n asked)
+    by (inr is) = subst (λ (x : AnsweredContext). AsksForFrames x a n) (sym (with_answers old.answers is)) asked
+
+-- ---- where no load is pending
+
+-- no lookup waits
+pub waits_somewhere : (a : ℕ) (old mid : ResolvedContext) → mid ≡ old → loads_in old.value a ≡ []
+    → IsPending (frames_in mid.value a) → ⊥
+waits_somewhere a old mid same none waits =
+    let some =
+    subst (λ (x : ResolvedContext). 0 < length (loads_in x.value a)) same (frames_have_load mid.value a waits) in
+    none_below (subst (λ ps. 0 < length ps) none some)
+  where
+    none_below : 0 < 0 → ⊥
+    none_below less = omega (arith, less)
+
+-- the lookup is the first
+pub search_alone : (a : ℕ) (old mid new : ResolvedContext) → mid ≡ old → AfterSearch AsksForFrames a mid new
+    → AfterSearch AsksForFrames a old new
+search_alone a old mid new same = subst (λ (x : ResolvedContext). AfterSearch AsksForFrames a x new) same
+
+-- ---- looks
+
+looks_twice : (n m : ℕ) (us vs ws : List ResolvedUnit) → m ≡ n → AtMostLooks n us vs → AtMostLooks m vs ws
+    → AtMostLooks (2 * n) us ws
+looks_twice n m us vs ws same first then = record {
+  counters = then.counters ∙ first.counters;
+  probes = omega (arith, same, first.probes, then.probes);
+  more = λ k kept. then.more k (first.more k kept);
+  functions = record {
+    functions = λ k kept. then.functions.functions k (first.functions.functions k kept);
+    calls = λ f k kept. then.functions.calls f k (first.functions.calls f k kept);
+  };
+}
+
+-- those of two lookups, one after the other
+pub looks_of_two : (a : ℕ) (old mid new : ResolvedContext) → AfterSearch AsksForFrames a old mid
+    → AfterSearch AsksForFrames a mid new → AtMostLooks (2 * frame_looks old.value a) old.units new.units
+looks_of_two a old mid new first then =
+    looks_twice (frame_looks old.value a) (frame_looks mid.value a) old.units mid.units new.units
+    (ap (λ (x : AnsweredContext). frame_looks x a) first.value) first.cost then.cost
+
+-- or of one
+pub looks_of_one : (a : ℕ) (old new : ResolvedContext) → AfterSearch AsksForFrames a old new
+    → AtMostLooks (2 * frame_looks old.value a) old.units new.units
+looks_of_one a old new first = record {
+  counters = first.cost.counters;
+  probes = omega (arith, first.cost.probes);
+  more = first.cost.more;
+  functions = first.cost.functions;
+}
