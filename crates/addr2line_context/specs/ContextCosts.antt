@@ -23,7 +23,7 @@ use Rattle.addr2line_context.specs.KeptContexts.{ResolvedContext}
 
 -- how often the line number program of a unit was run
 abbrev pub runs_of_unit : ResolvedUnit → ℕ
-runs_of_unit u = runs_if_kept u.keeps_lines
+runs_of_unit u = runs_if_kept u.value.unit.facts u.keeps_lines
 
 -- ---- looks
 

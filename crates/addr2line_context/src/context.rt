@@ -154,8 +154,9 @@ impl<R: Reader> Context<R> {
         self.supplement_units.as_slice()
     }
 
-    /// How often the line number program of a unit was run: once where its lines are kept, and else
-    /// never. Runs that ended when out of memory don't count. None for a token past the units.
+    /// How often the line number program of a unit was run: once where it has one and its lines are
+    /// kept, and else never. Runs that ended when out of memory don't count. None for a token past
+    /// the units.
     pub fn line_runs(&self, token: UnitToken) -> Option<&Runs>
         ensures runs { option_map (λ r. r.now) result
             ≡ option_map runs_of_unit (slice_get self.now.units token) }

@@ -1,5 +1,5 @@
 -- What is kept of a unit is what the definitions say.
-use Rattle.std.proofs.Common.{◌≡◌, ◌≢◌, ℕ, ◌+◌, List, true, false, Option, Some, None, is_some, option_map, Result, Ok, Err, refl, sym, ap, subst, ◌∙◌}
+use Rattle.std.proofs.Common.{◌≡◌, ◌≢◌, ℕ, ◌+◌, List, true, false, Option, Some, None, is_some, option_map, Result, Ok, Err, refl, sym, ap, subst, ◌∙◌, arith}
 use Rattle.std.specs.Prelude.{OnOk, OnErr}
 use Rattle.addr2line_functions.specs.Error.{Error}
 use Rattle.addr2line_functions.specs.Error.TheVariants.{Memory}
@@ -8,6 +8,7 @@ use Rattle.addr2line_functions.specs.Range.{Range}
 use Rattle.addr2line_functions.specs.Lines.{Lines}
 use Rattle.addr2line_functions.specs.UnitLines.{lines_of_unit}
 use Rattle.addr2line_functions.specs.UnitRanges.{ranges_of_lines}
+use Rattle.addr2line_units.specs.CountedRuns.{runs_for_lines}
 use Rattle.addr2line_units.specs.LineIndexes.{CountedLines, counted_lines}
 use Rattle.addr2line_units.specs.RootRanges.{RunsForRanges}
 use Rattle.addr2line_functions.specs.FirstAnswers.{SplitLoad, FirstAnswer, load_of}
@@ -85,6 +86,10 @@ is_any : (counter : ℕ) (read : Option (Result Lines Error)) → is_some (with_
 is_any counter None = refl
 is_any counter (Some l) = refl
 
+-- runs that are counted from none on
+from_none : (n m : ℕ) → n ≡ 0 + m → n ≡ m
+from_none n m is = omega arith
+
 module _ (u : UnitInFile) (ranges : List Range) (runs : ℕ) where
   keeps_root : (load : Result (Option SplitLoad) Error) (read : Option (Result Lines Error)) (k : KeptFunctions)
       (counter : ℕ) → RunsForRanges u ranges read 0 runs → load ≡ load_of u → k ≡ nothing_kept
@@ -98,7 +103,7 @@ module _ (u : UnitInFile) (ranges : List Range) (runs : ℕ) where
   keeps_root load (Some l) k counter run is none = record {
     load_is = is;
     lines_are = ap (counted_lines counter) run.0;
-    runs_are = run.2;
+    runs_are = from_none runs (runs_for_lines u.facts) run.2;
     functions_are = keeps_nothing u load None k counter none;
   }
 
@@ -138,16 +143,19 @@ pub keeps_run : (u : UnitInFile) (load : Result (Option SplitLoad) Error) (first
     (old new : Option (Result CountedLines Error)) (runs later : ℕ) (k : KeptFunctions) (counter : ℕ)
     (result : Result (Unit {0}) Error) (read : Result CountedLines Error)
     → KeepsParses u load first old runs k counter → is_some old ≡ false
-    → ok_lines (counted_lines counter (lines_of_unit u)) ≡ ok_lines read → later ≡ runs + 1
+    → ok_lines (counted_lines counter (lines_of_unit u)) ≡ ok_lines read
+    → later ≡ runs + runs_for_lines u.facts
     → OnOk result (new ≡ Some read) → OnErr result (read ≡ Err Memory) → read ≢ Err Memory
     → KeepsParses u load first new later k counter
 keeps_run u load first old new runs later k counter result read before nothing found counted ok err not =
     let lines : read ≡ counted_lines counter (lines_of_unit u) = cc in
     let kept : new ≡ Some read = kept_answer result read new ok err not in
-    let none : runs ≡ 0 = before.runs_are ∙ ap runs_if_kept nothing in
+    let none : runs ≡ 0 = before.runs_are ∙ ap (runs_if_kept u.facts) nothing in
     record {
       load_is = before.load_is;
       lines_are = subst (IsKeptOf (counted_lines counter (lines_of_unit u))) (sym kept) lines;
-      runs_are = counted ∙ ap (λ n. n + 1) none ∙ sym (ap (λ o. runs_if_kept (is_some o)) kept);
+      runs_are =
+          from_none later (runs_for_lines u.facts) (counted ∙ ap (λ n. n + runs_for_lines u.facts) none)
+          ∙ sym (ap (λ o. runs_if_kept u.facts (is_some o)) kept);
       functions_are = before.functions_are;
     }

@@ -10,7 +10,7 @@ use Rattle.addr2line_functions.specs.OptionalValues.{if_any}
 use Rattle.addr2line_functions.specs.UnitHeaders.{DebugUnit}
 use Rattle.addr2line_functions.specs.DwarfFiles.{DwarfFile}
 use Rattle.addr2line_functions.specs.EntryRows.{Row}
-use Rattle.addr2line_functions.specs.UnitFacts.{UnitInFile, in_file, root}
+use Rattle.addr2line_functions.specs.UnitFacts.{UnitFacts, UnitInFile, in_file, root}
 use Rattle.addr2line_functions.specs.Lines.{Lines, LineRow, Location, row_at, row_location}
 use Rattle.addr2line_functions.specs.UnitLines.{lines_of_unit}
 use Rattle.addr2line_functions.specs.UnitRanges.{ranges_of_lines}
@@ -21,6 +21,7 @@ use Rattle.addr2line_functions.specs.Contexts.{ContextUnit, context_unit, facts_
 use Rattle.addr2line_functions.specs.Lookups.{split_or_itself}
 use Rattle.addr2line_functions.specs.EntryReferences.{HoldingUnit}
 use Rattle.addr2line_functions.specs.ContextNames.{holding_unit}
+use Rattle.addr2line_units.specs.CountedRuns.{runs_for_lines}
 use Rattle.addr2line_units.specs.LineIndexes.{CountedLines, counted_lines, place_probes}
 use Rattle.addr2line_units.specs.ProbedLists.{ProbeCount}
 use Rattle.addr2line_resolved.specs.KeptFunctions.{KeptFunctions, AreCountedBy, plain_functions, function_count, count_of_functions, calls_of_none, kept_at}
@@ -130,9 +131,9 @@ IsKeptOf x (Some y) = y ≡ x
 abbrev pub if_kept : {A : Type 0} → Bool → A → Option A
 if_kept is_kept x = if is_kept then Some x else None
 
--- how often the line number program of a unit was run: once where its lines are kept
-abbrev pub runs_if_kept : Bool → ℕ
-runs_if_kept is_kept = if is_kept then 1 else 0
+-- how often the line number program of a unit was run: once where it has one and its lines are kept
+abbrev pub runs_if_kept : UnitFacts → Bool → ℕ
+runs_if_kept u is_kept = if is_kept then runs_for_lines u else 0
 
 -- functions are kept of a decided unit alone
 abbrev pub AreFunctionsOf : UnitInFile → Result (Option SplitLoad) Error → Option FirstAnswer
@@ -151,14 +152,14 @@ pub record KeepsFunctions (u : UnitInFile) (load : Result (Option SplitLoad) Err
   pub count_is : length k.calls ≡ function_count k.functions
   pub are_counted : AreCountedBy counter k
 
--- What is kept of a unit is its load, its lines with this counter, which were run for once, and its
--- functions with the same counter.
+-- What is kept of a unit is its load, its lines with this counter, for which its program was run
+-- once, and its functions with the same counter.
 pub record KeepsParses (u : UnitInFile) (load : Result (Option SplitLoad) Error)
     (first : Option FirstAnswer) (lines : Option (Result CountedLines Error)) (runs : ℕ)
     (functions : KeptFunctions) (counter : ℕ) : Type 0 where
   pub load_is : load ≡ load_of u
   pub lines_are : IsKeptOf (counted_lines counter (lines_of_unit u)) lines
-  pub runs_are : runs ≡ runs_if_kept (is_some lines)
+  pub runs_are : runs ≡ runs_if_kept u.facts (is_some lines)
   pub functions_are : KeepsFunctions u load first functions counter
 
 -- ---- places

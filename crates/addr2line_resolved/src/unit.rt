@@ -244,10 +244,10 @@ impl<R: Reader> ResUnit<R> {
 
     // ---- lines
 
-    /// How often the unit's line number program was run: once where its lines are kept, and else
-    /// never.
+    /// How often the unit's line number program was run: once where it has one and its lines are
+    /// kept, and else never.
     pub fn runs(&self) -> &Runs
-        ensures { result.now ≡ runs_if_kept self.now.keeps_lines }
+        ensures { result.now ≡ runs_if_kept self.now.value.unit.facts self.now.keeps_lines }
     {
         &self.runs
     }

@@ -10,6 +10,7 @@ use Rattle.gimli_dwarf.specs.UnitFacts.{UnitInFile}
 use Rattle.addr2line_index.specs.Lines.{Lines}
 use Rattle.addr2line_index.specs.UnitRanges.{RangeFact, fact_of, list_in, last_of, range_of_root, declared_ranges, or_else, ranges_of_lines, ranges_of_attributes}
 use Rattle.addr2line_index.specs.UnitLines.{lines_of_unit}
+use Rattle.addr2line_units.specs.CountedRuns.{runs_for_lines}
 use Rattle.addr2line_units.specs.RootRanges.{RootRanges, ranges_by_run, RunsForRanges}
 use Rattle.addr2line_index.specs.EntryRanges.{ranges_of_facts, ranges_of_entry}
 use Rattle.addr2line_units.specs.LastFacts.{LastFacts, last_facts, facts_of, ranges_by, declared_by, entry_ranges_in, entry_ranges_by}
@@ -90,7 +91,7 @@ module _ (u : UnitInFile) where
 
   -- and its lines are those of one run
   pub lines_by_run-found : (r : Result RootRanges Error) (old new : ℕ) → ReturnsOrNoMemory r (found (ranges_by_run u))
-      → OnOk r (new ≡ old + 1) → IfOk r (λ x. RunsForRanges u x.ranges x.lines old new)
+      → OnOk r (new ≡ old + runs_for_lines u.facts) → IfOk r (λ x. RunsForRanges u x.ranges x.lines old new)
   lines_by_run-found (Ok x) old new h counted =
       let same : ranges_by_run u ≡ x = cc in
       subst (λ y. RunsForRanges u y.ranges y.lines old new) same (refl, refl, counted)

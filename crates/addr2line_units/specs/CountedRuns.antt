@@ -1,14 +1,19 @@
 -- How often a unit's line number program was run.
-use Rattle.std.specs.Prelude.{◌≡◌, ◌≢◌, ℕ, ◌+◌, Result, Ok, Err}
+use Rattle.std.specs.Prelude.{◌≡◌, ◌≢◌, ℕ, ◌+◌, Result, Ok, Err, is_some}
+use Rattle.gimli_dwarf.specs.UnitFacts.{UnitFacts}
 use Rattle.gimli_lines_rows.specs.Error.{Error}
 use Rattle.gimli_lines_rows.specs.Error.TheVariants.{Memory}
 
--- a run is counted, whether the program is refused or not, unless it ended out of memory
-abbrev pub CountsRun : {A : Type 0} → Result A Error → ℕ → ℕ → Type 0
-CountsRun (Ok x) old new = new ≡ old + 1
-CountsRun (Err e) old new = (e ≢ Memory → new ≡ old + 1) × (e ≡ Memory → new ≡ old)
+-- how many runs it takes to read a unit's lines: one of its program, none where it has none
+abbrev pub runs_for_lines : UnitFacts → ℕ
+runs_for_lines u = if is_some u.line_header then 1 else 0
 
--- a run is counted, unless it ended out of memory
-abbrev pub CountsRunOrNoMemory : {A : Type 0} → Result A Error → ℕ → ℕ → Type 0
-CountsRunOrNoMemory (Ok x) old new = new ≡ old + 1
-CountsRunOrNoMemory (Err e) old new = new ≡ old
+-- so many runs are counted, whether the program is refused or not, unless out of memory
+abbrev pub CountsRuns : {A : Type 0} → ℕ → Result A Error → ℕ → ℕ → Type 0
+CountsRuns runs (Ok x) old new = new ≡ old + runs
+CountsRuns runs (Err e) old new = (e ≢ Memory → new ≡ old + runs) × (e ≡ Memory → new ≡ old)
+
+-- so many runs are counted, unless out of memory
+abbrev pub CountsRunsOrNoMemory : {A : Type 0} → ℕ → Result A Error → ℕ → ℕ → Type 0
+CountsRunsOrNoMemory runs (Ok x) old new = new ≡ old + runs
+CountsRunsOrNoMemory runs (Err e) old new = new ≡ old

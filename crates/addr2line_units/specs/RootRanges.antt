@@ -7,6 +7,7 @@ use Rattle.addr2line_index.specs.Lines.{Lines}
 use Rattle.addr2line_index.specs.UnitLines.{lines_of_unit}
 use Rattle.addr2line_index.specs.UnitRanges.{ranges_of_lines}
 use Rattle.addr2line_index.specs.Contexts.{ContextUnit}
+use Rattle.addr2line_units.specs.CountedRuns.{runs_for_lines}
 
 -- ranges, and the lines of the unit where its program was run for them
 pub record RootRanges : Type 0 where
@@ -18,11 +19,11 @@ abbrev pub ranges_by_run : UnitInFile → RootRanges
 ranges_by_run u =
     record { ranges = ranges_of_lines (lines_of_unit u); lines = Some (lines_of_unit u) }
 
--- Lines are the unit's, of one run, where the ranges are those of its lines; else nothing was run.
+-- Lines are the unit's, of one run of its program, if it has one, where the ranges are those of its lines; else nothing was run.
 abbrev pub RunsForRanges : UnitInFile → List Range → Option (Result Lines Error) → ℕ → ℕ → Type 0
 RunsForRanges u ranges None old new = new ≡ old
 RunsForRanges u ranges (Some lines) old new =
-    (lines ≡ lines_of_unit u) × (ranges ≡ ranges_of_lines lines) × (new ≡ old + 1)
+    (lines ≡ lines_of_unit u) × (ranges ≡ ranges_of_lines lines) × (new ≡ old + runs_for_lines u.facts)
 
 -- with the unit's language
 pub record RootFacts : Type 0 where

@@ -9,6 +9,7 @@ ghost use Rattle.addr2line_index.specs.UnitRanges.{range_if_nonempty, low_to_hig
 ghost use Rattle.addr2line_index.specs.EntryRanges.{ranges_of_entry};
 ghost use Rattle.addr2line_index.specs.UnitLines.{lines_of_unit};
 ghost use Rattle.addr2line_units.specs.ArangeIndexes.{IsIndexOf};
+ghost use Rattle.addr2line_units.specs.CountedRuns.{runs_for_lines};
 ghost use Rattle.addr2line_units.specs.LastFacts.{root_range, declared_by, entry_ranges_by};
 ghost use Rattle.addr2line_units.specs.RootRanges.{ranges_by_run, RunsForRanges};
 
@@ -148,7 +149,7 @@ fn ranges_by_run<R: Reader>(
     runs: &mut Runs,
 ) -> Result<RootRanges, Error>
     ensures value { ReturnsOrNoMemory result (Ok (ranges_by_run unit.now)) }
-    ensures counted { OnOk result (runs.new ≡ runs.old + 1) }
+    ensures counted { OnOk result (runs.new ≡ runs.old + runs_for_lines unit.now.facts) }
 {
     let lines = UnitLines::run_to_keep(alloc, unit, runs)?;
     let ranges = ranges_of_lines(alloc, &lines)?;

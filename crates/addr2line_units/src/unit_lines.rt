@@ -5,7 +5,7 @@ ghost use Rattle.gimli_lines_rows.specs.Calls.{ReturnsOrNoMemory};
 ghost use Rattle.gimli_lines_rows.specs.Error.TheVariants.{Memory};
 ghost use Rattle.addr2line_index.specs.LineIndexes.{counted_lines};
 ghost use Rattle.addr2line_index.specs.UnitLines.{lines_of_program, lines_of_unit};
-ghost use Rattle.addr2line_units.specs.CountedRuns.{CountsRun, CountsRunOrNoMemory};
+ghost use Rattle.addr2line_units.specs.CountedRuns.{runs_for_lines, CountsRuns, CountsRunsOrNoMemory};
 
 use crate::files::texts_of_files;
 use crate::rows::run_program;
@@ -74,7 +74,7 @@ impl Model for UnitLines {
 impl UnitLines {
     /// Runs the line number program of a unit, and counts that (DWARF 5, 6.2). Its lines are the
     /// sequences of the program, and the texts of its files by their numbers; none where the unit
-    /// has no program. Refused is a program by its fault, else by the first of its files whose text
+    /// has no program, and then no run is counted. Refused is a program by its fault, else by the first of its files whose text
     /// can't be read. Takes memory for the rows and for the texts, and where the program defines
     /// files for a second header that has them too.
     pub fn run<R: Reader>(
@@ -83,11 +83,11 @@ impl UnitLines {
         runs: &mut Runs,
     ) -> Result<Self, Error>
         ensures lines { ReturnsOrNoMemory result (lines_of_unit unit.now) }
-        ensures counted { CountsRun result runs.old runs.new }
+        ensures counted { CountsRuns (runs_for_lines unit.now.facts) result runs.old runs.new }
     {
         let lines = lines_of_unit(alloc, unit);
         if !matches!(lines, Err(Error::Memory)) {
-            runs.raise();
+            count_run(unit, runs);
         }
         Ok(UnitLines { lines: lines? })
     }
@@ -100,7 +100,8 @@ impl UnitLines {
         runs: &mut Runs,
     ) -> Result<Result<Self, Error>, Error>
         ensures lines { ReturnsOrNoMemory result (Ok (lines_of_unit unit.now)) }
-        ensures counted { CountsRunOrNoMemory result runs.old runs.new }
+        ensures counted { CountsRunsOrNoMemory (runs_for_lines unit.now.facts) result
+            runs.old runs.new }
     {
         match UnitLines::run(alloc, unit, runs) {
             Ok(lines) => Ok(Ok(lines)),
@@ -120,12 +121,13 @@ impl UnitLines {
         ensures lines { ReturnsOrNoMemory result
             (Ok (counted_lines probes.now.name (lines_of_unit unit.now))) }
         ensures answer { IfOk result (λ lines. lines ≢ Err Memory) }
-        ensures counted { CountsRunOrNoMemory result runs.old runs.new }
+        ensures counted { CountsRunsOrNoMemory (runs_for_lines unit.now.facts) result
+            runs.old runs.new }
         ensures refusal { IfErr result (λ e. e ≡ Memory) }
     {
         let lines = lines_of_unit(alloc, unit);
         let index = index_to_keep(alloc, lines, probes)?;
-        runs.raise();
+        count_run(unit, runs);
         Ok(index)
     }
 
@@ -142,6 +144,17 @@ impl UnitLines {
     {
         let UnitLines { lines } = self;
         lines
+    }
+}
+
+// Counts a run of a unit's program, if it has one.
+fn count_run<R: Reader>(unit: &UnitRef<'_, R>, runs: &mut Runs)
+    ensures { runs.new ≡ runs.old + runs_for_lines unit.now.facts }
+{
+    let facts = unit.unit;
+    match &facts.line_program {
+        Some(_) => runs.raise(),
+        None => {}
     }
 }
 

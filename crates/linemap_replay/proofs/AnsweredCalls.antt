@@ -1,5 +1,5 @@
 -- Calls on a context, one after the other.
-use Rattle.std.proofs.Common.{arith, Bool, true, false, ◌≡◌, ℕ, ◌+◌, ◌<◌, ◌≤◌, List, [], ◌∷◌, ◌++◌, map, length, drop, get_or, Option, refl, sym, ap, ◌∙◌, append_assoc, append-nil}
+use Rattle.std.proofs.Common.{arith, Bool, true, false, ◌≡◌, ℕ, ◌+◌, ◌<◌, ◌≤◌, List, [], ◌∷◌, ◌++◌, map, length, drop, get_or, Option, is_some, if◌then◌else◌, refl, sym, ap, ◌∙◌, append_assoc, append-nil}
 use Rattle.std.proofs.lemmas.List.{drop_all, map-append}
 use Rattle.std.proofs.lemmas.List.Elements.{All-nil, All-cons}
 use Rattle.addr2line_context.specs.AnsweredContexts.{AnsweredContext}
@@ -7,7 +7,7 @@ use Rattle.addr2line_context.specs.ContextCosts.{runs_of_unit}
 use Rattle.addr2line_context.specs.ContextNames.{naming_in}
 use Rattle.addr2line_context.specs.Contexts.{FileContext}
 use Rattle.addr2line_context.specs.DwarfFiles.{DwarfFile}
-use Rattle.addr2line_context.specs.ResolvedUnits.{ResolvedUnit, runs_if_kept}
+use Rattle.addr2line_context.specs.ResolvedUnits.{ResolvedUnit}
 use Rattle.addr2line_context.specs.Histories.{ContextCall, CallAnswer, ContextState, call, history_from}
 use Rattle.linemap_replay.specs.declared.answer.Answer.{Answer}
 use Rattle.linemap_replay.specs.declared.call.Call.{Call}
@@ -102,11 +102,14 @@ module _ (files : List (Option DwarfFile)) (start : AnsweredContext) (calls : Li
         ap (λ (s : ContextState). s.answers)
         (ap (λ ks. state_left start.plain ks (state_of v tokens)) (sym none_left) ∙ before.state)
 
--- a program is run where its lines are kept, and then once
+-- a program is run where there is one and its lines are kept, and then once
 pub run_once : (us : List ResolvedUnit) → AreRunOnce us
 run_once [] = All-nil (λ (u : ResolvedUnit). runs_of_unit u ≤ 1)
-run_once (u ∷ us) = All-cons (λ (v : ResolvedUnit). runs_of_unit v ≤ 1) u us (by u.keeps_lines) (run_once us)
+run_once (u ∷ us) =
+    All-cons (λ (v : ResolvedUnit). runs_of_unit v ≤ 1) u us
+    (by u.keeps_lines (is_some u.value.unit.facts.line_header)) (run_once us)
   where
-    by : (is_kept : Bool) → runs_if_kept is_kept ≤ 1
-    by true = omega arith
-    by false = omega arith
+    by : (is_kept has_program : Bool) → (if is_kept then (if has_program then 1 else 0) else 0) ≤ 1
+    by true true = omega arith
+    by true false = omega arith
+    by false has_program = omega arith

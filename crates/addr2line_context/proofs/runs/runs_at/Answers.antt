@@ -13,7 +13,7 @@ returns-in-Some-clause-runs g c =
 
 pub returns-in-Some-clause-once : goal.returns-in-Some-clause-once
 returns-in-Some-clause-once g c =
-    subst (λ n. n ≤ 1) (sym c.runs.ensures) (runs_once c.in-Some.unit.now.keeps_lines)
+    subst (λ n. n ≤ 1) (sym c.runs.ensures) (runs_once c.in-Some.unit.now)
 
 pub returns-in-None-clause-runs : goal.returns-in-None-clause-runs
 returns-in-None-clause-runs g c =

@@ -1,6 +1,7 @@
-use Rattle.std.proofs.Common.{◌≡◌, ◌∙◌, sym, subst}
+use Rattle.std.proofs.Common.{◌≡◌, ◌∙◌, ◌+◌, sym, subst}
 use Rattle.addr2line_functions.specs.UnitFacts.{UnitInFile}
 use Rattle.addr2line_functions.specs.UnitLines.{lines_of_unit}
+use Rattle.addr2line_units.specs.CountedRuns.{runs_for_lines}
 use Rattle.addr2line_units.specs.LineIndexes.{counted_lines}
 use Rattle.addr2line_resolved.proofs.KeptParses.{keeps_run, ok_lines}
 use Rattle.addr2line_resolved.proofs.unit.ResUnit.read_lines.Goals as goal
@@ -14,4 +15,6 @@ invariant_of-self-2 g c =
     (sym c.is_read.ensures ∙ c.if-is_read.false)
     (subst (λ (u : UnitInFile). ok_lines (counted_lines counter (lines_of_unit u)) ≡ ok_lines c.in_ok-lines.lines)
     c.unit_ref-unit.ensures c.in_ok-lines.ensures.lines)
-    c.in_ok-lines.ensures.counted c.keep.ensures.ok c.keep.ensures.cause c.in_ok-lines.ensures.answer
+    (subst (λ (u : UnitInFile). c.run_to_index.new.runs ≡ c.self.inside.runs + runs_for_lines u.facts)
+    c.unit_ref-unit.ensures c.in_ok-lines.ensures.counted)
+    c.keep.ensures.ok c.keep.ensures.cause c.in_ok-lines.ensures.answer
