@@ -1,6 +1,7 @@
 -- The chain of the calls of an address, one depth further, by the calls' numbers.
-use Rattle.std.proofs.Common.{◌≡◌, ℕ, ◌+◌, ◌==◌, List, [], ◌∷◌, ◌++◌, length, slice_get, Option, Some, None, option_map, MatchOption, refl, sym, ap, subst, ◌∙◌, append_assoc, append-nil, length-append, arith}
+use Rattle.std.proofs.Common.{◌≡◌, ℕ, ◌+◌, ◌==◌, List, [], ◌∷◌, ◌++◌, length, map, slice_get, Option, Some, None, option_map, MatchOption, refl, sym, ap, subst, ◌∙◌, append_assoc, append-nil, length-append, arith}
 use Rattle.std.specs.List.{cons_option}
+use Rattle.std.proofs.lemmas.List.{map-append}
 use Rattle.std.proofs.lemmas.List.Elements.{filter_map-append}
 use Rattle.addr2line_units.specs.Choice.{holder}
 use Rattle.addr2line_units.specs.Pairs.{Pair}
@@ -73,25 +74,25 @@ module _ (cs : List Call) (a : ℕ) where
       no_item ranges_of_call (λ (q : Pair Call). q.unit.depth == depth) a cs (number_held depth None e) in
       subst (Goes depth) none (chain_step cs a depth)
 
-  -- ---- the calls of the numbers so far, and those that are left
+  -- ---- the call of each number so far, and the calls that are left
 
-  abbrev pub chain_with : List ℕ → List Call
-  chain_with ns = calls_of_numbers cs ns ++ chain_from cs a (length ns)
+  abbrev pub chain_with : List ℕ → List (Option Call)
+  chain_with ns = map (slice_get cs) ns ++ map Some (chain_from cs a (length ns))
 
   pub chain_more : (ns : List ℕ) (n : ℕ) → found_at (length ns) ≡ Some n → chain_with (ns ++ n ∷ []) ≡ chain_with ns
   chain_more ns n e =
       let f = found_call (length ns) n e in
-      let before = calls_of_numbers cs ns in
-      ap (λ k. calls_of_numbers cs (ns ++ n ∷ []) ++ chain_from cs a k) (length-append ns (n ∷ []))
-      ∙ ap (λ l. l ++ chain_from cs a (length ns + 1))
-      (filter_map-append (slice_get cs) ns (n ∷ []) ∙ ap (λ o. before ++ cons_option o []) f.1)
-      ∙ append_assoc before (f.0 ∷ []) (chain_from cs a (length ns + 1))
-      ∙ ap (λ l. before ++ l) (sym f.2)
+      let before = map (slice_get cs) ns in
+      ap (λ k. map (slice_get cs) (ns ++ n ∷ []) ++ map Some (chain_from cs a k)) (length-append ns (n ∷ []))
+      ∙ ap (λ l. l ++ map Some (chain_from cs a (length ns + 1)))
+      (map-append (slice_get cs) ns (n ∷ []) ∙ ap (λ o. before ++ o ∷ []) f.1)
+      ∙ append_assoc before (Some f.0 ∷ []) (map Some (chain_from cs a (length ns + 1)))
+      ∙ ap (λ l. before ++ map Some l) (sym f.2)
 
-  pub chain_whole : (ns : List ℕ) → found_at (length ns) ≡ None → calls_of_numbers cs ns ≡ chain_with ns
+  pub chain_whole : (ns : List ℕ) → found_at (length ns) ≡ None → map (slice_get cs) ns ≡ chain_with ns
   chain_whole ns e =
-      sym (append-nil (calls_of_numbers cs ns))
-      ∙ ap (λ l. calls_of_numbers cs ns ++ l) (sym (found_none (length ns) e))
+      sym (append-nil (map (slice_get cs) ns))
+      ∙ ap (λ l. map (slice_get cs) ns ++ map Some l) (sym (found_none (length ns) e))
 
   pub left_more : (ns : List ℕ) (n : ℕ) → found_at (length ns) ≡ Some n
       → length (chain_from cs a (length ns)) ≡ length (chain_from cs a (length (ns ++ n ∷ []))) + 1

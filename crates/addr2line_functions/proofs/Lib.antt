@@ -12,6 +12,7 @@ pub mod CallEntrySteps
 pub mod NameFolds
 pub mod CallFactSteps
 pub mod ChainSteps
+pub mod NumberedCalls
 pub mod UnsignedValues
 pub mod FunctionRowSteps
 pub mod FrameLists

@@ -1,11 +1,10 @@
 //! A function with the calls that are inlined into it.
 
-ghost use Rattle.std.specs.Prelude.{◌≡◌, option_map, Ok, IfOk};
+ghost use Rattle.std.specs.Prelude.{◌≡◌, map, slice_get, Some, option_map, Ok, IfOk};
 ghost use Rattle.gimli_units_entries.specs.Calls.{ReturnsAsOrNoMemory, ReturnsOrNoMemory};
 ghost use Rattle.gimli_units_entries.specs.EntryViews.{entry_of};
 ghost use Rattle.addr2line_units.specs.InlinedCalls.{calls_of_function, function_calls, chain_at};
 ghost use Rattle.addr2line_units.specs.Searches.{AtMostProbes};
-ghost use Rattle.addr2line_functions.specs.CallNumbers.{calls_of_numbers};
 ghost use Rattle.addr2line_functions.specs.CountedFunctions.{chain_probes};
 
 use crate::call::Call;
@@ -103,8 +102,8 @@ impl<R: Reader> FunctionCalls<R> {
     ) -> Result<(), Error>
         requires counter { probes.old.name ≡ self.now.counter }
         ensures chain { ReturnsAsOrNoMemory
-            (λ done. calls_of_numbers self.now.function.calls numbers.new.items) result
-            (Ok (chain_at self.now.function.calls probe)) }
+            (λ done. map (slice_get self.now.function.calls) numbers.new.items) result
+            (Ok (map Some (chain_at self.now.function.calls probe))) }
         ensures cost { AtMostProbes (chain_probes self.now.function.calls probe)
             probes.old probes.new }
     {

@@ -13,6 +13,7 @@ use Rattle.addr2line_resolved.specs.EntryReferences.{KnownUnits, HoldingUnit}
 use Rattle.addr2line_resolved.specs.CallNumbers.{calls_of_numbers}
 use Rattle.addr2line_resolved.specs.KeptFunctions.{kept_at, function_in, number_in, function_with, function_at_number, FindsChain}
 use Rattle.addr2line_resolved.specs.ResolvedUnits.{ResolvedUnit, AnsweredUnit, value_of_unit, main_unit, first_answer, unit_of_functions, functions_of, calls_of, IsKeptOf}
+use Rattle.addr2line_resolved.proofs.NumberedCalls.{numbers_of_calls}
 use Rattle.addr2line_resolved.proofs.RangeNumbers.{function_of_number}
 use Rattle.addr2line_lookups.specs.KeptCalls.{known_among, naming_from, calls_among, HoldsCalls}
 use Rattle.addr2line_lookups.specs.FunctionPlaces.{function_number_at, number_of_any, calls_of_any, function_calls_at, function_of_answered, function_of_any, function_with_calls_at, kept_calls_at, HoldsChain, FindsCalls, HoldsFunction}
@@ -255,7 +256,9 @@ chain_by us n k a (Ok c) (Ok x) chain kept h = record {
   calls = c;
   are_kept = kept;
   are_answer = refl;
-  chain_is = let same : chain_at c.calls a ≡ calls_of_numbers c.calls chain = cc in sym same;
+  chain_is =
+      let each : map Some (chain_at c.calls a) ≡ map (slice_get c.calls) chain = cc in
+      numbers_of_calls c.calls (chain_at c.calls a) chain (sym each);
 }
 chain_by us n k a (Ok c) (Err e) chain kept h = λ m. absurd (no_refusal (h m))
   where

@@ -9,3 +9,4 @@ pub use Rattle.addr2line_functions.proofs.UnitViews
 pub use Rattle.addr2line_functions.proofs.PendingLoads
 pub mod ResolvedViews
 pub use Rattle.addr2line_functions.proofs.RangeNumbers
+pub use Rattle.addr2line_functions.proofs.NumberedCalls

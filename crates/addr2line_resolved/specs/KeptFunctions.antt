@@ -1,5 +1,5 @@
 -- The functions of a unit and their calls, as far as they were read and are kept.
-use Rattle.std.specs.Prelude.{◌≡◌, ℕ, List, [], length, replicate, set, slice_get, Option, Some, None, option_map, option_and_then, Result, Ok, Err}
+use Rattle.std.specs.Prelude.{◌≡◌, ℕ, List, [], length, map, replicate, set, slice_get, Option, Some, None, option_map, option_and_then, Result, Ok, Err}
 use Rattle.addr2line_functions.specs.Error.{Error}
 use Rattle.addr2line_functions.specs.Calls.{ReturnsAs, ReturnsAsOrNoMemory}
 use Rattle.addr2line_functions.specs.Lines.{Location}
@@ -7,7 +7,6 @@ use Rattle.addr2line_functions.specs.Functions.{Function, function_number}
 use Rattle.addr2line_functions.specs.InlinedCalls.{FunctionCalls, chain_at}
 use Rattle.addr2line_functions.specs.Frames.{Frame, FunctionAt, frame_without_function}
 use Rattle.addr2line_functions.specs.BorrowedFrames.{function_value, frames_of_calls}
-use Rattle.addr2line_functions.specs.CallNumbers.{calls_of_numbers}
 use Rattle.addr2line_functions.specs.CountedFunctions.{CountedFunctions, CountedCalls, function_probes, chain_probes}
 use Rattle.addr2line_functions.specs.declared.function_at.FunctionAt.{FunctionAt as BorrowedFunction}
 
@@ -121,7 +120,8 @@ abbrev pub FindsChain : {A : Type 0} → (A → List ℕ) → Option (Result Fun
 FindsChain see None a result = ReturnsAs see result (Ok [])
 FindsChain see (Some (Err e)) a result = result ≡ Err e
 FindsChain see (Some (Ok c)) a result =
-    ReturnsAsOrNoMemory (λ x. calls_of_numbers c.calls (see x)) result (Ok (chain_at c.calls a))
+    ReturnsAsOrNoMemory (λ x. map (slice_get c.calls) (see x)) result
+    (Ok (map Some (chain_at c.calls a)))
 
 -- the looks for them
 abbrev pub kept_chain_probes : Option (Result FunctionCalls Error) → ℕ → ℕ
