@@ -1,7 +1,7 @@
 //! Frames, and the names of functions in them.
 
-ghost use Rattle.std.specs.Prelude.{Ok};
-ghost use Rattle.std.specs.Cow.{cow_str_bytes};
+ghost use Rattle.std.specs.Prelude.{Ok, IsOkAnd, IsUtf8};
+ghost use Rattle.std.specs.Cow.{IsBorrowedStr, cow_str_bytes};
 ghost use Rattle.std.specs.Str.Lossy.{utf8_lossy};
 ghost use Rattle.gimli_units_entries.specs.Calls.{ReturnsAsOrNoMemory};
 ghost use Rattle.addr2line_demangle.specs.LegacyNames.{demangle_or_name};
@@ -38,8 +38,9 @@ impl<R: Reader> FunctionName<R> {
     /// The name as the debug information has it, in which each sequence that isn't UTF-8 is U+FFFD.
     /// It takes memory for such a name alone: UTF-8 is lent. The only error is out of memory.
     pub fn raw_name(&self, alloc: Global) -> Result<CowStr<'_>, Error>
-        ensures { ReturnsAsOrNoMemory cow_str_bytes result
+        ensures value { ReturnsAsOrNoMemory cow_str_bytes result
             (Ok (utf8_lossy self.now.name.bytes)) }
+        ensures lent { IsUtf8 self.now.name.bytes → IsOkAnd result IsBorrowedStr }
     {
         self.name.to_string_lossy(alloc)
     }
