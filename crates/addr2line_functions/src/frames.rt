@@ -1,6 +1,6 @@
 //! The frames of an address, one after the other.
 
-ghost use Rattle.std.specs.Prelude.{◌≡◌, [], Ok, Some, None, OnOk, OnErr, option_map, option_to_list, slice_get};
+ghost use Rattle.std.specs.Prelude.{◌≡◌, [], Ok, Some, None, IsOk, IsTrue, OnOk, OnErr, option_map, option_to_list, slice_get};
 ghost use Rattle.gimli_units_entries.specs.Calls.{ReturnsOrNoMemory};
 ghost use Rattle.addr2line_units.specs.BorrowedLocations.{location_value};
 ghost use Rattle.addr2line_units.specs.Frames.{call_site, function_name, frame, frame_without_function};
@@ -38,9 +38,10 @@ fn function_name<R: Reader>(
     language: Option<DwLang>,
     name: Option<&R>,
 ) -> Result<Option<FunctionName<R>>, Error>
-    ensures { ReturnsOrNoMemory result
+    ensures value { ReturnsOrNoMemory result
         (Ok (function_name (option_map (λ l. l.0) language)
         (option_map (λ r. R.view r.now) name.entry))) }
+    ensures free { IsTrue R.copies_freely → IsOk result }
 {
     match name {
         Some(name) => Ok(Some(FunctionName {
@@ -58,9 +59,10 @@ fn frame_at<'ctx, R: Reader>(
     name: Option<&R>,
     location: Option<Location<'ctx>>,
 ) -> Result<Frame<'ctx, R>, Error>
-    ensures { ReturnsOrNoMemory result
+    ensures value { ReturnsOrNoMemory result
         (Ok (frame (option_map (λ l. l.0) language) (R.Offset.count offset.0)
         (option_map (λ r. R.view r.now) name.entry) (option_map location_value location.entry))) }
+    ensures free { IsTrue R.copies_freely → IsOk result }
 {
     let function = function_name(language, name)?;
     Ok(Frame {
@@ -162,6 +164,7 @@ impl<'ctx, R: Reader> FrameIter<'ctx, R> {
             (Some (call_site (files_in (option_map (λ l. l.now) self.old.lines)) call.now))
             (option_map function_value self.old.function) before.now) }
         ensures err { OnErr result (self.new ≡ self.old) }
+        ensures free { IsTrue R.copies_freely → IsOk result }
     {
         let frame = frame_at(self.language, call.offset(), call.name(), self.place)?;
         self.place = Some(call_site(self.lines, call));
@@ -180,6 +183,7 @@ impl<'ctx, R: Reader> FrameIter<'ctx, R> {
             calls.now.function.name (option_map location_value self.old.place)))) }
         ensures left { OnOk result (frames_left self.new ≡ []) }
         ensures err { OnErr result (self.new ≡ self.old) }
+        ensures free { IsTrue R.copies_freely → IsOk result }
     {
         let frame = frame_at(self.language, function.offset(), calls.name(), self.place)?;
         self.place = None;
@@ -187,10 +191,12 @@ impl<'ctx, R: Reader> FrameIter<'ctx, R> {
         Ok(Some(frame))
     }
 
-    /// The next frame, further out than those before it. It copies the reader of its name. The only
-    /// error is out of memory, after which the same frame comes next.
+    /// The next frame, further out than those before it. It copies the reader of its name, and
+    /// takes no other memory. The only error is out of memory, after which the same frame comes
+    /// next.
     pub fn next(&mut self) -> Result<Option<Frame<'ctx, R>>, Error>
-        ensures { NextOf (λ f. f) result (frames_left self.old) (frames_left self.new) }
+        ensures frame { NextOf (λ f. f) result (frames_left self.old) (frames_left self.new) }
+        ensures free { IsTrue R.copies_freely → IsOk result }
     {
         let Some(at) = &self.function else {
             return Ok(self.next_place());

@@ -7,8 +7,8 @@ use Rattle.addr2line_functions.specs.CallNumbers.{calls_of_numbers}
 use Rattle.addr2line_functions.proofs.FrameLists.{call_next_in, function_next, made_next, same_left}
 use Rattle.addr2line_functions.proofs.frames.FrameIter.next.Goals as goal
 
-pub returns-in-Some-last_call : goal.returns-in-Some-last_call
-returns-in-Some-last_call g c =
+pub returns-in-Some-last_call-clause-frame : goal.returns-in-Some-last_call-clause-frame
+returns-in-Some-last_call-clause-frame g c =
     let i = c.args.self.now in
     let language = option_map (λ l. l.0) i.language in
     let here = option_map location_value i.place in
