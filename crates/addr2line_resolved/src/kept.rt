@@ -37,6 +37,7 @@ impl<T: Drop> Kept<T> {
     pub fn of(read: Option<Result<T, Error>>) -> Result<Self, Error>
         ensures ok { IfOk result (λ kept. kept ≡ read) }
         ensures refusal { IfErr result (λ e. e ≡ Memory) }
+        ensures cause { OnErr result (read ≡ Some (Err Memory)) }
     {
         if matches!(&read, Some(Err(Error::Memory))) {
             return Err(Error::Memory);

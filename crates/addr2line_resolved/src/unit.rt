@@ -459,6 +459,7 @@ impl<R: Reader> ResUnit<R> {
         ensures answer { OnOk result (read ≢ Err Memory) }
         ensures err { OnErr result (self.new ≡ self.old) }
         ensures refusal { IfErr result (λ e. e ≡ Memory) }
+        ensures cause { OnErr result (read ≡ Err Memory) }
     {
         self.functions.keep_calls(function, read)
     }

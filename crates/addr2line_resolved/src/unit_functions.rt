@@ -179,6 +179,7 @@ impl<R: Reader> UnitFunctions<R> {
         ensures answer { OnOk result (read ≢ Err Memory) }
         ensures err { OnErr result (self.new ≡ self.old) }
         ensures refusal { IfErr result (λ e. e ≡ Memory) }
+        ensures cause { OnErr result (read ≡ Err Memory) }
     {
         let calls = &mut self.calls[number];
         calls.keep(read)
