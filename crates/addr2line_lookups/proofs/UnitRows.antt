@@ -1,5 +1,5 @@
 -- What the unit of a number answers.
-use Rattle.std.proofs.Common.{◌≡◌, ℕ, List, [], ◌∷◌, Option, Some, None, Result, Ok, Err, refl, sym, ap, ◌∙◌, subst, slice_get, get_or, set, map, option_map, length, ◌<◌, ◌≤◌}
+use Rattle.std.proofs.Common.{◌≡◌, ℕ, true, List, [], ◌∷◌, Option, Some, None, is_some, Result, Ok, Err, refl, sym, ap, ◌∙◌, subst, slice_get, get_or, set, map, option_map, length, ◌<◌, ◌≤◌}
 use Rattle.std.specs.Prelude.{option_and_then}
 use Rattle.std.proofs.lemmas.Option.{slice_get-map, slice_get-get_or, slice_get_past}
 use Rattle.std.proofs.Math.Seq.{map-set_same}
@@ -111,6 +111,17 @@ unit_with_row : (a : ℕ) (r : LineRow) (o : Option ContextUnit) (rest : List (R
 unit_with_row a r None rest h = absurd cc
 unit_with_row a r (Some u) rest h = lines_with_row a r u.lines rest h
 
+-- which is a place
+lines_have_place : (a : ℕ) (r : LineRow) (l : Result Lines Error) → row_or_refusal a l ≡ Ok (Some r)
+    → is_some (location_of_row r l) ≡ true
+lines_have_place a r (Ok l) h = refl
+lines_have_place a r (Err e) h = absurd cc
+
+unit_has_place : (a : ℕ) (r : LineRow) (o : Option ContextUnit) → row_of_unit a o ≡ Ok (Some r)
+    → is_some (option_and_then (λ (u : ContextUnit). location_of_row r u.lines) o) ≡ true
+unit_has_place a r None h = absurd cc
+unit_has_place a r (Some u) h = lines_have_place a r u.lines h
+
 -- one that has none doesn't
 unit_without_row : (a : ℕ) (o : Option ContextUnit) (rest : List (Result (Option Location) Error))
     → row_of_unit a o ≡ Ok None → first_answer (answer_of_unit a o ∷ rest) ≡ first_answer rest
@@ -138,11 +149,22 @@ module _ (us vs : List ResolvedUnit) (same : map value_of_unit vs ≡ map value_
       ∙ ap (λ xs. first_answer (answer_of_unit a (slice_get xs r.unit) ∷ answers_of_rest))
       (sym (same_plain vs us same))
 
-  pub row_found : (q : LineRow) → row_at_number (map plain_unit vs) a r.unit ≡ Ok (Some q)
+  row_here_found : (q : LineRow) → row_at_number (map plain_unit vs) a r.unit ≡ Ok (Some q)
       → whole ≡ Ok (location_of_unit_row (map plain_unit us) (record { unit = r.unit; row = q }))
-  row_found q h =
+  row_here_found q h =
       first_and_rest ∙ unit_with_row a q (slice_get (map plain_unit vs) r.unit) answers_of_rest h
       ∙ ap (λ xs. Ok (location_of_unit_row xs (record { unit = r.unit; row = q }))) (same_plain vs us same)
+
+  row_has_place : (q : LineRow) → row_at_number (map plain_unit vs) a r.unit ≡ Ok (Some q)
+      → is_some (location_of_unit_row (map plain_unit us) (record { unit = r.unit; row = q })) ≡ true
+  row_has_place q h =
+      ap (λ xs. is_some (location_of_unit_row xs (record { unit = r.unit; row = q }))) (sym (same_plain vs us same))
+      ∙ unit_has_place a q (slice_get (map plain_unit vs) r.unit) h
+
+  pub row_found : (q : LineRow) → row_at_number (map plain_unit vs) a r.unit ≡ Ok (Some q)
+      → (whole ≡ Ok (location_of_unit_row (map plain_unit us) (record { unit = r.unit; row = q })))
+      × (is_some (location_of_unit_row (map plain_unit us) (record { unit = r.unit; row = q })) ≡ true)
+  row_found q h = (row_here_found q h, row_has_place q h)
 
   pub none_found : row_at_number (map plain_unit vs) a r.unit ≡ Ok None
       → whole ≡ answer_from (map unit_places (map plain_unit us)) a rest
@@ -164,5 +186,6 @@ pub place_found : (us vs : List ResolvedUnit) (a : ℕ) (r : UnitRow) (o : Optio
     → place ≡ location_of_unit_row (map plain_unit vs) r
     → location_at ranges_of lines_of (map plain_unit us) a ≡ Ok place
 place_found us vs a r o place is found same here =
-    subst (λ x. FindsRow (map plain_unit us) a (Ok x)) is found
-    ∙ ap (λ xs. Ok (location_of_unit_row xs r)) (sym (same_plain vs us same)) ∙ ap Ok (sym here)
+    let row : FindsRow (map plain_unit us) a (Ok (Some r)) =
+    subst (λ x. FindsRow (map plain_unit us) a (Ok x)) is found in
+    row.0 ∙ ap (λ xs. Ok (location_of_unit_row xs r)) (sym (same_plain vs us same)) ∙ ap Ok (sym here)

@@ -93,11 +93,13 @@ abbrev pub location_of_unit_row : List ContextUnit → UnitRow → Option Locati
 location_of_unit_row units r =
     option_and_then (λ u. location_of_row r.row u.lines) (slice_get units r.unit)
 
--- The place of an address is that of the row that was found; there is none where none was found.
+-- The place of an address is that of the row that was found, which is one of a unit's lines; there is
+-- none where none was found.
 abbrev pub FindsRow : List ContextUnit → ℕ → Result (Option UnitRow) Error → Type 0
 FindsRow units a (Ok None) = location_at ranges_of lines_of units a ≡ Ok None
 FindsRow units a (Ok (Some r)) =
-    location_at ranges_of lines_of units a ≡ Ok (location_of_unit_row units r)
+    (location_at ranges_of lines_of units a ≡ Ok (location_of_unit_row units r))
+    × (is_some (location_of_unit_row units r) ≡ true)
 FindsRow units a (Err e) = e ≢ Memory → location_at ranges_of lines_of units a ≡ Err e
 
 -- The unit of a number is one of those of ranges, up to the first whose lines have a row of an
