@@ -34,3 +34,4 @@ pub mod AskedLines
 pub mod AskedStretches
 pub mod RangeUnits
 pub mod KeptFunctionLists
+pub mod KeptAhead

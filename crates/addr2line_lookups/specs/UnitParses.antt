@@ -1,14 +1,15 @@
 -- What reading ahead says of units, by their numbers, and what it leaves of them: a load that is
 -- pending where the walk comes to its unit is answered by no file.
-use Rattle.std.specs.Prelude.{◌≡◌, ◌⊎◌, ℕ, zero, suc, List, [], ◌∷◌, length, set, slice_get, Option, Some, None, IfSome, Result, Ok, Err}
+use Rattle.std.specs.Prelude.{◌≡◌, ◌⊎◌, ℕ, ◌<◌, zero, suc, List, [], ◌∷◌, length, set, slice_get, Option, Some, None, IfSome, Result, Ok, Err}
 use Rattle.addr2line_resolved.specs.Error.{Error}
 use Rattle.addr2line_resolved.specs.Error.TheVariants.{Memory}
 use Rattle.addr2line_resolved.specs.Results.{and_then, each, ◌>>=◌}
 use Rattle.addr2line_resolved.specs.Functions.{functions_of_unit}
 use Rattle.addr2line_resolved.specs.InlinedCalls.{calls_of_function}
 use Rattle.addr2line_resolved.specs.EntryReferences.{KnownUnits}
+use Rattle.addr2line_resolved.specs.KeptFunctions.{count_of_functions}
 use Rattle.addr2line_resolved.specs.ResolvedUnits.{AnsweredUnit, ResolvedUnit, main_unit, first_answer, unit_of_functions, functions_of, with_unit_answer}
-use Rattle.addr2line_lookups.specs.KeptUnits.{KeepsFunctionList}
+use Rattle.addr2line_lookups.specs.KeptUnits.{KeepsFunctionList, KeepsFunctionCalls}
 use Rattle.addr2line_lookups.specs.KeptCalls.{naming_from, calls_among}
 
 -- ---- one unit
@@ -60,6 +61,25 @@ check_unit_at check vs number = check_if_any check (slice_get vs number)
 -- the functions of the unit of a number are kept
 abbrev pub KeepsFunctionsAt : List ResolvedUnit → ℕ → Type 0
 KeepsFunctionsAt us number = IfSome (slice_get us number) KeepsFunctionList
+
+-- so are those of all units
+abbrev pub KeepAllFunctions : List ResolvedUnit → Type 0
+KeepAllFunctions us = (number : ℕ) → KeepsFunctionsAt us number
+
+-- the functions of a unit are kept, and the calls of each of them
+abbrev pub KeepsAllCalls : ResolvedUnit → Type 0
+KeepsAllCalls u =
+    KeepsFunctionList u
+    × ((function : ℕ) → function < count_of_functions (functions_of u.value)
+    → KeepsFunctionCalls function u)
+
+-- so it is with the unit of a number, if there is such a unit
+abbrev pub KeepsAllCallsAt : List ResolvedUnit → ℕ → Type 0
+KeepsAllCallsAt us number = IfSome (slice_get us number) KeepsAllCalls
+
+-- and with all units
+abbrev pub KeepAllCalls : List ResolvedUnit → Type 0
+KeepAllCalls us = (number : ℕ) → KeepsAllCallsAt us number
 
 -- whether the calls of the function of a number can be read
 abbrev pub check_call_of : KnownUnits → ℕ → AnsweredUnit → Result (Unit {0}) Error

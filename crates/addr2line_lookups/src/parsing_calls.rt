@@ -1,13 +1,13 @@
 //! The functions of all units with the calls that are inlined into them.
 
-ghost use Rattle.std.specs.Prelude.{◌≡◌, ◌<◌, Ok, IfSome, length, map};
+ghost use Rattle.std.specs.Prelude.{◌≡◌, ◌<◌, Ok, IfSome, OnOk, length, map};
 ghost use Rattle.addr2line_resolved.specs.KeptFunctions.{kept_at};
 ghost use Rattle.addr2line_resolved.specs.ResolvedUnits.{value_of_unit};
 ghost use Rattle.addr2line_lookups.specs.KeptUnits.{ReadsNoLines};
 ghost use Rattle.addr2line_lookups.specs.KeptCalls.{known_among, HoldCalls};
-ghost use Rattle.addr2line_lookups.specs.FunctionPlaces.{count_at};
+ghost use Rattle.addr2line_lookups.specs.FunctionPlaces.{count_at, KeepsCallsAt};
 ghost use Rattle.addr2line_lookups.specs.LookupCosts.{AtMostLooks};
-ghost use Rattle.addr2line_lookups.specs.UnitParses.{check_functions_of, check_calls_of, check_call_of, refusal_of, ChecksOrNoMemory, after_turn, check_unit_at, KeepsFunctionsAt, WalksOrNoMemory};
+ghost use Rattle.addr2line_lookups.specs.UnitParses.{check_functions_of, check_calls_of, check_call_of, refusal_of, ChecksOrNoMemory, after_turn, check_unit_at, KeepsFunctionsAt, KeepsAllCallsAt, KeepAllCalls, WalksOrNoMemory};
 
 use crate::function_place::keep_calls;
 use crate::parsing_functions::parse_functions_at;
@@ -46,6 +46,7 @@ fn parse_calls_of<R: Reader>(
     ensures found { ChecksOrNoMemory result
         (check_unit_at (check_call_of (known_among units.old.items supplement_units.now) function)
         (map value_of_unit units.old.items) number) }
+    ensures kept { OnOk result (KeepsCallsAt units.new.items number function) }
 {
     keep_calls(alloc, units, supplement_units, number, function)?;
     check_kept(&units[number], function)
@@ -72,6 +73,7 @@ fn parse_calls_at<R: Reader>(
     ensures found { ChecksOrNoMemory result
         (check_unit_at (check_calls_of (known_among units.old.items supplement_units.now))
         (map value_of_unit units.old.items) number) }
+    ensures kept { OnOk result (KeepsAllCallsAt units.new.items number) }
 {
     if number >= units.len() {
         return Ok(());
@@ -102,6 +104,7 @@ fn parse_unit_at<R: Reader>(
     ensures found { ChecksOrNoMemory result
         (check_unit_at (check_calls_of (known_among units.old.items supplement_units.now))
         (map value_of_unit units.new.items) number) }
+    ensures kept { OnOk result (KeepsAllCallsAt units.new.items number) }
 {
     parse_functions_at(alloc, units, number)?;
     parse_calls_at(alloc, units, supplement_units, number)
@@ -119,6 +122,7 @@ pub(crate) fn check_calls<R: Reader>(
     ensures walk { WalksOrNoMemory
         (check_calls_of (known_among units.old.items supplement_units.now)) result
         (map value_of_unit units.old.items) (map value_of_unit units.new.items) }
+    ensures kept { OnOk result (KeepAllCalls units.new.items) }
     ensures calls { HoldCalls (known_among units.new.items supplement_units.now) units.new.items }
     ensures cost { AtMostLooks 0 units.old.items units.new.items }
     ensures lines { ReadsNoLines units.old.items units.new.items }

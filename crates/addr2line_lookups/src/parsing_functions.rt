@@ -5,7 +5,7 @@ ghost use Rattle.addr2line_resolved.specs.ResolvedUnits.{pending_load, value_of_
 ghost use Rattle.addr2line_lookups.specs.KeptUnits.{ReadsNoLines};
 ghost use Rattle.addr2line_lookups.specs.KeptCalls.{LeavesCalls, LeavesCallsOf};
 ghost use Rattle.addr2line_lookups.specs.LookupCosts.{AtMostLooks, AtMostLooksOf};
-ghost use Rattle.addr2line_lookups.specs.UnitParses.{without_load, check_functions_of, ChecksOrNoMemory, after_turn, check_unit_at, KeepsFunctionsAt, WalksOrNoMemory};
+ghost use Rattle.addr2line_lookups.specs.UnitParses.{without_load, check_functions_of, ChecksOrNoMemory, after_turn, check_unit_at, KeepsFunctionsAt, KeepAllFunctions, WalksOrNoMemory};
 
 use addr2line_resolved::{Error, Reader, ResUnit};
 use std::alloc::Global;
@@ -76,6 +76,7 @@ pub(crate) fn check_functions<R: Reader>(
 ) -> Result<(), Error>
     ensures walk { WalksOrNoMemory check_functions_of result (map value_of_unit units.old.items)
         (map value_of_unit units.new.items) }
+    ensures kept { OnOk result (KeepAllFunctions units.new.items) }
     ensures calls { LeavesCalls units.old.items units.new.items }
     ensures cost { AtMostLooks 0 units.old.items units.new.items }
     ensures lines { ReadsNoLines units.old.items units.new.items }

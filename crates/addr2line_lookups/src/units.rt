@@ -1,6 +1,6 @@
 //! The units of a context with their ranges, in the order in which lookups ask them.
 
-ghost use Rattle.std.specs.Prelude.{◌≡◌, ◌≢◌, None, Ok, Err, map, option_map, IfOk, IfErr};
+ghost use Rattle.std.specs.Prelude.{◌≡◌, ◌≢◌, None, Ok, Err, map, option_map, IfOk, OnOk, IfErr};
 ghost use Rattle.addr2line_resolved.specs.Calls.{ReturnsAsOrNoMemory, ReturnsOrNoMemory};
 ghost use Rattle.addr2line_resolved.specs.Error.TheVariants.{Memory};
 ghost use Rattle.addr2line_resolved.specs.Contexts.{all_lines_or_refusal};
@@ -19,7 +19,7 @@ ghost use Rattle.addr2line_resolved.specs.BorrowedFrames.{frames_left};
 ghost use Rattle.addr2line_lookups.specs.KeptUnits.{KeepsAt, KeepsFound, KeepsAsked, ReadsAsked, ReadsNoLines, AsksForRow, AsksForLines, FindsRow, location_of_unit_row};
 ghost use Rattle.addr2line_lookups.specs.RangeWalks.{FindsStretch, KeepsStretch, stretches_left, AsksForNextStretch, StaysOnItsWay};
 ghost use Rattle.addr2line_lookups.specs.LookupCosts.{AtMostLooks, row_probes_at, frame_probes_at, probes_among};
-ghost use Rattle.addr2line_lookups.specs.UnitParses.{WalksOrNoMemory, check_functions_of, check_calls_of};
+ghost use Rattle.addr2line_lookups.specs.UnitParses.{WalksOrNoMemory, KeepAllFunctions, KeepAllCalls, check_functions_of, check_calls_of};
 
 use crate::frame_place::{FramePlace, frames_at_place};
 use crate::load_answers::answer_at;
@@ -152,11 +152,12 @@ impl<R: Reader> Units<R> {
         check_lines(alloc, &mut self.units)
     }
 
-    // Reads the functions of all units, up to the first refusal. A load that is pending where the
-    // walk comes to its unit is answered by no file.
+    // Reads the functions of all units, up to the first refusal, and keeps them. A load that is
+    // pending where the walk comes to its unit is answered by no file.
     pub fn check_functions(&mut self) -> Result<(), Error>
         ensures walk { WalksOrNoMemory check_functions_of result (map value_of_unit self.old)
             (map value_of_unit self.new) }
+        ensures kept { OnOk result (KeepAllFunctions self.new) }
         ensures calls { LeavesCalls self.old self.new }
         ensures cost { AtMostLooks 0 self.old self.new }
         ensures lines { ReadsNoLines self.old self.new }
@@ -172,6 +173,7 @@ impl<R: Reader> Units<R> {
         ensures walk { WalksOrNoMemory
             (check_calls_of (known_among self.old supplement_units.now)) result
             (map value_of_unit self.old) (map value_of_unit self.new) }
+        ensures kept { OnOk result (KeepAllCalls self.new) }
         ensures calls { HoldCalls (known_among self.new supplement_units.now) self.new }
         ensures cost { AtMostLooks 0 self.old self.new }
         ensures lines { ReadsNoLines self.old self.new }

@@ -9,11 +9,13 @@ use Rattle.addr2line_lookups.proofs.AskedLines.{no_lines_none, no_lines_both}
 use Rattle.addr2line_lookups.proofs.CallsLeft.{same_known}
 use Rattle.addr2line_lookups.proofs.UnitWalks.{walk_goes_on, walk_refused, walk_ends, plain_so_far, plain_after_turn}
 use Rattle.addr2line_lookups.proofs.UnitProbes.{looks_none, looks_after}
+use Rattle.addr2line_lookups.proofs.KeptAhead.{units_further, calls_of_all}
 use Rattle.addr2line_lookups.proofs.parsing_calls.check_calls.Goals as goal
 
 pub loop-number-init : goal.loop-number-init
 loop-number-init g c =
-    let us = c.args.units.now.items in (refl, c.requires, looks_none 0 us, no_lines_none us)
+    let us = c.args.units.now.items in
+    (refl, c.requires, looks_none 0 us, no_lines_none us, λ n below. absurd (omega (arith, below)))
 
 pub loop-number-smaller : goal.loop-number-smaller
 loop-number-smaller g c =
@@ -54,6 +56,8 @@ loop-number-preserved g c =
       subst (λ (k : KnownUnits). HoldCalls k ws) known c.in_ok-parse_unit_at.ensures.calls,
       looks_after 0 us vs ws c.loop-number.invariant.2 c.in_ok-parse_unit_at.ensures.cost,
       no_lines_both us vs ws c.loop-number.invariant.3 c.in_ok-parse_unit_at.ensures.lines,
+      units_further vs ws n c.loop-number.invariant.4 c.in_ok-parse_unit_at.ensures.values
+          c.in_ok-parse_unit_at.ensures.cost.functions c.in_ok-parse_unit_at.ensures.kept,
     )
 
 pub returns-in_err-parse_unit_at : goal.returns-in_err-parse_unit_at
@@ -75,6 +79,7 @@ returns-in_err-parse_unit_at g c =
           walk_refused check n (map value_of_unit us) (map value_of_unit vs) c.loop-number.invariant.0
           (map value_of_unit ws) c.in_err-parse_unit_at.field-0.0 c.from_residual.result p.0 p.1 p.2
           c.in_err-parse_unit_at.ensures.values (subst P known c.in_err-parse_unit_at.ensures.found);
+      kept = rw p.1 tt;
       calls = subst (λ (k : KnownUnits). HoldCalls k ws) (sym turn) c.in_err-parse_unit_at.ensures.calls;
       cost = looks_after 0 us vs ws c.loop-number.invariant.2 c.in_err-parse_unit_at.ensures.cost;
       lines = no_lines_both us vs ws c.loop-number.invariant.3 c.in_err-parse_unit_at.ensures.lines;
@@ -91,6 +96,7 @@ returns g c =
       walk =
           walk_ends check n (map value_of_unit us) (map value_of_unit vs) c.loop-number.invariant.0
           (omega (arith, length-map vs value_of_unit));
+      kept = calls_of_all vs n c.loop-number.invariant.4 (omega arith);
       calls =
           subst (λ (k : KnownUnits). HoldCalls k vs)
           (sym (same_known us vs s (plain_so_far check n us vs c.loop-number.invariant.0)))

@@ -11,6 +11,7 @@ use Rattle.addr2line_lookups.proofs.UnitTurns.{no_check_past}
 use Rattle.addr2line_lookups.proofs.CallsOfUnits.{count_here}
 use Rattle.addr2line_lookups.proofs.KeptCallsAt.{functions_at, known_now, checked_now, pass_further, all_checked, refused_at}
 use Rattle.addr2line_lookups.proofs.UnitProbes.{looks_none, looks_after}
+use Rattle.addr2line_lookups.proofs.KeptAhead.{calls_further, calls_of_unit, no_calls_past}
 use Rattle.addr2line_lookups.proofs.parsing_calls.parse_calls_at.Goals as goal
 
 pub returns-then-number-len-clause-found : goal.returns-then-number-len-clause-found
@@ -20,6 +21,9 @@ returns-then-number-len-clause-found g c =
 
 pub returns-then-number-len-clause-lines : goal.returns-then-number-len-clause-lines
 returns-then-number-len-clause-lines g c = no_lines_none c.args.units.now.items
+
+pub returns-then-number-len-clause-kept : goal.returns-then-number-len-clause-kept
+returns-then-number-len-clause-kept g c = no_calls_past c.args.units.now.items c.args.number (omega arith)
 
 pub loop-function-init : goal.loop-function-init
 loop-function-init g c =
@@ -32,6 +36,7 @@ loop-function-init g c =
       λ m less. absurd (omega (arith, less)),
       looks_none 0 us,
       no_lines_none us,
+      λ m less. absurd (omega (arith, less)),
     )
 
 pub parse_calls_of-requires : goal.parse_calls_of-requires
@@ -66,6 +71,10 @@ loop-function-preserved g c =
           (checked_now s us n vs c.loop-function.invariant.0 f (Ok tt) c.in_ok-parse_calls_of.ensures.found),
       looks_after 0 us vs ws c.loop-function.invariant.4 c.in_ok-parse_calls_of.ensures.cost,
       no_lines_both us vs ws c.loop-function.invariant.5 c.in_ok-parse_calls_of.ensures.lines,
+      calls_further vs ws n f c.loop-function.invariant.6 c.in_ok-parse_calls_of.ensures.cost.functions
+          (c.in_ok-parse_calls_of.ensures.cost.functions.functions n
+          (c.loop-function.invariant.4.functions.functions n c.requires.functions))
+          c.in_ok-parse_calls_of.ensures.kept,
     )
 
 pub returns-in_err-parse_calls_of : goal.returns-in_err-parse_calls_of
@@ -94,6 +103,7 @@ returns-in_err-parse_calls_of g c =
           (refused_at s us n u below c.index.ensures c.function_count-count.result count f _ c.loop-function-test.true
           c.loop-function.invariant.3
           (checked_now s us n vs c.loop-function.invariant.0 f _ c.in_err-parse_calls_of.ensures.found));
+      kept = rw p.1 tt;
     }
 
 pub returns : goal.returns
@@ -113,4 +123,8 @@ returns g c =
       found =
           all_checked s us n u below c.index.ensures c.function_count-count.result count c.loop-function.function
           (omega (arith, c.loop-function-test.false)) c.requires.readable c.loop-function.invariant.3;
+      kept =
+          calls_of_unit us c.loop-function.units.items n u below c.index.ensures c.loop-function.invariant.0
+          c.function_count-count.result c.loop-function.function count (omega (arith, c.loop-function-test.false))
+          (c.loop-function.invariant.4.functions.functions n c.requires.functions) c.loop-function.invariant.6;
     }

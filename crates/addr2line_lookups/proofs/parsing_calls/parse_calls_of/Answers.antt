@@ -2,6 +2,7 @@ use Rattle.std.proofs.Common.{◌<◌, ◌∙◌, ap, length, inr, Err, arith}
 use Rattle.std.proofs.lemmas.Result.{err_from_is_err_and}
 use Rattle.addr2line_lookups.specs.KeptCalls.{known_among}
 use Rattle.addr2line_lookups.proofs.KeptLines.{same_length}
+use Rattle.addr2line_lookups.proofs.UnitCalls.{on_ok_always}
 use Rattle.addr2line_lookups.proofs.CallsOfUnits.{has_function}
 use Rattle.addr2line_lookups.proofs.KeptCallsAt.{call_checked}
 use Rattle.addr2line_lookups.proofs.parsing_calls.parse_calls_of.Goals as goal
@@ -16,6 +17,7 @@ returns-in_err-keep_calls g c =
       cost = c.in_err-keep_calls.ensures.cost;
       lines = c.in_err-keep_calls.ensures.lines;
       found = inr (p.1 ∙ ap Err (p.2 ∙ c.in_err-keep_calls.ensures.refusal));
+      kept = rw p.1 tt;
     }
 
 pub keep_calls-requires : goal.keep_calls-requires
@@ -47,4 +49,5 @@ returns g c =
           call_checked (known_among us c.args.supplement_units.now) us vs c.args.number c.args.function
           c.index.result.now c.check_kept.result c.in_ok-keep_calls.ensures.values below c.index.ensures
           c.in_ok-keep_calls.ensures.kept c.in_ok-keep_calls.ensures.calls c.check_kept.ensures;
+      kept = on_ok_always c.check_kept.result c.in_ok-keep_calls.ensures.kept;
     }

@@ -44,6 +44,7 @@ returns-in_err-parse_functions_at g c =
           subst P (sym (p.1 ∙ ap Err p.2))
           (functions_refused_at (known_among us s) (map value_of_unit vs) c.args.number _
           c.in_err-parse_functions_at.ensures.found);
+      kept = rw p.1 tt;
     }
 
 pub returns : goal.returns
@@ -65,4 +66,5 @@ returns g c =
       cost = looks_after 0 us vs ws c.in_ok-parse_functions_at.ensures.cost c.parse_calls_at.ensures.cost;
       lines = no_lines_both us vs ws c.in_ok-parse_functions_at.ensures.lines c.parse_calls_at.ensures.lines;
       found = subst Q (sym c.parse_calls_at.ensures.values) (subst P known c.parse_calls_at.ensures.found);
+      kept = c.parse_calls_at.ensures.kept;
     }

@@ -7,11 +7,13 @@ use Rattle.addr2line_lookups.proofs.AskedLines.{no_lines_none, no_lines_both}
 use Rattle.addr2line_lookups.proofs.CallsLeft.{leaves_none, leaves_both}
 use Rattle.addr2line_lookups.proofs.UnitWalks.{walk_goes_on, walk_ends, walk_refused}
 use Rattle.addr2line_lookups.proofs.UnitProbes.{looks_none, looks_after}
+use Rattle.addr2line_lookups.proofs.KeptAhead.{functions_further, functions_of_all}
 use Rattle.addr2line_lookups.proofs.parsing_functions.check_functions.Goals as goal
 
 pub loop-number-init : goal.loop-number-init
 loop-number-init g c =
-    let us = c.args.units.now.items in (refl, leaves_none us, looks_none 0 us, no_lines_none us)
+    let us = c.args.units.now.items in
+    (refl, leaves_none us, looks_none 0 us, no_lines_none us, λ n below. absurd (omega (arith, below)))
 
 pub loop-number-preserved : goal.loop-number-preserved
 loop-number-preserved g c =
@@ -24,6 +26,8 @@ loop-number-preserved g c =
       leaves_both us vs ws c.loop-number.invariant.1 c.in_ok-parse_functions_at.ensures.calls,
       looks_after 0 us vs ws c.loop-number.invariant.2 c.in_ok-parse_functions_at.ensures.cost,
       no_lines_both us vs ws c.loop-number.invariant.3 c.in_ok-parse_functions_at.ensures.lines,
+      functions_further vs ws c.loop-number.number c.loop-number.invariant.4
+          c.in_ok-parse_functions_at.ensures.cost.functions c.in_ok-parse_functions_at.ensures.kept,
     )
 
 pub returns-in_err-parse_functions_at : goal.returns-in_err-parse_functions_at
@@ -37,6 +41,7 @@ returns-in_err-parse_functions_at g c =
           walk_refused check_functions_of c.loop-number.number (map value_of_unit us) (map value_of_unit vs)
           c.loop-number.invariant.0 (map value_of_unit ws) _ c.from_residual.result p.0 p.1 p.2
           c.in_err-parse_functions_at.ensures.values c.in_err-parse_functions_at.ensures.found;
+      kept = rw p.1 tt;
       calls = leaves_both us vs ws c.loop-number.invariant.1 c.in_err-parse_functions_at.ensures.calls;
       cost = looks_after 0 us vs ws c.loop-number.invariant.2 c.in_err-parse_functions_at.ensures.cost;
       lines = no_lines_both us vs ws c.loop-number.invariant.3 c.in_err-parse_functions_at.ensures.lines;
@@ -50,6 +55,7 @@ returns g c =
       walk =
           walk_ends check_functions_of c.loop-number.number (map value_of_unit us) (map value_of_unit vs)
           c.loop-number.invariant.0 (omega (arith, length-map vs value_of_unit));
+      kept = functions_of_all vs c.loop-number.number c.loop-number.invariant.4 (omega arith);
       calls = c.loop-number.invariant.1;
       cost = c.loop-number.invariant.2;
       lines = c.loop-number.invariant.3;

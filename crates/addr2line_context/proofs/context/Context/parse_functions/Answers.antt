@@ -30,6 +30,9 @@ returns-clause-functions g c =
     (says_functions (file_context_with file i.units s)) c.check_functions.new.self c.check_functions.result
     c.check_functions.ensures.walk c.args.self.now.value (value_is _ _ _ _ c.self.view_is)
 
+pub returns-clause-kept : goal.returns-clause-kept
+returns-clause-kept g c = c.check_functions.ensures.kept
+
 pub returns-clause-plain : goal.returns-clause-plain
 returns-clause-plain g c =
     let i = c.self.inside in

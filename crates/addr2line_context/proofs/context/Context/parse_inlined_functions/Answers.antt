@@ -28,6 +28,9 @@ returns-clause-calls g c =
     calls_of_context _ _ _ c.self.invariant.are_of_file _ c.as_slice.ensures.value c.check_calls.new.self _
     c.check_calls.ensures.walk c.args.self.now.value (value_is _ _ _ _ c.self.view_is)
 
+pub returns-clause-kept : goal.returns-clause-kept
+returns-clause-kept g c = c.check_calls.ensures.kept
+
 pub returns-clause-plain : goal.returns-clause-plain
 returns-clause-plain g c =
     same_plain_calls _ _ _ c.self.invariant.are_of_file _ c.as_slice.ensures.value c.check_calls.new.self _

@@ -26,6 +26,9 @@ returns-clause-walk g c =
     c.check_calls.result (map value_of_unit us) (map value_of_unit c.check_calls.new.units.items)) c.self.view_is
     c.check_calls.ensures.walk
 
+pub returns-clause-kept : goal.returns-clause-kept
+returns-clause-kept g c = c.check_calls.ensures.kept
+
 pub returns-clause-calls : goal.returns-clause-calls
 returns-clause-calls g c = c.check_calls.ensures.calls
 

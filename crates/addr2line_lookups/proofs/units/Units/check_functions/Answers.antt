@@ -20,6 +20,9 @@ returns-clause-walk g c =
     (map value_of_unit us) (map value_of_unit c.check_functions.new.units.items)) c.self.view_is
     c.check_functions.ensures.walk
 
+pub returns-clause-kept : goal.returns-clause-kept
+returns-clause-kept g c = c.check_functions.ensures.kept
+
 pub returns-clause-calls : goal.returns-clause-calls
 returns-clause-calls g c =
     subst (λ (us : List ResolvedUnit). LeavesCalls us c.check_functions.new.units.items) c.self.view_is
