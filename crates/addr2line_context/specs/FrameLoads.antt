@@ -5,7 +5,7 @@ use Rattle.addr2line_lookups.specs.Error.TheVariants.{Memory}
 use Rattle.addr2line_lookups.specs.FirstAnswers.{Lookup, output}
 use Rattle.addr2line_lookups.specs.ResolvedUnits.{AnsweredUnit}
 use Rattle.addr2line_lookups.specs.UnitFacts.{UnitInFile}
-use Rattle.addr2line_lookups.specs.UnitLookups.{IsPending, unit_at_number}
+use Rattle.addr2line_lookups.specs.UnitLookups.{IsPending, FoundUnit}
 use Rattle.addr2line_lookups.specs.declared.settled.Settled.{Settled}
 use Rattle.addr2line_lookups.specs.declared.settled.Settled.TheVariants.{Waits, Nothing, Found}
 
@@ -33,9 +33,10 @@ abbrev pub GivesDecided : {A B : Type 0} → (A → B) → Result A Error → Lo
 GivesDecided see (Ok x) meaning = meaning ≡ output (Ok (see x))
 GivesDecided see (Err e) meaning = e ≢ Memory → meaning ≡ output (Err e)
 
--- The number of the unit that a lookup finds, which waits for no load; or out of memory.
+-- The number of the unit that a lookup finds, which waits for no load, if it finds one; or out of
+-- memory.
 abbrev pub FindsUnitAt : List AnsweredUnit → Result (Option ℕ) Error → Lookup (Option UnitInFile)
     → Type 0
 FindsUnitAt vs (Ok None) meaning = meaning ≡ output None
-FindsUnitAt vs (Ok (Some n)) meaning = meaning ≡ output (unit_at_number vs n)
+FindsUnitAt vs (Ok (Some n)) meaning = FoundUnit vs meaning n
 FindsUnitAt vs (Err e) meaning = e ≡ Memory

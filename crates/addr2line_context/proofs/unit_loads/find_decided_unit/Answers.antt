@@ -1,7 +1,6 @@
-use Rattle.std.proofs.Common.{subst, sym, ap, ◌∙◌, map, Ok}
-use Rattle.addr2line_lookups.specs.FirstAnswers.{output}
+use Rattle.std.proofs.Common.{subst, sym, map, Ok}
 use Rattle.addr2line_lookups.specs.ResolvedUnits.{value_of_unit}
-use Rattle.addr2line_lookups.specs.UnitLookups.{FoundUnit, SettlesUnit, unit_at_number}
+use Rattle.addr2line_lookups.specs.UnitLookups.{FoundUnit, SettlesUnit}
 use Rattle.addr2line_context.specs.SettledLookups.{unit_in}
 use Rattle.addr2line_context.proofs.FrameLoads.{waits_not}
 use Rattle.addr2line_context.proofs.unit_loads.find_decided_unit.Goals as goal
@@ -18,7 +17,7 @@ returns-in-Ok-Found-clause-found g c =
     let meaning = unit_in c.args.context.now.value c.args.probe in
     let found : FoundUnit vs meaning c.in-Ok-Found.number =
     subst (λ o. SettlesUnit vs meaning (Ok o)) c.in-Ok-Found.field-0-is c.in-Ok-Found.ensures.found in
-    found.is_found ∙ ap (λ n. output (unit_at_number vs n)) (sym c.new.ensures)
+    subst (FoundUnit vs meaning) (sym c.new.ensures) found
 
 pub unreachable-requires : goal.unreachable-requires
 unreachable-requires g c =
