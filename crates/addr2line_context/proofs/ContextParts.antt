@@ -17,7 +17,7 @@ use Rattle.addr2line_lookups.proofs.ContextOfUnits.{context_of_units}
 use Rattle.addr2line_context.specs.AnsweredContexts.{AnsweredContext}
 use Rattle.addr2line_context.specs.KeptContexts.{ResolvedContext}
 use Rattle.addr2line_context.specs.ContextCosts.{AfterLookup, AfterStep, AsksForNext, AsksForStretches}
-use Rattle.addr2line_lookups.specs.ContextUnits.{unit_places, ordered_ranges}
+use Rattle.addr2line_lookups.specs.ContextUnits.{ordered_ranges}
 use Rattle.addr2line_lookups.specs.KeptUnits.{KeepsAsked, ReadsAsked, ReadsNoLines}
 use Rattle.addr2line_lookups.specs.RangeWalks.{AsksForNextStretch, StaysOnItsWay}
 use Rattle.addr2line_lookups.specs.declared.range_walk.RangeWalk.{RangeWalk}
@@ -26,7 +26,6 @@ use Rattle.addr2line_lookups.specs.AnsweredUnits.{answers_of}
 use Rattle.addr2line_lookups.specs.KeptCalls.{facts_of}
 use Rattle.addr2line_lookups.specs.OrderedUnits.{AreInOrder}
 use Rattle.addr2line_lookups.proofs.KeptLines.{same_plain}
-use Rattle.addr2line_lookups.proofs.RangeUnits.{asked_on_way}
 use Rattle.addr2line_lookups.proofs.UnitsInOrder.{units_in_order}
 
 -- ---- units
@@ -168,9 +167,6 @@ module _ (file : DwarfFile) (us : List ResolvedUnit) (supplement_units : List Un
         cost = after.cost;
         asked = λ answered. subst (λ x. KeepsAsked (AsksForNext x old) vs) value_is (asked answered);
         reads = subst (λ (x : ResolvedContext). ReadsAsked (AsksForNext x.value old) x.units vs) is reads;
-        asks = λ n asks.
-            asked_on_way (map unit_places c.value.plain.context.units) (ordered_ranges c.value.plain.context.units)
-            old n asks;
         way = subst on_way value_is way;
       }
 
@@ -188,6 +184,5 @@ with_result r result old_walk new_walk old new h refused = record {
   cost = h.cost;
   asked = λ answered. h.asked (refused answered);
   reads = h.reads;
-  asks = h.asks;
   way = h.way;
 }

@@ -81,6 +81,12 @@ abbrev pub AsksForNext : AnsweredContext → RangeWalk → ℕ → Type 0
 AsksForNext c w =
     AsksForStretch (map unit_places c.plain.context.units) (ordered_ranges c.plain.context.units) w
 
+-- the next step of a walk asks no units but those that the walk may still ask
+abbrev pub StepAsksOnItsWay : Type 0
+StepAsksOnItsWay =
+    (c : AnsweredContext) (w : RangeWalk) (number : ℕ) → AsksForNext c w number
+    → AsksForStretches c w number
+
 -- a walk asks no units but those with a range between two ends
 abbrev pub AsksBetween : AnsweredContext → ℕ → ℕ → RangeWalk → Type 0
 AsksBetween c low high w =
@@ -110,15 +116,13 @@ pub record AfterReading {A : Type 0} (asks : ℕ → Type 0) (n : ℕ) (result :
   pub asked : result ≢ Err Memory → KeepsAsked asks new.units
   pub reads : ReadsAsked asks old.units new.units
 
--- The same after a step with this result of a walk between two ends. The step asks only units that
--- the walk may still ask, and later the walk asks no others.
+-- The same after a step with this result of a walk between two ends. Later the walk asks no units
+-- but those that it might still ask before the step.
 pub record AfterStep {A : Type 0} (result : Result A Error) (old_walk new_walk : RangeWalk)
     (old new : ResolvedContext) : Type 0 where
   pub value : new.value ≡ old.value
   pub cost : AtMostLooks 0 old.units new.units
   pub asked : result ≢ Err Memory → KeepsAsked (AsksForNext old.value old_walk) new.units
   pub reads : ReadsAsked (AsksForNext old.value old_walk) old.units new.units
-  pub asks : (number : ℕ) → AsksForNext old.value old_walk number
-      → AsksForStretches old.value old_walk number
   pub way : (number : ℕ) → AsksForStretches old.value new_walk number
       → AsksForStretches old.value old_walk number

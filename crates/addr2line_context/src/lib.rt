@@ -15,6 +15,7 @@ mod runs;
 mod sections;
 pub mod skip_laws;
 pub mod unit_loads;
+pub mod walk_laws;
 
 pub use addr2line_lookups::{
     AbbreviationsCache, AbbreviationsCacheStrategy, ArangeIndex, AttributeValue, DW_LANG_Rust,
