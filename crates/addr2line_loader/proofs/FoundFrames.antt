@@ -1,15 +1,15 @@
 -- What a loader's lookup of frames leaves.
-use Rattle.std.proofs.Common.{◌≡◌, ◌∙◌, ℕ, List, [], Option, Result, Ok, Err, ap, subst}
+use Rattle.std.proofs.Common.{◌≡◌, ◌∙◌, ℕ, List, Option, Result, Ok, Err, ap, subst}
 use Rattle.addr2line_context.specs.AnsweredContexts.{AnsweredContext}
 use Rattle.addr2line_context.specs.ContextCosts.{AsksForFrames, AfterSearch}
 use Rattle.addr2line_context.specs.Contexts.{FileContext}
 use Rattle.addr2line_context.specs.Error.{Error}
 use Rattle.addr2line_context.specs.FirstAnswers.{FirstAnswers}
 use Rattle.addr2line_context.specs.Frames.{Frame}
-use Rattle.addr2line_context.specs.FrameLoads.{GivesDecided}
+use Rattle.addr2line_context.specs.FrameLoads.{IsDone, GivesDecided}
 use Rattle.addr2line_context.specs.KeptContexts.{ResolvedContext}
 use Rattle.addr2line_context.specs.ResolvedUnits.{ResolvedUnit}
-use Rattle.addr2line_context.specs.SettledLookups.{frames_in, loads_in}
+use Rattle.addr2line_context.specs.SettledLookups.{frames_in}
 use Rattle.addr2line_loader.specs.LoadedFiles.{LoadedFile}
 use Rattle.addr2line_loader.specs.ResolvedFiles.{ResolvedFile, ReadsForFrames, answered_context}
 use Rattle.addr2line_loader.specs.SourceAnswers.{LoadState, load_state, frames_by_answers, AnswersAllOrNoMemory, FindsFrames, AfterFrames}
@@ -34,7 +34,7 @@ module _ {S F : Type 0} (answers : S → List ℕ → List ℕ → Result (Optio
       (all : AnswersAllOrNoMemory answers inside.context a (load_state inside source) (Ok tt)
       (record { answers = answered.value.answers; source = source_after }))
       (reads : ReadsForFrames answered.value a us answered.units)
-      (alone : loads_in (answered_context inside) a ≡ []
+      (alone : IsDone (frames_in (answered_context inside) a)
       → AfterSearch AsksForFrames a (record { value = answered_context inside; units = us }) answered)
       (left : ResolvedContext) (after : AfterSearch AsksForFrames a answered left)
       (r : Result F Error) (found : GivesDecided see r (frames_in answered.value a)) where
@@ -60,8 +60,8 @@ module _ {S F : Type 0} (answers : S → List ℕ → List ℕ → Result (Optio
         (record {
           found = finds_here;
           units = reads_then_search a us answered left reads after;
-          cost = λ none. looks_of_two a (record { value = answered_context inside; units = us }) answered left
-              (alone none) after;
+          cost = λ done. looks_of_two a (record { value = answered_context inside; units = us }) answered left
+              (alone done) after;
         })
 
   -- out of memory before all were answered
@@ -70,7 +70,7 @@ module _ {S F : Type 0} (answers : S → List ℕ → List ℕ → Result (Optio
       (some : AnswersAllOrNoMemory answers inside.context a (load_state inside source) (Err e)
       (record { answers = answered.value.answers; source = source_after }))
       (reads : ReadsForFrames answered.value a us answered.units)
-      (alone : loads_in (answered_context inside) a ≡ []
+      (alone : IsDone (frames_in (answered_context inside) a)
       → AfterSearch AsksForFrames a (record { value = answered_context inside; units = us }) answered) where
     pub stops_frames : (old : ResolvedFile) → record { file = inside; units = us } ≡ old
         → AfterFrames answers a see old source (refused F e) (over_context inside answered) source_after
@@ -83,5 +83,5 @@ module _ {S F : Type 0} (answers : S → List ℕ → List ℕ → Result (Optio
             finds = (λ other. absurd (other some.0), λ memory. some.1);
           };
           units = reads;
-          cost = λ none. looks_of_one a (record { value = answered_context inside; units = us }) answered (alone none);
+          cost = λ done. looks_of_one a (record { value = answered_context inside; units = us }) answered (alone done);
         })

@@ -1,17 +1,18 @@
 -- What lookups of the frames of an address read, one after the other.
-use Rattle.std.proofs.Common.{arith, ◌≡◌, ◌∙◌, ◌⊎◌, inl, inr, ℕ, ◌*◌, ◌<◌, List, [], length, Option, sym, ap, subst}
+use Rattle.std.proofs.Common.{arith, ◌≡◌, ◌∙◌, ◌⊎◌, inl, inr, ℕ, ◌*◌, List, Option, refl, sym, ap, subst}
 use Rattle.addr2line_context.specs.AnsweredContexts.{AnsweredContext}
 use Rattle.addr2line_context.specs.ContextCosts.{frame_looks, AsksForFrames, AfterSearch}
 use Rattle.addr2line_context.specs.Contexts.{FileContext}
 use Rattle.addr2line_context.specs.DwarfFiles.{DwarfFile}
 use Rattle.addr2line_context.specs.FirstAnswers.{FirstAnswers}
+use Rattle.addr2line_context.specs.FrameLoads.{IsDone}
 use Rattle.addr2line_context.specs.KeptContexts.{ResolvedContext}
 use Rattle.addr2line_context.specs.KeptUnits.{KeepsAt, ReadsNoLines}
 use Rattle.addr2line_context.specs.LookupCosts.{AtMostLooks}
 use Rattle.addr2line_context.specs.ResolvedUnits.{ResolvedUnit}
-use Rattle.addr2line_context.specs.SettledLookups.{frames_in, loads_in, after_answer}
+use Rattle.addr2line_context.specs.SettledLookups.{frames_in, after_answer}
 use Rattle.addr2line_context.specs.UnitLookups.{IsPending}
-use Rattle.addr2line_context.proofs.AnsweredFirst.{frames_have_load}
+use Rattle.addr2line_context.proofs.FrameLoads.{waits_not}
 use Rattle.addr2line_loader.specs.ResolvedFiles.{ReadsForFrames}
 use Rattle.addr2line_loader.proofs.AskedUnits.{asks_still}
 
@@ -21,6 +22,7 @@ module _ (c : AnsweredContext) (a : ℕ) where
   -- a call that changes nothing
   pub reads_nothing : (us : List ResolvedUnit) → ReadsForFrames c a us us
   reads_nothing us = record {
+    counters = refl;
     lines = λ n kept. kept;
     functions = record { functions = λ n kept. kept; calls = λ f n kept. kept };
     reads = λ n kept. inl kept;
@@ -30,6 +32,7 @@ module _ (c : AnsweredContext) (a : ℕ) where
   pub reads_by_answer : (n : ℕ) (us vs : List ResolvedUnit) → AtMostLooks n us vs → ReadsNoLines us vs
       → ReadsForFrames c a us vs
   reads_by_answer n us vs cost lines = record {
+    counters = cost.counters;
     lines = cost.more;
     functions = cost.functions;
     reads = λ k kept. inl (lines k kept);
@@ -39,6 +42,7 @@ module _ (c : AnsweredContext) (a : ℕ) where
   pub reads_in : (last : AnsweredContext) → ((n : ℕ) → AsksForFrames c a n → AsksForFrames last a n)
       → (us vs : List ResolvedUnit) → ReadsForFrames c a us vs → ReadsForFrames last a us vs
   reads_in last asks us vs h = record {
+    counters = h.counters;
     lines = h.lines;
     functions = h.functions;
     reads = λ n kept. by n (h.reads n kept);
@@ -53,6 +57,7 @@ module _ (c : AnsweredContext) (a : ℕ) where
   pub reads_both : (us vs ws : List ResolvedUnit) → ReadsForFrames c a us vs → ReadsForFrames c a vs ws
       → ReadsForFrames c a us ws
   reads_both us vs ws h k = record {
+    counters = k.counters ∙ h.counters;
     lines = λ n kept. k.lines n (h.lines n kept);
     functions = record {
       functions = λ n kept. k.functions.functions n (h.functions.functions n kept);
@@ -72,7 +77,12 @@ pub reads_then_search : (a : ℕ) (us : List ResolvedUnit) (mid new : ResolvedCo
 reads_then_search a us mid new h after =
     subst (λ (x : AnsweredContext). ReadsForFrames x a us new.units) (sym after.value)
     (reads_both mid.value a us mid.units new.units h
-    (record { lines = after.cost.more; functions = after.cost.functions; reads = after.reads }))
+    (record {
+      counters = after.cost.counters;
+      lines = after.cost.more;
+      functions = after.cost.functions;
+      reads = after.reads;
+    }))
 
 abbrev answered : FileContext → FirstAnswers → AnsweredContext
 answered p first = record { plain = p; answers = first }
@@ -92,18 +102,14 @@ asks_left old new a file same left n asked = by left
         (asks_still old a file n asked)
     by (inr is) = subst (λ (x : AnsweredContext). AsksForFrames x a n) (sym (with_answers old.answers is)) asked
 
--- ---- where no load is pending
+-- ---- where the frames are found without an answer
 
 -- no lookup waits
-pub waits_somewhere : (a : ℕ) (old mid : ResolvedContext) → mid ≡ old → loads_in old.value a ≡ []
+pub waits_somewhere : (a : ℕ) (old mid : ResolvedContext) → mid ≡ old → IsDone (frames_in old.value a)
     → IsPending (frames_in mid.value a) → ⊥
-waits_somewhere a old mid same none waits =
-    let some =
-    subst (λ (x : ResolvedContext). 0 < length (loads_in x.value a)) same (frames_have_load mid.value a waits) in
-    none_below (subst (λ ps. 0 < length ps) none some)
-  where
-    none_below : 0 < 0 → ⊥
-    none_below less = omega (arith, less)
+waits_somewhere a old mid same done waits =
+    waits_not (frames_in old.value a) done
+    (subst (λ (x : ResolvedContext). IsPending (frames_in x.value a)) same waits)
 
 -- the lookup is the first
 pub search_alone : (a : ℕ) (old mid new : ResolvedContext) → mid ≡ old → AfterSearch AsksForFrames a mid new

@@ -1,7 +1,8 @@
 //! The loads of a lookup, answered by the split files of a source.
 
-ghost use Rattle.std.specs.Prelude.{◌≡◌, ◌<◌, ℕ, [], length, OnOk};
+ghost use Rattle.std.specs.Prelude.{◌≡◌, ◌<◌, ℕ, length, OnOk};
 ghost use Rattle.addr2line_context.specs.ContextCosts.{AsksForFrames, AfterSearch};
+ghost use Rattle.addr2line_context.specs.FrameLoads.{IsDone};
 ghost use Rattle.addr2line_context.specs.SettledLookups.{frames_in, loads_in};
 ghost use Rattle.addr2line_context.specs.UnitLookups.{IsPending};
 ghost use Rattle.addr2line_loader.specs.ResolvedFiles.{ReadsForFrames};
@@ -25,7 +26,7 @@ pub(crate) fn answer_loads<S: SplitSource>(
         (record { answers = context.old.value.answers; source = source.old }) result
         (record { answers = context.new.value.answers; source = source.new }) }
     ensures units { ReadsForFrames context.new.value probe context.old.units context.new.units }
-    ensures alone { loads_in context.old.value probe ≡ []
+    ensures alone { IsDone (frames_in context.old.value probe)
         → AfterSearch AsksForFrames probe context.old context.new }
 {
     while frames_wait(context, probe)? {

@@ -37,9 +37,9 @@ loop-context-preserved g c =
           (reads_then_search c.args.probe _ c.loop-context.context c.frames_wait.new.context
           c.loop-context.invariant.2 c.frames_wait.ensures.after))
           c.answer_next.ensures.units,
-      λ none. absurd
-          (waits_somewhere c.args.probe c.args.context.now c.loop-context.context (c.loop-context.invariant.3 none)
-          none
+      λ done. absurd
+          (waits_somewhere c.args.probe c.args.context.now c.loop-context.context (c.loop-context.invariant.3 done)
+          done
           (subst (λ b. TellsWaiting (frames_in c.loop-context.context.value c.args.probe) (Ok b)) c.if-branch.true
           c.in_ok-frames_wait.ensures.waits)),
     )
@@ -93,18 +93,18 @@ returns-clause-units g c =
     c.frames_wait.ensures.after
 
 pub returns-in_err-frames_wait-clause-alone : goal.returns-in_err-frames_wait-clause-alone
-returns-in_err-frames_wait-clause-alone g c = λ none.
+returns-in_err-frames_wait-clause-alone g c = λ done.
     search_alone c.args.probe c.args.context.now c.loop-context.context c.frames_wait.new.context
-    (c.loop-context.invariant.3 none) c.frames_wait.ensures.after
+    (c.loop-context.invariant.3 done) c.frames_wait.ensures.after
 
 pub returns-in_err-answer_next-clause-alone : goal.returns-in_err-answer_next-clause-alone
-returns-in_err-answer_next-clause-alone g c = λ none.
+returns-in_err-answer_next-clause-alone g c = λ done.
     absurd
-    (waits_somewhere c.args.probe c.args.context.now c.loop-context.context (c.loop-context.invariant.3 none) none
+    (waits_somewhere c.args.probe c.args.context.now c.loop-context.context (c.loop-context.invariant.3 done) done
     (subst (λ b. TellsWaiting (frames_in c.loop-context.context.value c.args.probe) (Ok b)) c.if-branch.true
     c.in_ok-frames_wait.ensures.waits))
 
 pub returns-clause-alone : goal.returns-clause-alone
-returns-clause-alone g c = λ none.
+returns-clause-alone g c = λ done.
     search_alone c.args.probe c.args.context.now c.loop-context.context c.frames_wait.new.context
-    (c.loop-context.invariant.3 none) c.frames_wait.ensures.after
+    (c.loop-context.invariant.3 done) c.frames_wait.ensures.after

@@ -1,7 +1,8 @@
--- Some loads are answered, in order; and there are fewer loads left. What was kept is kept still. Where there was no
--- load, nothing was done yet.
-use Rattle.std.proofs.Common.{◌≡◌, [], length}
-use Rattle.addr2line_context.specs.SettledLookups.{loads_in}
+-- Some loads are answered, in order; and there are fewer loads left. What was kept is kept still. Where the frames are
+-- found without an answer, nothing was done yet.
+use Rattle.std.proofs.Common.{◌≡◌, length}
+use Rattle.addr2line_context.specs.FrameLoads.{IsDone}
+use Rattle.addr2line_context.specs.SettledLookups.{frames_in, loads_in}
 use Rattle.addr2line_loader.specs.ResolvedFiles.{ReadsForFrames}
 use Rattle.addr2line_loader.proofs.AnsweredLoads.{AnsweredTo}
 use Rattle.addr2line_loader.proofs.answers.answer_loads.Given as goal
@@ -16,4 +17,4 @@ invariant-loop-context g l =
     (record { answers = l.fn.context.value.answers; source = l.fn.source })
     (record { answers = l.context.value.answers; source = l.source })
     × ReadsForFrames l.context.value l.probe l.fn.context.units l.context.units
-    × (loads_in l.fn.context.value l.probe ≡ [] → l.context ≡ l.fn.context)
+    × (IsDone (frames_in l.fn.context.value l.probe) → l.context ≡ l.fn.context)
