@@ -1,6 +1,6 @@
 //! What a load gets of the bytes of a split file.
 
-ghost use Rattle.std.specs.Prelude.{◌≡◌, Result, Option, Ok, Some, IfOk, IfErr, option_map};
+ghost use Rattle.std.specs.Prelude.{◌≡◌, ◌≢◌, Result, Option, Ok, Err, Some, None, IfOk, IfErr, option_map};
 ghost use Rattle.addr2line_resolved.specs.Calls.{ReturnsAsOrNoMemory, ReturnsOrNoMemory};
 ghost use Rattle.addr2line_resolved.specs.Error.{Error};
 ghost use Rattle.addr2line_resolved.specs.Error.TheVariants.{Memory};
@@ -26,7 +26,7 @@ use std::rc::Rc;
 /// The split file that a load asks for, as a source gives it: an ELF file whose first unit has the
 /// load's identifier, with what only the main file has. None where the load has no name, where the
 /// source has no such file, and where its bytes can't be read or are another unit's. The only
-/// refusal is out of memory, also of the source.
+/// refusal is out of memory, also of the source; a load without a name takes none.
 pub fn load_split<S: SplitSource>(
     alloc: Global,
     load: &SplitDwarfLoad<ImageReader>,
@@ -36,6 +36,7 @@ pub fn load_split<S: SplitSource>(
         × GetsFile S.answers load.now source.old file source.new
         × ReturnsAsOrNoMemory (option_map (λ d. d.value.file)) result file }
     ensures memory { IfErr result (λ e. e ≡ Memory) }
+    ensures free { load.now.path ≡ None → result ≢ Err Memory }
 {
     match &load.path {
         Some(name) => {

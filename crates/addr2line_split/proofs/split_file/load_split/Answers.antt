@@ -27,3 +27,12 @@ returns-in-None-clause-file g c =
     let is : c.args.load.now.path ≡ None =
     ap (λ (l : SplitLoad). l.path) (sym c.load.view_is) ∙ ap (option_map (λ (v : View). v)) c.in-None.is in
     (_, gets_none g.S.SplitSource.answers c.args.load.now _ is, refl)
+
+pub returns-in-Some-clause-free : goal.returns-in-Some-clause-free
+returns-in-Some-clause-free g c = λ none.
+    let is : c.args.load.now.path ≡ Some c.in-Some.name =
+    ap (λ (l : SplitLoad). l.path) (sym c.load.view_is) ∙ ap (option_map (λ (v : View). v)) c.in-Some.is in
+    let both = sym is ∙ none in absurd cc
+
+pub returns-in-None-clause-free : goal.returns-in-None-clause-free
+returns-in-None-clause-free g c = λ none refused. cc
