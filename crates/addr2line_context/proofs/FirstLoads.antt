@@ -38,6 +38,17 @@ module _ (file : DwarfFile) (us : List ResolvedUnit) (s : List UnitFacts)
   none_by [] h = refl
   none_by (p ∷ ps) h = absurd cc
 
+  one_by : (n : ℕ) (ps : List PendingLoad) → Some n ≡ first_number ps → one_each ps ≡ [] → ⊥
+  one_by n [] first none = cc
+  one_by n (p ∷ ps) first none = cc
+
+  -- there are none where none is the first, and some where one is
+  pub none_pending : None ≡ first_number unit_loads → loads_in c a ≡ []
+  none_pending first = loads_are ∙ none_by unit_loads first
+
+  pub one_pending : (n : ℕ) → Some n ≡ first_number unit_loads → loads_in c a ≡ [] → ⊥
+  one_pending n first none = one_by n unit_loads first (sym loads_are ∙ none)
+
   -- ---- the first load
 
   load_by : (ps : List PendingLoad) (l : SplitLoad) → first_load ps ≡ Some l → LoadOf (one_each ps) (Ok l)
@@ -85,12 +96,12 @@ module _ (file : DwarfFile) (us : List ResolvedUnit) (s : List UnitFacts)
     -- where there is no load
     pub none_answered : None ≡ first_number unit_loads → c ≡ after_answer c a answer
     none_answered first =
-        sym (ap (λ ps. record c { answers = answers_with_first c ps answer }) (loads_are ∙ none_by unit_loads first))
+        sym (ap (λ ps. record c { answers = answers_with_first c ps answer }) (none_pending first))
 
     pub none_fewer : None ≡ first_number unit_loads → 0 < length (loads_in c a)
         → length (loads_in c a) + 1 ≤ length (loads_in c a)
     none_fewer first some =
-        let none = ap length (loads_are ∙ none_by unit_loads first) in absurd (omega (arith, some, none))
+        let none = ap length (none_pending first) in absurd (omega (arith, some, none))
 
     module _ (n : ℕ) (first : Some n ≡ first_number unit_loads) (new : List ResolvedUnit)
         (answered : Result (Unit {0}) Error)

@@ -1,6 +1,6 @@
 //! A context, and what lookups find in it.
 
-ghost use Rattle.std.specs.Prelude.{◌≡◌, ◌≢◌, ◌<◌, ◌≤◌, ◌+◌, None, Ok, Err, IfOk, IfErr, IfSome, OnOk, length, map, slice_get, option_map};
+ghost use Rattle.std.specs.Prelude.{◌≡◌, ◌≢◌, ◌<◌, ◌≤◌, ◌+◌, [], None, Ok, Err, IfOk, IfErr, IfSome, OnOk, length, map, slice_get, option_map};
 ghost use Rattle.addr2line_lookups.specs.Calls.{ReturnsAs, ReturnsAsOrNoMemory, ReturnsOrNoMemory};
 ghost use Rattle.addr2line_lookups.specs.Contexts.{location, stretches, file_context, all_lines_or_refusal};
 ghost use Rattle.addr2line_lookups.specs.Error.TheVariants.{Memory};
@@ -303,7 +303,8 @@ impl<R: Reader> Context<R> {
     /// units with a range over it, in the order in which lookups ask them, those of split parts
     /// that were not answered yet (DWARF 5, 3.1.3), that of each unit once. After an answer to each
     /// no lookup of this address waits. It takes memory for copies of readers and for the numbers
-    /// of their units; n ranges over the address take about n log n steps.
+    /// of their units, and none where there is no such load; n ranges over the address take about
+    /// n log n steps.
     pub fn preload_units(
         &mut self,
         probe: u64,
@@ -311,8 +312,12 @@ impl<R: Reader> Context<R> {
         ensures loads { ReturnsAsOrNoMemory (λ found. map load_of_item found.items) result
             (Ok (loads_in self.old.value probe)) }
         ensures value { self.new ≡ self.old }
+        ensures free { loads_in self.old.value probe ≡ [] → result ≢ Err Memory }
     {
-        self.units.pending_loads(probe)
+        match self.units.first_waiting(probe, 0) {
+            Some(_) => self.units.pending_loads(probe),
+            None => Ok(Vec::new(*self.supplement_units.allocator())),
+        }
     }
 
     /// Answers the load of a unit by the sections of the other file, which `Dwarf::make_dwo`
