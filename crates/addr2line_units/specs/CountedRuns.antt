@@ -1,5 +1,5 @@
 -- How often a unit's line number program was run.
-use Rattle.std.specs.Prelude.{◌≡◌, ◌≢◌, ℕ, ◌+◌, Result, Ok, Err, is_some}
+use Rattle.std.specs.Prelude.{◌≡◌, ◌≢◌, ℕ, ◌+◌, is_some, Result, Ok, Err, if◌then◌else◌}
 use Rattle.gimli_dwarf.specs.UnitFacts.{UnitFacts}
 use Rattle.gimli_lines_rows.specs.Error.{Error}
 use Rattle.gimli_lines_rows.specs.Error.TheVariants.{Memory}
