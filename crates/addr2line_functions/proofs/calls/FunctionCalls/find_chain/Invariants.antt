@@ -1,6 +1,6 @@
 -- The calls of the numbers so far, with those that are left, are the chain, and the looks so far leave
 -- enough for the rest.
-use Rattle.std.proofs.Common.{◌≡◌, ◌+◌, ◌*◌, ◌≤◌, length}
+use Rattle.std.proofs.Common.{◌≡◌, ◌+◌, ◌*◌, ◌≤◌, length, map, Some}
 use Rattle.addr2line_units.specs.InlinedCalls.{chain_at, chain_from}
 use Rattle.addr2line_functions.specs.CountedFunctions.{call_probes, chain_probes}
 use Rattle.addr2line_functions.proofs.ChainSteps.{chain_with}
@@ -10,7 +10,7 @@ abbrev pub invariant-loop-number : goal.invariant-loop-number
 invariant-loop-number g l =
     let cs = l.self.function.calls in
     record {
-      chain : chain_with cs l.probe l.numbers.items ≡ chain_at cs l.probe;
+      chain : chain_with cs l.probe l.numbers.items ≡ map Some (chain_at cs l.probe);
       counter : l.probes.name ≡ l.initial.probes.name;
       looks : l.probes.count + (length (chain_from cs l.probe (length l.numbers.items)) + 1) * call_probes cs
           ≤ l.initial.probes.count + chain_probes cs l.probe;
