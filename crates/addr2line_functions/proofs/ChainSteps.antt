@@ -1,11 +1,11 @@
 -- The chain of the calls of an address, one depth further, by the calls' numbers.
 use Rattle.std.proofs.Common.{◌≡◌, ℕ, ◌+◌, ◌==◌, List, [], ◌∷◌, ◌++◌, length, map, slice_get, Option, Some, None, option_map, MatchOption, refl, sym, ap, subst, ◌∙◌, append_assoc, append-nil, length-append, arith}
 use Rattle.std.specs.List.{cons_option}
-use Rattle.std.proofs.lemmas.List.{map-append}
+use Rattle.std.proofs.lemmas.List.{map-append, length-map}
 use Rattle.std.proofs.lemmas.List.Elements.{filter_map-append}
 use Rattle.addr2line_units.specs.Choice.{holder}
 use Rattle.addr2line_units.specs.Pairs.{Pair}
-use Rattle.addr2line_units.specs.InlinedCalls.{Call, ranges_of_call, call_ranges, call_at_depth, chain_from}
+use Rattle.addr2line_units.specs.InlinedCalls.{Call, ranges_of_call, call_ranges, call_at_depth, chain_from, chain_at}
 use Rattle.addr2line_units.proofs.CallChains.{chain_step}
 use Rattle.addr2line_functions.specs.CallNumbers.{calls_of_numbers}
 use Rattle.addr2line_functions.specs.CountedFunctions.{depth_of_call}
@@ -100,3 +100,15 @@ module _ (cs : List Call) (a : ℕ) where
       let next = ap length (found_call (length ns) n e).2 in
       let same = ap (λ k. length (chain_from cs a k)) (length-append ns (n ∷ [])) in
       omega (arith, next, same)
+
+  -- there are as many numbers so far, with the calls that are left, as calls in all
+  pub chain_length : (ns : List ℕ) → chain_with ns ≡ map Some (chain_at cs a)
+      → length ns + length (chain_from cs a (length ns)) ≡ length (chain_at cs a)
+  chain_length ns whole =
+      let left = chain_from cs a (length ns) in
+      let same = ap length whole in
+      let both = length-append (map (slice_get cs) ns) (map Some left) in
+      let numbers = length-map ns (slice_get cs) in
+      let calls = length-map left Some in
+      let all = length-map (chain_at cs a) Some in
+      omega (arith, same, both, numbers, calls, all)

@@ -1,6 +1,6 @@
 //! A function with the calls that are inlined into it.
 
-ghost use Rattle.std.specs.Prelude.{◌≡◌, map, slice_get, Some, option_map, Ok, IfOk};
+ghost use Rattle.std.specs.Prelude.{◌≡◌, ◌≤◌, map, length, slice_get, vec_capacity, Some, option_map, Ok, IsOk, IfOk};
 ghost use Rattle.gimli_units_entries.specs.Calls.{ReturnsAsOrNoMemory, ReturnsOrNoMemory};
 ghost use Rattle.gimli_units_entries.specs.EntryViews.{entry_of};
 ghost use Rattle.addr2line_units.specs.InlinedCalls.{calls_of_function, function_calls, chain_at};
@@ -106,6 +106,8 @@ impl<R: Reader> FunctionCalls<R> {
             (Ok (map Some (chain_at self.now.function.calls probe))) }
         ensures cost { AtMostProbes (chain_probes self.now.function.calls probe)
             probes.old probes.new }
+        ensures free { length (chain_at self.now.function.calls probe) ≤ vec_capacity numbers.old
+            → IsOk result }
     {
         numbers.clear();
         while let Some(number) = number_at(&self.ranges, numbers.len(), probe, probes) {

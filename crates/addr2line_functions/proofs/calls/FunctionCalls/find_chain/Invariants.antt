@@ -1,6 +1,6 @@
--- The calls of the numbers so far, with those that are left, are the chain, and the looks so far leave
--- enough for the rest.
-use Rattle.std.proofs.Common.{◌≡◌, ◌+◌, ◌*◌, ◌≤◌, length, map, Some}
+-- The calls of the numbers so far, with those that are left, are the chain, the buffer has no less room
+-- than at the start, and the looks so far leave enough for the rest.
+use Rattle.std.proofs.Common.{◌≡◌, ◌+◌, ◌*◌, ◌≤◌, length, map, vec_capacity, Some}
 use Rattle.addr2line_units.specs.InlinedCalls.{chain_at, chain_from}
 use Rattle.addr2line_functions.specs.CountedFunctions.{call_probes, chain_probes}
 use Rattle.addr2line_functions.proofs.ChainSteps.{chain_with}
@@ -11,6 +11,7 @@ invariant-loop-number g l =
     let cs = l.self.function.calls in
     record {
       chain : chain_with cs l.probe l.numbers.items ≡ map Some (chain_at cs l.probe);
+      room : vec_capacity l.fn.numbers ≤ vec_capacity l.numbers;
       counter : l.probes.name ≡ l.initial.probes.name;
       looks : l.probes.count + (length (chain_from cs l.probe (length l.numbers.items)) + 1) * call_probes cs
           ≤ l.initial.probes.count + chain_probes cs l.probe;
