@@ -11,3 +11,4 @@ pub mod EmittedFunctionLemmas
 pub mod EmittedFunctionUnits
 pub mod EmittedUnitLemmas
 mod ListTablesRead
+mod UnitsApart

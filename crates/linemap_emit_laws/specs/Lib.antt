@@ -5,3 +5,4 @@ pub mod RecordedTables
 pub mod RecordedTableLaws
 pub mod EmissionLaws
 pub mod ListTables
+pub mod UnitDifferences
