@@ -2,9 +2,12 @@
 //! units, asked for addresses, and emitted as debug information.
 #![tactic(auto)]
 
-pub use linemap_commands::{cannot_load, cannot_write, emission, emit, no_such_target, target_of};
+pub use linemap_commands::{
+    cannot_load, cannot_write, emission, emit, no_such_target, table_out_of_memory, target_of,
+};
 pub use linemap_lookup_laws::{
-    Error, FileSource, LoadError, MapSource, SplitSource, read_file, run, table_printed,
+    Error, FileSource, LoadError, MapSource, SplitSource, load_out_of_memory, read_file, run,
+    table_printed,
 };
 pub use linemap_replay::{
     Answer, Call, OwnedFrame, OwnedLocation, OwnedName, OwnedStretch, OwnedUnit, replay,

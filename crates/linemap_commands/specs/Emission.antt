@@ -1,5 +1,5 @@
 -- What `emit` makes of a text, and how it reports that it makes nothing.
-use Rattle.std.specs.Prelude.{◌≡◌, ◌≢◌, ◌^◌, ℕ, List, [], Bool, true, false, Option, Some, None, Result, Ok, Err, codes, nat_lt, if◌then◌else◌}
+use Rattle.std.specs.Prelude.{◌≡◌, ◌^◌, ℕ, List, [], Bool, true, false, ⊤, Option, Some, None, Result, Ok, Err, codes, nat_lt, if◌then◌else◌}
 use Rattle.linemap_image.specs.ImageAnswers.{FileAnswers}
 use Rattle.linemap_image.specs.TableImages.{emitted_image}
 use Rattle.linemap_image.specs.Encoding.{Encoding}
@@ -15,7 +15,7 @@ use Rattle.linemap_image.specs.TableError.TheVariants.{Memory as NoMemory}
 use Rattle.linemap_image.specs.TableParts.{UnitPart}
 use Rattle.linemap_image.specs.TableWeight.{table_weight}
 use Rattle.linemap_commands.specs.declared.images.Refusal.{Refusal}
-use Rattle.linemap_commands.specs.declared.images.Refusal.TheVariants.{Memory, Table, DoesNotFit, TooLarge}
+use Rattle.linemap_commands.specs.declared.images.Refusal.TheVariants.{TableMemory, Table, DoesNotFit, EmissionMemory, TooLarge}
 
 -- ---- what is refused
 
@@ -27,19 +27,29 @@ refusal_of e (Ok units) = if fits e.address_size units
     then (if nat_lt (table_weight units) (2 ^ 31) then None else Some TooLarge)
     else Some DoesNotFit
 
--- out of memory is not a refusal of the table
+-- memory that is refused for a table is not a refusal of the table
 abbrev pub table_refusal : TableError → Refusal
-table_refusal NoMemory = Memory
+table_refusal NoMemory = TableMemory
 table_refusal e = Table e
 
--- a table that is too large is not out of memory
+-- nor is a table that is too large one that memory is refused for
 abbrev pub emission_refusal : EmitError → Refusal
-emission_refusal NoRoom = Memory
+emission_refusal NoRoom = EmissionMemory
 emission_refusal TooHeavy = TooLarge
 
--- the refusal is out of memory, or the text's own
+-- the text is a table that fits the target
+abbrev pub IsFitting : Encoding → Result (List UnitPart) TableError → Type 0
+IsFitting e (Err error) = ⊥
+IsFitting e (Ok units) = fits e.address_size units ≡ true
+
+-- the refusal is the text's own, or memory is refused: for the table, or for the emission of one
+-- that fits
 abbrev pub Refuses : Encoding → Result (List UnitPart) TableError → Refusal → Type 0
-Refuses e table refusal = refusal ≢ Memory → refusal_of e table ≡ Some refusal
+Refuses e table TableMemory = ⊤
+Refuses e table (Table error) = refusal_of e table ≡ Some (Table error)
+Refuses e table DoesNotFit = refusal_of e table ≡ Some DoesNotFit
+Refuses e table EmissionMemory = IsFitting e table
+Refuses e table TooLarge = refusal_of e table ≡ Some TooLarge
 
 -- ---- what is made
 
@@ -53,14 +63,16 @@ IsImage e is_big (Ok units) bytes = (refusal_of e (Ok units) ≡ None)
 
 -- the error line of a refusal
 abbrev pub refusal_line : Refusal → List ℕ
-refusal_line Memory = error_line (codes "out of memory") []
+refusal_line TableMemory = error_line (codes "table refused: ") (codes "B1")
 refusal_line (Table error) = error_line (codes "table refused: ") (table_error_code error)
 refusal_line DoesNotFit = error_line (codes "table does not fit the target") []
+refusal_line EmissionMemory = error_line (codes "emit refused: ") (codes "M1")
 refusal_line TooLarge = error_line (codes "emit refused: ") (codes "M2")
 
--- only out of memory sets its flag
+-- whether memory is refused, which sets its flag
 abbrev pub is_memory : Refusal → Bool
-is_memory Memory = true
+is_memory TableMemory = true
+is_memory EmissionMemory = true
 is_memory _ = false
 
 -- an error line and status 1
@@ -68,7 +80,7 @@ abbrev pub Reports : Refusal → Option (List ℕ) → Option (List ℕ) → End
 Reports refusal old new e =
     Fails (refusal_line refusal) old new e × (e.memory ≡ is_memory refusal)
 
--- the text's refusal is reported, or out of memory
+-- the text's refusal is reported, or one for memory
 pub record EndsRefused (encoding : Encoding) (table : Result (List UnitPart) TableError)
     (old new : Option (List ℕ)) (e : Ended) : Type 0 where
   pub why : Refusal

@@ -6,20 +6,23 @@ ghost use Rattle.linemap_image.specs.EmissionTargets.{encoding_of, is_big_of};
 ghost use Rattle.linemap_image.specs.TableInText.{table_in};
 ghost use Rattle.linemap_commands.specs.Emission.{EndsRefused, IsImage, Refuses, Reports};
 
+use crate::reports::table_out_of_memory;
 use linemap_image::{EmitError, Table, TableError, Target, emit};
-use linemap_output::{Ended, fail, out_of_memory};
+use linemap_output::{Ended, fail};
 use std::alloc::Global;
 use std::io::Write;
 
 // Why no image is made of a text.
 #[derive(Clone, Copy, Debug)]
 enum Refusal {
-    // Out of memory.
-    Memory,
+    // Out of memory, for the table.
+    TableMemory,
     // The text is not a table.
     Table(TableError),
     // An address is too large for the target.
     DoesNotFit,
+    // Out of memory, for what is emitted of the table.
+    EmissionMemory,
     // The table weighs too much.
     TooLarge,
 }
@@ -31,7 +34,7 @@ impl From<TableError> for Refusal {
 
     fn from(error: TableError) -> Refusal {
         match error {
-            TableError::Memory => Refusal::Memory,
+            TableError::Memory => Refusal::TableMemory,
             _ => Refusal::Table(error),
         }
     }
@@ -44,7 +47,7 @@ impl From<EmitError> for Refusal {
 
     fn from(error: EmitError) -> Refusal {
         match error {
-            EmitError::Memory => Refusal::Memory,
+            EmitError::Memory => Refusal::EmissionMemory,
             EmitError::TooLarge => Refusal::TooLarge,
         }
     }
@@ -56,9 +59,10 @@ impl Refusal {
         ensures { Reports self (W.contents err.old) (W.contents err.new) result }
     {
         match self {
-            Refusal::Memory => out_of_memory(err),
+            Refusal::TableMemory => table_out_of_memory(err),
             Refusal::Table(error) => fail(err, "table refused: ", error.code()),
             Refusal::DoesNotFit => fail(err, "table does not fit the target", ""),
+            Refusal::EmissionMemory => fail(err, "emit refused: ", "M1").with_memory_refused(),
             Refusal::TooLarge => fail(err, "emit refused: ", "M2"),
         }
     }

@@ -8,5 +8,5 @@ mod targets;
 
 pub use images::emission;
 pub use linemap_image::emit;
-pub use reports::{cannot_load, cannot_write, no_such_target};
+pub use reports::{cannot_load, cannot_write, no_such_target, table_out_of_memory};
 pub use targets::target_of;

@@ -14,7 +14,7 @@ use Rattle.linemap_output.proofs.WritingLemmas.{appends_nothing}
 use Rattle.linemap_lookup.specs.LineReads.{AsksLines}
 use Rattle.linemap_lookup.specs.LookupAnswers.{Answer, LookupState}
 use Rattle.linemap_lookup.specs.LookupRuns.{AnswersAll, ReportsStop, Stops, Streams, WritesAddresses}
-use Rattle.linemap_lookup.specs.Programs.{Asks, Outcome, Prints, Question, RefusesOrNoMemory, Runs, answered, words_of}
+use Rattle.linemap_lookup.specs.Programs.{Asks, LacksMemory, LacksMemoryFor, LacksMemoryForAll, Outcome, Prints, Question, RefusesOrLacksMemory, Runs, all_memory_line, answered, words_of}
 
 -- ---- flags
 
@@ -45,29 +45,41 @@ no_stop x old new ended e stops memory write = at stops.reports
 
 module _ (old new : Option (List ℕ)) (e : Ended) where
   -- the line of a refusal is written, with its text
-  pub line_written : (message detail text : List ℕ) → detail ≡ text → Fails (error_line message detail) old new e
-      → e.memory ≡ false → RefusesOrNoMemory (error_line message text) old new e
-  line_written message detail text is fails memory =
+  pub line_written : (message detail text memory_line : List ℕ) → detail ≡ text
+      → Fails (error_line message detail) old new e → e.memory ≡ false
+      → RefusesOrLacksMemory (error_line message text) memory_line old new e
+  line_written message detail text memory_line is fails memory =
       inr (subst (λ d. Fails (error_line message d) old new e) is fails, memory)
+
+-- a refusal for memory sets the memory flag
+memory_set : (o : Options) (image : List ℕ) (supplement : Option (List ℕ)) (old new : Option (List ℕ)) (e : Ended)
+    → LacksMemoryFor o image supplement old new e → e.memory ≡ true
+memory_set o image supplement old new e (inl lacks) = lacks.1
+memory_set o image supplement old new e (inr lacks) =
+    let of_all : LacksMemoryForAll o lacks.0 old new e = lacks.2 in
+    let reported : LacksMemory all_memory_line old new e = of_all.2 in
+    reported.1
 
 module _ {S : Type 0} (answers : S → List ℕ → List ℕ → Result (Option (List ℕ)) Error → S → Type 0)
     (o : Options) (source : S) (input_old input_new : Option (List ℕ)) where
   -- ---- what is printed
 
   -- where no flag is set but that of a read, all is printed
-  pub prints : (q : Result Question (List ℕ)) (old new : Streams) (e : Ended)
-      → Runs answers o source input_old input_new q old new e → e.memory ≡ false → e.write ≡ false
+  pub prints : (image : List ℕ) (supplement : Option (List ℕ)) (q : Result Question (List ℕ)) (old new : Streams)
+      (e : Ended) → Runs answers o source input_old input_new (LacksMemoryFor o image supplement) q old new e
+      → e.memory ≡ false → e.write ≡ false
       → (p : Outcome) × Prints answers o source input_old input_new q e.read p × Appends old.out new.out p.out
       × Appends old.err new.err p.err × (e.status ≡ p.status)
-  prints q old new e (inl stop) memory write = absurd (true≢false (sym stop.0.1 ∙ memory))
-  prints (Err line) old new e (inr refused) memory write = (
+  prints image supplement q old new e (inl stop) memory write =
+      absurd (true≢false (sym (memory_set o image supplement old.err new.err e stop.0) ∙ memory))
+  prints image supplement (Err line) old new e (inr refused) memory write = (
     record { out = []; err = line; status = 1 },
     refl,
     appends_nothing old.out new.out refused.1,
     refused.0.0.whole write,
     refused.0.0.status,
   )
-  prints (Ok q) old new e (inr (inl all)) memory write =
+  prints image supplement (Ok q) old new e (inr (inl all)) memory write =
       let writes = all.writes.writes in (
         answered all.writes.xs,
         record {
@@ -84,7 +96,7 @@ module _ {S : Type 0} (answers : S → List ℕ → List ℕ → Result (Option 
         writes.err (sym (ap (λ (x : Ended). x.write) all.end) ∙ write),
         ap (λ (x : Ended). x.status) all.end ∙ writes.flags.status,
       )
-  prints (Ok q) old new e (inr (inr some)) memory write =
+  prints image supplement (Ok q) old new e (inr (inr some)) memory write =
       absurd (no_stop some.stops.stops.partial _ new _ e some.stops.stops.stops memory write)
 
   -- ---- addresses

@@ -1,5 +1,5 @@
 -- The program `lookup`: what it prints, and how it ends.
-use Rattle.std.specs.Prelude.{◌≡◌, ◌⊎◌, ℕ, ◌-◌, ◌^◌, Bool, true, false, nat_lt, List, [], ◌∷◌, codes, map, Option, Some, None, option_map, Result, Ok, Err, if◌then◌else◌}
+use Rattle.std.specs.Prelude.{◌≡◌, ◌⊎◌, ℕ, ◌-◌, ◌^◌, Bool, true, false, nat_lt, List, [], ◌∷◌, codes, map, Option, Some, None, option_map, Result, Ok, Err, IsOk, if◌then◌else◌}
 use Rattle.std.specs.String.{string_bytes}
 use Rattle.std.specs.Io.KnownBytes.{Keeps}
 use Rattle.gimli_core_base.specs.ErrorText.{error_text}
@@ -13,7 +13,7 @@ use Rattle.addr2line_split.specs.LoadErrors.{text_of}
 use Rattle.addr2line_split.specs.Range.{Range}
 use Rattle.addr2line_loader.specs.LoadedFiles.{LoadedFile, loaded_file, range_of}
 use Rattle.linemap_meaning.specs.AnswerTexts.{word_address}
-use Rattle.linemap_output.specs.ErrorLine.{EndsOutOfMemory, Fails, error_line}
+use Rattle.linemap_output.specs.ErrorLine.{Fails, error_line}
 use Rattle.linemap_output.specs.declared.ended.Ended.{Ended}
 use Rattle.linemap_output.specs.declared.options.Options.{Options}
 use Rattle.linemap_lookup.specs.LineReads.{AsksLines}
@@ -84,19 +84,57 @@ question o image supplement = do
   file ← or_line (codes "failed to load debug info: ") text_of (loaded_file image supplement)
   question_of o file
 
+-- ---- how a refusal is reported
+
 -- the line of a refusal is written
 abbrev pub Refuses : List ℕ → Option (List ℕ) → Option (List ℕ) → Ended → Type 0
 Refuses line old new e = Fails line old new e × (e.memory ≡ false)
 
--- or out of memory is reported
-abbrev pub RefusesOrNoMemory : List ℕ → Option (List ℕ) → Option (List ℕ) → Ended → Type 0
-RefusesOrNoMemory line old new e = EndsOutOfMemory old new e ⊎ Refuses line old new e
+-- the line of a refusal for memory is written, and the memory flag is set
+abbrev pub LacksMemory : List ℕ → Option (List ℕ) → Option (List ℕ) → Ended → Type 0
+LacksMemory line old new e = Fails line old new e × (e.memory ≡ true)
 
--- the refusal of what is asked is reported, or out of memory is
+-- the line of a file or a supplement that is refused for memory
+abbrev pub load_memory_line : List ℕ
+load_memory_line = error_line (codes "failed to load debug info: ") (codes "L1")
+
+-- the line of all addresses that are refused for memory
+abbrev pub all_memory_line : List ℕ
+all_memory_line = error_line (codes "failed to find all addresses: ") (codes "E1")
+
+-- a refusal is reported by its own line, or by one for memory
+abbrev pub RefusesOrLacksMemory : List ℕ → List ℕ → Option (List ℕ) → Option (List ℕ) → Ended
+    → Type 0
+RefusesOrLacksMemory line memory_line old new e =
+    LacksMemory memory_line old new e ⊎ Refuses line old new e
+
+-- the refusal of what is asked is reported
 abbrev pub RefusesBy : {A : Type 0} → Result A (List ℕ) → Option (List ℕ) → Option (List ℕ) → Ended
     → Type 0
 RefusesBy asked old new e =
-    EndsOutOfMemory old new e ⊎ ((line : List ℕ) × (asked ≡ Err line) × Refuses line old new e)
+    (line : List ℕ) × (asked ≡ Err line) × Refuses line old new e
+
+-- or one for memory is
+abbrev pub RefusesByOrLacksMemory : {A : Type 0} → Result A (List ℕ) → List ℕ → Option (List ℕ)
+    → Option (List ℕ) → Ended → Type 0
+RefusesByOrLacksMemory asked memory_line old new e =
+    LacksMemory memory_line old new e ⊎ RefusesBy asked old new e
+
+-- Memory is refused for what is asked about a file: for all addresses, which are asked for, once
+-- the section is found.
+abbrev pub LacksMemoryForAll : Options → LoadedFile → Option (List ℕ) → Option (List ℕ) → Ended
+    → Type 0
+LacksMemoryForAll o file old new e =
+    (o.all ≡ true) × IsOk (section_if_any (option_map string_bytes o.section) file.image)
+    × LacksMemory all_memory_line old new e
+
+-- or, before these, for the image or its supplement
+abbrev pub LacksMemoryFor : Options → List ℕ → Option (List ℕ) → Option (List ℕ)
+    → Option (List ℕ) → Ended → Type 0
+LacksMemoryFor o image supplement old new e =
+    LacksMemory load_memory_line old new e
+    ⊎ ((file : LoadedFile) × (loaded_file image supplement ≡ Ok file)
+    × LacksMemoryForAll o file old new e)
 
 -- ---- the addresses
 
@@ -164,7 +202,8 @@ module _ {S : Type 0} (answers : S → List ℕ → List ℕ → Result (Option 
       ⊎ AnswersSome answers o q.section (Asks q.all (words_of o) input_old input_new)
       (first_state q.file) old new no_flags e
 
-  -- or out of memory before that
-  abbrev pub Runs : Result Question (List ℕ) → Streams → Streams → Ended → Type 0
-  Runs q old new e =
-      (EndsOutOfMemory old.err new.err e × Keeps old.out new.out) ⊎ RunsOn q old new e
+  -- or memory is refused before that, in one of the ways that are given
+  abbrev pub Runs : (Option (List ℕ) → Option (List ℕ) → Ended → Type 0)
+      → Result Question (List ℕ) → Streams → Streams → Ended → Type 0
+  Runs lacks_memory q old new e =
+      (lacks_memory old.err new.err e × Keeps old.out new.out) ⊎ RunsOn q old new e

@@ -1,16 +1,16 @@
 //! All addresses of a file at which a place begins.
 
-ghost use Rattle.std.specs.Prelude.{◌≡◌, ◌-◌, ◌^◌, IfErr, IfOk, Ok, OnOk, codes, option_map};
+ghost use Rattle.std.specs.Prelude.{◌≡◌, ◌-◌, ◌^◌, IfErr, IfOk, Ok, OnErr, OnOk, codes, option_map, true};
 ghost use Rattle.addr2line_context.specs.Calls.{ReturnsAsOrNoMemory};
 ghost use Rattle.addr2line_context.specs.Contexts.{stretches};
 ghost use Rattle.gimli_core_base.specs.ErrorText.{error_text};
 ghost use Rattle.linemap_output.specs.ErrorLine.{error_line};
-ghost use Rattle.linemap_lookup.specs.Programs.{RefusesBy, RefusesOrNoMemory, all_if_asked, begins_of, is_above};
+ghost use Rattle.linemap_lookup.specs.Programs.{LacksMemory, RefusesByOrLacksMemory, RefusesOrLacksMemory, all_if_asked, all_memory_line, begins_of, is_above};
 
 use addr2line_context::{Error, RangeWalk};
 use addr2line_loader::Loader;
 use addr2line_loader::stretches::next_stretch;
-use linemap_output::{Ended, Options, fail, out_of_memory};
+use linemap_output::{Ended, Options, fail};
 use std::alloc::Global;
 use std::io::Write;
 
@@ -44,15 +44,22 @@ fn all_addresses(alloc: Global, loader: &mut Loader) -> Result<Vec<u64>, Error>
     Ok(addresses)
 }
 
-// Reports that not all addresses are found.
+// Reports that memory is refused for all addresses.
+fn all_out_of_memory<E: Write>(err: &mut E) -> Ended
+    ensures { LacksMemory all_memory_line (E.contents err.old) (E.contents err.new) result }
+{
+    fail(err, "failed to find all addresses: ", "E1").with_memory_refused()
+}
+
+// Reports that not all addresses are found: why, or that memory is refused for saying so.
 fn all_refused<E: Write>(alloc: Global, error: Error, err: &mut E) -> Ended
-    ensures { RefusesOrNoMemory
-        (error_line (codes "failed to find all addresses: ") (error_text error))
+    ensures { RefusesOrLacksMemory
+        (error_line (codes "failed to find all addresses: ") (error_text error)) all_memory_line
         (E.contents err.old) (E.contents err.new) result }
 {
     match format!(in alloc; "{error}") {
         Ok(text) => fail(err, "failed to find all addresses: ", &text),
-        Err(_) => out_of_memory(err),
+        Err(_) => all_out_of_memory(err),
     }
 }
 
@@ -68,8 +75,9 @@ pub(crate) fn find_all<E: Write>(
         ≡ Ok (option_map (λ addresses. addresses.items) all)) }
     ensures same { OnOk result (err.new ≡ err.old) }
     ensures file { loader.new.file ≡ loader.old.file }
-    ensures refusal { IfErr result (RefusesBy
-        (all_if_asked options.now.all loader.old.file.context.context)
+    ensures asked { OnErr result (options.now.all ≡ true) }
+    ensures refusal { IfErr result (RefusesByOrLacksMemory
+        (all_if_asked options.now.all loader.old.file.context.context) all_memory_line
         (E.contents err.old) (E.contents err.new)) }
 {
     if !options.all {
@@ -77,7 +85,7 @@ pub(crate) fn find_all<E: Write>(
     }
     match all_addresses(alloc, loader) {
         Ok(addresses) => Ok(Some(addresses)),
-        Err(Error::Memory) => Err(out_of_memory(err)),
+        Err(Error::Memory) => Err(all_out_of_memory(err)),
         Err(error) => Err(all_refused(alloc, error, err)),
     }
 }

@@ -17,4 +17,4 @@ mod write_lines;
 pub use addr2line_context::Error;
 pub use addr2line_split::{FileSource, LoadError, MapSource, SplitSource, read_file};
 pub use linemap_output::{Ended, Options};
-pub use program::run;
+pub use program::{load_out_of_memory, run};

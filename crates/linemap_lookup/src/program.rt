@@ -7,7 +7,7 @@ ghost use Rattle.addr2line_loader.specs.LoadedFiles.{loaded_file};
 ghost use Rattle.addr2line_split.specs.LoadErrors.{text_of};
 ghost use Rattle.linemap_output.specs.ErrorLine.{error_line};
 ghost use Rattle.linemap_lookup.specs.LookupRuns.{AnswersAll, AnswersSome};
-ghost use Rattle.linemap_lookup.specs.Programs.{Asks, Outcome, Prints, RefusesBy, RefusesOrNoMemory, Runs, RunsOn, or_line, question, question_of, section_if_any, words_of};
+ghost use Rattle.linemap_lookup.specs.Programs.{Asks, LacksMemory, LacksMemoryFor, LacksMemoryForAll, Outcome, Prints, RefusesBy, RefusesByOrLacksMemory, RefusesOrLacksMemory, Runs, RunsOn, load_memory_line, or_line, question, question_of, section_if_any, words_of};
 
 use crate::all::find_all;
 use crate::engine::Engine;
@@ -16,19 +16,26 @@ use addr2line_context::Range;
 use addr2line_loader::Loader;
 use addr2line_split::{LoadError, SplitSource};
 use bytes::Bytes;
-use linemap_output::{Ended, Options, fail, out_of_memory};
+use linemap_output::{Ended, Options, fail};
 use std::alloc::Global;
 use std::io::{BufRead, Write};
 
-// Reports that a file isn't loaded.
+/// Ends with status 1 and the line for a file for which memory is refused.
+pub fn load_out_of_memory<E: Write>(err: &mut E) -> Ended
+    ensures { LacksMemory load_memory_line (E.contents err.old) (E.contents err.new) result }
+{
+    fail(err, "failed to load debug info: ", "L1").with_memory_refused()
+}
+
+// Reports that a file isn't loaded: why, or that memory is refused for saying so.
 fn load_refused<E: Write>(alloc: Global, error: LoadError, err: &mut E) -> Ended
-    ensures { RefusesOrNoMemory
-        (error_line (codes "failed to load debug info: ") (text_of error))
+    ensures { RefusesOrLacksMemory
+        (error_line (codes "failed to load debug info: ") (text_of error)) load_memory_line
         (E.contents err.old) (E.contents err.new) result }
 {
     match format!(in alloc; "{error}") {
         Ok(text) => fail(err, "failed to load debug info: ", &text),
-        Err(_) => out_of_memory(err),
+        Err(_) => load_out_of_memory(err),
     }
 }
 
@@ -41,13 +48,13 @@ fn load<E: Write>(
 ) -> Result<Loader, Ended>
     ensures file { IfOk result (λ loader. loaded_file image supplement ≡ Ok loader.file) }
     ensures same { OnOk result (err.new ≡ err.old) }
-    ensures refusal { IfErr result (RefusesBy
+    ensures refusal { IfErr result (RefusesByOrLacksMemory
         (or_line (codes "failed to load debug info: ") text_of (loaded_file image supplement))
-        (E.contents err.old) (E.contents err.new)) }
+        load_memory_line (E.contents err.old) (E.contents err.new)) }
 {
     match Loader::from_bytes(alloc, image, supplement) {
         Ok(loader) => Ok(loader),
-        Err(LoadError::Memory) => Err(out_of_memory(err)),
+        Err(LoadError::Memory) => Err(load_out_of_memory(err)),
         Err(error) => Err(load_refused(alloc, error, err)),
     }
 }
@@ -146,7 +153,8 @@ impl Engine {
         err: &mut E,
     ) -> Ended
         ensures { Runs S.answers options.now source.old (R.remaining lines.old)
-            (R.remaining lines.new) (question_of options.now self.old.loader.file)
+            (R.remaining lines.new) (LacksMemoryForAll options.now self.old.loader.file)
+            (question_of options.now self.old.loader.file)
             (record { out = O.contents out.old; err = E.contents err.old })
             (record { out = O.contents out.new; err = E.contents err.new }) result }
     {
@@ -180,7 +188,8 @@ fn answer_image<S: SplitSource, R: BufRead, O: Write, E: Write>(
     err: &mut E,
 ) -> Ended
     ensures { Runs S.answers options.now source.old (R.remaining lines.old)
-        (R.remaining lines.new) (question options.now image supplement)
+        (R.remaining lines.new) (LacksMemoryFor options.now image supplement)
+        (question options.now image supplement)
         (record { out = O.contents out.old; err = E.contents err.old })
         (record { out = O.contents out.new; err = E.contents err.new }) result }
 {
@@ -211,7 +220,8 @@ pub fn run<S: SplitSource + Drop, R: BufRead, O: Write, E: Write>(
         × Appends (O.contents out.old) (O.contents out.new) p.out
         × Appends (E.contents err.old) (E.contents err.new) p.err × (result.status ≡ p.status) }
     ensures runs { Runs S.answers options.now source (R.remaining lines.old)
-        (R.remaining lines.new) (question options.now image supplement)
+        (R.remaining lines.new) (LacksMemoryFor options.now image supplement)
+        (question options.now image supplement)
         (record { out = O.contents out.old; err = E.contents err.old })
         (record { out = O.contents out.new; err = E.contents err.new }) result }
 {

@@ -1,8 +1,10 @@
 //! The program `linemap`: command line, files and streams around what its crates do with values.
 #![tactic(auto)]
 
-use linemap_commands::{cannot_load, cannot_write, emission, no_such_target, target_of};
-use linemap_lookup::{FileSource, LoadError, read_file, run};
+use linemap_commands::{
+    cannot_load, cannot_write, emission, no_such_target, table_out_of_memory, target_of,
+};
+use linemap_lookup::{FileSource, LoadError, load_out_of_memory, read_file, run};
 use linemap_text::{Target, ask, cannot_read, out_of_memory, words_not_text};
 use linemap_words::{Options, Request, explain, read_words};
 use std::io::{BufReader, BufWriter, ErrorKind, Lock, Write};
@@ -73,7 +75,9 @@ fn text_of<R: Files + AllocGlobal, E: Write>(
 ) -> Result<Vec<u8>, u8> {
     match fs::read(rt, table) {
         Ok(text) => Ok(text),
-        Err(error) if error.kind() == ErrorKind::OutOfMemory => Err(out_of_memory(err).status),
+        Err(error) if error.kind() == ErrorKind::OutOfMemory => {
+            Err(table_out_of_memory(err).status)
+        }
         Err(_) => Err(cannot_read(err, table).status),
     }
 }
@@ -156,7 +160,7 @@ fn look_up<R: Files + Input + AllocGlobal, O: Write, E: Write>(
 // Ends after a file that is not read.
 fn refuse<E: Write>(err: &mut E, error: LoadError) -> u8 {
     match error {
-        LoadError::Memory => out_of_memory(err).status,
+        LoadError::Memory => load_out_of_memory(err).status,
         _ => cannot_load(err).status,
     }
 }

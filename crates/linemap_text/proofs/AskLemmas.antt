@@ -81,8 +81,8 @@ both_set false set clear = let no : true ≡ false = sym set in cc
 -- the flags that a stop sets
 pub flags_of_stop : (p : AskOutcome) (stop : Stop) (old new : Option (List ℕ)) (e : Ended) → StopsAt p stop
     → Reports stop old new e → FlagsMean p old new e
-flags_of_stop p Memory old new e at ends = record {
-  memory = λ _. ends;
+flags_of_stop p (Memory what) old new e at ends = record {
+  memory = λ _. (what, at, ends.0);
   write = λ clear _. absurd (both_set e.memory ends.1 clear);
   read = ends.0.read;
 }

@@ -5,13 +5,15 @@ use Rattle.linemap_emit.specs.AnswerTexts.{ask_text}
 use Rattle.linemap_emit.specs.TableWeight.{table_weight}
 use Rattle.linemap_emit.specs.declared.error.EmitError.{EmitError}
 use Rattle.linemap_emit.specs.declared.error.EmitError.TheVariants.{Memory as NoRoom, TooLarge as TooHeavy}
-use Rattle.linemap_output.specs.ErrorLine.{EndsAtFault, EndsOutOfMemory, Fails, error_line}
+use Rattle.linemap_output.specs.ErrorLine.{EndsAtFault, Fails, error_line}
 use Rattle.linemap_output.specs.declared.ended.Ended.{Ended}
 use Rattle.linemap_output.specs.declared.writing.WriteFault.{WriteFault}
 use Rattle.linemap_emit.specs.TableErrorCodes.{table_error_code}
 use Rattle.linemap_emit.specs.TableInText.{table_in}
 use Rattle.linemap_emit.specs.TableError.{TableError}
 use Rattle.linemap_emit.specs.TableError.TheVariants.{Memory as NoMemory}
+use Rattle.linemap_text.specs.declared.stops.MemoryUse.{MemoryUse}
+use Rattle.linemap_text.specs.declared.stops.MemoryUse.TheVariants as memory
 use Rattle.linemap_text.specs.declared.stops.Stop.{Stop}
 use Rattle.linemap_text.specs.declared.stops.Stop.TheVariants.{Memory, Table, TooLarge, Output}
 
@@ -43,42 +45,57 @@ ask_outcome text words = outcome_of (table_in text) words
 abbrev pub IsClean : Ended → Type 0
 IsClean e = (e.memory ≡ false) × (e.read ≡ false) × (e.write ≡ false)
 
--- out of memory is not a refusal of the table
+-- memory that is refused for a table is not a refusal of the table
 abbrev pub table_stop : TableError → Stop
-table_stop NoMemory = Memory
+table_stop NoMemory = Memory memory.Table
 table_stop e = Table e
 
--- a table that is too large is not out of memory
+-- nor is a table that is too large one that memory is refused for
 abbrev pub emission_stop : EmitError → Stop
-emission_stop NoRoom = Memory
+emission_stop NoRoom = Memory memory.Emission
 emission_stop TooHeavy = TooLarge
 
 -- emission stops when out of memory, or where a table is too heavy
 abbrev pub EmissionStops : List UnitPart → Stop → Type 0
-EmissionStops us Memory = ⊤
+EmissionStops us (Memory what) = what ≡ memory.Emission
 EmissionStops us (Table e) = ⊥
 EmissionStops us TooLarge = 2 ^ 31 ≤ table_weight us
 EmissionStops us (Output fault) = ⊥
 
 -- only out of memory and a fault of the writer stop the answers
 abbrev pub StopsWriting : Stop → Type 0
-StopsWriting Memory = ⊤
+StopsWriting (Memory what) = ⊤
 StopsWriting (Table e) = ⊥
 StopsWriting TooLarge = ⊥
 StopsWriting (Output fault) = ⊤
 
+-- memory may be refused for the table and its sections, and, where there are answers to print, for
+-- the context and the answers
+abbrev pub MayRefuse : AskOutcome → MemoryUse → Type 0
+MayRefuse p memory.Table = ⊤
+MayRefuse p memory.Emission = ⊤
+MayRefuse p memory.Context = p.status ≡ 0
+MayRefuse p memory.Answers = p.status ≡ 0
+
 -- a refusal is the one that `ask` prints, and nothing is written before it
 abbrev pub StopsAt : AskOutcome → Stop → Type 0
-StopsAt p Memory = ⊤
+StopsAt p (Memory what) = MayRefuse p what
 StopsAt p (Table e) = p ≡ refusal (codes "table refused: ") (table_error_code e)
 StopsAt p TooLarge = p ≡ refusal (codes "emit refused: ") (codes "M2")
 StopsAt p (Output fault) = p.status ≡ 0
 
 -- ---- how it is reported
 
+-- the error line of memory that is refused
+abbrev pub memory_line : MemoryUse → List ℕ
+memory_line memory.Table = error_line (codes "table refused: ") (codes "B1")
+memory_line memory.Emission = error_line (codes "emit refused: ") (codes "M1")
+memory_line memory.Context = error_line (codes "failed to load debug info: ") (codes "E1")
+memory_line memory.Answers = error_line (codes "out of memory") []
+
 -- out of memory and a fault of the output set their flags; each refusal has its error line
 abbrev pub Reports : Stop → Option (List ℕ) → Option (List ℕ) → Ended → Type 0
-Reports Memory old new e = EndsOutOfMemory old new e
+Reports (Memory what) old new e = Fails (memory_line what) old new e × (e.memory ≡ true)
 Reports (Table error) old new e =
     Fails (error_line (codes "table refused: ") (table_error_code error)) old new e
     × (e.memory ≡ false)
@@ -92,8 +109,13 @@ EndsAtWrite p old new e =
     ((p.status ≡ 1) × Fails p.err old new e)
     ⊎ ((p.status ≡ 0) × ((fault : WriteFault) × EndsAtFault fault old new e))
 
+-- memory was refused for one of its uses
+abbrev pub EndsForMemory : AskOutcome → Option (List ℕ) → Option (List ℕ) → Ended → Type 0
+EndsForMemory p old new e =
+    (what : MemoryUse) × MayRefuse p what × Fails (memory_line what) old new e
+
 -- the status and the error line that each flag means; nothing is read
 pub record FlagsMean (p : AskOutcome) (old new : Option (List ℕ)) (e : Ended) : Type 0 where
-  pub memory : e.memory ≡ true → EndsOutOfMemory old new e
+  pub memory : e.memory ≡ true → EndsForMemory p old new e
   pub write : e.memory ≡ false → e.write ≡ true → EndsAtWrite p old new e
   pub read : e.read ≡ false

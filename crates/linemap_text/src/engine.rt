@@ -11,7 +11,7 @@ ghost use Rattle.linemap_text.specs.WordTexts.{NeverRefuses, word_text, words_te
 ghost use Rattle.linemap_output.specs.WriterBytes.{AppendsPrefix};
 ghost use Rattle.linemap_text.specs.Ask.{EmissionStops, FlagsMean, IsClean, StopsAt, StopsWriting, ask_outcome};
 
-use crate::stops::Stop;
+use crate::stops::{MemoryUse, Stop};
 use crate::{context_of, dwarf_of, word_line};
 use addr2line_context::{Context, Format, Reader};
 use linemap_emit::{Sections, Table, Target, emit_sections};
@@ -95,8 +95,10 @@ fn write_places<W: Write>(
     ensures stop { IfErr result StopsWriting }
 {
     let dwarf = dwarf_of(alloc, sections, target().endian());
-    let mut context = context_of(alloc, dwarf)?;
-    write_answers(alloc, &mut context, words, out)
+    match context_of(alloc, dwarf) {
+        Ok(mut context) => write_answers(alloc, &mut context, words, out),
+        Err(_) => Err(Stop::Memory(MemoryUse::Context)),
+    }
 }
 
 // Writes a line for each word.

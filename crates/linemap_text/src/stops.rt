@@ -1,16 +1,31 @@
 //! Why the answers stop, and how the program reports it.
-ghost use Rattle.std.specs.Prelude.{◌≡◌};
+ghost use Rattle.std.specs.Prelude.{◌≡◌, true};
+ghost use Rattle.linemap_output.specs.ErrorLine.{Fails};
+ghost use Rattle.linemap_text.specs.Ask.{memory_line};
 
 use linemap_emit::{EmitError, TableError};
 use linemap_output::{Ended, WriteFault, fail, out_of_memory, output_failed};
 use std::alloc::AllocError;
 use std::io::Write;
 
+/// What memory is taken for.
+#[derive(Clone, Copy, Debug, PartialEq, Eq)]
+pub enum MemoryUse {
+    /// The units of a table.
+    Table,
+    /// The sections that are emitted of a table.
+    Emission,
+    /// The context over these sections.
+    Context,
+    /// The lines that answer words.
+    Answers,
+}
+
 /// Why the answers stop before their end.
 #[derive(Clone, Copy, Debug, PartialEq, Eq)]
 pub enum Stop {
     /// Out of memory.
-    Memory,
+    Memory(MemoryUse),
     /// The text is not a table.
     Table(TableError),
     /// The weight of the table is too large.
@@ -20,12 +35,13 @@ pub enum Stop {
 }
 
 impl From<AllocError> for Stop {
+    ghost use Rattle.linemap_text.specs.declared.stops.MemoryUse.TheVariants.{Answers};
     ghost use Rattle.linemap_text.specs.declared.stops.Stop.TheVariants.{Memory};
 
-    ghost from_gives = { λ _ stop. stop ≡ Memory };
+    ghost from_gives = { λ _ stop. stop ≡ Memory Answers };
 
     fn from(_error: AllocError) -> Stop {
-        Stop::Memory
+        Stop::Memory(MemoryUse::Answers)
     }
 }
 
@@ -46,7 +62,7 @@ impl From<TableError> for Stop {
 
     fn from(error: TableError) -> Stop {
         match error {
-            TableError::Memory => Stop::Memory,
+            TableError::Memory => Stop::Memory(MemoryUse::Table),
             _ => Stop::Table(error),
         }
     }
@@ -59,8 +75,28 @@ impl From<EmitError> for Stop {
 
     fn from(error: EmitError) -> Stop {
         match error {
-            EmitError::Memory => Stop::Memory,
+            EmitError::Memory => Stop::Memory(MemoryUse::Emission),
             EmitError::TooLarge => Stop::TooLarge,
+        }
+    }
+}
+
+impl MemoryUse {
+    // Writes the error line of memory that was refused for this. A fault of the error stream only
+    // sets a flag.
+    fn report<W: Write>(self, err: &mut W) -> Ended
+        ensures line { Fails (memory_line self) (W.contents err.old) (W.contents err.new) result }
+        ensures memory { result.memory ≡ true }
+    {
+        match self {
+            MemoryUse::Table => fail(err, "table refused: ", "B1").with_memory_refused(),
+            MemoryUse::Emission => fail(err, "emit refused: ", "M1").with_memory_refused(),
+            MemoryUse::Context => fail(
+                err,
+                "failed to load debug info: ",
+                "E1",
+            ).with_memory_refused(),
+            MemoryUse::Answers => out_of_memory(err),
         }
     }
 }
@@ -73,7 +109,7 @@ impl Stop {
         ensures { Reports self (W.contents err.old) (W.contents err.new) result }
     {
         match self {
-            Stop::Memory => out_of_memory(err),
+            Stop::Memory(memory) => memory.report(err),
             Stop::Table(error) => fail(err, "table refused: ", error.code()),
             Stop::TooLarge => fail(err, "emit refused: ", "M2"),
             Stop::Output(fault) => output_failed(err, fault),

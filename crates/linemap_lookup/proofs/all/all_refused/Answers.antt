@@ -6,5 +6,5 @@ use Rattle.linemap_lookup.proofs.all.all_refused.Goals as goal
 
 pub returns-in-Ok : goal.returns-in-Ok
 returns-in-Ok g c =
-    line_written _ _ _ (codes "failed to find all addresses: ") c.deref.result.now (error_text c.args.error)
+    line_written _ _ _ (codes "failed to find all addresses: ") c.deref.result.now (error_text c.args.error) _
     (c.deref.ensures ∙ c.in-Ok.ensures.ok) c.fail.ensures.ending c.fail.ensures.memory

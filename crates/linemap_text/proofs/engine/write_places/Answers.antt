@@ -14,19 +14,19 @@ pub write_answers-requires : goal.write_answers-requires
 write_answers-requires g c =
     (answers_from _ _ c.args.sections.now c.requires.0 _ _ c.dwarf_of-dwarf.ensures c.endian.ensures
     c.target.ensures.order
-    c.requires.1 c.in_ok-context.ensures).never_refuses
+    c.requires.1 c.in-Ok.ensures).never_refuses
 
-pub returns-clause-whole : goal.returns-clause-whole
-returns-clause-whole g c = λ us are.
+pub returns-in-Ok-clause-whole : goal.returns-in-Ok-clause-whole
+returns-in-Ok-clause-whole g c = λ us are.
     subst (λ t. OnOk c.write_answers.result
     (Appends (g.W.Write.contents c.args.out.now) (g.W.Write.contents c.write_answers.new.out) t))
     ((answers_from _ _ c.args.sections.now us _ _ c.dwarf_of-dwarf.ensures c.endian.ensures c.target.ensures.order are
-    c.in_ok-context.ensures).texts (map string_bytes c.args.words.now))
+    c.in-Ok.ensures).texts (map string_bytes c.args.words.now))
     c.write_answers.ensures.whole
 
-pub returns-clause-prefix : goal.returns-clause-prefix
-returns-clause-prefix g c = λ us are.
+pub returns-in-Ok-clause-prefix : goal.returns-in-Ok-clause-prefix
+returns-in-Ok-clause-prefix g c = λ us are.
     subst (AppendsPrefix (g.W.Write.contents c.args.out.now) (g.W.Write.contents c.write_answers.new.out))
     ((answers_from _ _ c.args.sections.now us _ _ c.dwarf_of-dwarf.ensures c.endian.ensures c.target.ensures.order are
-    c.in_ok-context.ensures).texts (map string_bytes c.args.words.now))
+    c.in-Ok.ensures).texts (map string_bytes c.args.words.now))
     c.write_answers.ensures.prefix
