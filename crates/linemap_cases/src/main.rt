@@ -13,6 +13,8 @@
 //!   over a table's sections: its place, its frames, the stretches from it on in 16 addresses, its
 //!   loads, an answer to the first, its unit, all lines, functions and calls; and all of them once
 //!   more.
+//! - `lines TABLE VERSION BITS SIZE ORDER ADDRESS` makes those of such calls that need lines: the
+//!   place of an address, its frames, all stretches and all lines.
 //! - `lookup TABLE WORD..` asks what `lookup` prints of the image of a table, and how it ends. A
 //!   word is an address; options, as `-fi`, `--all`, `--llvm` and `--statements`; `section=NAME`;
 //!   `target=VERSION:BITS:SIZE:ORDER` for another one than 4:32:8:little; `in=TEXT`, what is read
@@ -80,7 +82,7 @@ fn ask_about<R: Files + AllocGlobal>(rt: &R, text: &[u8], topic: &Topic<'_>, out
     match topic {
         Topic::Image(probe, change) => frames::answer(text, *probe, *change, out),
         Topic::File(probe) => written::answer(rt, text, *probe, out),
-        Topic::Calls(probe) => replays::answer(text, *probe, out),
+        Topic::Calls(probe, series) => replays::answer(text, *probe, *series, out),
         Topic::Lookup(words) => lookup::answer(text, words, out),
     }
 }

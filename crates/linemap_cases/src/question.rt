@@ -19,9 +19,18 @@ pub enum Topic<'a> {
     /// The same in a file.
     File(Probe),
     /// Calls about an address on one context.
-    Calls(Probe),
+    Calls(Probe, Series),
     /// What `lookup` prints, for these words.
     Lookup(&'a str),
+}
+
+/// Which calls are made.
+#[derive(Clone, Copy)]
+pub enum Series {
+    /// All of them, and all once more.
+    AllTwice,
+    /// Those that need lines.
+    Lines,
 }
 
 /// An address, and what the table is emitted for.
@@ -46,7 +55,7 @@ pub fn question_in(line: &str) -> Option<Question<'_>> {
     let (word, rest) = line.split_once(' ')?;
     match word {
         "lookup" => Some(lookup_question_in(rest)),
-        "file" | "replay" => probe_question_in(word, rest),
+        "file" | "replay" | "lines" => probe_question_in(word, rest),
         _ => probe_question_in("", line),
     }
 }
@@ -66,7 +75,8 @@ fn probe_question_in<'a>(kind: &str, text: &'a str) -> Option<Question<'a>> {
     let probe = probe_in(&mut words)?;
     let topic = match kind {
         "file" => Topic::File(probe),
-        "replay" => Topic::Calls(probe),
+        "replay" => Topic::Calls(probe, Series::AllTwice),
+        "lines" => Topic::Calls(probe, Series::Lines),
         _ => Topic::Image(probe, change_in(&mut words)),
     };
     Some(Question { table, topic })

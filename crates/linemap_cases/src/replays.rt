@@ -3,7 +3,7 @@
 use crate::answer::Answer;
 use crate::emitted::sections_of;
 use crate::places;
-use crate::question::Probe;
+use crate::question::{Probe, Series};
 use addr2line_context::{EndianSlice, Location, RunTimeEndian};
 use linemap_replay::{
     Answer as CallAnswer, Call, DwarfFileType, Error, OwnedFrame, OwnedLocation, OwnedStretch,
@@ -16,16 +16,16 @@ use std::str;
 type Slice<'a> = EndianSlice<'a, RunTimeEndian>;
 
 /// Adds the answers to calls about an address of the table in a text.
-pub fn answer(text: &[u8], probe: Probe, out: &mut Answer) {
+pub fn answer(text: &[u8], probe: Probe, series: Series, out: &mut Answer) {
     match sections_of(out.alloc, text, probe.target) {
-        Ok(sections) => answer_sections(&sections, probe, out),
+        Ok(sections) => answer_sections(&sections, probe, series, out),
         Err(refusal) => out.refuse_table(refusal),
     }
 }
 
-fn answer_sections(sections: &Sections, probe: Probe, out: &mut Answer) {
+fn answer_sections(sections: &Sections, probe: Probe, series: Series, out: &mut Answer) {
     match context_over(out.alloc, sections, probe.target.endian()) {
-        Ok(mut context) => answer_context(&mut context, probe.address, out),
+        Ok(mut context) => answer_context(&mut context, probe.address, series, out),
         Err(error) => out.refuse(error),
     }
 }
@@ -38,16 +38,38 @@ fn context_over(
     Context::from_dwarf(alloc, dwarf_of(alloc, sections, endian))
 }
 
-fn answer_context(context: &mut Context<Slice<'_>>, address: u64, out: &mut Answer) {
-    match calls_about(out.alloc, address) {
+fn answer_context(
+    context: &mut Context<Slice<'_>>,
+    address: u64,
+    series: Series,
+    out: &mut Answer,
+) {
+    match calls_about(out.alloc, address, series) {
         Ok(calls) => answer_calls(context, &calls, out),
         Err(_) => out.refuse_memory(),
     }
 }
 
+fn calls_about(alloc: Global, address: u64, series: Series) -> Result<Vec<Call>, AllocError> {
+    match series {
+        Series::AllTwice => all_calls_about(alloc, address),
+        Series::Lines => line_calls_about(alloc, address),
+    }
+}
+
+// The place of an address, its frames, all stretches and all lines.
+fn line_calls_about(alloc: Global, address: u64) -> Result<Vec<Call>, AllocError> {
+    let mut calls = Vec::new(alloc);
+    calls.push(Call::Location(address))?;
+    calls.push(Call::Frames(address, Vec::new(alloc)))?;
+    calls.push(Call::Range(0, u64::MAX))?;
+    calls.push(Call::ParseLines)?;
+    Ok(calls)
+}
+
 // The place of an address, its frames, the stretches in 16 addresses, its loads, an answer to the
 // first, its unit, all lines, functions and calls; and all of them once more.
-fn calls_about(alloc: Global, address: u64) -> Result<Vec<Call>, AllocError> {
+fn all_calls_about(alloc: Global, address: u64) -> Result<Vec<Call>, AllocError> {
     let mut calls = Vec::new(alloc);
     for _ in 0..2 {
         calls.push(Call::Location(address))?;
