@@ -4,7 +4,8 @@
 usage: bench/memory.py [CASE..]
 
 Each run must end as it does with ample memory, or say why not on the error stream: with status 1 and the beginning of that
-output, or, where `lookup` goes on, with a line for each address that is refused. The programs over cases make a call again
+output, or, where `lookup` goes on, with a line for each address that is refused. With status 1 the
+program's line names what memory was refused for, and each of these lines must come. The programs over cases make a call again
 where memory was refused for it, on the context, iterator, loader or program that it left, and write `E1, then` before what
 it answers. So there a run that ends with status 0 has given all answers, after a refusal as without one.
 
@@ -40,6 +41,13 @@ DATA = f"{cases.CRATE}/data"
 AGAIN = b"E1, then "
 # What the error stream says of a refusal.
 SAID = "out of memory", "E1", "B1", "M1", "L1", "W1", "Memory", "memory"
+# The lines with which the program's subcommands end where memory is refused, and that of `lookup --all`.
+LINES = {
+    "ask": ["out of memory", "table refused: B1", "emit refused: M1", "failed to load debug info: E1"],
+    "emit": ["out of memory", "table refused: B1", "emit refused: M1"],
+    "lookup": ["out of memory", "failed to load debug info: L1"],
+}
+ALL_LINE = "failed to find all addresses: E1"
 
 
 def lines_of(name, *beginnings):
@@ -149,12 +157,17 @@ def fault(ample, ended):
     return None
 
 
+def lines_for(words):
+    """The lines with which runs of the program with these words end where memory is refused."""
+    return {f"linemap: {it}\n" for it in [*LINES[words[1]], *([ALL_LINE] if "--all" in words else [])]}
+
+
 class Sweep:
     """Runs, each with one allocation refused: how many there are, how many end as with ample memory, how many after a call
-    that was made again, and what is wrong."""
+    that was made again, the error streams with status 1, and what is wrong."""
 
     def __init__(self):
-        self.count, self.alike, self.again, self.faults = 0, 0, 0, []
+        self.count, self.alike, self.again, self.lines, self.faults = 0, 0, 0, set(), []
 
     def run(self, words, given, folder):
         ample = run(words, given, folder)
@@ -167,6 +180,8 @@ class Sweep:
             self.count += 1
             self.alike += ended[:3] == ample[:3]
             self.again += ended[0] == 0 and ended[1][0].count(AGAIN) > ample[1][0].count(AGAIN)
+            if ended[0] == 1:
+                self.lines.add(ended[2])
             why = fault(ample, ended)
             if why:
                 self.faults.append(f"allocation {number} of {given[-60:]!r}: {why}")
@@ -180,6 +195,8 @@ def sweep(name, folder):
     found = Sweep()
     for it in [given] if isinstance(given, str) else given():
         found.run(words, it, folder)
+    if words[0] == LINEMAP and found.lines != lines_for(words):
+        found.faults.append(f"other lines than for memory: {sorted(found.lines ^ lines_for(words))}")
     print(f"{name}: {found.count} allocations, each refused once; {found.alike} runs ended as with ample memory, {found.again} after a "
           f"call that was made again, {len(found.faults)} wrongly", flush=True)
     for it in found.faults[:20]:
