@@ -4,10 +4,10 @@
 usage: bench/memory.py [CASE..]
 
 Each run must end as it does with ample memory, or say why not on the error stream: with status 1 and the beginning of that
-output, or, where `lookup` goes on, with a line for each address that is refused. With status 1 the
-program's line names what memory was refused for, and each of these lines must come. The programs over cases make a call again
-where memory was refused for it, on the context, iterator, loader or program that it left, and write `E1, then` before what
-it answers. So there a run that ends with status 0 has given all answers, after a refusal as without one.
+output, or, where `lookup` goes on, with a line for each address that is refused. With status 1 the program's line names what
+memory was refused for, and each of these lines must come. The programs over cases make a call again where memory was refused
+for it, on the context, iterator, loader or program that it left, and write `E1, then` before what it answers. So there a run
+that ends with status 0 has given all answers, after a refusal as without one.
 
 In `places` and `places-bytes`, through one reader and the other, and in `warm`, `warm-frames` and `warm-words`, each allocation
 is refused from the program's first output on: then all lines that are asked for are kept, and finding the places of further
