@@ -35,3 +35,4 @@ pub mod AskedStretches
 pub mod RangeUnits
 pub mod KeptFunctionLists
 pub mod KeptAhead
+pub mod AskedFunctions

@@ -1,13 +1,14 @@
 -- How far a lookup of an address came among the ranges of all units. These are in the order in
 -- which lookups ask their units.
-use Rattle.std.specs.Prelude.{◌≡◌, ◌⊎◌, ℕ, List, [], ◌∷◌, ◌++◌, drop, All, None, Ok}
+use Rattle.std.specs.Prelude.{◌≡◌, ◌⊎◌, ℕ, List, [], ◌∷◌, ◌++◌, drop, map, All, None, Ok}
 use Rattle.addr2line_resolved.specs.Range.{Range}
 use Rattle.addr2line_resolved.specs.UnitRange.{UnitRange}
 use Rattle.addr2line_resolved.specs.NumberedRanges.{covering_ranges}
 use Rattle.addr2line_resolved.specs.FirstAnswers.{output}
 use Rattle.addr2line_resolved.specs.EntryReferences.{KnownUnits}
-use Rattle.addr2line_resolved.specs.ResolvedUnits.{AnsweredUnit}
-use Rattle.addr2line_lookups.specs.Preloads.{loads_at}
+use Rattle.addr2line_resolved.specs.ResolvedUnits.{AnsweredUnit, ResolvedUnit, value_of_unit}
+use Rattle.addr2line_lookups.specs.Preloads.{load_at, loads_at}
+use Rattle.addr2line_lookups.specs.UnitParses.{KeepsFunctionsAt}
 use Rattle.addr2line_lookups.specs.FramePlaces.{frames_of_answered}
 use Rattle.addr2line_lookups.specs.UnitLookups.{ask_at, unit_of_answered}
 
@@ -61,3 +62,9 @@ AsksFramesAmong known vs a rs = AsksUntil (frames_of_answered known a) (Ok []) v
 -- one of a unit does
 abbrev pub AsksUnitAmong : KnownUnits → List AnsweredUnit → ℕ → List UnitRange → ℕ → Type 0
 AsksUnitAmong known vs a rs = AsksUntil (unit_of_answered known a) None vs rs
+
+-- the functions of all units that a call asks are kept, but of one whose load needs an answer
+abbrev pub KeepsAskedFunctions : (ℕ → Type 0) → List ResolvedUnit → Type 0
+KeepsAskedFunctions asks us =
+    (number : ℕ) → asks number → load_at (map value_of_unit us) number ≡ None
+    → KeepsFunctionsAt us number

@@ -1,7 +1,7 @@
 //! The function of an address in the unit of a number, found with the calls that the address is in.
 //! What is read for that is kept.
 
-ghost use Rattle.std.specs.Prelude.{◌≡◌, ◌<◌, None, length, map, IfOk, IfSome, OnOk, IfErr};
+ghost use Rattle.std.specs.Prelude.{◌≡◌, ◌≢◌, ◌<◌, true, None, Err, length, map, IfOk, IfSome, OnOk, IfErr};
 ghost use Rattle.addr2line_resolved.specs.Calls.{ReturnsOrNoMemory, ReturnsAsOrNoMemory};
 ghost use Rattle.addr2line_resolved.specs.Error.TheVariants.{Memory};
 ghost use Rattle.addr2line_resolved.specs.OrderedUnits.{AreKnownInOrder};
@@ -11,6 +11,7 @@ ghost use Rattle.addr2line_lookups.specs.Preloads.{load_at};
 ghost use Rattle.addr2line_lookups.specs.KeptUnits.{ReadsNoLines};
 ghost use Rattle.addr2line_lookups.specs.KeptCalls.{known_among, calls_among, HoldCalls, LeavesCallsOf, LeavesCalls};
 ghost use Rattle.addr2line_lookups.specs.FunctionPlaces.{HasFunction, HasFunctionAt, KeepsCallsAt, count_at, function_number_at, function_calls_at, function_with_calls_at, chain_of, FindsCalls, FindsFunction};
+ghost use Rattle.addr2line_lookups.specs.UnitParses.{KeepsFunctionsAt};
 ghost use Rattle.addr2line_lookups.specs.LookupCosts.{AtMostLooks, AtMostLooksOf, number_probes_at, chain_probes_at, function_probes_at};
 
 use addr2line_resolved::{Error, FunctionCalls, KnownUnits, Reader, ResUnit, Unit, UnitNames};
@@ -33,6 +34,7 @@ fn find_number<R: Reader>(
     ensures lines { unit.new.keeps_lines ≡ unit.old.keeps_lines }
     ensures number { ReturnsOrNoMemory result (number_in (functions_of unit.old.value) probe) }
     ensures below { IfOk result (λ number. IfSome number (λ k. HasFunction k unit.new)) }
+    ensures kept { result ≢ Err Memory → unit.new.keeps_functions ≡ true }
 {
     unit.read_functions(alloc)?;
     unit.find_function(probe)
@@ -56,6 +58,7 @@ fn find_number_at<R: Reader>(
         (function_number_at (map value_of_unit units.old.items) probe number) }
     ensures below { IfOk result
         (λ function. IfSome function (HasFunctionAt units.new.items number)) }
+    ensures kept { result ≢ Err Memory → KeepsFunctionsAt units.new.items number }
 {
     let unit = &mut units[number];
     find_number(alloc, unit, probe)
@@ -175,6 +178,7 @@ pub(crate) fn find_function_at<R: Reader>(
         (function_probes_at (known_among units.old.items supplement_units.now)
         (map value_of_unit units.old.items) probe number) units.old.items units.new.items }
     ensures lines { ReadsNoLines units.old.items units.new.items }
+    ensures kept { result ≢ Err Memory → KeepsFunctionsAt units.new.items number }
 {
     let Some(function) = find_number_at(alloc, units, number, probe)? else {
         return Ok(None);

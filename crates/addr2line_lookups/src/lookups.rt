@@ -1,6 +1,7 @@
 //! Lookups of frames and of units, settled by the units' numbers.
 
-ghost use Rattle.std.specs.Prelude.{◌≡◌, map, is_some};
+ghost use Rattle.std.specs.Prelude.{◌≡◌, ◌≢◌, None, Err, map, drop, is_some};
+ghost use Rattle.addr2line_resolved.specs.Error.TheVariants.{Memory};
 ghost use Rattle.addr2line_resolved.specs.NumberedRanges.{covering_ranges};
 ghost use Rattle.addr2line_resolved.specs.ResolvedUnits.{value_of_unit};
 ghost use Rattle.addr2line_lookups.specs.KeptUnits.{ReadsAsked};
@@ -8,7 +9,8 @@ ghost use Rattle.addr2line_lookups.specs.KeptCalls.{known_among, HoldCalls};
 ghost use Rattle.addr2line_lookups.specs.Preloads.{load_at};
 ghost use Rattle.addr2line_lookups.specs.UnitLookups.{frames_asked, frames_among, SettlesFrames, unit_asked, unit_among, SettlesUnit, unit_at_number};
 ghost use Rattle.addr2line_lookups.specs.LookupCosts.{AtMostLooks, frame_probes_at, probes_among};
-ghost use Rattle.addr2line_lookups.specs.PassedUnits.{PassFrames, PassUnits, AsksFramesAmong, AsksUnitAmong};
+ghost use Rattle.addr2line_lookups.specs.UnitParses.{KeepsFunctionsAt};
+ghost use Rattle.addr2line_lookups.specs.PassedUnits.{PassFrames, PassUnits, AsksFramesAmong, AsksUnitAmong, KeepsAskedFunctions};
 
 use crate::covering::next_covering;
 use crate::frame_place::{FramePlace, find_frames_at};
@@ -45,6 +47,8 @@ fn settle_frames_at<R: Reader>(
         (frame_probes_at (known_among units.old.items supplement_units.now)
         (map value_of_unit units.old.items) probe number) units.old.items units.new.items }
     ensures reads { ReadsAsked (λ n. n ≡ number) units.old.items units.new.items }
+    ensures kept { result ≢ Err Memory → load_at (map value_of_unit units.old.items) number ≡ None
+        → KeepsFunctionsAt units.new.items number }
 {
     if waits_at(units, number) {
         return Ok(Settled::Waits);
@@ -81,6 +85,10 @@ pub(crate) fn settle_frames<R: Reader>(
     ensures reads { ReadsAsked (AsksFramesAmong (known_among units.old.items supplement_units.now)
         (map value_of_unit units.old.items) probe (covering_ranges probe ranges.now))
         units.old.items units.new.items }
+    ensures asked { result ≢ Err Memory → KeepsAskedFunctions
+        (AsksFramesAmong (known_among units.old.items supplement_units.now)
+        (map value_of_unit units.old.items) probe
+        (covering_ranges probe (drop from.old ranges.now))) units.new.items }
     ensures passed { PassFrames (known_among units.old.items supplement_units.now)
         (map value_of_unit units.old.items) probe from.new ranges.now }
 {
@@ -115,6 +123,8 @@ fn settle_unit_at<R: Reader>(
         (frame_probes_at (known_among units.old.items supplement_units.now)
         (map value_of_unit units.old.items) probe number) units.old.items units.new.items }
     ensures reads { ReadsAsked (λ n. n ≡ number) units.old.items units.new.items }
+    ensures kept { result ≢ Err Memory → load_at (map value_of_unit units.old.items) number ≡ None
+        → KeepsFunctionsAt units.new.items number }
 {
     if waits_at(units, number) {
         return Ok(Settled::Waits);
@@ -155,6 +165,10 @@ pub(crate) fn settle_unit<R: Reader>(
     ensures reads { ReadsAsked (AsksUnitAmong (known_among units.old.items supplement_units.now)
         (map value_of_unit units.old.items) probe (covering_ranges probe ranges.now))
         units.old.items units.new.items }
+    ensures asked { result ≢ Err Memory → KeepsAskedFunctions
+        (AsksUnitAmong (known_among units.old.items supplement_units.now)
+        (map value_of_unit units.old.items) probe
+        (covering_ranges probe (drop from.old ranges.now))) units.new.items }
     ensures passed { PassUnits (known_among units.old.items supplement_units.now)
         (map value_of_unit units.old.items) probe from.new ranges.now }
 {

@@ -1,6 +1,6 @@
 //! The units of a context with their ranges, in the order in which lookups ask them.
 
-ghost use Rattle.std.specs.Prelude.{◌≡◌, ◌≢◌, None, Ok, Err, map, option_map, IfOk, OnOk, IfErr};
+ghost use Rattle.std.specs.Prelude.{◌≡◌, ◌≢◌, None, Ok, Err, map, drop, option_map, IfOk, OnOk, IfErr};
 ghost use Rattle.addr2line_resolved.specs.Calls.{ReturnsAsOrNoMemory, ReturnsOrNoMemory};
 ghost use Rattle.addr2line_resolved.specs.Error.TheVariants.{Memory};
 ghost use Rattle.addr2line_resolved.specs.Contexts.{all_lines_or_refusal};
@@ -13,7 +13,7 @@ ghost use Rattle.addr2line_lookups.specs.KeptCalls.{LeavesCalls, HoldCalls, know
 ghost use Rattle.addr2line_lookups.specs.LoadAnswers.{AnswersOrNoMemory, answer_at};
 ghost use Rattle.addr2line_lookups.specs.Preloads.{load_at, loads_at, load_of_item, first_number, first_load};
 ghost use Rattle.addr2line_lookups.specs.FramePlaces.{LendsFrames};
-ghost use Rattle.addr2line_lookups.specs.PassedUnits.{PassFrames, PassUnits, PassLoads, AsksFramesAmong, AsksUnitAmong};
+ghost use Rattle.addr2line_lookups.specs.PassedUnits.{PassFrames, PassUnits, PassLoads, AsksFramesAmong, AsksUnitAmong, KeepsAskedFunctions};
 ghost use Rattle.addr2line_lookups.specs.UnitLookups.{frames_among, SettlesFrames, unit_among, SettlesUnit, unit_at_number};
 ghost use Rattle.addr2line_resolved.specs.BorrowedFrames.{frames_left};
 ghost use Rattle.addr2line_lookups.specs.KeptUnits.{KeepsAt, KeepsFound, KeepsAsked, ReadsAsked, ReadsNoLines, AsksForRow, AsksForLines, FindsRow, location_of_unit_row};
@@ -237,6 +237,11 @@ impl<R: Reader> Units<R> {
         ensures reads { ReadsAsked (AsksFramesAmong (known_among self.old supplement_units.now)
             (map value_of_unit self.old) probe
             (covering_ranges probe (ordered_ranges (map plain_unit self.old)))) self.old self.new }
+        ensures asked { result ≢ Err Memory → KeepsAskedFunctions
+            (AsksFramesAmong (known_among self.old supplement_units.now)
+            (map value_of_unit self.old) probe
+            (covering_ranges probe (drop from.old (ordered_ranges (map plain_unit self.old)))))
+            self.new }
         ensures passed { PassFrames (known_among self.old supplement_units.now)
             (map value_of_unit self.old) probe from.new (ordered_ranges (map plain_unit self.old)) }
     {
@@ -276,6 +281,11 @@ impl<R: Reader> Units<R> {
         ensures reads { ReadsAsked (AsksUnitAmong (known_among self.old supplement_units.now)
             (map value_of_unit self.old) probe
             (covering_ranges probe (ordered_ranges (map plain_unit self.old)))) self.old self.new }
+        ensures asked { result ≢ Err Memory → KeepsAskedFunctions
+            (AsksUnitAmong (known_among self.old supplement_units.now)
+            (map value_of_unit self.old) probe
+            (covering_ranges probe (drop from.old (ordered_ranges (map plain_unit self.old)))))
+            self.new }
         ensures passed { PassUnits (known_among self.old supplement_units.now)
             (map value_of_unit self.old) probe from.new (ordered_ranges (map plain_unit self.old)) }
     {

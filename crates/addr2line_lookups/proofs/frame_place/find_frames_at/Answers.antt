@@ -4,6 +4,7 @@ use Rattle.addr2line_lookups.specs.KeptCalls.{known_among}
 use Rattle.addr2line_lookups.proofs.AskedLines.{reads_none}
 use Rattle.addr2line_lookups.proofs.FoundFrames.{none_past}
 use Rattle.addr2line_lookups.proofs.UnitProbes.{looks_none}
+use Rattle.addr2line_lookups.proofs.UnitTurns.{no_functions_past}
 use Rattle.addr2line_lookups.proofs.frame_place.find_frames_at.Goals as goal
 
 pub returns-then-number-len : goal.returns-then-number-len
@@ -17,6 +18,7 @@ returns-then-number-len g c =
           refl (omega arith);
       cost = looks_none _ us;
       reads = reads_none (λ n. n ≡ c.args.number) us;
+      kept = λ answered. no_functions_past us c.args.number (omega arith);
     }
 
 pub find_place_at-requires : goal.find_place_at-requires

@@ -1,6 +1,7 @@
 use Rattle.std.proofs.Common.{◌≡◌, ℕ, List, map, Option, Ok, sym, ap, ◌∙◌, subst}
 use Rattle.std.proofs.lemmas.Result.{err_from_is_err_and}
 use Rattle.addr2line_resolved.specs.Contexts.{ContextUnit}
+use Rattle.addr2line_resolved.specs.Error.TheVariants.{Memory}
 use Rattle.addr2line_resolved.specs.ResolvedUnits.{value_of_unit}
 use Rattle.addr2line_lookups.specs.declared.frame_place.FramePlace.{FramePlace}
 use Rattle.addr2line_lookups.specs.KeptUnits.{row_at_number}
@@ -11,7 +12,9 @@ use Rattle.addr2line_lookups.proofs.KeptLines.{same_plain}
 use Rattle.addr2line_lookups.proofs.AskedLines.{no_refusal, reads_nothing, reads_after}
 use Rattle.addr2line_lookups.proofs.CallsOfUnits.{hold_same}
 use Rattle.addr2line_lookups.proofs.FoundFrames.{function_refuses, found_function, lines_refuse, function_stays, frames_found}
+use Rattle.addr2line_lookups.proofs.UnitProbes.{refused_so}
 use Rattle.addr2line_lookups.proofs.LookupProbes.{looks_without_row, looks_for_frames}
+use Rattle.addr2line_lookups.proofs.AskedFunctions.{is_value}
 use Rattle.addr2line_lookups.proofs.frame_place.find_place_at.Goals as goal
 
 pub returns-in_err-function : goal.returns-in_err-function
@@ -25,6 +28,7 @@ returns-in_err-function g c =
       calls = refused.calls;
       reads =
           reads_nothing (λ n. n ≡ c.args.number) us c.find_function_at.new.units.items refused.lines;
+      kept = rw (p.1, p.2) (λ other. refused.kept (refused_so (Option FramePlace) (Option ℕ) _ Memory other));
       found =
           rw (p.1, p.2) (λ m.
           function_refuses known c.args.probe c.args.number (map value_of_unit us) _ (refused.found m));
@@ -53,6 +57,7 @@ returns-in_err-row g c =
       values = refused.values ∙ found.values;
       calls = hold_same known ws xs refused.values refused.same found.calls;
       reads = reads_after (λ m. m ≡ n) us ws xs found.lines refused.reads;
+      kept = λ answered. refused.cost.functions.functions n (found.kept (is_value _));
       found = rw (p.1, p.2) (λ m. lines_refuse known a n ws vs found.values f.0 _ f.1 (refused.found m));
       cost =
           looks_for_frames us ws xs found.values c.args.supplement_units.now a n known found.cost refused.cost;
@@ -79,6 +84,7 @@ returns g c =
       values = rows.values ∙ found.values;
       calls = hold_same known ws xs rows.values rows.same found.calls;
       reads = reads_after (λ m. m ≡ n) us ws xs found.lines rows.reads;
+      kept = λ answered. rows.cost.functions.functions n (found.kept (is_value _));
       found =
           subst P (sym c.place_if_any.ensures)
           (frames_found known a n xs vs (rows.values ∙ found.values) (rows.kept (no_refusal row)) function row

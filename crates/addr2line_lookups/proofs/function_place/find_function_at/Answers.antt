@@ -11,6 +11,7 @@ use Rattle.addr2line_lookups.proofs.KeptLines.{same_length}
 use Rattle.addr2line_lookups.proofs.CallsLeft.{known_same}
 use Rattle.addr2line_lookups.proofs.FoundFunctions.{ok_number, refused_functions, none_there, refused_calls, same_function_calls, function_found}
 use Rattle.addr2line_lookups.proofs.LookupProbes.{looks_without_calls, looks_for_function}
+use Rattle.addr2line_lookups.proofs.AskedFunctions.{is_value}
 use Rattle.addr2line_lookups.proofs.function_place.find_function_at.Goals as goal
 
 pub find_calls-requires : goal.find_calls-requires
@@ -38,6 +39,7 @@ returns-in_err-function g c =
       values = refused.values;
       calls = refused.calls known c.requires.calls;
       lines = refused.lines;
+      kept = rw (p.1, p.2) refused.kept;
       found =
           rw (p.1, p.2) (λ m.
           refused_functions known c.args.probe c.args.number (map value_of_unit us) _ (refused.number m));
@@ -55,6 +57,7 @@ returns-in_default g c =
       values = found.values;
       calls = found.calls known c.requires.calls;
       lines = found.lines;
+      kept = λ answered. found.kept (is_value _);
       found =
           none_there known c.args.probe c.args.number (map value_of_unit us)
           (found.number ∙ ap ok_number c.in_default.is);
@@ -81,6 +84,7 @@ returns-in_err-find_calls g c =
       values = refused.values ∙ found.values;
       calls = subst P (known_same us ws found.values s) refused.calls;
       lines = no_lines_both us ws xs found.lines refused.lines;
+      kept = λ answered. refused.cost.functions.functions n (found.kept (is_value _));
       found =
           rw (p.1, p.2) (λ m.
           refused_calls known c.args.probe n (map value_of_unit us) k _ (found.number ∙ ap ok_number c.in-Some.is)
@@ -109,6 +113,7 @@ returns g c =
       values = calls.values ∙ found.values;
       calls = subst P (known_same us ws found.values s) calls.calls;
       lines = no_lines_both us ws xs found.lines calls.lines;
+      kept = λ answered. calls.cost.functions.functions n (found.kept (is_value _));
       found =
           function_found known a n xs (map value_of_unit us) k chain (calls.values ∙ found.values)
           (found.number ∙ ap ok_number c.in-Some.is)

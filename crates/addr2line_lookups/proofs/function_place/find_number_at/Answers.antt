@@ -1,10 +1,11 @@
 use Rattle.std.proofs.Common.{ℕ, Option, Result, sym, ap, subst}
 use Rattle.addr2line_resolved.specs.Error.{Error}
 use Rattle.addr2line_resolved.specs.Calls.{ReturnsOrNoMemory}
+use Rattle.addr2line_lookups.specs.KeptUnits.{KeepsFunctionList}
 use Rattle.addr2line_lookups.specs.FunctionPlaces.{number_of_any}
 use Rattle.addr2line_lookups.proofs.AskedLines.{no_lines_set}
 use Rattle.addr2line_lookups.proofs.UnitRows.{same_values}
-use Rattle.addr2line_lookups.proofs.CallsOfUnits.{value_here, is_decided, leaves_calls, functions_there}
+use Rattle.addr2line_lookups.proofs.CallsOfUnits.{value_here, is_decided, leaves_calls, functions_there, if_set}
 use Rattle.addr2line_lookups.proofs.LookupProbes.{looks_for_number}
 use Rattle.addr2line_lookups.proofs.function_place.find_number_at.Goals as goal
 
@@ -30,4 +31,5 @@ returns g c =
       cost = looks_for_number us n u below is new c.find_number.ensures.cost;
       lines = no_lines_set us n u is new c.find_number.ensures.lines;
       below = functions_there us n u below is new c.find_number.result c.find_number.ensures.below;
+      kept = λ answered. if_set us n u below is new KeepsFunctionList (c.find_number.ensures.kept answered);
     }

@@ -13,6 +13,7 @@ use Rattle.addr2line_lookups.proofs.AskedLines.{reads_none, reads_both}
 use Rattle.addr2line_lookups.proofs.PassedUnits.{pass_next, asked_next, asked_from, probes_from}
 use Rattle.addr2line_lookups.proofs.SettledUnits.{calls_same, calls_back, frames_step_refused, frames_step_waits, frames_step_found, frames_step_nothing, no_frames_left}
 use Rattle.addr2line_lookups.proofs.UnitProbes.{looks_begin_after, looks_end}
+use Rattle.addr2line_lookups.proofs.AskedFunctions.{functions_begin, functions_next, functions_last, functions_end, frames_refusal, frames_waited, frames_there, is_value, memory_refused}
 use Rattle.addr2line_lookups.proofs.LookupProbes.{frame_probes_among, frames_further, frames_stop}
 use Rattle.addr2line_lookups.proofs.lookups.settle_frames.Goals as goal
 
@@ -30,6 +31,7 @@ loop-unit-init g c =
           (probes_from (frames_of_answered (known_among us s) a) (Ok []) (map value_of_unit us) a rs c.args.from.now
           c.requires.passed (frame_probes_at (known_among us s) (map value_of_unit us) a)),
       reads_none (AsksFramesAmong (known_among us s) (map value_of_unit us) a (covering_ranges a rs)) us,
+      functions_begin (frames_of_answered (known_among us s) a) (Ok []) us (covering_ranges a (drop c.args.from.now rs)),
     )
 
 pub settle_frames_at-requires : goal.settle_frames_at-requires
@@ -63,6 +65,14 @@ returns-in_err-settle_frames_at g c =
           (asked_next (frames_of_answered (known_among us s) a) (Ok []) (map value_of_unit us) a rs c.loop-unit.from
           c.loop-unit.invariant.2 c.in-Some.unit c.in-Some.next c.in-Some.ensures) c.loop-unit.invariant.4
           c.in_err-settle_frames_at.ensures.reads;
+      asked =
+          rw (p.1, p.2) (λ other.
+          functions_last (frames_of_answered (known_among us s) a) (Ok []) us (covering_ranges a (drop c.args.from.now rs)) vs
+          new r old rest c.in-Some.ensures.1 c.loop-unit.invariant.0 c.in_err-settle_frames_at.ensures.cost.functions
+          (c.in_err-settle_frames_at.ensures.kept other) c.loop-unit.invariant.5
+          (frames_refusal us vs c.loop-unit.invariant.0 s a r.unit new _
+          (c.in_err-settle_frames_at.ensures.found (λ m. memory_refused _ m other)))
+          (c.in_err-settle_frames_at.ensures.values ∙ c.loop-unit.invariant.0));
       cost =
           frames_stop us vs c.loop-unit.invariant.0 a (frame_probes_among us s a (covering_ranges a rs)) r old rest
           c.in-Some.ensures.1 new s c.loop-unit.invariant.3
@@ -98,6 +108,13 @@ returns-in-Waits g c =
           (asked_next (frames_of_answered (known_among us s) a) (Ok []) (map value_of_unit us) a rs c.loop-unit.from
           c.loop-unit.invariant.2 c.in-Some.unit c.in-Some.next c.in-Some.ensures) c.loop-unit.invariant.4
           c.in_ok-settle_frames_at.ensures.reads;
+      asked = λ answered.
+          functions_last (frames_of_answered (known_among us s) a) (Ok []) us (covering_ranges a (drop c.args.from.now rs)) vs
+          new r old rest c.in-Some.ensures.1 c.loop-unit.invariant.0 c.in_ok-settle_frames_at.ensures.cost.functions
+          (c.in_ok-settle_frames_at.ensures.kept (is_value _)) c.loop-unit.invariant.5
+          (frames_waited us vs c.loop-unit.invariant.0 s a r.unit new c.in_ok-settle_frames_at.field-0
+          c.in_ok-settle_frames_at.ensures.found c.in-Waits.is)
+          (c.in_ok-settle_frames_at.ensures.values ∙ c.loop-unit.invariant.0);
       cost =
           frames_stop us vs c.loop-unit.invariant.0 a (frame_probes_among us s a (covering_ranges a rs)) r old rest
           c.in-Some.ensures.1 new s c.loop-unit.invariant.3
@@ -132,6 +149,13 @@ returns-in-Found g c =
           (asked_next (frames_of_answered (known_among us s) a) (Ok []) (map value_of_unit us) a rs c.loop-unit.from
           c.loop-unit.invariant.2 c.in-Some.unit c.in-Some.next c.in-Some.ensures) c.loop-unit.invariant.4
           c.in_ok-settle_frames_at.ensures.reads;
+      asked = λ answered.
+          functions_last (frames_of_answered (known_among us s) a) (Ok []) us (covering_ranges a (drop c.args.from.now rs)) vs
+          new r old rest c.in-Some.ensures.1 c.loop-unit.invariant.0 c.in_ok-settle_frames_at.ensures.cost.functions
+          (c.in_ok-settle_frames_at.ensures.kept (is_value _)) c.loop-unit.invariant.5
+          (frames_there us vs c.loop-unit.invariant.0 s a r.unit new c.in_ok-settle_frames_at.field-0
+          c.in_ok-settle_frames_at.ensures.found c.in-Found.place c.in-Found.is)
+          (c.in_ok-settle_frames_at.ensures.values ∙ c.loop-unit.invariant.0);
       cost =
           frames_stop us vs c.loop-unit.invariant.0 a (frame_probes_among us s a (covering_ranges a rs)) r old rest
           c.in-Some.ensures.1 new s c.loop-unit.invariant.3
@@ -169,6 +193,9 @@ loop-unit-preserved g c =
           (asked_next (frames_of_answered (known_among us s) a) (Ok []) (map value_of_unit us) a rs c.loop-unit.from
           c.loop-unit.invariant.2 c.in-Some.unit c.in-Some.next c.in-Some.ensures) c.loop-unit.invariant.4
           c.in_ok-settle_frames_at.ensures.reads,
+      functions_next (frames_of_answered known a) (Ok []) us (covering_ranges a (drop c.args.from.now rs)) vs new r old rest
+          c.in-Some.ensures.1 c.loop-unit.invariant.0 c.in_ok-settle_frames_at.ensures.cost.functions
+          (c.in_ok-settle_frames_at.ensures.kept (is_value _)) c.loop-unit.invariant.5,
     )
 
 pub returns : goal.returns
@@ -187,6 +214,9 @@ returns g c =
       calls = c.loop-unit.invariant.1;
       passed = c.loop-unit.invariant.2;
       reads = c.loop-unit.invariant.4;
+      asked = λ answered.
+          functions_end (frames_of_answered (known_among us s) a) (Ok []) us (covering_ranges a (drop c.args.from.now rs)) old
+          c.loop-unit.units.items c.in_default.ensures c.loop-unit.invariant.0 c.loop-unit.invariant.5;
       cost =
           looks_end (frame_probes_among us s a (covering_ranges a rs)) (frame_probes_among us s a old) us
           c.loop-unit.units.items c.loop-unit.invariant.3;

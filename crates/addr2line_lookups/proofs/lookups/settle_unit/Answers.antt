@@ -12,6 +12,7 @@ use Rattle.addr2line_lookups.proofs.AskedLines.{reads_none, reads_both}
 use Rattle.addr2line_lookups.proofs.PassedUnits.{pass_next, asked_next, asked_from, probes_from}
 use Rattle.addr2line_lookups.proofs.SettledUnits.{calls_same, calls_back, unit_step_waits, unit_step_found, unit_step_nothing, no_unit_left}
 use Rattle.addr2line_lookups.proofs.UnitProbes.{looks_begin_after, looks_end}
+use Rattle.addr2line_lookups.proofs.AskedFunctions.{functions_begin, functions_next, functions_last, functions_end, unit_waited, unit_there, is_value, memory_refused}
 use Rattle.addr2line_lookups.proofs.LookupProbes.{frame_probes_among, frames_further, frames_stop}
 use Rattle.addr2line_lookups.proofs.lookups.settle_unit.Goals as goal
 
@@ -29,6 +30,7 @@ loop-unit-init g c =
           (probes_from (unit_of_answered (known_among us s) a) None (map value_of_unit us) a rs c.args.from.now
           c.requires.passed (frame_probes_at (known_among us s) (map value_of_unit us) a)),
       reads_none (AsksUnitAmong (known_among us s) (map value_of_unit us) a (covering_ranges a rs)) us,
+      functions_begin (unit_of_answered (known_among us s) a) None us (covering_ranges a (drop c.args.from.now rs)),
     )
 
 pub settle_unit_at-requires : goal.settle_unit_at-requires
@@ -61,6 +63,8 @@ returns-in_err-settle_unit_at g c =
           (asked_next (unit_of_answered (known_among us s) a) None (map value_of_unit us) a rs c.loop-unit.from
           c.loop-unit.invariant.2 c.in-Some.unit c.in-Some.next c.in-Some.ensures) c.loop-unit.invariant.4
           c.in_err-settle_unit_at.ensures.reads;
+      asked =
+          rw (p.1, p.2) (λ other. absurd (memory_refused _ c.in_err-settle_unit_at.ensures.found other));
       cost =
           frames_stop us vs c.loop-unit.invariant.0 a (frame_probes_among us s a (covering_ranges a rs)) r old rest
           c.in-Some.ensures.1 new s c.loop-unit.invariant.3
@@ -92,6 +96,13 @@ returns-in-Waits g c =
           (asked_next (unit_of_answered (known_among us s) a) None (map value_of_unit us) a rs c.loop-unit.from
           c.loop-unit.invariant.2 c.in-Some.unit c.in-Some.next c.in-Some.ensures) c.loop-unit.invariant.4
           c.in_ok-settle_unit_at.ensures.reads;
+      asked = λ answered.
+          functions_last (unit_of_answered (known_among us s) a) None us (covering_ranges a (drop c.args.from.now rs)) vs
+          new r old rest c.in-Some.ensures.1 c.loop-unit.invariant.0 c.in_ok-settle_unit_at.ensures.cost.functions
+          (c.in_ok-settle_unit_at.ensures.kept (is_value _)) c.loop-unit.invariant.5
+          (unit_waited us vs c.loop-unit.invariant.0 s a r.unit c.in_ok-settle_unit_at.field-0
+          c.in_ok-settle_unit_at.ensures.found c.in-Waits.is)
+          (c.in_ok-settle_unit_at.ensures.values ∙ c.loop-unit.invariant.0);
       cost =
           frames_stop us vs c.loop-unit.invariant.0 a (frame_probes_among us s a (covering_ranges a rs)) r old rest
           c.in-Some.ensures.1 new s c.loop-unit.invariant.3
@@ -125,6 +136,13 @@ returns-in-Found g c =
           (asked_next (unit_of_answered (known_among us s) a) None (map value_of_unit us) a rs c.loop-unit.from
           c.loop-unit.invariant.2 c.in-Some.unit c.in-Some.next c.in-Some.ensures) c.loop-unit.invariant.4
           c.in_ok-settle_unit_at.ensures.reads;
+      asked = λ answered.
+          functions_last (unit_of_answered (known_among us s) a) None us (covering_ranges a (drop c.args.from.now rs)) vs
+          new r old rest c.in-Some.ensures.1 c.loop-unit.invariant.0 c.in_ok-settle_unit_at.ensures.cost.functions
+          (c.in_ok-settle_unit_at.ensures.kept (is_value _)) c.loop-unit.invariant.5
+          (unit_there us vs c.loop-unit.invariant.0 s a r.unit c.in_ok-settle_unit_at.field-0
+          c.in_ok-settle_unit_at.ensures.found c.in-Found.number c.in-Found.is)
+          (c.in_ok-settle_unit_at.ensures.values ∙ c.loop-unit.invariant.0);
       cost =
           frames_stop us vs c.loop-unit.invariant.0 a (frame_probes_among us s a (covering_ranges a rs)) r old rest
           c.in-Some.ensures.1 new s c.loop-unit.invariant.3
@@ -162,6 +180,9 @@ loop-unit-preserved g c =
           (asked_next (unit_of_answered (known_among us s) a) None (map value_of_unit us) a rs c.loop-unit.from
           c.loop-unit.invariant.2 c.in-Some.unit c.in-Some.next c.in-Some.ensures) c.loop-unit.invariant.4
           c.in_ok-settle_unit_at.ensures.reads,
+      functions_next (unit_of_answered known a) None us (covering_ranges a (drop c.args.from.now rs)) vs new r old rest
+          c.in-Some.ensures.1 c.loop-unit.invariant.0 c.in_ok-settle_unit_at.ensures.cost.functions
+          (c.in_ok-settle_unit_at.ensures.kept (is_value _)) c.loop-unit.invariant.5,
     )
 
 pub returns : goal.returns
@@ -180,6 +201,9 @@ returns g c =
       calls = c.loop-unit.invariant.1;
       passed = c.loop-unit.invariant.2;
       reads = c.loop-unit.invariant.4;
+      asked = λ answered.
+          functions_end (unit_of_answered (known_among us s) a) None us (covering_ranges a (drop c.args.from.now rs)) old
+          c.loop-unit.units.items c.in_default.ensures c.loop-unit.invariant.0 c.loop-unit.invariant.5;
       cost =
           looks_end (frame_probes_among us s a (covering_ranges a rs)) (frame_probes_among us s a old) us
           c.loop-unit.units.items c.loop-unit.invariant.3;

@@ -6,6 +6,7 @@ use Rattle.addr2line_lookups.specs.UnitLookups.{unit_of_answered}
 use Rattle.addr2line_lookups.specs.declared.frame_place.FramePlace.{FramePlace}
 use Rattle.addr2line_lookups.proofs.AskedLines.{reads_none}
 use Rattle.addr2line_lookups.proofs.SettledUnits.{waits_here, decided_here, unit_with_frames, unit_without_frames, unit_is_there, no_frames_has, refused_has, has_some_frames}
+use Rattle.addr2line_lookups.proofs.AskedFunctions.{is_value, is_other, waits_undecided}
 use Rattle.addr2line_lookups.proofs.lookups.settle_unit_at.Goals as goal
 
 pub find_frames_at-requires-clause-decided : goal.find_frames_at-requires-clause-decided
@@ -20,6 +21,11 @@ returns-then-waits_at-clause-found g c =
 
 pub returns-then-waits_at-clause-reads : goal.returns-then-waits_at-clause-reads
 returns-then-waits_at-clause-reads g c = reads_none (λ n. n ≡ c.args.number) c.args.units.now.items
+
+pub returns-then-waits_at-clause-kept : goal.returns-then-waits_at-clause-kept
+returns-then-waits_at-clause-kept g c = λ answered none.
+    absurd (waits_undecided c.args.units.now.items c.deref.result.now c.args.number c.deref.ensures.value
+    c.if-waits_at.ensures none)
 
 pub returns-in-Ok-Some : goal.returns-in-Ok-Some
 returns-in-Ok-Some g c =
@@ -37,6 +43,7 @@ returns-in-Ok-Some g c =
       calls = c.in-Ok-Some.ensures.calls;
       cost = c.in-Ok-Some.ensures.cost;
       reads = c.in-Ok-Some.ensures.reads;
+      kept = λ answered none. c.in-Ok-Some.ensures.kept (is_value _);
       found = record {
         is_found = unit_with_frames known vs c.args.probe n decided has;
         is_one = unit_is_there known vs c.args.probe n decided has;
@@ -58,6 +65,7 @@ returns-in-Ok-None g c =
       calls = c.in-Ok-None.ensures.calls;
       cost = c.in-Ok-None.ensures.cost;
       reads = c.in-Ok-None.ensures.reads;
+      kept = λ answered none. c.in-Ok-None.ensures.kept (is_value _);
       found =
           unit_without_frames known vs c.args.probe n decided
           (no_frames_has answer (subst found c.in-Ok-None.field-0-is c.in-Ok-None.ensures.found));
@@ -76,6 +84,8 @@ returns-in_default g c =
       calls = c.in-Err.ensures.calls;
       cost = c.in-Err.ensures.cost;
       reads = c.in-Err.ensures.reads;
+      kept = λ answered none.
+          c.in-Err.ensures.kept (is_other c.in-Err.error (λ m. c.in_default.not-Memory m));
       found =
           unit_without_frames known vs c.args.probe n decided
           (refused_has answer c.in-Err.error (c.in-Err.ensures.found (λ m. c.in_default.not-Memory m)));

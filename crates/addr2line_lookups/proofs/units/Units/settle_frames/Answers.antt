@@ -1,4 +1,4 @@
-use Rattle.std.proofs.Common.{◌∙◌, ap, sym, subst, map, List}
+use Rattle.std.proofs.Common.{◌∙◌, ap, sym, subst, map, drop, List}
 use Rattle.addr2line_resolved.specs.UnitRange.{UnitRange}
 use Rattle.addr2line_resolved.specs.NumberedRanges.{covering_ranges}
 use Rattle.addr2line_resolved.specs.ContextUnits.{ordered_ranges}
@@ -6,7 +6,7 @@ use Rattle.addr2line_resolved.specs.ResolvedUnits.{ResolvedUnit, plain_unit, val
 use Rattle.addr2line_lookups.specs.KeptUnits.{ReadsAsked}
 use Rattle.addr2line_lookups.specs.KeptCalls.{known_among, HoldCalls}
 use Rattle.addr2line_lookups.specs.UnitLookups.{frames_among, SettlesFrames}
-use Rattle.addr2line_lookups.specs.PassedUnits.{PassFrames, AsksFramesAmong}
+use Rattle.addr2line_lookups.specs.PassedUnits.{PassFrames, AsksFramesAmong, KeepsAskedFunctions}
 use Rattle.addr2line_lookups.proofs.KeptLines.{same_plain}
 use Rattle.addr2line_lookups.specs.LookupCosts.{AtMostLooks}
 use Rattle.addr2line_lookups.proofs.LookupProbes.{frame_probes_among}
@@ -46,6 +46,9 @@ returns g c =
     λ us rs. PassFrames (known_among us s) (map value_of_unit us) a c.settle_frames.new.from rs in
     let reads : List ResolvedUnit → List UnitRange → Type 0 =
     λ us rs. ReadsAsked (AsksFramesAmong (known_among us s) (map value_of_unit us) a (covering_ranges a rs)) us new in
+    let keeps : List ResolvedUnit → List UnitRange → Type 0 =
+    λ us rs. KeepsAskedFunctions
+    (AsksFramesAmong (known_among us s) (map value_of_unit us) a (covering_ranges a (drop c.args.from.now rs))) new in
     record {
       values = c.settle_frames.ensures.values ∙ ap (map value_of_unit) c.self.view_is;
       calls =
@@ -60,6 +63,9 @@ returns g c =
       reads =
           subst (λ (us : List ResolvedUnit). reads us (ordered_ranges (map plain_unit us))) c.self.view_is
           (subst (reads us) c.self.invariant c.settle_frames.ensures.reads);
+      asked = λ answered.
+          subst (λ (us : List ResolvedUnit). keeps us (ordered_ranges (map plain_unit us))) c.self.view_is
+          (subst (keeps us) c.self.invariant (c.settle_frames.ensures.asked answered));
       passed =
           subst (λ (us : List ResolvedUnit). passes us (ordered_ranges (map plain_unit us))) c.self.view_is
           (subst (passes us) c.self.invariant c.settle_frames.ensures.passed);

@@ -1,0 +1,191 @@
+-- Lookups of frames and of units keep the functions of the units that they ask.
+use Rattle.std.proofs.Common.{◌≡◌, ◌≢◌, ◌⊎◌, inl, inr, ℕ, true, false, List, [], ◌∷◌, map, Option, Some, None, is_some, Result, Ok, Err, refl, sym, ap, ◌∙◌, subst}
+use Rattle.addr2line_resolved.specs.Error.{Error}
+use Rattle.addr2line_resolved.specs.Error.TheVariants.{Memory}
+use Rattle.addr2line_resolved.specs.UnitFacts.{UnitFacts, UnitInFile}
+use Rattle.addr2line_resolved.specs.Frames.{Frame}
+use Rattle.addr2line_resolved.specs.FirstAnswers.{PendingLoad, Lookup, output, pending}
+use Rattle.addr2line_resolved.specs.Lookups.{has_frames, is_there}
+use Rattle.addr2line_resolved.specs.UnitRange.{UnitRange}
+use Rattle.addr2line_resolved.specs.ResolvedUnits.{AnsweredUnit, ResolvedUnit, value_of_unit}
+use Rattle.addr2line_lookups.specs.KeptUnits.{KeepMoreFunctions}
+use Rattle.addr2line_lookups.specs.KeptCalls.{known_among}
+use Rattle.addr2line_lookups.specs.Preloads.{load_at}
+use Rattle.addr2line_lookups.specs.UnitLookups.{IsPending, frames_asked, FoundFrames, SettlesFrames, unit_asked, unit_at_number, FoundUnit, SettlesUnit}
+use Rattle.addr2line_lookups.specs.UnitParses.{KeepsFunctionsAt}
+use Rattle.addr2line_lookups.specs.PassedUnits.{KnowsNothing, AsksUntil, KeepsAskedFunctions}
+use Rattle.addr2line_lookups.specs.declared.frame_place.FramePlace.{FramePlace}
+use Rattle.addr2line_lookups.specs.declared.settled.Settled.{Settled}
+use Rattle.addr2line_lookups.specs.declared.settled.Settled.TheVariants.{Waits, Nothing, Found}
+use Rattle.addr2line_lookups.proofs.SettledUnits.{frames_same, unit_same, frames_waiting, frames_place, unit_waiting, unit_number}
+
+-- ---- results
+
+abbrev value : (A : Type 0) → A → Result A Error
+value A x = Ok x
+
+abbrev refusal : (A : Type 0) → Error → Result A Error
+refusal A e = Err e
+
+-- a value isn't out of memory
+pub is_value : {A : Type 0} (x : A) → value A x ≢ refusal A Memory
+is_value {A} x same = cc
+
+-- nor is another refusal
+pub is_other : {A : Type 0} (e : Error) → e ≢ Memory → refusal A e ≢ refusal A Memory
+is_other {A} e other same = let is : e ≡ Memory = cc in other is
+
+-- out of memory is
+pub memory_refused : {A : Type 0} (e : Error) → e ≡ Memory → refusal A e ≢ refusal A Memory → ⊥
+memory_refused {A} e is other = other (ap (refusal A) is)
+
+-- ---- one unit
+
+-- one that waits isn't decided
+pub waits_undecided : (us xs : List ResolvedUnit) (n : ℕ) → xs ≡ us
+    → true ≡ is_some (load_at (map value_of_unit xs) n) → load_at (map value_of_unit us) n ≡ None → ⊥
+waits_undecided us xs n same waits none =
+    let here : true ≡ is_some (load_at (map value_of_unit us) n) =
+    subst (λ (l : List ResolvedUnit). true ≡ is_some (load_at (map value_of_unit l) n)) same waits in
+    let never : true ≡ false = here ∙ ap (λ (o : Option PendingLoad). is_some o) none in cc
+
+-- ---- one unit after the other
+
+module _ {A : Type 0} (ask : AnsweredUnit → A) (nothing : A) (us : List ResolvedUnit) (all : List UnitRange) where
+  abbrev asks_until : List UnitRange → ℕ → Type 0
+  asks_until rs = AsksUntil ask nothing (map value_of_unit us) rs
+
+  -- The functions of the units that were asked are kept; the others are those of the ranges that are left.
+  abbrev pub FunctionsAsked : List UnitRange → List ResolvedUnit → Type 0
+  FunctionsAsked rest vs =
+      (n : ℕ) → asks_until all n → load_at (map value_of_unit us) n ≡ None → KeepsFunctionsAt vs n ⊎ asks_until rest n
+
+  pub functions_begin : FunctionsAsked all us
+  functions_begin n asks none = inr asks
+
+  decided_before : (vs : List ResolvedUnit) (n : ℕ) → map value_of_unit vs ≡ map value_of_unit us
+      → load_at (map value_of_unit vs) n ≡ None → load_at (map value_of_unit us) n ≡ None
+  decided_before vs n same none = ap (λ (values : List AnsweredUnit). load_at values n) (sym same) ∙ none
+
+  pub functions_end : (rest : List UnitRange) (vs : List ResolvedUnit) → rest ≡ []
+      → map value_of_unit vs ≡ map value_of_unit us → FunctionsAsked rest vs → KeepsAskedFunctions (asks_until all) vs
+  functions_end rest vs is same asked n asks none = by (asked n asks (decided_before vs n same none))
+    where
+      left_none : asks_until rest n → ⊥
+      left_none left = subst (λ (rs : List UnitRange). asks_until rs n) is left
+
+      by : KeepsFunctionsAt vs n ⊎ asks_until rest n → KeepsFunctionsAt vs n
+      by (inl kept) = kept
+      by (inr left) = absurd (left_none left)
+
+  module _ (vs ws : List ResolvedUnit) (r : UnitRange) (old rest : List UnitRange) (is : old ≡ r ∷ rest)
+      (same : map value_of_unit vs ≡ map value_of_unit us) (more : KeepMoreFunctions vs ws)
+      (here : load_at (map value_of_unit vs) r.unit ≡ None → KeepsFunctionsAt ws r.unit)
+      (asked : FunctionsAsked old vs) where
+    one_more : (n : ℕ) → asks_until all n → load_at (map value_of_unit us) n ≡ None
+        → KeepsFunctionsAt ws n ⊎ (KnowsNothing ask nothing (map value_of_unit us) r × asks_until rest n)
+    one_more n asks none = by (asked n asks none)
+      where
+        decided_here : n ≡ r.unit → load_at (map value_of_unit vs) r.unit ≡ None
+        decided_here at =
+            ap (λ (values : List AnsweredUnit). load_at values r.unit) same
+            ∙ ap (λ m. load_at (map value_of_unit us) m) (sym at) ∙ none
+
+        turn : (n ≡ r.unit) ⊎ (KnowsNothing ask nothing (map value_of_unit us) r × asks_until rest n)
+            → KeepsFunctionsAt ws n ⊎ (KnowsNothing ask nothing (map value_of_unit us) r × asks_until rest n)
+        turn (inl at) = inl (subst (λ m. KeepsFunctionsAt ws m) (sym at) (here (decided_here at)))
+        turn (inr left) = inr left
+
+        by : KeepsFunctionsAt vs n ⊎ asks_until old n
+            → KeepsFunctionsAt ws n ⊎ (KnowsNothing ask nothing (map value_of_unit us) r × asks_until rest n)
+        by (inl kept) = inl (more.functions n kept)
+        by (inr left) = turn (subst (λ (rs : List UnitRange). asks_until rs n) is left)
+
+    -- one that knows nothing
+    pub functions_next : FunctionsAsked rest ws
+    functions_next n asks none = by (one_more n asks none)
+      where
+        by : KeepsFunctionsAt ws n ⊎ (KnowsNothing ask nothing (map value_of_unit us) r × asks_until rest n)
+            → KeepsFunctionsAt ws n ⊎ asks_until rest n
+        by (inl kept) = inl kept
+        by (inr left) = inr left.1
+
+    -- another is the last
+    pub functions_last : (KnowsNothing ask nothing (map value_of_unit us) r → ⊥)
+        → map value_of_unit ws ≡ map value_of_unit us → KeepsAskedFunctions (asks_until all) ws
+    functions_last something after n asks none = by (one_more n asks (decided_before ws n after none))
+      where
+        by : KeepsFunctionsAt ws n ⊎ (KnowsNothing ask nothing (map value_of_unit us) r × asks_until rest n)
+            → KeepsFunctionsAt ws n
+        by (inl kept) = kept
+        by (inr left) = absurd (something left.0)
+
+-- ---- units that know something
+
+pending_knows : {A : Type 0} (m : Lookup A) (x : A) → IsPending m → m ≡ output x → ⊥
+pending_knows {A} m x waits is =
+    let load : PendingLoad = waits.0 in
+    let here : m ≡ pending load = waits.1 in
+    let never : pending load ≡ output x = sym here ∙ is in cc
+
+frames_know : (new : List ResolvedUnit) (m : Lookup (Result (List Frame) Error)) (p : FramePlace)
+    → FoundFrames new m p → m ≡ output (Ok []) → ⊥
+frames_know new m p found is =
+    let some : m ≡ output found.answer = found.is_found in
+    let same : output found.answer ≡ output (Ok []) = sym some ∙ is in
+    let none : found.answer ≡ Ok [] = cc in
+    let never : true ≡ false = sym found.holds.has_some ∙ ap has_frames none in cc
+
+refusal_knows : (m : Lookup (Result (List Frame) Error)) (e : Error) → m ≡ output (Err e) → m ≡ output (Ok []) → ⊥
+refusal_knows m e refused is =
+    let same : output (refusal (List Frame) e) ≡ output (value (List Frame) []) = sym refused ∙ is in
+    let never : refusal (List Frame) e ≡ value (List Frame) [] = cc in cc
+
+unit_knows : (vs : List AnsweredUnit) (m : Lookup (Option UnitInFile)) (n : ℕ) → FoundUnit vs m n
+    → m ≡ output None → ⊥
+unit_knows vs m n found is =
+    let some : m ≡ output (unit_at_number vs n) = found.is_found in
+    let same : output (unit_at_number vs n) ≡ output None = sym some ∙ is in
+    let none : unit_at_number vs n ≡ None = cc in
+    let never : true ≡ false = sym found.is_one ∙ ap is_there none in cc
+
+-- the unit of a number, after others were asked
+module _ (us vs : List ResolvedUnit) (same : map value_of_unit vs ≡ map value_of_unit us) (s : List UnitFacts)
+    (a n : ℕ) where
+  module _ (new : List ResolvedUnit) where
+    abbrev frames_now : Lookup (Result (List Frame) Error)
+    frames_now = frames_asked (known_among vs s) (map value_of_unit vs) a n
+
+    abbrev no_frames : Type 0
+    no_frames = frames_asked (known_among us s) (map value_of_unit us) a n ≡ output (Ok [])
+
+    pub frames_refusal : (e : Error) → frames_now ≡ output (Err e) → no_frames → ⊥
+    frames_refusal e h nothing = refusal_knows frames_now e h (frames_same us vs same s a n ∙ nothing)
+
+    module _ (settled : Settled FramePlace) (h : SettlesFrames new frames_now (Ok settled)) where
+      pub frames_waited : settled ≡ Waits → no_frames → ⊥
+      frames_waited is nothing =
+          pending_knows frames_now (Ok []) (frames_waiting new frames_now settled h is)
+          (frames_same us vs same s a n ∙ nothing)
+
+      pub frames_there : (p : FramePlace) → settled ≡ Found p → no_frames → ⊥
+      frames_there p is nothing =
+          frames_know new frames_now p (frames_place new frames_now settled h p is)
+          (frames_same us vs same s a n ∙ nothing)
+
+  abbrev unit_now : Lookup (Option UnitInFile)
+  unit_now = unit_asked (known_among vs s) (map value_of_unit vs) a n
+
+  abbrev no_unit : Type 0
+  no_unit = unit_asked (known_among us s) (map value_of_unit us) a n ≡ output None
+
+  module _ (settled : Settled ℕ) (h : SettlesUnit (map value_of_unit vs) unit_now (Ok settled)) where
+    pub unit_waited : settled ≡ Waits → no_unit → ⊥
+    unit_waited is nothing =
+        pending_knows unit_now None (unit_waiting (map value_of_unit vs) unit_now settled h is)
+        (unit_same us vs same s a n ∙ nothing)
+
+    pub unit_there : (k : ℕ) → settled ≡ Found k → no_unit → ⊥
+    unit_there k is nothing =
+        unit_knows (map value_of_unit vs) unit_now k
+        (unit_number (map value_of_unit vs) unit_now settled h k is) (unit_same us vs same s a n ∙ nothing)
