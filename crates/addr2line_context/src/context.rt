@@ -10,7 +10,7 @@ ghost use Rattle.addr2line_lookups.specs.BorrowedLocations.{location_value};
 ghost use Rattle.addr2line_lookups.specs.ResolvedUnits.{value_of_unit, RunForRangesAlone};
 ghost use Rattle.addr2line_lookups.specs.KeptUnits.{KeepsAsked, ReadsAsked, ReadsNoLines, AsksForLines};
 ghost use Rattle.addr2line_lookups.specs.LookupCosts.{AtMostLooks};
-ghost use Rattle.addr2line_lookups.specs.UnitParses.{KeepAllFunctions, KeepAllCalls};
+ghost use Rattle.addr2line_lookups.specs.UnitParses.{KeepsParsed, KeepAllCalls};
 ghost use Rattle.addr2line_lookups.specs.KeptUnits.{KeepsAt};
 ghost use Rattle.addr2line_lookups.specs.Lines.{Stretch};
 ghost use Rattle.addr2line_lookups.specs.RangeWalks.{FindsStretch, IsStretchOf, KeepsStretch};
@@ -270,7 +270,7 @@ impl<R: Reader> Context<R> {
         ensures functions { ParsesOrNoMemory self.old.value.plain
             (functions_or_refusal self.old.value.plain)
             result self.old.value.answers self.new.value.answers }
-        ensures kept { OnOk result (KeepAllFunctions self.new.units) }
+        ensures kept { KeepsParsed result self.new.units }
         ensures plain { self.new.value.plain ≡ self.old.value.plain }
         ensures cost { AtMostLooks 0 self.old.units self.new.units }
         ensures lines { ReadsNoLines self.old.units self.new.units }

@@ -1,17 +1,25 @@
 -- What a walk that parses units ahead keeps of them.
-use Rattle.std.proofs.Common.{◌≡◌, ◌⊎◌, inl, inr, ℕ, zero, suc, ◌+◌, ◌<◌, ◌≤◌, true, List, [], ◌∷◌, length, map, set, get_or, slice_get, Option, Some, None, is_some, IfSome, option_map, refl, sym, ap, ◌∙◌, subst, arith}
+use Rattle.std.proofs.Common.{◌≡◌, ◌≢◌, ◌⊎◌, inl, inr, ℕ, zero, suc, ◌+◌, ◌<◌, ◌≤◌, true, List, [], ◌∷◌, length, map, set, get_or, slice_get, Option, Some, None, is_some, IfSome, option_map, Result, Ok, Err, refl, sym, ap, ◌∙◌, subst, arith}
 use Rattle.std.proofs.lemmas.Bool.{cases_lt}
 use Rattle.std.proofs.lemmas.Option.{slice_get-map, slice_get_past}
+use Rattle.addr2line_resolved.specs.Error.{Error}
+use Rattle.addr2line_resolved.specs.Error.TheVariants.{Memory}
 use Rattle.addr2line_resolved.specs.KeptFunctions.{kept_at, count_of_functions}
 use Rattle.addr2line_resolved.specs.ResolvedUnits.{AnsweredUnit, ResolvedUnit, value_of_unit, functions_of}
 use Rattle.addr2line_lookups.specs.KeptUnits.{KeepsFunctionList, KeepsFunctionCalls, KeepMoreFunctions}
 use Rattle.addr2line_lookups.specs.FunctionPlaces.{KeepsCallsAt}
-use Rattle.addr2line_lookups.specs.UnitParses.{without_load, after_turn_of, after_turn, KeepsFunctionsAt, KeepAllFunctions, KeepsAllCalls, KeepsAllCallsAt, KeepAllCalls}
+use Rattle.addr2line_lookups.specs.UnitParses.{without_load, check_functions_of, ChecksOrNoMemory, after_turn_of, after_turn, check_unit_at, KeepsFunctionsAt, KeepAllFunctions, AsksForFunctions, KeepsAllCalls, KeepsAllCallsAt, KeepAllCalls}
 use Rattle.addr2line_lookups.proofs.UnitTurns.{no_functions_past}
 use Rattle.addr2line_lookups.proofs.CallsOfUnits.{value_here}
 use Rattle.addr2line_lookups.proofs.KeptCallsAt.{one_further}
 
 -- ---- functions
+
+abbrev done : Result (Unit {0}) Error
+done = Ok tt
+
+abbrev stopped : Error → Result (Unit {0}) Error
+stopped e = Err e
 
 -- those of the units before a number are kept
 abbrev pub FunctionsBelow : ℕ → List ResolvedUnit → Type 0
@@ -28,6 +36,23 @@ functions_of_all us k before past n = by (cases_lt n k)
     by : (n < k) ⊎ (k ≤ n) → KeepsFunctionsAt us n
     by (inl below) = before n below
     by (inr most) = no_functions_past us n (omega (arith, past, most))
+
+-- where those of a unit are refused
+pub functions_refused : (us vs : List ResolvedUnit) (k : ℕ) (e : Error) → FunctionsBelow k us → KeepMoreFunctions us vs
+    → KeepsFunctionsAt vs k → ChecksOrNoMemory (Err e) (check_unit_at check_functions_of (map value_of_unit vs) k)
+    → e ≢ Memory → (n : ℕ) → AsksForFunctions (map value_of_unit vs) n → KeepsFunctionsAt vs n
+functions_refused us vs k e before more here refuses other n asks = by (cases_lt n (k + 1))
+  where
+    never : ChecksOrNoMemory (Err e) (check_unit_at check_functions_of (map value_of_unit vs) k)
+        → check_unit_at check_functions_of (map value_of_unit vs) k ≡ Ok tt → ⊥
+    never (inl refused) passed = let both : stopped e ≡ done = sym refused ∙ passed in cc
+    never (inr none) passed =
+        let both : stopped e ≡ stopped Memory = none in
+        let same : e ≡ Memory = cc in other same
+
+    by : (n < k + 1) ⊎ (k + 1 ≤ n) → KeepsFunctionsAt vs n
+    by (inl below) = functions_further us vs k before more here n below
+    by (inr past) = absurd (never refuses (asks k (omega (arith, past))))
 
 -- ---- the calls of the functions of one unit
 

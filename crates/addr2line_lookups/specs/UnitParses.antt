@@ -1,6 +1,6 @@
 -- What reading ahead says of units, by their numbers, and what it leaves of them: a load that is
 -- pending where the walk comes to its unit is answered by no file.
-use Rattle.std.specs.Prelude.{◌≡◌, ◌⊎◌, ℕ, ◌<◌, zero, suc, List, [], ◌∷◌, length, set, slice_get, Option, Some, None, IfSome, Result, Ok, Err}
+use Rattle.std.specs.Prelude.{◌≡◌, ◌≢◌, ◌⊎◌, ℕ, ◌<◌, zero, suc, List, [], ◌∷◌, length, map, set, slice_get, Option, Some, None, IfSome, Result, Ok, Err}
 use Rattle.addr2line_resolved.specs.Error.{Error}
 use Rattle.addr2line_resolved.specs.Error.TheVariants.{Memory}
 use Rattle.addr2line_resolved.specs.Results.{and_then, each, ◌>>=◌}
@@ -8,7 +8,7 @@ use Rattle.addr2line_resolved.specs.Functions.{functions_of_unit}
 use Rattle.addr2line_resolved.specs.InlinedCalls.{calls_of_function}
 use Rattle.addr2line_resolved.specs.EntryReferences.{KnownUnits}
 use Rattle.addr2line_resolved.specs.KeptFunctions.{count_of_functions}
-use Rattle.addr2line_resolved.specs.ResolvedUnits.{AnsweredUnit, ResolvedUnit, main_unit, first_answer, unit_of_functions, functions_of, with_unit_answer}
+use Rattle.addr2line_resolved.specs.ResolvedUnits.{AnsweredUnit, ResolvedUnit, value_of_unit, main_unit, first_answer, unit_of_functions, functions_of, with_unit_answer}
 use Rattle.addr2line_lookups.specs.KeptUnits.{KeepsFunctionList, KeepsFunctionCalls}
 use Rattle.addr2line_lookups.specs.KeptCalls.{naming_from, calls_among}
 
@@ -65,6 +65,19 @@ KeepsFunctionsAt us number = IfSome (slice_get us number) KeepsFunctionList
 -- so are those of all units
 abbrev pub KeepAllFunctions : List ResolvedUnit → Type 0
 KeepAllFunctions us = (number : ℕ) → KeepsFunctionsAt us number
+
+-- the unit of a number comes no later than the first whose functions are refused
+abbrev pub AsksForFunctions : List AnsweredUnit → ℕ → Type 0
+AsksForFunctions vs number =
+    (n : ℕ) → n < number → check_unit_at check_functions_of vs n ≡ Ok tt
+
+-- Reading ahead keeps the functions of all units; where one's are refused, those of the units up to
+-- that one.
+abbrev pub KeepsParsed : Result (Unit {0}) Error → List ResolvedUnit → Type 0
+KeepsParsed (Ok x) us = KeepAllFunctions us
+KeepsParsed (Err e) us =
+    e ≢ Memory → (number : ℕ) → AsksForFunctions (map value_of_unit us) number
+    → KeepsFunctionsAt us number
 
 -- the functions of a unit are kept, and the calls of each of them
 abbrev pub KeepsAllCalls : ResolvedUnit → Type 0

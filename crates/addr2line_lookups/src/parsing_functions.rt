@@ -1,11 +1,12 @@
 //! The functions of all units.
 
-ghost use Rattle.std.specs.Prelude.{◌≡◌, ◌<◌, true, None, OnOk, map};
+ghost use Rattle.std.specs.Prelude.{◌≡◌, ◌≢◌, ◌<◌, true, None, Err, map};
+ghost use Rattle.addr2line_resolved.specs.Error.TheVariants.{Memory};
 ghost use Rattle.addr2line_resolved.specs.ResolvedUnits.{pending_load, value_of_unit};
 ghost use Rattle.addr2line_lookups.specs.KeptUnits.{ReadsNoLines};
 ghost use Rattle.addr2line_lookups.specs.KeptCalls.{LeavesCalls, LeavesCallsOf};
 ghost use Rattle.addr2line_lookups.specs.LookupCosts.{AtMostLooks, AtMostLooksOf};
-ghost use Rattle.addr2line_lookups.specs.UnitParses.{without_load, check_functions_of, ChecksOrNoMemory, after_turn, check_unit_at, KeepsFunctionsAt, KeepAllFunctions, WalksOrNoMemory};
+ghost use Rattle.addr2line_lookups.specs.UnitParses.{without_load, check_functions_of, ChecksOrNoMemory, after_turn, check_unit_at, KeepsFunctionsAt, KeepsParsed, WalksOrNoMemory};
 
 use addr2line_resolved::{Error, Reader, ResUnit};
 use std::alloc::Global;
@@ -37,7 +38,7 @@ fn check_functions_of<R: Reader>(alloc: Global, unit: &mut ResUnit<R>) -> Result
     requires { pending_load unit.old.value ≡ None }
     ensures value { unit.new.value ≡ unit.old.value }
     ensures found { ChecksOrNoMemory result (check_functions_of unit.old.value) }
-    ensures kept { OnOk result (unit.new.keeps_functions ≡ true) }
+    ensures kept { result ≢ Err Memory → unit.new.keeps_functions ≡ true }
     ensures calls { LeavesCallsOf unit.old unit.new }
     ensures cost { AtMostLooksOf 0 unit.old unit.new }
     ensures lines { unit.new.keeps_lines ≡ unit.old.keeps_lines }
@@ -56,7 +57,7 @@ pub(crate) fn parse_functions_at<R: Reader>(
         ≡ after_turn (map value_of_unit units.old.items) number }
     ensures found { ChecksOrNoMemory result
         (check_unit_at check_functions_of (map value_of_unit units.new.items) number) }
-    ensures kept { OnOk result (KeepsFunctionsAt units.new.items number) }
+    ensures kept { result ≢ Err Memory → KeepsFunctionsAt units.new.items number }
     ensures calls { LeavesCalls units.old.items units.new.items }
     ensures cost { AtMostLooks 0 units.old.items units.new.items }
     ensures lines { ReadsNoLines units.old.items units.new.items }
@@ -76,7 +77,7 @@ pub(crate) fn check_functions<R: Reader>(
 ) -> Result<(), Error>
     ensures walk { WalksOrNoMemory check_functions_of result (map value_of_unit units.old.items)
         (map value_of_unit units.new.items) }
-    ensures kept { OnOk result (KeepAllFunctions units.new.items) }
+    ensures kept { KeepsParsed result units.new.items }
     ensures calls { LeavesCalls units.old.items units.new.items }
     ensures cost { AtMostLooks 0 units.old.items units.new.items }
     ensures lines { ReadsNoLines units.old.items units.new.items }

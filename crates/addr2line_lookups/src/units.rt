@@ -19,7 +19,7 @@ ghost use Rattle.addr2line_resolved.specs.BorrowedFrames.{frames_left};
 ghost use Rattle.addr2line_lookups.specs.KeptUnits.{KeepsAt, KeepsFound, KeepsAsked, ReadsAsked, ReadsNoLines, AsksForRow, AsksForLines, FindsRow, location_of_unit_row};
 ghost use Rattle.addr2line_lookups.specs.RangeWalks.{FindsStretch, KeepsStretch, stretches_left, AsksForNextStretch, StaysOnItsWay};
 ghost use Rattle.addr2line_lookups.specs.LookupCosts.{AtMostLooks, row_probes_at, frame_probes_at, probes_among};
-ghost use Rattle.addr2line_lookups.specs.UnitParses.{WalksOrNoMemory, KeepAllFunctions, KeepAllCalls, check_functions_of, check_calls_of};
+ghost use Rattle.addr2line_lookups.specs.UnitParses.{WalksOrNoMemory, KeepsParsed, KeepAllCalls, check_functions_of, check_calls_of};
 
 use crate::frame_place::{FramePlace, frames_at_place};
 use crate::load_answers::answer_at;
@@ -157,7 +157,7 @@ impl<R: Reader> Units<R> {
     pub fn check_functions(&mut self) -> Result<(), Error>
         ensures walk { WalksOrNoMemory check_functions_of result (map value_of_unit self.old)
             (map value_of_unit self.new) }
-        ensures kept { OnOk result (KeepAllFunctions self.new) }
+        ensures kept { KeepsParsed result self.new }
         ensures calls { LeavesCalls self.old self.new }
         ensures cost { AtMostLooks 0 self.old self.new }
         ensures lines { ReadsNoLines self.old self.new }

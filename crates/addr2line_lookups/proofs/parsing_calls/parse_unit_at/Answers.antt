@@ -5,7 +5,7 @@ use Rattle.addr2line_resolved.specs.EntryReferences.{KnownUnits}
 use Rattle.addr2line_resolved.specs.ResolvedUnits.{AnsweredUnit, value_of_unit}
 use Rattle.addr2line_lookups.specs.KeptCalls.{known_among, HoldCalls}
 use Rattle.addr2line_lookups.specs.UnitParses.{ChecksOrNoMemory, check_unit_at, check_calls_of}
-use Rattle.addr2line_lookups.proofs.AskedLines.{no_lines_both}
+use Rattle.addr2line_lookups.proofs.AskedLines.{no_lines_both, no_stop}
 use Rattle.addr2line_lookups.proofs.UnitWalks.{plain_after_turn}
 use Rattle.addr2line_lookups.proofs.CallsLeft.{same_known}
 use Rattle.addr2line_lookups.proofs.KeptCallsAt.{functions_refused_at, readable_of}
@@ -20,7 +20,7 @@ parse_calls_at-requires g c =
     let known =
     same_known us vs s (plain_after_turn us vs c.args.number c.in_ok-parse_functions_at.ensures.values) in
     record {
-      functions = c.in_ok-parse_functions_at.ensures.kept;
+      functions = c.in_ok-parse_functions_at.ensures.kept (no_stop _);
       readable = readable_of (map value_of_unit vs) c.args.number c.in_ok-parse_functions_at.ensures.found;
       calls =
           subst (λ (k : KnownUnits). HoldCalls k vs) (sym known)

@@ -3,11 +3,12 @@ use Rattle.std.proofs.lemmas.Result.{err_from_is_err_and}
 use Rattle.std.proofs.lemmas.List.{length-map}
 use Rattle.addr2line_resolved.specs.ResolvedUnits.{value_of_unit}
 use Rattle.addr2line_lookups.specs.UnitParses.{check_functions_of}
-use Rattle.addr2line_lookups.proofs.AskedLines.{no_lines_none, no_lines_both}
+use Rattle.addr2line_lookups.proofs.AskedLines.{no_lines_none, no_lines_both, no_stop}
 use Rattle.addr2line_lookups.proofs.CallsLeft.{leaves_none, leaves_both}
 use Rattle.addr2line_lookups.proofs.UnitWalks.{walk_goes_on, walk_ends, walk_refused}
 use Rattle.addr2line_lookups.proofs.UnitProbes.{looks_none, looks_after}
-use Rattle.addr2line_lookups.proofs.KeptAhead.{functions_further, functions_of_all}
+use Rattle.addr2line_lookups.proofs.KeptAhead.{functions_further, functions_of_all, functions_refused}
+use Rattle.addr2line_lookups.proofs.AskedFunctions.{is_other}
 use Rattle.addr2line_lookups.proofs.parsing_functions.check_functions.Goals as goal
 
 pub loop-number-init : goal.loop-number-init
@@ -27,7 +28,7 @@ loop-number-preserved g c =
       looks_after 0 us vs ws c.loop-number.invariant.2 c.in_ok-parse_functions_at.ensures.cost,
       no_lines_both us vs ws c.loop-number.invariant.3 c.in_ok-parse_functions_at.ensures.lines,
       functions_further vs ws c.loop-number.number c.loop-number.invariant.4
-          c.in_ok-parse_functions_at.ensures.cost.functions c.in_ok-parse_functions_at.ensures.kept,
+          c.in_ok-parse_functions_at.ensures.cost.functions (c.in_ok-parse_functions_at.ensures.kept (no_stop _)),
     )
 
 pub returns-in_err-parse_functions_at : goal.returns-in_err-parse_functions_at
@@ -41,7 +42,11 @@ returns-in_err-parse_functions_at g c =
           walk_refused check_functions_of c.loop-number.number (map value_of_unit us) (map value_of_unit vs)
           c.loop-number.invariant.0 (map value_of_unit ws) _ c.from_residual.result p.0 p.1 p.2
           c.in_err-parse_functions_at.ensures.values c.in_err-parse_functions_at.ensures.found;
-      kept = rw p.1 tt;
+      kept =
+          rw (p.1, p.2) (λ other.
+          functions_refused vs ws c.loop-number.number _ c.loop-number.invariant.4
+          c.in_err-parse_functions_at.ensures.cost.functions
+          (c.in_err-parse_functions_at.ensures.kept (is_other _ other)) c.in_err-parse_functions_at.ensures.found other);
       calls = leaves_both us vs ws c.loop-number.invariant.1 c.in_err-parse_functions_at.ensures.calls;
       cost = looks_after 0 us vs ws c.loop-number.invariant.2 c.in_err-parse_functions_at.ensures.cost;
       lines = no_lines_both us vs ws c.loop-number.invariant.3 c.in_err-parse_functions_at.ensures.lines;

@@ -3,10 +3,10 @@ use Rattle.std.proofs.lemmas.Result.{err_from_is_err_and}
 use Rattle.addr2line_resolved.specs.ResolvedUnits.{ResolvedUnit}
 use Rattle.addr2line_lookups.specs.UnitParses.{check_functions_of}
 use Rattle.addr2line_lookups.proofs.CallsLeft.{leaves_functions, leaves_value}
-use Rattle.addr2line_lookups.proofs.UnitCalls.{on_ok_always}
 use Rattle.addr2line_lookups.proofs.CallsOfUnits.{value_left, functions_kept, counts_left}
 use Rattle.addr2line_lookups.proofs.KeptFunctionLists.{functions_read}
 use Rattle.addr2line_lookups.proofs.UnitProbes.{looks_nowhere, looks_unchanged}
+use Rattle.addr2line_lookups.proofs.AskedFunctions.{memory_refused}
 use Rattle.addr2line_lookups.proofs.parsing_functions.check_functions_of.Goals as goal
 
 pub returns-in_err-read_functions : goal.returns-in_err-read_functions
@@ -17,7 +17,7 @@ returns-in_err-read_functions g c =
     record {
       value = ap (λ (u : ResolvedUnit). u.value) c.in_err-read_functions.ensures.err;
       found = inr (p.1 ∙ ap Err (p.2 ∙ c.in_err-read_functions.ensures.refusal));
-      kept = rw p.1 tt;
+      kept = rw (p.1, p.2) (λ other. absurd (memory_refused _ c.in_err-read_functions.ensures.refusal other));
       calls =
           leaves_value old new (ap (λ (u : ResolvedUnit). u.value) c.in_err-read_functions.ensures.err)
           (ap (λ (u : ResolvedUnit). u.calls) c.in_err-read_functions.ensures.err);
@@ -35,7 +35,7 @@ returns g c =
     record {
       value = value_left old new read;
       found = inl (ap check_functions_of (sym (value_left old new read)) ∙ c.check_kept.ensures kept);
-      kept = on_ok_always c.check_kept.result kept;
+      kept = λ answered. kept;
       calls = leaves_functions old new read;
       cost = looks_nowhere old new counts.0 counts.1 (functions_read old new read);
       lines = counts.1;
