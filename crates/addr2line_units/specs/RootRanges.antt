@@ -19,11 +19,13 @@ abbrev pub ranges_by_run : UnitInFile → RootRanges
 ranges_by_run u =
     record { ranges = ranges_of_lines (lines_of_unit u); lines = Some (lines_of_unit u) }
 
--- Lines are the unit's, of one run of its program, if it has one, where the ranges are those of its lines; else nothing was run.
+-- Lines are the unit's, of one run of its program, if it has one, where the ranges are those of its
+-- lines; else nothing was run.
 abbrev pub RunsForRanges : UnitInFile → List Range → Option (Result Lines Error) → ℕ → ℕ → Type 0
 RunsForRanges u ranges None old new = new ≡ old
 RunsForRanges u ranges (Some lines) old new =
-    (lines ≡ lines_of_unit u) × (ranges ≡ ranges_of_lines lines) × (new ≡ old + runs_for_lines u.facts)
+    (lines ≡ lines_of_unit u) × (ranges ≡ ranges_of_lines lines)
+    × (new ≡ old + runs_for_lines u.facts)
 
 -- with the unit's language
 pub record RootFacts : Type 0 where
