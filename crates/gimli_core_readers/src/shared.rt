@@ -13,11 +13,24 @@ use std::marker::Model;
 
 /// Shared bytes in an order, read from the first on. A copy shares the bytes, and takes a little
 /// memory.
-#[derive(Debug, Drop)]
+#[derive(Debug)]
 pub struct EndianBytes<E: Endianity> {
     bytes: Bytes,
     endian: E,
     first: u64,
+}
+
+// Compiled into its caller: a call would take the reader in memory, and whatever holds one would be
+// moved there, also where it is never let go.
+impl<E: Endianity> Drop for EndianBytes<E> {
+    #[inline(always)]
+    fn drop(self) {
+        let EndianBytes {
+            bytes: _,
+            endian: _,
+            first: _,
+        } = self;
+    }
 }
 
 impl<E: Endianity> Model for EndianBytes<E> {

@@ -23,7 +23,10 @@ pub struct FileEntry<R: Reader> {
     pub(crate) source: Option<Box<AttributeValue<R>>>,
 }
 
+// Compiled into its caller, as of a reader of shared bytes: else each instruction that could hold a
+// file would be written to memory.
 impl<R: Reader> Drop for FileEntry<R> {
+    #[inline(always)]
     fn drop(self) {
         let FileEntry {
             path_name: _,

@@ -64,14 +64,15 @@ fn parse_numeric<R: Reader>(
         ≡ Ok (numeric_instruction i, input.new))) }
 {
     let opcode = input.read_u8()?;
-    if opcode == 0 {
-        return parse_numeric_extended::<R>(input, rules);
-    }
-    if opcode < rules.opcode_base {
-        numeric_standard(input, counts, opcode)
+    // What a call returns is moved out of its place in memory: a special opcode, which is the
+    // commonest, is written to none.
+    Ok(if opcode == 0 {
+        parse_numeric_extended::<R>(input, rules)?
+    } else if opcode < rules.opcode_base {
+        numeric_standard(input, counts, opcode)?
     } else {
-        Ok(Some(NumericInstruction::Special(opcode)))
-    }
+        Some(NumericInstruction::Special(opcode))
+    })
 }
 
 // The same, after an opcode 0: an extended opcode and its operands, after their length.

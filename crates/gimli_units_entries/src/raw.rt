@@ -130,6 +130,7 @@ impl<'abbrev, R: Reader> EntriesRaw<'abbrev, R> {
 
     /// Skips the attributes that declarations describe, by their widths alone. Takes no memory. A
     /// refusal leaves the walk as it was.
+    #[inline(always)]
     #[tactic(auto, unfolding(crate::specs::EntryWalks::skip_values))]
     pub fn skip_attributes(
         &mut self,

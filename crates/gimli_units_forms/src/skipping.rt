@@ -119,7 +119,9 @@ fn skip_value<R: Reader>(
 }
 
 // Skips the values that declarations describe, and where it is refused leaves a reader that may
-// have moved.
+// have moved. Compiled into its caller, as those are that call it: most values are skipped by one
+// sum each, and a call for each entry takes longer.
+#[inline(always)]
 #[tactic(auto, unfolding(crate::specs::AttributeSkipping::skip_values))]
 fn skip_all<R: Reader>(
     place: &mut R,
@@ -137,6 +139,7 @@ fn skip_all<R: Reader>(
 }
 
 // How many bytes the values take that declarations describe.
+#[inline(always)]
 fn bytes_to_skip<R: Reader>(
     reader: &R,
     encoding: Encoding,
@@ -154,6 +157,7 @@ fn bytes_to_skip<R: Reader>(
 /// Skips the values that declarations describe, by their widths alone: a number isn't judged,
 /// except a length and the number of a form. Takes no memory. A refusal leaves the reader as it
 /// was.
+#[inline(always)]
 pub fn skip_attributes<R: Reader>(
     reader: &mut R,
     encoding: Encoding,
