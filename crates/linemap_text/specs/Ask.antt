@@ -69,11 +69,15 @@ StopsWriting (Table e) = ⊥
 StopsWriting TooLarge = ⊥
 StopsWriting (Output fault) = ⊤
 
--- memory may be refused for the table and its sections, and, where there are answers to print, for
--- the context and the answers
+-- the text is a table: there are answers to print, or the table is refused for its weight
+abbrev pub EmitsTable : AskOutcome → Type 0
+EmitsTable p = (p.status ≡ 0) ⊎ (p ≡ refusal (codes "emit refused: ") (codes "M2"))
+
+-- memory may be refused for the table, then for its sections, and, where there are answers to
+-- print, for the context and the answers
 abbrev pub MayRefuse : AskOutcome → MemoryUse → Type 0
 MayRefuse p memory.Table = ⊤
-MayRefuse p memory.Emission = ⊤
+MayRefuse p memory.Emission = EmitsTable p
 MayRefuse p memory.Context = p.status ≡ 0
 MayRefuse p memory.Answers = p.status ≡ 0
 
