@@ -1,17 +1,16 @@
 -- Loads that the answers at places of a list answer, one after the other.
-use Rattle.std.proofs.Common.{◌≡◌, ℕ, suc, ◌+◌, ◌<◌, ◌≤◌, List, [], ◌∷◌, map, length, drop, get_or, Option, Result, Ok, Err, OnOk, refl, sym, ap, ◌∙◌, arith}
+use Rattle.std.proofs.Common.{◌≡◌, ℕ, suc, ◌+◌, ◌<◌, List, [], ◌∷◌, length, drop, get_or, Option, Result, Ok, Err, OnOk, refl, sym, ap, ◌∙◌, arith}
 use Rattle.std.proofs.Math.Seq.{drop-cons}
-use Rattle.std.proofs.lemmas.List.{drop_all}
 use Rattle.addr2line_context.specs.AnsweredContexts.{AnsweredContext}
-use Rattle.addr2line_context.specs.Contexts.{FileContext}
 use Rattle.addr2line_context.specs.DwarfFiles.{DwarfFile}
-use Rattle.addr2line_context.specs.FirstAnswers.{FirstAnswers, PendingLoad, Lookup, output, pending}
+use Rattle.addr2line_context.specs.FirstAnswers.{FirstAnswers, Lookup, output}
+use Rattle.addr2line_context.specs.FrameLoads.{IsDone}
 use Rattle.addr2line_context.specs.KeptUnits.{KeepsMore}
 use Rattle.addr2line_context.specs.Lookups.{if_output, answer_load, resume}
 use Rattle.addr2line_context.specs.ResolvedUnits.{ResolvedUnit}
 use Rattle.addr2line_context.specs.SettledLookups.{loads_in, answers_with_first, after_answer}
 use Rattle.addr2line_context.specs.UnitLookups.{IsPending}
-use Rattle.linemap_replay.specs.Replays.{file_at}
+use Rattle.linemap_replay.specs.Replays.{WaitsForFirst, resumed}
 
 -- what holds whatever a result is
 pub if_ok : {A E : Type 0} (r : Result A E) (P : Type 0) → P → OnOk r P
@@ -35,69 +34,36 @@ number_at ns i lt =
     let next : suc i ≡ i + 1 = omega arith in
     drop-cons ns i 0 lt ∙ ap (λ (n : ℕ). get_or ns i 0 ∷ drop n ns) next
 
--- A lookup of an address, by a context and first answers. One that waits does so for the first load
--- of the address.
-module _ {A : Type 0} (by : FileContext → FirstAnswers → Lookup A) (a : ℕ)
-    (first : (v : AnsweredContext) (p : PendingLoad) → by v.plain v.answers ≡ pending p
-    → (rest : List PendingLoad) × (loads_in v a ≡ p ∷ rest)) where
-  abbrev lookup_in : AnsweredContext → Lookup A
-  lookup_in v = by v.plain v.answers
+-- ---- a lookup of an address
 
-  abbrev go_on : FileContext → Option DwarfFile → List (Option DwarfFile) → FirstAnswers → Lookup A
-      → Lookup A × FirstAnswers
-  go_on c file files answers l =
-      if_output l (λ x. (output x, answers)) (λ p. resume c (by c) files (answer_load c answers p.number file).1)
+module _ {A : Type 0} (lookup : AnsweredContext → ℕ → Lookup A) (a : ℕ) where
+  abbrev go_on : AnsweredContext → Option DwarfFile → List (Option DwarfFile) → Lookup A → Lookup A × FirstAnswers
+  go_on v file files l =
+      if_output l (λ x. (output x, v.answers)) (λ p.
+      resume v.plain (λ answers. lookup (record v { answers = answers }) a) files
+      (answer_load v.plain v.answers p.number file).1)
 
-  module _ (start v mid : AnsweredContext) (same : v.plain ≡ start.plain) (is : mid ≡ v)
-      (all : Lookup A × FirstAnswers) where
-    abbrev rest_of : List (Option DwarfFile) → FirstAnswers → Lookup A × FirstAnswers
-    rest_of files answers = resume start.plain (by start.plain) files answers
+  -- one that waits for no load takes no answer
+  pub resumed_done : (v : AnsweredContext) → IsDone (lookup v a) → (files : List (Option DwarfFile))
+      → resumed lookup v a files ≡ (lookup v a, v.answers)
+  resumed_done v done [] = refl
+  resumed_done v done (file ∷ files) =
+      ap (go_on v file files) done.1 ∙ ap (λ (l : Lookup A). (l, v.answers)) (sym done.1)
 
-    same_plain : mid.plain ≡ start.plain
-    same_plain = ap (λ (x : AnsweredContext). x.plain) is ∙ same
+  -- one that waits does so for the first load of the address, and goes on after an answer to that
+  pub resumed_waiting : (v mid new : AnsweredContext) → WaitsForFirst (loads_in v a) (lookup v a)
+      → IsPending (lookup v a) → mid ≡ v → new.plain ≡ mid.plain
+      → (file : Option DwarfFile) → new.answers ≡ (after_answer mid a file).answers → (files : List (Option DwarfFile))
+      → resumed lookup new a files ≡ resumed lookup v a (file ∷ files)
+  resumed_waiting v mid new first waits is same file answered files =
+      ap (λ c. resumed lookup (record { plain = c; answers = new.answers }) a files)
+      (same ∙ ap (λ (x : AnsweredContext). x.plain) is)
+      ∙ ap (λ answers. resumed lookup (record v { answers = answers }) a files)
+      (answered ∙ ap (λ x. (after_answer x a file).answers) is
+      ∙ ap (λ ps. answers_with_first v ps file) (first waits.0 waits.1).1)
+      ∙ sym (ap (go_on v file files) waits.1)
 
-    same_answers : mid.answers ≡ v.answers
-    same_answers = ap (λ (x : AnsweredContext). x.answers) is
-
-    here : by start.plain mid.answers ≡ lookup_in mid
-    here = ap (λ c. by c mid.answers) (sym same_plain)
-
-    -- one more load is answered
-    pub one_more_load : (new : FirstAnswers) (files : List (Option DwarfFile)) (places : List ℕ) (i place : ℕ)
-        → IsPending (lookup_in mid) → new ≡ (after_answer mid a (file_at files place)).answers
-        → drop i places ≡ place ∷ drop (i + 1) places
-        → rest_of (map (file_at files) (drop i places)) v.answers ≡ all
-        → rest_of (map (file_at files) (drop (i + 1) places)) new ≡ all
-    one_more_load new files places i place waits answered at so_far =
-        let c = start.plain in
-        let file = file_at files place in
-        let left = map (file_at files) (drop (i + 1) places) in
-        let later : new ≡ (answer_load c mid.answers waits.0.number file).1 =
-        answered ∙ ap (λ ps. answers_with_first mid ps file) (first mid waits.0 waits.1).1
-        ∙ ap (λ x. (answer_load x mid.answers waits.0.number file).1) same_plain in
-        ap (rest_of left) later
-        ∙ sym (ap (go_on c file left mid.answers) (here ∙ waits.1))
-        ∙ ap (rest_of (file ∷ left)) same_answers
-        ∙ ap (λ ps. rest_of (map (file_at files) ps) v.answers) (sym at)
-        ∙ so_far
-
-    -- the lookup waits for no other
-    pub no_more_loads : (left : List (Option DwarfFile)) (x : A) → lookup_in mid ≡ output x
-        → rest_of left v.answers ≡ all → all ≡ (lookup_in mid, mid.answers)
-    no_more_loads left x done so_far =
-        sym so_far ∙ ap (rest_of left) (sym same_answers) ∙ by_files left
-        ∙ ap (λ (l : Lookup A). (l, mid.answers)) here
-      where
-        by_files : (files : List (Option DwarfFile)) → rest_of files mid.answers
-            ≡ (by start.plain mid.answers, mid.answers)
-        by_files [] = refl
-        by_files (file ∷ files) =
-            ap (go_on start.plain file files mid.answers) (here ∙ done)
-            ∙ ap (λ (l : Lookup A). (l, mid.answers)) (sym (here ∙ done))
-
-    -- there are no more places
-    pub no_more_places : (files : List (Option DwarfFile)) (places : List ℕ) (i : ℕ) → length places ≤ i
-        → rest_of (map (file_at files) (drop i places)) v.answers ≡ all → all ≡ (lookup_in mid, mid.answers)
-    no_more_places files places i ended so_far =
-        sym so_far ∙ ap (λ ps. rest_of (map (file_at files) ps) v.answers) (drop_all i places ended)
-        ∙ ap (rest_of []) (sym same_answers) ∙ ap (λ (l : Lookup A). (l, mid.answers)) here
+  -- the same context has the same
+  pub found_in_same : (v mid : AnsweredContext) → mid ≡ v → (r : Lookup A × FirstAnswers)
+      → r ≡ (lookup v a, v.answers) → r ≡ (lookup mid a, mid.answers)
+  found_in_same v mid is r h = h ∙ ap (λ (x : AnsweredContext). (lookup x a, x.answers)) (sym is)

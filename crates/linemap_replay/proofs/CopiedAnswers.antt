@@ -1,5 +1,5 @@
 -- Copies of what calls answer.
-use Rattle.std.proofs.Common.{◌≡◌, ◌≢◌, inl, inr, Result, Ok, Err, OnOk, sym, ap, ◌∙◌}
+use Rattle.std.proofs.Common.{◌≡◌, ◌≢◌, inl, inr, Result, Ok, Err, OnOk, sym, ap, ◌∙◌, subst}
 use Rattle.addr2line_context.specs.Calls.{ReturnsOrNoMemory}
 use Rattle.addr2line_context.specs.ContextParses.{ParsesOrNoMemory}
 use Rattle.addr2line_context.specs.Contexts.{ContextUnit, FileContext}
@@ -61,32 +61,34 @@ pub parsed : (c : FileContext) (parse : ContextUnit → FirstAnswer → Result (
 parsed c parse done old new (inl is) other = is
 parsed c parse done old new (inr none) other = absurd (other none.0)
 
--- ---- lookups that were resumed
+-- ---- lookups
 
-module _ {A : Type 0} (kind : A → CallAnswer) (r : Lookup A × FirstAnswers) (l : Lookup A) (new : FirstAnswers)
-    (is : r ≡ (l, new)) where
-  abbrev resumed : Lookup A → CopiedAnswer
-  resumed m = copied_answer (answer_or_suspension kind m)
-
-  found_is : (m : Lookup A) → l ≡ m → resumed m ≡ resumed r.0
-  found_is m there = sym (ap resumed there) ∙ sym (ap (λ (x : Lookup A × FirstAnswers). resumed x.0) is)
+module _ {A : Type 0} (kind : A → CallAnswer) (l : Lookup A) where
+  abbrev copied : Lookup A → CopiedAnswer
+  copied m = copied_answer (answer_or_suspension kind m)
 
   -- it waits
-  pub suspended_copy : IsPending l → dropped_lookup ≡ resumed r.0
-  suspended_copy waits = found_is _ waits.1
+  pub suspended_copy : IsPending l → dropped_lookup ≡ copied l
+  suspended_copy waits = sym (ap copied waits.1)
 
   -- it found something
-  pub output_copy : (x : A) (c : CopiedAnswer) → l ≡ output x → c ≡ copied_answer (kind x) → c ≡ resumed r.0
-  output_copy x c there same = same ∙ found_is (output x) there
+  pub output_copy : (x : A) (c : CopiedAnswer) → l ≡ output x → c ≡ copied_answer (kind x) → c ≡ copied l
+  output_copy x c there same = same ∙ sym (ap copied there)
 
   -- it was refused
   pub refused_output : (x : A) (e : Error) (given : Result Answer Error) → (e ≢ Memory → l ≡ output x)
-      → copied_answer (kind x) ≡ refusal e → Refuses e given
-      → CopiesOrNoMemory answer_of given (resumed r.0)
-  refused_output x e (Ok answer) there same h = h.1 ∙ sym same ∙ found_is (output x) (there h.0)
+      → copied_answer (kind x) ≡ refusal e → Refuses e given → CopiesOrNoMemory answer_of given (copied l)
+  refused_output x e (Ok answer) there same h = h.1 ∙ sym same ∙ sym (ap copied (there h.0))
   refused_output x e (Err d) there same h = h.1
 
--- the first answers that are left
-pub last_answers : {A : Type 0} (r : Lookup A × FirstAnswers) (l : Lookup A) (mid new : FirstAnswers) → r ≡ (l, mid)
-    → new ≡ mid → new ≡ r.1
-last_answers {A} r l mid new is same = same ∙ sym (ap (λ (x : Lookup A × FirstAnswers). x.1) is)
+-- what is left of a lookup that was resumed
+module _ {A : Type 0} (r : Lookup A × FirstAnswers) (l : Lookup A) (mid : FirstAnswers) (is : r ≡ (l, mid)) where
+  pub resumed_copy : (kind : A → CallAnswer) (given : Result Answer Error)
+      → CopiesOrNoMemory answer_of given (copied_answer (answer_or_suspension kind l))
+      → CopiesOrNoMemory answer_of given (copied_answer (answer_or_suspension kind r.0))
+  resumed_copy kind given h =
+      subst (λ (x : Lookup A × FirstAnswers). CopiesOrNoMemory answer_of given
+      (copied_answer (answer_or_suspension kind x.0))) (sym is) h
+
+  pub last_answers : (new : FirstAnswers) → new ≡ mid → new ≡ r.1
+  last_answers new same = same ∙ sym (ap (λ (x : Lookup A × FirstAnswers). x.1) is)

@@ -1,16 +1,13 @@
 -- Calls on a context that name the answers to loads by their places in a list.
-use Rattle.std.specs.Prelude.{ℕ, ◌≤◌, All, List, [], ◌∷◌, map, slice_get, Option, option_and_then, Result}
+use Rattle.std.specs.Prelude.{◌≡◌, ℕ, ◌≤◌, All, List, [], ◌∷◌, map, slice_get, Option, option_and_then}
 use Rattle.addr2line_context.specs.DwarfFiles.{DwarfFile}
 use Rattle.addr2line_context.specs.AnsweredContexts.{AnsweredContext}
 use Rattle.addr2line_context.specs.ContextCosts.{runs_of_unit}
 use Rattle.addr2line_context.specs.ContextNames.{naming_in}
 use Rattle.addr2line_context.specs.Contexts.{FileContext}
-use Rattle.addr2line_context.specs.Error.{Error}
-use Rattle.addr2line_context.specs.FirstAnswers.{SplitLoad, FirstAnswers, Lookup}
-use Rattle.addr2line_context.specs.Frames.{Frame}
+use Rattle.addr2line_context.specs.FirstAnswers.{SplitLoad, PendingLoad, FirstAnswers, Lookup, pending}
 use Rattle.addr2line_context.specs.ResolvedUnits.{ResolvedUnit}
-use Rattle.addr2line_context.specs.UnitFacts.{UnitInFile}
-use Rattle.addr2line_context.specs.Lookups.{Namings, frames, unit}
+use Rattle.addr2line_context.specs.Lookups.{Namings, resume}
 use Rattle.addr2line_context.specs.Histories.{ContextCall, find_location, find_frames, find_unit, find_location_range, preload_units, answer_token, parse_lines, parse_functions, parse_inlined_functions, CallAnswer, ContextState, call, history_from}
 use Rattle.linemap_replay.specs.declared.call.Call.{Call}
 use Rattle.linemap_replay.specs.declared.call.Call.TheVariants.{Location, Frames, Range, Unit as UnitOf, Preload, Answer, ParseLines, ParseFunctions, ParseInlined}
@@ -48,12 +45,17 @@ call_on c tokens k = call c.plain (naming_in c.plain) k (state_of c tokens)
 abbrev pub token_of : SplitLoad × ℕ → ℕ
 token_of l = l.1
 
--- lookups of an address in a context by first answers
-abbrev pub frames_by : FileContext → ℕ → FirstAnswers → Lookup (Result (List Frame) Error)
-frames_by c a answers = frames c (naming_in c) answers a
+-- where a lookup of an address waits for a load, that is the first of the loads of the address
+abbrev pub WaitsForFirst : {A : Type 0} → List PendingLoad → Lookup A → Type 0
+WaitsForFirst loads lookup =
+    (p : PendingLoad) → lookup ≡ pending p → (rest : List PendingLoad) × (loads ≡ p ∷ rest)
 
-abbrev pub unit_by : FileContext → ℕ → FirstAnswers → Lookup (Option UnitInFile)
-unit_by c a answers = unit c (naming_in c) answers a
+-- A lookup of an address in a context, resumed with an answer to each load in turn, and the first
+-- answers after it.
+abbrev pub resumed : {A : Type 0} → (AnsweredContext → ℕ → Lookup A) → AnsweredContext → ℕ
+    → List (Option DwarfFile) → Lookup A × FirstAnswers
+resumed lookup c a files =
+    resume c.plain (λ answers. lookup (record c { answers = answers }) a) files c.answers
 
 -- ---- calls one after the other
 

@@ -6,10 +6,11 @@ ghost use Rattle.linemap_replay.specs.Outcomes.{CopiesOrNoMemory};
 ghost use Rattle.linemap_replay.specs.OwnedAnswers.{answer_of, copied_answer};
 ghost use Rattle.linemap_replay.specs.Replays.{AreRunOnce, context_call, call_on, state_of, token_of, replayed, answers_after};
 
+use crate::address_lookup::{FrameLookup, UnitLookup};
 use crate::answer::Answer;
 use crate::call::Call;
 use crate::loads::answer_at;
-use crate::lookups::{find_copied_frames, find_copied_unit, find_place, find_stretches};
+use crate::lookups::{find_copied, find_place, find_stretches};
 use crate::parses::{read_calls, read_functions, read_lines};
 use crate::tokens::{answer_by_token, preload};
 use addr2line_context::{Context, Dwarf, Error, Reader, SplitDwarfLoad, UnitToken};
@@ -36,10 +37,12 @@ fn answer_call<R: Reader>(
     match call {
         Call::Location(probe) => find_place(alloc, context, *probe),
         Call::Frames(probe, places) => {
-            find_copied_frames(alloc, context, *probe, places.as_slice(), answers)
+            find_copied::<R, FrameLookup>(alloc, context, *probe, places.as_slice(), answers)
         }
         Call::Range(low, high) => find_stretches(alloc, context, *low, *high),
-        Call::Unit(probe, places) => find_copied_unit(context, *probe, places.as_slice(), answers),
+        Call::Unit(probe, places) => {
+            find_copied::<R, UnitLookup>(alloc, context, *probe, places.as_slice(), answers)
+        }
         Call::Preload(probe) => preload(alloc, context, *probe, loads),
         Call::Answer(number, place) => {
             let file = answer_at(answers, *place)?;

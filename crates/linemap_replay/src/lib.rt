@@ -1,6 +1,7 @@
 //! Calls on one context, one after the other, and their answers as copies that borrow nothing.
 #![tactic(auto)]
 
+mod address_lookup;
 pub mod answer;
 pub mod call;
 mod completions;

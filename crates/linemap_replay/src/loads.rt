@@ -4,13 +4,12 @@ ghost use Rattle.std.specs.Prelude.{◌≡◌, OnOk, IfErr, map, option_map};
 ghost use Rattle.addr2line_context.specs.Error.TheVariants.{Memory};
 ghost use Rattle.addr2line_context.specs.FrameLoads.{TellsWaiting};
 ghost use Rattle.addr2line_context.specs.KeptUnits.{KeepsMore};
-ghost use Rattle.addr2line_context.specs.Lookups.{resume};
-ghost use Rattle.addr2line_context.specs.SettledLookups.{frames_in, unit_in, after_answer};
+ghost use Rattle.addr2line_context.specs.SettledLookups.{after_answer};
 ghost use Rattle.linemap_replay.specs.Outcomes.{CopiesOrNoMemory};
-ghost use Rattle.linemap_replay.specs.Replays.{file_at, frames_by, unit_by};
+ghost use Rattle.linemap_replay.specs.Replays.{file_at, resumed};
 
-use addr2line_context::frame_loads::{answer_first, frames_wait};
-use addr2line_context::unit_loads::unit_waits;
+use crate::address_lookup::AddressLookup;
+use addr2line_context::frame_loads::answer_first;
 use addr2line_context::{Context, Dwarf, Error, Reader};
 use std::rc::Rc;
 
@@ -45,53 +44,26 @@ fn answer_next<R: Reader>(
     answer_first(context, probe, file)
 }
 
-// Answers the loads that the frames of an address wait for by the answers at these places, in turn,
-// and says whether they still wait.
-pub(crate) fn resume_frames<R: Reader>(
+// Answers the loads that a lookup of an address waits for by the answers at these places, in turn,
+// and says whether it still waits.
+pub(crate) fn resume_lookup<R: Reader, L: AddressLookup<R>>(
     context: &mut Context<R>,
     probe: u64,
     places: &[usize],
     answers: &[Option<Rc<Dwarf<R>>>],
 ) -> Result<bool, Error>
-    ensures waits { TellsWaiting (frames_in context.new.value probe) result }
-    ensures resumed { OnOk result (resume context.old.value.plain
-        (frames_by context.old.value.plain probe)
+    ensures waits { TellsWaiting (L.lookup context.new.value probe) result }
+    ensures resumed { OnOk result (resumed L.lookup context.old.value probe
         (map (file_at (map (option_map (λ f. f.value.file)) answers.now)) places.now)
-        context.old.value.answers
-        ≡ (frames_in context.new.value probe, context.new.value.answers)) }
+        ≡ (L.lookup context.new.value probe, context.new.value.answers)) }
     ensures plain { context.new.value.plain ≡ context.old.value.plain }
     ensures kept { KeepsMore context.old.units context.new.units }
 {
     for place in places {
-        if !frames_wait(context, probe)? {
+        if !L::waits(context, probe)? {
             return Ok(false);
         }
         answer_next(context, probe, answers, *place)?;
     }
-    frames_wait(context, probe)
-}
-
-// The same for the unit of an address.
-pub(crate) fn resume_unit<R: Reader>(
-    context: &mut Context<R>,
-    probe: u64,
-    places: &[usize],
-    answers: &[Option<Rc<Dwarf<R>>>],
-) -> Result<bool, Error>
-    ensures waits { TellsWaiting (unit_in context.new.value probe) result }
-    ensures resumed { OnOk result (resume context.old.value.plain
-        (unit_by context.old.value.plain probe)
-        (map (file_at (map (option_map (λ f. f.value.file)) answers.now)) places.now)
-        context.old.value.answers
-        ≡ (unit_in context.new.value probe, context.new.value.answers)) }
-    ensures plain { context.new.value.plain ≡ context.old.value.plain }
-    ensures kept { KeepsMore context.old.units context.new.units }
-{
-    for place in places {
-        if !unit_waits(context, probe)? {
-            return Ok(false);
-        }
-        answer_next(context, probe, answers, *place)?;
-    }
-    unit_waits(context, probe)
+    L::waits(context, probe)
 }

@@ -2,19 +2,17 @@
 
 ghost use Rattle.std.specs.Prelude.{◌≡◌, [], OnOk, map, option_map};
 ghost use Rattle.addr2line_context.specs.KeptUnits.{KeepsMore};
-ghost use Rattle.addr2line_context.specs.Histories.{find_location, find_frames, find_unit, find_location_range};
+ghost use Rattle.addr2line_context.specs.Histories.{find_location, find_location_range, answer_or_suspension};
 ghost use Rattle.linemap_replay.specs.Outcomes.{CopiesOrNoMemory};
 ghost use Rattle.linemap_replay.specs.OwnedAnswers.{answer_of, copied_answer};
-ghost use Rattle.linemap_replay.specs.Replays.{file_at, call_on};
+ghost use Rattle.linemap_replay.specs.Replays.{file_at, call_on, resumed};
 
+use crate::address_lookup::AddressLookup;
 use crate::answer::Answer;
 use crate::completions::refuse;
-use crate::copied_frames::{answer_frames, copy_unit_if_any};
 use crate::copied_stretches::copy_stretches;
 use crate::copies::answer_place;
-use crate::loads::{resume_frames, resume_unit};
-use addr2line_context::frame_loads::find_decided_frames;
-use addr2line_context::unit_loads::{find_decided_unit, functions_unit};
+use crate::loads::resume_lookup;
 use addr2line_context::{Context, Dwarf, Error, Reader};
 use std::alloc::Global;
 use std::rc::Rc;
@@ -51,53 +49,25 @@ pub(crate) fn find_stretches<R: Reader>(
     copy_stretches(alloc, context, low, high)
 }
 
-// The frames of an address, unless the lookup waits for more loads than there are places.
-pub(crate) fn find_copied_frames<R: Reader>(
+// What a lookup of an address finds, unless it waits for more loads than there are places.
+pub(crate) fn find_copied<R: Reader, L: AddressLookup<R>>(
     alloc: Global,
     context: &mut Context<R>,
     probe: u64,
     places: &[usize],
     answers: &[Option<Rc<Dwarf<R>>>],
 ) -> Result<Answer, Error>
-    ensures answer { CopiesOrNoMemory answer_of result (copied_answer (call_on context.old.value []
-        (find_frames probe
-        (map (file_at (map (option_map (λ f. f.value.file)) answers.now)) places.now))).0) }
-    ensures left { OnOk result (context.new.value.answers ≡ (call_on context.old.value []
-        (find_frames probe
-        (map (file_at (map (option_map (λ f. f.value.file)) answers.now)) places.now))).1.answers) }
+    ensures answer { CopiesOrNoMemory answer_of result (copied_answer (answer_or_suspension L.answer
+        (resumed L.lookup context.old.value probe
+        (map (file_at (map (option_map (λ f. f.value.file)) answers.now)) places.now)).0)) }
+    ensures left { OnOk result (context.new.value.answers
+        ≡ (resumed L.lookup context.old.value probe
+        (map (file_at (map (option_map (λ f. f.value.file)) answers.now)) places.now)).1) }
     ensures plain { context.new.value.plain ≡ context.old.value.plain }
     ensures kept { KeepsMore context.old.units context.new.units }
 {
-    if resume_frames(context, probe, places, answers)? {
+    if resume_lookup::<R, L>(context, probe, places, answers)? {
         return Ok(Answer::Suspended);
     }
-    match find_decided_frames(context, probe) {
-        Ok(frames) => answer_frames(alloc, frames),
-        Err(error) => refuse(error),
-    }
-}
-
-// The unit of an address, under the same condition.
-pub(crate) fn find_copied_unit<R: Reader>(
-    context: &mut Context<R>,
-    probe: u64,
-    places: &[usize],
-    answers: &[Option<Rc<Dwarf<R>>>],
-) -> Result<Answer, Error>
-    ensures answer { CopiesOrNoMemory answer_of result (copied_answer (call_on context.old.value []
-        (find_unit probe
-        (map (file_at (map (option_map (λ f. f.value.file)) answers.now)) places.now))).0) }
-    ensures left { OnOk result (context.new.value.answers ≡ (call_on context.old.value []
-        (find_unit probe
-        (map (file_at (map (option_map (λ f. f.value.file)) answers.now)) places.now))).1.answers) }
-    ensures plain { context.new.value.plain ≡ context.old.value.plain }
-    ensures kept { KeepsMore context.old.units context.new.units }
-{
-    if resume_unit(context, probe, places, answers)? {
-        return Ok(Answer::Suspended);
-    }
-    match find_decided_unit(context, probe)? {
-        Some(token) => Ok(Answer::Unit(copy_unit_if_any(functions_unit(context, token)))),
-        None => Ok(Answer::Unit(None)),
-    }
+    L::copy_found(alloc, context, probe)
 }

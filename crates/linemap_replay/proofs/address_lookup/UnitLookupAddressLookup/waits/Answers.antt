@@ -1,0 +1,5 @@
+use Rattle.addr2line_context.proofs.UnitLoads.{first_load_of_unit}
+use Rattle.linemap_replay.proofs.address_lookup.UnitLookupAddressLookup.waits.Goals as goal
+
+pub returns-clause-first : goal.returns-clause-first
+returns-clause-first g c = first_load_of_unit c.args.context.now.value c.args.probe
