@@ -1,5 +1,6 @@
 -- Lookups of frames and of units keep the functions of the units that they ask.
-use Rattle.std.proofs.Common.{◌≡◌, ◌≢◌, ◌⊎◌, inl, inr, ℕ, true, false, List, [], ◌∷◌, map, Option, Some, None, is_some, Result, Ok, Err, refl, sym, ap, ◌∙◌, subst}
+use Rattle.std.proofs.Common.{◌≡◌, ◌≢◌, ◌⊎◌, inl, inr, ℕ, true, false, List, [], ◌∷◌, ◌++◌, All, map, Option, None, is_some, Result, Ok, Err, sym, ap, ◌∙◌, subst}
+use Rattle.std.proofs.lemmas.List.Elements.{All-head, All-tail}
 use Rattle.addr2line_resolved.specs.Error.{Error}
 use Rattle.addr2line_resolved.specs.Error.TheVariants.{Memory}
 use Rattle.addr2line_resolved.specs.UnitFacts.{UnitFacts, UnitInFile}
@@ -8,15 +9,15 @@ use Rattle.addr2line_resolved.specs.FirstAnswers.{PendingLoad, Lookup, output, p
 use Rattle.addr2line_resolved.specs.Lookups.{has_frames, is_there}
 use Rattle.addr2line_resolved.specs.UnitRange.{UnitRange}
 use Rattle.addr2line_resolved.specs.ResolvedUnits.{AnsweredUnit, ResolvedUnit, value_of_unit}
-use Rattle.addr2line_lookups.specs.KeptUnits.{KeepMoreFunctions}
+use Rattle.addr2line_lookups.specs.KeptUnits.{KeepMoreFunctions, KeepsFunctionsAt}
 use Rattle.addr2line_lookups.specs.KeptCalls.{known_among}
 use Rattle.addr2line_lookups.specs.Preloads.{load_at}
 use Rattle.addr2line_lookups.specs.UnitLookups.{IsPending, frames_asked, FoundFrames, SettlesFrames, unit_asked, unit_at_number, FoundUnit, SettlesUnit}
-use Rattle.addr2line_lookups.specs.UnitParses.{KeepsFunctionsAt}
-use Rattle.addr2line_lookups.specs.PassedUnits.{KnowsNothing, AsksUntil, KeepsAskedFunctions}
+use Rattle.addr2line_lookups.specs.PassedUnits.{KeepsFunctionsOf, KnowsNothing, AsksUntil, KeepsAskedFunctions}
 use Rattle.addr2line_lookups.specs.declared.frame_place.FramePlace.{FramePlace}
 use Rattle.addr2line_lookups.specs.declared.settled.Settled.{Settled}
-use Rattle.addr2line_lookups.specs.declared.settled.Settled.TheVariants.{Waits, Nothing, Found}
+use Rattle.addr2line_lookups.specs.declared.settled.Settled.TheVariants.{Waits, Found}
+use Rattle.addr2line_lookups.proofs.PassedUnits.{has_no_load}
 use Rattle.addr2line_lookups.proofs.SettledUnits.{frames_same, unit_same, frames_waiting, frames_place, unit_waiting, unit_number}
 
 -- ---- results
@@ -60,8 +61,33 @@ module _ {A : Type 0} (ask : AnsweredUnit → A) (nothing : A) (us : List Resolv
   FunctionsAsked rest vs =
       (n : ℕ) → asks_until all n → load_at (map value_of_unit us) n ≡ None → KeepsFunctionsAt vs n ⊎ asks_until rest n
 
-  pub functions_begin : FunctionsAsked all us
-  functions_begin n asks none = inr asks
+  asked_or_left : (passed rest : List UnitRange) → All (KeepsFunctionsOf us) passed → (n : ℕ)
+      → asks_until (passed ++ rest) n → KeepsFunctionsAt us n ⊎ asks_until rest n
+  asked_or_left [] rest kept n asks = inr asks
+  asked_or_left (r ∷ rs) rest kept n asks =
+      by asks (asked_or_left rs rest (All-tail (KeepsFunctionsOf us) r rs kept) n)
+    where
+      by : (n ≡ r.unit) ⊎ (KnowsNothing ask nothing (map value_of_unit us) r × asks_until (rs ++ rest) n)
+          → (asks_until (rs ++ rest) n → KeepsFunctionsAt us n ⊎ asks_until rest n)
+          → KeepsFunctionsAt us n ⊎ asks_until rest n
+      by (inl at) later =
+          inl (subst (KeepsFunctionsAt us) (sym at) (All-head (KeepsFunctionsOf us) r rs kept))
+      by (inr left) later = later left.1
+
+  -- the first units keep theirs
+  pub functions_begin : (passed rest : List UnitRange) → all ≡ passed ++ rest → All (KeepsFunctionsOf us) passed
+      → FunctionsAsked rest us
+  functions_begin passed rest are kept n asks none =
+      asked_or_left passed rest kept n (subst (λ (rs : List UnitRange). asks_until rs n) are asks)
+
+  -- one that knows nothing is decided, so that its functions are kept
+  pub functions_here : (vs ws : List ResolvedUnit) (r : UnitRange) → map value_of_unit vs ≡ map value_of_unit us
+      → KnowsNothing ask nothing (map value_of_unit us) r
+      → (load_at (map value_of_unit vs) r.unit ≡ None → KeepsFunctionsAt ws r.unit) → KeepsFunctionsAt ws r.unit
+  functions_here vs ws r same none kept =
+      kept
+      (ap (λ (values : List AnsweredUnit). load_at values r.unit) same
+      ∙ has_no_load ask nothing (map value_of_unit us) r none)
 
   decided_before : (vs : List ResolvedUnit) (n : ℕ) → map value_of_unit vs ≡ map value_of_unit us
       → load_at (map value_of_unit vs) n ≡ None → load_at (map value_of_unit us) n ≡ None

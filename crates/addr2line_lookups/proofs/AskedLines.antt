@@ -1,5 +1,5 @@
 -- Calls read lines of the units that they ask alone; where one asks units one after the other, their lines are kept.
-use Rattle.std.proofs.Common.{◌≡◌, ◌≢◌, ◌⊎◌, inl, inr, ℕ, zero, suc, ◌+◌, ◌<◌, ◌≤◌, List, [], ◌∷◌, length, get_or, set, map, Option, Some, None, Result, Ok, Err, refl, sym, ap, ◌∙◌, subst, arith}
+use Rattle.std.proofs.Common.{◌≡◌, ◌≢◌, ◌⊎◌, inl, inr, ℕ, ◌+◌, ◌<◌, ◌≤◌, List, [], ◌∷◌, length, get_or, set, map, Option, Some, None, Result, Ok, Err, refl, sym, ap, ◌∙◌, subst, arith}
 use Rattle.std.proofs.Math.Nat.{eq-or-lt_of_le}
 use Rattle.addr2line_resolved.specs.Error.{Error}
 use Rattle.addr2line_resolved.specs.Error.TheVariants.{Memory}
@@ -9,33 +9,18 @@ use Rattle.addr2line_resolved.specs.UnitRange.{UnitRange}
 use Rattle.addr2line_resolved.specs.ResolvedUnits.{ResolvedUnit, KeepsLines, value_of_unit, plain_unit}
 use Rattle.addr2line_lookups.specs.KeptUnits.{KeepsAt, KeepsMore, KeepsAsked, ReadsAsked, ReadsNoLines, AsksAmong, AsksForLines, row_at_number, check_at}
 use Rattle.addr2line_lookups.proofs.KeptLines.{same_plain, keeps_past}
+use Rattle.addr2line_lookups.proofs.UnitChanges.{changes_one, held_before, changes_none, changes_nothing, changes_after, changes_more, changes_both}
 
 -- ---- one unit
 
-step_on : {A : Type 0} (n k : ℕ) → A ⊎ (n ≡ k) → A ⊎ (suc n ≡ suc k)
-step_on n k (inl x) = inl x
-step_on n k (inr is) = inr (ap suc is)
-
 -- one that is put back
 pub reads_set : (us : List ResolvedUnit) (k : ℕ) (new : ResolvedUnit) → ReadsAsked (λ n. n ≡ k) us (set us k new)
-reads_set [] k new n kept = inl kept
-reads_set (v ∷ us) zero new zero kept = inr refl
-reads_set (v ∷ us) zero new (suc n) kept = inl kept
-reads_set (v ∷ us) (suc k) new zero kept = inl kept
-reads_set (v ∷ us) (suc k) new (suc n) kept = step_on n k (reads_set us k new n kept)
-
-no_lines_put : (us : List ResolvedUnit) (k : ℕ) (u new : ResolvedUnit) → u ≡ get_or us k u
-    → new.keeps_lines ≡ u.keeps_lines → ReadsNoLines us (set us k new)
-no_lines_put [] k u new is same n kept = kept
-no_lines_put (v ∷ us) zero u new is same zero kept = subst KeepsLines is (sym same ∙ kept)
-no_lines_put (v ∷ us) zero u new is same (suc n) kept = kept
-no_lines_put (v ∷ us) (suc k) u new is same zero kept = kept
-no_lines_put (v ∷ us) (suc k) u new is same (suc n) kept = no_lines_put us k u new is same n kept
+reads_set us k new = changes_one KeepsLines us k new
 
 -- one whose lines weren't read
 pub no_lines_set : (us : List ResolvedUnit) (k : ℕ) (u : ResolvedUnit) → u ≡ get_or us k u → (new : ResolvedUnit)
     → new.keeps_lines ≡ u.keeps_lines → ReadsNoLines us (set us k new)
-no_lines_set us k u is new same = no_lines_put us k u new is same
+no_lines_set us k u is new same = held_before KeepsLines us k u new is (λ kept. sym same ∙ kept)
 
 -- ---- one change after the other
 
@@ -46,34 +31,26 @@ pub no_lines_both : (us vs ws : List ResolvedUnit) → ReadsNoLines us vs → Re
 no_lines_both us vs ws first then n kept = first n (then n kept)
 
 pub reads_none : (asks : ℕ → Type 0) (us : List ResolvedUnit) → ReadsAsked asks us us
-reads_none asks us n kept = inl kept
+reads_none = changes_none KeepsLines
 
 -- where no lines were read
 pub reads_nothing : (asks : ℕ → Type 0) (us vs : List ResolvedUnit) → ReadsNoLines us vs → ReadsAsked asks us vs
-reads_nothing asks us vs none n kept = inl (none n kept)
+reads_nothing = changes_nothing KeepsLines
 
 -- or weren't before
 pub reads_after : (asks : ℕ → Type 0) (us vs ws : List ResolvedUnit) → ReadsNoLines us vs → ReadsAsked asks vs ws
     → ReadsAsked asks us ws
-reads_after asks us vs ws none reads n kept = by (reads n kept)
-  where
-    by : KeepsAt vs n ⊎ asks n → KeepsAt us n ⊎ asks n
-    by (inl before) = inl (none n before)
-    by (inr asked) = inr asked
+reads_after = changes_after KeepsLines
 
 -- where lines of units that are asked are read last
 pub reads_more : (asks here : ℕ → Type 0) (us vs ws : List ResolvedUnit) → ((n : ℕ) → here n → asks n)
     → ReadsAsked asks us vs → ReadsAsked here vs ws → ReadsAsked asks us ws
-reads_more asks here us vs ws are_asked first reads n kept = by (reads n kept)
-  where
-    by : KeepsAt vs n ⊎ here n → KeepsAt us n ⊎ asks n
-    by (inl before) = first n before
-    by (inr is) = inr (are_asked n is)
+reads_more = changes_more KeepsLines
 
 -- where those of one are
 pub reads_both : (asks : ℕ → Type 0) (us vs ws : List ResolvedUnit) (k : ℕ) → asks k → ReadsAsked asks us vs
     → ReadsAsked (λ n. n ≡ k) vs ws → ReadsAsked asks us ws
-reads_both asks us vs ws k asked = reads_more asks (λ n. n ≡ k) us vs ws (λ n is. subst asks (sym is) asked)
+reads_both = changes_both KeepsLines
 
 -- ---- one unit after the other
 

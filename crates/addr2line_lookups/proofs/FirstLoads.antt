@@ -1,5 +1,5 @@
 -- The first of the loads of ranges of units.
-use Rattle.std.proofs.Common.{◌≡◌, true, false, List, [], ◌∷◌, Option, Some, None, Result, Ok, Err, option_map, sym, ap, ◌∙◌}
+use Rattle.std.proofs.Common.{◌≡◌, true, false, List, [], ◌∷◌, Option, Some, None, Result, Ok, Err, option_map, refl, sym, ap, ◌∙◌}
 use Rattle.std.specs.Prelude.{is_some}
 use Rattle.std.specs.List.{cons_option}
 use Rattle.addr2line_resolved.specs.Error.{Error}
@@ -8,6 +8,10 @@ use Rattle.addr2line_resolved.specs.UnitRange.{UnitRange}
 use Rattle.addr2line_resolved.specs.ResolvedUnits.{AnsweredUnit}
 use Rattle.addr2line_lookups.specs.Preloads.{numbered_load, load_at, loads_at, first_number, first_load}
 
+no_item : (o : Option PendingLoad) (rest : List PendingLoad) → cons_option o rest ≡ [] → (o ≡ None) × (rest ≡ [])
+no_item None rest none = (refl, none)
+no_item (Some p) rest none = absurd cc
+
 module _ (vs : List AnsweredUnit) (r : UnitRange) (old rest : List UnitRange) (is : old ≡ r ∷ rest) where
   loads_from : loads_at vs old ≡ cons_option (load_at vs r.unit) (loads_at vs rest)
   loads_from = ap (loads_at vs) is
@@ -15,6 +19,10 @@ module _ (vs : List AnsweredUnit) (r : UnitRange) (old rest : List UnitRange) (i
   -- a unit without a load
   pub loads_further : load_at vs r.unit ≡ None → loads_at vs old ≡ loads_at vs rest
   loads_further none = loads_from ∙ ap (λ o. cons_option o (loads_at vs rest)) none
+
+  -- where there are no loads, the first unit has none, and neither have the others
+  pub none_here : loads_at vs old ≡ [] → (load_at vs r.unit ≡ None) × (loads_at vs rest ≡ [])
+  none_here none = no_item (load_at vs r.unit) (loads_at vs rest) (sym loads_from ∙ none)
 
   module _ (load : SplitLoad) (here : Some (numbered_load r.unit load) ≡ load_at vs r.unit) where
     first_of_all : loads_at vs old ≡ numbered_load r.unit load ∷ loads_at vs rest

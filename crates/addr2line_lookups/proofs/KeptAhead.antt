@@ -6,12 +6,12 @@ use Rattle.addr2line_resolved.specs.Error.{Error}
 use Rattle.addr2line_resolved.specs.Error.TheVariants.{Memory}
 use Rattle.addr2line_resolved.specs.KeptFunctions.{kept_at, count_of_functions}
 use Rattle.addr2line_resolved.specs.ResolvedUnits.{AnsweredUnit, ResolvedUnit, value_of_unit, functions_of}
-use Rattle.addr2line_lookups.specs.KeptUnits.{KeepsFunctionList, KeepsFunctionCalls, KeepMoreFunctions}
+use Rattle.addr2line_lookups.specs.KeptUnits.{KeepsFunctionList, KeepsFunctionCalls, KeepMoreFunctions, KeepsFunctionsAt}
 use Rattle.addr2line_lookups.specs.FunctionPlaces.{KeepsCallsAt}
-use Rattle.addr2line_lookups.specs.UnitParses.{without_load, check_functions_of, ChecksOrNoMemory, after_turn_of, after_turn, check_unit_at, KeepsFunctionsAt, KeepAllFunctions, AsksForFunctions, KeepsAllCalls, KeepsAllCallsAt, KeepAllCalls}
+use Rattle.addr2line_lookups.specs.UnitParses.{without_load, check_functions_of, ChecksOrNoMemory, after_turn_of, after_turn, check_unit_at, KeepAllFunctions, AsksForFunctions, KeepsAllCalls, KeepsAllCallsAt, KeepAllCalls}
 use Rattle.addr2line_lookups.proofs.UnitTurns.{no_functions_past}
 use Rattle.addr2line_lookups.proofs.CallsOfUnits.{value_here}
-use Rattle.addr2line_lookups.proofs.KeptCallsAt.{one_further}
+use Rattle.addr2line_lookups.proofs.KeptCallsAt.{one_further, of_all}
 
 -- ---- functions
 
@@ -31,11 +31,8 @@ functions_further us vs k before more here =
     one_further (KeepsFunctionsAt vs) k (λ n below. more.functions n (before n below)) here
 
 pub functions_of_all : (us : List ResolvedUnit) (k : ℕ) → FunctionsBelow k us → length us ≤ k → KeepAllFunctions us
-functions_of_all us k before past n = by (cases_lt n k)
-  where
-    by : (n < k) ⊎ (k ≤ n) → KeepsFunctionsAt us n
-    by (inl below) = before n below
-    by (inr most) = no_functions_past us n (omega (arith, past, most))
+functions_of_all us k before past =
+    of_all (KeepsFunctionsAt us) k before (λ n most. no_functions_past us n (omega (arith, past, most)))
 
 -- where those of a unit are refused
 pub functions_refused : (us vs : List ResolvedUnit) (k : ℕ) (e : Error) → FunctionsBelow k us → KeepMoreFunctions us vs
@@ -97,7 +94,8 @@ calls_of_unit us vs n u below is same many f count past functions calls =
         ap (λ (v : AnsweredUnit). count_of_functions (functions_of v)) value ∙ sym count in (
           list,
           λ k less.
-              let less_many : k < many = subst (λ m. k < m) count_here less in called k (omega (arith, less_many, past)),
+              let less_many : k < many = subst (λ m. k < m) count_here less in
+              called k (omega (arith, less_many, past)),
         )
 
 -- there are none past the last unit
@@ -141,7 +139,8 @@ kept_still us vs k n less turn more kept =
     by (Some u) (Some w) found list calls before =
         let here : Some w.value ≡ Some u.value = found in
         let value : w.value ≡ u.value = cc in
-        let P : AnsweredUnit → Type 0 = λ v. (f : ℕ) → f < count_of_functions (functions_of v) → KeepsFunctionCalls f w in
+        let P : AnsweredUnit → Type 0 =
+        λ v. (f : ℕ) → f < count_of_functions (functions_of v) → KeepsFunctionCalls f w in
         (list before.0, subst P (sym value) (λ f below. calls f (before.1 f below)))
 
 -- those of the units before a number are kept
@@ -155,8 +154,5 @@ units_further us vs k before turn more here =
     one_further (KeepsAllCallsAt vs) k (λ n below. kept_still us vs k n below turn more (before n below)) here
 
 pub calls_of_all : (us : List ResolvedUnit) (k : ℕ) → UnitsBelow k us → length us ≤ k → KeepAllCalls us
-calls_of_all us k before past n = by (cases_lt n k)
-  where
-    by : (n < k) ⊎ (k ≤ n) → KeepsAllCallsAt us n
-    by (inl below) = before n below
-    by (inr most) = no_calls_past us n (omega (arith, past, most))
+calls_of_all us k before past =
+    of_all (KeepsAllCallsAt us) k before (λ n most. no_calls_past us n (omega (arith, past, most)))

@@ -7,9 +7,10 @@ use Rattle.addr2line_resolved.specs.InlinedCalls.{FunctionCalls}
 use Rattle.addr2line_resolved.specs.EntryReferences.{KnownUnits}
 use Rattle.addr2line_resolved.specs.KeptFunctions.{kept_at, count_of_functions}
 use Rattle.addr2line_resolved.specs.ResolvedUnits.{AnsweredUnit, ResolvedUnit, value_of_unit, functions_of, IsKeptOf}
+use Rattle.addr2line_lookups.specs.KeptUnits.{KeepsFunctionsAt}
 use Rattle.addr2line_lookups.specs.KeptCalls.{known_among, calls_among, HoldCalls}
 use Rattle.addr2line_lookups.specs.FunctionPlaces.{KeepsCallsAt}
-use Rattle.addr2line_lookups.specs.UnitParses.{refusal_of, ChecksOrNoMemory, check_call_of, check_if_any, check_unit_at, check_functions_of, check_calls_of, KeepsFunctionsAt}
+use Rattle.addr2line_lookups.specs.UnitParses.{refusal_of, ChecksOrNoMemory, check_call_of, check_if_any, check_unit_at, check_functions_of, check_calls_of}
 use Rattle.addr2line_lookups.proofs.CallsLeft.{known_same}
 use Rattle.addr2line_lookups.proofs.CallsOfUnits.{if_here, holds_here}
 use Rattle.addr2line_lookups.proofs.UnitTurns.{check_before}
@@ -52,6 +53,14 @@ one_further P n before here m below = by (cases_lt m n)
     by : (m < n) ⊎ (n ≤ m) → P m
     by (inl less) = before m less
     by (inr most) = let same : n ≡ m = omega (arith, most, below) in subst P same here
+
+-- what holds below a number, and from there on
+pub of_all : (P : ℕ → Type 0) (n : ℕ) → ((m : ℕ) → m < n → P m) → ((m : ℕ) → n ≤ m → P m) → (m : ℕ) → P m
+of_all P n before past m = by (cases_lt m n)
+  where
+    by : (m < n) ⊎ (n ≤ m) → P m
+    by (inl less) = before m less
+    by (inr most) = past m most
 
 -- a refusal of its functions is one of a unit's calls
 pub functions_refuse_at : (known : KnownUnits) (vs : List AnsweredUnit) (n : ℕ) (e : Error)

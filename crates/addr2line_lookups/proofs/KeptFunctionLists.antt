@@ -1,10 +1,11 @@
--- Functions and calls that are kept stay kept, whatever is read.
+-- Functions and calls that are kept stay kept, whatever is read; and where no functions are read.
 use Rattle.std.proofs.Common.{◌≡◌, ℕ, zero, suc, true, cond, List, [], ◌∷◌, set, get_or, Option, Some, is_some, Result, Ok, Err, OnOk, OnErr, refl, sym, ap, ◌∙◌, subst}
 use Rattle.addr2line_resolved.specs.Error.{Error}
 use Rattle.addr2line_resolved.specs.InlinedCalls.{FunctionCalls}
 use Rattle.addr2line_resolved.specs.KeptFunctions.{kept_at, calls_of_none, count_of_functions}
 use Rattle.addr2line_resolved.specs.ResolvedUnits.{ResolvedUnit, functions_of, with_functions, with_calls}
-use Rattle.addr2line_lookups.specs.KeptUnits.{HoldsStill, KeepsFunctionList, KeepsFunctionCalls, KeepsMoreFunctions, KeepMoreFunctions}
+use Rattle.addr2line_lookups.specs.KeptUnits.{HoldsStill, KeepsFunctionList, KeepsFunctionCalls, KeepsMoreFunctions, KeepMoreFunctions, ReadsNoFunctions}
+use Rattle.addr2line_lookups.proofs.UnitChanges.{held_before}
 
 -- ---- one unit
 
@@ -93,3 +94,15 @@ functions_put us n u new is more = record {
   functions = holds_put KeepsFunctionList us n u new is more.functions;
   calls = λ k. holds_put (KeepsFunctionCalls k) us n u new is (more.calls k);
 }
+
+-- one whose functions weren't read
+pub no_functions_set : (us : List ResolvedUnit) (n : ℕ) (u : ResolvedUnit) → u ≡ get_or us n u → (new : ResolvedUnit)
+    → new.keeps_functions ≡ u.keeps_functions → ReadsNoFunctions us (set us n new)
+no_functions_set us n u is new same = held_before KeepsFunctionList us n u new is (λ kept. sym same ∙ kept)
+
+pub no_functions_none : (us : List ResolvedUnit) → ReadsNoFunctions us us
+no_functions_none us n kept = kept
+
+pub no_functions_both : (us vs ws : List ResolvedUnit) → ReadsNoFunctions us vs → ReadsNoFunctions vs ws
+    → ReadsNoFunctions us ws
+no_functions_both us vs ws first then n kept = first n (then n kept)

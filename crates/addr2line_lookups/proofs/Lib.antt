@@ -30,6 +30,7 @@ pub mod LookupProbes
 pub mod SettledUnits
 pub mod FirstLoads
 pub mod PassedUnits
+pub mod UnitChanges
 pub mod AskedLines
 pub mod AskedStretches
 pub mod RangeUnits

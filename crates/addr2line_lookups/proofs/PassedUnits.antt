@@ -1,4 +1,5 @@
--- A lookup of an address goes on from an index: the units before it know nothing, whatever loads are answered.
+-- A lookup of an address goes on from an index: the units before it know nothing, whatever loads are answered, and keep
+-- their functions.
 use Rattle.std.proofs.Common.{◌≡◌, inl, inr, ℕ, zero, suc, ◌+◌, ◌<◌, ◌≤◌, ◌^◌, Bool, true, false, cond, ◌&&◌, nat_lt, nat_le, List, [], ◌∷◌, ◌++◌, All, drop, set, slice_get, Option, Some, None, option_map, option_and_then, Result, refl, sym, ap, ◌∙◌, subst, arith, append_assoc}
 use Rattle.std.proofs.lemmas.Bool.Decides.{nat_tests}
 use Rattle.std.proofs.lemmas.List.Elements.{All-nil, All-head, All-tail, All-push, All-weaker, filter_agree, filter_passes}
@@ -11,12 +12,13 @@ use Rattle.addr2line_resolved.specs.Range.{Range}
 use Rattle.addr2line_resolved.specs.UnitRange.{UnitRange}
 use Rattle.addr2line_resolved.specs.NumberedRanges.{covering_ranges, overlapping_ranges}
 use Rattle.addr2line_resolved.specs.FirstAnswers.{SplitLoad, PendingLoad, Lookup, output, answer_of}
-use Rattle.addr2line_resolved.specs.ResolvedUnits.{AnsweredUnit, pending_load}
+use Rattle.addr2line_resolved.specs.ResolvedUnits.{AnsweredUnit, ResolvedUnit, pending_load}
+use Rattle.addr2line_lookups.specs.KeptUnits.{KeepsFunctionsAt, KeepMoreFunctions}
 use Rattle.addr2line_lookups.specs.Preloads.{numbered_load, load_at, loads_at}
 use Rattle.addr2line_lookups.specs.LoadAnswers.{AnswersOrNoMemory, unit_after, answer_among, answer_at}
 use Rattle.addr2line_lookups.specs.LookupCosts.{probes_among}
 use Rattle.addr2line_lookups.specs.UnitLookups.{unless_waiting, ask_if_any, ask_at, first_asked}
-use Rattle.addr2line_lookups.specs.PassedUnits.{ComesNext, KnowsNothing, Pass, AsksUntil}
+use Rattle.addr2line_lookups.specs.PassedUnits.{ComesNext, Passed, KeepsFunctionsOf, PassedAreKept, KnowsNothing, Pass, AsksUntil}
 use Rattle.addr2line_lookups.proofs.AnsweredLoads.{set_same, decided_stays}
 use Rattle.addr2line_lookups.proofs.FirstLoads.{loads_further}
 use Rattle.addr2line_lookups.proofs.SettledUnits.{first_passes}
@@ -80,6 +82,49 @@ last_is_free a r rs rest last end h =
     (subst (All (λ (q : UnitRange). holds a q.range ≡ true)) h (filter_passes (λ (q : UnitRange). holds a q.range) rs))
     in grind (arith, nat_tests, over, last, end)
 
+-- ---- before an index
+
+module _ (a : ℕ) (rs : List UnitRange) where
+  module _ (P : UnitRange → Type 0) where
+    -- the first
+    passed_none : Passed P a 0 rs
+    passed_none = record { passed = []; are_first = refl; hold = All-nil P }
+
+    -- a further one
+    passed_next : (from number next : ℕ) (h : Passed P a from rs) (comes : ComesNext a from rs number next)
+        → P (record { range = comes.0; unit = number }) → Passed P a next rs
+    passed_next from number next h comes here =
+        let r : UnitRange = record { range = comes.0; unit = number } in record {
+          passed = h.passed ++ r ∷ [];
+          are_first =
+              h.are_first ∙ ap (λ l. h.passed ++ l) comes.1
+              ∙ sym (append_assoc h.passed (r ∷ []) (covering_ranges a (drop next rs)));
+          hold = All-push P h.passed r h.hold here;
+        }
+
+    passed_weaker : (Q : UnitRange → Type 0) (from : ℕ) → ((r : UnitRange) → P r → Q r) → Passed P a from rs
+        → Passed Q a from rs
+    passed_weaker Q from weaker h =
+        record { passed = h.passed; are_first = h.are_first; hold = All-weaker P Q weaker h.passed h.hold }
+
+  -- ---- units whose functions are kept
+
+  pub kept_none : (us : List ResolvedUnit) → PassedAreKept us a 0 rs
+  kept_none us = passed_none (KeepsFunctionsOf us)
+
+  -- functions that are kept are kept still
+  pub kept_still : (us vs : List ResolvedUnit) (from : ℕ) → KeepMoreFunctions us vs → PassedAreKept us a from rs
+      → PassedAreKept vs a from rs
+  kept_still us vs from more =
+      passed_weaker (KeepsFunctionsOf us) (KeepsFunctionsOf vs) from (λ (r : UnitRange). more.functions r.unit)
+
+  -- with those of one more
+  pub kept_next : (us vs : List ResolvedUnit) (from number next : ℕ) → KeepMoreFunctions us vs
+      → PassedAreKept us a from rs → ComesNext a from rs number next → KeepsFunctionsAt vs number
+      → PassedAreKept vs a next rs
+  kept_next us vs from number next more kept comes here =
+      passed_next (KeepsFunctionsOf vs) from number next (kept_still us vs from more kept) comes here
+
 -- ---- units that know nothing
 
 module _ {A : Type 0} (ask : AnsweredUnit → A) (nothing : A) where
@@ -89,7 +134,7 @@ module _ {A : Type 0} (ask : AnsweredUnit → A) (nothing : A) where
   no_load (Some p) x y h = absurd cc
 
   module _ (vs : List AnsweredUnit) where
-    has_no_load : (r : UnitRange) → KnowsNothing ask nothing vs r → load_at vs r.unit ≡ None
+    pub has_no_load : (r : UnitRange) → KnowsNothing ask nothing vs r → load_at vs r.unit ≡ None
     has_no_load r h = no_load (load_at vs r.unit) (ask_if_any ask nothing (slice_get vs r.unit)) nothing h
 
     -- a lookup goes on after them
@@ -121,25 +166,17 @@ module _ {A : Type 0} (ask : AnsweredUnit → A) (nothing : A) where
           asked_past rs rest n (All-tail (KnowsNothing ask nothing vs) r rs h) asked,
         )
 
-    -- ---- before an index
-
     module _ (a : ℕ) (rs : List UnitRange) where
       -- the first
       pub pass_none : Pass ask nothing vs a 0 rs
-      pass_none = record { passed = []; are_first = refl; know_nothing = All-nil (KnowsNothing ask nothing vs) }
+      pass_none = passed_none a rs (KnowsNothing ask nothing vs)
 
       module _ (from : ℕ) (pass : Pass ask nothing vs a from rs) where
         -- a further one
         pub pass_next : (number next : ℕ) → ComesNext a from rs number next
             → ask_at ask nothing vs number ≡ output nothing → Pass ask nothing vs a next rs
         pass_next number next comes here =
-            let r : UnitRange = record { range = comes.0; unit = number } in record {
-              passed = pass.passed ++ r ∷ [];
-              are_first =
-                  pass.are_first ∙ ap (λ l. pass.passed ++ l) comes.1
-                  ∙ sym (append_assoc pass.passed (r ∷ []) (covering_ranges a (drop next rs)));
-              know_nothing = All-push (KnowsNothing ask nothing vs) pass.passed r pass.know_nothing here;
-            }
+            passed_next a rs (KnowsNothing ask nothing vs) from number next pass comes here
 
         -- that of the next range is asked
         pub asked_next : (number next : ℕ) → ComesNext a from rs number next
@@ -147,7 +184,7 @@ module _ {A : Type 0} (ask : AnsweredUnit → A) (nothing : A) where
         asked_next number next comes =
             let P : List UnitRange → Type 0 = λ qs. AsksUntil ask nothing vs qs number in
             subst P (sym pass.are_first)
-            (asked_past pass.passed (covering_ranges a (drop from rs)) number pass.know_nothing
+            (asked_past pass.passed (covering_ranges a (drop from rs)) number pass.hold
             (subst P (sym comes.1) (inl refl)))
 
         pub asked_from : (is_something : A → Bool) → is_something nothing ≡ false
@@ -155,12 +192,12 @@ module _ {A : Type 0} (ask : AnsweredUnit → A) (nothing : A) where
             ≡ first_asked is_something ask nothing vs (covering_ranges a (drop from rs))
         asked_from is_something none =
             ap (first_asked is_something ask nothing vs) pass.are_first
-            ∙ asked_after is_something none pass.passed (covering_ranges a (drop from rs)) pass.know_nothing
+            ∙ asked_after is_something none pass.passed (covering_ranges a (drop from rs)) pass.hold
 
         pub loads_from : loads_at vs (covering_ranges a rs) ≡ loads_at vs (covering_ranges a (drop from rs))
         loads_from =
             ap (loads_at vs) pass.are_first
-            ∙ loads_after pass.passed (covering_ranges a (drop from rs)) pass.know_nothing
+            ∙ loads_after pass.passed (covering_ranges a (drop from rs)) pass.hold
 
         -- there are no more looks
         pub probes_from : (probes : ℕ → ℕ)
@@ -176,14 +213,9 @@ module _ {A : Type 0} (ask : AnsweredUnit → A) (nothing : A) where
         -- other units of which the decided ones are the same
         pub pass_same : (ws : List AnsweredUnit)
             → ((n : ℕ) → load_at vs n ≡ None → slice_get ws n ≡ slice_get vs n) → Pass ask nothing ws a from rs
-        pass_same ws same = record {
-          passed = pass.passed;
-          are_first = pass.are_first;
-          know_nothing =
-              All-weaker (KnowsNothing ask nothing vs) (KnowsNothing ask nothing ws)
-              (λ (r : UnitRange) h. ap (asked_at r.unit) (same r.unit (has_no_load r h)) ∙ h) pass.passed
-              pass.know_nothing;
-        }
+        pass_same ws same =
+            passed_weaker a rs (KnowsNothing ask nothing vs) (KnowsNothing ask nothing ws) from
+            (λ (r : UnitRange) h. ap (asked_at r.unit) (same r.unit (has_no_load r h)) ∙ h) pass
           where
             asked_at : ℕ → Option AnsweredUnit → Lookup A
             asked_at n o =

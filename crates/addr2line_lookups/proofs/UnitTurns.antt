@@ -4,7 +4,8 @@ use Rattle.std.proofs.lemmas.List.{map-set}
 use Rattle.std.proofs.lemmas.Option.{slice_get-map, slice_get-get_or, slice_get_past}
 use Rattle.addr2line_resolved.specs.Error.{Error}
 use Rattle.addr2line_resolved.specs.ResolvedUnits.{AnsweredUnit, ResolvedUnit, value_of_unit}
-use Rattle.addr2line_lookups.specs.UnitParses.{without_load, ChecksOrNoMemory, after_turn_of, after_turn, check_if_any, check_unit_at, KeepsFunctionsAt}
+use Rattle.addr2line_lookups.specs.KeptUnits.{KeepsFunctionsAt}
+use Rattle.addr2line_lookups.specs.UnitParses.{without_load, ChecksOrNoMemory, after_turn_of, after_turn, check_if_any, check_unit_at}
 
 pub set_here : {A : Type 0} (xs : List A) (n : ℕ) (x : A) → n < length xs → slice_get (set xs n x) n ≡ Some x
 set_here [] n x below = absurd (omega (arith, below))

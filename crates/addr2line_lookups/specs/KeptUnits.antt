@@ -51,7 +51,20 @@ IsUnitOf (r ∷ rs) number = (number ≡ r.unit) ⊎ IsUnitOf rs number
 abbrev pub KeepsFunctionList : ResolvedUnit → Type 0
 KeepsFunctionList u = u.keeps_functions ≡ true
 
--- so are the calls of one of them
+-- those of the unit of a number, if there is such a unit
+abbrev pub KeepsFunctionsAt : List ResolvedUnit → ℕ → Type 0
+KeepsFunctionsAt us number = IfSome (slice_get us number) KeepsFunctionList
+
+-- functions that are kept were kept before, or are those of units that a call asks
+abbrev pub ReadsAskedFunctions : (ℕ → Type 0) → List ResolvedUnit → List ResolvedUnit → Type 0
+ReadsAskedFunctions asks old new =
+    (number : ℕ) → KeepsFunctionsAt new number → KeepsFunctionsAt old number ⊎ asks number
+
+-- no functions were read
+abbrev pub ReadsNoFunctions : List ResolvedUnit → List ResolvedUnit → Type 0
+ReadsNoFunctions old new = HoldsStill KeepsFunctionList new old
+
+-- the calls of one of a unit's functions were read and are kept, be it a refusal
 abbrev pub KeepsFunctionCalls : ℕ → ResolvedUnit → Type 0
 KeepsFunctionCalls function u =
     KeepsFunctionList u × (is_some (kept_at u.calls function) ≡ true)
@@ -93,8 +106,8 @@ abbrev pub location_of_unit_row : List ContextUnit → UnitRow → Option Locati
 location_of_unit_row units r =
     option_and_then (λ u. location_of_row r.row u.lines) (slice_get units r.unit)
 
--- The place of an address is that of the row that was found, which is one of a unit's lines; there is
--- none where none was found.
+-- The place of an address is that of the row that was found, which is one of a unit's lines; there
+-- is none where none was found.
 abbrev pub FindsRow : List ContextUnit → ℕ → Result (Option UnitRow) Error → Type 0
 FindsRow units a (Ok None) = location_at ranges_of lines_of units a ≡ Ok None
 FindsRow units a (Ok (Some r)) =

@@ -7,8 +7,8 @@ use Rattle.addr2line_resolved.specs.NumberedRanges.{covering_ranges}
 use Rattle.addr2line_resolved.specs.FirstAnswers.{output}
 use Rattle.addr2line_resolved.specs.EntryReferences.{KnownUnits}
 use Rattle.addr2line_resolved.specs.ResolvedUnits.{AnsweredUnit, ResolvedUnit, value_of_unit}
+use Rattle.addr2line_lookups.specs.KeptUnits.{KeepsFunctionsAt}
 use Rattle.addr2line_lookups.specs.Preloads.{load_at, loads_at}
-use Rattle.addr2line_lookups.specs.UnitParses.{KeepsFunctionsAt}
 use Rattle.addr2line_lookups.specs.FramePlaces.{frames_of_answered}
 use Rattle.addr2line_lookups.specs.UnitLookups.{ask_at, unit_of_answered}
 
@@ -20,17 +20,29 @@ ComesNext a from rs number next =
     × (covering_ranges a (drop from rs)
     ≡ record { range = range; unit = number } ∷ covering_ranges a (drop next rs))
 
+-- All ranges over an address before an index are so.
+pub record Passed (P : UnitRange → Type 0) (a from : ℕ) (rs : List UnitRange) : Type 0 where
+  pub passed : List UnitRange
+  pub are_first : covering_ranges a rs ≡ passed ++ covering_ranges a (drop from rs)
+  pub hold : All P passed
+
+-- the functions of the unit of a range are kept
+abbrev pub KeepsFunctionsOf : List ResolvedUnit → UnitRange → Type 0
+KeepsFunctionsOf us r = KeepsFunctionsAt us r.unit
+
+-- so are those of all units with a range over an address before an index
+abbrev pub PassedAreKept : List ResolvedUnit → ℕ → ℕ → List UnitRange → Type 0
+PassedAreKept us a from rs = Passed (KeepsFunctionsOf us) a from rs
+
 -- the unit of a range is decided, and knows nothing of what is asked
 abbrev pub KnowsNothing : {A : Type 0} → (AnsweredUnit → A) → A → List AnsweredUnit → UnitRange
     → Type 0
 KnowsNothing ask nothing vs r = ask_at ask nothing vs r.unit ≡ output nothing
 
--- So are all units with a range over an address before an index.
-pub record Pass {A : Type 0} (ask : AnsweredUnit → A) (nothing : A) (vs : List AnsweredUnit)
-    (a from : ℕ) (rs : List UnitRange) : Type 0 where
-  pub passed : List UnitRange
-  pub are_first : covering_ranges a rs ≡ passed ++ covering_ranges a (drop from rs)
-  pub know_nothing : All (KnowsNothing ask nothing vs) passed
+-- so are all units with a range over an address before an index
+abbrev pub Pass : {A : Type 0} → (AnsweredUnit → A) → A → List AnsweredUnit → ℕ → ℕ
+    → List UnitRange → Type 0
+Pass ask nothing vs a from rs = Passed (KnowsNothing ask nothing vs) a from rs
 
 -- a lookup of frames goes on from an index
 abbrev pub PassFrames : KnownUnits → List AnsweredUnit → ℕ → ℕ → List UnitRange → Type 0

@@ -9,7 +9,7 @@ use Rattle.addr2line_resolved.specs.InlinedCalls.{calls_of_function}
 use Rattle.addr2line_resolved.specs.EntryReferences.{KnownUnits}
 use Rattle.addr2line_resolved.specs.KeptFunctions.{count_of_functions}
 use Rattle.addr2line_resolved.specs.ResolvedUnits.{AnsweredUnit, ResolvedUnit, value_of_unit, main_unit, first_answer, unit_of_functions, functions_of, with_unit_answer}
-use Rattle.addr2line_lookups.specs.KeptUnits.{KeepsFunctionList, KeepsFunctionCalls}
+use Rattle.addr2line_lookups.specs.KeptUnits.{KeepsFunctionList, KeepsFunctionCalls, KeepsFunctionsAt}
 use Rattle.addr2line_lookups.specs.KeptCalls.{naming_from, calls_among}
 
 -- ---- one unit
@@ -58,11 +58,7 @@ abbrev pub check_unit_at : (AnsweredUnit → Result (Unit {0}) Error) → List A
     → Result (Unit {0}) Error
 check_unit_at check vs number = check_if_any check (slice_get vs number)
 
--- the functions of the unit of a number are kept
-abbrev pub KeepsFunctionsAt : List ResolvedUnit → ℕ → Type 0
-KeepsFunctionsAt us number = IfSome (slice_get us number) KeepsFunctionList
-
--- so are those of all units
+-- the functions of all units are kept
 abbrev pub KeepAllFunctions : List ResolvedUnit → Type 0
 KeepAllFunctions us = (number : ℕ) → KeepsFunctionsAt us number
 

@@ -8,10 +8,9 @@ ghost use Rattle.addr2line_resolved.specs.BorrowedLocations.{location_value};
 ghost use Rattle.addr2line_resolved.specs.Lines.{row_location};
 ghost use Rattle.addr2line_resolved.specs.ResolvedUnits.{value_of_unit};
 ghost use Rattle.addr2line_lookups.specs.Preloads.{load_at};
-ghost use Rattle.addr2line_lookups.specs.KeptUnits.{KeepsAt, ReadsAsked};
+ghost use Rattle.addr2line_lookups.specs.KeptUnits.{KeepsAt, ReadsAsked, KeepsFunctionsAt, ReadsAskedFunctions};
 ghost use Rattle.addr2line_lookups.specs.KeptCalls.{known_among, HoldCalls};
 ghost use Rattle.addr2line_lookups.specs.FramePlaces.{place_if_any, frames_at_number, frames_in_unit, frames_at_place, FindsFrames};
-ghost use Rattle.addr2line_lookups.specs.UnitParses.{KeepsFunctionsAt};
 ghost use Rattle.addr2line_lookups.specs.LookupCosts.{AtMostLooks, frame_probes_at};
 
 use crate::function_place::find_function_at;
@@ -68,6 +67,7 @@ fn find_place_at<R: Reader>(
         (frame_probes_at (known_among units.old.items supplement_units.now)
         (map value_of_unit units.old.items) probe number) units.old.items units.new.items }
     ensures reads { ReadsAsked (λ n. n ≡ number) units.old.items units.new.items }
+    ensures functions { ReadsAskedFunctions (λ n. n ≡ number) units.old.items units.new.items }
     ensures kept { result ≢ Err Memory → KeepsFunctionsAt units.new.items number }
 {
     let function = find_function_at(alloc, units, supplement_units, number, probe)?;
@@ -97,6 +97,7 @@ pub(crate) fn find_frames_at<R: Reader>(
         (frame_probes_at (known_among units.old.items supplement_units.now)
         (map value_of_unit units.old.items) probe number) units.old.items units.new.items }
     ensures reads { ReadsAsked (λ n. n ≡ number) units.old.items units.new.items }
+    ensures functions { ReadsAskedFunctions (λ n. n ≡ number) units.old.items units.new.items }
     ensures kept { result ≢ Err Memory → KeepsFunctionsAt units.new.items number }
 {
     if number >= units.len() {

@@ -8,10 +8,9 @@ ghost use Rattle.addr2line_resolved.specs.OrderedUnits.{AreKnownInOrder};
 ghost use Rattle.addr2line_resolved.specs.KeptFunctions.{number_in, number_probes};
 ghost use Rattle.addr2line_resolved.specs.ResolvedUnits.{functions_of, pending_load, value_of_unit};
 ghost use Rattle.addr2line_lookups.specs.Preloads.{load_at};
-ghost use Rattle.addr2line_lookups.specs.KeptUnits.{ReadsNoLines};
+ghost use Rattle.addr2line_lookups.specs.KeptUnits.{ReadsNoLines, KeepsFunctionsAt, ReadsAskedFunctions};
 ghost use Rattle.addr2line_lookups.specs.KeptCalls.{known_among, calls_among, HoldCalls, LeavesCallsOf, LeavesCalls};
 ghost use Rattle.addr2line_lookups.specs.FunctionPlaces.{HasFunction, HasFunctionAt, KeepsCallsAt, count_at, function_number_at, function_calls_at, function_with_calls_at, chain_of, FindsCalls, FindsFunction};
-ghost use Rattle.addr2line_lookups.specs.UnitParses.{KeepsFunctionsAt};
 ghost use Rattle.addr2line_lookups.specs.LookupCosts.{AtMostLooks, AtMostLooksOf, number_probes_at, chain_probes_at, function_probes_at};
 
 use addr2line_resolved::{Error, FunctionCalls, KnownUnits, Reader, ResUnit, Unit, UnitNames};
@@ -58,6 +57,7 @@ fn find_number_at<R: Reader>(
         (function_number_at (map value_of_unit units.old.items) probe number) }
     ensures below { IfOk result
         (λ function. IfSome function (HasFunctionAt units.new.items number)) }
+    ensures functions { ReadsAskedFunctions (λ n. n ≡ number) units.old.items units.new.items }
     ensures kept { result ≢ Err Memory → KeepsFunctionsAt units.new.items number }
 {
     let unit = &mut units[number];
@@ -109,6 +109,7 @@ pub(crate) fn keep_calls<R: Reader>(
         → units.new.items ≡ units.old.items }
     ensures cost { AtMostLooks 0 units.old.items units.new.items }
     ensures lines { ReadsNoLines units.old.items units.new.items }
+    ensures functions { ReadsAskedFunctions (λ n. n ≡ number) units.old.items units.new.items }
     ensures refusal { IfErr result (λ e. e ≡ Memory) }
 {
     let unit = &units[number];
@@ -146,6 +147,7 @@ fn find_calls<R: Reader>(
         (map value_of_unit units.old.items) probe function number)
         units.old.items units.new.items }
     ensures lines { ReadsNoLines units.old.items units.new.items }
+    ensures functions { ReadsAskedFunctions (λ n. n ≡ number) units.old.items units.new.items }
 {
     keep_calls(alloc, units, supplement_units, number, function)?;
     let unit = &mut units[number];
@@ -178,6 +180,7 @@ pub(crate) fn find_function_at<R: Reader>(
         (function_probes_at (known_among units.old.items supplement_units.now)
         (map value_of_unit units.old.items) probe number) units.old.items units.new.items }
     ensures lines { ReadsNoLines units.old.items units.new.items }
+    ensures functions { ReadsAskedFunctions (λ n. n ≡ number) units.old.items units.new.items }
     ensures kept { result ≢ Err Memory → KeepsFunctionsAt units.new.items number }
 {
     let Some(function) = find_number_at(alloc, units, number, probe)? else {

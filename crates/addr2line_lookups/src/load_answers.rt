@@ -5,7 +5,7 @@ ghost use Rattle.addr2line_resolved.specs.Calls.{Returns};
 ghost use Rattle.addr2line_resolved.specs.Error.TheVariants.{Memory};
 ghost use Rattle.addr2line_resolved.specs.FirstAnswers.{answer_of};
 ghost use Rattle.addr2line_resolved.specs.ResolvedUnits.{pending_load, value_of_unit};
-ghost use Rattle.addr2line_lookups.specs.KeptUnits.{ReadsNoLines};
+ghost use Rattle.addr2line_lookups.specs.KeptUnits.{ReadsNoLines, ReadsNoFunctions};
 ghost use Rattle.addr2line_lookups.specs.KeptCalls.{LeavesCalls, LeavesCallsOf};
 ghost use Rattle.addr2line_lookups.specs.LoadAnswers.{AnswersOrNoMemory, check_unit, answer_unit, answer_at};
 ghost use Rattle.addr2line_lookups.specs.LookupCosts.{AtMostLooks, AtMostLooksOf};
@@ -53,6 +53,7 @@ fn record_answer<R: Reader>(
     ensures calls { LeavesCallsOf unit.old unit.new }
     ensures cost { AtMostLooksOf 0 unit.old unit.new }
     ensures lines { unit.new.keeps_lines ≡ unit.old.keeps_lines }
+    ensures functions { unit.new.keeps_functions ≡ unit.old.keeps_functions }
 {
     let answer = answer_or_refusal(alloc, unit.main().unit(), file)?;
     unit.record_answer(answer);
@@ -74,6 +75,7 @@ fn answer_unit<R: Reader>(
     ensures calls { LeavesCallsOf unit.old unit.new }
     ensures cost { AtMostLooksOf 0 unit.old unit.new }
     ensures lines { unit.new.keeps_lines ≡ unit.old.keeps_lines }
+    ensures functions { unit.new.keeps_functions ≡ unit.old.keeps_functions }
 {
     if unit.pending_load().is_none() {
         drop(file);
@@ -99,6 +101,7 @@ pub(crate) fn answer_at<R: Reader>(
     ensures calls { LeavesCalls units.old.items units.new.items }
     ensures cost { AtMostLooks 0 units.old.items units.new.items }
     ensures lines { ReadsNoLines units.old.items units.new.items }
+    ensures functions { ReadsNoFunctions units.old.items units.new.items }
 {
     if number >= units.len() {
         drop(file);

@@ -1,16 +1,15 @@
 //! Lookups of frames and of units, settled by the units' numbers.
 
-ghost use Rattle.std.specs.Prelude.{◌≡◌, ◌≢◌, None, Err, map, drop, is_some};
+ghost use Rattle.std.specs.Prelude.{◌≡◌, ◌≢◌, None, Err, map, is_some};
 ghost use Rattle.addr2line_resolved.specs.Error.TheVariants.{Memory};
 ghost use Rattle.addr2line_resolved.specs.NumberedRanges.{covering_ranges};
 ghost use Rattle.addr2line_resolved.specs.ResolvedUnits.{value_of_unit};
-ghost use Rattle.addr2line_lookups.specs.KeptUnits.{ReadsAsked};
+ghost use Rattle.addr2line_lookups.specs.KeptUnits.{ReadsAsked, KeepsFunctionsAt, ReadsAskedFunctions};
 ghost use Rattle.addr2line_lookups.specs.KeptCalls.{known_among, HoldCalls};
 ghost use Rattle.addr2line_lookups.specs.Preloads.{load_at};
 ghost use Rattle.addr2line_lookups.specs.UnitLookups.{frames_asked, frames_among, SettlesFrames, unit_asked, unit_among, SettlesUnit, unit_at_number};
 ghost use Rattle.addr2line_lookups.specs.LookupCosts.{AtMostLooks, frame_probes_at, probes_among};
-ghost use Rattle.addr2line_lookups.specs.UnitParses.{KeepsFunctionsAt};
-ghost use Rattle.addr2line_lookups.specs.PassedUnits.{PassFrames, PassUnits, AsksFramesAmong, AsksUnitAmong, KeepsAskedFunctions};
+ghost use Rattle.addr2line_lookups.specs.PassedUnits.{PassFrames, PassUnits, PassedAreKept, AsksFramesAmong, AsksUnitAmong, KeepsAskedFunctions};
 
 use crate::covering::next_covering;
 use crate::frame_place::{FramePlace, find_frames_at};
@@ -47,6 +46,7 @@ fn settle_frames_at<R: Reader>(
         (frame_probes_at (known_among units.old.items supplement_units.now)
         (map value_of_unit units.old.items) probe number) units.old.items units.new.items }
     ensures reads { ReadsAsked (λ n. n ≡ number) units.old.items units.new.items }
+    ensures functions { ReadsAskedFunctions (λ n. n ≡ number) units.old.items units.new.items }
     ensures kept { result ≢ Err Memory → load_at (map value_of_unit units.old.items) number ≡ None
         → KeepsFunctionsAt units.new.items number }
 {
@@ -61,7 +61,8 @@ fn settle_frames_at<R: Reader>(
 
 // Where the frames of an address are: of the units with a range over it, in their order, in the
 // first that has some, unless one is refused or waits for its load before. What is read is kept.
-// Units before an index are known to have none; the search begins there, and moves it on.
+// Units before an index are known to have none, and their functions are kept; the search begins
+// there, and moves it on.
 pub(crate) fn settle_frames<R: Reader>(
     alloc: Global,
     units: &mut Vec<ResUnit<R>>,
@@ -73,6 +74,7 @@ pub(crate) fn settle_frames<R: Reader>(
     requires calls { HoldCalls (known_among units.old.items supplement_units.now) units.old.items }
     requires passed { PassFrames (known_among units.old.items supplement_units.now)
         (map value_of_unit units.old.items) probe from.old ranges.now }
+    requires kept { PassedAreKept units.old.items probe from.old ranges.now }
     ensures values { map value_of_unit units.new.items ≡ map value_of_unit units.old.items }
     ensures calls { HoldCalls (known_among units.old.items supplement_units.now) units.new.items }
     ensures found { SettlesFrames units.new.items
@@ -85,12 +87,17 @@ pub(crate) fn settle_frames<R: Reader>(
     ensures reads { ReadsAsked (AsksFramesAmong (known_among units.old.items supplement_units.now)
         (map value_of_unit units.old.items) probe (covering_ranges probe ranges.now))
         units.old.items units.new.items }
+    ensures functions { ReadsAskedFunctions
+        (AsksFramesAmong (known_among units.old.items supplement_units.now)
+        (map value_of_unit units.old.items) probe (covering_ranges probe ranges.now))
+        units.old.items units.new.items }
     ensures asked { result ≢ Err Memory → KeepsAskedFunctions
         (AsksFramesAmong (known_among units.old.items supplement_units.now)
-        (map value_of_unit units.old.items) probe
-        (covering_ranges probe (drop from.old ranges.now))) units.new.items }
+        (map value_of_unit units.old.items) probe (covering_ranges probe ranges.now))
+        units.new.items }
     ensures passed { PassFrames (known_among units.old.items supplement_units.now)
         (map value_of_unit units.old.items) probe from.new ranges.now }
+    ensures kept { PassedAreKept units.new.items probe from.new ranges.now }
 {
     while let Some((unit, next)) = next_covering(ranges, *from, probe) {
         match settle_frames_at(alloc, units, supplement_units, unit, probe)? {
@@ -123,6 +130,7 @@ fn settle_unit_at<R: Reader>(
         (frame_probes_at (known_among units.old.items supplement_units.now)
         (map value_of_unit units.old.items) probe number) units.old.items units.new.items }
     ensures reads { ReadsAsked (λ n. n ≡ number) units.old.items units.new.items }
+    ensures functions { ReadsAskedFunctions (λ n. n ≡ number) units.old.items units.new.items }
     ensures kept { result ≢ Err Memory → load_at (map value_of_unit units.old.items) number ≡ None
         → KeepsFunctionsAt units.new.items number }
 {
@@ -141,7 +149,7 @@ fn settle_unit_at<R: Reader>(
 
 // The number of the first unit, of those with a range over an address, that has a function or a
 // place for it, unless one waits for its load before. What is read is kept. Units before an index
-// are known to have none; the search begins there, and moves it on.
+// are known to have none, and their functions are kept; the search begins there, and moves it on.
 pub(crate) fn settle_unit<R: Reader>(
     alloc: Global,
     units: &mut Vec<ResUnit<R>>,
@@ -153,6 +161,7 @@ pub(crate) fn settle_unit<R: Reader>(
     requires calls { HoldCalls (known_among units.old.items supplement_units.now) units.old.items }
     requires passed { PassUnits (known_among units.old.items supplement_units.now)
         (map value_of_unit units.old.items) probe from.old ranges.now }
+    requires kept { PassedAreKept units.old.items probe from.old ranges.now }
     ensures values { map value_of_unit units.new.items ≡ map value_of_unit units.old.items }
     ensures calls { HoldCalls (known_among units.old.items supplement_units.now) units.new.items }
     ensures found { SettlesUnit (map value_of_unit units.old.items)
@@ -165,12 +174,17 @@ pub(crate) fn settle_unit<R: Reader>(
     ensures reads { ReadsAsked (AsksUnitAmong (known_among units.old.items supplement_units.now)
         (map value_of_unit units.old.items) probe (covering_ranges probe ranges.now))
         units.old.items units.new.items }
+    ensures functions { ReadsAskedFunctions
+        (AsksUnitAmong (known_among units.old.items supplement_units.now)
+        (map value_of_unit units.old.items) probe (covering_ranges probe ranges.now))
+        units.old.items units.new.items }
     ensures asked { result ≢ Err Memory → KeepsAskedFunctions
         (AsksUnitAmong (known_among units.old.items supplement_units.now)
-        (map value_of_unit units.old.items) probe
-        (covering_ranges probe (drop from.old ranges.now))) units.new.items }
+        (map value_of_unit units.old.items) probe (covering_ranges probe ranges.now))
+        units.new.items }
     ensures passed { PassUnits (known_among units.old.items supplement_units.now)
         (map value_of_unit units.old.items) probe from.new ranges.now }
+    ensures kept { PassedAreKept units.new.items probe from.new ranges.now }
 {
     while let Some((unit, next)) = next_covering(ranges, *from, probe) {
         match settle_unit_at(alloc, units, supplement_units, unit, probe)? {

@@ -6,7 +6,7 @@ ghost use Rattle.addr2line_resolved.specs.Error.TheVariants.{Memory};
 ghost use Rattle.addr2line_resolved.specs.Contexts.{all_lines_or_refusal};
 ghost use Rattle.addr2line_resolved.specs.ResolvedUnits.{plain_unit, value_of_unit};
 ghost use Rattle.addr2line_lookups.specs.KeptCalls.{LeavesCalls};
-ghost use Rattle.addr2line_lookups.specs.KeptUnits.{KeepsAt, KeepsAsked, ReadsAsked, AsksForLines, check_at};
+ghost use Rattle.addr2line_lookups.specs.KeptUnits.{KeepsAt, KeepsAsked, ReadsAsked, ReadsNoFunctions, AsksForLines, check_at};
 ghost use Rattle.addr2line_lookups.specs.LookupCosts.{AtMostLooks};
 
 use addr2line_resolved::{Error, Reader, ResUnit};
@@ -25,6 +25,7 @@ pub(crate) fn check_at<R: Reader>(
     ensures found { ReturnsOrNoMemory result (check_at (map plain_unit units.old.items) number) }
     ensures kept { result ≢ Err Memory → KeepsAt units.new.items number }
     ensures reads { ReadsAsked (λ n. n ≡ number) units.old.items units.new.items }
+    ensures functions { ReadsNoFunctions units.old.items units.new.items }
     ensures free { KeepsAt units.old.items number → result ≢ Err Memory }
 {
     if number >= units.len() {
@@ -49,6 +50,7 @@ pub(crate) fn check_lines<R: Reader>(
         → KeepsAsked (AsksForLines (map plain_unit units.old.items)) units.new.items }
     ensures reads { ReadsAsked (AsksForLines (map plain_unit units.old.items))
         units.old.items units.new.items }
+    ensures functions { ReadsNoFunctions units.old.items units.new.items }
     ensures free { KeepsAsked (AsksForLines (map plain_unit units.old.items)) units.old.items
         → result ≢ Err Memory }
 {

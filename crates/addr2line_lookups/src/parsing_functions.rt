@@ -3,10 +3,10 @@
 ghost use Rattle.std.specs.Prelude.{◌≡◌, ◌≢◌, ◌<◌, true, None, Err, map};
 ghost use Rattle.addr2line_resolved.specs.Error.TheVariants.{Memory};
 ghost use Rattle.addr2line_resolved.specs.ResolvedUnits.{pending_load, value_of_unit};
-ghost use Rattle.addr2line_lookups.specs.KeptUnits.{ReadsNoLines};
+ghost use Rattle.addr2line_lookups.specs.KeptUnits.{ReadsNoLines, KeepsFunctionsAt};
 ghost use Rattle.addr2line_lookups.specs.KeptCalls.{LeavesCalls, LeavesCallsOf};
 ghost use Rattle.addr2line_lookups.specs.LookupCosts.{AtMostLooks, AtMostLooksOf};
-ghost use Rattle.addr2line_lookups.specs.UnitParses.{without_load, check_functions_of, ChecksOrNoMemory, after_turn, check_unit_at, KeepsFunctionsAt, KeepsParsed, WalksOrNoMemory};
+ghost use Rattle.addr2line_lookups.specs.UnitParses.{without_load, check_functions_of, ChecksOrNoMemory, after_turn, check_unit_at, KeepsParsed, WalksOrNoMemory};
 
 use addr2line_resolved::{Error, Reader, ResUnit};
 use std::alloc::Global;

@@ -1,7 +1,8 @@
 //! The loads that lookups of an address may wait for.
 
-ghost use Rattle.std.specs.Prelude.{◌≡◌, Ok, OnOk, map, option_map};
+ghost use Rattle.std.specs.Prelude.{◌≡◌, ◌≢◌, [], None, Ok, Err, OnOk, map, option_map};
 ghost use Rattle.addr2line_resolved.specs.Calls.{ReturnsAsOrNoMemory};
+ghost use Rattle.addr2line_resolved.specs.Error.TheVariants.{Memory};
 ghost use Rattle.addr2line_resolved.specs.Lookups.{one_each};
 ghost use Rattle.addr2line_resolved.specs.NumberedRanges.{covering_ranges};
 ghost use Rattle.addr2line_resolved.specs.ResolvedUnits.{pending_load, value_of_unit};
@@ -45,7 +46,8 @@ fn add_load<R: Reader>(
     Ok(())
 }
 
-// Lists the load of the unit of a number, unless it is listed or needs no answer.
+// Lists the load of the unit of a number, unless it is listed or needs no answer. It takes no
+// memory for one that needs none.
 fn add_load_at<R: Reader>(
     loads: &mut Vec<(SplitDwarfLoad<R>, UnitToken)>,
     numbers: &mut BTreeSet<usize>,
@@ -58,6 +60,7 @@ fn add_load_at<R: Reader>(
         (load_at (map value_of_unit units.now) number))) }
     ensures numbers { OnOk result
         (AreNumbersOf (map load_of_item loads.new.items) numbers.new) }
+    ensures free { load_at (map value_of_unit units.now) number ≡ None → result ≢ Err Memory }
 {
     match load_at(units, number) {
         Some(load) => add_load(loads, numbers, load, number),
@@ -66,16 +69,18 @@ fn add_load_at<R: Reader>(
 }
 
 // The loads that need an answer, of the units with a range over an address, in their order, that of
-// each unit once.
+// each unit once. It takes memory only where there is one.
 pub(crate) fn pending_loads<R: Reader>(
     alloc: Global,
     units: &[ResUnit<R>],
     ranges: &UnitRanges,
     probe: u64,
 ) -> Result<Vec<(SplitDwarfLoad<R>, UnitToken)>, Error>
-    ensures { ReturnsAsOrNoMemory (λ loads. map load_of_item loads.items) result
+    ensures loads { ReturnsAsOrNoMemory (λ loads. map load_of_item loads.items) result
         (Ok (one_each (loads_at (map value_of_unit units.now)
         (covering_ranges probe ranges.now)))) }
+    ensures free { loads_at (map value_of_unit units.now) (covering_ranges probe ranges.now) ≡ []
+        → result ≢ Err Memory }
 {
     let mut loads = Vec::new(alloc);
     let mut numbers = BTreeSet::new(alloc);

@@ -11,7 +11,7 @@ ghost use Rattle.addr2line_resolved.specs.NumberedRanges.{overlapping_ranges};
 ghost use Rattle.addr2line_resolved.specs.ContextUnits.{unit_places};
 ghost use Rattle.addr2line_resolved.specs.ResolvedUnits.{KeepsLines, plain_unit, value_of_unit};
 ghost use Rattle.addr2line_lookups.specs.KeptCalls.{LeavesCalls};
-ghost use Rattle.addr2line_lookups.specs.KeptUnits.{KeepsAt, KeepsAsked, ReadsAsked, IsUnitOf, lines_at, check_at};
+ghost use Rattle.addr2line_lookups.specs.KeptUnits.{KeepsAt, KeepsAsked, ReadsAsked, ReadsNoFunctions, IsUnitOf, lines_at, check_at};
 ghost use Rattle.addr2line_lookups.specs.LookupCosts.{AtMostLooks};
 ghost use Rattle.addr2line_lookups.specs.RangeWalks.{BeginsRange, NextInRange, NextOfRows, KeepsStretch, FindsStretch, walk_left, stretches_left, AreOfRange, IsUnitOfRows, ComesTo, AsksForStretch, StaysOnItsWay};
 
@@ -168,6 +168,7 @@ fn first_rows<R: Reader>(
     ensures calls { LeavesCalls units.old.items units.new.items }
     ensures cost { AtMostLooks 0 units.old.items units.new.items }
     ensures reads { ReadsAsked (λ n. n ≡ range.unit) units.old.items units.new.items }
+    ensures functions { ReadsNoFunctions units.old.items units.new.items }
     ensures rows { (high : ℕ) → BeginsRange (map unit_places (map plain_unit units.old.items)) low
         high range result }
     ensures range { IfOk result (AreOfRange range) }
@@ -189,6 +190,7 @@ fn next_of_rows<R: Reader>(
     ensures calls { LeavesCalls units.old.items units.new.items }
     ensures cost { AtMostLooks 0 units.old.items units.new.items }
     ensures reads { ReadsAsked (IsUnitOfRows walk.old.rows) units.old.items units.new.items }
+    ensures functions { ReadsNoFunctions units.old.items units.new.items }
     ensures stretch { NextOfRows (map plain_unit units.old.items) result walk.old walk.new }
     ensures unit { (n : ℕ) → IsUnitOfRows walk.new.rows n → IsUnitOfRows walk.old.rows n }
     ensures kept { KeepsStretch units.new.items result }
@@ -231,6 +233,7 @@ pub(crate) fn next_stretch<R: Reader>(
     ensures reads { ReadsAsked
         (AsksForStretch (map unit_places (map plain_unit units.old.items)) ranges.now walk.old)
         units.old.items units.new.items }
+    ensures functions { ReadsNoFunctions units.old.items units.new.items }
     ensures free { KeepsAsked
         (AsksForStretch (map unit_places (map plain_unit units.old.items)) ranges.now walk.old)
         units.old.items → result ≢ Err Memory }

@@ -9,7 +9,7 @@ ghost use Rattle.addr2line_resolved.specs.ContextUnits.{ordered_ranges};
 ghost use Rattle.addr2line_resolved.specs.ResolvedUnits.{plain_unit, value_of_unit};
 ghost use Rattle.addr2line_lookups.specs.KeptCalls.{LeavesCalls, kept_calls_of};
 ghost use Rattle.addr2line_lookups.specs.FunctionPlaces.{chain_of};
-ghost use Rattle.addr2line_lookups.specs.KeptUnits.{KeepsAt, KeepsAsked, ReadsAsked, AsksAmong, row_at_number, location_of_unit_row, FindsRow, KeepsFound};
+ghost use Rattle.addr2line_lookups.specs.KeptUnits.{KeepsAt, KeepsAsked, ReadsAsked, ReadsNoFunctions, AsksAmong, row_at_number, location_of_unit_row, FindsRow, KeepsFound};
 ghost use Rattle.addr2line_lookups.specs.LookupCosts.{AtMostLooks, row_probes_at, probes_among};
 
 use addr2line_resolved::{Error, LineRow, Location, Reader, ResUnit, UnitRanges};
@@ -62,6 +62,7 @@ pub(crate) fn find_row_at<R: Reader>(
     ensures cost { AtMostLooks (row_probes_at (map value_of_unit units.old.items) probe number)
         units.old.items units.new.items }
     ensures reads { ReadsAsked (λ n. n ≡ number) units.old.items units.new.items }
+    ensures functions { ReadsNoFunctions units.old.items units.new.items }
     ensures free { KeepsAt units.old.items number → result ≢ Err Memory }
 {
     if number >= units.len() {
@@ -91,6 +92,7 @@ pub(crate) fn find_row<R: Reader>(
     ensures reads { ReadsAsked
         (AsksAmong (map plain_unit units.old.items) probe (covering_ranges probe ranges.now))
         units.old.items units.new.items }
+    ensures functions { ReadsNoFunctions units.old.items units.new.items }
     ensures cost { AtMostLooks (probes_among
         (row_probes_at (map value_of_unit units.old.items) probe)
         (covering_ranges probe ranges.now)) units.old.items units.new.items }
@@ -121,6 +123,7 @@ pub(crate) fn read_at<R: Reader>(
     ensures kept { OnOk result (KeepsAt units.new.items number) }
     ensures cost { AtMostLooks 0 units.old.items units.new.items }
     ensures reads { ReadsAsked (λ n. n ≡ number) units.old.items units.new.items }
+    ensures functions { ReadsNoFunctions units.old.items units.new.items }
     ensures refusal { IfErr result (λ e. e ≡ Memory) }
     ensures free { KeepsAt units.old.items number → result ≢ Err Memory }
 {

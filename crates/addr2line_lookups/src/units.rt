@@ -1,6 +1,6 @@
 //! The units of a context with their ranges, in the order in which lookups ask them.
 
-ghost use Rattle.std.specs.Prelude.{◌≡◌, ◌≢◌, None, Ok, Err, map, drop, option_map, IfOk, OnOk, IfErr};
+ghost use Rattle.std.specs.Prelude.{◌≡◌, ◌≢◌, [], None, Ok, Err, map, option_map, IfOk, OnOk, IfErr};
 ghost use Rattle.addr2line_resolved.specs.Calls.{ReturnsAsOrNoMemory, ReturnsOrNoMemory};
 ghost use Rattle.addr2line_resolved.specs.Error.TheVariants.{Memory};
 ghost use Rattle.addr2line_resolved.specs.Contexts.{all_lines_or_refusal};
@@ -13,10 +13,10 @@ ghost use Rattle.addr2line_lookups.specs.KeptCalls.{LeavesCalls, HoldCalls, know
 ghost use Rattle.addr2line_lookups.specs.LoadAnswers.{AnswersOrNoMemory, answer_at};
 ghost use Rattle.addr2line_lookups.specs.Preloads.{load_at, loads_at, load_of_item, first_number, first_load};
 ghost use Rattle.addr2line_lookups.specs.FramePlaces.{LendsFrames};
-ghost use Rattle.addr2line_lookups.specs.PassedUnits.{PassFrames, PassUnits, PassLoads, AsksFramesAmong, AsksUnitAmong, KeepsAskedFunctions};
+ghost use Rattle.addr2line_lookups.specs.PassedUnits.{PassFrames, PassUnits, PassLoads, PassedAreKept, AsksFramesAmong, AsksUnitAmong, KeepsAskedFunctions};
 ghost use Rattle.addr2line_lookups.specs.UnitLookups.{frames_among, SettlesFrames, unit_among, SettlesUnit, unit_at_number};
 ghost use Rattle.addr2line_resolved.specs.BorrowedFrames.{frames_left};
-ghost use Rattle.addr2line_lookups.specs.KeptUnits.{KeepsAt, KeepsFound, KeepsAsked, ReadsAsked, ReadsNoLines, AsksForRow, AsksForLines, FindsRow, location_of_unit_row};
+ghost use Rattle.addr2line_lookups.specs.KeptUnits.{KeepsAt, KeepsFound, KeepsAsked, ReadsAsked, ReadsNoLines, ReadsAskedFunctions, ReadsNoFunctions, AsksForRow, AsksForLines, FindsRow, location_of_unit_row};
 ghost use Rattle.addr2line_lookups.specs.RangeWalks.{FindsStretch, KeepsStretch, stretches_left, AsksForNextStretch, StaysOnItsWay};
 ghost use Rattle.addr2line_lookups.specs.LookupCosts.{AtMostLooks, row_probes_at, frame_probes_at, probes_among};
 ghost use Rattle.addr2line_lookups.specs.UnitParses.{WalksOrNoMemory, KeepsParsed, KeepAllCalls, check_functions_of, check_calls_of};
@@ -96,6 +96,7 @@ impl<R: Reader> Units<R> {
             → KeepsAsked (AsksForRow (map plain_unit self.old) probe) self.new }
         ensures reads { ReadsAsked (AsksForRow (map plain_unit self.old) probe)
             self.old self.new }
+        ensures functions { ReadsNoFunctions self.old self.new }
         ensures cost { AtMostLooks (probes_among (row_probes_at (map value_of_unit self.old) probe)
             (covering_ranges probe (ordered_ranges (map plain_unit self.old)))) self.old self.new }
         ensures free { KeepsAsked (AsksForRow (map plain_unit self.old) probe) self.old
@@ -127,6 +128,7 @@ impl<R: Reader> Units<R> {
             → KeepsAsked (AsksForNextStretch (map plain_unit self.old) walk.old) self.new }
         ensures reads { ReadsAsked (AsksForNextStretch (map plain_unit self.old) walk.old)
             self.old self.new }
+        ensures functions { ReadsNoFunctions self.old self.new }
         ensures free { KeepsAsked (AsksForNextStretch (map plain_unit self.old) walk.old) self.old
             → result ≢ Err Memory }
         ensures way { StaysOnItsWay (ordered_ranges (map plain_unit self.old)) walk.old walk.new }
@@ -145,6 +147,7 @@ impl<R: Reader> Units<R> {
         ensures asked { result ≢ Err Memory
             → KeepsAsked (AsksForLines (map plain_unit self.old)) self.new }
         ensures reads { ReadsAsked (AsksForLines (map plain_unit self.old)) self.old self.new }
+        ensures functions { ReadsNoFunctions self.old self.new }
         ensures free { KeepsAsked (AsksForLines (map plain_unit self.old)) self.old
             → result ≢ Err Memory }
     {
@@ -182,11 +185,15 @@ impl<R: Reader> Units<R> {
         check_calls(alloc, &mut self.units, supplement_units)
     }
 
-    // The loads that lookups of an address may wait for, that of each unit once.
+    // The loads that lookups of an address may wait for, that of each unit once. It takes memory
+    // only where there is one.
     pub fn pending_loads(&self, probe: u64) -> Result<Vec<(SplitDwarfLoad<R>, UnitToken)>, Error>
-        ensures { ReturnsAsOrNoMemory (λ loads. map load_of_item loads.items) result
+        ensures loads { ReturnsAsOrNoMemory (λ loads. map load_of_item loads.items) result
             (Ok (one_each (loads_at (map value_of_unit self.now)
             (covering_ranges probe (ordered_ranges (map plain_unit self.now)))))) }
+        ensures free { loads_at (map value_of_unit self.now)
+            (covering_ranges probe (ordered_ranges (map plain_unit self.now))) ≡ []
+            → result ≢ Err Memory }
     {
         let alloc = *self.units.allocator();
         pending_loads(alloc, self.units.as_slice(), &self.ranges, probe)
@@ -204,6 +211,7 @@ impl<R: Reader> Units<R> {
         ensures calls { LeavesCalls self.old self.new }
         ensures cost { AtMostLooks 0 self.old self.new }
         ensures lines { ReadsNoLines self.old self.new }
+        ensures functions { ReadsNoFunctions self.old self.new }
     {
         let alloc = *self.units.allocator();
         answer_at(alloc, &mut self.units, number, file)
@@ -213,9 +221,10 @@ impl<R: Reader> Units<R> {
 
     /// Where the frames of an address are: of the units with a range over it, in their order, in
     /// the first that has some, unless one is refused or waits for its load before.
-    /// What is read is kept, and no lines of units after the one in which it ends are read. The
-    /// search begins at an index among all ranges, before which no unit has frames, and moves it
-    /// on: so one that is asked again after an answer goes on there.
+    /// What is read is kept, and neither lines nor functions of units after the one in which it
+    /// ends are read. The search begins at an index among all ranges, before which no unit has
+    /// frames and each keeps its functions, and moves it on: so one that is asked again after an
+    /// answer goes on there.
     pub fn settle_frames(
         &mut self,
         supplement_units: &[Unit<R>],
@@ -225,6 +234,8 @@ impl<R: Reader> Units<R> {
         requires calls { HoldCalls (known_among self.old supplement_units.now) self.old }
         requires passed { PassFrames (known_among self.old supplement_units.now)
             (map value_of_unit self.old) probe from.old (ordered_ranges (map plain_unit self.old)) }
+        requires kept { PassedAreKept self.old probe from.old
+            (ordered_ranges (map plain_unit self.old)) }
         ensures values { map value_of_unit self.new ≡ map value_of_unit self.old }
         ensures calls { HoldCalls (known_among self.old supplement_units.now) self.new }
         ensures found { SettlesFrames self.new
@@ -237,13 +248,18 @@ impl<R: Reader> Units<R> {
         ensures reads { ReadsAsked (AsksFramesAmong (known_among self.old supplement_units.now)
             (map value_of_unit self.old) probe
             (covering_ranges probe (ordered_ranges (map plain_unit self.old)))) self.old self.new }
+        ensures functions { ReadsAskedFunctions
+            (AsksFramesAmong (known_among self.old supplement_units.now)
+            (map value_of_unit self.old) probe
+            (covering_ranges probe (ordered_ranges (map plain_unit self.old)))) self.old self.new }
         ensures asked { result ≢ Err Memory → KeepsAskedFunctions
             (AsksFramesAmong (known_among self.old supplement_units.now)
             (map value_of_unit self.old) probe
-            (covering_ranges probe (drop from.old (ordered_ranges (map plain_unit self.old)))))
-            self.new }
+            (covering_ranges probe (ordered_ranges (map plain_unit self.old)))) self.new }
         ensures passed { PassFrames (known_among self.old supplement_units.now)
             (map value_of_unit self.old) probe from.new (ordered_ranges (map plain_unit self.old)) }
+        ensures kept { PassedAreKept self.new probe from.new
+            (ordered_ranges (map plain_unit self.old)) }
     {
         let alloc = *self.units.allocator();
         settle_frames(
@@ -257,9 +273,9 @@ impl<R: Reader> Units<R> {
     }
 
     /// The number of the first unit, of those with a range over an address, that has a function or
-    /// a place for it, unless one waits for its load before. What is read is kept, and no lines of
-    /// units after the one in which it ends are read. The search begins at an index before which no
-    /// unit has any, and moves it on.
+    /// a place for it, unless one waits for its load before. What is read is kept, and neither
+    /// lines nor functions of units after the one in which it ends are read. The search begins at
+    /// an index before which no unit has any and each keeps its functions, and moves it on.
     pub fn settle_unit(
         &mut self,
         supplement_units: &[Unit<R>],
@@ -269,6 +285,8 @@ impl<R: Reader> Units<R> {
         requires calls { HoldCalls (known_among self.old supplement_units.now) self.old }
         requires passed { PassUnits (known_among self.old supplement_units.now)
             (map value_of_unit self.old) probe from.old (ordered_ranges (map plain_unit self.old)) }
+        requires kept { PassedAreKept self.old probe from.old
+            (ordered_ranges (map plain_unit self.old)) }
         ensures values { map value_of_unit self.new ≡ map value_of_unit self.old }
         ensures calls { HoldCalls (known_among self.old supplement_units.now) self.new }
         ensures found { SettlesUnit (map value_of_unit self.old)
@@ -281,13 +299,18 @@ impl<R: Reader> Units<R> {
         ensures reads { ReadsAsked (AsksUnitAmong (known_among self.old supplement_units.now)
             (map value_of_unit self.old) probe
             (covering_ranges probe (ordered_ranges (map plain_unit self.old)))) self.old self.new }
+        ensures functions { ReadsAskedFunctions
+            (AsksUnitAmong (known_among self.old supplement_units.now)
+            (map value_of_unit self.old) probe
+            (covering_ranges probe (ordered_ranges (map plain_unit self.old)))) self.old self.new }
         ensures asked { result ≢ Err Memory → KeepsAskedFunctions
             (AsksUnitAmong (known_among self.old supplement_units.now)
             (map value_of_unit self.old) probe
-            (covering_ranges probe (drop from.old (ordered_ranges (map plain_unit self.old)))))
-            self.new }
+            (covering_ranges probe (ordered_ranges (map plain_unit self.old)))) self.new }
         ensures passed { PassUnits (known_among self.old supplement_units.now)
             (map value_of_unit self.old) probe from.new (ordered_ranges (map plain_unit self.old)) }
+        ensures kept { PassedAreKept self.new probe from.new
+            (ordered_ranges (map plain_unit self.old)) }
     {
         let alloc = *self.units.allocator();
         settle_unit(

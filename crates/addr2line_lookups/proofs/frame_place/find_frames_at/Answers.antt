@@ -1,6 +1,8 @@
 use Rattle.std.proofs.Common.{◌≡◌, map, refl, arith}
 use Rattle.addr2line_resolved.specs.ResolvedUnits.{value_of_unit}
+use Rattle.addr2line_lookups.specs.KeptUnits.{KeepsFunctionList}
 use Rattle.addr2line_lookups.specs.KeptCalls.{known_among}
+use Rattle.addr2line_lookups.proofs.UnitChanges.{changes_none}
 use Rattle.addr2line_lookups.proofs.AskedLines.{reads_none}
 use Rattle.addr2line_lookups.proofs.FoundFrames.{none_past}
 use Rattle.addr2line_lookups.proofs.UnitProbes.{looks_none}
@@ -18,6 +20,7 @@ returns-then-number-len g c =
           refl (omega arith);
       cost = looks_none _ us;
       reads = reads_none (λ n. n ≡ c.args.number) us;
+      functions = changes_none KeepsFunctionList (λ n. n ≡ c.args.number) us;
       kept = λ answered. no_functions_past us c.args.number (omega arith);
     }
 

@@ -4,11 +4,12 @@ use Rattle.addr2line_resolved.specs.Contexts.{ContextUnit}
 use Rattle.addr2line_resolved.specs.Error.TheVariants.{Memory}
 use Rattle.addr2line_resolved.specs.ResolvedUnits.{value_of_unit}
 use Rattle.addr2line_lookups.specs.declared.frame_place.FramePlace.{FramePlace}
-use Rattle.addr2line_lookups.specs.KeptUnits.{row_at_number}
+use Rattle.addr2line_lookups.specs.KeptUnits.{row_at_number, KeepsFunctionList}
 use Rattle.addr2line_lookups.specs.KeptCalls.{known_among}
 use Rattle.addr2line_lookups.specs.FunctionPlaces.{function_with_calls_at, chain_of, FindsFunction}
 use Rattle.addr2line_lookups.specs.FramePlaces.{frames_at_number, FindsFrames}
 use Rattle.addr2line_lookups.proofs.KeptLines.{same_plain}
+use Rattle.addr2line_lookups.proofs.UnitChanges.{changes_first}
 use Rattle.addr2line_lookups.proofs.AskedLines.{no_refusal, reads_nothing, reads_after}
 use Rattle.addr2line_lookups.proofs.CallsOfUnits.{hold_same}
 use Rattle.addr2line_lookups.proofs.FoundFrames.{function_refuses, found_function, lines_refuse, function_stays, frames_found}
@@ -28,6 +29,7 @@ returns-in_err-function g c =
       calls = refused.calls;
       reads =
           reads_nothing (λ n. n ≡ c.args.number) us c.find_function_at.new.units.items refused.lines;
+      functions = refused.functions;
       kept = rw (p.1, p.2) (λ other. refused.kept (refused_so (Option FramePlace) (Option ℕ) _ Memory other));
       found =
           rw (p.1, p.2) (λ m.
@@ -57,6 +59,7 @@ returns-in_err-row g c =
       values = refused.values ∙ found.values;
       calls = hold_same known ws xs refused.values refused.same found.calls;
       reads = reads_after (λ m. m ≡ n) us ws xs found.lines refused.reads;
+      functions = changes_first KeepsFunctionList (λ m. m ≡ n) us ws xs found.functions refused.functions;
       kept = λ answered. refused.cost.functions.functions n (found.kept (is_value _));
       found = rw (p.1, p.2) (λ m. lines_refuse known a n ws vs found.values f.0 _ f.1 (refused.found m));
       cost =
@@ -84,6 +87,7 @@ returns g c =
       values = rows.values ∙ found.values;
       calls = hold_same known ws xs rows.values rows.same found.calls;
       reads = reads_after (λ m. m ≡ n) us ws xs found.lines rows.reads;
+      functions = changes_first KeepsFunctionList (λ m. m ≡ n) us ws xs found.functions rows.functions;
       kept = λ answered. rows.cost.functions.functions n (found.kept (is_value _));
       found =
           subst P (sym c.place_if_any.ensures)

@@ -1,11 +1,13 @@
-use Rattle.std.proofs.Common.{◌≡◌, ◌<◌, ℕ, List, length, set, map, slice_get, Option, Some, Result, is_some, true, sym, ap, ◌∙◌, subst, arith}
+use Rattle.std.proofs.Common.{◌≡◌, ◌<◌, ℕ, List, length, set, map, slice_get, Option, Some, Result, is_some, true, refl, sym, ap, ◌∙◌, subst, arith}
 use Rattle.std.proofs.lemmas.Result.{err_from_is_err_and}
 use Rattle.addr2line_resolved.specs.Error.{Error}
 use Rattle.addr2line_resolved.specs.InlinedCalls.{FunctionCalls}
 use Rattle.addr2line_resolved.specs.KeptFunctions.{kept_at, FindsChain}
 use Rattle.addr2line_resolved.specs.ResolvedUnits.{ResolvedUnit, AnsweredUnit, value_of_unit}
+use Rattle.addr2line_lookups.specs.KeptUnits.{KeepsFunctionList}
 use Rattle.addr2line_lookups.specs.KeptCalls.{known_among, kept_calls_of}
 use Rattle.addr2line_lookups.specs.FunctionPlaces.{function_calls_at, FindsCalls}
+use Rattle.addr2line_lookups.proofs.UnitChanges.{changes_one, changes_both}
 use Rattle.addr2line_lookups.proofs.AskedLines.{no_lines_set, no_lines_both}
 use Rattle.addr2line_lookups.proofs.KeptLines.{same_length}
 use Rattle.addr2line_lookups.proofs.UnitRows.{same_values}
@@ -72,6 +74,9 @@ returns g c =
       lines =
           no_lines_both us ws (set ws n new) settled.lines
           (no_lines_set ws n u is new (ap (λ (x : ResolvedUnit). x.keeps_lines) c.find_chain.ensures.unit));
+      functions =
+          changes_both KeepsFunctionList (λ m. m ≡ n) us ws (set ws n new) n refl settled.functions
+          (changes_one KeepsFunctionList ws n new);
     }
 
 pub returns-in_err-keep_calls : goal.returns-in_err-keep_calls
@@ -84,4 +89,5 @@ returns-in_err-keep_calls g c =
       found = rw (p.1, p.2) (λ m. absurd (m refused.refusal));
       cost = looks_more _ c.args.units.now.items c.keep_calls.new.units.items refused.cost;
       lines = refused.lines;
+      functions = refused.functions;
     }

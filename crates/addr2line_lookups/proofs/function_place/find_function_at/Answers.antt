@@ -1,11 +1,13 @@
-use Rattle.std.proofs.Common.{◌<◌, ℕ, IfSome, map, Option, Result, sym, ap, ◌∙◌, subst}
+use Rattle.std.proofs.Common.{◌≡◌, refl, ◌<◌, ℕ, IfSome, map, Option, Result, sym, ap, ◌∙◌, subst}
 use Rattle.std.proofs.lemmas.Result.{err_from_is_err_and}
 use Rattle.addr2line_resolved.specs.Error.{Error}
 use Rattle.addr2line_resolved.specs.InlinedCalls.{FunctionCalls}
 use Rattle.addr2line_resolved.specs.EntryReferences.{KnownUnits}
 use Rattle.addr2line_resolved.specs.ResolvedUnits.{value_of_unit}
+use Rattle.addr2line_lookups.specs.KeptUnits.{KeepsFunctionList}
 use Rattle.addr2line_lookups.specs.KeptCalls.{known_among, HoldCalls}
 use Rattle.addr2line_lookups.specs.FunctionPlaces.{HasFunctionAt, HoldsChain, chain_of}
+use Rattle.addr2line_lookups.proofs.UnitChanges.{changes_both}
 use Rattle.addr2line_lookups.proofs.AskedLines.{no_lines_both}
 use Rattle.addr2line_lookups.proofs.KeptLines.{same_length}
 use Rattle.addr2line_lookups.proofs.CallsLeft.{known_same}
@@ -39,6 +41,7 @@ returns-in_err-function g c =
       values = refused.values;
       calls = refused.calls known c.requires.calls;
       lines = refused.lines;
+      functions = refused.functions;
       kept = rw (p.1, p.2) refused.kept;
       found =
           rw (p.1, p.2) (λ m.
@@ -57,6 +60,7 @@ returns-in_default g c =
       values = found.values;
       calls = found.calls known c.requires.calls;
       lines = found.lines;
+      functions = found.functions;
       kept = λ answered. found.kept (is_value _);
       found =
           none_there known c.args.probe c.args.number (map value_of_unit us)
@@ -84,6 +88,8 @@ returns-in_err-find_calls g c =
       values = refused.values ∙ found.values;
       calls = subst P (known_same us ws found.values s) refused.calls;
       lines = no_lines_both us ws xs found.lines refused.lines;
+      functions =
+          changes_both KeepsFunctionList (λ m. m ≡ n) us ws xs n refl found.functions refused.functions;
       kept = λ answered. refused.cost.functions.functions n (found.kept (is_value _));
       found =
           rw (p.1, p.2) (λ m.
@@ -113,6 +119,7 @@ returns g c =
       values = calls.values ∙ found.values;
       calls = subst P (known_same us ws found.values s) calls.calls;
       lines = no_lines_both us ws xs found.lines calls.lines;
+      functions = changes_both KeepsFunctionList (λ m. m ≡ n) us ws xs n refl found.functions calls.functions;
       kept = λ answered. calls.cost.functions.functions n (found.kept (is_value _));
       found =
           function_found known a n xs (map value_of_unit us) k chain (calls.values ∙ found.values)

@@ -3,6 +3,7 @@ use Rattle.addr2line_resolved.specs.Error.{Error}
 use Rattle.addr2line_resolved.specs.Calls.{ReturnsOrNoMemory}
 use Rattle.addr2line_lookups.specs.KeptUnits.{KeepsFunctionList}
 use Rattle.addr2line_lookups.specs.FunctionPlaces.{number_of_any}
+use Rattle.addr2line_lookups.proofs.UnitChanges.{changes_one}
 use Rattle.addr2line_lookups.proofs.AskedLines.{no_lines_set}
 use Rattle.addr2line_lookups.proofs.UnitRows.{same_values}
 use Rattle.addr2line_lookups.proofs.CallsOfUnits.{value_here, is_decided, leaves_calls, functions_there, if_set}
@@ -30,6 +31,7 @@ returns g c =
       number = subst P (ap (number_of_any a) (sym (value_here us n u below is))) c.find_number.ensures.number;
       cost = looks_for_number us n u below is new c.find_number.ensures.cost;
       lines = no_lines_set us n u is new c.find_number.ensures.lines;
+      functions = changes_one KeepsFunctionList us n new;
       below = functions_there us n u below is new c.find_number.result c.find_number.ensures.below;
       kept = λ answered. if_set us n u below is new KeepsFunctionList (c.find_number.ensures.kept answered);
     }

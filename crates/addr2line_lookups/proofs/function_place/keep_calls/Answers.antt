@@ -5,8 +5,10 @@ use Rattle.addr2line_resolved.specs.CountedFunctions.{CountedCalls}
 use Rattle.addr2line_resolved.specs.OrderedUnits.{AreKnownInOrder}
 use Rattle.addr2line_resolved.specs.KeptFunctions.{kept_at, plain_calls}
 use Rattle.addr2line_resolved.specs.ResolvedUnits.{ResolvedUnit}
+use Rattle.addr2line_lookups.specs.KeptUnits.{KeepsFunctionList}
 use Rattle.addr2line_lookups.specs.KeptCalls.{known_among, calls_among}
 use Rattle.addr2line_lookups.specs.FunctionPlaces.{HasFunction}
+use Rattle.addr2line_lookups.proofs.UnitChanges.{changes_one, changes_none}
 use Rattle.addr2line_lookups.proofs.AskedLines.{no_lines_set}
 use Rattle.addr2line_lookups.proofs.UnitRows.{same_values}
 use Rattle.addr2line_lookups.proofs.CallsOfUnits.{if_here, if_there, same_unit, holds_here, holds_set, kept_set, same_count, holds_kept, value_kept, length_kept, counts_kept, keeps_kept, kept_there, not_kept}
@@ -30,6 +32,7 @@ returns-then-is_some g c =
       same = λ kept. refl;
       cost = looks_none 0 us;
       lines = λ m before. before;
+      functions = changes_none KeepsFunctionList (λ m. m ≡ c.args.number) us;
       refusal = tt;
     }
 
@@ -104,5 +107,6 @@ returns g c =
           (looks_nowhere u new counts.0 counts.1
           (functions_called u new k (plain_calls read) r kept.ok kept.err));
       lines = no_lines_set us n u is new counts.1;
+      functions = changes_one KeepsFunctionList us n new;
       refusal = kept.refusal;
     }

@@ -20,3 +20,6 @@ returns-clause-cost g c =
 
 pub returns-clause-lines : goal.returns-clause-lines
 returns-clause-lines g c = ap (λ (u : ResolvedUnit). u.keeps_lines) c.record_answer.ensures.kept
+
+pub returns-clause-functions : goal.returns-clause-functions
+returns-clause-functions g c = ap (λ (u : ResolvedUnit). u.keeps_functions) c.record_answer.ensures.kept

@@ -4,16 +4,18 @@ use Rattle.addr2line_resolved.specs.Lookups.{is_answer}
 use Rattle.addr2line_resolved.specs.UnitRange.{UnitRange}
 use Rattle.addr2line_resolved.specs.NumberedRanges.{covering_ranges}
 use Rattle.addr2line_resolved.specs.ResolvedUnits.{value_of_unit}
+use Rattle.addr2line_lookups.specs.KeptUnits.{KeepsFunctionList}
 use Rattle.addr2line_lookups.specs.KeptCalls.{known_among}
 use Rattle.addr2line_lookups.specs.FramePlaces.{frames_of_answered}
 use Rattle.addr2line_lookups.specs.LookupCosts.{frame_probes_at}
 use Rattle.addr2line_lookups.specs.UnitLookups.{frames_among}
 use Rattle.addr2line_lookups.specs.PassedUnits.{AsksFramesAmong}
+use Rattle.addr2line_lookups.proofs.UnitChanges.{changes_none, changes_both}
 use Rattle.addr2line_lookups.proofs.AskedLines.{reads_none, reads_both}
-use Rattle.addr2line_lookups.proofs.PassedUnits.{pass_next, asked_next, asked_from, probes_from}
+use Rattle.addr2line_lookups.proofs.PassedUnits.{pass_next, asked_next, asked_from, probes_from, kept_still, kept_next}
 use Rattle.addr2line_lookups.proofs.SettledUnits.{calls_same, calls_back, frames_step_refused, frames_step_waits, frames_step_found, frames_step_nothing, no_frames_left}
 use Rattle.addr2line_lookups.proofs.UnitProbes.{looks_begin_after, looks_end}
-use Rattle.addr2line_lookups.proofs.AskedFunctions.{functions_begin, functions_next, functions_last, functions_end, frames_refusal, frames_waited, frames_there, is_value, memory_refused}
+use Rattle.addr2line_lookups.proofs.AskedFunctions.{functions_begin, functions_here, functions_next, functions_last, functions_end, frames_refusal, frames_waited, frames_there, is_value, memory_refused}
 use Rattle.addr2line_lookups.proofs.LookupProbes.{frame_probes_among, frames_further, frames_stop}
 use Rattle.addr2line_lookups.proofs.lookups.settle_frames.Goals as goal
 
@@ -31,7 +33,12 @@ loop-unit-init g c =
           (probes_from (frames_of_answered (known_among us s) a) (Ok []) (map value_of_unit us) a rs c.args.from.now
           c.requires.passed (frame_probes_at (known_among us s) (map value_of_unit us) a)),
       reads_none (AsksFramesAmong (known_among us s) (map value_of_unit us) a (covering_ranges a rs)) us,
-      functions_begin (frames_of_answered (known_among us s) a) (Ok []) us (covering_ranges a (drop c.args.from.now rs)),
+      functions_begin (frames_of_answered (known_among us s) a) (Ok []) us (covering_ranges a rs)
+          c.requires.kept.passed (covering_ranges a (drop c.args.from.now rs)) c.requires.kept.are_first
+          c.requires.kept.hold,
+      changes_none KeepsFunctionList
+          (AsksFramesAmong (known_among us s) (map value_of_unit us) a (covering_ranges a rs)) us,
+      c.requires.kept,
     )
 
 pub settle_frames_at-requires : goal.settle_frames_at-requires
@@ -55,20 +62,25 @@ returns-in_err-settle_frames_at g c =
     let before =
     asked_from (frames_of_answered (known_among us s) a) (Ok []) (map value_of_unit us) a rs c.loop-unit.from
     c.loop-unit.invariant.2 is_answer refl in
+    let asks = AsksFramesAmong (known_among us s) (map value_of_unit us) a (covering_ranges a rs) in
+    let here =
+    asked_next (frames_of_answered (known_among us s) a) (Ok []) (map value_of_unit us) a rs c.loop-unit.from
+    c.loop-unit.invariant.2 c.in-Some.unit c.in-Some.next c.in-Some.ensures in
     record {
       values = c.in_err-settle_frames_at.ensures.values ∙ c.loop-unit.invariant.0;
       calls = calls_back us vs c.loop-unit.invariant.0 s new c.in_err-settle_frames_at.ensures.calls;
       passed = c.loop-unit.invariant.2;
-      reads =
-          reads_both (AsksFramesAmong (known_among us s) (map value_of_unit us) a (covering_ranges a rs)) us vs new
-          r.unit
-          (asked_next (frames_of_answered (known_among us s) a) (Ok []) (map value_of_unit us) a rs c.loop-unit.from
-          c.loop-unit.invariant.2 c.in-Some.unit c.in-Some.next c.in-Some.ensures) c.loop-unit.invariant.4
-          c.in_err-settle_frames_at.ensures.reads;
+      reads = reads_both asks us vs new r.unit here c.loop-unit.invariant.4 c.in_err-settle_frames_at.ensures.reads;
+      functions =
+          changes_both KeepsFunctionList asks us vs new r.unit here c.loop-unit.invariant.6
+          c.in_err-settle_frames_at.ensures.functions;
+      kept =
+          kept_still a rs vs new c.loop-unit.from c.in_err-settle_frames_at.ensures.cost.functions
+          c.loop-unit.invariant.7;
       asked =
           rw (p.1, p.2) (λ other.
-          functions_last (frames_of_answered (known_among us s) a) (Ok []) us (covering_ranges a (drop c.args.from.now rs)) vs
-          new r old rest c.in-Some.ensures.1 c.loop-unit.invariant.0 c.in_err-settle_frames_at.ensures.cost.functions
+          functions_last (frames_of_answered (known_among us s) a) (Ok []) us (covering_ranges a rs) vs new r
+          old rest c.in-Some.ensures.1 c.loop-unit.invariant.0 c.in_err-settle_frames_at.ensures.cost.functions
           (c.in_err-settle_frames_at.ensures.kept other) c.loop-unit.invariant.5
           (frames_refusal us vs c.loop-unit.invariant.0 s a r.unit new _
           (c.in_err-settle_frames_at.ensures.found (λ m. memory_refused _ m other)))
@@ -98,19 +110,24 @@ returns-in-Waits g c =
     let before =
     asked_from (frames_of_answered (known_among us s) a) (Ok []) (map value_of_unit us) a rs c.loop-unit.from
     c.loop-unit.invariant.2 is_answer refl in
+    let asks = AsksFramesAmong (known_among us s) (map value_of_unit us) a (covering_ranges a rs) in
+    let here =
+    asked_next (frames_of_answered (known_among us s) a) (Ok []) (map value_of_unit us) a rs c.loop-unit.from
+    c.loop-unit.invariant.2 c.in-Some.unit c.in-Some.next c.in-Some.ensures in
     record {
       values = c.in_ok-settle_frames_at.ensures.values ∙ c.loop-unit.invariant.0;
       calls = calls_back us vs c.loop-unit.invariant.0 s new c.in_ok-settle_frames_at.ensures.calls;
       passed = c.loop-unit.invariant.2;
-      reads =
-          reads_both (AsksFramesAmong (known_among us s) (map value_of_unit us) a (covering_ranges a rs)) us vs new
-          r.unit
-          (asked_next (frames_of_answered (known_among us s) a) (Ok []) (map value_of_unit us) a rs c.loop-unit.from
-          c.loop-unit.invariant.2 c.in-Some.unit c.in-Some.next c.in-Some.ensures) c.loop-unit.invariant.4
-          c.in_ok-settle_frames_at.ensures.reads;
+      reads = reads_both asks us vs new r.unit here c.loop-unit.invariant.4 c.in_ok-settle_frames_at.ensures.reads;
+      functions =
+          changes_both KeepsFunctionList asks us vs new r.unit here c.loop-unit.invariant.6
+          c.in_ok-settle_frames_at.ensures.functions;
+      kept =
+          kept_still a rs vs new c.loop-unit.from c.in_ok-settle_frames_at.ensures.cost.functions
+          c.loop-unit.invariant.7;
       asked = λ answered.
-          functions_last (frames_of_answered (known_among us s) a) (Ok []) us (covering_ranges a (drop c.args.from.now rs)) vs
-          new r old rest c.in-Some.ensures.1 c.loop-unit.invariant.0 c.in_ok-settle_frames_at.ensures.cost.functions
+          functions_last (frames_of_answered (known_among us s) a) (Ok []) us (covering_ranges a rs) vs new r
+          old rest c.in-Some.ensures.1 c.loop-unit.invariant.0 c.in_ok-settle_frames_at.ensures.cost.functions
           (c.in_ok-settle_frames_at.ensures.kept (is_value _)) c.loop-unit.invariant.5
           (frames_waited us vs c.loop-unit.invariant.0 s a r.unit new c.in_ok-settle_frames_at.field-0
           c.in_ok-settle_frames_at.ensures.found c.in-Waits.is)
@@ -139,19 +156,24 @@ returns-in-Found g c =
     let before =
     asked_from (frames_of_answered (known_among us s) a) (Ok []) (map value_of_unit us) a rs c.loop-unit.from
     c.loop-unit.invariant.2 is_answer refl in
+    let asks = AsksFramesAmong (known_among us s) (map value_of_unit us) a (covering_ranges a rs) in
+    let here =
+    asked_next (frames_of_answered (known_among us s) a) (Ok []) (map value_of_unit us) a rs c.loop-unit.from
+    c.loop-unit.invariant.2 c.in-Some.unit c.in-Some.next c.in-Some.ensures in
     record {
       values = c.in_ok-settle_frames_at.ensures.values ∙ c.loop-unit.invariant.0;
       calls = calls_back us vs c.loop-unit.invariant.0 s new c.in_ok-settle_frames_at.ensures.calls;
       passed = c.loop-unit.invariant.2;
-      reads =
-          reads_both (AsksFramesAmong (known_among us s) (map value_of_unit us) a (covering_ranges a rs)) us vs new
-          r.unit
-          (asked_next (frames_of_answered (known_among us s) a) (Ok []) (map value_of_unit us) a rs c.loop-unit.from
-          c.loop-unit.invariant.2 c.in-Some.unit c.in-Some.next c.in-Some.ensures) c.loop-unit.invariant.4
-          c.in_ok-settle_frames_at.ensures.reads;
+      reads = reads_both asks us vs new r.unit here c.loop-unit.invariant.4 c.in_ok-settle_frames_at.ensures.reads;
+      functions =
+          changes_both KeepsFunctionList asks us vs new r.unit here c.loop-unit.invariant.6
+          c.in_ok-settle_frames_at.ensures.functions;
+      kept =
+          kept_still a rs vs new c.loop-unit.from c.in_ok-settle_frames_at.ensures.cost.functions
+          c.loop-unit.invariant.7;
       asked = λ answered.
-          functions_last (frames_of_answered (known_among us s) a) (Ok []) us (covering_ranges a (drop c.args.from.now rs)) vs
-          new r old rest c.in-Some.ensures.1 c.loop-unit.invariant.0 c.in_ok-settle_frames_at.ensures.cost.functions
+          functions_last (frames_of_answered (known_among us s) a) (Ok []) us (covering_ranges a rs) vs new r
+          old rest c.in-Some.ensures.1 c.loop-unit.invariant.0 c.in_ok-settle_frames_at.ensures.cost.functions
           (c.in_ok-settle_frames_at.ensures.kept (is_value _)) c.loop-unit.invariant.5
           (frames_there us vs c.loop-unit.invariant.0 s a r.unit new c.in_ok-settle_frames_at.field-0
           c.in_ok-settle_frames_at.ensures.found c.in-Found.place c.in-Found.is)
@@ -180,22 +202,30 @@ loop-unit-preserved g c =
     let before =
     asked_from (frames_of_answered (known_among us s) a) (Ok []) (map value_of_unit us) a rs c.loop-unit.from
     c.loop-unit.invariant.2 is_answer refl in
-    let known = known_among us s in (
+    let asks = AsksFramesAmong (known_among us s) (map value_of_unit us) a (covering_ranges a rs) in
+    let here =
+    asked_next (frames_of_answered (known_among us s) a) (Ok []) (map value_of_unit us) a rs c.loop-unit.from
+    c.loop-unit.invariant.2 c.in-Some.unit c.in-Some.next c.in-Some.ensures in
+    let known = known_among us s in
+    let nothing =
+    frames_step_nothing us vs c.loop-unit.invariant.0 s a r old rest c.in-Some.ensures.1 whole before new
+    c.in_ok-settle_frames_at.field-0 c.in_ok-settle_frames_at.ensures.found c.in-Nothing.is in (
       c.in_ok-settle_frames_at.ensures.values ∙ c.loop-unit.invariant.0,
       calls_back us vs c.loop-unit.invariant.0 s new c.in_ok-settle_frames_at.ensures.calls,
       pass_next (frames_of_answered known a) (Ok []) (map value_of_unit us) a rs c.loop-unit.from
-          c.loop-unit.invariant.2 c.in-Some.unit c.in-Some.next c.in-Some.ensures
-          (frames_step_nothing us vs c.loop-unit.invariant.0 s a r old rest c.in-Some.ensures.1 whole before new
-          c.in_ok-settle_frames_at.field-0 c.in_ok-settle_frames_at.ensures.found c.in-Nothing.is),
+          c.loop-unit.invariant.2 c.in-Some.unit c.in-Some.next c.in-Some.ensures nothing,
       frames_further us vs c.loop-unit.invariant.0 a (frame_probes_among us s a (covering_ranges a rs)) r old rest
           c.in-Some.ensures.1 new s c.loop-unit.invariant.3 c.in_ok-settle_frames_at.ensures.cost,
-      reads_both (AsksFramesAmong (known_among us s) (map value_of_unit us) a (covering_ranges a rs)) us vs new r.unit
-          (asked_next (frames_of_answered (known_among us s) a) (Ok []) (map value_of_unit us) a rs c.loop-unit.from
-          c.loop-unit.invariant.2 c.in-Some.unit c.in-Some.next c.in-Some.ensures) c.loop-unit.invariant.4
-          c.in_ok-settle_frames_at.ensures.reads,
-      functions_next (frames_of_answered known a) (Ok []) us (covering_ranges a (drop c.args.from.now rs)) vs new r old rest
+      reads_both asks us vs new r.unit here c.loop-unit.invariant.4 c.in_ok-settle_frames_at.ensures.reads,
+      functions_next (frames_of_answered known a) (Ok []) us (covering_ranges a rs) vs new r old rest
           c.in-Some.ensures.1 c.loop-unit.invariant.0 c.in_ok-settle_frames_at.ensures.cost.functions
           (c.in_ok-settle_frames_at.ensures.kept (is_value _)) c.loop-unit.invariant.5,
+      changes_both KeepsFunctionList asks us vs new r.unit here c.loop-unit.invariant.6
+          c.in_ok-settle_frames_at.ensures.functions,
+      kept_next a rs vs new c.loop-unit.from c.in-Some.unit c.in-Some.next
+          c.in_ok-settle_frames_at.ensures.cost.functions c.loop-unit.invariant.7 c.in-Some.ensures
+          (functions_here (frames_of_answered known a) (Ok []) us (covering_ranges a rs) vs new r
+          c.loop-unit.invariant.0 nothing (c.in_ok-settle_frames_at.ensures.kept (is_value _))),
     )
 
 pub returns : goal.returns
@@ -214,8 +244,10 @@ returns g c =
       calls = c.loop-unit.invariant.1;
       passed = c.loop-unit.invariant.2;
       reads = c.loop-unit.invariant.4;
+      functions = c.loop-unit.invariant.6;
+      kept = c.loop-unit.invariant.7;
       asked = λ answered.
-          functions_end (frames_of_answered (known_among us s) a) (Ok []) us (covering_ranges a (drop c.args.from.now rs)) old
+          functions_end (frames_of_answered (known_among us s) a) (Ok []) us (covering_ranges a rs) old
           c.loop-unit.units.items c.in_default.ensures c.loop-unit.invariant.0 c.loop-unit.invariant.5;
       cost =
           looks_end (frame_probes_among us s a (covering_ranges a rs)) (frame_probes_among us s a old) us

@@ -1,12 +1,13 @@
--- The units before the index know nothing, the units' values are the same, and looks are left for the ranges that are
--- left. No lines were read but of units that are asked, and the functions of those that were asked are kept.
+-- The units before the index know nothing and keep their functions, the units' values are the same, and looks are left
+-- for the ranges that are left. Neither lines nor functions were read but of units that are asked, and the functions of
+-- those that were asked are kept.
 use Rattle.std.proofs.Common.{◌≡◌, [], length, map, drop, Ok}
 use Rattle.addr2line_resolved.specs.NumberedRanges.{covering_ranges}
 use Rattle.addr2line_resolved.specs.ResolvedUnits.{value_of_unit}
-use Rattle.addr2line_lookups.specs.KeptUnits.{ReadsAsked}
+use Rattle.addr2line_lookups.specs.KeptUnits.{ReadsAsked, ReadsAskedFunctions}
 use Rattle.addr2line_lookups.specs.KeptCalls.{known_among, HoldCalls}
 use Rattle.addr2line_lookups.specs.FramePlaces.{frames_of_answered}
-use Rattle.addr2line_lookups.specs.PassedUnits.{PassFrames, AsksFramesAmong}
+use Rattle.addr2line_lookups.specs.PassedUnits.{PassFrames, AsksFramesAmong, PassedAreKept}
 use Rattle.addr2line_lookups.proofs.UnitProbes.{LooksLeft}
 use Rattle.addr2line_lookups.proofs.AskedFunctions.{FunctionsAsked}
 use Rattle.addr2line_lookups.proofs.LookupProbes.{frame_probes_among}
@@ -23,8 +24,11 @@ invariant-loop-unit g l =
     (frame_probes_among us l.supplement_units l.probe (covering_ranges l.probe (drop l.from l.ranges))) us l.units.items
     × ReadsAsked (AsksFramesAmong known (map value_of_unit us) l.probe (covering_ranges l.probe l.ranges)) us
     l.units.items
-    × FunctionsAsked (frames_of_answered known l.probe) (Ok []) us (covering_ranges l.probe (drop l.fn.from l.ranges))
+    × FunctionsAsked (frames_of_answered known l.probe) (Ok []) us (covering_ranges l.probe l.ranges)
     (covering_ranges l.probe (drop l.from l.ranges)) l.units.items
+    × ReadsAskedFunctions (AsksFramesAmong known (map value_of_unit us) l.probe (covering_ranges l.probe l.ranges)) us
+    l.units.items
+    × PassedAreKept l.units.items l.probe l.from l.ranges
 
 abbrev pub decreases-loop-unit : goal.decreases-loop-unit
 decreases-loop-unit g l = length (covering_ranges l.probe (drop l.from l.ranges))

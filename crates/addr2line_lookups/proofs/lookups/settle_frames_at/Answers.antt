@@ -2,12 +2,14 @@ use Rattle.std.proofs.Common.{◌≡◌, map, subst, Option, Ok, []}
 use Rattle.std.proofs.lemmas.Result.{err_from_is_err_and}
 use Rattle.addr2line_resolved.specs.Error.TheVariants.{Memory}
 use Rattle.addr2line_resolved.specs.ResolvedUnits.{value_of_unit}
+use Rattle.addr2line_lookups.specs.KeptUnits.{KeepsFunctionList}
 use Rattle.addr2line_lookups.specs.KeptCalls.{known_among}
 use Rattle.addr2line_lookups.specs.FramePlaces.{FindsFrames, frames_of_answered, frames_at_number}
 use Rattle.addr2line_lookups.specs.declared.frame_place.FramePlace.{FramePlace}
 use Rattle.addr2line_lookups.specs.declared.settled.Settled.{Settled}
 use Rattle.addr2line_lookups.proofs.UnitProbes.{refused_so}
 use Rattle.addr2line_lookups.proofs.AskedFunctions.{is_value, waits_undecided}
+use Rattle.addr2line_lookups.proofs.UnitChanges.{changes_none}
 use Rattle.addr2line_lookups.proofs.AskedLines.{reads_none}
 use Rattle.addr2line_lookups.proofs.SettledUnits.{waits_here, decided_here, frames_decided, output_of}
 use Rattle.addr2line_lookups.proofs.lookups.settle_frames_at.Goals as goal
@@ -24,6 +26,10 @@ returns-then-waits_at-clause-found g c =
 
 pub returns-then-waits_at-clause-reads : goal.returns-then-waits_at-clause-reads
 returns-then-waits_at-clause-reads g c = reads_none (λ n. n ≡ c.args.number) c.args.units.now.items
+
+pub returns-then-waits_at-clause-functions : goal.returns-then-waits_at-clause-functions
+returns-then-waits_at-clause-functions g c =
+    changes_none KeepsFunctionList (λ n. n ≡ c.args.number) c.args.units.now.items
 
 pub returns-then-waits_at-clause-kept : goal.returns-then-waits_at-clause-kept
 returns-then-waits_at-clause-kept g c = λ answered none.
@@ -42,6 +48,7 @@ returns-in_err-place g c =
       calls = c.in_err-place.ensures.calls;
       cost = c.in_err-place.ensures.cost;
       reads = c.in_err-place.ensures.reads;
+      functions = c.in_err-place.ensures.functions;
       kept =
           rw (p.1, p.2) (λ other none.
           c.in_err-place.ensures.kept (refused_so (Settled FramePlace) (Option FramePlace) _ Memory other));
@@ -65,6 +72,7 @@ returns-in-Some g c =
       calls = c.in_ok-place.ensures.calls;
       cost = c.in_ok-place.ensures.cost;
       reads = c.in_ok-place.ensures.reads;
+      functions = c.in_ok-place.ensures.functions;
       kept = λ answered none. c.in_ok-place.ensures.kept (is_value _);
       found = record {
         answer = answer;
@@ -87,6 +95,7 @@ returns-in-None g c =
       calls = c.in_ok-place.ensures.calls;
       cost = c.in_ok-place.ensures.cost;
       reads = c.in_ok-place.ensures.reads;
+      functions = c.in_ok-place.ensures.functions;
       kept = λ answered none. c.in_ok-place.ensures.kept (is_value _);
       found =
           output_of _ _ _ (frames_decided known vs c.args.probe c.args.number decided)

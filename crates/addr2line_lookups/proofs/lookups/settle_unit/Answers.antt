@@ -4,15 +4,17 @@ use Rattle.addr2line_resolved.specs.Lookups.{is_there}
 use Rattle.addr2line_resolved.specs.UnitRange.{UnitRange}
 use Rattle.addr2line_resolved.specs.NumberedRanges.{covering_ranges}
 use Rattle.addr2line_resolved.specs.ResolvedUnits.{value_of_unit}
+use Rattle.addr2line_lookups.specs.KeptUnits.{KeepsFunctionList}
 use Rattle.addr2line_lookups.specs.KeptCalls.{known_among}
 use Rattle.addr2line_lookups.specs.LookupCosts.{frame_probes_at}
 use Rattle.addr2line_lookups.specs.UnitLookups.{unit_among, unit_of_answered}
 use Rattle.addr2line_lookups.specs.PassedUnits.{AsksUnitAmong}
+use Rattle.addr2line_lookups.proofs.UnitChanges.{changes_none, changes_both}
 use Rattle.addr2line_lookups.proofs.AskedLines.{reads_none, reads_both}
-use Rattle.addr2line_lookups.proofs.PassedUnits.{pass_next, asked_next, asked_from, probes_from}
+use Rattle.addr2line_lookups.proofs.PassedUnits.{pass_next, asked_next, asked_from, probes_from, kept_still, kept_next}
 use Rattle.addr2line_lookups.proofs.SettledUnits.{calls_same, calls_back, unit_step_waits, unit_step_found, unit_step_nothing, no_unit_left}
 use Rattle.addr2line_lookups.proofs.UnitProbes.{looks_begin_after, looks_end}
-use Rattle.addr2line_lookups.proofs.AskedFunctions.{functions_begin, functions_next, functions_last, functions_end, unit_waited, unit_there, is_value, memory_refused}
+use Rattle.addr2line_lookups.proofs.AskedFunctions.{functions_begin, functions_here, functions_next, functions_last, functions_end, unit_waited, unit_there, is_value, memory_refused}
 use Rattle.addr2line_lookups.proofs.LookupProbes.{frame_probes_among, frames_further, frames_stop}
 use Rattle.addr2line_lookups.proofs.lookups.settle_unit.Goals as goal
 
@@ -30,7 +32,11 @@ loop-unit-init g c =
           (probes_from (unit_of_answered (known_among us s) a) None (map value_of_unit us) a rs c.args.from.now
           c.requires.passed (frame_probes_at (known_among us s) (map value_of_unit us) a)),
       reads_none (AsksUnitAmong (known_among us s) (map value_of_unit us) a (covering_ranges a rs)) us,
-      functions_begin (unit_of_answered (known_among us s) a) None us (covering_ranges a (drop c.args.from.now rs)),
+      functions_begin (unit_of_answered (known_among us s) a) None us (covering_ranges a rs) c.requires.kept.passed
+          (covering_ranges a (drop c.args.from.now rs)) c.requires.kept.are_first c.requires.kept.hold,
+      changes_none KeepsFunctionList (AsksUnitAmong (known_among us s) (map value_of_unit us) a (covering_ranges a rs))
+          us,
+      c.requires.kept,
     )
 
 pub settle_unit_at-requires : goal.settle_unit_at-requires
@@ -54,15 +60,21 @@ returns-in_err-settle_unit_at g c =
     let before =
     asked_from (unit_of_answered (known_among us s) a) None (map value_of_unit us) a rs c.loop-unit.from
     c.loop-unit.invariant.2 is_there refl in
+    let asks = AsksUnitAmong (known_among us s) (map value_of_unit us) a (covering_ranges a rs) in
+    let here =
+    asked_next (unit_of_answered (known_among us s) a) None (map value_of_unit us) a rs c.loop-unit.from
+    c.loop-unit.invariant.2 c.in-Some.unit c.in-Some.next c.in-Some.ensures in
     record {
       values = c.in_err-settle_unit_at.ensures.values ∙ c.loop-unit.invariant.0;
       calls = calls_back us vs c.loop-unit.invariant.0 s new c.in_err-settle_unit_at.ensures.calls;
       passed = c.loop-unit.invariant.2;
-      reads =
-          reads_both (AsksUnitAmong (known_among us s) (map value_of_unit us) a (covering_ranges a rs)) us vs new r.unit
-          (asked_next (unit_of_answered (known_among us s) a) None (map value_of_unit us) a rs c.loop-unit.from
-          c.loop-unit.invariant.2 c.in-Some.unit c.in-Some.next c.in-Some.ensures) c.loop-unit.invariant.4
-          c.in_err-settle_unit_at.ensures.reads;
+      reads = reads_both asks us vs new r.unit here c.loop-unit.invariant.4 c.in_err-settle_unit_at.ensures.reads;
+      functions =
+          changes_both KeepsFunctionList asks us vs new r.unit here c.loop-unit.invariant.6
+          c.in_err-settle_unit_at.ensures.functions;
+      kept =
+          kept_still a rs vs new c.loop-unit.from c.in_err-settle_unit_at.ensures.cost.functions
+          c.loop-unit.invariant.7;
       asked =
           rw (p.1, p.2) (λ other. absurd (memory_refused _ c.in_err-settle_unit_at.ensures.found other));
       cost =
@@ -87,18 +99,23 @@ returns-in-Waits g c =
     let before =
     asked_from (unit_of_answered (known_among us s) a) None (map value_of_unit us) a rs c.loop-unit.from
     c.loop-unit.invariant.2 is_there refl in
+    let asks = AsksUnitAmong (known_among us s) (map value_of_unit us) a (covering_ranges a rs) in
+    let here =
+    asked_next (unit_of_answered (known_among us s) a) None (map value_of_unit us) a rs c.loop-unit.from
+    c.loop-unit.invariant.2 c.in-Some.unit c.in-Some.next c.in-Some.ensures in
     record {
       values = c.in_ok-settle_unit_at.ensures.values ∙ c.loop-unit.invariant.0;
       calls = calls_back us vs c.loop-unit.invariant.0 s new c.in_ok-settle_unit_at.ensures.calls;
       passed = c.loop-unit.invariant.2;
-      reads =
-          reads_both (AsksUnitAmong (known_among us s) (map value_of_unit us) a (covering_ranges a rs)) us vs new r.unit
-          (asked_next (unit_of_answered (known_among us s) a) None (map value_of_unit us) a rs c.loop-unit.from
-          c.loop-unit.invariant.2 c.in-Some.unit c.in-Some.next c.in-Some.ensures) c.loop-unit.invariant.4
-          c.in_ok-settle_unit_at.ensures.reads;
+      reads = reads_both asks us vs new r.unit here c.loop-unit.invariant.4 c.in_ok-settle_unit_at.ensures.reads;
+      functions =
+          changes_both KeepsFunctionList asks us vs new r.unit here c.loop-unit.invariant.6
+          c.in_ok-settle_unit_at.ensures.functions;
+      kept =
+          kept_still a rs vs new c.loop-unit.from c.in_ok-settle_unit_at.ensures.cost.functions c.loop-unit.invariant.7;
       asked = λ answered.
-          functions_last (unit_of_answered (known_among us s) a) None us (covering_ranges a (drop c.args.from.now rs)) vs
-          new r old rest c.in-Some.ensures.1 c.loop-unit.invariant.0 c.in_ok-settle_unit_at.ensures.cost.functions
+          functions_last (unit_of_answered (known_among us s) a) None us (covering_ranges a rs) vs new r
+          old rest c.in-Some.ensures.1 c.loop-unit.invariant.0 c.in_ok-settle_unit_at.ensures.cost.functions
           (c.in_ok-settle_unit_at.ensures.kept (is_value _)) c.loop-unit.invariant.5
           (unit_waited us vs c.loop-unit.invariant.0 s a r.unit c.in_ok-settle_unit_at.field-0
           c.in_ok-settle_unit_at.ensures.found c.in-Waits.is)
@@ -127,18 +144,23 @@ returns-in-Found g c =
     let before =
     asked_from (unit_of_answered (known_among us s) a) None (map value_of_unit us) a rs c.loop-unit.from
     c.loop-unit.invariant.2 is_there refl in
+    let asks = AsksUnitAmong (known_among us s) (map value_of_unit us) a (covering_ranges a rs) in
+    let here =
+    asked_next (unit_of_answered (known_among us s) a) None (map value_of_unit us) a rs c.loop-unit.from
+    c.loop-unit.invariant.2 c.in-Some.unit c.in-Some.next c.in-Some.ensures in
     record {
       values = c.in_ok-settle_unit_at.ensures.values ∙ c.loop-unit.invariant.0;
       calls = calls_back us vs c.loop-unit.invariant.0 s new c.in_ok-settle_unit_at.ensures.calls;
       passed = c.loop-unit.invariant.2;
-      reads =
-          reads_both (AsksUnitAmong (known_among us s) (map value_of_unit us) a (covering_ranges a rs)) us vs new r.unit
-          (asked_next (unit_of_answered (known_among us s) a) None (map value_of_unit us) a rs c.loop-unit.from
-          c.loop-unit.invariant.2 c.in-Some.unit c.in-Some.next c.in-Some.ensures) c.loop-unit.invariant.4
-          c.in_ok-settle_unit_at.ensures.reads;
+      reads = reads_both asks us vs new r.unit here c.loop-unit.invariant.4 c.in_ok-settle_unit_at.ensures.reads;
+      functions =
+          changes_both KeepsFunctionList asks us vs new r.unit here c.loop-unit.invariant.6
+          c.in_ok-settle_unit_at.ensures.functions;
+      kept =
+          kept_still a rs vs new c.loop-unit.from c.in_ok-settle_unit_at.ensures.cost.functions c.loop-unit.invariant.7;
       asked = λ answered.
-          functions_last (unit_of_answered (known_among us s) a) None us (covering_ranges a (drop c.args.from.now rs)) vs
-          new r old rest c.in-Some.ensures.1 c.loop-unit.invariant.0 c.in_ok-settle_unit_at.ensures.cost.functions
+          functions_last (unit_of_answered (known_among us s) a) None us (covering_ranges a rs) vs new r
+          old rest c.in-Some.ensures.1 c.loop-unit.invariant.0 c.in_ok-settle_unit_at.ensures.cost.functions
           (c.in_ok-settle_unit_at.ensures.kept (is_value _)) c.loop-unit.invariant.5
           (unit_there us vs c.loop-unit.invariant.0 s a r.unit c.in_ok-settle_unit_at.field-0
           c.in_ok-settle_unit_at.ensures.found c.in-Found.number c.in-Found.is)
@@ -167,22 +189,30 @@ loop-unit-preserved g c =
     let before =
     asked_from (unit_of_answered (known_among us s) a) None (map value_of_unit us) a rs c.loop-unit.from
     c.loop-unit.invariant.2 is_there refl in
-    let known = known_among us s in (
+    let asks = AsksUnitAmong (known_among us s) (map value_of_unit us) a (covering_ranges a rs) in
+    let here =
+    asked_next (unit_of_answered (known_among us s) a) None (map value_of_unit us) a rs c.loop-unit.from
+    c.loop-unit.invariant.2 c.in-Some.unit c.in-Some.next c.in-Some.ensures in
+    let known = known_among us s in
+    let nothing =
+    unit_step_nothing us vs c.loop-unit.invariant.0 s a r old rest c.in-Some.ensures.1 whole before
+    c.in_ok-settle_unit_at.field-0 c.in_ok-settle_unit_at.ensures.found c.in-Nothing.is in (
       c.in_ok-settle_unit_at.ensures.values ∙ c.loop-unit.invariant.0,
       calls_back us vs c.loop-unit.invariant.0 s new c.in_ok-settle_unit_at.ensures.calls,
       pass_next (unit_of_answered known a) None (map value_of_unit us) a rs c.loop-unit.from c.loop-unit.invariant.2
-          c.in-Some.unit c.in-Some.next c.in-Some.ensures
-          (unit_step_nothing us vs c.loop-unit.invariant.0 s a r old rest c.in-Some.ensures.1 whole before
-          c.in_ok-settle_unit_at.field-0 c.in_ok-settle_unit_at.ensures.found c.in-Nothing.is),
+          c.in-Some.unit c.in-Some.next c.in-Some.ensures nothing,
       frames_further us vs c.loop-unit.invariant.0 a (frame_probes_among us s a (covering_ranges a rs)) r old rest
           c.in-Some.ensures.1 new s c.loop-unit.invariant.3 c.in_ok-settle_unit_at.ensures.cost,
-      reads_both (AsksUnitAmong (known_among us s) (map value_of_unit us) a (covering_ranges a rs)) us vs new r.unit
-          (asked_next (unit_of_answered (known_among us s) a) None (map value_of_unit us) a rs c.loop-unit.from
-          c.loop-unit.invariant.2 c.in-Some.unit c.in-Some.next c.in-Some.ensures) c.loop-unit.invariant.4
-          c.in_ok-settle_unit_at.ensures.reads,
-      functions_next (unit_of_answered known a) None us (covering_ranges a (drop c.args.from.now rs)) vs new r old rest
+      reads_both asks us vs new r.unit here c.loop-unit.invariant.4 c.in_ok-settle_unit_at.ensures.reads,
+      functions_next (unit_of_answered known a) None us (covering_ranges a rs) vs new r old rest
           c.in-Some.ensures.1 c.loop-unit.invariant.0 c.in_ok-settle_unit_at.ensures.cost.functions
           (c.in_ok-settle_unit_at.ensures.kept (is_value _)) c.loop-unit.invariant.5,
+      changes_both KeepsFunctionList asks us vs new r.unit here c.loop-unit.invariant.6
+          c.in_ok-settle_unit_at.ensures.functions,
+      kept_next a rs vs new c.loop-unit.from c.in-Some.unit c.in-Some.next c.in_ok-settle_unit_at.ensures.cost.functions
+          c.loop-unit.invariant.7 c.in-Some.ensures
+          (functions_here (unit_of_answered known a) None us (covering_ranges a rs) vs new r
+          c.loop-unit.invariant.0 nothing (c.in_ok-settle_unit_at.ensures.kept (is_value _))),
     )
 
 pub returns : goal.returns
@@ -201,8 +231,10 @@ returns g c =
       calls = c.loop-unit.invariant.1;
       passed = c.loop-unit.invariant.2;
       reads = c.loop-unit.invariant.4;
+      functions = c.loop-unit.invariant.6;
+      kept = c.loop-unit.invariant.7;
       asked = λ answered.
-          functions_end (unit_of_answered (known_among us s) a) None us (covering_ranges a (drop c.args.from.now rs)) old
+          functions_end (unit_of_answered (known_among us s) a) None us (covering_ranges a rs) old
           c.loop-unit.units.items c.in_default.ensures c.loop-unit.invariant.0 c.loop-unit.invariant.5;
       cost =
           looks_end (frame_probes_among us s a (covering_ranges a rs)) (frame_probes_among us s a old) us

@@ -1,9 +1,11 @@
 use Rattle.std.proofs.Common.{◌≡◌, map, subst, Option, None, Ok}
 use Rattle.addr2line_resolved.specs.ResolvedUnits.{value_of_unit}
+use Rattle.addr2line_lookups.specs.KeptUnits.{KeepsFunctionList}
 use Rattle.addr2line_lookups.specs.KeptCalls.{known_among}
 use Rattle.addr2line_lookups.specs.FramePlaces.{FindsFrames, frames_at_number}
 use Rattle.addr2line_lookups.specs.UnitLookups.{unit_of_answered}
 use Rattle.addr2line_lookups.specs.declared.frame_place.FramePlace.{FramePlace}
+use Rattle.addr2line_lookups.proofs.UnitChanges.{changes_none}
 use Rattle.addr2line_lookups.proofs.AskedLines.{reads_none}
 use Rattle.addr2line_lookups.proofs.SettledUnits.{waits_here, decided_here, unit_with_frames, unit_without_frames, unit_is_there, no_frames_has, refused_has, has_some_frames}
 use Rattle.addr2line_lookups.proofs.AskedFunctions.{is_value, is_other, waits_undecided}
@@ -21,6 +23,10 @@ returns-then-waits_at-clause-found g c =
 
 pub returns-then-waits_at-clause-reads : goal.returns-then-waits_at-clause-reads
 returns-then-waits_at-clause-reads g c = reads_none (λ n. n ≡ c.args.number) c.args.units.now.items
+
+pub returns-then-waits_at-clause-functions : goal.returns-then-waits_at-clause-functions
+returns-then-waits_at-clause-functions g c =
+    changes_none KeepsFunctionList (λ n. n ≡ c.args.number) c.args.units.now.items
 
 pub returns-then-waits_at-clause-kept : goal.returns-then-waits_at-clause-kept
 returns-then-waits_at-clause-kept g c = λ answered none.
@@ -43,6 +49,7 @@ returns-in-Ok-Some g c =
       calls = c.in-Ok-Some.ensures.calls;
       cost = c.in-Ok-Some.ensures.cost;
       reads = c.in-Ok-Some.ensures.reads;
+      functions = c.in-Ok-Some.ensures.functions;
       kept = λ answered none. c.in-Ok-Some.ensures.kept (is_value _);
       found = record {
         is_found = unit_with_frames known vs c.args.probe n decided has;
@@ -65,6 +72,7 @@ returns-in-Ok-None g c =
       calls = c.in-Ok-None.ensures.calls;
       cost = c.in-Ok-None.ensures.cost;
       reads = c.in-Ok-None.ensures.reads;
+      functions = c.in-Ok-None.ensures.functions;
       kept = λ answered none. c.in-Ok-None.ensures.kept (is_value _);
       found =
           unit_without_frames known vs c.args.probe n decided
@@ -84,6 +92,7 @@ returns-in_default g c =
       calls = c.in-Err.ensures.calls;
       cost = c.in-Err.ensures.cost;
       reads = c.in-Err.ensures.reads;
+      functions = c.in-Err.ensures.functions;
       kept = λ answered none.
           c.in-Err.ensures.kept (is_other c.in-Err.error (λ m. c.in_default.not-Memory m));
       found =

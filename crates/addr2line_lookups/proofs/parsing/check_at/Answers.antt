@@ -5,7 +5,7 @@ use Rattle.addr2line_resolved.specs.ResolvedUnits.{ResolvedUnit, KeepsLines, val
 use Rattle.addr2line_lookups.proofs.AskedLines.{reads_set}
 use Rattle.addr2line_lookups.proofs.CallsOfUnits.{if_here, leaves_calls}
 use Rattle.addr2line_lookups.proofs.CallsLeft.{leaves_value}
-use Rattle.addr2line_lookups.proofs.KeptFunctionLists.{functions_same}
+use Rattle.addr2line_lookups.proofs.KeptFunctionLists.{functions_same, no_functions_set}
 use Rattle.addr2line_lookups.proofs.KeptLines.{keeps_set}
 use Rattle.addr2line_lookups.proofs.UnitRows.{check_here, same_values}
 use Rattle.addr2line_lookups.proofs.UnitProbes.{looks_set, looks_same}
@@ -35,6 +35,9 @@ returns g c =
           (ap (λ (u : ResolvedUnit). u.calls) c.check_lines.ensures.unit)));
       kept = λ answered. keeps_set us n c.check_lines.new.self (c.check_lines.ensures.kept answered);
       reads = reads_set us n c.check_lines.new.self;
+      functions =
+          no_functions_set us n unit c.index_mut-unit.ensures.value c.check_lines.new.self
+          (ap (λ (u : ResolvedUnit). u.keeps_functions) c.check_lines.ensures.unit);
       free =
           λ kept. c.check_lines.ensures.free (if_here us n unit below c.index_mut-unit.ensures.value KeepsLines kept);
     }

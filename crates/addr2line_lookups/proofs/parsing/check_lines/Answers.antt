@@ -4,13 +4,15 @@ use Rattle.addr2line_resolved.specs.Contexts.{all_lines_or_refusal}
 use Rattle.addr2line_resolved.specs.ResolvedUnits.{plain_unit}
 use Rattle.addr2line_lookups.proofs.AskedLines.{units_begin, unit_next, unit_refused, unit_reads, unit_kept, units_end, no_stop}
 use Rattle.addr2line_lookups.proofs.CallsLeft.{leaves_none, leaves_both}
+use Rattle.addr2line_lookups.proofs.KeptFunctionLists.{no_functions_none, no_functions_both}
 use Rattle.addr2line_lookups.proofs.KeptLines.{check_more, check_stops}
 use Rattle.addr2line_lookups.proofs.UnitProbes.{looks_none, looks_after}
 use Rattle.addr2line_lookups.proofs.parsing.check_lines.Goals as goal
 
 pub loop-number-init : goal.loop-number-init
 loop-number-init g c =
-    let us = c.args.units.now.items in (refl, refl, leaves_none us, looks_none 0 us, units_begin us 0 refl)
+    let us = c.args.units.now.items in
+    (refl, refl, leaves_none us, looks_none 0 us, units_begin us 0 refl, no_functions_none us)
 
 pub returns-in_err-check_at-clause-found : goal.returns-in_err-check_at-clause-found
 returns-in_err-check_at-clause-found g c =
@@ -35,6 +37,7 @@ loop-number-preserved g c =
       unit_next us vs c.loop-number.number c.loop-number.invariant.4 c.check_at.new.units.items
           c.in_ok-check_at.ensures.reads c.loop-number.invariant.0 c.in_ok-check_at.ensures.cost.more
           c.in_ok-check_at.ensures.found (c.in_ok-check_at.ensures.kept (no_stop _)),
+      no_functions_both us vs c.check_at.new.units.items c.loop-number.invariant.5 c.in_ok-check_at.ensures.functions,
     )
 
 pub returns-in_err-check_at-clause-asked : goal.returns-in_err-check_at-clause-asked
@@ -80,3 +83,11 @@ returns-clause-cost g c = c.loop-number.invariant.3
 
 pub returns-clause-calls : goal.returns-clause-calls
 returns-clause-calls g c = c.loop-number.invariant.2
+
+pub returns-in_err-check_at-clause-functions : goal.returns-in_err-check_at-clause-functions
+returns-in_err-check_at-clause-functions g c =
+    no_functions_both c.args.units.now.items c.loop-number.units.items c.check_at.new.units.items
+    c.loop-number.invariant.5 c.in_err-check_at.ensures.functions
+
+pub returns-clause-functions : goal.returns-clause-functions
+returns-clause-functions g c = c.loop-number.invariant.5

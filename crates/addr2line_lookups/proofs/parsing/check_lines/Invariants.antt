@@ -1,8 +1,10 @@
 -- The lines of the units before a number can be read, the units' values are the same, calls that are kept stay the
--- definition's, and nothing was looked at. The lines of these units are kept, and no others were read.
+-- definition's, and nothing was looked at. The lines of these units are kept, and no others were read, nor
+-- any functions.
 use Rattle.std.proofs.Common.{◌≡◌, ◌-◌, length, map}
 use Rattle.addr2line_resolved.specs.Contexts.{all_lines_or_refusal}
 use Rattle.addr2line_resolved.specs.ResolvedUnits.{plain_unit, value_of_unit}
+use Rattle.addr2line_lookups.specs.KeptUnits.{ReadsNoFunctions}
 use Rattle.addr2line_lookups.specs.KeptCalls.{LeavesCalls}
 use Rattle.addr2line_lookups.proofs.AskedLines.{AsksUnits}
 use Rattle.addr2line_lookups.proofs.KeptLines.{check_from}
@@ -17,6 +19,7 @@ invariant-loop-number g l =
     × LeavesCalls l.fn.units.items l.units.items
     × AtMostLooks 0 l.fn.units.items l.units.items
     × AsksUnits l.fn.units.items l.number l.units.items
+    × ReadsNoFunctions l.fn.units.items l.units.items
 
 abbrev pub decreases-loop-number : goal.decreases-loop-number
 decreases-loop-number g l = length l.fn.units.items - l.number

@@ -46,7 +46,8 @@ returns-in_err-parse_functions_at g c =
           rw (p.1, p.2) (λ other.
           functions_refused vs ws c.loop-number.number _ c.loop-number.invariant.4
           c.in_err-parse_functions_at.ensures.cost.functions
-          (c.in_err-parse_functions_at.ensures.kept (is_other _ other)) c.in_err-parse_functions_at.ensures.found other);
+          (c.in_err-parse_functions_at.ensures.kept (is_other _ other))
+          c.in_err-parse_functions_at.ensures.found other);
       calls = leaves_both us vs ws c.loop-number.invariant.1 c.in_err-parse_functions_at.ensures.calls;
       cost = looks_after 0 us vs ws c.loop-number.invariant.2 c.in_err-parse_functions_at.ensures.cost;
       lines = no_lines_both us vs ws c.loop-number.invariant.3 c.in_err-parse_functions_at.ensures.lines;

@@ -1,5 +1,6 @@
--- The loads that are listed, and those of the ranges that are left, that of each unit once, are all.
-use Rattle.std.proofs.Common.{◌≡◌, length, map}
+-- The loads that are listed, and those of the ranges that are left, that of each unit once, are all. Where there are
+-- none, none are left.
+use Rattle.std.proofs.Common.{◌≡◌, [], length, map}
 use Rattle.addr2line_resolved.specs.Lookups.{one_each}
 use Rattle.addr2line_resolved.specs.NumberedRanges.{covering_ranges}
 use Rattle.addr2line_resolved.specs.ResolvedUnits.{value_of_unit}
@@ -12,6 +13,8 @@ invariant-loop-range g l =
     (listed_first (map load_of_item l.loads.items) (loads_at (map value_of_unit l.units) l.covering)
     ≡ one_each (loads_at (map value_of_unit l.units) (covering_ranges l.probe l.ranges)))
     × AreNumbersOf (map load_of_item l.loads.items) l.numbers
+    × (loads_at (map value_of_unit l.units) (covering_ranges l.probe l.ranges) ≡ []
+    → loads_at (map value_of_unit l.units) l.covering ≡ [])
 
 abbrev pub decreases-loop-range : goal.decreases-loop-range
 decreases-loop-range g l = length l.covering

@@ -9,6 +9,7 @@ use Rattle.addr2line_lookups.specs.declared.range_walk.RangeRows.{RangeRows}
 use Rattle.addr2line_lookups.specs.declared.range_walk.UnitStretch.{UnitStretch}
 use Rattle.addr2line_lookups.proofs.AskedStretches.{AsksAfter, walk_begins, rows_found, rows_passed, rows_reads, rows_kept, walk_ends, next_begins, next_refused, next_reads, next_kept, refused_stretch, stretch_not_refused, rows_not_refused}
 use Rattle.addr2line_lookups.proofs.CallsLeft.{leaves_none, leaves_both}
+use Rattle.addr2line_lookups.proofs.KeptFunctionLists.{no_functions_none, no_functions_both}
 use Rattle.addr2line_lookups.proofs.KeptLines.{same_plain}
 use Rattle.addr2line_lookups.proofs.RangeSteps.{first_left, next_range, refused_range, no_range, stays_empty, ok_stretch}
 use Rattle.addr2line_lookups.proofs.RangeUnits.{way_of_rows, way_of_range}
@@ -25,6 +26,7 @@ range-init g c =
       calls = leaves_none us;
       cost = looks_none 0 us;
       asks = walk_begins us c.args.ranges.now c.args.walk.now;
+      functions = no_functions_none us;
       way = λ n come. come;
     }
 
@@ -125,6 +127,10 @@ range-preserved g c =
           next_begins old ranges c.args.walk.now w now passed r next c.in-Some-next_overlapping.ensures
           c.first_rows.new.units.items c.in_ok-walk.ensures.reads c.in_ok-walk.ensures.cost.more
           (c.in_ok-walk.ensures.kept (rows_not_refused _)) rows c.in_ok-walk.ensures.range begins;
+      functions =
+          no_functions_both old now c.first_rows.new.units.items
+          (no_functions_both old c.range.units.items now c.range.invariant.functions c.in_ok-stretch.ensures.functions)
+          c.in_ok-walk.ensures.functions;
       way = λ n come.
           c.range.invariant.way n
           (on_way n
@@ -281,3 +287,26 @@ returns-in_err-walk-clause-way g c n come =
     c.range.invariant.way n
     (way_of_rows (map plain_unit c.range.units.items) c.args.ranges.now (Ok c.in_ok-stretch.field-0) c.range.walk
     c.next_of_rows.new.walk c.in_ok-stretch.ensures.stretch c.in_ok-stretch.ensures.unit n come)
+
+-- ---- functions
+
+pub returns-in_err-stretch-clause-functions : goal.returns-in_err-stretch-clause-functions
+returns-in_err-stretch-clause-functions g c =
+    no_functions_both c.args.units.now.items c.range.units.items c.next_of_rows.new.units.items
+    c.range.invariant.functions c.in_err-stretch.ensures.functions
+
+pub returns-in-Some-clause-functions : goal.returns-in-Some-clause-functions
+returns-in-Some-clause-functions g c =
+    no_functions_both c.args.units.now.items c.range.units.items c.next_of_rows.new.units.items
+    c.range.invariant.functions c.in_ok-stretch.ensures.functions
+
+pub returns-in_default-next_overlapping-clause-functions : goal.returns-in_default-next_overlapping-clause-functions
+returns-in_default-next_overlapping-clause-functions g c =
+    no_functions_both c.args.units.now.items c.range.units.items c.next_of_rows.new.units.items
+    c.range.invariant.functions c.in_ok-stretch.ensures.functions
+
+pub returns-in_err-walk-clause-functions : goal.returns-in_err-walk-clause-functions
+returns-in_err-walk-clause-functions g c =
+    no_functions_both c.args.units.now.items c.next_of_rows.new.units.items c.first_rows.new.units.items
+    (no_functions_both c.args.units.now.items c.range.units.items c.next_of_rows.new.units.items
+    c.range.invariant.functions c.in_ok-stretch.ensures.functions) c.in_err-walk.ensures.functions

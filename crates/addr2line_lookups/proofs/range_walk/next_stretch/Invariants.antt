@@ -1,10 +1,11 @@
 -- What is left is what was left at first; the units' values are the same, calls that are kept stay the definition's,
--- and nothing was looked at. The lines of the units that were asked are kept, no others were read, and the walk comes
--- to no others.
+-- and nothing was looked at. The lines of the units that were asked are kept, no others were read, nor any functions,
+-- and the walk comes to no others.
 use Rattle.std.proofs.Common.{◌≡◌, length, drop, map}
 use Rattle.addr2line_resolved.specs.NumberedRanges.{overlapping_ranges}
 use Rattle.addr2line_resolved.specs.ContextUnits.{unit_places}
 use Rattle.addr2line_resolved.specs.ResolvedUnits.{plain_unit, value_of_unit}
+use Rattle.addr2line_lookups.specs.KeptUnits.{ReadsNoFunctions}
 use Rattle.addr2line_lookups.specs.KeptCalls.{LeavesCalls}
 use Rattle.addr2line_lookups.specs.LookupCosts.{AtMostLooks}
 use Rattle.addr2line_lookups.specs.RangeWalks.{walk_left, StaysOnItsWay}
@@ -19,6 +20,7 @@ invariant-range g l =
       calls : LeavesCalls l.fn.units.items l.units.items;
       cost : AtMostLooks 0 l.fn.units.items l.units.items;
       asks : AsksWalk l.fn.units.items l.ranges l.fn.walk l.walk l.units.items;
+      functions : ReadsNoFunctions l.fn.units.items l.units.items;
       way : StaysOnItsWay l.ranges l.fn.walk l.walk;
     }
 

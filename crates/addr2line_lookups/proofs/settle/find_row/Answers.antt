@@ -7,6 +7,7 @@ use Rattle.addr2line_resolved.specs.Contexts.{ranges_of, lines_of}
 use Rattle.addr2line_resolved.specs.ResolvedUnits.{plain_unit}
 use Rattle.addr2line_lookups.proofs.AskedLines.{ranges_begin, ranges_end, range_next, range_found, range_refused, range_reads, range_kept, no_refusal}
 use Rattle.addr2line_lookups.proofs.CallsLeft.{leaves_none, leaves_both}
+use Rattle.addr2line_lookups.proofs.KeptFunctionLists.{no_functions_none, no_functions_both}
 use Rattle.addr2line_lookups.proofs.UnitRows.{ok_row, answers_start, row_found, none_found, refusal_found}
 use Rattle.addr2line_lookups.specs.declared.settle.UnitRow.{UnitRow}
 use Rattle.addr2line_lookups.proofs.UnitProbes.{looks_begin, looks_end, refused_so}
@@ -25,6 +26,7 @@ loop-range-init g c = (
       (ap (row_probes_among c.args.units.now.items c.args.probe) c.covering-covering.ensures),
   ranges_begin c.args.probe c.args.units.now.items (covering_ranges c.args.probe c.args.ranges.now)
       c.covering-covering.result c.covering-covering.ensures,
+  no_functions_none c.args.units.now.items,
 )
 
 pub returns-in_err-row-clause-found : goal.returns-in_err-row-clause-found
@@ -63,6 +65,7 @@ loop-range-preserved g c =
           c.find_row_at.new.units.items c.in_ok-row.ensures.reads c.loop-range.invariant.0
           c.in_ok-row.ensures.cost.more (c.in_ok-row.ensures.found ∙ ap ok_row c.in_default-2.is)
           (c.in_ok-row.ensures.kept (no_refusal _)),
+      no_functions_both us vs c.find_row_at.new.units.items c.loop-range.invariant.5 c.in_ok-row.ensures.functions,
     )
 
 pub returns-in-Some-2-clause-kept : goal.returns-in-Some-2-clause-kept
@@ -150,3 +153,16 @@ returns-in_err-row-clause-free g c =
     (range_kept c.args.probe c.args.units.now.items (covering_ranges c.args.probe c.args.ranges.now)
     c.loop-range.units.items c.in-Some.range c.loop-range.covering c.next.new.self c.in-Some.ensures.none
     c.loop-range.invariant.4 kept)))
+
+pub returns-in_err-row-clause-functions : goal.returns-in_err-row-clause-functions
+returns-in_err-row-clause-functions g c =
+    no_functions_both c.args.units.now.items c.loop-range.units.items c.find_row_at.new.units.items
+    c.loop-range.invariant.5 c.in_err-row.ensures.functions
+
+pub returns-in-Some-2-clause-functions : goal.returns-in-Some-2-clause-functions
+returns-in-Some-2-clause-functions g c =
+    no_functions_both c.args.units.now.items c.loop-range.units.items c.find_row_at.new.units.items
+    c.loop-range.invariant.5 c.in_ok-row.ensures.functions
+
+pub returns-clause-functions : goal.returns-clause-functions
+returns-clause-functions g c = c.loop-range.invariant.5

@@ -7,7 +7,7 @@ use Rattle.addr2line_lookups.specs.KeptCalls.{kept_calls_of}
 use Rattle.addr2line_lookups.proofs.AskedLines.{reads_set}
 use Rattle.addr2line_lookups.proofs.CallsOfUnits.{if_here, leaves_calls, same_calls, same_chain}
 use Rattle.addr2line_lookups.proofs.CallsLeft.{leaves_value}
-use Rattle.addr2line_lookups.proofs.KeptFunctionLists.{functions_same}
+use Rattle.addr2line_lookups.proofs.KeptFunctionLists.{functions_same, no_functions_set}
 use Rattle.addr2line_lookups.proofs.KeptLines.{keeps_set}
 use Rattle.addr2line_lookups.proofs.UnitRows.{row_here, same_values}
 use Rattle.addr2line_lookups.proofs.LookupProbes.{looks_for_row}
@@ -41,5 +41,8 @@ returns g c =
           (functions_same unit new (ap (λ (u : ResolvedUnit). u.keeps_functions) c.find_row.ensures.unit)
           (ap (λ (u : ResolvedUnit). u.calls) c.find_row.ensures.unit));
       reads = reads_set us n new;
+      functions =
+          no_functions_set us n unit c.index_mut-unit.ensures.value new
+          (ap (λ (u : ResolvedUnit). u.keeps_functions) c.find_row.ensures.unit);
       free = λ kept. c.find_row.ensures.free (if_here us n unit below c.index_mut-unit.ensures.value KeepsLines kept);
     }

@@ -4,7 +4,7 @@ use Rattle.addr2line_resolved.specs.ResolvedUnits.{ResolvedUnit, KeepsLines, val
 use Rattle.addr2line_lookups.proofs.AskedLines.{reads_set, no_stop_of}
 use Rattle.addr2line_lookups.proofs.CallsOfUnits.{if_here, leaves_calls}
 use Rattle.addr2line_lookups.proofs.CallsLeft.{leaves_value}
-use Rattle.addr2line_lookups.proofs.KeptFunctionLists.{functions_same}
+use Rattle.addr2line_lookups.proofs.KeptFunctionLists.{functions_same, no_functions_set}
 use Rattle.addr2line_lookups.proofs.KeptLines.{keeps_set}
 use Rattle.addr2line_lookups.proofs.UnitRows.{same_values}
 use Rattle.addr2line_lookups.proofs.UnitProbes.{looks_set, looks_same, keeps_still}
@@ -29,6 +29,9 @@ returns g c =
           (functions_same unit new (ap (λ (u : ResolvedUnit). u.keeps_functions) c.read_lines.ensures.unit)
           (ap (λ (u : ResolvedUnit). u.calls) c.read_lines.ensures.unit)));
       reads = reads_set us n new;
+      functions =
+          no_functions_set us n unit c.index_mut-unit.ensures.value new
+          (ap (λ (u : ResolvedUnit). u.keeps_functions) c.read_lines.ensures.unit);
       refusal = c.read_lines.ensures.refusal;
       free = λ kept.
           no_stop_of c.read_lines.result

@@ -1,7 +1,7 @@
 use Rattle.std.proofs.Common.{◌≡◌, ◌∙◌, ap, sym, subst, map, option_map, List, None}
 use Rattle.addr2line_resolved.specs.ContextUnits.{ordered_ranges}
 use Rattle.addr2line_resolved.specs.ResolvedUnits.{ResolvedUnit, value_of_unit}
-use Rattle.addr2line_lookups.specs.KeptUnits.{ReadsNoLines}
+use Rattle.addr2line_lookups.specs.KeptUnits.{ReadsNoLines, ReadsNoFunctions}
 use Rattle.addr2line_lookups.specs.KeptCalls.{LeavesCalls}
 use Rattle.addr2line_lookups.specs.Preloads.{load_at}
 use Rattle.addr2line_lookups.specs.LoadAnswers.{AnswersOrNoMemory, answer_at}
@@ -37,3 +37,8 @@ pub returns-clause-lines : goal.returns-clause-lines
 returns-clause-lines g c =
     subst (λ (us : List ResolvedUnit). ReadsNoLines us c.answer_at.new.units.items) c.self.view_is
     c.answer_at.ensures.lines
+
+pub returns-clause-functions : goal.returns-clause-functions
+returns-clause-functions g c =
+    subst (λ (us : List ResolvedUnit). ReadsNoFunctions us c.answer_at.new.units.items) c.self.view_is
+    c.answer_at.ensures.functions

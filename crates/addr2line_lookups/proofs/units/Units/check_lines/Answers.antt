@@ -2,7 +2,7 @@ use Rattle.std.proofs.Common.{◌∙◌, List, map, ap, sym, subst}
 use Rattle.addr2line_resolved.specs.ContextUnits.{ordered_ranges}
 use Rattle.addr2line_resolved.specs.ResolvedUnits.{ResolvedUnit, plain_unit}
 use Rattle.addr2line_lookups.specs.KeptCalls.{LeavesCalls}
-use Rattle.addr2line_lookups.specs.KeptUnits.{KeepsAsked, ReadsAsked, AsksForLines}
+use Rattle.addr2line_lookups.specs.KeptUnits.{KeepsAsked, ReadsAsked, AsksForLines, ReadsNoFunctions}
 use Rattle.addr2line_lookups.proofs.KeptLines.{same_plain}
 use Rattle.addr2line_lookups.proofs.units.Units.check_lines.Goals as goal
 
@@ -33,3 +33,8 @@ pub returns-clause-free : goal.returns-clause-free
 returns-clause-free g c = λ kept.
     let Q : List ResolvedUnit → Type 0 = λ us. KeepsAsked (AsksForLines (map plain_unit us)) us in
     c.check_lines.ensures.free (subst Q (sym c.self.view_is) kept)
+
+pub returns-clause-functions : goal.returns-clause-functions
+returns-clause-functions g c =
+    subst (λ (us : List ResolvedUnit). ReadsNoFunctions us c.check_lines.new.units.items) c.self.view_is
+    c.check_lines.ensures.functions

@@ -5,7 +5,7 @@ use Rattle.addr2line_lookups.specs.KeptCalls.{LeavesCalls}
 use Rattle.addr2line_lookups.proofs.KeptLines.{same_plain}
 use Rattle.addr2line_resolved.specs.UnitRange.{UnitRange}
 use Rattle.addr2line_resolved.specs.NumberedRanges.{covering_ranges}
-use Rattle.addr2line_lookups.specs.KeptUnits.{KeepsAsked, ReadsAsked, AsksAmong, AsksForRow}
+use Rattle.addr2line_lookups.specs.KeptUnits.{KeepsAsked, ReadsAsked, AsksAmong, AsksForRow, ReadsNoFunctions}
 use Rattle.addr2line_lookups.specs.LookupCosts.{AtMostLooks}
 use Rattle.addr2line_lookups.proofs.LookupProbes.{row_probes_among}
 use Rattle.addr2line_lookups.proofs.units.Units.find_row.Goals as goal
@@ -58,3 +58,8 @@ returns-clause-reads g c =
     λ rs. ReadsAsked (AsksAmong (map plain_unit us) a (covering_ranges a rs)) us new in
     let Q : List ResolvedUnit → Type 0 = λ vs. ReadsAsked (AsksForRow (map plain_unit vs) a) vs new in
     subst Q c.self.view_is (subst P c.self.invariant c.find_row.ensures.reads)
+
+pub returns-clause-functions : goal.returns-clause-functions
+returns-clause-functions g c =
+    subst (λ (us : List ResolvedUnit). ReadsNoFunctions us c.find_row.new.units.items) c.self.view_is
+    c.find_row.ensures.functions

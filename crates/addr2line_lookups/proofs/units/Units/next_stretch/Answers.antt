@@ -2,7 +2,7 @@ use Rattle.std.proofs.Common.{◌∙◌, List, ap, sym, subst, map}
 use Rattle.addr2line_resolved.specs.UnitRange.{UnitRange}
 use Rattle.addr2line_resolved.specs.ContextUnits.{unit_places, ordered_ranges}
 use Rattle.addr2line_resolved.specs.ResolvedUnits.{ResolvedUnit, plain_unit}
-use Rattle.addr2line_lookups.specs.KeptUnits.{KeepsAsked, ReadsAsked}
+use Rattle.addr2line_lookups.specs.KeptUnits.{KeepsAsked, ReadsAsked, ReadsNoFunctions}
 use Rattle.addr2line_lookups.specs.KeptCalls.{LeavesCalls}
 use Rattle.addr2line_lookups.specs.RangeWalks.{FindsStretch, walk_left, stretches_left, AsksForStretch, StaysOnItsWay}
 use Rattle.addr2line_lookups.proofs.KeptLines.{same_plain}
@@ -62,3 +62,8 @@ returns-clause-way g c =
     let way : List UnitRange → Type 0 = λ rs. StaysOnItsWay rs c.args.walk.now c.next_stretch.new.walk in
     subst (λ (us : List ResolvedUnit). way (ordered_ranges (map plain_unit us))) c.self.view_is
     (subst way c.self.invariant c.next_stretch.ensures.way)
+
+pub returns-clause-functions : goal.returns-clause-functions
+returns-clause-functions g c =
+    subst (λ (us : List ResolvedUnit). ReadsNoFunctions us c.next_stretch.new.units.items) c.self.view_is
+    c.next_stretch.ensures.functions

@@ -1,12 +1,12 @@
-use Rattle.std.proofs.Common.{◌∙◌, ap, sym, subst, map, drop, List}
+use Rattle.std.proofs.Common.{◌∙◌, ap, sym, subst, map, List}
 use Rattle.addr2line_resolved.specs.UnitRange.{UnitRange}
 use Rattle.addr2line_resolved.specs.NumberedRanges.{covering_ranges}
 use Rattle.addr2line_resolved.specs.ContextUnits.{ordered_ranges}
 use Rattle.addr2line_resolved.specs.ResolvedUnits.{ResolvedUnit, plain_unit, value_of_unit}
-use Rattle.addr2line_lookups.specs.KeptUnits.{ReadsAsked}
+use Rattle.addr2line_lookups.specs.KeptUnits.{ReadsAsked, ReadsAskedFunctions}
 use Rattle.addr2line_lookups.specs.KeptCalls.{known_among, HoldCalls}
 use Rattle.addr2line_lookups.specs.UnitLookups.{unit_among, SettlesUnit}
-use Rattle.addr2line_lookups.specs.PassedUnits.{PassUnits, AsksUnitAmong, KeepsAskedFunctions}
+use Rattle.addr2line_lookups.specs.PassedUnits.{PassUnits, AsksUnitAmong, KeepsAskedFunctions, PassedAreKept}
 use Rattle.addr2line_lookups.proofs.KeptLines.{same_plain}
 use Rattle.addr2line_lookups.specs.LookupCosts.{AtMostLooks}
 use Rattle.addr2line_lookups.proofs.LookupProbes.{frame_probes_among}
@@ -24,6 +24,13 @@ settle_unit-requires-clause-passed g c =
     λ us rs. PassUnits (known_among us s) (map value_of_unit us) c.args.probe c.args.from.now rs in
     let here : List ResolvedUnit → Type 0 = λ us. passes us (ordered_ranges (map plain_unit us)) in
     subst (passes c.self.inside.units.items) (sym c.self.invariant) (subst here (sym c.self.view_is) c.requires.passed)
+
+pub settle_unit-requires-clause-kept : goal.settle_unit-requires-clause-kept
+settle_unit-requires-clause-kept g c =
+    let keeps : List ResolvedUnit → List UnitRange → Type 0 =
+    λ us rs. PassedAreKept us c.args.probe c.args.from.now rs in
+    let here : List ResolvedUnit → Type 0 = λ us. keeps us (ordered_ranges (map plain_unit us)) in
+    subst (keeps c.self.inside.units.items) (sym c.self.invariant) (subst here (sym c.self.view_is) c.requires.kept)
 
 pub invariant_of-self : goal.invariant_of-self
 invariant_of-self g c =
@@ -47,9 +54,14 @@ returns g c =
     λ us rs. PassUnits (known_among us s) (map value_of_unit us) a c.settle_unit.new.from rs in
     let reads : List ResolvedUnit → List UnitRange → Type 0 =
     λ us rs. ReadsAsked (AsksUnitAmong (known_among us s) (map value_of_unit us) a (covering_ranges a rs)) us new in
+    let functions : List ResolvedUnit → List UnitRange → Type 0 =
+    λ us rs.
+    ReadsAskedFunctions (AsksUnitAmong (known_among us s) (map value_of_unit us) a (covering_ranges a rs)) us new in
+    let keeps_passed : List ResolvedUnit → List UnitRange → Type 0 =
+    λ us rs. PassedAreKept new a c.settle_unit.new.from rs in
     let keeps : List ResolvedUnit → List UnitRange → Type 0 =
     λ us rs. KeepsAskedFunctions
-    (AsksUnitAmong (known_among us s) (map value_of_unit us) a (covering_ranges a (drop c.args.from.now rs))) new in
+    (AsksUnitAmong (known_among us s) (map value_of_unit us) a (covering_ranges a rs)) new in
     record {
       values = c.settle_unit.ensures.values ∙ ap (map value_of_unit) c.self.view_is;
       calls =
@@ -64,10 +76,16 @@ returns g c =
       reads =
           subst (λ (us : List ResolvedUnit). reads us (ordered_ranges (map plain_unit us))) c.self.view_is
           (subst (reads us) c.self.invariant c.settle_unit.ensures.reads);
+      functions =
+          subst (λ (us : List ResolvedUnit). functions us (ordered_ranges (map plain_unit us))) c.self.view_is
+          (subst (functions us) c.self.invariant c.settle_unit.ensures.functions);
       asked = λ answered.
           subst (λ (us : List ResolvedUnit). keeps us (ordered_ranges (map plain_unit us))) c.self.view_is
           (subst (keeps us) c.self.invariant (c.settle_unit.ensures.asked answered));
       passed =
           subst (λ (us : List ResolvedUnit). passes us (ordered_ranges (map plain_unit us))) c.self.view_is
           (subst (passes us) c.self.invariant c.settle_unit.ensures.passed);
+      kept =
+          subst (λ (us : List ResolvedUnit). keeps_passed us (ordered_ranges (map plain_unit us))) c.self.view_is
+          (subst (keeps_passed us) c.self.invariant c.settle_unit.ensures.kept);
     }
