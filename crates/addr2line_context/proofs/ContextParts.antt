@@ -18,7 +18,7 @@ use Rattle.addr2line_context.specs.AnsweredContexts.{AnsweredContext}
 use Rattle.addr2line_context.specs.KeptContexts.{ResolvedContext}
 use Rattle.addr2line_context.specs.ContextCosts.{AfterLookup, AfterStep, AsksForNext, AsksForStretches}
 use Rattle.addr2line_lookups.specs.ContextUnits.{ordered_ranges}
-use Rattle.addr2line_lookups.specs.KeptUnits.{KeepsAsked, ReadsAsked, ReadsNoLines}
+use Rattle.addr2line_lookups.specs.KeptUnits.{KeepsAsked, ReadsAsked, ReadsNoLines, ReadsNoFunctions}
 use Rattle.addr2line_lookups.specs.RangeWalks.{AsksForNextStretch, StaysOnItsWay}
 use Rattle.addr2line_lookups.specs.declared.range_walk.RangeWalk.{RangeWalk}
 use Rattle.addr2line_lookups.specs.LookupCosts.{AtMostLooks}
@@ -143,6 +143,10 @@ module _ (file : DwarfFile) (us : List ResolvedUnit) (supplement_units : List Un
   pub lines_since : (vs : List ResolvedUnit) → ReadsNoLines us vs → ReadsNoLines c.units vs
   lines_since vs = subst (λ (x : ResolvedContext). ReadsNoLines x.units vs) is
 
+  -- or no functions
+  pub functions_since : (vs : List ResolvedUnit) → ReadsNoFunctions us vs → ReadsNoFunctions c.units vs
+  functions_since vs = subst (λ (x : ResolvedContext). ReadsNoFunctions x.units vs) is
+
   -- a lookup that leaves the units' values
   pub after_lookup : (n m : ℕ) (vs : List ResolvedUnit) → n ≡ m → map value_of_unit vs ≡ map value_of_unit us
       → AtMostLooks n us vs → AfterLookup m c (resolved_with file vs supplement_units)
@@ -155,10 +159,10 @@ module _ (file : DwarfFile) (us : List ResolvedUnit) (supplement_units : List Un
   pub after_step : {A : Type 0} (result : Result A Error) (old new : RangeWalk) (vs : List ResolvedUnit)
       → map value_of_unit vs ≡ map value_of_unit us → AtMostLooks 0 us vs
       → (result ≢ Err Memory → KeepsAsked (AsksForNextStretch (map plain_unit us) old) vs)
-      → ReadsAsked (AsksForNextStretch (map plain_unit us) old) us vs
+      → ReadsAsked (AsksForNextStretch (map plain_unit us) old) us vs → ReadsNoFunctions us vs
       → StaysOnItsWay (ordered_ranges (map plain_unit us)) old new
       → AfterStep result old new c (resolved_with file vs supplement_units)
-  after_step result old new vs same looks asked reads way =
+  after_step result old new vs same looks asked reads none way =
       let after = after_lookup 0 0 vs refl same looks in
       let on_way : AnsweredContext → Type 0 =
       λ x. (n : ℕ) → AsksForStretches x new n → AsksForStretches x old n in
@@ -167,6 +171,7 @@ module _ (file : DwarfFile) (us : List ResolvedUnit) (supplement_units : List Un
         cost = after.cost;
         asked = λ answered. subst (λ x. KeepsAsked (AsksForNext x old) vs) value_is (asked answered);
         reads = subst (λ (x : ResolvedContext). ReadsAsked (AsksForNext x.value old) x.units vs) is reads;
+        functions = functions_since vs none;
         way = subst on_way value_is way;
       }
 
@@ -184,5 +189,6 @@ with_result r result old_walk new_walk old new h refused = record {
   cost = h.cost;
   asked = λ answered. h.asked (refused answered);
   reads = h.reads;
+  functions = h.functions;
   way = h.way;
 }

@@ -38,16 +38,17 @@ module _ (file : DwarfFile) (us : List ResolvedUnit) (s : List UnitFacts)
   none_by [] h = refl
   none_by (p ∷ ps) h = absurd cc
 
-  one_by : (n : ℕ) (ps : List PendingLoad) → Some n ≡ first_number ps → one_each ps ≡ [] → ⊥
-  one_by n [] first none = cc
-  one_by n (p ∷ ps) first none = cc
+  none_of : (ps : List PendingLoad) → one_each ps ≡ [] → ps ≡ []
+  none_of [] h = refl
+  none_of (p ∷ ps) h = absurd cc
 
-  -- there are none where none is the first, and some where one is
-  pub none_pending : None ≡ first_number unit_loads → loads_in c a ≡ []
+  -- there are none where none is the first
+  none_pending : None ≡ first_number unit_loads → loads_in c a ≡ []
   none_pending first = loads_are ∙ none_by unit_loads first
 
-  pub one_pending : (n : ℕ) → Some n ≡ first_number unit_loads → loads_in c a ≡ [] → ⊥
-  one_pending n first none = one_by n unit_loads first (sym loads_are ∙ none)
+  -- where there are none, the units have none
+  pub none_of_units : loads_in c a ≡ [] → unit_loads ≡ []
+  none_of_units none = none_of unit_loads (sym loads_are ∙ none)
 
   -- ---- the first load
 

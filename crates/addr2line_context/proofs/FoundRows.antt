@@ -8,11 +8,11 @@ use Rattle.addr2line_lookups.specs.NumberedRanges.{covering_ranges}
 use Rattle.addr2line_lookups.specs.ContextUnits.{ordered_ranges}
 use Rattle.addr2line_lookups.specs.ResolvedUnits.{ResolvedUnit, value_of_unit, plain_unit}
 use Rattle.addr2line_lookups.specs.AnsweredUnits.{AreOfFile}
-use Rattle.addr2line_lookups.specs.KeptUnits.{KeepsAsked, ReadsAsked, AsksForRow}
+use Rattle.addr2line_lookups.specs.KeptUnits.{KeepsAsked, ReadsAsked, ReadsNoFunctions, AsksForRow}
 use Rattle.addr2line_lookups.specs.LookupCosts.{AtMostLooks, probes_among, row_probes_at}
 use Rattle.addr2line_context.specs.KeptContexts.{ResolvedContext}
 use Rattle.addr2line_context.specs.ContextCosts.{location_looks, AsksForPlace, AfterReading}
-use Rattle.addr2line_context.proofs.ContextParts.{resolved_with, value_is, after_lookup}
+use Rattle.addr2line_context.proofs.ContextParts.{resolved_with, value_is, functions_since, after_lookup}
 use Rattle.addr2line_context.proofs.ContextLooks.{location_looks_here, asks_here, asks_there}
 
 module _ (file : DwarfFile) (us : List ResolvedUnit) (s : List UnitFacts)
@@ -23,10 +23,11 @@ module _ (file : DwarfFile) (us : List ResolvedUnit) (s : List UnitFacts)
       probes_among (row_probes_at (map value_of_unit us) a) (covering_ranges a (ordered_ranges (map plain_unit us)))
 
   pub after_row : (new : List ResolvedUnit) → map value_of_unit new ≡ map value_of_unit us → AtMostLooks looks us new
-      → ReadsAsked (AsksForRow (map plain_unit us) a) us new → {A : Type 0} (result : Result A Error)
+      → ReadsAsked (AsksForRow (map plain_unit us) a) us new → ReadsNoFunctions us new
+      → {A : Type 0} (result : Result A Error)
       → (result ≢ Err Memory → KeepsAsked (AsksForRow (map plain_unit us) a) new)
       → AfterReading (AsksForPlace c.value a) (location_looks c.value a) result c (resolved_with file new s)
-  after_row new same cost reads result asked =
+  after_row new same cost reads none result asked =
       let value = value_is file us s c is in
       let after =
       after_lookup file us s c is looks (location_looks c.value a) new
@@ -37,6 +38,7 @@ module _ (file : DwarfFile) (us : List ResolvedUnit) (s : List UnitFacts)
         cost = after.cost;
         asked = λ answered. asks_here file us s of_file a c.value value (λ asks. KeepsAsked asks new) (asked answered);
         reads = subst P is (asks_here file us s of_file a c.value value (λ asks. ReadsAsked asks us new) reads);
+        functions = functions_since file us s c is new none;
       }
 
   -- the lines of the units that it asks are kept

@@ -1,6 +1,7 @@
 -- The load for which the frames of an address wait.
-use Rattle.std.proofs.Common.{◌≡◌, ℕ, zero, suc, ◌+◌, ◌<◌, ◌≤◌, List, [], ◌∷◌, length, Bool, Result, Ok, Err, OnOk, arith, sym, subst}
+use Rattle.std.proofs.Common.{◌≡◌, ◌≢◌, ℕ, zero, suc, ◌+◌, ◌<◌, ◌≤◌, List, [], ◌∷◌, length, Bool, Result, Ok, Err, OnOk, arith, sym, ap, subst}
 use Rattle.addr2line_lookups.specs.Error.{Error}
+use Rattle.addr2line_lookups.specs.Error.TheVariants.{Memory}
 use Rattle.addr2line_lookups.specs.FirstAnswers.{FirstAnswer, PendingLoad, Lookup, output, pending}
 use Rattle.addr2line_lookups.specs.Lookups.{decision_of, frames_under, is_answer}
 use Rattle.addr2line_lookups.specs.Pairs.{Pair, covering_pairs}
@@ -48,6 +49,16 @@ frames_tell us m (Ok Nothing) r h is = subst (TellsWaiting m) (sym is) (Ok [], h
 frames_tell us m (Ok (Found p)) r h is = subst (TellsWaiting m) (sym is) (h.answer, h.is_found)
 frames_tell us m (Err e) (Ok w) h is = subst (λ b. TellsWaiting m (Ok b)) (sym is.0) (Err e, h is.1)
 frames_tell us m (Err e) (Err d) h is = is.1
+
+-- where that isn't out of memory, neither was settling
+pub settled_with_memory : {P : Type 0} (settled : Result (Settled P) Error) (r : Result Bool Error)
+    → TellsIfWaiting settled r → r ≢ Err Memory → settled ≢ Err Memory
+settled_with_memory (Ok s) r tells has is = cc
+settled_with_memory (Err e) (Ok w) tells has is = let same : e ≡ Memory = cc in tells.1 same
+settled_with_memory (Err e) (Err d) tells has is = has (ap refused tells.1)
+  where
+    refused : Error → Result Bool Error
+    refused f = Err f
 
 -- what is found waits for no load
 pub waits_not : {A : Type 0} (m : Lookup A) → IsDone m → IsPending m → ⊥

@@ -7,16 +7,17 @@ use Rattle.addr2line_lookups.specs.UnitFacts.{UnitFacts}
 use Rattle.addr2line_lookups.specs.EntryReferences.{KnownUnits}
 use Rattle.addr2line_lookups.specs.ContextUnits.{ordered_ranges}
 use Rattle.addr2line_lookups.specs.ResolvedUnits.{ResolvedUnit, AnsweredUnit, value_of_unit, plain_unit, KeepNoFunctions, new_units}
+use Rattle.addr2line_lookups.specs.KeptUnits.{KeepMoreFunctions}
 use Rattle.addr2line_lookups.specs.Preloads.{load_at}
-use Rattle.addr2line_lookups.specs.PassedUnits.{Pass, PassLoads}
+use Rattle.addr2line_lookups.specs.PassedUnits.{Pass, PassLoads, PassedAreKept}
 use Rattle.addr2line_lookups.specs.FramePlaces.{frames_of_answered}
 use Rattle.addr2line_lookups.specs.UnitLookups.{unit_of_answered}
 use Rattle.addr2line_lookups.specs.AnsweredUnits.{AreOfFile}
 use Rattle.addr2line_lookups.specs.KeptCalls.{known_among, HoldsCalls, HoldCalls, LeavesCalls}
 use Rattle.addr2line_lookups.proofs.KeptLines.{same_plain}
 use Rattle.addr2line_lookups.proofs.CallsLeft.{holds_nothing, same_known}
-use Rattle.addr2line_lookups.proofs.PassedUnits.{pass_none, pass_same, loads_from}
-use Rattle.addr2line_context.specs.Progresses.{IsIndexFor, PassFramesIn, PassUnitsIn}
+use Rattle.addr2line_lookups.proofs.PassedUnits.{pass_none, pass_same, loads_from, kept_none, kept_still}
+use Rattle.addr2line_context.specs.Progresses.{IsIndexFor, PassFramesIn, PassUnitsIn, PassedAreKeptIn}
 use Rattle.addr2line_context.specs.KeptContexts.{HoldsUnits}
 use Rattle.addr2line_context.specs.declared.progress.Progress.{Progress}
 use Rattle.addr2line_context.proofs.NewContexts.{new_of_file}
@@ -49,6 +50,23 @@ module _ {A : Type 0} (ask : KnownUnits → AnsweredUnit → A) (nothing : A) (s
       let ordered = ordered_ranges (map plain_unit us) in
       subst (λ n. Pass (ask (known_among us s)) nothing (map value_of_unit us) a n ordered) (sym first)
       (pass_none (ask (known_among us s)) nothing (map value_of_unit us) a ordered)
+
+-- functions of units that were passed
+module _ (a from : ℕ) where
+  keeps_in : (us vs : List ResolvedUnit) → map plain_unit vs ≡ map plain_unit us
+      → PassedAreKept vs a from (ordered_ranges (map plain_unit us)) → PassedAreKeptIn vs a from
+  keeps_in us vs plain =
+      subst (λ units. PassedAreKept vs a from (ordered_ranges units)) (sym plain)
+
+  -- those that are kept are kept still
+  keeps_left : (us vs : List ResolvedUnit) → map plain_unit vs ≡ map plain_unit us → KeepMoreFunctions us vs
+      → PassedAreKeptIn us a from → PassedAreKeptIn vs a from
+  keeps_left us vs plain more kept =
+      keeps_in us vs plain (kept_still a (ordered_ranges (map plain_unit us)) us vs from more kept)
+
+  pub keeps_first : (us : List ResolvedUnit) → from ≡ 0 → PassedAreKeptIn us a from
+  keeps_first us first =
+      subst (PassedAreKeptIn us a) (sym first) (kept_none a (ordered_ranges (map plain_unit us)) us)
 
 -- an index that holds for the address of a lookup holds for another address, or is the first
 pub pass_for : (P : ℕ → ℕ → Type 0) (p : Progress) (a index : ℕ) → P a 0 → P p.probe p.index
@@ -84,8 +102,9 @@ module _ (file : DwarfFile) (s : List UnitFacts) (us : List ResolvedUnit) {frame
 pub holds_calls : (file : DwarfFile) (s : List UnitFacts) (us vs : List ResolvedUnit) (f u : Progress)
     → map value_of_unit vs ≡ map value_of_unit us → AreOfFile file (map value_of_unit vs)
     → HoldCalls (known_among vs s) vs → PassFramesIn s us f.probe f.index → PassUnitsIn s us u.probe u.index
-    → HoldsUnits file s vs f u
-holds_calls file s us vs f u same of_file calls pass_frames pass_units =
+    → PassedAreKept vs f.probe f.index (ordered_ranges (map plain_unit us))
+    → PassedAreKept vs u.probe u.index (ordered_ranges (map plain_unit us)) → HoldsUnits file s vs f u
+holds_calls file s us vs f u same of_file calls pass_frames pass_units frames_kept units_kept =
     let plain = same_plain vs us same in
     let decided : (n : ℕ) → load_at (map value_of_unit us) n ≡ None
     → slice_get (map value_of_unit vs) n ≡ slice_get (map value_of_unit us) n =
@@ -98,6 +117,8 @@ holds_calls file s us vs f u same of_file calls pass_frames pass_units =
           pass_frames;
       pass_units =
           pass_left (λ known. unit_of_answered known u.probe) None s u.probe u.index us vs plain decided pass_units;
+      frames_are_kept = keeps_in f.probe f.index us vs plain frames_kept;
+      units_are_kept = keeps_in u.probe u.index us vs plain units_kept;
     }
 
 module _ (file : DwarfFile) (s : List UnitFacts) (us vs : List ResolvedUnit) {frames unit : Progress}
@@ -109,10 +130,11 @@ module _ (file : DwarfFile) (s : List UnitFacts) (us vs : List ResolvedUnit) {fr
 
   -- one that leaves the units as they are in their file, and those that are decided as they are
   pub holds_after : map plain_unit vs ≡ map plain_unit us → AreOfFile file (map value_of_unit vs) → LeavesCalls us vs
+      → KeepMoreFunctions us vs
       → ((n : ℕ) → load_at (map value_of_unit us) n ≡ None
       → slice_get (map value_of_unit vs) n ≡ slice_get (map value_of_unit us) n)
       → HoldsUnits file s vs frames unit
-  holds_after same of_file leaves decided = record {
+  holds_after same of_file leaves more decided = record {
     are_of_file = of_file;
     calls_are_kept = calls_after same leaves;
     pass_frames =
@@ -121,12 +143,15 @@ module _ (file : DwarfFile) (s : List UnitFacts) (us vs : List ResolvedUnit) {fr
     pass_units =
         pass_left (λ known. unit_of_answered known unit.probe) None s unit.probe unit.index us vs same decided
         before.pass_units;
+    frames_are_kept = keeps_left frames.probe frames.index us vs same more before.frames_are_kept;
+    units_are_kept = keeps_left unit.probe unit.index us vs same more before.units_are_kept;
   }
 
   -- one that leaves their values
-  pub holds_same : map value_of_unit vs ≡ map value_of_unit us → LeavesCalls us vs → HoldsUnits file s vs frames unit
-  holds_same same leaves =
-      holds_after (same_plain vs us same) (subst (AreOfFile file) (sym same) before.are_of_file) leaves
+  pub holds_same : map value_of_unit vs ≡ map value_of_unit us → LeavesCalls us vs → KeepMoreFunctions us vs
+      → HoldsUnits file s vs frames unit
+  holds_same same leaves more =
+      holds_after (same_plain vs us same) (subst (AreOfFile file) (sym same) before.are_of_file) leaves more
       (λ n decided. ap (λ l. slice_get l n) same)
 
   -- one that answers loads, after which lookups begin anew
@@ -137,6 +162,8 @@ module _ (file : DwarfFile) (s : List UnitFacts) (us vs : List ResolvedUnit) {fr
     calls_are_kept = calls_after same leaves;
     pass_frames = frames_first s vs f.probe f.index frames_are;
     pass_units = units_first s vs u.probe u.index unit_is;
+    frames_are_kept = keeps_first f.probe f.index vs frames_are;
+    units_are_kept = keeps_first u.probe u.index vs unit_is;
   }
 
 -- units of which no functions are kept
@@ -159,4 +186,6 @@ holds_new file s us made made_supplement none f u frames_are unit_is = record {
   };
   pass_frames = frames_first s us f.probe f.index frames_are;
   pass_units = units_first s us u.probe u.index unit_is;
+  frames_are_kept = keeps_first f.probe f.index us frames_are;
+  units_are_kept = keeps_first u.probe u.index us unit_is;
 }

@@ -1,37 +1,70 @@
 -- How often a lookup waits, and what one that goes on leaves.
-use Rattle.std.proofs.Common.{◌≡◌, inl, inr, ℕ, ◌<◌, ◌≤◌, ◌+◌, length, Option, Result, Err, sym, ap, ◌∙◌, subst, arith}
+use Rattle.std.proofs.Common.{◌≡◌, ◌≢◌, inl, inr, ℕ, ◌<◌, ◌≤◌, ◌+◌, length, Option, Result, Err, sym, ap, ◌∙◌, subst, arith}
 use Rattle.addr2line_lookups.specs.Error.{Error}
 use Rattle.addr2line_lookups.specs.Error.TheVariants.{Memory}
 use Rattle.addr2line_lookups.specs.DwarfFiles.{DwarfFile}
-use Rattle.addr2line_lookups.specs.KeptUnits.{ReadsAsked, ReadsNoLines}
+use Rattle.addr2line_lookups.specs.KeptUnits.{KeepsFunctionList, ReadsAsked, ReadsNoLines, ReadsAskedFunctions, ReadsNoFunctions}
 use Rattle.addr2line_lookups.specs.LookupCosts.{AtMostLooks}
+use Rattle.addr2line_lookups.specs.PassedUnits.{KeepsAskedFunctions}
+use Rattle.addr2line_lookups.proofs.UnitChanges.{changes_nothing, changes_after}
+use Rattle.addr2line_lookups.proofs.AskedFunctions.{is_other}
 use Rattle.addr2line_lookups.proofs.AskedLines.{reads_nothing, reads_after}
 use Rattle.addr2line_lookups.proofs.UnitProbes.{looks_both, looks_weaker}
 use Rattle.addr2line_context.specs.AnsweredContexts.{AnsweredContext}
 use Rattle.addr2line_context.specs.KeptContexts.{ResolvedContext}
 use Rattle.addr2line_context.specs.ContextCosts.{frame_looks, AfterSearch}
-use Rattle.addr2line_context.specs.Suspended.{IfLoad, loads_left}
+use Rattle.addr2line_context.specs.Suspended.{IfLoad, HasMemory, loads_left}
 use Rattle.addr2line_context.specs.SettledLookups.{loads_in, after_answer, LeavesAnswer, RecordsAnswer, AfterAnswer, IsFor, WaitsAgain}
 use Rattle.addr2line_context.specs.declared.lookup.LookupResult.{LookupResult}
 use Rattle.addr2line_context.specs.declared.lookup.LookupResult.TheVariants.{Load, Output}
 
+abbrev error_of : (A : Type 0) → Error → Result A Error
+error_of A e = Err e
+
 -- the looks of a lookup that goes on after an answer
 abbrev looks_after : ResolvedContext → ℕ → Option DwarfFile → ℕ
 looks_after old a file = frame_looks (after_answer old.value a file) a
+
+-- where a call has memory, so has one of which it is a part
+pub with_memory : (asks : AnsweredContext → ℕ → ℕ → Type 0) (has_memory part_has : Type 0) (a : ℕ)
+    (old new : ResolvedContext) → (has_memory → part_has) → AfterSearch asks part_has a old new
+    → AfterSearch asks has_memory a old new
+with_memory asks has_memory part_has a old new part after = record {
+  value = after.value;
+  cost = after.cost;
+  reads = after.reads;
+  functions = after.functions;
+  asked = λ has. after.asked (part has);
+}
+
+-- of a context that is seen as another
+pub search_of : (asks : AnsweredContext → ℕ → ℕ → Type 0) (a : ℕ) (old : ResolvedContext)
+    {has_memory part_has : Type 0} {seen new : ResolvedContext} → seen ≡ new → (has_memory → part_has)
+    → AfterSearch asks part_has a old new → AfterSearch asks has_memory a old seen
+search_of asks a old {has_memory} {part_has} {seen} {new} is part after =
+    subst (λ (x : ResolvedContext). AfterSearch asks has_memory a old x) (sym is)
+    (with_memory asks has_memory part_has a old new part after)
 
 -- an answer that ended when out of memory
 module _ {L X B W S E F : Type 0} where
   abbrev refused : Error → LookupResult L (Result X Error) B W S E F
   refused e = Output (Err e)
 
+  -- what refuses a lookup isn't out of memory, where the lookup isn't
+  pub refused_with_memory : {A : Type 0} (e : Error) → HasMemory (refused e) → error_of A e ≢ error_of A Memory
+  refused_with_memory {A} e has = is_other e (λ is. has (ap refused is))
+
   pub after_error : (asks : AnsweredContext → ℕ → ℕ → Type 0) (e : Error) (old new : ResolvedContext) (a : ℕ)
       (file : Option DwarfFile) → e ≡ Memory → LeavesAnswer old.value a file new.value
-      → AtMostLooks 0 old.units new.units → ReadsNoLines old.units new.units
+      → AtMostLooks 0 old.units new.units → ReadsNoLines old.units new.units → ReadsNoFunctions old.units new.units
       → AfterAnswer asks (refused e) old a file new
-  after_error asks e old new a file is left free none = record {
+  after_error asks e old new a file is left free none none_read = record {
     value = by left;
     cost = looks_weaker 0 (looks_after old a file) old.units new.units (omega arith) free;
     reads = reads_nothing (asks (after_answer old.value a file) a) old.units new.units none;
+    functions =
+        changes_nothing KeepsFunctionList (asks (after_answer old.value a file) a) old.units new.units none_read;
+    asked = λ has. absurd (has (ap refused is));
   }
     where
       by : LeavesAnswer old.value a file new.value → RecordsAnswer (refused e) old.value a file new.value
@@ -41,27 +74,41 @@ module _ {L X B W S E F : Type 0} where
 -- A lookup goes on in `mid`, the context after an answer to the first load of its address.
 module _ (asks : AnsweredContext → ℕ → ℕ → Type 0) (old mid : ResolvedContext) (a : ℕ) (file : Option DwarfFile)
     (answered : mid.value ≡ after_answer old.value a file) (free : AtMostLooks 0 old.units mid.units)
-    (none : ReadsNoLines old.units mid.units) where
-  looks_again : (new : ResolvedContext) → AfterSearch asks a mid new
-      → AtMostLooks (looks_after old a file) old.units new.units
-  looks_again new after =
-      subst (λ (c : AnsweredContext). AtMostLooks (frame_looks c a) old.units new.units) answered
-      (looks_weaker (0 + frame_looks mid.value a) (frame_looks mid.value a) old.units new.units (omega arith)
-      (looks_both 0 (frame_looks mid.value a) old.units mid.units new.units free after.cost))
+    (none : ReadsNoLines old.units mid.units) (none_read : ReadsNoFunctions old.units mid.units) where
+  abbrev asked_after : ℕ → Type 0
+  asked_after = asks (after_answer old.value a file) a
 
-  reads_again : (new : ResolvedContext) → AfterSearch asks a mid new
-      → ReadsAsked (asks (after_answer old.value a file) a) old.units new.units
-  reads_again new after =
-      let P : AnsweredContext → Type 0 = λ c. ReadsAsked (asks c a) mid.units new.units in
-      reads_after (asks (after_answer old.value a file) a) old.units mid.units new.units none
-      (subst P answered after.reads)
+  module _ (has_memory : Type 0) (new : ResolvedContext) (after : AfterSearch asks has_memory a mid new) where
+    looks_again : AtMostLooks (looks_after old a file) old.units new.units
+    looks_again =
+        subst (λ (c : AnsweredContext). AtMostLooks (frame_looks c a) old.units new.units) answered
+        (looks_weaker (0 + frame_looks mid.value a) (frame_looks mid.value a) old.units new.units (omega arith)
+        (looks_both 0 (frame_looks mid.value a) old.units mid.units new.units free after.cost))
+
+    reads_again : ReadsAsked asked_after old.units new.units
+    reads_again =
+        let P : AnsweredContext → Type 0 = λ c. ReadsAsked (asks c a) mid.units new.units in
+        reads_after asked_after old.units mid.units new.units none (subst P answered after.reads)
+
+    functions_again : ReadsAskedFunctions asked_after old.units new.units
+    functions_again =
+        let P : AnsweredContext → Type 0 = λ c. ReadsAskedFunctions (asks c a) mid.units new.units in
+        changes_after KeepsFunctionList asked_after old.units mid.units new.units none_read
+        (subst P answered after.functions)
+
+    asked_again : has_memory → KeepsAskedFunctions asked_after new.units
+    asked_again has =
+        let P : AnsweredContext → Type 0 = λ c. KeepsAskedFunctions (asks c a) new.units in
+        subst P answered (after.asked has)
 
   pub after_again : {L X B W S E F : Type 0} (result : LookupResult L (Result X Error) B W S E F)
-      (new : ResolvedContext) → AfterSearch asks a mid new → AfterAnswer asks result old a file new
+      (new : ResolvedContext) → AfterSearch asks (HasMemory result) a mid new → AfterAnswer asks result old a file new
   after_again result new after = record {
     value = inl (after.value ∙ answered);
-    cost = looks_again new after;
-    reads = reads_again new after;
+    cost = looks_again (HasMemory result) new after;
+    reads = reads_again (HasMemory result) new after;
+    functions = functions_again (HasMemory result) new after;
+    asked = asked_again (HasMemory result) new after;
   }
 
   module _ {L O B W S E F : Type 0} (now : L → ResolvedContext) (probe : L → ℕ) where
@@ -70,8 +117,10 @@ module _ (asks : AnsweredContext → ℕ → ℕ → Type 0) (old mid : Resolved
     waits_again (Output x) h = tt
     waits_again (Load w) h = record {
       value = h.after.value ∙ answered;
-      cost = looks_again (now w) h.after;
-      reads = reads_again (now w) h.after;
+      cost = looks_again (Unit {0}) (now w) h.after;
+      reads = reads_again (Unit {0}) (now w) h.after;
+      functions = functions_again (Unit {0}) (now w) h.after;
+      asked = asked_again (Unit {0}) (now w) h.after tt;
       place = h.place;
     }
 

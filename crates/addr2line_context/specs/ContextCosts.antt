@@ -11,11 +11,11 @@ use Rattle.addr2line_lookups.specs.UnitRange.{UnitRange}
 use Rattle.addr2line_lookups.specs.NumberedRanges.{numbered_range, overlapping_ranges}
 use Rattle.addr2line_lookups.specs.ContextUnits.{unit_places, ordered_ranges}
 use Rattle.addr2line_lookups.specs.ResolvedUnits.{AnsweredUnit, ResolvedUnit, runs_if_kept}
-use Rattle.addr2line_lookups.specs.KeptUnits.{AsksAmong, KeepsAsked, ReadsAsked, IsUnitOf}
+use Rattle.addr2line_lookups.specs.KeptUnits.{AsksAmong, KeepsAsked, ReadsAsked, ReadsAskedFunctions, ReadsNoFunctions, IsUnitOf}
 use Rattle.addr2line_lookups.specs.RangeWalks.{ComesTo, AsksForStretch}
 use Rattle.addr2line_lookups.specs.declared.range_walk.RangeWalk.{RangeWalk}
 use Rattle.addr2line_lookups.specs.LookupCosts.{AtMostLooks, probes_among, row_probes_at, frame_probes_at}
-use Rattle.addr2line_lookups.specs.PassedUnits.{AsksFramesAmong, AsksUnitAmong}
+use Rattle.addr2line_lookups.specs.PassedUnits.{AsksFramesAmong, AsksUnitAmong, KeepsAskedFunctions}
 use Rattle.addr2line_context.specs.AnsweredContexts.{AnsweredContext}
 use Rattle.addr2line_context.specs.KeptContexts.{ResolvedContext}
 
@@ -99,22 +99,26 @@ pub record AfterLookup (n : ℕ) (old new : ResolvedContext) : Type 0 where
   pub value : new.value ≡ old.value
   pub cost : AtMostLooks n old.units new.units
 
--- The same after a lookup of the frames of an address, or of its unit, which asks units. It reads
--- lines of no others.
-pub record AfterSearch (asks : AnsweredContext → ℕ → ℕ → Type 0) (a : ℕ)
+-- The same after a lookup of the frames of an address, or of its unit, which asks units. Where it
+-- has memory, the functions of these are kept, but of one whose load needs an answer. It reads
+-- lines and functions of no others.
+pub record AfterSearch (asks : AnsweredContext → ℕ → ℕ → Type 0) (has_memory : Type 0) (a : ℕ)
     (old new : ResolvedContext) : Type 0 where
   pub value : new.value ≡ old.value
   pub cost : AtMostLooks (frame_looks old.value a) old.units new.units
   pub reads : ReadsAsked (asks old.value a) old.units new.units
+  pub functions : ReadsAskedFunctions (asks old.value a) old.units new.units
+  pub asked : has_memory → KeepsAskedFunctions (asks old.value a) new.units
 
 -- The same after a call with this result that asks units for their lines. Unless it was out of
--- memory, these are kept; it reads no others.
+-- memory, these are kept; it reads no others, and no functions.
 pub record AfterReading {A : Type 0} (asks : ℕ → Type 0) (n : ℕ) (result : Result A Error)
     (old new : ResolvedContext) : Type 0 where
   pub value : new.value ≡ old.value
   pub cost : AtMostLooks n old.units new.units
   pub asked : result ≢ Err Memory → KeepsAsked asks new.units
   pub reads : ReadsAsked asks old.units new.units
+  pub functions : ReadsNoFunctions old.units new.units
 
 -- The same after a step with this result of a walk between two ends. Later the walk asks no units
 -- but those that it might still ask before the step.
@@ -124,5 +128,6 @@ pub record AfterStep {A : Type 0} (result : Result A Error) (old_walk new_walk :
   pub cost : AtMostLooks 0 old.units new.units
   pub asked : result ≢ Err Memory → KeepsAsked (AsksForNext old.value old_walk) new.units
   pub reads : ReadsAsked (AsksForNext old.value old_walk) old.units new.units
+  pub functions : ReadsNoFunctions old.units new.units
   pub way : (number : ℕ) → AsksForStretches old.value new_walk number
       → AsksForStretches old.value old_walk number

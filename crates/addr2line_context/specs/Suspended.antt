@@ -46,6 +46,11 @@ abbrev pub RestsUnlessWaiting : {L O B W S E F : Type 0} (R : RattleType) → Mu
 RestsUnlessWaiting R s name result P =
     follows_so R R s.ghost_name (waiting_name name result) (λ w n. IfLoad (λ v. n ≡ w) result) P
 
+-- a lookup isn't out of memory
+abbrev pub HasMemory : {L X B W S E F : Type 0} → LookupResult L (Result X Error) B W S E F
+    → Type 0
+HasMemory result = result ≢ Output (Err Memory)
+
 -- ---- their meaning
 
 -- What is found, as a definition has it, or out of memory. A lookup waits where its definition

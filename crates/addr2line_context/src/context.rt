@@ -8,7 +8,7 @@ ghost use Rattle.addr2line_lookups.specs.Lookups.{answer_load, map_output};
 ghost use Rattle.addr2line_lookups.specs.BorrowedFrames.{frames_left};
 ghost use Rattle.addr2line_lookups.specs.BorrowedLocations.{location_value};
 ghost use Rattle.addr2line_lookups.specs.ResolvedUnits.{value_of_unit, RunForRangesAlone};
-ghost use Rattle.addr2line_lookups.specs.KeptUnits.{KeepsAsked, ReadsAsked, ReadsNoLines, AsksForLines};
+ghost use Rattle.addr2line_lookups.specs.KeptUnits.{KeepsAsked, ReadsAsked, ReadsNoLines, ReadsNoFunctions, AsksForLines};
 ghost use Rattle.addr2line_lookups.specs.LookupCosts.{AtMostLooks};
 ghost use Rattle.addr2line_lookups.specs.UnitParses.{KeepsParsed, KeepAllCalls};
 ghost use Rattle.addr2line_lookups.specs.KeptUnits.{KeepsAt};
@@ -26,7 +26,7 @@ ghost use Rattle.addr2line_context.specs.LocationRanges.{left_in};
 ghost use Rattle.addr2line_context.specs.RangeItems.{stretch_of_item};
 ghost use Rattle.addr2line_context.specs.SettledLookups.{frames_in, unit_in, loads_in, after_answer, IsFor, LoadOf, LeavesAnswer};
 ghost use Rattle.addr2line_context.specs.SkippedLoads.{FindsFrames, FindsUnit};
-ghost use Rattle.addr2line_context.specs.Suspended.{IfLoad, IfSkipped, FollowsLookup, RestsUnlessWaiting};
+ghost use Rattle.addr2line_context.specs.Suspended.{IfLoad, IfSkipped, HasMemory, FollowsLookup, RestsUnlessWaiting};
 
 use crate::find_frames::FindFrames;
 use crate::find_unit::FindUnit;
@@ -169,7 +169,8 @@ impl<R: Reader> Context<R> {
     /// The place of an address: of the units with a range over it, by the ranges' ends, the first
     /// that has a place for it. A unit whose lines are refused ends the search with that refusal.
     /// The lines of the units that it asks are read, unless they are kept, and kept, those of no
-    /// other unit; else it takes no memory, so that the same address again never is out of memory.
+    /// other unit, and no functions; else it takes no memory, so that the same address again never
+    /// is out of memory.
     /// In each unit it searches the sequences, and the rows of one. The context's value stays the
     /// same.
     pub fn find_location(&mut self, probe: u64) -> Result<Option<Location<'_>>, Error>
@@ -256,6 +257,7 @@ impl<R: Reader> Context<R> {
             → KeepsAsked (AsksForLines self.old.value.plain.context.units) self.new.units }
         ensures reads { ReadsAsked (AsksForLines self.old.value.plain.context.units)
             self.old.units self.new.units }
+        ensures functions { ReadsNoFunctions self.old.units self.new.units }
         ensures free { KeepsAsked (AsksForLines self.old.value.plain.context.units) self.old.units
             → result ≢ Err Memory }
     {
@@ -314,10 +316,7 @@ impl<R: Reader> Context<R> {
         ensures value { self.new ≡ self.old }
         ensures free { loads_in self.old.value probe ≡ [] → result ≢ Err Memory }
     {
-        match self.units.first_waiting(probe, 0) {
-            Some(_) => self.units.pending_loads(probe),
-            None => Ok(Vec::new(*self.supplement_units.allocator())),
-        }
+        self.units.pending_loads(probe)
     }
 
     /// Answers the load of a unit by the sections of the other file, which `Dwarf::make_dwo`
@@ -335,6 +334,7 @@ impl<R: Reader> Context<R> {
         ensures plain { self.new.value.plain ≡ self.old.value.plain }
         ensures cost { AtMostLooks 0 self.old.units self.new.units }
         ensures lines { ReadsNoLines self.old.units self.new.units }
+        ensures functions { ReadsNoFunctions self.old.units self.new.units }
     {
         self.units.answer_at(token.number(), file)
     }
@@ -346,10 +346,12 @@ impl<R: Reader> Context<R> {
     /// functions of a unit are in another file that wasn't asked for yet (DWARF 5, 3.1.3), the
     /// lookup waits for that load first. Refused by what decides a unit, by its functions, by the
     /// function that holds the address, or by its lines, in this order. What is read is kept, and
-    /// no lines are read of units after the one in which the search ends: the first that has some,
-    /// is refused, or waits. In each unit it searches the functions, the calls of one at each
-    /// depth, the sequences, and the rows of one. The frames borrow what is kept; each takes memory
-    /// only for a copy of its name's reader. The context's value stays the same.
+    /// neither lines nor functions are read of units after the one in which the search ends: the
+    /// first that has some, is refused, or waits. Unless it is out of memory, the functions of the
+    /// units up to that one are kept, but of one that waits. In each unit it searches the
+    /// functions, the calls of one at each depth, the sequences, and the rows of one. The frames
+    /// borrow what is kept; each takes memory only for a copy of its name's reader. The context's
+    /// value stays the same.
     pub fn find_frames(&mut self, probe: u64) -> LookupResult<FindFrames<'_, R>>
         ensures found { FollowsLookup frames_left result (frames_in self.old.value probe) }
         ensures waits { IfLoad
@@ -360,7 +362,7 @@ impl<R: Reader> Context<R> {
         ensures* after { sem 𝓛 (RestsUnlessWaiting (the_row R.row R.Endian.row R.Offset.row R.Reader
             R.Endian.Endianity R.Offset.ReaderOffset.own R.Offset.Debug) self.entry
             (λ w. w.context.ghost_name) result
-            (AfterSearch AsksForFrames probe self.old)) }
+            (AfterSearch AsksForFrames (HasMemory result) probe self.old)) }
     {
         match self.settle_frames(probe) {
             Ok(Settled::Waits) => LookupResult::Load(FindFrames {
@@ -378,8 +380,9 @@ impl<R: Reader> Context<R> {
     /// The unit of an address, with its file's sections: of the units with a range over it, by the
     /// ranges' ends, the first that has a function or a place for it, whatever is refused before;
     /// the split unit where one has its functions. It waits for loads, and searches, as
-    /// `find_frames` does. The only error is out of memory. What is read is kept, and no lines are
-    /// read of units after that one, or after one that waits. The context's value stays the same.
+    /// `find_frames` does. The only error is out of memory. What is read is kept, and neither lines
+    /// nor functions are read of units after that one, or after one that waits. The context's value
+    /// stays the same.
     pub fn find_dwarf_and_unit(&mut self, probe: u64) -> LookupResult<FindUnit<'_, R>>
         ensures found { FollowsLookup (λ u. u) result
             (map_output (λ u. Ok u) (unit_in self.old.value probe)) }
@@ -390,7 +393,7 @@ impl<R: Reader> Context<R> {
         ensures* after { sem 𝓛 (RestsUnlessWaiting (the_row R.row R.Endian.row R.Offset.row R.Reader
             R.Endian.Endianity R.Offset.ReaderOffset.own R.Offset.Debug) self.entry
             (λ w. w.context.ghost_name) result
-            (AfterSearch AsksForUnit probe self.old)) }
+            (AfterSearch AsksForUnit (HasMemory result) probe self.old)) }
     {
         match self.settle_unit(probe) {
             Ok(Settled::Waits) => LookupResult::Load(FindUnit {
@@ -408,7 +411,7 @@ impl<R: Reader> Context<R> {
     // Where the frames of an address are, unless a load needs an answer before.
     pub(crate) fn settle_frames(&mut self, probe: u64) -> Result<Settled<FramePlace>, Error>
         ensures found { SettlesFrames self.new.units (frames_in self.old.value probe) result }
-        ensures after { AfterSearch AsksForFrames probe self.old self.new }
+        ensures after { AfterSearch AsksForFrames (result ≢ Err Memory) probe self.old self.new }
     {
         let supplement_units = self.supplement_units.as_slice();
         let mut index = self.frames_progress.index_for(probe);
@@ -423,7 +426,7 @@ impl<R: Reader> Context<R> {
     pub(crate) fn settle_unit(&mut self, probe: u64) -> Result<Settled<usize>, Error>
         ensures found { SettlesUnit (map value_of_unit self.new.units)
             (unit_in self.old.value probe) result }
-        ensures after { AfterSearch AsksForUnit probe self.old self.new }
+        ensures after { AfterSearch AsksForUnit (result ≢ Err Memory) probe self.old self.new }
     {
         let supplement_units = self.supplement_units.as_slice();
         let mut index = self.unit_progress.index_for(probe);
@@ -449,6 +452,7 @@ impl<R: Reader> Context<R> {
         ensures refusal { IfErr result (λ e. e ≡ Memory) }
         ensures cost { AtMostLooks 0 self.old.units self.new.units }
         ensures lines { ReadsNoLines self.old.units self.new.units }
+        ensures functions { ReadsNoFunctions self.old.units self.new.units }
     {
         let from = self.frames_progress.furthest_for(self.unit_progress, probe);
         let Some(number) = self.units.first_waiting(probe, from) else {

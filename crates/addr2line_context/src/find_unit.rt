@@ -54,7 +54,8 @@ impl<'ctx, R: Reader> LookupContinuation for FindUnit<'ctx, R> {
     }
 
     /// Answers that load by the sections of the other file, or by none where there is no such file,
-    /// and goes on: it reads lines of no units but those that the lookup asks after that answer. A
+    /// and goes on: it reads lines and functions of no units but those that the lookup asks after
+    /// that answer, whose functions are kept, unless it is out of memory, but of one that waits. A
     /// refusal of the file is recorded too; out of memory, the answer is recorded or not.
     fn resume(self, input: Option<Rc<Dwarf<R>>>) -> LookupResult<FindUnit<'ctx, R>>
         ensures fewer { loads_left (λ w. length (loads_in w.context.now.value w.probe)) result

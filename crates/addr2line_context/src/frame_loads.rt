@@ -1,12 +1,12 @@
 //! The loads that the frames of an address wait for, one after the other, for a crate that answers
 //! each itself; and the frames once all are answered.
 
-ghost use Rattle.std.specs.Prelude.{◌≡◌, ◌⊎◌, ◌<◌, ◌≤◌, ◌+◌, OnOk, IfErr, length, option_map};
+ghost use Rattle.std.specs.Prelude.{◌≡◌, ◌≢◌, ◌⊎◌, ◌<◌, ◌≤◌, ◌+◌, OnOk, Err, IfErr, length, option_map};
 ghost use Rattle.std.specs.Borrow.{sem};
 ghost use Rattle.std.specs.Io.BufRead.{Rests};
 ghost use Rattle.addr2line_lookups.specs.BorrowedFrames.{frames_left};
 ghost use Rattle.addr2line_lookups.specs.Error.TheVariants.{Memory};
-ghost use Rattle.addr2line_lookups.specs.KeptUnits.{ReadsNoLines};
+ghost use Rattle.addr2line_lookups.specs.KeptUnits.{ReadsNoLines, ReadsNoFunctions};
 ghost use Rattle.addr2line_lookups.specs.LookupCosts.{AtMostLooks};
 ghost use Rattle.addr2line_context.specs.ContextCosts.{AsksForFrames, AfterSearch};
 ghost use Rattle.addr2line_context.specs.FrameLoads.{IsDone, TellsWaiting, TellsIfWaiting, GivesDecided};
@@ -37,7 +37,7 @@ pub(crate) fn is_waiting<P: Drop>(settled: Result<Settled<P>, Error>) -> Result<
 /// Whether the frames of an address wait for a load. What is read on the way is kept. The only
 /// error is out of memory.
 pub fn frames_wait<R: Reader>(context: &mut Context<R>, probe: u64) -> Result<bool, Error>
-    ensures after { AfterSearch AsksForFrames probe context.old context.new }
+    ensures after { AfterSearch AsksForFrames (result ≢ Err Memory) probe context.old context.new }
     ensures waits { TellsWaiting (frames_in context.old.value probe) result }
 {
     let settled = context.settle_frames(probe);
@@ -71,6 +71,7 @@ pub fn answer_first<R: Reader>(
     ensures refusal { IfErr result (λ e. e ≡ Memory) }
     ensures cost { AtMostLooks 0 context.old.units context.new.units }
     ensures lines { ReadsNoLines context.old.units context.new.units }
+    ensures functions { ReadsNoFunctions context.old.units context.new.units }
 {
     context.answer_first(probe, file)
 }
@@ -84,7 +85,7 @@ pub fn find_decided_frames<R: Reader>(
     ensures found { GivesDecided frames_left result (frames_in context.old.value probe) }
     ensures* after { sem 𝓛 (Rests (the_row R.row R.Endian.row R.Offset.row R.Reader
         R.Endian.Endianity R.Offset.ReaderOffset.own R.Offset.Debug) context.entry
-        (AfterSearch AsksForFrames probe context.old)) }
+        (AfterSearch AsksForFrames (result ≢ Err Memory) probe context.old)) }
 {
     match context.settle_frames(probe) {
         Ok(Settled::Found(place)) => Ok(context.units.frames_at_place(place)),

@@ -2,7 +2,8 @@
 //! unit once all are answered, in two steps: it is found first, and then nothing of the context
 //! changes while it is lent.
 
-ghost use Rattle.std.specs.Prelude.{◌≡◌, map};
+ghost use Rattle.std.specs.Prelude.{◌≡◌, ◌≢◌, Err, map};
+ghost use Rattle.addr2line_lookups.specs.Error.TheVariants.{Memory};
 ghost use Rattle.addr2line_lookups.specs.ResolvedUnits.{value_of_unit};
 ghost use Rattle.addr2line_lookups.specs.UnitLookups.{unit_at_number};
 ghost use Rattle.addr2line_context.specs.ContextCosts.{AsksForUnit, AfterSearch};
@@ -16,7 +17,7 @@ use addr2line_lookups::{Error, Reader, Settled, UnitRef, UnitToken};
 /// Whether the unit of an address waits for a load. What is read on the way is kept. The only error
 /// is out of memory.
 pub fn unit_waits<R: Reader>(context: &mut Context<R>, probe: u64) -> Result<bool, Error>
-    ensures after { AfterSearch AsksForUnit probe context.old context.new }
+    ensures after { AfterSearch AsksForUnit (result ≢ Err Memory) probe context.old context.new }
     ensures waits { TellsWaiting (unit_in context.old.value probe) result }
 {
     let settled = context.settle_unit(probe);
@@ -30,7 +31,7 @@ pub fn find_decided_unit<R: Reader>(
     probe: u64,
 ) -> Result<Option<UnitToken>, Error>
     requires { IsDone (unit_in context.old.value probe) }
-    ensures after { AfterSearch AsksForUnit probe context.old context.new }
+    ensures after { AfterSearch AsksForUnit (result ≢ Err Memory) probe context.old context.new }
     ensures found { FindsUnitAt (map value_of_unit context.new.units) result
         (unit_in context.old.value probe) }
 {

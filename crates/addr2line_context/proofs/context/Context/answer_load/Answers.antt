@@ -7,7 +7,7 @@ use Rattle.addr2line_lookups.specs.Preloads.{load_at}
 use Rattle.addr2line_context.specs.KeptContexts.{ResolvedContext}
 use Rattle.addr2line_lookups.proofs.AnsweredLoads.{file_left, plain_left}
 use Rattle.addr2line_lookups.proofs.PassedUnits.{decided_same}
-use Rattle.addr2line_context.proofs.ContextParts.{value_is, looks_since, lines_since}
+use Rattle.addr2line_context.proofs.ContextParts.{value_is, looks_since, lines_since, functions_since}
 use Rattle.addr2line_context.proofs.ContextLoads.{answer_of_context, same_plain_context, decided_in_context}
 use Rattle.addr2line_context.proofs.KeptUnits.{holds_after}
 use Rattle.addr2line_context.proofs.context.Context.answer_load.Goals as goal
@@ -19,7 +19,7 @@ invariant_of-self g c =
     let h = c.answer_at.ensures.answer in
     holds_after _ _ us vs c.self.invariant (plain_left us vs c.answer_at.result _ _ h)
     (file_left us vs c.answer_at.result _ _ h c.self.inside.sections.value.file c.self.invariant.are_of_file)
-    c.answer_at.ensures.calls
+    c.answer_at.ensures.calls c.answer_at.ensures.cost.functions
     (decided_same _ _ _ _ c.answer_at.result h)
 
 pub returns-clause-answers : goal.returns-clause-answers
@@ -41,6 +41,10 @@ returns-clause-cost g c = looks_since _ _ _ _ c.self.view_is 0 c.answer_at.new.s
 
 pub returns-clause-lines : goal.returns-clause-lines
 returns-clause-lines g c = lines_since _ _ _ _ c.self.view_is c.answer_at.new.self c.answer_at.ensures.lines
+
+pub returns-clause-functions : goal.returns-clause-functions
+returns-clause-functions g c =
+    functions_since _ _ _ _ c.self.view_is c.answer_at.new.self c.answer_at.ensures.functions
 
 pub returns-clause-decided : goal.returns-clause-decided
 returns-clause-decided g c =

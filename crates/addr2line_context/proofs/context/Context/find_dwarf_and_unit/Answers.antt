@@ -2,11 +2,13 @@ use Rattle.std.proofs.Common.{refl, subst, sym, map, None, Ok}
 use Rattle.addr2line_lookups.specs.ResolvedUnits.{value_of_unit}
 use Rattle.addr2line_lookups.specs.UnitLookups.{IsPending, FoundUnit, SettlesUnit}
 use Rattle.addr2line_context.specs.KeptContexts.{ResolvedContext}
-use Rattle.addr2line_context.specs.ContextCosts.{AsksForUnit, AfterSearch}
+use Rattle.addr2line_context.specs.ContextCosts.{AsksForUnit}
 use Rattle.addr2line_context.specs.SettledLookups.{unit_in}
 use Rattle.addr2line_context.proofs.AnsweredFirst.{unit_has_load}
 use Rattle.addr2line_context.proofs.LookupResults.{unit_lent, no_unit, pending_unit}
 use Rattle.addr2line_context.proofs.SkippedLoads.{unit_or_refusal, unit_or_refusal_still_found, finds_ok, finds_err, finds_there}
+use Rattle.addr2line_lookups.proofs.AskedFunctions.{is_value}
+use Rattle.addr2line_context.proofs.ResumedLookups.{with_memory, search_of, refused_with_memory}
 use Rattle.addr2line_context.proofs.context.Context.find_dwarf_and_unit.Goals as goal
 
 pub returns-in-Ok-Waits : goal.returns-in-Ok-Waits
@@ -15,13 +17,18 @@ returns-in-Ok-Waits g c =
     let a = c.args.probe in
     let meaning = unit_in old a in
     let after = c.in-Ok-Waits.ensures.after in
+    let found_after = with_memory AsksForUnit (Unit {0}) _ a c.args.self.now _ (λ has. is_value _) after in
     let waits : IsPending meaning =
     subst (λ o. SettlesUnit (map value_of_unit c.settle_unit.new.self.units) meaning (Ok o)) c.in-Ok-Waits.field-0-is
     c.in-Ok-Waits.ensures.found in (
-      (refl, λ w. refl, after),
+      (
+        refl,
+        λ w. refl,
+        with_memory AsksForUnit _ _ a c.args.self.now _ (λ has. is_value _) after,
+      ),
       record {
         found = pending_unit meaning waits;
-        waits = record { after = after; place = refl; has_load = unit_has_load old a waits };
+        waits = record { after = found_after; place = refl; has_load = unit_has_load old a waits };
         skips =
             finds_there (λ u. u) unit_or_refusal unit_or_refusal_still_found old _ a _ after.value refl;
         after = tt;
@@ -43,8 +50,7 @@ returns-in-Ok-Found g c =
       (
         refl,
         λ w. tt,
-        subst (λ (x : ResolvedContext). AfterSearch AsksForUnit a old x) (sym c.self.view_is)
-            c.in-Ok-Found.ensures.after,
+        search_of AsksForUnit a old c.self.view_is (λ has. is_value _) c.in-Ok-Found.ensures.after,
       ),
       record {
         found = lent;
@@ -63,7 +69,11 @@ returns-in-Ok-Nothing g c =
     no_unit (unit_in old a)
     (subst (λ o. SettlesUnit (map value_of_unit c.settle_unit.new.self.units) (unit_in old a) (Ok o))
     c.in-Ok-Nothing.field-0-is c.in-Ok-Nothing.ensures.found) in (
-      (refl, λ w. tt, c.in-Ok-Nothing.ensures.after),
+      (
+        refl,
+        λ w. tt,
+        with_memory AsksForUnit _ _ a c.args.self.now _ (λ has. is_value _) c.in-Ok-Nothing.ensures.after,
+      ),
       record {
         found = none;
         waits = tt;
@@ -74,7 +84,11 @@ returns-in-Ok-Nothing g c =
 
 pub returns-in-Err : goal.returns-in-Err
 returns-in-Err g c = (
-  (refl, λ w. tt, c.in-Err.ensures.after),
+  (
+    refl,
+    λ w. tt,
+    with_memory AsksForUnit _ _ c.args.probe c.args.self.now _ (refused_with_memory _) c.in-Err.ensures.after,
+  ),
   record {
     found = λ m. absurd (m c.in-Err.ensures.found);
     waits = tt;

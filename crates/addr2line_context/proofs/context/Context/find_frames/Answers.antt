@@ -3,11 +3,13 @@ use Rattle.addr2line_lookups.specs.BorrowedFrames.{frames_left}
 use Rattle.addr2line_lookups.specs.FirstAnswers.{output}
 use Rattle.addr2line_lookups.specs.UnitLookups.{IsPending, FoundFrames, SettlesFrames}
 use Rattle.addr2line_context.specs.KeptContexts.{ResolvedContext}
-use Rattle.addr2line_context.specs.ContextCosts.{AsksForFrames, AfterSearch}
+use Rattle.addr2line_context.specs.ContextCosts.{AsksForFrames}
 use Rattle.addr2line_context.specs.SettledLookups.{frames_in}
 use Rattle.addr2line_context.proofs.AnsweredFirst.{frames_have_load}
 use Rattle.addr2line_context.proofs.LookupResults.{frames_lent}
 use Rattle.addr2line_context.proofs.SkippedLoads.{frames_still_found, finds_ok, finds_err, finds_there}
+use Rattle.addr2line_lookups.proofs.AskedFunctions.{is_value}
+use Rattle.addr2line_context.proofs.ResumedLookups.{with_memory, search_of, refused_with_memory}
 use Rattle.addr2line_context.proofs.context.Context.find_frames.Goals as goal
 
 pub returns-in-Ok-Waits : goal.returns-in-Ok-Waits
@@ -16,13 +18,18 @@ returns-in-Ok-Waits g c =
     let a = c.args.probe in
     let meaning = frames_in old a in
     let after = c.in-Ok-Waits.ensures.after in
+    let found_after = with_memory AsksForFrames (Unit {0}) _ a c.args.self.now _ (λ has. is_value _) after in
     let waits : IsPending meaning =
     subst (λ o. SettlesFrames c.settle_frames.new.self.units meaning (Ok o)) c.in-Ok-Waits.field-0-is
     c.in-Ok-Waits.ensures.found in (
-      (refl, λ w. refl, after),
+      (
+        refl,
+        λ w. refl,
+        with_memory AsksForFrames _ _ a c.args.self.now _ (λ has. is_value _) after,
+      ),
       record {
         found = waits;
-        waits = record { after = after; place = refl; has_load = frames_have_load old a waits };
+        waits = record { after = found_after; place = refl; has_load = frames_have_load old a waits };
         skips = finds_there frames_left frames_in frames_still_found old _ a _ after.value refl;
         after = tt;
       },
@@ -43,8 +50,7 @@ returns-in-Ok-Found g c =
       (
         refl,
         λ w. tt,
-        subst (λ (x : ResolvedContext). AfterSearch AsksForFrames a old x) (sym c.self.view_is)
-            c.in-Ok-Found.ensures.after,
+        search_of AsksForFrames a old c.self.view_is (λ has. is_value _) c.in-Ok-Found.ensures.after,
       ),
       record {
         found = lent;
@@ -62,7 +68,11 @@ returns-in-Ok-Nothing g c =
     subst (λ o. SettlesFrames c.settle_frames.new.self.units (frames_in old a) (Ok o)) c.in-Ok-Nothing.field-0-is
     c.in-Ok-Nothing.ensures.found
     ∙ ap (λ fs. output (Ok fs)) (sym c.frame_without_function.ensures) in (
-      (refl, λ w. tt, c.in-Ok-Nothing.ensures.after),
+      (
+        refl,
+        λ w. tt,
+        with_memory AsksForFrames _ _ a c.args.self.now _ (λ has. is_value _) c.in-Ok-Nothing.ensures.after,
+      ),
       record {
         found = none;
         waits = tt;
@@ -73,7 +83,11 @@ returns-in-Ok-Nothing g c =
 
 pub returns-in-Err : goal.returns-in-Err
 returns-in-Err g c = (
-  (refl, λ w. tt, c.in-Err.ensures.after),
+  (
+    refl,
+    λ w. tt,
+    with_memory AsksForFrames _ _ c.args.probe c.args.self.now _ (refused_with_memory _) c.in-Err.ensures.after,
+  ),
   record {
     found = c.in-Err.ensures.found;
     waits = tt;

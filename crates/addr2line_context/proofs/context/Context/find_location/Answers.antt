@@ -19,7 +19,7 @@ returns-in_err-found g c =
         refl,
         λ _. tt,
         after_row _ _ _ of_file a _ c.self.view_is _ c.find_row.ensures.values c.find_row.ensures.cost
-            c.find_row.ensures.reads c.from_residual.result
+            c.find_row.ensures.reads c.find_row.ensures.functions c.from_residual.result
             (rw (p.1, p.2) (λ other. c.in_err-found.ensures.asked (same_refusal c.in_err-found.field-0.0 other))),
       ),
       record {
@@ -48,7 +48,8 @@ returns-in-Some g c =
         refl,
         λ _. tt,
         after_row _ _ _ of_file a _ c.self.view_is _ c.find_row.ensures.values c.find_row.ensures.cost
-            c.find_row.ensures.reads _ (λ answered. c.in_ok-found.ensures.asked (found_row _)),
+            c.find_row.ensures.reads c.find_row.ensures.functions _
+            (λ answered. c.in_ok-found.ensures.asked (found_row _)),
       ),
       record {
         place =
@@ -68,7 +69,8 @@ returns-in-None g c =
         refl,
         λ _. tt,
         after_row _ _ _ of_file a _ c.self.view_is _ c.find_row.ensures.values c.find_row.ensures.cost
-            c.find_row.ensures.reads _ (λ answered. c.in_ok-found.ensures.asked (found_row _)),
+            c.find_row.ensures.reads c.find_row.ensures.functions _
+            (λ answered. c.in_ok-found.ensures.asked (found_row _)),
       ),
       record {
         place =
@@ -83,11 +85,14 @@ returns-in-None g c =
 pub invariant_of-self : goal.invariant_of-self
 invariant_of-self g c =
     holds_same _ _ _ _ c.self.invariant c.find_row.ensures.values c.find_row.ensures.calls
+    c.find_row.ensures.cost.functions
 
 pub invariant_of-self-in-Some : goal.invariant_of-self-in-Some
 invariant_of-self-in-Some g c =
     holds_same _ _ _ _ c.self.invariant c.find_row.ensures.values c.find_row.ensures.calls
+    c.find_row.ensures.cost.functions
 
 pub invariant_of-self-in-None : goal.invariant_of-self-in-None
 invariant_of-self-in-None g c =
     holds_same _ _ _ _ c.self.invariant c.find_row.ensures.values c.find_row.ensures.calls
+    c.find_row.ensures.cost.functions

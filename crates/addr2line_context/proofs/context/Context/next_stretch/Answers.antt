@@ -15,7 +15,7 @@ pub returns-clause-after : goal.returns-clause-after
 returns-clause-after g c =
     after_step _ _ _ _ c.self.view_is c.next_stretch.result c.args.walk.now c.next_stretch.new.walk
     c.next_stretch.new.self c.next_stretch.ensures.values c.next_stretch.ensures.cost c.next_stretch.ensures.asked
-    c.next_stretch.ensures.reads c.next_stretch.ensures.way
+    c.next_stretch.ensures.reads c.next_stretch.ensures.functions c.next_stretch.ensures.way
 
 pub returns-clause-free : goal.returns-clause-free
 returns-clause-free g c = λ kept.
@@ -24,3 +24,4 @@ returns-clause-free g c = λ kept.
 pub invariant_of-self : goal.invariant_of-self
 invariant_of-self g c =
     holds_same _ _ _ _ c.self.invariant c.next_stretch.ensures.values c.next_stretch.ensures.calls
+    c.next_stretch.ensures.cost.functions

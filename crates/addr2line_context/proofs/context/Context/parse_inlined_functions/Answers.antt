@@ -3,7 +3,7 @@ use Rattle.addr2line_lookups.specs.UnitFacts.{UnitFacts}
 use Rattle.addr2line_lookups.specs.KeptCalls.{known_among, HoldCalls}
 use Rattle.addr2line_context.proofs.ContextParts.{value_is, looks_since, lines_since}
 use Rattle.addr2line_context.proofs.ContextWalks.{of_file_calls, calls_of_context, same_plain_calls}
-use Rattle.addr2line_context.proofs.KeptUnits.{frames_first, units_first}
+use Rattle.addr2line_context.proofs.KeptUnits.{frames_first, units_first, keeps_first}
 use Rattle.addr2line_context.proofs.context.Context.parse_inlined_functions.Goals as goal
 
 pub check_calls-requires : goal.check_calls-requires
@@ -21,6 +21,8 @@ invariant_of-self g c =
       calls_are_kept = subst Holds c.as_slice.ensures.value c.check_calls.ensures.calls;
       pass_frames = frames_first _ new _ _ c.none-self-inside.ensures;
       pass_units = units_first _ new _ _ c.none-self-inside-2.ensures;
+      frames_are_kept = keeps_first _ _ new c.none-self-inside.ensures;
+      units_are_kept = keeps_first _ _ new c.none-self-inside-2.ensures;
     }
 
 pub returns-clause-calls : goal.returns-clause-calls

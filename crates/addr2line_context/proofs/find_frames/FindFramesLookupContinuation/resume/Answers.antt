@@ -22,7 +22,7 @@ returns-in-Ok g c =
       (
         refl,
         c.find_frames.follows.holds,
-        after_again AsksForFrames old mid a file ok free c.in-Ok.ensures.lines result _
+        after_again AsksForFrames old mid a file ok free c.in-Ok.ensures.lines c.in-Ok.ensures.functions result _
             c.find_frames.follows.holds-at-none,
       ),
       record {
@@ -33,8 +33,8 @@ returns-in-Ok g c =
             subst (λ (x : AnsweredContext). FollowsLookup frames_left result (frames_in x a)) ok
             c.find_frames.ensures.found;
         again =
-            waits_again AsksForFrames old mid a file ok free c.in-Ok.ensures.lines (λ w. w.context.now) (λ w. w.probe)
-            result waits;
+            waits_again AsksForFrames old mid a file ok free c.in-Ok.ensures.lines c.in-Ok.ensures.functions
+            (λ w. w.context.now) (λ w. w.probe) result waits;
         skips =
             λ none found h.
             finds_after frames_left frames_in frames_still_found old.value a found
@@ -51,7 +51,7 @@ returns-in-Err g c = (
     refl,
     λ w. tt,
     after_error AsksForFrames _ _ _ _ _ c.in-Err.ensures.refusal c.in-Err.ensures.left c.in-Err.ensures.cost
-        c.in-Err.ensures.lines,
+        c.in-Err.ensures.lines c.in-Err.ensures.functions,
   ),
   record {
     fewer = omega arith;

@@ -22,7 +22,7 @@ returns-in-Ok g c =
       (
         refl,
         c.find_dwarf_and_unit.follows.holds,
-        after_again AsksForUnit old mid a file ok free c.in-Ok.ensures.lines result _
+        after_again AsksForUnit old mid a file ok free c.in-Ok.ensures.lines c.in-Ok.ensures.functions result _
             c.find_dwarf_and_unit.follows.holds-at-none,
       ),
       record {
@@ -32,8 +32,8 @@ returns-in-Ok g c =
             subst (λ (x : AnsweredContext). FollowsLookup (λ u. u) result (map_output (λ u. Ok u) (unit_in x a))) ok
             c.find_dwarf_and_unit.ensures.found;
         again =
-            waits_again AsksForUnit old mid a file ok free c.in-Ok.ensures.lines (λ w. w.context.now) (λ w. w.probe)
-            result waits;
+            waits_again AsksForUnit old mid a file ok free c.in-Ok.ensures.lines c.in-Ok.ensures.functions
+            (λ w. w.context.now) (λ w. w.probe) result waits;
         skips =
             λ none found h.
             finds_after (λ u. u) unit_or_refusal unit_or_refusal_still_found old.value a found
@@ -50,7 +50,7 @@ returns-in-Err g c = (
     refl,
     λ w. tt,
     after_error AsksForUnit _ _ _ _ _ c.in-Err.ensures.refusal c.in-Err.ensures.left c.in-Err.ensures.cost
-        c.in-Err.ensures.lines,
+        c.in-Err.ensures.lines c.in-Err.ensures.functions,
   ),
   record {
     fewer = omega arith;
