@@ -63,7 +63,7 @@ fn all_refused<E: Write>(alloc: Global, error: Error, err: &mut E) -> Ended
     }
 }
 
-/// All addresses, if they are asked for.
+// All addresses, if they are asked for.
 pub(crate) fn find_all<E: Write>(
     alloc: Global,
     loader: &mut Loader,

@@ -8,14 +8,14 @@ ghost use Rattle.linemap_lookup.specs.LookupAnswers.{is_memory};
 use addr2line_context::Error;
 use std::alloc::{AllocError, Global};
 
-/// What is printed for an address, in buffers that are used again for the next one.
+// What is printed for an address, in buffers that are used again for the next one.
 #[derive(Drop)]
 pub(crate) struct AnswerBuffer {
-    /// What goes to the output.
+    // What goes to the output.
     pub text: String,
-    /// The error lines.
+    // The error lines.
     pub errors: String,
-    /// Whether memory was refused.
+    // Whether memory was refused.
     pub is_memory_refused: bool,
 }
 
@@ -30,7 +30,7 @@ fn is_memory(error: Error) -> bool
 }
 
 impl AnswerBuffer {
-    /// Buffers without room.
+    // Buffers without room.
     pub fn new(alloc: Global) -> AnswerBuffer {
         AnswerBuffer {
             text: String::new(alloc),
@@ -39,7 +39,7 @@ impl AnswerBuffer {
         }
     }
 
-    /// Forgets what was printed, and keeps its room.
+    // Forgets what was printed, and keeps its room.
     pub fn clear(&mut self)
         ensures text { string_bytes self.new.text ≡ [] }
         ensures errors { string_bytes self.new.errors ≡ [] }
@@ -50,7 +50,7 @@ impl AnswerBuffer {
         self.is_memory_refused = false;
     }
 
-    /// Appends the error line of a refusal for an address.
+    // Appends the error line of a refusal for an address.
     pub fn push_refusal(
         &mut self,
         message: &str,

@@ -17,12 +17,12 @@ use addr2line_split::SplitSource;
 use linemap_output::Options;
 use std::alloc::{AllocError, Global};
 
-/// A loaded file, with the buffers for the answer of an address.
+// A loaded file, with the buffers for the answer of an address.
 #[derive(Drop)]
 pub(crate) struct Engine {
     pub alloc: Global,
     pub loader: Loader,
-    /// A copy of the name of a symbol.
+    // A copy of the name of a symbol.
     pub symbol: String,
     pub answer: AnswerBuffer,
 }
@@ -54,7 +54,7 @@ fn push_end(text: &mut String, options: &Options) -> Result<(), AllocError>
 }
 
 impl Engine {
-    /// A loaded file, with buffers without room.
+    // A loaded file, with buffers without room.
     pub fn new(alloc: Global, loader: Loader) -> Engine
         ensures { result.loader ≡ loader }
     {
@@ -140,7 +140,7 @@ impl Engine {
         }
     }
 
-    /// Puts the answer of an address into the buffers.
+    // Puts the answer of an address into the buffers.
     pub fn answer<S: SplitSource>(
         &mut self,
         options: &Options,

@@ -90,7 +90,7 @@ fn symbol_before<'s, R: Reader>(
     }
 }
 
-/// The frames of an address, until one is refused.
+// The frames of an address, until one is refused.
 #[derive(Drop)]
 pub(crate) struct Frames<'ctx, R: Reader> {
     left: FrameIter<'ctx, R>,
@@ -99,7 +99,7 @@ pub(crate) struct Frames<'ctx, R: Reader> {
 }
 
 impl<'ctx, R: Reader> Frames<'ctx, R> {
-    /// The next frame; none where none is left, and after a refusal.
+    // The next frame; none where none is left, and after a refusal.
     fn next(&mut self) -> Option<Frame<'ctx, R>>
         ensures { TakesNext (λ f. f) result (frames_left self.old.left) self.old.is_refused
             (frames_left self.new.left) self.new.is_refused }
@@ -163,8 +163,8 @@ impl<'ctx, R: Reader> Frames<'ctx, R> {
     }
 }
 
-/// Appends the frames of an address, by the name of a symbol for the last. Answers whether memory
-/// for one was refused; those before it are appended.
+// Appends the frames of an address, by the name of a symbol for the last. Answers whether memory
+// for one was refused; those before it are appended.
 pub(crate) fn push_frames<R: Reader>(
     alloc: Global,
     text: &mut String,
@@ -187,7 +187,7 @@ pub(crate) fn push_frames<R: Reader>(
     Ok(frames.is_refused)
 }
 
-/// Appends what is printed where no frame is known, by the name of a symbol if there is one.
+// Appends what is printed where no frame is known, by the name of a symbol if there is one.
 pub(crate) fn push_no_frame(
     alloc: Global,
     text: &mut String,

@@ -15,12 +15,12 @@ use std::str;
 // How many times a reader is asked. Another time would be a fault.
 const MAX_TRIES: u64 = 1 << 40;
 
-/// Why no line is read.
+// Why no line is read.
 #[derive(Clone, Copy, Debug, PartialEq, Eq)]
 pub(crate) enum LineFault {
-    /// Out of memory.
+    // Out of memory.
     Memory,
-    /// The read failed, or was tried too often.
+    // The read failed, or was tried too often.
     Read,
 }
 
@@ -34,7 +34,7 @@ impl From<AllocError> for LineFault {
     }
 }
 
-/// The lines of a reader, one after the other, in a buffer that is used again for the next one.
+// The lines of a reader, one after the other, in a buffer that is used again for the next one.
 #[derive(Drop)]
 pub(crate) struct LineBuffer {
     // The line, with its end.
@@ -45,7 +45,7 @@ pub(crate) struct LineBuffer {
     interruptions: u32,
     // Whether the reader was at its end.
     is_at_end: bool,
-    /// Whether a read failed, or a line was no text.
+    // Whether a read failed, or a line was no text.
     pub has_failed: bool,
 }
 
@@ -95,7 +95,7 @@ fn without_end(line: &[u8]) -> &[u8]
 }
 
 impl LineBuffer {
-    /// A buffer without room.
+    // A buffer without room.
     pub fn new(alloc: Global) -> LineBuffer
         ensures start { result.is_at_end ≡ false }
         ensures failed { result.has_failed ≡ false }
@@ -195,8 +195,8 @@ impl LineBuffer {
         }
     }
 
-    /// The address in the next line, if it can be read. There is no next one at the end of the
-    /// input, after a fault, and where a line is no text.
+    // The address in the next line, if it can be read. There is no next one at the end of the
+    // input, after a fault, and where a line is no text.
     pub fn next_address<R: BufRead>(
         &mut self,
         reader: &mut R,

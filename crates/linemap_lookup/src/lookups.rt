@@ -19,7 +19,7 @@ use addr2line_split::SplitSource;
 use linemap_output::Options;
 use std::alloc::{AllocError, Global};
 
-/// Appends the line of a place.
+// Appends the line of a place.
 pub(crate) fn push_place_line(
     text: &mut String,
     options: &Options,
@@ -47,7 +47,7 @@ fn push_refused_place(
     push_place_line(&mut answer.text, options, None)
 }
 
-/// Appends the place of an address, or its refusal.
+// Appends the place of an address, or its refusal.
 pub(crate) fn answer_place(
     loader: &mut Loader,
     options: &Options,
@@ -100,7 +100,7 @@ fn push_refused(
     push_no_frame(alloc, &mut answer.text, options, symbol)
 }
 
-/// Appends the frames of an address, or their refusal.
+// Appends the frames of an address, or their refusal.
 pub(crate) fn answer_frames<S: SplitSource>(
     alloc: Global,
     loader: &mut Loader,
@@ -120,7 +120,7 @@ pub(crate) fn answer_frames<S: SplitSource>(
     }
 }
 
-/// Copies the name of the symbol that holds an address, if one does.
+// Copies the name of the symbol that holds an address, if one does.
 pub(crate) fn copy_symbol(
     loader: &Loader,
     address: u64,
@@ -139,8 +139,8 @@ pub(crate) fn copy_symbol(
     }
 }
 
-/// The address that is looked up, if there is one: an address below the size of a section counts
-/// from its beginning.
+// The address that is looked up, if there is one: an address below the size of a section counts
+// from its beginning.
 pub(crate) fn looked_up(section: Option<Range>, address: Option<u64>) -> Option<u64>
     ensures { result ≡ looked_up section address }
 {

@@ -50,7 +50,7 @@ fn push_symbol(
     }
 }
 
-/// Appends the name of a symbol, or else of a function, or what stands for one that isn't known.
+// Appends the name of a symbol, or else of a function, or what stands for one that isn't known.
 pub(crate) fn push_name<R: Reader>(
     alloc: Global,
     text: &mut String,

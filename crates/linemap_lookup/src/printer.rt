@@ -115,7 +115,7 @@ fn push_no_place(text: &mut String, options: &Options) -> Result<(), AllocError>
     text.push_str(if options.llvm { "??:0:0" } else { "??:0" })
 }
 
-/// Appends a place, or what stands for none.
+// Appends a place, or what stands for none.
 pub(crate) fn push_place(
     text: &mut String,
     options: &Options,
@@ -142,7 +142,7 @@ fn push_hexadecimal(text: &mut String, options: &Options, address: u64) -> Resul
     }
 }
 
-/// Appends an address, if that is asked for.
+// Appends an address, if that is asked for.
 pub(crate) fn push_address(
     text: &mut String,
     options: &Options,
