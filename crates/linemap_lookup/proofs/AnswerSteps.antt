@@ -91,62 +91,49 @@ refused_all o a symbol e old mid new refused text errors memory =
       memory = more.memory ∙ ap (λ m. old.is_memory_refused || m) (sym (or_false _));
     }
 
-module _ {S : Type 0} (answers : S → List ℕ → List ℕ → Result (Option (List ℕ)) Error → S → Type 0) (o : Options) where
-  -- what a lookup finds, seen as a list
-  pub finds_list : {F : Type 0} (a : ℕ) (see : F → List Frame) (file : LoadedFile) (source : S) (f : F)
-      (file_after : LoadedFile) (source_after : S)
-      → FindsFrames answers a see file source (Ok f) file_after source_after
-      → FindsFrames answers a (λ fs. fs) file source (Ok (see f)) file_after source_after
-  finds_list a see file source f file_after source_after finds =
-      record { same = finds.same; finds = finds.finds }
-
-  pub finds_refusal : {F : Type 0} (a : ℕ) (see : F → List Frame) (file : LoadedFile) (source : S) (e : Error)
-      (file_after : LoadedFile) (source_after : S)
-      → FindsFrames answers a see file source (Err e) file_after source_after
-      → FindsFrames answers a (λ fs. fs) file source (Err e) file_after source_after
-  finds_refusal a see file source e file_after source_after finds =
-      record { same = finds.same; finds = finds.finds }
-
-  pub frames_found : {F : Type 0} (a : ℕ) (see : F → List Frame) (symbol : Option (List ℕ)) (file : LoadedFile)
-      (source : S) (f : F) (file_after : LoadedFile) (source_after : S) (old new : AnswerBuffer)
-      → FindsFrames answers a see file source (Ok f) file_after source_after
-      → GrowsByFound o a symbol (see f) old new
+module _ {S : Type 0} {answers : S → List ℕ → List ℕ → Result (Option (List ℕ)) Error → S → Type 0} {o : Options} where
+  -- the frames that a lookup finds
+  pub frames_found : {F : Type 0} {a : ℕ} {see : F → List Frame} {symbol : Option (List ℕ)}
+      {file file_after : LoadedFile} {source source_after : S} {found : Result F Error} {f : F}
+      {old new : AnswerBuffer} → found ≡ Ok f
+      → FindsFrames answers a see file source found file_after source_after → GrowsByFound o a symbol (see f) old new
       → GrowsByFrames answers o a symbol file source old new file_after source_after
-  frames_found a see symbol file source f file_after source_after old new finds grows = record {
-    found = Ok (see f);
-    finds = finds_list a see file source f file_after source_after finds;
-    frames = grows.frames;
-    is_refused = grows.is_refused;
-    are_first = grows.are_first;
-    grows = grows.grows;
-  }
+  frames_found {see} {f} is finds grows =
+      let ok = rw is at finds in
+      record {
+        found = Ok (see f);
+        finds = record { same = ok.same; finds = ok.finds };
+        frames = grows.frames;
+        is_refused = grows.is_refused;
+        are_first = grows.are_first;
+        grows = grows.grows;
+      }
 
-  pub frames_refused : {F : Type 0} (a : ℕ) (see : F → List Frame) (symbol : Option (List ℕ)) (file : LoadedFile)
-      (source : S) (e : Error) (file_after : LoadedFile) (source_after : S) (old new : AnswerBuffer)
-      → FindsFrames answers a see file source (Err e) file_after source_after
+  -- or its refusal
+  pub frames_refused : {F : Type 0} {a : ℕ} {see : F → List Frame} {symbol : Option (List ℕ)}
+      {file file_after : LoadedFile} {source source_after : S} {found : Result F Error} {e : Error}
+      {old new : AnswerBuffer} → found ≡ Err e → FindsFrames answers a see file source found file_after source_after
       → Grows old new (frames_answer o a symbol (Err e) [] false)
       → GrowsByFrames answers o a symbol file source old new file_after source_after
-  frames_refused a see symbol file source e file_after source_after old new finds grows = record {
-    found = Err e;
-    finds = finds_refusal a see file source e file_after source_after finds;
-    frames = [];
-    is_refused = false;
-    are_first = record { rest = []; whole = refl; ends = λ _. refl };
-    grows = grows;
-  }
+  frames_refused {e} is finds grows =
+      let err = rw is at finds in
+      record {
+        found = Err e;
+        finds = record { same = err.same; finds = err.finds };
+        frames = [];
+        is_refused = false;
+        are_first = record { rest = []; whole = refl; ends = λ _. refl };
+        grows = grows;
+      }
 
   -- ---- one address
 
-  pub by_frames : (a : ℕ) (file file_after : LoadedFile) (source source_after : S) (old new : AnswerBuffer)
-      → asks_frames o ≡ true
-      → GrowsByFrames answers o a (option_map symbol_name (symbol_at a file.symbols)) file source old new file_after
-      source_after
-      → GrowsByLookup answers o (Some a) (record { file = file; source = source }) old new
-      (record { file = file_after; source = source_after })
-  by_frames a file file_after source source_after old new asks grows =
-      let before : LookupState S = record { file = file; source = source } in
-      let after : LookupState S = record { file = file_after; source = source_after } in
-      let symbol = option_map symbol_name (symbol_at a file.symbols) in
+  pub by_frames : {a : ℕ} {before after : LookupState S} {old new : AnswerBuffer} → asks_frames o ≡ true
+      → GrowsByFrames answers o a (option_map symbol_name (symbol_at a before.file.symbols)) before.file before.source
+      old new after.file after.source
+      → GrowsByLookup answers o (Some a) before old new after
+  by_frames {a} {before} {after} asks grows =
+      let symbol = option_map symbol_name (symbol_at a before.file.symbols) in
       let x = frames_answer o a symbol grows.found grows.frames grows.is_refused in
       record {
         found = x;
@@ -163,39 +150,34 @@ module _ {S : Type 0} (answers : S → List ℕ → List ℕ → Result (Option 
         grows = grows.grows;
       }
 
-  pub by_place : (a : ℕ) (file file_after : LoadedFile) (source : S) (old new : AnswerBuffer)
-      → asks_frames o ≡ false → file_after ≡ file → GrowsByPlace o a file old new
-      → GrowsByLookup answers o (Some a) (record { file = file; source = source }) old new
-      (record { file = file_after; source = source })
-  by_place a file file_after source old new asks same grows =
-      let before : LookupState S = record { file = file; source = source } in
-      let after : LookupState S = record { file = file_after; source = source } in
+  pub by_place : {a : ℕ} {before : LookupState S} {file : LoadedFile} {old new : AnswerBuffer}
+      → asks_frames o ≡ false → file ≡ before.file → GrowsByPlace o a before.file old new
+      → GrowsByLookup answers o (Some a) before old new (record before { file = file })
+  by_place {a} {before} {file} asks same grows =
       let x = place_answer o a grows.found in
       record {
         found = x;
         finds =
-            subst (λ b. AnswersLookup answers o b a before x after) (sym asks)
+            subst (λ b. AnswersLookup answers o b a before x (record before { file = file })) (sym asks)
             (record {
               found = grows.found;
               finds = grows.finds;
-              same = ap (λ (f : LoadedFile). record { file = f; source = source }) same;
+              same = ap (λ (f : LoadedFile). record before { file = f }) same;
               answer = refl;
             });
         grows = grows.grows;
       }
 
-  pub by_none : (file file_after : LoadedFile) (source : S) (old new : AnswerBuffer) → file_after ≡ file
-      → Grows old new (no_answer o)
-      → GrowsByLookup answers o None (record { file = file; source = source }) old new
-      (record { file = file_after; source = source })
-  by_none file file_after source old new same grows = record {
+  pub by_none : {before : LookupState S} {file : LoadedFile} {old new : AnswerBuffer} → file ≡ before.file
+      → Grows old new (no_answer o) → GrowsByLookup answers o None before old new (record before { file = file })
+  by_none {before} same grows = record {
     found = no_answer o;
-    finds = (refl, ap (λ (f : LoadedFile). record { file = f; source = source }) same);
+    finds = (refl, ap (λ (f : LoadedFile). record before { file = f }) same);
     grows = grows;
   }
 
   -- the address before the answer, and the end after it
-  pub whole_answer : (section : Option Range) (address : Option ℕ) (before after : LookupState S)
+  pub whole_answer : {section : Option Range} {before after : LookupState S} (address : Option ℕ)
       (b0 b1 b2 b3 : AnswerBuffer) (n : ℕ) → string_bytes b0.text ≡ [] → string_bytes b0.errors ≡ []
       → b0.is_memory_refused ≡ false → n ≡ unwrap_or address 0
       → string_bytes b1.text ≡ string_bytes b0.text ++ address_text o n → b1.errors ≡ b0.errors
@@ -204,8 +186,7 @@ module _ {S : Type 0} (answers : S → List ℕ → List ℕ → Result (Option 
       → string_bytes b3.text ≡ string_bytes b2.text ++ (if o.llvm then codes "\n" else [])
       → b3.errors ≡ b2.errors → b3.is_memory_refused ≡ b2.is_memory_refused
       → AnswersAddress answers o section before (answer_in address b3) after
-  whole_answer section address before after b0 b1 b2 b3 n no_text no_errors no_memory is text1 errors1 memory1 grows
-      text3 errors3 memory3 =
+  whole_answer address b0 b1 b2 b3 n no_text no_errors no_memory is text1 errors1 memory1 grows text3 errors3 memory3 =
       let end = if o.llvm then codes "\n" else [] in
       let first : string_bytes b1.text ≡ address_text o (unwrap_or address 0) =
       text1 ∙ ap (λ t. t ++ address_text o n) no_text ∙ ap (address_text o) is in

@@ -14,7 +14,7 @@ use Rattle.linemap_output.specs.declared.ended.Ended.{Ended}
 use Rattle.linemap_output.specs.declared.options.Options.{Options}
 use Rattle.linemap_lookup.specs.LineReads.{AsksLines, IsWholeInput, ReadsLines, Takes, TakesLine, TakesNoLine, YieldsAddress}
 use Rattle.linemap_lookup.specs.LookupAnswers.{LookupState}
-use Rattle.linemap_lookup.specs.LookupRuns.{AnswersAll, AnswersSome, Stops, StopsBefore, Streams, WritesAddress, WritesAddresses, nothing, with_flags}
+use Rattle.linemap_lookup.specs.LookupRuns.{AnswersAll, AnswersSome, StopsBefore, Streams, WritesAddress, WritesAddresses, nothing, with_flags}
 use Rattle.linemap_lookup.specs.declared.lines.LineBuffer.{LineBuffer}
 use Rattle.linemap_lookup.proofs.LineParts.{whole_after}
 use Rattle.linemap_lookup.proofs.RunSteps.{stops_after, stops_out_of_memory, writes_more, writes_none}
@@ -97,75 +97,23 @@ module _ {S : Type 0} (answers : S → List ℕ → List ℕ → Result (Option 
     pub reads : ReadsSoFar a b buffer ls
     pub writes : WritesAddresses answers o section (map word_address ls) s t old now e f
 
-  pub lines_none : (a : Option (List ℕ)) (buffer : LineBuffer) (s : LookupState S) (streams : Streams) (e : Ended)
-      → buffer.is_at_end ≡ false → AnswersSoFar a a buffer s s streams streams e e
-  lines_none a buffer s streams e is = record {
-    ls = [];
-    reads = reads_none a buffer is;
-    writes = writes_none answers o section s streams e;
-  }
+with_line : (ls : List (List ℕ)) (line : List ℕ) (address : Option ℕ) → address ≡ word_address line
+    → map word_address ls ++ address ∷ [] ≡ map word_address (ls ++ line ∷ [])
+with_line ls line address is =
+    ap (λ x. map word_address ls ++ x ∷ []) is ∙ sym (map-append word_address ls (line ∷ []))
 
-  with_line : (ls : List (List ℕ)) (line : List ℕ) (address : Option ℕ) → address ≡ word_address line
-      → map word_address ls ++ address ∷ [] ≡ map word_address (ls ++ line ∷ [])
-  with_line ls line address is =
-      ap (λ x. map word_address ls ++ x ∷ []) is ∙ sym (map-append word_address ls (line ∷ []))
+module _ {S : Type 0} {answers : S → List ℕ → List ℕ → Result (Option (List ℕ)) Error → S → Type 0} {o : Options}
+    {section : Option Range} where
+  pub lines_none : {a : Option (List ℕ)} {buffer : LineBuffer} {s : LookupState S} {streams : Streams} {e : Ended}
+      → buffer.is_at_end ≡ false → AnswersSoFar answers o section a a buffer s s streams streams e e
+  lines_none {a} {buffer} is = record { ls = []; reads = reads_none a buffer is; writes = writes_none }
 
-  -- an address is answered on the same error stream
-  written_from : (a : Option ℕ) (t u : LookupState S) (out err same : Option (List ℕ)) (new : Streams) (f g : Ended)
-      → same ≡ err → WritesAddress answers o section a t u (record { out = out; err = same }) new f g
-      → WritesAddress answers o section a t u (record { out = out; err = err }) new f g
-  written_from a t u out err same new f g is writes =
-      subst (λ (x : Option (List ℕ)). WritesAddress answers o section a t u (record { out = out; err = x }) new f g) is
-      writes
-
-  pub lines_more : (a b c : Option (List ℕ)) (before after : LineBuffer) (s t u : LookupState S) (old : Streams)
-      (out err same : Option (List ℕ)) (new : Streams) (e f g : Ended) (next : Option (Option ℕ)) (address : Option ℕ)
-      → AnswersSoFar a b before s t old (record { out = out; err = err }) e f → same ≡ err
-      → YieldsAddress b c before after next → next ≡ Some address
-      → WritesAddress answers o section address t u (record { out = out; err = same }) new f g
-      → AnswersSoFar a c after s u old new e g
-  lines_more a b c before after s t u old out err same new e f g next address so_far kept yields is writes =
-      let line = subst (YieldsAddress b c before after) is yields in
-      let done = map word_address so_far.ls in
-      record {
-        ls = so_far.ls ++ line.0 ∷ [];
-        reads = reads_more a b c before after so_far.ls line.0 so_far.reads line.1 line.3;
-        writes =
-            subst (λ xs. WritesAddresses answers o section xs s u old new e g)
-            (with_line so_far.ls line.0 address line.2)
-            (writes_more answers o section done address s t u old (record { out = out; err = err }) new e f g
-            so_far.writes (written_from address t u out err same new f g kept writes));
-      }
-
-  -- the program stops at a line
-  pub lines_stop : (a b c : Option (List ℕ)) (before after : LineBuffer) (s t : LookupState S) (old : Streams)
-      (out err same : Option (List ℕ)) (new : Streams) (e f stop : Ended) (next : Option (Option ℕ))
-      (address : Option ℕ) → AnswersSoFar a b before s t old (record { out = out; err = err }) e f → same ≡ err
-      → YieldsAddress b c before after next → next ≡ Some address
-      → StopsBefore answers o section (address ∷ []) t (record { out = out; err = same }) new f stop
-      → AnswersSome answers o section (AsksLines a c) s old new e stop
-  lines_stop a b c before after s t old out err same new e f stop next address so_far kept yields is stops =
-      let line = subst (YieldsAddress b c before after) is yields in
-      let done = map word_address so_far.ls in
-      let reads = reads_more a b c before after so_far.ls line.0 so_far.reads line.1 line.3 in
-      record {
-        addresses = map word_address (so_far.ls ++ line.0 ∷ []);
-        is_cut = true;
-        are_asked = (so_far.ls ++ line.0 ∷ [], reads_some a c c after _ reads ([], Consumes-nil c), refl);
-        stops =
-            stops_after answers o section done [] _ address s t old (record { out = out; err = err }) new e f stop
-            (sym (with_line so_far.ls line.0 address line.2)) so_far.writes
-            (subst (λ (x : Option (List ℕ)).
-            StopsBefore answers o section (address ∷ []) t (record { out = out; err = x }) new f stop) kept stops);
-      }
-
-  -- or before one, out of memory
-  pub lines_out_of_memory : (a b c : Option (List ℕ)) (buffer : LineBuffer) (s t : LookupState S) (old : Streams)
-      (out mid err : Option (List ℕ)) (e f stop : Ended)
-      → AnswersSoFar a b buffer s t old (record { out = out; err = mid }) e f → Takes b c
-      → (last : Ended) × EndsOutOfMemory mid err last × (stop ≡ with_flags f last)
-      → AnswersSome answers o section (AsksLines a c) s old (record { out = out; err = err }) e stop
-  lines_out_of_memory a b c buffer s t old out mid err e f stop so_far takes ends = record {
+  -- the program stops before the next line, out of memory
+  pub lines_out_of_memory : {a b c : Option (List ℕ)} {buffer : LineBuffer} {s t : LookupState S} {old mid : Streams}
+      {err : Option (List ℕ)} {e f stop : Ended} → AnswersSoFar answers o section a b buffer s t old mid e f
+      → Takes b c → (last : Ended) × EndsOutOfMemory mid.err err last × (stop ≡ with_flags f last)
+      → AnswersSome answers o section (AsksLines a c) s old (record mid { err = err }) e stop
+  lines_out_of_memory {a} {b} {c} {buffer} {t} {mid} {f} so_far takes ends = record {
     addresses = map word_address so_far.ls;
     is_cut = true;
     are_asked = (so_far.ls, reads_some a b c buffer so_far.ls so_far.reads takes, refl);
@@ -174,29 +122,60 @@ module _ {S : Type 0} (answers : S → List ℕ → List ℕ → Result (Option 
       rest = [];
       are_addresses = sym (append-nil (map word_address so_far.ls));
       state = t;
-      streams = record { out = out; err = mid };
+      streams = mid;
       ended = f;
       written = so_far.writes;
       stops = record {
         partial = nothing;
         is_answer = inl refl;
-        stops =
-            subst
-            (λ (x : Ended).
-            Stops nothing (record { out = out; err = mid }) (record { out = out; err = err }) f x)
-            (sym ends.2) (stops_out_of_memory out mid err f ends.0 ends.1);
+        stops = rw (ends.2) (stops_out_of_memory ends.1);
       };
     };
   }
 
-  -- all are answered
-  pub lines_end : (a b c : Option (List ℕ)) (before after : LineBuffer) (s t : LookupState S) (old : Streams)
-      (out err same : Option (List ℕ)) (e f : Ended) (next : Option (Option ℕ))
-      → AnswersSoFar a b before s t old (record { out = out; err = err }) e f → same ≡ err
-      → YieldsAddress b c before after next → next ≡ None
-      → AnswersAll answers o section (AsksLines a c) s old (record { out = out; err = same }) e
+module _ {S : Type 0} {answers : S → List ℕ → List ℕ → Result (Option (List ℕ)) Error → S → Type 0} {o : Options}
+    {section : Option Range} {a b c : Option (List ℕ)} {before : LineBuffer} (after : LineBuffer)
+    {s t : LookupState S} {old mid : Streams} {same : Option (List ℕ)} {e f : Ended} {next : Option (Option ℕ)}
+    (so_far : AnswersSoFar answers o section a b before s t old mid e f) (kept : same ≡ mid.err)
+    (yields : YieldsAddress b c before after next) where
+  -- the next line is answered, on the same error stream
+  pub lines_more : {address : Option ℕ} {u : LookupState S} {new : Streams} {g : Ended} → next ≡ Some address
+      → WritesAddress answers o section address t u (record mid { err = same }) new f g
+      → AnswersSoFar answers o section a c after s u old new e g
+  lines_more {address} {u} {new} {g} is writes =
+      let line = subst (YieldsAddress b c before after) is yields in
+      record {
+        ls = so_far.ls ++ line.0 ∷ [];
+        reads = reads_more a b c before after so_far.ls line.0 so_far.reads line.1 line.3;
+        writes =
+            rw (sym (with_line so_far.ls line.0 address line.2))
+            (writes_more so_far.writes
+            (subst (λ (x : Option (List ℕ)).
+            WritesAddress answers o section address t u (record mid { err = x }) new f g) kept writes));
+      }
+
+  -- or the program stops at it
+  pub lines_stop : {address : Option ℕ} {new : Streams} {stop : Ended} → next ≡ Some address
+      → StopsBefore answers o section (address ∷ []) t (record mid { err = same }) new f stop
+      → AnswersSome answers o section (AsksLines a c) s old new e stop
+  lines_stop {address} {new} {stop} is stops =
+      let line = subst (YieldsAddress b c before after) is yields in
+      let reads = reads_more a b c before after so_far.ls line.0 so_far.reads line.1 line.3 in
+      record {
+        addresses = map word_address (so_far.ls ++ line.0 ∷ []);
+        is_cut = true;
+        are_asked = (so_far.ls ++ line.0 ∷ [], reads_some a c c after _ reads ([], Consumes-nil c), refl);
+        stops =
+            stops_after [] (sym (with_line so_far.ls line.0 address line.2)) so_far.writes
+            (subst (λ (x : Option (List ℕ)).
+            StopsBefore answers o section (address ∷ []) t (record mid { err = x }) new f stop) kept stops);
+      }
+
+  -- or there is none, and all are answered
+  pub lines_end : next ≡ None
+      → AnswersAll answers o section (AsksLines a c) s old (record mid { err = same }) e
       (record f { read = after.has_failed })
-  lines_end a b c before after s t old out err same e f next so_far kept yields is = record {
+  lines_end is = record {
     addresses = map word_address so_far.ls;
     are_asked = (
       so_far.ls,
@@ -208,7 +187,7 @@ module _ {S : Type 0} (answers : S → List ℕ → List ℕ → Result (Option 
     writes =
         subst
         (λ (x : Option (List ℕ)).
-        WritesAddresses answers o section (map word_address so_far.ls) s t old (record { out = out; err = x }) e f)
+        WritesAddresses answers o section (map word_address so_far.ls) s t old (record mid { err = x }) e f)
         (sym kept) so_far.writes;
     end = refl;
   }

@@ -2,6 +2,7 @@
 use Rattle.std.proofs.Common.{◌≡◌, ◌∙◌, Bool, true, false, List, [], ℕ, Option, Some, None, Result, Ok, Err, map, Global, String, string_bytes, inl, inr, refl, sym, ap, subst, true≢false}
 use Rattle.std.specs.Prelude.{◌||◌, Vec, option_map}
 use Rattle.std.specs.Io.KnownBytes.{Appends}
+use Rattle.std.proofs.lemmas.Simd.{map-map}
 use Rattle.addr2line_context.specs.Error.{Error}
 use Rattle.addr2line_split.specs.Range.{Range}
 use Rattle.linemap_meaning.specs.AnswerTexts.{word_address}
@@ -13,7 +14,7 @@ use Rattle.linemap_output.specs.declared.writing.WriteFault.TheVariants.{BrokenP
 use Rattle.linemap_output.proofs.WritingLemmas.{appends_nothing}
 use Rattle.linemap_lookup.specs.LineReads.{AsksLines}
 use Rattle.linemap_lookup.specs.LookupAnswers.{Answer, LookupState}
-use Rattle.linemap_lookup.specs.LookupRuns.{AnswersAll, ReportsStop, Stops, Streams, WritesAddresses}
+use Rattle.linemap_lookup.specs.LookupRuns.{AnswersAll, AnswersSome, ReportsStop, Stops, StopsAmong, Streams, WritesAddresses}
 use Rattle.linemap_lookup.specs.Programs.{Asks, LacksMemory, LacksMemoryFor, LacksMemoryForAll, Outcome, Prints, Question, RefusesOrLacksMemory, Runs, all_memory_line, answered, words_of}
 
 -- ---- flags
@@ -99,60 +100,43 @@ module _ {S : Type 0} (answers : S → List ℕ → List ℕ → Result (Option 
   prints image supplement (Ok q) old new e (inr (inr some)) memory write =
       absurd (no_stop some.stops.stops.partial _ new _ e some.stops.stops.stops memory write)
 
-  -- ---- addresses
+-- ---- addresses
 
-  module _ (section : Option Range) (before : LookupState S) (old new : Streams) (ended e : Ended)
-      (all : Option (List ℕ)) (words : Option (List (List ℕ))) where
-    -- what is asked for is the same
-    asked_as : (all_asked : Option (List ℕ)) (words_asked : Option (List (List ℕ))) → all ≡ all_asked
-        → words ≡ words_asked
-        → AnswersAll answers o section (Asks all_asked words_asked input_old input_new) before old new ended e
-        → AnswersAll answers o section (Asks all words input_old input_new) before old new ended e
-    asked_as all_asked words_asked all_is words_are answered =
-        subst (λ a. AnswersAll answers o section (Asks a words input_old input_new) before old new ended e) (sym all_is)
-        (subst (λ ws. AnswersAll answers o section (Asks all_asked ws input_old input_new) before old new ended e)
-        (sym words_are) answered)
+module _ {S : Type 0} {answers : S → List ℕ → List ℕ → Result (Option (List ℕ)) Error → S → Type 0} {o : Options}
+    {section : Option Range} {asks : Bool → List (Option ℕ) → Type 0} {addresses : List (Option ℕ)}
+    {before : LookupState S} {old new : Streams} {ended e : Ended} (asked : asks false addresses) where
+  -- those that are asked for are all answered
+  pub all_answered : {after : LookupState S} → ended.read ≡ false
+      → WritesAddresses answers o section addresses before after old new ended e
+      → AnswersAll answers o section asks before old new ended e
+  all_answered {after} clear writes = record {
+    addresses = addresses;
+    are_asked = subst (λ is_cut. asks is_cut addresses) (sym (writes.writes.flags.read ∙ clear)) asked;
+    after = after;
+    noted = e;
+    writes = writes;
+    end = refl;
+  }
 
-    -- all of the addresses of a file
-    pub all_answered : (list : List ℕ) (after : LookupState S) → all ≡ Some list → input_new ≡ input_old
-        → ended.read ≡ false → WritesAddresses answers o section (map Some list) before after old new ended e
-        → AnswersAll answers o section (Asks all words input_old input_new) before old new ended e
-    all_answered list after is same clear writes =
-        asked_as (Some list) words is refl
-        (record {
-          addresses = map Some list;
-          are_asked = (refl, same, writes.writes.flags.read ∙ clear);
-          after = after;
-          noted = e;
-          writes = writes;
-          end = refl;
-        })
+  -- or some are
+  pub some_answered : StopsAmong answers o section addresses before old new ended e
+      → AnswersSome answers o section asks before old new ended e
+  some_answered stops = record { addresses = addresses; is_cut = false; are_asked = asked; stops = stops }
 
-    -- those of words
-    pub words_answered : (ws : List (List ℕ)) (after : LookupState S) → all ≡ None → words ≡ Some ws
-        → input_new ≡ input_old → ended.read ≡ false
-        → WritesAddresses answers o section (map word_address ws) before after old new ended e
-        → AnswersAll answers o section (Asks all words input_old input_new) before old new ended e
-    words_answered ws after none is same clear writes =
-        asked_as None (Some ws) none is
-        (record {
-          addresses = map word_address ws;
-          are_asked = (refl, same, writes.writes.flags.read ∙ clear);
-          after = after;
-          noted = e;
-          writes = writes;
-          end = refl;
-        })
+-- those of words
+pub words_asked : (o : Options) (words : Vec (String Global) Global) (items : List (String Global))
+    (input : Option (List ℕ)) → o.words ≡ Some words → items ≡ words.items
+    → Asks None (words_of o) input input false (map (λ (w : String Global). word_address (string_bytes w)) items)
+words_asked o words items input is same =
+    subst
+    (λ ws. Asks None ws input input false (map (λ (w : String Global). word_address (string_bytes w)) items))
+    (sym (ap (option_map (λ (v : Vec (String Global) Global). map string_bytes v.items)) is))
+    (sym (map-map word_address string_bytes items) ∙ ap (λ xs. map word_address (map string_bytes xs)) same, refl, refl)
 
-    -- those of lines
-    pub lines_answered : all ≡ None → words ≡ None
-        → AnswersAll answers o section (AsksLines input_old input_new) before old new ended e
-        → AnswersAll answers o section (Asks all words input_old input_new) before old new ended e
-    lines_answered none no_words answered = asked_as None None none no_words answered
-
--- the words of options
-pub words_are : (o : Options) (ws : Vec (String Global) Global) (items : List (String Global)) → o.words ≡ Some ws
-    → items ≡ ws.items → words_of o ≡ Some (map string_bytes items)
-words_are o ws items is same =
-    ap (option_map (λ (v : Vec (String Global) Global). map string_bytes v.items)) is
-    ∙ ap (λ xs. Some (map string_bytes xs)) (sym same)
+-- those of lines
+pub lines_answered : {S : Type 0} {answers : S → List ℕ → List ℕ → Result (Option (List ℕ)) Error → S → Type 0}
+    {o : Options} {section : Option Range} {input_old input_new : Option (List ℕ)} {words : Option (List (List ℕ))}
+    {before : LookupState S} {old new : Streams} {ended e : Ended} → words ≡ None
+    → AnswersAll answers o section (AsksLines input_old input_new) before old new ended e
+    → AnswersAll answers o section (Asks None words input_old input_new) before old new ended e
+lines_answered is answered = rw is answered

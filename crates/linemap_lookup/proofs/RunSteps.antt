@@ -1,13 +1,12 @@
 -- Addresses that are answered and written one after the other.
-use Rattle.std.proofs.Common.{◌≡◌, ◌∙◌, Bool, true, false, List, [], ◌∷◌, ◌++◌, ℕ, Option, Some, Result, map, Ok, Err, Global, String, string_bytes, ◌+◌, ◌<◌, ◌≤◌, length, take, drop, get_or, inl, refl, sym, ap, subst, append-nil, append_assoc}
+use Rattle.std.proofs.Common.{◌≡◌, ◌∙◌, Bool, true, false, List, [], ◌∷◌, ◌++◌, ℕ, Option, Result, map, Ok, Err, ◌+◌, ◌<◌, length, take, drop, get_or, inl, refl, sym, ap, subst, append-nil, append_assoc}
 use Rattle.std.specs.Prelude.{◌||◌, IfErr}
 use Rattle.std.specs.List.{FoldsTo, flat_map, list_any}
 use Rattle.std.specs.Io.KnownBytes.{Appends}
-use Rattle.std.proofs.lemmas.List.{map-append, take_all, take_more, take-append-drop}
+use Rattle.std.proofs.lemmas.List.{map-append, take_more, take-append-drop}
 use Rattle.std.proofs.lemmas.Grind.{flat_map-append}
 use Rattle.addr2line_context.specs.Error.{Error}
 use Rattle.addr2line_split.specs.Range.{Range}
-use Rattle.linemap_meaning.specs.AnswerTexts.{word_address}
 use Rattle.linemap_output.specs.ErrorLine.{EndsOutOfMemory}
 use Rattle.linemap_output.proofs.WritingLemmas.{appends_more, appends_nothing, keeps_same, prefix_none}
 use Rattle.linemap_output.specs.declared.ended.Ended.{Ended}
@@ -40,11 +39,11 @@ records_more a b c r s p q = record {
   read = q.read ∙ p.read;
 }
 
-module _ {S : Type 0} (answers : S → List ℕ → List ℕ → Result (Option (List ℕ)) Error → S → Type 0)
-    (o : Options) (section : Option Range) where
-  pub writes_none : (s : LookupState S) (streams : Streams) (e : Ended)
+module _ {S : Type 0} {answers : S → List ℕ → List ℕ → Result (Option (List ℕ)) Error → S → Type 0} {o : Options}
+    {section : Option Range} where
+  pub writes_none : {s : LookupState S} {streams : Streams} {e : Ended}
       → WritesAddresses answers o section [] s s streams streams e e
-  writes_none s streams e = record {
+  writes_none {streams} {e} = record {
     xs = [];
     are_addresses = refl;
     answer_them = refl;
@@ -55,11 +54,11 @@ module _ {S : Type 0} (answers : S → List ℕ → List ℕ → Result (Option 
     };
   }
 
-  pub writes_more : (done : List (Option ℕ)) (a : Option ℕ) (s t u : LookupState S) (old mid new : Streams)
-      (e f g : Ended) → WritesAddresses answers o section done s t old mid e f
+  pub writes_more : {done : List (Option ℕ)} {a : Option ℕ} {s t u : LookupState S} {old mid new : Streams}
+      {e f g : Ended} → WritesAddresses answers o section done s t old mid e f
       → WritesAddress answers o section a t u mid new f g
       → WritesAddresses answers o section (done ++ a ∷ []) s u old new e g
-  writes_more done a s t u old mid new e f g p q =
+  writes_more {a} {s} {t} {u} {old} {mid} {new} {e} {f} {g} p q =
       let x : AddressAnswer = record { address = a; answer = q.answer } in
       record {
         xs = p.xs ++ x ∷ [];
@@ -81,11 +80,12 @@ module _ {S : Type 0} (answers : S → List ℕ → List ℕ → Result (Option 
         };
       }
 
-  pub stops_after : (done rest all : List (Option ℕ)) (a : Option ℕ) (s t : LookupState S) (old mid new : Streams)
-      (e f stop : Ended) → all ≡ done ++ a ∷ rest → WritesAddresses answers o section done s t old mid e f
+  pub stops_after : {done all : List (Option ℕ)} (rest : List (Option ℕ)) {a : Option ℕ} {s t : LookupState S}
+      {old mid new : Streams} {e f stop : Ended} → all ≡ done ++ a ∷ rest
+      → WritesAddresses answers o section done s t old mid e f
       → StopsBefore answers o section (a ∷ []) t mid new f stop
       → StopsAmong answers o section all s old new e stop
-  stops_after done rest all a s t old mid new e f stop is p q = record {
+  stops_after {done} rest {a} {t} {mid} {f} is p q = record {
     first = done;
     rest = a ∷ rest;
     are_addresses = is;
@@ -99,9 +99,9 @@ module _ {S : Type 0} (answers : S → List ℕ → List ℕ → Result (Option 
 -- ---- stops
 
 -- out of memory, before anything of an answer is written
-pub stops_out_of_memory : (out old new : Option (List ℕ)) (ended last : Ended) → EndsOutOfMemory old new last
+pub stops_out_of_memory : {out old new : Option (List ℕ)} {ended last : Ended} → EndsOutOfMemory old new last
     → Stops nothing (record { out = out; err = old }) (record { out = out; err = new }) ended (with_flags ended last)
-stops_out_of_memory out old new ended last ends = record {
+stops_out_of_memory {out} {old} {ended} {last} ends = record {
   mid = old;
   noted = ended;
   last = last;
@@ -116,51 +116,40 @@ pub if_err : {T E : Type 0} (r : Result T E) {P Q : E → Type 0} → ((e : E) �
 if_err (Ok x) f p = tt
 if_err (Err e) f p = f e p
 
--- ---- words
+-- ---- items
 
--- the addresses that words write
-abbrev pub addresses_of : List (String Global) → List (Option ℕ)
-addresses_of ws = map word_address (map string_bytes ws)
+module _ {A : Type 0} (address : A → Option ℕ) (items : List A) where
+  -- the addresses of the items before one, and then its own
+  items_more : (i : ℕ) (x : A) (a : Option ℕ) → i < length items → x ≡ get_or items i x → a ≡ address x
+      → map address (take i items) ++ a ∷ [] ≡ map address (take (i + 1) items)
+  items_more i x a lt at is =
+      ap (λ b. map address (take i items) ++ b ∷ []) (is ∙ ap address at)
+      ∙ sym (ap (map address) (take_more items i x lt) ∙ map-append address (take i items) (get_or items i x ∷ []))
 
-addresses_append : (vs ws : List (String Global)) → addresses_of (vs ++ ws) ≡ addresses_of vs ++ addresses_of ws
-addresses_append vs ws =
-    ap (map word_address) (map-append string_bytes vs ws)
-    ∙ map-append word_address (map string_bytes vs) (map string_bytes ws)
+  -- and then those of the others
+  items_split : (i : ℕ) (x : A) (a : Option ℕ) → i < length items → x ≡ get_or items i x → a ≡ address x
+      → map address items ≡ map address (take i items) ++ a ∷ map address (drop (i + 1) items)
+  items_split i x a lt at is =
+      sym (ap (map address) (take-append-drop (i + 1) items))
+      ∙ map-append address (take (i + 1) items) (drop (i + 1) items)
+      ∙ ap (λ xs. xs ++ map address (drop (i + 1) items)) (sym (items_more i x a lt at is))
+      ∙ append_assoc (map address (take i items)) (a ∷ []) (map address (drop (i + 1) items))
 
-module _ (ws : List (String Global)) where
-  taken : (i : ℕ) (w : String Global) → i < length ws → w ≡ get_or ws i w → take (i + 1) ws ≡ take i ws ++ w ∷ []
-  taken i w lt at = take_more ws i w lt ∙ ap (λ v. take i ws ++ v ∷ []) (sym at)
+module _ {S A : Type 0} {answers : S → List ℕ → List ℕ → Result (Option (List ℕ)) Error → S → Type 0} {o : Options}
+    {section : Option Range} (address : A → Option ℕ) (items : List A) (i : ℕ) (x : A) where
+  -- an item is answered after those before it
+  pub item_more : {a : Option ℕ} {s t u : LookupState S} {old mid new : Streams} {e f g : Ended} → i < length items
+      → x ≡ get_or items i x → a ≡ address x
+      → WritesAddresses answers o section (map address (take i items)) s t old mid e f
+      → WritesAddress answers o section a t u mid new f g
+      → WritesAddresses answers o section (map address (take (i + 1) items)) s u old new e g
+  item_more lt at is p q = rw (sym (items_more address items i x _ lt at is)) (writes_more p q)
 
-  pub words_more : (i : ℕ) (w : String Global) (a : Option ℕ) → i < length ws → w ≡ get_or ws i w
-      → a ≡ word_address (string_bytes w)
-      → addresses_of (take i ws) ++ a ∷ [] ≡ addresses_of (take (i + 1) ws)
-  words_more i w a lt at is =
-      ap (λ x. addresses_of (take i ws) ++ x ∷ []) is
-      ∙ sym (ap addresses_of (taken i w lt at) ∙ addresses_append (take i ws) (w ∷ []))
-
-  pub words_split : (i : ℕ) (w : String Global) (a : Option ℕ) → i < length ws → w ≡ get_or ws i w
-      → a ≡ word_address (string_bytes w)
-      → addresses_of ws ≡ addresses_of (take i ws) ++ a ∷ addresses_of (drop (i + 1) ws)
-  words_split i w a lt at is =
-      sym (ap addresses_of (take-append-drop (i + 1) ws))
-      ∙ addresses_append (take (i + 1) ws) (drop (i + 1) ws)
-      ∙ ap (λ x. x ++ addresses_of (drop (i + 1) ws)) (sym (words_more i w a lt at is))
-      ∙ append_assoc (addresses_of (take i ws)) (a ∷ []) (addresses_of (drop (i + 1) ws))
-
-  pub words_all : (i : ℕ) → length ws ≤ i → addresses_of (take i ws) ≡ addresses_of ws
-  words_all i le = ap addresses_of (take_all i ws le)
-
--- ---- addresses
-
-module _ (list : List ℕ) where
-  pub addresses_more : (i : ℕ) → i < length list
-      → map Some (take i list) ++ Some (get_or list i 0) ∷ [] ≡ map Some (take (i + 1) list)
-  addresses_more i lt =
-      sym (ap (map Some) (take_more list i 0 lt) ∙ map-append Some (take i list) (get_or list i 0 ∷ []))
-
-  pub addresses_split : (i : ℕ) → i < length list
-      → map Some list ≡ map Some (take i list) ++ Some (get_or list i 0) ∷ map Some (drop (i + 1) list)
-  addresses_split i lt =
-      sym (ap (map Some) (take-append-drop (i + 1) list)) ∙ map-append Some (take (i + 1) list) (drop (i + 1) list)
-      ∙ ap (λ x. x ++ map Some (drop (i + 1) list)) (sym (addresses_more i lt))
-      ∙ append_assoc (map Some (take i list)) (Some (get_or list i 0) ∷ []) (map Some (drop (i + 1) list))
+  -- or the program stops at it
+  pub item_stop : {a : Option ℕ} {s t : LookupState S} {old mid new : Streams} {e f stop : Ended} → i < length items
+      → x ≡ get_or items i x → a ≡ address x
+      → WritesAddresses answers o section (map address (take i items)) s t old mid e f
+      → StopsBefore answers o section (a ∷ []) t mid new f stop
+      → StopsAmong answers o section (map address items) s old new e stop
+  item_stop lt at is p q =
+      stops_after (map address (drop (i + 1) items)) (items_split address items i x _ lt at is) p q

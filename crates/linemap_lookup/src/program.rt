@@ -111,7 +111,7 @@ impl Engine {
     {
         match (all, &question.options.words) {
             (Some(all), _) => self.write_addresses(question, all, source, out, err, ended),
-            (None, Some(words)) => self.write_words(question, words, source, out, err, ended),
+            (None, Some(words)) => self.write_addresses(question, words, source, out, err, ended),
             (None, None) => self.write_lines(question, lines, source, out, err, ended),
         }
     }

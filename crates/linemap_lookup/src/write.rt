@@ -1,6 +1,6 @@
 //! How answers are written, one after the other.
 
-ghost use Rattle.std.specs.Prelude.{◌≡◌, false, IfErr, map, OnOk, Some, [], ◌∷◌};
+ghost use Rattle.std.specs.Prelude.{◌≡◌, ℕ, [], ◌∷◌, IfErr, OnOk, Option, Some, false, map};
 ghost use Rattle.std.specs.String.{string_bytes};
 ghost use Rattle.std.specs.Io.KnownBytes.{Appends};
 ghost use Rattle.linemap_meaning.specs.AnswerTexts.{word_address};
@@ -16,11 +16,35 @@ use linemap_meaning::address::read_address;
 use linemap_output::{Ended, Options, WriteFault, flush, out_of_memory, output_failed, write_text};
 use std::io::Write;
 
-/// What is asked of each address: the options, and the section that addresses count from.
+// What is asked of each address: the options, and the section that addresses count from.
 #[derive(Clone, Copy)]
 pub(crate) struct Question<'o> {
     pub options: &'o Options,
     pub section: Option<Range>,
+}
+
+// What an address can be read from: a word, or the address itself.
+pub(crate) trait ToAddress {
+    ghost address: { Self → Option ℕ };
+
+    fn to_address(&self) -> Option<u64>
+        ensures { result ≡ address self.now };
+}
+
+impl ToAddress for u64 {
+    ghost address = { Some };
+
+    fn to_address(&self) -> Option<u64> {
+        Some(*self)
+    }
+}
+
+impl ToAddress for String {
+    ghost address = { λ word. word_address (string_bytes word) };
+
+    fn to_address(&self) -> Option<u64> {
+        read_address(self)
+    }
 }
 
 // Writes a text, and flushes.
@@ -99,8 +123,8 @@ fn write_answer<O: Write, E: Write>(
 }
 
 impl Engine {
-    /// Answers an address, writes its answer, and flushes. Error lines go to the error stream,
-    /// whose faults are only recorded.
+    // Answers an address, writes its answer, and flushes. Error lines go to the error stream,
+    // whose faults are only recorded.
     pub fn write<S: SplitSource, O: Write, E: Write>(
         &mut self,
         question: Question<'_>,
@@ -128,58 +152,30 @@ impl Engine {
         }
     }
 
-    /// Answers words, one after the other, as `write` does.
-    pub fn write_words<S: SplitSource, O: Write, E: Write>(
+    // Answers the addresses of items, one after the other, as `write` does.
+    pub fn write_addresses<T: ToAddress, S: SplitSource, O: Write, E: Write>(
         &mut self,
         question: Question<'_>,
-        words: &[String],
+        items: &[T],
         source: &mut S,
         out: &mut O,
         err: &mut E,
         ended: &mut Ended,
     ) -> Result<(), Ended>
         ensures whole { OnOk result (WritesAddresses S.answers question.entry.options.now
-            question.entry.section (map word_address (map string_bytes words.now))
+            question.entry.section (map T.address items.now)
             (record { file = self.old.loader.file; source = source.old })
             (record { file = self.new.loader.file; source = source.new })
             (record { out = O.contents out.old; err = E.contents err.old })
             (record { out = O.contents out.new; err = E.contents err.new }) ended.old ended.new) }
         ensures stop { IfErr result (StopsAmong S.answers question.entry.options.now
-            question.entry.section (map word_address (map string_bytes words.now))
+            question.entry.section (map T.address items.now)
             (record { file = self.old.loader.file; source = source.old })
             (record { out = O.contents out.old; err = E.contents err.old })
             (record { out = O.contents out.new; err = E.contents err.new }) ended.old) }
     {
-        for word in words {
-            self.write(question, read_address(word), source, out, err, ended)?;
-        }
-        Ok(())
-    }
-
-    /// Answers addresses, one after the other, as `write` does.
-    pub fn write_addresses<S: SplitSource, O: Write, E: Write>(
-        &mut self,
-        question: Question<'_>,
-        addresses: &[u64],
-        source: &mut S,
-        out: &mut O,
-        err: &mut E,
-        ended: &mut Ended,
-    ) -> Result<(), Ended>
-        ensures whole { OnOk result (WritesAddresses S.answers question.entry.options.now
-            question.entry.section (map Some addresses.now)
-            (record { file = self.old.loader.file; source = source.old })
-            (record { file = self.new.loader.file; source = source.new })
-            (record { out = O.contents out.old; err = E.contents err.old })
-            (record { out = O.contents out.new; err = E.contents err.new }) ended.old ended.new) }
-        ensures stop { IfErr result (StopsAmong S.answers question.entry.options.now
-            question.entry.section (map Some addresses.now)
-            (record { file = self.old.loader.file; source = source.old })
-            (record { out = O.contents out.old; err = E.contents err.old })
-            (record { out = O.contents out.new; err = E.contents err.new }) ended.old) }
-    {
-        for address in addresses {
-            self.write(question, Some(*address), source, out, err, ended)?;
+        for item in items {
+            self.write(question, item.to_address(), source, out, err, ended)?;
         }
         Ok(())
     }

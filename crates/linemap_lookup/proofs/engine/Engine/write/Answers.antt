@@ -16,7 +16,7 @@ returns-in-Ok-clause-stop g c =
     if_err c.write_answer.result
     (λ e stops. record {
       partial = answer_of c.answer.new.self.answer;
-      is_answer = inr (record { file = c.answer.new.self.loader.file; source = c.answer.new.source }, c.in-Ok.ensures);
+      is_answer = inr (_, c.in-Ok.ensures);
       stops = stops;
     }) c.write_answer.ensures.stop
 
@@ -24,7 +24,5 @@ pub returns-in-Err-clause-stop : goal.returns-in-Err-clause-stop
 returns-in-Err-clause-stop g c = record {
   partial = nothing;
   is_answer = inl refl;
-  stops =
-      subst (Stops nothing _ _ _) (sym c.with_flags.ensures)
-      (stops_out_of_memory _ _ _ c.args.ended.now c.out_of_memory.result c.out_of_memory.ensures);
+  stops = subst (Stops nothing _ _ _) (sym c.with_flags.ensures) (stops_out_of_memory c.out_of_memory.ensures);
 }

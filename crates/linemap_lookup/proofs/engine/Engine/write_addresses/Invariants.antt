@@ -1,12 +1,12 @@
-use Rattle.std.proofs.Common.{Some, map, take}
+use Rattle.std.proofs.Common.{map, take}
 use Rattle.linemap_lookup.specs.LookupRuns.{WritesAddresses}
 use Rattle.linemap_lookup.proofs.engine.Engine.write_addresses.Given as goal
 
--- the addresses so far are answered
-abbrev pub invariant-loop-address : goal.invariant-loop-address
-invariant-loop-address g l =
+-- the items so far are answered
+abbrev pub invariant-loop-item : goal.invariant-loop-item
+invariant-loop-item g l =
     WritesAddresses g.S.SplitSource.answers l.question.options.now l.question.section
-    (map Some (take l.address-index l.addresses))
+    (map g.T.ToAddress.address (take l.item-index l.items))
     (record { file = l.fn.self.loader.file; source = l.fn.source })
     (record { file = l.self.loader.file; source = l.source })
     (record { out = g.O.Write.contents l.fn.out; err = g.E.Write.contents l.fn.err })
