@@ -1,9 +1,10 @@
 -- What a loader's lookup of frames leaves.
-use Rattle.std.proofs.Common.{◌≡◌, ◌∙◌, ℕ, List, Option, Result, Ok, Err, ap, subst}
+use Rattle.std.proofs.Common.{◌≡◌, ◌≢◌, ◌∙◌, ℕ, List, Option, Result, Ok, Err, ap, subst}
 use Rattle.addr2line_context.specs.AnsweredContexts.{AnsweredContext}
 use Rattle.addr2line_context.specs.ContextCosts.{AsksForFrames, AfterSearch}
 use Rattle.addr2line_context.specs.Contexts.{FileContext}
 use Rattle.addr2line_context.specs.Error.{Error}
+use Rattle.addr2line_context.specs.Error.TheVariants.{Memory}
 use Rattle.addr2line_context.specs.FirstAnswers.{FirstAnswers}
 use Rattle.addr2line_context.specs.Frames.{Frame}
 use Rattle.addr2line_context.specs.FrameLoads.{IsDone, GivesDecided}
@@ -14,7 +15,7 @@ use Rattle.addr2line_loader.specs.LoadedFiles.{LoadedFile}
 use Rattle.addr2line_loader.specs.ResolvedFiles.{ResolvedFile, ReadsForFrames, answered_context}
 use Rattle.addr2line_loader.specs.SourceAnswers.{LoadState, load_state, frames_by_answers, AnswersAllOrNoMemory, FindsFrames, AfterFrames}
 use Rattle.addr2line_loader.proofs.AnsweredLoads.{finds_decided}
-use Rattle.addr2line_loader.proofs.FrameReads.{reads_then_search, looks_of_one, looks_of_two}
+use Rattle.addr2line_loader.proofs.FrameReads.{reads_then_search, asked_by_search, looks_of_one, looks_of_two}
 
 abbrev refused : (F : Type 0) → Error → Result F Error
 refused F e = Err e
@@ -29,15 +30,17 @@ module _ {S F : Type 0} (answers : S → List ℕ → List ℕ → Result (Optio
   over_context file c = record { file = with_context file c.value.plain c.value.answers; units = c.units }
 
   -- the loads were answered in a context, and nothing else changed
-  module _ (inside : LoadedFile) (us : List ResolvedUnit) (answered : ResolvedContext) (source_after : S)
+  module _ {first_has : Type 0} (inside : LoadedFile) (us : List ResolvedUnit) (answered : ResolvedContext)
+      (source_after : S)
       (same : answered.value.plain ≡ inside.context)
       (all : AnswersAllOrNoMemory answers inside.context a (load_state inside source) (Ok tt)
       (record { answers = answered.value.answers; source = source_after }))
       (reads : ReadsForFrames answered.value a us answered.units)
       (alone : IsDone (frames_in (answered_context inside) a)
-      → AfterSearch AsksForFrames a (record { value = answered_context inside; units = us }) answered)
-      (left : ResolvedContext) (after : AfterSearch AsksForFrames a answered left)
-      (r : Result F Error) (found : GivesDecided see r (frames_in answered.value a)) where
+      → AfterSearch AsksForFrames first_has a (record { value = answered_context inside; units = us }) answered)
+      (left : ResolvedContext) (r : Result F Error)
+      (after : AfterSearch AsksForFrames (r ≢ refused F Memory) a answered left)
+      (found : GivesDecided see r (frames_in answered.value a)) where
     abbrev asked : FirstAnswers → LoadState S
     asked x = record { answers = x; source = source_after }
 
@@ -60,18 +63,20 @@ module _ {S F : Type 0} (answers : S → List ℕ → List ℕ → Result (Optio
         (record {
           found = finds_here;
           units = reads_then_search a us answered left reads after;
+          asked = asked_by_search a answered left after;
           cost = λ done. looks_of_two a (record { value = answered_context inside; units = us }) answered left
               (alone done) after;
         })
 
   -- out of memory before all were answered
-  module _ (inside : LoadedFile) (us : List ResolvedUnit) (answered : ResolvedContext) (source_after : S)
+  module _ {first_has : Type 0} (inside : LoadedFile) (us : List ResolvedUnit) (answered : ResolvedContext)
+      (source_after : S)
       (same : answered.value.plain ≡ inside.context) (e : Error)
       (some : AnswersAllOrNoMemory answers inside.context a (load_state inside source) (Err e)
       (record { answers = answered.value.answers; source = source_after }))
       (reads : ReadsForFrames answered.value a us answered.units)
       (alone : IsDone (frames_in (answered_context inside) a)
-      → AfterSearch AsksForFrames a (record { value = answered_context inside; units = us }) answered) where
+      → AfterSearch AsksForFrames first_has a (record { value = answered_context inside; units = us }) answered) where
     pub stops_frames : (old : ResolvedFile) → record { file = inside; units = us } ≡ old
         → AfterFrames answers a see old source (refused F e) (over_context inside answered) source_after
     stops_frames old is =
@@ -83,5 +88,6 @@ module _ {S F : Type 0} (answers : S → List ℕ → List ℕ → Result (Optio
             finds = (λ other. absurd (other some.0), λ memory. some.1);
           };
           units = reads;
+          asked = λ other. absurd (other (ap (refused F) some.0));
           cost = λ done. looks_of_one a (record { value = answered_context inside; units = us }) answered (alone done);
         })

@@ -7,12 +7,14 @@ use Rattle.addr2line_context.specs.DwarfFiles.{DwarfFile}
 use Rattle.addr2line_context.specs.FirstAnswers.{FirstAnswers}
 use Rattle.addr2line_context.specs.FrameLoads.{IsDone}
 use Rattle.addr2line_context.specs.KeptContexts.{ResolvedContext}
-use Rattle.addr2line_context.specs.KeptUnits.{KeepsAt, ReadsNoLines}
+use Rattle.addr2line_context.specs.KeptUnits.{KeepsAt, KeepsFunctionsAt, ReadsNoLines, ReadsNoFunctions}
 use Rattle.addr2line_context.specs.LookupCosts.{AtMostLooks}
+use Rattle.addr2line_context.specs.PassedUnits.{KeepsAskedFunctions}
 use Rattle.addr2line_context.specs.ResolvedUnits.{ResolvedUnit}
 use Rattle.addr2line_context.specs.SettledLookups.{frames_in, after_answer}
 use Rattle.addr2line_context.specs.UnitLookups.{IsPending}
 use Rattle.addr2line_context.proofs.FrameLoads.{waits_not}
+use Rattle.addr2line_context.proofs.ResumedLookups.{with_memory}
 use Rattle.addr2line_loader.specs.ResolvedFiles.{ReadsForFrames}
 use Rattle.addr2line_loader.proofs.AskedUnits.{asks_still}
 
@@ -26,16 +28,18 @@ module _ (c : AnsweredContext) (a : ℕ) where
     lines = λ n kept. kept;
     functions = record { functions = λ n kept. kept; calls = λ f n kept. kept };
     reads = λ n kept. inl kept;
+    reads_functions = λ n kept. inl kept;
   }
 
   -- an answer
   pub reads_by_answer : (n : ℕ) (us vs : List ResolvedUnit) → AtMostLooks n us vs → ReadsNoLines us vs
-      → ReadsForFrames c a us vs
-  reads_by_answer n us vs cost lines = record {
+      → ReadsNoFunctions us vs → ReadsForFrames c a us vs
+  reads_by_answer n us vs cost lines functions = record {
     counters = cost.counters;
     lines = cost.more;
     functions = cost.functions;
     reads = λ k kept. inl (lines k kept);
+    reads_functions = λ k kept. inl (functions k kept);
   }
 
   -- one that leaves another context, in which a lookup asks no other units
@@ -46,8 +50,14 @@ module _ (c : AnsweredContext) (a : ℕ) where
     lines = h.lines;
     functions = h.functions;
     reads = λ n kept. by n (h.reads n kept);
+    reads_functions = λ n kept. functions_by n (h.reads_functions n kept);
   }
     where
+      functions_by : (n : ℕ) → KeepsFunctionsAt us n ⊎ AsksForFrames c a n
+          → KeepsFunctionsAt us n ⊎ AsksForFrames last a n
+      functions_by n (inl kept) = inl kept
+      functions_by n (inr asked) = inr (asks n asked)
+
       by : (n : ℕ) → KeepsAt us n ⊎ AsksForFrames c a n → KeepsAt us n ⊎ AsksForFrames last a n
       by n (inl kept) = inl kept
       by n (inr asked) = inr (asks n asked)
@@ -64,15 +74,21 @@ module _ (c : AnsweredContext) (a : ℕ) where
       calls = λ f n kept. k.functions.calls f n (h.functions.calls f n kept);
     };
     reads = λ n kept. before n (k.reads n kept);
+    reads_functions = λ n kept. functions_before n (k.reads_functions n kept);
   }
     where
+      functions_before : (n : ℕ) → KeepsFunctionsAt vs n ⊎ AsksForFrames c a n
+          → KeepsFunctionsAt us n ⊎ AsksForFrames c a n
+      functions_before n (inl kept) = h.reads_functions n kept
+      functions_before n (inr asked) = inr asked
+
       before : (n : ℕ) → KeepsAt vs n ⊎ AsksForFrames c a n → KeepsAt us n ⊎ AsksForFrames c a n
       before n (inl kept) = h.reads n kept
       before n (inr asked) = inr asked
 
 -- a lookup, and calls before it
-pub reads_then_search : (a : ℕ) (us : List ResolvedUnit) (mid new : ResolvedContext)
-    → ReadsForFrames mid.value a us mid.units → AfterSearch AsksForFrames a mid new
+pub reads_then_search : {has_memory : Type 0} (a : ℕ) (us : List ResolvedUnit) (mid new : ResolvedContext)
+    → ReadsForFrames mid.value a us mid.units → AfterSearch AsksForFrames has_memory a mid new
     → ReadsForFrames new.value a us new.units
 reads_then_search a us mid new h after =
     subst (λ (x : AnsweredContext). ReadsForFrames x a us new.units) (sym after.value)
@@ -82,7 +98,16 @@ reads_then_search a us mid new h after =
       lines = after.cost.more;
       functions = after.cost.functions;
       reads = after.reads;
+      reads_functions = after.functions;
     }))
+
+-- the functions of the units that it asks are kept
+pub asked_by_search : {has_memory : Type 0} (a : ℕ) (mid new : ResolvedContext)
+    → AfterSearch AsksForFrames has_memory a mid new → has_memory
+    → KeepsAskedFunctions (AsksForFrames new.value a) new.units
+asked_by_search a mid new after has =
+    subst (λ (x : AnsweredContext). KeepsAskedFunctions (AsksForFrames x a) new.units) (sym after.value)
+    (after.asked has)
 
 abbrev answered : FileContext → FirstAnswers → AnsweredContext
 answered p first = record { plain = p; answers = first }
@@ -112,9 +137,12 @@ waits_somewhere a old mid same done waits =
     (subst (λ (x : ResolvedContext). IsPending (frames_in x.value a)) same waits)
 
 -- the lookup is the first
-pub search_alone : (a : ℕ) (old mid new : ResolvedContext) → mid ≡ old → AfterSearch AsksForFrames a mid new
-    → AfterSearch AsksForFrames a old new
-search_alone a old mid new same = subst (λ (x : ResolvedContext). AfterSearch AsksForFrames a x new) same
+pub search_alone : (has_memory part_has : Type 0) (a : ℕ) (old mid new : ResolvedContext) → mid ≡ old
+    → (has_memory → part_has) → AfterSearch AsksForFrames part_has a mid new
+    → AfterSearch AsksForFrames has_memory a old new
+search_alone has_memory part_has a old mid new same part after =
+    subst (λ (x : ResolvedContext). AfterSearch AsksForFrames has_memory a x new) same
+    (with_memory AsksForFrames has_memory part_has a mid new part after)
 
 -- ---- looks
 
@@ -131,15 +159,16 @@ looks_twice n m us vs ws same first then = record {
 }
 
 -- those of two lookups, one after the other
-pub looks_of_two : (a : ℕ) (old mid new : ResolvedContext) → AfterSearch AsksForFrames a old mid
-    → AfterSearch AsksForFrames a mid new → AtMostLooks (2 * frame_looks old.value a) old.units new.units
+pub looks_of_two : {first_has has_memory : Type 0} (a : ℕ) (old mid new : ResolvedContext)
+    → AfterSearch AsksForFrames first_has a old mid → AfterSearch AsksForFrames has_memory a mid new
+    → AtMostLooks (2 * frame_looks old.value a) old.units new.units
 looks_of_two a old mid new first then =
     looks_twice (frame_looks old.value a) (frame_looks mid.value a) old.units mid.units new.units
     (ap (λ (x : AnsweredContext). frame_looks x a) first.value) first.cost then.cost
 
 -- or of one
-pub looks_of_one : (a : ℕ) (old new : ResolvedContext) → AfterSearch AsksForFrames a old new
-    → AtMostLooks (2 * frame_looks old.value a) old.units new.units
+pub looks_of_one : {has_memory : Type 0} (a : ℕ) (old new : ResolvedContext)
+    → AfterSearch AsksForFrames has_memory a old new → AtMostLooks (2 * frame_looks old.value a) old.units new.units
 looks_of_one a old new first = record {
   counters = first.cost.counters;
   probes = omega (arith, first.cost.probes);

@@ -4,7 +4,7 @@ use Rattle.addr2line_context.specs.AnsweredContexts.{AnsweredContext}
 use Rattle.addr2line_context.specs.ContextCosts.{location_looks, AsksForPlace, AsksForFrames, AfterReading, AfterStep}
 use Rattle.addr2line_context.specs.Error.{Error}
 use Rattle.addr2line_context.specs.KeptContexts.{ResolvedContext}
-use Rattle.addr2line_context.specs.KeptUnits.{KeepsMore, KeepMoreFunctions, ReadsAsked}
+use Rattle.addr2line_context.specs.KeptUnits.{KeepsMore, KeepMoreFunctions, ReadsAsked, ReadsAskedFunctions}
 use Rattle.addr2line_context.specs.LookupCosts.{counter_of}
 use Rattle.addr2line_context.specs.ResolvedUnits.{ResolvedUnit}
 use Rattle.addr2line_context.specs.RangeWalk.{RangeWalk}
@@ -41,11 +41,13 @@ pub record AfterStretch {A : Type 0} (result : Result A Error) (old_walk new_wal
   pub file : new.file ≡ old.file
   pub context : AfterStep result old_walk new_walk (resolved_context old) (resolved_context new)
 
--- Lookups of the frames of an address, which leave a context of this value, read lines of no units
--- but those that a lookup asks then. Lines, functions and calls that were kept are kept still, so
--- that no line number program is run again. Each unit has the counter that it had.
+-- Lookups of the frames of an address, which leave a context of this value, read lines and
+-- functions of no units but those that a lookup asks then. Lines, functions and calls that were
+-- kept are kept still, so that no line number program is run again. Each unit has the counter that
+-- it had.
 pub record ReadsForFrames (c : AnsweredContext) (a : ℕ) (old new : List ResolvedUnit) : Type 0 where
   pub counters : map counter_of new ≡ map counter_of old
   pub lines : KeepsMore old new
   pub functions : KeepMoreFunctions old new
   pub reads : ReadsAsked (AsksForFrames c a) old new
+  pub reads_functions : ReadsAskedFunctions (AsksForFrames c a) old new

@@ -1,7 +1,7 @@
 -- Lookups of frames whose loads are answered by the split files of a source (DWARF 5, 7.3.2).
 use Rattle.std.specs.Prelude.{◌≡◌, ◌≢◌, ◌⊎◌, ℕ, ◌*◌, List, Option, Result, Ok, Err}
 use Rattle.std.specs.List.{FoldsTo}
-use Rattle.addr2line_context.specs.ContextCosts.{frame_looks}
+use Rattle.addr2line_context.specs.ContextCosts.{frame_looks, AsksForFrames}
 use Rattle.addr2line_context.specs.ContextNames.{naming_in}
 use Rattle.addr2line_context.specs.Contexts.{FileContext}
 use Rattle.addr2line_context.specs.DwarfFiles.{DwarfFile}
@@ -11,6 +11,7 @@ use Rattle.addr2line_context.specs.FirstAnswers.{FirstAnswers, PendingLoad, Look
 use Rattle.addr2line_context.specs.Frames.{Frame}
 use Rattle.addr2line_context.specs.LookupCosts.{AtMostLooks}
 use Rattle.addr2line_context.specs.Lookups.{frames, answer_load}
+use Rattle.addr2line_context.specs.PassedUnits.{KeepsAskedFunctions}
 use Rattle.addr2line_context.specs.SettledLookups.{frames_in}
 use Rattle.addr2line_context.specs.FrameLoads.{IsDone}
 use Rattle.addr2line_split.specs.SplitLoading.{GetsFile}
@@ -102,13 +103,16 @@ pub record FindsFrames {S F : Type 0}
   pub finds : FindsAsOrNoMemory answers old.context a see (load_state old source) result
       (load_state new source_after)
 
--- The same with what is kept of the file's units. Where the frames are found without an answer, it
--- takes no more looks at that than two lookups in a context.
+-- The same with what is kept of the file's units. Unless it is out of memory, the functions of the
+-- units that the lookup asks are kept, but of one whose load needs an answer. Where the frames are
+-- found without an answer, it takes no more looks at what is kept than two lookups in a context.
 pub record AfterFrames {S F : Type 0}
     (answers : S → List ℕ → List ℕ → Result (Option (List ℕ)) Error → S → Type 0) (a : ℕ)
     (see : F → List Frame) (old : ResolvedFile) (source : S) (result : Result F Error)
     (new : ResolvedFile) (source_after : S) : Type 0 where
   pub found : FindsFrames answers a see old.file source result new.file source_after
   pub units : ReadsForFrames (answered_context new.file) a old.units new.units
+  pub asked : result ≢ Err Memory
+      → KeepsAskedFunctions (AsksForFrames (answered_context new.file) a) new.units
   pub cost : IsDone (frames_in (answered_context old.file) a)
       → AtMostLooks (2 * frame_looks (answered_context old.file) a) old.units new.units

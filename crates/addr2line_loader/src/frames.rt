@@ -18,7 +18,7 @@ impl Loader {
     /// The frames of an address, as `Context::find_frames` finds them, with each load answered by
     /// the split file that a source has for it, or by none. The answers are kept, also those before
     /// out of memory; a load for which the source is out of memory has none. What is read is kept,
-    /// and no lines are read of units after the one in which the search ends.
+    /// and neither lines nor functions are read of units after the one in which the search ends.
     pub fn find_frames<S: SplitSource>(
         &mut self,
         alloc: Global,

@@ -5,6 +5,7 @@ use Rattle.addr2line_context.specs.FirstAnswers.{FirstAnswers}
 use Rattle.addr2line_context.specs.UnitLookups.{IsPending}
 use Rattle.addr2line_context.specs.FrameLoads.{TellsWaiting}
 use Rattle.addr2line_context.specs.SettledLookups.{frames_in}
+use Rattle.addr2line_context.proofs.FoundRows.{same_refusal, found_row}
 use Rattle.addr2line_loader.specs.SourceAnswers.{LoadState}
 use Rattle.addr2line_loader.proofs.AnsweredLoads.{answers_more, stops_at, stops_before, all_answered}
 use Rattle.addr2line_loader.proofs.FrameReads.{reads_both, reads_in, reads_then_search, search_alone, waits_somewhere}
@@ -94,8 +95,9 @@ returns-clause-units g c =
 
 pub returns-in_err-frames_wait-clause-alone : goal.returns-in_err-frames_wait-clause-alone
 returns-in_err-frames_wait-clause-alone g c = λ done.
-    search_alone c.args.probe c.args.context.now c.loop-context.context c.frames_wait.new.context
-    (c.loop-context.invariant.3 done) c.frames_wait.ensures.after
+    let p = err_from_is_err_and c.from_residual.result c.from_residual.ensures.1 in
+    search_alone _ _ c.args.probe c.args.context.now c.loop-context.context c.frames_wait.new.context
+    (c.loop-context.invariant.3 done) (rw (p.1, p.2) (same_refusal _)) c.in_err-frames_wait.ensures.after
 
 pub returns-in_err-answer_next-clause-alone : goal.returns-in_err-answer_next-clause-alone
 returns-in_err-answer_next-clause-alone g c = λ done.
@@ -106,5 +108,5 @@ returns-in_err-answer_next-clause-alone g c = λ done.
 
 pub returns-clause-alone : goal.returns-clause-alone
 returns-clause-alone g c = λ done.
-    search_alone c.args.probe c.args.context.now c.loop-context.context c.frames_wait.new.context
-    (c.loop-context.invariant.3 done) c.frames_wait.ensures.after
+    search_alone _ _ c.args.probe c.args.context.now c.loop-context.context c.frames_wait.new.context
+    (c.loop-context.invariant.3 done) (λ has. found_row _) c.in_ok-frames_wait.ensures.after

@@ -59,6 +59,7 @@ pub returns-clause-units : goal.returns-clause-units
 returns-clause-units g c =
     reads_by_answer c.answer_first.new.context.value c.args.probe 0 c.args.context.now.units
     c.answer_first.new.context.units c.answer_first.ensures.cost c.answer_first.ensures.lines
+    c.answer_first.ensures.functions
 
 pub returns-in_err-load-clause-asks : goal.returns-in_err-load-clause-asks
 returns-in_err-load-clause-asks g c = λ n asked. asked

@@ -43,7 +43,7 @@ returns g c = (
         })
         c.self.inside.context.units c.answer_loads.new.context c.answer_loads.new.source c.answer_loads.ensures.plain
         c.in_ok-answer_loads.ensures.loads c.answer_loads.ensures.units c.answer_loads.ensures.alone
-        c.find_decided_frames.follows.lender-at-none c.find_decided_frames.follows.holds-at-none _
+        c.find_decided_frames.follows.lender-at-none _ c.find_decided_frames.follows.holds-at-none
         c.find_decided_frames.ensures.found c.args.self.now
         c.self.view_is,
   ),
