@@ -16,11 +16,15 @@ turn, until the time is up:
 - beside: `linemap lookup` reads an image that is whole, and a split file or a supplement of it that isn't. What a split
   file says may change no place.
 
-A process may take 10 seconds of a processor for a file, and 30 times its size and 100 MB; it must end with status 0 or 1.
-What doesn't hold is written to the folder FINDS (./finds where it isn't set), and counted. The variable SEED begins elsewhere.
+A file may take 10 seconds of a processor, and 30 times its size and 100 MB; its process must end with status 0 or 1. Many files
+in one process may take together what one may, the largest of them; if they don't, halves of them run, down to one file.
+PROCESSES of this run side by side, one where it isn't set. Each begins with a random seed of its own, SEED-1, SEED-2 and so on,
+and writes what doesn't hold to a folder of its own, FINDS/1, FINDS/2 and so on (./finds where FINDS isn't set). The last line says
+how many of each all of them ran, and how much they found.
 CASES, LINEMAP and BENCH name other programs. Where CASES is empty there are only lookups and files beside; where LINEMAP is
 empty there are none, and the seeds come from SECTIONS, a folder of images; where BENCH is empty the readers aren't compared.
 """
+import concurrent.futures
 import itertools
 import json
 import math
@@ -33,6 +37,7 @@ import subprocess
 import sys
 import tempfile
 import time
+from typing import NamedTuple
 
 sys.dont_write_bytecode = True
 TOP = os.path.dirname(os.path.dirname(os.path.abspath(__file__)))
@@ -276,10 +281,24 @@ class Process:
         return f"took {self.memory:.0f} MB" if self.is_big else None
 
 
+class Case(NamedTuple):
+    """What is asked of a file in a process with others."""
+    lines: str
+    # None where it isn't known.
+    answer: str | None
+    # The bytes of the file.
+    size: int
+    # The paragraph of the file that it is like, where it is one of sections.
+    like: str = ""
+    # The file, where it is an image.
+    images: tuple = ()
+
+
 class Fuzzer:
-    def __init__(self, minutes, seeds, folder, random):
+    def __init__(self, minutes, seeds, folder, finds, random):
         """Of several seeds with the same bytes one is taken."""
         self.end = time.monotonic() + 60 * minutes
+        self.finds_folder = finds
         self.seeds, self.folder, self.random = [*{it.image: it for it in seeds}.values()], folder, random
         self.small = [it for it in self.seeds if it.is_small]
         self.little = [it for it in self.small if not it.big]
@@ -290,7 +309,7 @@ class Fuzzer:
     def find(self, why, text, *files):
         """Keeps what doesn't hold."""
         self.finds += 1
-        folder = f"{FINDS}/{self.finds}"
+        folder = f"{self.finds_folder}/{self.finds}"
         os.makedirs(folder, exist_ok=True)
         with open(f"{folder}/why", "w", encoding="utf-8") as file:
             print(why, file=file)
@@ -299,37 +318,32 @@ class Fuzzer:
         for number, content in enumerate(files):
             with open(f"{folder}/image{number}", "wb") as file:
                 file.write(content)
-        print(f"find {self.finds}: {why[:400]}", flush=True)
+        print(f"find {folder}: {why[:400]}", flush=True)
 
-    def run_chunk(self, before, cases):
-        """Runs cases in one process, each the lines, the answers or none, and the files; and finds what doesn't hold."""
-        text = "\n\n".join([*before, *(case for case, _, _ in cases)]).encode() + b"\n"
-        size = len(text) + max((len(file) for _, _, files in cases for file in files), default=0)
-        run = Process([CASES], text, SECONDS + len(cases) / 5, MEGABYTES + FACTOR * size / 1e6, self.folder)
-        answers = [answer for _, answer, _ in cases]
-        if not run.fault() and all(answers) and run.out == "".join(f"{it}\n\n" for it in answers):
+    def run_chunk(self, cases):
+        """Runs cases in one process, and finds what doesn't hold."""
+        text = text_of(cases)
+        run = Process([CASES], text, SECONDS, MEGABYTES + FACTOR * max(it.size for it in cases) / 1e6, self.folder)
+        if not run.fault() and run.out == "".join(f"{it.answer}\n\n" for it in cases):
             return
         if run.fault() and len(cases) > 1:
             half = len(cases) // 2
-            self.run_chunk(before, cases[:half])
-            self.run_chunk(before, cases[half:])
+            self.run_chunk(cases[:half])
+            self.run_chunk(cases[half:])
         elif run.fault():
-            self.find(run.fault(), "\n\n".join([*before, cases[0][0]]).encode(), *cases[0][2])
+            self.find(run.fault(), text, *cases[0].images)
         else:
-            self.compare(before, cases, run.out)
+            self.compare(cases, run.out)
 
-    def compare(self, before, cases, out):
+    def compare(self, cases, out):
         """Finds the cases that aren't answered as they should be."""
-        for case, answer, files in cases:
-            if answer is None:
-                # (each line is repeated, with an answer)
-                answer, out = "", out[out.find("\n\n") + 2:]
-            elif out.startswith(f"{answer}\n\n"):
-                out = out[len(answer) + 2:]
-            else:
-                end = out.find("\n\n")
-                self.find(f"answered\n{out[:end]}\nand not\n{answer}", "\n\n".join([*before, case]).encode(), *files)
-                out = out[end + 2:]
+        for case in cases:
+            end = out.find("\n\n") + 2
+            if case.answer is not None and not out.startswith(f"{case.answer}\n\n"):
+                self.find(f"answered\n{out[:end - 2]}\nand not\n{case.answer}", text_of([case]), *case.images)
+            elif case.answer is not None:
+                end = len(case.answer) + 2
+            out = out[end:]
         if out:
             self.find(f"answered more: {out[:200]}", b"")
 
@@ -337,18 +351,18 @@ class Fuzzer:
 
     def sections(self):
         """Damaged sections, through contexts."""
-        cases, named = [], {}
+        cases, names = [], {}
         for _ in range(CHUNK):
             seed = self.random.choice(self.little)
-            name = named.setdefault(id(seed), (f"seed{len(named)}", seed))[0]
+            name = names.setdefault(id(seed), f"seed{len(names)}")
+            like = "\n".join([f"file {name}", *(f"{it} {content.hex()}".rstrip() for it, content in seed.sections.items())])
             sections = damaged(self.random, seed, self.small)
             changed = [it for it in NAMES if sections.get(it) != seed.sections.get(it)]
             lines = [f"context {name}"] + [f"{it} {sections.get(it, b'').hex()}".rstrip() for it in changed]
             asked = questions(Model(sections), addresses(self.random, seed))
-            cases.append(("\n".join(lines + [it for it, _ in asked]), "\n".join(f"{it}: {answer}" for it, answer in asked), ()))
-        before = ["\n".join([f"file {name}", *(f"{it} {content.hex()}".rstrip() for it, content in seed.sections.items())])
-                  for name, seed in named.values()]
-        self.run_chunk(before, cases)
+            lines, answer = "\n".join(lines + [it for it, _ in asked]), "\n".join(f"{it}: {answer}" for it, answer in asked)
+            cases.append(Case(lines, answer, sum(map(len, sections.values())), like))
+        self.run_chunk(cases)
         self.ran["sections"] += len(cases)
 
     def images(self):
@@ -369,8 +383,8 @@ class Fuzzer:
             with open(f"{self.folder}/image{number}", "wb") as file:
                 file.write(image)
             answer = answers and "\n".join(f"{it}: {found}" for it, found in answers)
-            cases.append(("\n".join([f"bytes image{number}", *asked]), answer, (image,)))
-        self.run_chunk([], cases)
+            cases.append(Case("\n".join([f"bytes image{number}", *asked]), answer, len(image), images=(image,)))
+        self.run_chunk(cases)
         self.ran["images"] += len(cases)
 
     def loader_answers(self, image, seed):
@@ -445,6 +459,12 @@ class Fuzzer:
                 return
 
 
+def text_of(cases):
+    """The input of a process for cases, after the files that they are like."""
+    before = dict.fromkeys(it.like for it in cases if it.like)
+    return "\n\n".join([*before, *(it.lines for it in cases)]).encode() + b"\n"
+
+
 # ---- answers
 
 
@@ -490,23 +510,35 @@ def location_line(place):
     return text + (f" (discriminator {discriminator})" if discriminator else "")
 
 
-def main():
-    if not 2 <= len(sys.argv) <= 3 or not sys.argv[1].replace(".", "").isdigit():
-        return __doc__
-    seed = os.environ.get("SEED") or str(time.time_ns())
+def fuzz(number, seed, minutes, more):
+    """Does it in one process of several; how many of each were run, and how much was found."""
+    seed = f"{seed}-{number}"
     chosen = random.Random(seed)
     folder = tempfile.mkdtemp(dir="/dev/shm" if os.path.isdir("/dev/shm") else None)
     try:
         images = [*emitted(chosen, folder)] if LINEMAP else [*files_below(os.environ["SECTIONS"])]
         images += of_cases()
-        images += files_below(sys.argv[2]) if len(sys.argv) > 2 else []
-        fuzzer = Fuzzer(float(sys.argv[1]), [Seed(it) for it in images], folder, chosen)
+        images += files_below(more) if more else []
+        fuzzer = Fuzzer(minutes, [Seed(it) for it in images], folder, f"{FINDS}/{number}", chosen)
         print(f"{len(fuzzer.seeds)} seeds, {len(fuzzer.small)} of them small; SEED={seed}", flush=True)
         fuzzer.run()
-        print(", ".join(f"{count} {what}" for what, count in fuzzer.ran.items()) + f"; {fuzzer.finds} finds")
     finally:
         shutil.rmtree(folder, ignore_errors=True)
-    return 1 if fuzzer.finds else 0
+    return {**fuzzer.ran, "finds": fuzzer.finds}
+
+
+def main():
+    if not 2 <= len(sys.argv) <= 3 or not sys.argv[1].replace(".", "").isdigit():
+        return __doc__
+    seed = os.environ.get("SEED") or str(time.time_ns())
+    count = int(os.environ.get("PROCESSES") or 1)
+    more = sys.argv[2] if len(sys.argv) > 2 else None
+    with concurrent.futures.ProcessPoolExecutor(count) as pool:
+        began = [pool.submit(fuzz, number, seed, float(sys.argv[1]), more) for number in range(1, count + 1)]
+        ended = [it.result() for it in began]
+    total = {what: sum(it[what] for it in ended) for what in ended[0]}
+    print(", ".join(f"{found} {what}" for what, found in total.items()) + f"; of {count} processes")
+    return 1 if total["finds"] else 0
 
 
 if __name__ == "__main__":
