@@ -3,14 +3,16 @@
 
 usage: bench/hostile.py list
        bench/hostile.py make KIND COUNT FILE      and print the addresses that are asked for
-       bench/hostile.py measure [KIND..]
+       bench/hostile.py measure [KIND[=COUNT]..]
 
-Each kind is made at half its count and at its whole one, so that the growth shows: twice the count should take about
-twice the time and the memory. What is run on an image is `linemap lookup -e IMAGE -f -i` with addresses, and `--all`; where
-PEER names a program with the same words, such as one over Rust's addr2line, it is run too. Then `addr2line_bench` asks a
-context for the loads of these addresses (`loads`: `preload_units`, and `answer_load` for each), for their units (`unit`:
-`find_dwarf_and_unit`), and for the lines, the functions and the calls of all units (`lines`: `parse_lines`, `functions`:
-`parse_functions`, `calls`: `parse_inlined_functions`). On a table it is `linemap ask` with addresses, and `linemap emit`.
+Each kind is made at half its count and at its whole one (COUNT, or that of the list), so that the growth shows: twice the count
+should take about twice the time and the memory. What is run on an image is `linemap lookup -e IMAGE -f -i` with addresses,
+`--all`, and, where the image has a section with a name, `--section NAME` with these addresses (`section`: `get_section_range`);
+where PEER names a program with the same words, such as one over Rust's addr2line, it is run too. Then `addr2line_bench` asks a
+context for the places of the addresses (`places`: `find_location`), for their loads (`loads`: `preload_units`, and `answer_load`
+for each), for their units (`unit`: `find_dwarf_and_unit`), and for the lines, the functions and the calls of all units (`lines`:
+`parse_lines`, `functions`: `parse_functions`, `calls`: `parse_inlined_functions`). On a table it is `linemap ask` with addresses,
+and `linemap emit`.
 LINEMAP and BENCH name other words than those of the built programs, ASK names some of what is asked, and READER is the reader
 of addr2line_bench (`slice`, or `bytes`). SCALE makes all counts larger or smaller, LIMIT bounds the processor seconds of a run
 (60), MEMORY its megabytes (4,000), beyond which each allocation is refused.
@@ -532,7 +534,7 @@ def symbol_names(count):
 
 
 def section_names(count):
-    """Sections of one name, as long as there are sections."""
+    """Sections of one name, as long as there are sections, and one of its last letter."""
     return {"names": count}, [LOW]
 
 
@@ -659,8 +661,9 @@ def image_with_symbols(entries, strings):
 
 
 def image_with_names(count):
-    names = b"\0" + b"n" * 64 * count
-    headers = [header(0, 0, 0, 0)] + [header(1, 1, 64, 0)] * count + [header(3, 0, 64, len(names))]
+    names = b"\0" + b"n" * 64 * count + b"\0"
+    # (the last section has the end of the others' name)
+    headers = [header(0, 0, 0, 0)] + [header(1, 1, 64, 0)] * count + [header(3, len(names) - 2, 64, len(names))]
     return file_header(64 + len(names), len(headers), len(headers) - 1) + names + b"".join(headers)
 
 
@@ -692,7 +695,7 @@ def text_of(one, two):
     return f"{two[0]:8.2f} s {two[1]:7.0f} MB {two[0] / max(one[0], 0.01):5.1f} x         "
 
 
-def words_for(what, path, asked):
+def words_for(what, path, asked, section):
     """What is asked of a file, after the program, and of an image after the subcommand too."""
     if what in OF_UNITS:
         return [path, os.environ.get("READER", "slice"), what, *([f"{path}.asked"] if what in OF_ADDRESSES else [])]
@@ -700,15 +703,25 @@ def words_for(what, path, asked):
         return ["ask", path, *asked]
     if what == "emit":
         return ["emit", path, os.devnull]
-    return ["-e", path, *(["-fiC", *asked] if what == "frames" else ["--all"])]
+    more = {"frames": ["-fiC", *asked], "all": ["--all"], "section": ["-j", section, *asked]}
+    return ["-e", path, *more[what]]
+
+
+def questions_about(kind):
+    """What is asked of files of a kind, and the section from which `section` counts the addresses."""
+    if kind in TABLES:
+        return ("ask", "emit"), None
+    if kind in (symbols, symbol_names):
+        return ("frames", "all", *OF_UNITS), None
+    return ("frames", "all", "section", *OF_UNITS), "n" if kind == section_names else ".debug_info"
 
 
 # What addr2line_bench asks of a context: of each address, and of all units.
-OF_ADDRESSES = "loads", "unit"
+OF_ADDRESSES = "places", "loads", "unit"
 OF_UNITS = *OF_ADDRESSES, "lines", "functions", "calls"
 
 
-def measure(names):
+def measure(counts):
     own = os.environ.get("LINEMAP", f"{TOP}/crates/linemap_program/out/linemap_program lookup").split()
     peer = os.environ.get("PEER", "").split()
     scale = float(os.environ.get("SCALE", 1))
@@ -719,26 +732,37 @@ def measure(names):
     wanted = os.environ.get("ASK", "").split()
     print(f"{'kind':24} {'KB':>6} {'asked':9} " + " ".join(f"{it + ': seconds, memory, growth':36}" for it in programs))
     with tempfile.TemporaryDirectory() as folder:
-        for name in names:
+        for name, whole in counts:
             kind, sizes, lists = BY_NAME[name], [], []
             for part in (2, 1):
-                path, count = f"{folder}/{part}", max(2, int(KINDS[kind] * scale / part))
+                path, count = f"{folder}/{part}", max(2, int(whole * scale / part))
                 # (by a process of its own, since those that are measured begin with the peak memory of this one)
                 made = subprocess.run([sys.executable, __file__, "make", name, str(count), path], check=True, stdout=subprocess.PIPE)
                 sizes.append((path, os.path.getsize(path)))
                 lists.append(made.stdout.decode().split())
                 with open(f"{path}.asked", "w") as file:
                     file.write("\n".join(lists[-1]))
-            is_table = kind in TABLES
-            for what in ("ask", "emit") if is_table else ("frames", "all", *OF_UNITS):
+            asked_of_kind, section = questions_about(kind)
+            for what in asked_of_kind:
                 if wanted and what not in wanted:
                     continue
                 found = []
-                for program in (table_programs if is_table else unit_programs if what in OF_UNITS else programs).values():
-                    words = [[*program, *words_for(what, path, asked)] for (path, _), asked in zip(sizes, lists)]
+                for program in (table_programs if kind in TABLES else unit_programs if what in OF_UNITS else programs).values():
+                    words = [[*program, *words_for(what, path, asked, section)] for (path, _), asked in zip(sizes, lists)]
                     one = run(words[0], limits)
                     found.append(text_of(one, one and run(words[1], limits)))
                 print(f"{name:24} {sizes[1][1] // 1000:6} {what:9} " + " ".join(f"{it:36}" for it in found), flush=True)
+
+
+def counts_of(words):
+    """The kinds of words, each with a count; all of them where there are no words; none where a word is no kind."""
+    found = []
+    for word in words or BY_NAME:
+        name, _, count = word.partition("=")
+        if name not in BY_NAME or not (count or "1").isdecimal():
+            return None
+        found.append((name, int(count or KINDS[BY_NAME[name]])))
+    return found
 
 
 def main():
@@ -754,8 +778,8 @@ def main():
             else:
                 file.write((made if isinstance(made, str) else json.dumps({"units": made}, separators=(",", ":"))).encode())
         print(*[f"{it:x}" for it in asked])
-    elif words[:1] == ["measure"] and all(it in BY_NAME for it in words[1:]):
-        measure(words[1:] or list(BY_NAME))
+    elif words[:1] == ["measure"] and counts_of(words[1:]):
+        measure(counts_of(words[1:]))
     else:
         return __doc__
     return 0
