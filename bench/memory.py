@@ -1,7 +1,14 @@
 #!/usr/bin/env python3
 """Refuses each allocation of a program in turn, until it ends without a refusal.
 
-usage: bench/memory.py [CASE..]
+usage: bench/memory.py [CASE..]      all cases where none is named:
+       ask emit emit-5 lookup lookup-lines lookup-all lookup-symbols lookup-split    of ./linemap
+       cases programs reading tables    of addr2line_cases, gimli_cases and linemap_cases
+       places places-bytes    of addr2line_bench
+       warm warm-frames warm-words    of ./linemap
+
+The programs that the cases need are proved and built first, as by `tools/build NAME`, unless what is there is current; LINEMAP,
+CASES, GIMLI_CASES, LINEMAP_CASES and BENCH name other programs, which are taken as they are. A C compiler is needed, for refuse.c.
 
 Each run must end as it does with ample memory, or say why not on the error stream: with status 1 and the beginning of that
 output, or, where `lookup` goes on, with a line for each address that is refused. With status 1 the program's line names what
@@ -12,8 +19,6 @@ that ends with status 0 has given all answers, after a refusal as without one.
 In `places` and `places-bytes`, through one reader and the other, and in `warm`, `warm-frames` and `warm-words`, each allocation
 is refused from the program's first output on: then all lines that are asked for are kept, and finding the places of further
 addresses takes no memory; nor does `lookup` for reading addresses and writing their places and frames.
-
-CASES, GIMLI_CASES, LINEMAP_CASES, BENCH and LINEMAP name other programs than the built ones. It needs a C compiler, for refuse.c.
 """
 import os
 import re
@@ -27,15 +32,11 @@ sys.path.insert(0, f"{TOP}/tests")
 import cases
 
 
-def built(name, variable):
-    return os.environ.get(variable) or f"{TOP}/crates/{name}/out/{name}"
-
-
-LINEMAP = built("linemap_program", "LINEMAP")
-CASES = built("addr2line_cases", "CASES")
-GIMLI_CASES = built("gimli_cases", "GIMLI_CASES")
-LINEMAP_CASES = built("linemap_cases", "LINEMAP_CASES")
-BENCH = built("addr2line_bench", "BENCH")
+# The crates of the programs, each with the variable that names another program.
+CRATES = {"linemap_program": "LINEMAP", "addr2line_cases": "CASES", "gimli_cases": "GIMLI_CASES", "linemap_cases": "LINEMAP_CASES",
+          "addr2line_bench": "BENCH"}
+PROGRAMS = [os.environ.get(variable) or f"{TOP}/crates/{crate}/out/{crate}" for crate, variable in CRATES.items()]
+LINEMAP, CASES, GIMLI_CASES, LINEMAP_CASES, BENCH = PROGRAMS
 DATA = f"{cases.CRATE}/data"
 # What comes before an answer to what is asked again.
 AGAIN = b"E1, then "
@@ -108,6 +109,19 @@ RUNS = {
     "warm-frames": ([LINEMAP, "lookup", "-e", "given.elf", "-a", "-p", "-f", "-i"], "\n".join(WARM)),
     "warm-words": ([LINEMAP, "lookup", "-e", "given.elf", "--llvm", "-s", *WARM], ""),
 }
+
+
+def needs_image(names):
+    """Whether one of these cases reads what is emitted."""
+    return any(it.startswith(("lookup", "places", "warm")) for it in names)
+
+
+def build(names):
+    """Builds the programs of these cases, but for those that a variable names."""
+    needed = {RUNS[it][0][0] for it in names} | ({LINEMAP} if needs_image(names) else set())
+    for program, (crate, variable) in zip(PROGRAMS, CRATES.items()):
+        if program in needed and not os.environ.get(variable):
+            subprocess.run([f"{TOP}/tools/build", crate], check=True)
 
 
 def run(words, given, folder, refused=0):
@@ -218,6 +232,7 @@ def main():
     names = sys.argv[1:] or list(RUNS)
     if any(it not in RUNS for it in names):
         return __doc__
+    build(names)
     with tempfile.TemporaryDirectory() as folder:
         subprocess.run(["cc", "-O2", "-shared", "-fPIC", "-o", f"{folder}/refuse.so", f"{TOP}/bench/refuse.c"], check=True)
         os.mkdir(f"{folder}/run")
@@ -225,7 +240,7 @@ def main():
             os.symlink(f"{DATA}/{name}", f"{folder}/run/{name}")
         for name in os.listdir(f"{TOP}/crates/linemap_cases/data"):
             os.symlink(f"{TOP}/crates/linemap_cases/data/{name}", f"{folder}/run/{name}")
-        if any(it.startswith(("lookup", "places", "warm")) for it in names):
+        if needs_image(names):
             subprocess.run([LINEMAP, "emit", f"{TOP}/examples/c.json", f"{folder}/run/given.elf"], check=True)
         with open(f"{folder}/run/addresses", "w", encoding="utf-8") as file:
             file.writelines(f"{0xff8 + it % 0x40:x}\n" for it in range(20_000))
