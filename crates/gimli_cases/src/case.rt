@@ -56,6 +56,8 @@ pub struct Case {
     pub is_big: bool,
     /// The word `dwo`: the question is about a split file.
     pub is_split: bool,
+    /// The word `by_reference`: the texts of a program are in a table.
+    pub is_by_reference: bool,
     pub format: Format,
     pub version: u16,
     pub address_size: u8,
@@ -80,6 +82,7 @@ impl Case {
             operation,
             is_big: false,
             is_split: false,
+            is_by_reference: false,
             format: Format::Dwarf32,
             version: 0,
             address_size: 4,
@@ -122,6 +125,7 @@ impl Case {
         match word {
             "big" => self.is_big = true,
             "dwo" => self.is_split = true,
+            "by_reference" => self.is_by_reference = true,
             "dwarf64" => self.format = Format::Dwarf64,
             _ => return Err(Mistake::Word),
         }

@@ -7,6 +7,7 @@
 
 mod answer;
 mod attributes;
+mod by_reference;
 mod case;
 mod facility;
 mod lines;

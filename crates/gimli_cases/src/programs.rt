@@ -7,8 +7,8 @@ ghost use Rattle.gimli_lines.specs.StringSections.{IsText};
 
 use crate::answer::Answer;
 use crate::case::Case;
-use crate::lines;
 use crate::sections::Sections;
+use crate::{by_reference, lines};
 use gimli_core::{Encoding, EndianSlice, Endianity, LineEncoding};
 use gimli_lines::write::{
     Address, EndianVec, Error, FileId, LineProgram, LineRow, LineString, LineStringTable,
@@ -16,26 +16,34 @@ use gimli_lines::write::{
 };
 use std::alloc::Global;
 
-const DIRECTORY: &[u8] = b"/w";
+/// The working directory.
+pub const DIRECTORY: &[u8] = b"/w";
 
-const SOURCE: &[u8] = b"a.c";
+/// The source file, which is there.
+pub const SOURCE: &[u8] = b"a.c";
 
-const INCLUDES: &[u8] = b"src";
+/// Another directory.
+pub const INCLUDES: &[u8] = b"src";
 
-const HEADER: &[u8] = b"b.h";
+/// A file in that one.
+pub const HEADER: &[u8] = b"b.h";
 
 /// Answers a question about the program of a unit of `/w/a.c`, with addresses of four bytes or else
 /// of eight. It has a row there at the question's address, 5:1, and one in `src/b.h` 16 bytes after
-/// it, 20:2, which ends 32 bytes later.
+/// it, 20:2, which ends 32 bytes later. Its texts are in its header, or else in a table.
 pub fn answer<E: Endianity>(alloc: Global, case: &Case, order: E, out: &mut Answer) {
+    if case.is_by_reference {
+        by_reference::answer(alloc, case, order, out);
+        return;
+    }
     match written(alloc, case, order, out) {
         Ok(unit) => read(alloc, case, &unit, order, out),
         Err(error) => out.refuse_to_write(error),
     }
 }
 
-// Answers the question about the unit of a program.
-fn read<E: Endianity>(alloc: Global, case: &Case, unit: &[u8], order: E, out: &mut Answer) {
+/// Answers the question about the unit of a program.
+pub fn read<E: Endianity>(alloc: Global, case: &Case, unit: &[u8], order: E, out: &mut Answer) {
     let sections = Sections {
         first: EndianSlice::new(unit, order),
         second: EndianSlice::new(DIRECTORY, order),
@@ -54,7 +62,8 @@ fn written<E: Endianity>(
     let source = file(alloc, &mut program, DIRECTORY, SOURCE, out)?;
     let header = file(alloc, &mut program, INCLUDES, HEADER, out)?;
     add_rows(&mut program, case.value, source, header, out)?;
-    unit(alloc, &program, order, out)
+    let mut line_strings = LineStringTable::new(alloc);
+    unit(alloc, &program, &mut line_strings, order, out)
 }
 
 // A program of a working directory and a source file, whose texts are in its header.
@@ -136,7 +145,8 @@ fn file(
 
 // ---- rows
 
-fn add_rows(
+/// Adds the rows of a program, from an address on.
+pub fn add_rows(
     program: &mut LineProgram,
     address: u64,
     source: FileId,
@@ -207,19 +217,19 @@ fn end(program: &mut LineProgram, offset: u64, out: &mut Answer) -> Result<(), E
 
 // ---- units
 
-// The unit of a program.
-fn unit<E: Endianity>(
+/// The unit of a program, with the texts of a table.
+pub fn unit<E: Endianity>(
     alloc: Global,
     program: &LineProgram,
+    line_strings: &mut LineStringTable,
     order: E,
     out: &mut Answer,
 ) -> Result<Vec<u8>, Error> {
     let mut strings = StringTable::new(alloc);
-    let mut line_strings = LineStringTable::new(alloc);
-    match write(alloc, program, order, &mut strings, &mut line_strings) {
+    match write(alloc, program, order, &mut strings, line_strings) {
         Err(Error::Memory) => {
             out.ask_again();
-            write(alloc, program, order, &mut strings, &mut line_strings)
+            write(alloc, program, order, &mut strings, line_strings)
         }
         written => written,
     }
