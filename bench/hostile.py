@@ -7,12 +7,12 @@ usage: bench/hostile.py list
 
 Each kind is made at half its count and at its whole one (COUNT, or that of the list), so that the growth shows: twice the count
 should take about twice the time and the memory. What is run on an image is `linemap lookup -e IMAGE -f -i` with addresses,
-`--all`, and, where the image has a section with a name, `--section NAME` with these addresses (`section`: `get_section_range`);
-where PEER names a program with the same words, such as one over Rust's addr2line, it is run too. Then `addr2line_bench` asks a
-context for the places of the addresses (`places`: `find_location`), for their loads (`loads`: `preload_units`, and `answer_load`
-for each), for their units (`unit`: `find_dwarf_and_unit`), and for the lines, the functions and the calls of all units (`lines`:
-`parse_lines`, `functions`: `parse_functions`, `calls`: `parse_inlined_functions`). On a table it is `linemap ask` with addresses,
-and `linemap emit`.
+`--all`, and, where it has many sections, `--section` with the last one (`section`: `get_section_range`); where PEER names a
+program with the same words, such as one over Rust's addr2line, it is run too. Then `addr2line_bench` asks a context for the
+places of the addresses (`places`: `find_location`), for their loads (`loads`: `preload_units`, and `answer_load` for each), for
+their units (`unit`: `find_dwarf_and_unit`), and for the lines, the functions and the calls of all units (`lines`: `parse_lines`,
+`functions`: `parse_functions`, `calls`: `parse_inlined_functions`). On a table it is `linemap ask` with addresses, and `linemap
+emit`.
 LINEMAP and BENCH name other words than those of the built programs, ASK names some of what is asked, and READER is the reader
 of addr2line_bench (`slice`, or `bytes`). SCALE makes all counts larger or smaller, LIMIT bounds the processor seconds of a run
 (60), MEMORY its megabytes (4,000), beyond which each allocation is refused.
@@ -660,10 +660,13 @@ def image_with_symbols(entries, strings):
     return file_header(64 + len(body), len(headers), 3) + body + b"".join(headers)
 
 
+# The name of the last of many sections, which is the end of that of the others.
+LAST_SECTION = "n"
+
+
 def image_with_names(count):
-    names = b"\0" + b"n" * 64 * count + b"\0"
-    # (the last section has the end of the others' name)
-    headers = [header(0, 0, 0, 0)] + [header(1, 1, 64, 0)] * count + [header(3, len(names) - 2, 64, len(names))]
+    names = b"\0" + LAST_SECTION.encode() * 64 * count + b"\0"
+    headers = [header(0, 0, 0, 0)] + [header(1, 1, 64, 0)] * count + [header(3, len(names) - 1 - len(LAST_SECTION), 64, len(names))]
     return file_header(64 + len(names), len(headers), len(headers) - 1) + names + b"".join(headers)
 
 
@@ -695,7 +698,7 @@ def text_of(one, two):
     return f"{two[0]:8.2f} s {two[1]:7.0f} MB {two[0] / max(one[0], 0.01):5.1f} x         "
 
 
-def words_for(what, path, asked, section):
+def words_for(what, path, asked):
     """What is asked of a file, after the program, and of an image after the subcommand too."""
     if what in OF_UNITS:
         return [path, os.environ.get("READER", "slice"), what, *([f"{path}.asked"] if what in OF_ADDRESSES else [])]
@@ -703,17 +706,15 @@ def words_for(what, path, asked, section):
         return ["ask", path, *asked]
     if what == "emit":
         return ["emit", path, os.devnull]
-    more = {"frames": ["-fiC", *asked], "all": ["--all"], "section": ["-j", section, *asked]}
+    more = {"frames": ["-fiC", *asked], "all": ["--all"], "section": ["--section", LAST_SECTION, *asked]}
     return ["-e", path, *more[what]]
 
 
 def questions_about(kind):
-    """What is asked of files of a kind, and the section from which `section` counts the addresses."""
+    """What is asked of files of a kind."""
     if kind in TABLES:
-        return ("ask", "emit"), None
-    if kind in (symbols, symbol_names):
-        return ("frames", "all", *OF_UNITS), None
-    return ("frames", "all", "section", *OF_UNITS), "n" if kind == section_names else ".debug_info"
+        return "ask", "emit"
+    return "frames", "all", *(["section"] if kind == section_names else []), *OF_UNITS
 
 
 # What addr2line_bench asks of a context: of each address, and of all units.
@@ -742,13 +743,12 @@ def measure(counts):
                 lists.append(made.stdout.decode().split())
                 with open(f"{path}.asked", "w") as file:
                     file.write("\n".join(lists[-1]))
-            asked_of_kind, section = questions_about(kind)
-            for what in asked_of_kind:
+            for what in questions_about(kind):
                 if wanted and what not in wanted:
                     continue
                 found = []
                 for program in (table_programs if kind in TABLES else unit_programs if what in OF_UNITS else programs).values():
-                    words = [[*program, *words_for(what, path, asked, section)] for (path, _), asked in zip(sizes, lists)]
+                    words = [[*program, *words_for(what, path, asked)] for (path, _), asked in zip(sizes, lists)]
                     one = run(words[0], limits)
                     found.append(text_of(one, one and run(words[1], limits)))
                 print(f"{name:24} {sizes[1][1] // 1000:6} {what:9} " + " ".join(f"{it:36}" for it in found), flush=True)
