@@ -694,7 +694,8 @@ def text_of(one, two):
         return f"{'too long':>36}"
     if two is None or two[2] != 0:
         why = "too long" if two is None else f"status {two[2]}"
-        return f"{f'half: {one[0]:.2f} s {one[1]:.0f} MB, whole: {why}':>36}"
+        half = f"{one[0]:.2f} s {one[1]:.0f} MB" + (f" status {one[2]}" if one[2] else "")
+        return f"{f'half: {half}, whole: {why}':>36}"
     return f"{two[0]:8.2f} s {two[1]:7.0f} MB {two[0] / max(one[0], 0.01):5.1f} x         "
 
 
