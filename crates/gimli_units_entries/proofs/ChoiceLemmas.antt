@@ -16,9 +16,6 @@ item-choice : (limit : ℕ) (chosen : ℕ → Bool) (w t : Walk) (o : Option Row
 unfolding row_or_end
 item-choice limit chosen w t o e = by_test (eqb (bytes_left w.rest) 0) e
   where
-    some : Row → Option Row
-    some r = Some r
-
     none : Option Row
     none = None
 

@@ -17,7 +17,7 @@ use gimli_core_base::error::Error;
 use gimli_core_base::leb128::{self, Fault};
 use gimli_core_base::{Encoding, ReaderOffset};
 use gimli_units_forms::{
-    Abbreviation, Abbreviations, Attribute, AttributeSpecification, parse_attribute,
+    Abbreviation, Abbreviations, Attribute, AttributeSpecification, parse_attribute_inline,
     skip_attributes,
 };
 use gimli_units_headers::{Reader, UnitOffset};
@@ -108,7 +108,7 @@ impl<'abbrev, R: Reader> EntriesRaw<'abbrev, R> {
             → ReadsAs (raw_attribute_of R.view R.Offset.count) result self.old self.new
             (value R.Offset.limit (attribute_view specification) self.old) }
     {
-        parse_attribute(&mut self.input, self.encoding, specification)
+        parse_attribute_inline(&mut self.input, self.encoding, specification)
     }
 
     /// The same as [`read_attribute`](Self::read_attribute).

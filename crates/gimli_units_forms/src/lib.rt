@@ -13,7 +13,7 @@ pub use gimli_core_abbrev::{
     AttributeSpecification, DebugAbbrev, EndianSlice,
 };
 pub use place::{borrowed, bytes_before};
-pub use reading::{parse_attribute, push_attribute};
+pub use reading::{parse_attribute, parse_attribute_inline, push_attribute};
 pub use skipping::skip_attributes;
 pub use spelling::{Spelling, spelling_of};
 pub use value::{Attribute, AttributeValue};

@@ -369,9 +369,29 @@ pub fn push_attribute<R: Reader>(
 
 /// Reads the attribute that a declaration describes. Copies the reader only for a value that holds
 /// bytes. A refusal leaves the reader as it was.
-#[inline(always)]
 #[tactic(auto, unfolding(crate::specs::AttributeReading::attribute))]
 pub fn parse_attribute<R: Reader>(
+    reader: &mut R,
+    encoding: Encoding,
+    specification: AttributeSpecification,
+) -> Result<Attribute<R>, Error>
+    ensures value { ReadsAsOrNoMemory (raw_attribute_of R.view R.Offset.count) result
+        (R.view reader.old) (R.view reader.new)
+        (attribute R.Offset.limit encoding (attribute_view specification) (R.view reader.old)) }
+    // Where copies take no memory, this takes none.
+    ensures free { IsTrue R.copies_freely
+        → ReadsAs (raw_attribute_of R.view R.Offset.count) result (R.view reader.old)
+        (R.view reader.new)
+        (attribute R.Offset.limit encoding (attribute_view specification) (R.view reader.old)) }
+{
+    parse_form(reader, encoding, specification, specification.form())
+}
+
+/// The same as [`parse_attribute`], compiled into its caller, with code of its own for each common
+/// form.
+#[inline(always)]
+#[tactic(auto, unfolding(crate::specs::AttributeReading::attribute))]
+pub fn parse_attribute_inline<R: Reader>(
     reader: &mut R,
     encoding: Encoding,
     specification: AttributeSpecification,

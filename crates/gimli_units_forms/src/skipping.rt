@@ -1,12 +1,13 @@
-ghost use Rattle.std.specs.Prelude.{◌≡◌, ◌<◌, ◌+◌, ◌^◌, ◌≤◌, ℕ, Result, Ok, IfOk, List, ◌∷◌, map, length, Some, None, option_map};
+ghost use Rattle.std.specs.Prelude.{◌≡◌, ◌<◌, ◌+◌, ◌^◌, ◌≤◌, ℕ, Result, Ok, IfOk, IfSome, List, ◌∷◌, map, length, Some, None, option_map};
 ghost use Rattle.gimli_core_abbrev.specs.Calls.{ReturnsAs, Reads};
 ghost use Rattle.gimli_core_abbrev.specs.Declarations.{Attribute};
 ghost use Rattle.gimli_core_abbrev.specs.AbbreviationViews.{attribute_view};
 ghost use Rattle.gimli_units_forms.specs.AttributeReading.{attributes};
+ghost use Rattle.gimli_core_abbrev.specs.NumberParsers.{unsigned};
 ghost use Rattle.gimli_units_forms.specs.AttributeValues.{RawAttribute};
 ghost use Rattle.gimli_core_abbrev.specs.View.{View, after};
 ghost use Rattle.gimli_core_abbrev.specs.Results.{and_then};
-ghost use Rattle.gimli_units_forms.specs.SkippingLaws.{SkipsByRuns};
+ghost use Rattle.gimli_units_forms.specs.SkippingLaws.{SkipsByRuns, BeginsWithLook, skip_bytes_and_values};
 ghost use Rattle.gimli_units_forms.specs.AttributeSkipping.{skip_text, way_of, width_of, look_at_value, run as run_of, Way, skip_ways, skip_values};
 
 use crate::place::{borrowed, bytes_before};
@@ -51,6 +52,34 @@ fn skip_string<R: Reader>(place: &mut R) -> Result<(), Error>
     Ok(())
 }
 
+// The next byte, where it is an unsigned LEB128 number by itself.
+#[inline(always)]
+#[tactic(auto, unfolding(gimli_core_base::specs::NumberParsers::unsigned))]
+fn short_number<R: Reader>(place: &R) -> Option<u64>
+    ensures number { IfSome result
+        (λ n. unsigned (R.view place.now) ≡ Ok (n, after 1 (R.view place.now))) }
+    ensures there { IfSome result (λ n. 1 ≤ length (R.view place.now).bytes) }
+{
+    match place.as_bytes() {
+        [number, ..] if *number < 128 => Some(u64::from(*number)),
+        _ => None,
+    }
+}
+
+// An unsigned LEB128 length: one byte before nearly all blocks.
+#[inline(always)]
+fn read_length<R: Reader>(place: &mut R) -> Result<u64, Error>
+    ensures { ReturnsAs (λ n. (n, R.view place.new)) result (unsigned (R.view place.old)) }
+{
+    match short_number(place) {
+        Some(length) => {
+            place.advance(1);
+            Ok(length)
+        }
+        None => place.read_uleb128(),
+    }
+}
+
 // Looks at the bytes of a form's value, and returns how many more follow.
 #[inline(always)]
 #[tactic(auto, using(crate::proofs::SpellingWidths::block_is_narrow), unfolding(crate::specs::AttributeSkipping::look_at_value))]
@@ -65,7 +94,7 @@ fn look<R: Reader>(place: &mut R, encoding: Encoding, form: DwForm) -> Result<u6
         Spelling::Sixteen => Ok(16),
         Spelling::Constant => Ok(0),
         Spelling::Block(width) => read_fixed(place, width),
-        Spelling::LongBlock => place.read_uleb128(),
+        Spelling::LongBlock => read_length(place),
         Spelling::Unsigned | Spelling::Signed => {
             place.skip_leb128()?;
             Ok(0)
@@ -78,8 +107,8 @@ fn look<R: Reader>(place: &mut R, encoding: Encoding, form: DwForm) -> Result<u6
     }
 }
 
-// Skips a run before a value whose width its bytes say, and looks at them: returns the run after
-// it. It isn't compiled into the loop over the values, most of which have a width of their own.
+// Skips a run before a value that must be looked at, and looks at it: returns the run after it. It
+// isn't compiled into the loop over the values, most of which have a width of their own.
 fn look_after<R: Reader>(
     place: &mut R,
     encoding: Encoding,
@@ -95,32 +124,58 @@ fn look_after<R: Reader>(
     look(place, encoding, form)
 }
 
-// Skips one value after a run, and returns the run after it.
+// Adds the width of a value that isn't looked at to the run before it.
 #[inline(always)]
-fn skip_value<R: Reader>(
-    place: &mut R,
+fn widened<R: Reader>(
+    place: &R,
     encoding: Encoding,
     form: DwForm,
     run: u64,
+    width: u8,
 ) -> Result<u64, Error>
+    requires { Some width ≡ width_of (way_of encoding form.0) }
     ensures { (ways : List Way)
-        → skip_ways run (way_of encoding form.0 ∷ ways) (R.view place.old)
-        ≡ and_then result (λ more. skip_ways more ways (R.view place.new)) }
+        → skip_ways run (way_of encoding form.0 ∷ ways) (R.view place.now)
+        ≡ and_then result (λ more. skip_ways more ways (R.view place.now)) }
 {
-    match fixed_width(encoding, form) {
-        Some(width) => {
-            // There are fewer bytes than 64 bits count, so a longer run goes past the end.
-            let _bytes = place.as_bytes();
-            run.checked_add(u64::from(width))
-                .ok_or(Error::OffsetSumOverflow)
-        }
-        None => look_after(place, encoding, form, run),
+    // There are fewer bytes than 64 bits count, so a longer run goes past the end.
+    let _bytes = place.as_bytes();
+    run.checked_add(u64::from(width))
+        .ok_or(Error::OffsetSumOverflow)
+}
+
+// The run up to the first value that must be looked at, and the declarations from that one on. Most
+// values are skipped here, by one sum each.
+#[inline(always)]
+fn run_to_look<'a, R: Reader>(
+    place: &R,
+    encoding: Encoding,
+    specifications: &'a [AttributeSpecification],
+    run: u64,
+) -> Result<(u64, &'a [AttributeSpecification]), Error>
+    ensures run { skip_bytes_and_values run encoding (map attribute_view specifications.now)
+        (R.view place.now)
+        ≡ and_then result (λ f. skip_bytes_and_values f.0 encoding (map attribute_view f.1.now)
+        (R.view place.now)) }
+    ensures look { IfOk result (λ f. BeginsWithLook encoding (map attribute_view f.1.now)) }
+    ensures fewer { IfOk result (λ f. length f.1.now ≤ length specifications.now) }
+{
+    let mut run = run;
+    let mut left = specifications;
+    while let [specification, rest @ ..] = left {
+        let form = specification.form();
+        let Some(width) = fixed_width(encoding, form) else {
+            return Ok((run, left));
+        };
+        run = widened(place, encoding, form, run, width)?;
+        left = rest;
     }
+    Ok((run, left))
 }
 
 // Skips the values that declarations describe, and where it is refused leaves a reader that may
-// have moved. Compiled into its caller, as those are that call it: most values are skipped by one
-// sum each, and a call for each entry takes longer.
+// have moved. Compiled into its caller, as those are that call it: a call for each entry takes
+// longer.
 #[inline(always)]
 #[tactic(auto, unfolding(crate::specs::AttributeSkipping::skip_values))]
 fn skip_all<R: Reader>(
@@ -131,9 +186,10 @@ fn skip_all<R: Reader>(
     ensures { ReturnsAs (λ u. (u, R.view place.new)) result
         (skip_values encoding (map attribute_view specifications.now) (R.view place.old)) }
 {
-    let mut run = 0u64;
-    for specification in specifications {
-        run = skip_value(place, encoding, specification.form(), run)?;
+    let (mut run, mut left) = run_to_look(place, encoding, specifications, 0)?;
+    while let [specification, rest @ ..] = left {
+        let more = look_after(place, encoding, specification.form(), run)?;
+        (run, left) = run_to_look(place, encoding, rest, more)?;
     }
     skip_run(place, run)
 }

@@ -1,5 +1,5 @@
 //! The measures of reading units. Each goes over all of its bytes, and returns a checksum of what
-//! it reads.
+//! it reads. Each is code of its own, so that none depends on how the others are compiled.
 
 use crate::timing::mix;
 use gimli_core::{
@@ -31,6 +31,7 @@ fn abbreviations<R: Reader>(
 // ---- entries, read
 
 /// All entries of a unit, with the values of all attributes.
+#[inline(never)]
 pub fn read_all<R: Reader>(alloc: Global, info: R, abbrev: R) -> Result<u64, Error> {
     let unit = first_unit(info)?;
     let abbreviations = abbreviations(alloc, &unit, abbrev)?;
@@ -58,6 +59,7 @@ fn read_entry<R: Reader>(entries: &mut EntriesRaw<'_, R>, sum: u64) -> Result<u6
 }
 
 /// All entries of a unit, each read whole in place of the one before it.
+#[inline(never)]
 pub fn read_whole<R: Reader>(alloc: Global, info: R, abbrev: R) -> Result<u64, Error> {
     let unit = first_unit(info)?;
     let abbreviations = abbreviations(alloc, &unit, abbrev)?;
@@ -100,6 +102,7 @@ fn number_of<R: Reader>(attribute: &Attribute<R>) -> Result<u64, Error> {
 // ---- entries, skipped
 
 /// All entries of a unit, their attributes skipped.
+#[inline(never)]
 pub fn skip_all<R: Reader>(alloc: Global, info: R, abbrev: R) -> Result<u64, Error> {
     let unit = first_unit(info)?;
     let abbreviations = abbreviations(alloc, &unit, abbrev)?;
@@ -131,6 +134,7 @@ const ENCODING: Encoding = Encoding {
 };
 
 /// A number of lists of ranges, each by its index: the begins and ends of their ranges.
+#[inline(never)]
 pub fn ranges<R: Reader>(count: usize, nothing: R, lists: R, addresses: R) -> Result<u64, Error> {
     let lists = RangeLists::new(DebugRanges::from(nothing), DebugRngLists::from(lists));
     let addresses = DebugAddr::from(addresses);

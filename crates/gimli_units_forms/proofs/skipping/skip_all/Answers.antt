@@ -9,5 +9,5 @@ use Rattle.gimli_units_forms.proofs.skipping.skip_all.Goals as goal
 pub returns : goal.returns
 returns g c =
     let none_left = ap (λ ss. map (λ s. way_of c.args.encoding s.form) (map attribute_view ss))
-    (drop_all c.loop-specification.specification-index c.args.specifications.now (omega arith)) in
-    ReturnsAs-equal _ _ _ _ (sym (skip_ways-end _ _ _ none_left) ∙ c.loop-specification.invariant) c.skip_run.ensures
+    (drop_all 0 c.loop-left.left.now (omega (arith, c.in_default.len_below))) in
+    ReturnsAs-equal _ _ _ _ (sym (skip_ways-end _ _ _ none_left) ∙ c.loop-left.invariant.same) c.skip_run.ensures

@@ -6,4 +6,4 @@ use Rattle.gimli_units_entries.proofs.raw.EntriesRaw.read_attribute.Goals as goa
 pub invariant_of-self : goal.invariant_of-self
 invariant_of-self g c =
     IsWithin-with_left _ _ c.self.invariant
-    (Takes-fewer _ _ _ _ _ c.parse_attribute.ensures.value (AtMost-attribute _ _ _ _ (omega arith)))
+    (Takes-fewer _ _ _ _ _ c.parse_attribute_inline.ensures.value (AtMost-attribute _ _ _ _ (omega arith)))
