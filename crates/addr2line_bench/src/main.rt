@@ -23,7 +23,7 @@ mod stages;
 use crate::fault::Fault;
 use crate::image::Image;
 use crate::request::{ReaderKind, Request, Task, request_of};
-use crate::stages::{context_of, now, perform, report};
+use crate::stages::{now, perform, report};
 use addr2line_context::{Context, EndianBytes, EndianSlice, Error, RunTimeEndian};
 use std::alloc::Global;
 use std::process::ExitCode;
@@ -107,7 +107,7 @@ fn borrowed_context(
     image: &Image,
 ) -> Result<Context<EndianSlice<'_, RunTimeEndian>>, Error> {
     match image.borrowed(alloc) {
-        Ok(dwarf) => context_of(alloc, dwarf),
+        Ok(dwarf) => Context::from_dwarf(alloc, dwarf),
         Err(error) => Err(error),
     }
 }
@@ -118,7 +118,7 @@ fn shared_context(
     image: &Image,
 ) -> Result<Context<EndianBytes<RunTimeEndian>>, Error> {
     match image.shared(alloc) {
-        Ok(dwarf) => context_of(alloc, dwarf),
+        Ok(dwarf) => Context::from_dwarf(alloc, dwarf),
         Err(error) => Err(error),
     }
 }

@@ -3,10 +3,8 @@
 use crate::answers::Answers;
 use crate::fault::Fault;
 use crate::request::{Part, Question, Task};
-use addr2line_context::{
-    AbbreviationsCacheStrategy, Context, Dwarf, Error, LocationRangeIter, Reader,
-};
-use std::alloc::{AllocError, Global};
+use addr2line_context::{Context, Error, LocationRangeIter, Reader};
+use std::alloc::AllocError;
 use std::io;
 use std::io::Write;
 use std::rt::Runtime;
@@ -101,20 +99,6 @@ fn read_all<I: Reader>(context: &mut Context<I>, part: Part) -> Result<(), Error
         Part::Lines => context.parse_lines(),
         Part::Functions => context.parse_functions(),
         Part::Calls => context.parse_inlined_functions(),
-    }
-}
-
-// With tables of abbreviations that units share kept.
-fn with_tables<R: Reader>(alloc: Global, mut dwarf: Dwarf<R>) -> Result<Dwarf<R>, Error> {
-    dwarf.populate_abbreviations_cache(alloc, AbbreviationsCacheStrategy::Duplicates)?;
-    Ok(dwarf)
-}
-
-/// The context of a file's sections.
-pub fn context_of<R: Reader>(alloc: Global, dwarf: Dwarf<R>) -> Result<Context<R>, Error> {
-    match with_tables(alloc, dwarf) {
-        Ok(dwarf) => Context::from_dwarf(alloc, dwarf),
-        Err(error) => Err(error),
     }
 }
 

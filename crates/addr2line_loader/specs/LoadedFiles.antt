@@ -1,6 +1,6 @@
 -- What a file's bytes make: the image of an ELF file, its symbols, and the context over its
 -- sections of debugging information; or why they are refused.
-use Rattle.std.specs.Prelude.{ℕ, ◌==◌, nat_le, List, length, filter, count_by, Option, Some, None, Result, Ok, Err}
+use Rattle.std.specs.Prelude.{ℕ, List, length, Option, Some, None, Result, Ok, Err}
 use Rattle.addr2line_context.specs.Contexts.{FileContext, file_context}
 use Rattle.addr2line_context.specs.DwarfFiles.{DwarfFile}
 use Rattle.addr2line_context.specs.Error.{Error}
@@ -40,14 +40,10 @@ abbrev pub with_supplement_if_any : Option (List ℕ) → DwarfFile → Result D
 with_supplement_if_any None file = Ok file
 with_supplement_if_any (Some bytes) file = with_supplement_in bytes file
 
--- the numbers that are in a list twice or more
-abbrev pub duplicates : List ℕ → List ℕ
-duplicates ns = filter (λ n. nat_le 2 (count_by (λ m. m == n) ns)) ns
-
--- a file with the abbreviation tables that several of its units share
+-- a file with the abbreviation tables of its units, which share them
 abbrev pub with_shared_tables : DwarfFile → CachedFile
 with_shared_tables file =
-    cached_file file (tables_at (duplicates (table_offsets file)) file.sections.debug_abbrev)
+    cached_file file (tables_at (table_offsets file) file.sections.debug_abbrev)
 
 -- ---- files
 
@@ -67,7 +63,7 @@ context_over sections = do
   context ← or_load_error (file_context sections.file)
   Ok (record { sections = sections; context = context })
 
--- the context over a file's sections, with the tables that its units share
+-- the context over a file's sections, with the tables of its units
 abbrev pub shared_context : DwarfFile → Result SharedContext LoadError
 shared_context file = context_over (with_shared_tables file)
 

@@ -89,7 +89,7 @@ impl Loader {
     }
 
     /// The file's sections of debugging information, which the context shares. Their cache has the
-    /// abbreviation tables that two units or more name, each once.
+    /// abbreviation tables of the file's units, each once.
     pub fn sections(&self) -> &Rc<Dwarf<ImageReader>>
         ensures { result.now.value ≡ self.now.file.sections }
     {

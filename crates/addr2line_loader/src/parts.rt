@@ -97,7 +97,7 @@ fn context_with(
     }
 }
 
-// The context over a file's sections, which are kept with the tables that their units share.
+// The context over a file's sections, which are kept with the abbreviation tables of their units.
 fn shared_context<R: Reader>(
     alloc: Global,
     sections: Dwarf<R>,
@@ -115,12 +115,13 @@ fn shared_context<R: Reader>(
     }
 }
 
-// Reads the abbreviation tables that several of a file's units share, once each, and keeps them.
+// Reads the abbreviation tables of a file's units, once each, and keeps them, so that units share
+// what their tables have in common.
 fn share_tables<R: Reader>(alloc: Global, dwarf: &mut Dwarf<R>) -> Result<(), Error>
     ensures tables { OnOk result (dwarf.new ≡ with_shared_tables dwarf.old.file) }
     ensures memory { IfErr result (λ e. e ≡ Memory) }
 {
-    dwarf.populate_abbreviations_cache(alloc, AbbreviationsCacheStrategy::Duplicates)
+    dwarf.populate_abbreviations_cache(alloc, AbbreviationsCacheStrategy::All)
 }
 
 // The context over sections, which shares them.

@@ -220,6 +220,55 @@ fn is_set(alloc: Global, bytes: &'static [u8]) -> Result<bool, Error> {
     Ok(found.get(1).is_some())
 }
 
+// A table of the codes 1, 2 and 7, whose declarations begin at 0, 5 and 10, and its end.
+const TAILS: [u8; 16] = [1, 0x11, 0, 0, 0, 2, 0x24, 0, 0, 0, 7, 0x34, 0, 0, 0, 0];
+
+// A cache of the tables of all these offsets.
+fn cache_of(
+    alloc: Global,
+    bytes: &'static [u8],
+    places: &[usize],
+) -> Result<AbbreviationsCache, Error> {
+    let mut offsets = Vec::new(alloc);
+    for place in places {
+        offsets.push(Ok(DebugAbbrevOffset(*place)))?;
+    }
+    let section = DebugAbbrev::new(bytes, LittleEndian);
+    let mut cache = AbbreviationsCache::new(alloc);
+    let all = AbbreviationsCacheStrategy::All;
+    cache.populate(alloc, all, &section, offsets.into_iter())?;
+    Ok(cache)
+}
+
+// Which of the codes 1, 2 and 7 a cached table has.
+fn codes_at(
+    alloc: Global,
+    cache: &AbbreviationsCache,
+    place: usize,
+) -> Result<(bool, bool, bool), Error> {
+    let empty = DebugAbbrev::new(&[], LittleEndian);
+    let table = cache.get(alloc, &empty, DebugAbbrevOffset(place))?;
+    Ok((
+        table.get(1).is_some(),
+        table.get(2).is_some(),
+        table.get(7).is_some(),
+    ))
+}
+
+// A table that begins inside another one has the declarations from there on. One that begins
+// inside a declaration is read by itself, and here refused.
+#[test]
+fn a_cache_has_the_tails_of_a_table(rt: HostRuntime) -> Result<(), Fail> {
+    let cache = cache_of(rt.alloc(), &TAILS, &[15, 10, 0, 5, 6])?;
+    assert_eq!(rt; codes_at(rt.alloc(), &cache, 0)?, (true, true, true));
+    assert_eq!(rt; codes_at(rt.alloc(), &cache, 5)?, (false, true, true));
+    assert_eq!(rt; codes_at(rt.alloc(), &cache, 10)?, (false, false, true));
+    assert_eq!(rt; codes_at(rt.alloc(), &cache, 15)?, (false, false, false));
+    let inside = codes_at(rt.alloc(), &cache, 6);
+    assert_eq!(rt; inside, Err(Error::AbbreviationTagZero));
+    Ok(())
+}
+
 #[test]
 fn a_cache_has_the_tables_that_are_asked_for(rt: HostRuntime) -> Result<(), Fail> {
     let (all, duplicates) = (

@@ -113,7 +113,7 @@ value_and_count x k = Ok (x, k)
 length_is : {A : Type 0} (x y : A) (m k : ℕ) → value_and_count x m ≡ value_and_count y k → m ≡ k
 length_is {A} x y m k e = let is : (x, m) ≡ (y, k) = cc in ap (λ (p : A × ℕ). p.1) is
 
-unsigned_fits : (bound limit : ℕ) (bytes : List ℕ) (x k : ℕ) → unsigned_at limit bound bytes ≡ Ok (x, k)
+pub unsigned_fits : (bound limit : ℕ) (bytes : List ℕ) (x k : ℕ) → unsigned_at limit bound bytes ≡ Ok (x, k)
     → k ≤ length bytes
 unsigned_fits bound limit bytes x k e = judgement (bounded_string limit bytes) refl e
   where
@@ -127,7 +127,7 @@ unsigned_fits bound limit bytes x k e = judgement (bounded_string limit bytes) r
         cases true g = rw (← length_is (unsigned_number s) x (length s) k g) (judged_fits_in limit bytes s is).fits
         cases false g = absurd cc
 
-signed_fits : (bytes : List ℕ) (x : ℤ) (k : ℕ) → signed_at bytes ≡ Ok (x, k) → k ≤ length bytes
+pub signed_fits : (bytes : List ℕ) (x : ℤ) (k : ℕ) → signed_at bytes ≡ Ok (x, k) → k ≤ length bytes
 signed_fits bytes x k e = judgement (bounded_string 10 bytes) refl e
   where
     judgement : (r : Result (List ℕ) Fault) → bounded_string 10 bytes ≡ r → signed_of r ≡ value_and_count x k

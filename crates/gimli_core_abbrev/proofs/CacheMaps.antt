@@ -17,8 +17,8 @@ use Rattle.gimli_core_abbrev.specs.declared.table.Abbreviations.{Abbreviations}
 use Rattle.gimli_core_abbrev.specs.Declarations.{Declaration}
 use Rattle.gimli_core_abbrev.specs.TableCache.{TablesByOffset, AreTablesOf, table_view, cached_view, tables_at, chosen_offsets, chosen_tables}
 use Rattle.gimli_core_abbrev.specs.TableParsing.{table_at}
-use Rattle.gimli_core_abbrev.proofs.TableInsertion.{key_test}
-use Rattle.gimli_core_abbrev.proofs.RepeatedOffsets.{among, times_among, among_times, place_test}
+use Rattle.gimli_core_abbrev.proofs.DeclarationPlaces.{key_test, place_test}
+use Rattle.gimli_core_abbrev.proofs.RepeatedOffsets.{among, times_among, among_times}
 
 abbrev CachedTable : Type 0
 CachedTable = Result (Rc Abbreviations Global) Error

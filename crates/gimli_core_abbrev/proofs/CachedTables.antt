@@ -12,7 +12,8 @@ use Rattle.gimli_core_readers.specs.Calls.{ReturnsOrNoMemory}
 use Rattle.gimli_core_abbrev.specs.declared.table.Abbreviations.{Abbreviations}
 use Rattle.gimli_core_abbrev.specs.Declarations.{Declaration}
 use Rattle.gimli_core_abbrev.specs.TableCache.{table_view}
-use Rattle.gimli_core_abbrev.proofs.RepeatedOffsets.{among, among-push, same_among, place_test}
+use Rattle.gimli_core_abbrev.proofs.RepeatedOffsets.{among, among-push, same_among}
+use Rattle.gimli_core_abbrev.proofs.DeclarationPlaces.{place_test}
 
 abbrev refusal : Error → Result (List Declaration) Error
 refusal e = Err e

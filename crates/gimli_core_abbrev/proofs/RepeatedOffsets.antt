@@ -1,14 +1,14 @@
 -- Offsets of a list, and those that occur twice or more.
-use Rattle.std.proofs.Common.{◌≡◌, ℕ, ◌+◌, ◌<◌, ◌≤◌, Bool, true, false, cond, ◌||◌, eqb, leb, List, [], ◌∷◌, ◌++◌, length, map, take, get_or, count_by, refl, sym, ap, ◌∙◌, inl, inr, arith}
+use Rattle.std.proofs.Common.{◌≡◌, ℕ, ◌+◌, ◌<◌, ◌≤◌, Bool, true, false, cond, ◌||◌, eqb, leb, List, [], ◌∷◌, ◌++◌, length, map, take, get_or, count_by, refl, sym, ap, ◌∙◌, arith}
 use Rattle.std.specs.List.{list_any}
 use Rattle.std.specs.Ordering.{nat_cmp}
 use Rattle.std.specs.BTreeMap.{is_at}
 use Rattle.std.proofs.Math.Bool.{or-false, or-true}
-use Rattle.std.proofs.lemmas.Bool.{cases_eq, eqb-true, eq-eqb, ne_eqb, le-leb, lt-leb, leb-true, leb-false}
+use Rattle.std.proofs.lemmas.Bool.{eqb-true, le-leb, lt-leb, leb-true, leb-false}
 use Rattle.std.proofs.lemmas.List.{take_more, map-append}
 use Rattle.std.proofs.lemmas.List.Folds.{list_any-append}
 use Rattle.std.proofs.lemmas.List.Sums.{sum_by-append}
-use Rattle.gimli_core_abbrev.proofs.TableInsertion.{key_test}
+use Rattle.gimli_core_abbrev.proofs.DeclarationPlaces.{place_test}
 
 -- the offset is among these
 abbrev pub among : ℕ → List ℕ → Bool
@@ -51,16 +51,6 @@ among_times offset (p ∷ places) =
 
 pub same_among : (offset c : ℕ) (places : List ℕ) → eqb c offset ≡ true → among c places ≡ among offset places
 same_among offset c places e = ap (λ (x : ℕ). among x places) (eqb-true c offset e)
-
-eqb_swap : (a b : ℕ) → eqb a b ≡ eqb b a
-eqb_swap a b = elim (cases_eq a b) [
-  | inl same ↦ eq-eqb a b same ∙ sym (eq-eqb b a (sym same))
-  | inr other ↦ ne_eqb a b other ∙ sym (ne_eqb b a (λ e. other (sym e)))
-]
-
--- a key of a map is compared with a place as the numbers are
-pub place_test : (a b : ℕ) → is_at (nat_cmp a) b ≡ eqb a b
-place_test a b = key_test a b ∙ eqb_swap b a
 
 -- ---- once
 

@@ -1,8 +1,8 @@
 -- What bytes after a section change of a table that is in it.
-use Rattle.std.proofs.Common.{◌≡◌, ◌≢◌, ◌⊎◌, ℕ, zero, suc, ◌+◌, ◌<◌, ◌≤◌, Bool, true, false, cond, ◌||◌, eqb, ltb, is_some, subst, List, [], ◌∷◌, ◌++◌, length, Option, Some, None, Result, Ok, Err, refl, sym, ap, ◌∙◌, inl, inr, arith, append_assoc, append-nil}
+use Rattle.std.proofs.Common.{◌≡◌, ◌≢◌, ◌⊎◌, ℕ, zero, suc, ◌+◌, ◌<◌, ◌≤◌, Bool, true, false, cond, eqb, subst, List, [], ◌∷◌, ◌++◌, length, Option, Some, None, Result, Ok, Err, refl, sym, ap, ◌∙◌, inl, inr, arith, append_assoc, append-nil}
 use Rattle.std.specs.Prelude.{◌^◌, IsOk, IsErr, is_ok}
 use Rattle.std.specs.Result.{is_err}
-use Rattle.std.proofs.lemmas.Bool.{cases_lt, lt-ltb, le-ltb, eqb-true, eqb-false}
+use Rattle.std.proofs.lemmas.Bool.{cases_lt, lt-ltb, le-ltb}
 use Rattle.std.proofs.lemmas.List.{length-append}
 use Rattle.gimli_core_readers.specs.ReaderOffsetId.{ReaderOffsetId}
 use Rattle.gimli_core_readers.specs.Error.{Error}
@@ -13,11 +13,11 @@ use Rattle.gimli_core_readers.specs.Repetition.{Listing, no_items, prepend, next
 use Rattle.gimli_core_readers.proofs.Listings.{Shrinks, listing_next, item_smaller}
 use Rattle.gimli_core_readers.specs.Leb128.{unsigned_at}
 use Rattle.gimli_core_readers.specs.NumberParsers.{number_and_rest, unsigned}
-use Rattle.gimli_core_abbrev.specs.Declarations.{Declaration, declaration_at, has_code, put, put_all, by_code, repeated_after, repeated_code}
+use Rattle.gimli_core_abbrev.specs.Declarations.{Declaration, declaration_at, has_code, by_code, repeated_after, repeated_code}
 use Rattle.gimli_core_abbrev.specs.TableParsing.{implicit_const, attribute_of, attribute, attributes, children, declaration_of, coded_declaration, unless_ended, declaration, distinct, table, table_at}
 use Rattle.gimli_core_abbrev.specs.TableLaws.{with_more_bytes, table_to_0_at, IsEndedBySection}
 use Rattle.gimli_core_abbrev.proofs.DeclarationSizes.{attributes-shrink, coded-shrinks, declarations-shrink}
-use Rattle.gimli_core_abbrev.proofs.TableCollection.{has_code-put, none_there, none_later}
+use Rattle.gimli_core_abbrev.proofs.TableCollection.{found_by_code}
 use Rattle.gimli_core_abbrev.proofs.AppendedBytes.{NotCut, Stays, Stays-whole, stays, listing-stays, ending_with, listing_with, after-more}
 
 -- ---- a declaration
@@ -357,57 +357,6 @@ ends_as_code_0 offset section more ended_there = elim (cases_lt (length section.
 
 -- ---- what a code finds
 
-found_put : (code : ℕ) (d : Declaration) (ds : List Declaration) → declaration_at d.code ds ≡ None
-    → declaration_at code (put d ds) ≡ cond (eqb d.code code) (Some d) (declaration_at code ds)
-found_put code d [] absent = refl
-found_put code d (e ∷ ds) absent =
-    let other = none_later (eqb e.code d.code) e (declaration_at d.code ds) absent in
-    by_place (ltb d.code e.code) (found_put code d ds other.1)
-    (λ p q. eqb-false e.code d.code other.0 (eqb-true e.code code q ∙ sym (eqb-true d.code code p)))
-  where
-    swap_conds : (a b : Bool) (o : Option Declaration) → (a ≡ true → b ≡ true → ⊥)
-        → cond b (Some e) (cond a (Some d) o) ≡ cond a (Some d) (cond b (Some e) o)
-    swap_conds true true o never = absurd (never refl refl)
-    swap_conds true false o never = refl
-    swap_conds false true o never = refl
-    swap_conds false false o never = refl
-
-    by_place : (b : Bool) → declaration_at code (put d ds) ≡ cond (eqb d.code code) (Some d) (declaration_at code ds)
-        → (eqb d.code code ≡ true → eqb e.code code ≡ true → ⊥)
-        → declaration_at code (cond b (d ∷ e ∷ ds) (e ∷ put d ds))
-        ≡ cond (eqb d.code code) (Some d) (declaration_at code (e ∷ ds))
-    by_place true rest never = refl
-    by_place false rest never = ap (λ (o : Option Declaration). cond (eqb e.code code) (Some e) o) rest
-        ∙ swap_conds (eqb d.code code) (eqb e.code code) (declaration_at code ds) never
-
--- one, else the other
-abbrev first_of : Option Declaration → Option Declaration → Option Declaration
-first_of (Some d) o = Some d
-first_of None o = o
-
-found_put_all : (code : ℕ) (before so_far ds : List Declaration)
-    → ((c : ℕ) → is_some (declaration_at c so_far) ≡ has_code c before) → repeated_after before ds ≡ None
-    → declaration_at code (put_all so_far ds) ≡ first_of (declaration_at code so_far) (declaration_at code ds)
-found_put_all code before so_far [] same once = end (declaration_at code so_far)
-  where
-    end : (o : Option Declaration) → o ≡ first_of o None
-    end (Some d) = refl
-    end None = refl
-found_put_all code before so_far (d ∷ ds) same once =
-    let here = none_later (has_code d.code before) d.code (repeated_after (d ∷ before) ds) once in
-    let absent : declaration_at d.code so_far ≡ None =
-    none_there (declaration_at d.code so_far) (same d.code ∙ here.0) in
-    found_put_all code (d ∷ before) (put d so_far) ds
-    (λ c. has_code-put c d so_far ∙ ap (λ (b : Bool). eqb d.code c || b) (same c)) here.1
-    ∙ ap (λ (o : Option Declaration). first_of o (declaration_at code ds)) (found_put code d so_far absent)
-    ∙ by_test (eqb d.code code) (λ p. subst (λ (c : ℕ). declaration_at c so_far ≡ None) (eqb-true d.code code p) absent)
-  where
-    by_test : (b : Bool) → (b ≡ true → declaration_at code so_far ≡ None)
-        → first_of (cond b (Some d) (declaration_at code so_far)) (declaration_at code ds)
-        ≡ first_of (declaration_at code so_far) (cond b (Some d) (declaration_at code ds))
-    by_test true none = sym (ap (λ (o : Option Declaration). first_of o (Some d)) (none refl))
-    by_test false none = refl
-
 found_in : (code : ℕ) (l : Listing View Declaration) (ds : List Declaration) → answer l ≡ Ok ds
     → declaration_at code ds ≡ declaration_at code l.items
 found_in code l ds made = cases (repeated_code l.items) l.ending refl made
@@ -420,7 +369,7 @@ found_in code l ds made = cases (repeated_code l.items) l.ending refl made
     cases (Some c) r e h = absurd cc
     cases None (Err d) e h = absurd cc
     cases None (Ok w) e h = ap (declaration_at code) (sym (table_is (by_code l.items) ds h))
-        ∙ found_put_all code [] [] l.items (λ c. refl) e
+        ∙ found_by_code code l.items e
 
 pub finds_in_byte_order : (offset code : ℕ) (section : View) (ds : List Declaration) → table_at offset section ≡ Ok ds
     → declaration_at code ds ≡ declaration_at code (all (after offset section)).items

@@ -1,18 +1,19 @@
 -- The table that a loop over the declarations collects.
-use Rattle.std.proofs.Common.{◌≡◌, ℕ, ◌<◌, Bool, true, false, cond, ◌||◌, eqb, ltb, List, [], ◌∷◌, ◌++◌, Option, Some, None, is_some, option_map, Result, Ok, Err, refl, sym, ap, ◌∙◌, arith, append_assoc}
+use Rattle.std.proofs.Common.{◌≡◌, ℕ, ◌<◌, Bool, true, false, cond, ◌||◌, eqb, ltb, List, [], ◌∷◌, ◌++◌, Option, Some, None, is_some, option_map, Result, Ok, Err, refl, sym, ap, subst, ◌∙◌, arith, append_assoc}
 use Rattle.std.proofs.Math.Bool.{or-false}
-use Rattle.std.proofs.lemmas.Bool.{eqb-false}
+use Rattle.std.proofs.lemmas.Bool.{eqb-true, eqb-false}
 use Rattle.std.proofs.lemmas.List.{append-nil}
 use Rattle.gimli_core_readers.specs.Error.{Error}
 use Rattle.gimli_core_readers.specs.Error.TheVariants.{DuplicateAbbreviationCode}
 use Rattle.gimli_core_readers.specs.View.{View, bytes_left}
 use Rattle.gimli_core_readers.specs.Parsers.{Step, ◌>>=◌, proceed, give, branch}
-use Rattle.gimli_core_readers.specs.Repetition.{prepend, listing_in}
+use Rattle.gimli_core_readers.specs.Repetition.{Listing, prepend, listing_in, whole}
 use Rattle.gimli_core_readers.proofs.StepParts.{begins, value_is}
 use Rattle.gimli_core_readers.proofs.Listings.{listing_item, listing_end, listing_fault}
 use Rattle.gimli_core_readers.specs.NumberParsers.{unsigned}
 use Rattle.gimli_core_abbrev.specs.Declarations.{Declaration, declaration_at, has_code, put, put_all, by_code, repeated_after, repeated_code}
-use Rattle.gimli_core_abbrev.specs.TableParsing.{declaration_of, coded_declaration, unless_ended, declaration, table_of, table}
+use Rattle.gimli_core_abbrev.specs.TableParsing.{declaration_of, coded_declaration, unless_ended, declaration, distinct, table}
+use Rattle.gimli_core_abbrev.specs.TableLayout.{listed}
 use Rattle.gimli_core_abbrev.proofs.DeclarationSizes.{declarations-shrink}
 
 -- ---- codes
@@ -106,34 +107,112 @@ pub repeated_push : (ds : List Declaration) (d : Declaration) → repeated_code 
     → declaration_at d.code (by_code ds) ≡ None → repeated_code (ds ++ d ∷ []) ≡ None
 repeated_push ds d once absent = repeated_further [] ds d once (sym (has_code-by_code d.code ds) ∙ ap is_some absent)
 
+-- ---- what a code finds
+
+found_put : (code : ℕ) (d : Declaration) (ds : List Declaration) → declaration_at d.code ds ≡ None
+    → declaration_at code (put d ds) ≡ cond (eqb d.code code) (Some d) (declaration_at code ds)
+found_put code d [] absent = refl
+found_put code d (e ∷ ds) absent =
+    let other = none_later (eqb e.code d.code) e (declaration_at d.code ds) absent in
+    by_place (ltb d.code e.code) (found_put code d ds other.1)
+    (λ p q. eqb-false e.code d.code other.0 (eqb-true e.code code q ∙ sym (eqb-true d.code code p)))
+  where
+    swap_conds : (a b : Bool) (o : Option Declaration) → (a ≡ true → b ≡ true → ⊥)
+        → cond b (Some e) (cond a (Some d) o) ≡ cond a (Some d) (cond b (Some e) o)
+    swap_conds true true o never = absurd (never refl refl)
+    swap_conds true false o never = refl
+    swap_conds false true o never = refl
+    swap_conds false false o never = refl
+
+    by_place : (b : Bool) → declaration_at code (put d ds) ≡ cond (eqb d.code code) (Some d) (declaration_at code ds)
+        → (eqb d.code code ≡ true → eqb e.code code ≡ true → ⊥)
+        → declaration_at code (cond b (d ∷ e ∷ ds) (e ∷ put d ds))
+        ≡ cond (eqb d.code code) (Some d) (declaration_at code (e ∷ ds))
+    by_place true rest never = refl
+    by_place false rest never = ap (λ (o : Option Declaration). cond (eqb e.code code) (Some e) o) rest
+        ∙ swap_conds (eqb d.code code) (eqb e.code code) (declaration_at code ds) never
+
+-- one, else the other
+abbrev first_of : Option Declaration → Option Declaration → Option Declaration
+first_of (Some d) o = Some d
+first_of None o = o
+
+found_put_all : (code : ℕ) (before so_far ds : List Declaration)
+    → ((c : ℕ) → is_some (declaration_at c so_far) ≡ has_code c before) → repeated_after before ds ≡ None
+    → declaration_at code (put_all so_far ds) ≡ first_of (declaration_at code so_far) (declaration_at code ds)
+found_put_all code before so_far [] same once = end (declaration_at code so_far)
+  where
+    end : (o : Option Declaration) → o ≡ first_of o None
+    end (Some d) = refl
+    end None = refl
+found_put_all code before so_far (d ∷ ds) same once =
+    let here = none_later (has_code d.code before) d.code (repeated_after (d ∷ before) ds) once in
+    let absent : declaration_at d.code so_far ≡ None =
+    none_there (declaration_at d.code so_far) (same d.code ∙ here.0) in
+    found_put_all code (d ∷ before) (put d so_far) ds
+    (λ c. has_code-put c d so_far ∙ ap (λ (b : Bool). eqb d.code c || b) (same c)) here.1
+    ∙ ap (λ (o : Option Declaration). first_of o (declaration_at code ds)) (found_put code d so_far absent)
+    ∙ by_test (eqb d.code code) (λ p. subst (λ (c : ℕ). declaration_at c so_far ≡ None) (eqb-true d.code code p) absent)
+  where
+    by_test : (b : Bool) → (b ≡ true → declaration_at code so_far ≡ None)
+        → first_of (cond b (Some d) (declaration_at code so_far)) (declaration_at code ds)
+        ≡ first_of (declaration_at code so_far) (cond b (Some d) (declaration_at code ds))
+    by_test true none = sym (ap (λ (o : Option Declaration). first_of o (Some d)) (none refl))
+    by_test false none = refl
+
+-- the same by the codes as in order
+pub found_by_code : (code : ℕ) (ds : List Declaration) → repeated_code ds ≡ None
+    → declaration_at code (by_code ds) ≡ declaration_at code ds
+found_by_code code ds once = found_put_all code [] [] ds (λ c. refl) once
+
 -- ---- a loop that began at v, has read ds and is at w
 
-pub table_fault : (ds : List Declaration) (v w : View) (e : Error)
+abbrev list_of : Listing View Declaration → Result (List Declaration × View) Error
+list_of l = distinct (repeated_code l.items) (whole l)
+
+pub list_fault : (ds : List Declaration) (v w : View) (e : Error)
     → prepend ds (listing_in bytes_left declaration w) ≡ listing_in bytes_left declaration v → repeated_code ds ≡ None
-    → declaration w ≡ Err e → table v ≡ Err e
-unfolding table
-table_fault ds v w e same once fault =
-    ap table_of (sym same ∙ ap (prepend ds) (listing_fault declarations-shrink w e fault))
+    → declaration w ≡ Err e → listed v ≡ Err e
+unfolding listed
+list_fault ds v w e same once fault =
+    ap list_of (sym same ∙ ap (prepend ds) (listing_fault declarations-shrink w e fault))
     ∙ rw (append-nil ds, once) refl
 
-pub table_end : (ds : List Declaration) (v w u : View) → prepend ds (listing_in bytes_left declaration w)
+pub list_end : (ds : List Declaration) (v w u : View) → prepend ds (listing_in bytes_left declaration w)
     ≡ listing_in bytes_left declaration v → repeated_code ds ≡ None → declaration w ≡ Ok (None, u)
-    → table v ≡ Ok (by_code ds, u)
-unfolding table
-table_end ds v w u same once end =
-    ap table_of (sym same ∙ ap (prepend ds) (listing_end declarations-shrink w u end)) ∙ rw (append-nil ds, once) refl
+    → listed v ≡ Ok (ds, u)
+unfolding listed
+list_end ds v w u same once end =
+    ap list_of (sym same ∙ ap (prepend ds) (listing_end declarations-shrink w u end)) ∙ rw (append-nil ds, once) refl
 
-pub table_repeated : (ds : List Declaration) (d : Declaration) (v w u : View)
+pub list_repeated : (ds : List Declaration) (d : Declaration) (v w u : View)
     → prepend ds (listing_in bytes_left declaration w) ≡ listing_in bytes_left declaration v → repeated_code ds ≡ None
     → declaration w ≡ Ok (Some d, u) → is_some (declaration_at d.code (by_code ds)) ≡ true
-    → table v ≡ Err (DuplicateAbbreviationCode d.code)
-unfolding table
-table_repeated ds d v w u same once item twice =
+    → listed v ≡ Err (DuplicateAbbreviationCode d.code)
+unfolding listed
+list_repeated ds d v w u same once item twice =
     let rest = listing_in bytes_left declaration u in
     let items : repeated_code ((ds ++ d ∷ []) ++ rest.items) ≡ Some d.code =
     ap repeated_code (append_assoc ds (d ∷ []) rest.items)
     ∙ repeated_first [] ds rest.items d once (sym (has_code-by_code d.code ds) ∙ twice) in
-    ap table_of (sym same ∙ listing_item declarations-shrink ds d w u item) ∙ rw items refl
+    ap list_of (sym same ∙ listing_item declarations-shrink ds d w u item) ∙ rw items refl
+
+-- a table is its list by the codes
+by_codes : (o : Option ℕ) (r : Result (List Declaration × View) Error)
+    → distinct o (proceed r (λ ds. give (by_code ds))) ≡ proceed (distinct o r) (λ ds. give (by_code ds))
+by_codes (Some code) r = refl
+by_codes None r = refl
+
+pub table_listed : (v : View) → table v ≡ proceed (listed v) (λ ds. give (by_code ds))
+unfolding table listed
+table_listed v =
+    by_codes (repeated_code (listing_in bytes_left declaration v).items) (whole (listing_in bytes_left declaration v))
+
+pub table_refused : (v : View) (e : Error) → listed v ≡ Err e → table v ≡ Err e
+table_refused v e h = table_listed v ∙ ap (λ r. proceed r (λ ds. give (by_code ds))) h
+
+pub table_is : (v u : View) (ds : List Declaration) → listed v ≡ Ok (ds, u) → table v ≡ Ok (by_code ds, u)
+table_is v u ds h = table_listed v ∙ ap (λ r. proceed r (λ ds. give (by_code ds))) h
 
 pub listing_further : (ds : List Declaration) (d : Declaration) (v w u : View)
     → prepend ds (listing_in bytes_left declaration w) ≡ listing_in bytes_left declaration v

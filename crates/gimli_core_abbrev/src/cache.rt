@@ -15,6 +15,7 @@ ghost use Rattle.gimli_core_abbrev.specs.TableParsing.{table_at};
 
 use crate::section::DebugAbbrev;
 use crate::table::Abbreviations;
+use crate::tails::next_table;
 use gimli_core_readers::{DebugAbbrevOffset, Error, Reader, ReaderOffset};
 use std::alloc::Global;
 use std::collections::{BTreeMap, BTreeSet};
@@ -70,7 +71,9 @@ impl AbbreviationsCache {
     }
 
     /// Reads the tables of a section at these offsets, in place of those before. A fault among the
-    /// offsets ends them. Out of memory, nothing changes.
+    /// offsets ends them. Out of memory, nothing changes. Tables that begin at the declarations of
+    /// one list are tails of it and share them: all of them take the list's memory, and time for
+    /// reading it twice and for sorting the offsets. Those that are refused are read one by one.
     pub fn populate<R, I>(
         &mut self,
         alloc: Global,
@@ -93,7 +96,7 @@ impl AbbreviationsCache {
         ensures err { IfErr result (λ e. (e ≡ Memory) × (self.new ≡ self.old)) }
     {
         let offsets = offsets_of(alloc, offsets)?;
-        let chosen = chosen_of(alloc, strategy, offsets)?;
+        let chosen = ascending(chosen_of(alloc, strategy, offsets)?);
         let tables = tables_of(alloc, section, &chosen)?;
         self.tables = tables;
         Ok(())
@@ -226,7 +229,18 @@ fn repeated_of<O: ReaderOffset>(
     Ok(repeated)
 }
 
-// The tables at these offsets.
+// The same offsets, in ascending order.
+fn ascending<O: ReaderOffset>(offsets: Vec<DebugAbbrevOffset<O>>) -> Vec<DebugAbbrevOffset<O>>
+    ensures { (offset : ℕ) → list_any (λ o. o == offset) (map (λ o. O.count o.0) result.items)
+        ≡ list_any (λ o. o == offset) (map (λ o. O.count o.0) offsets.items) }
+{
+    let mut offsets = offsets;
+    offsets.sort_unstable_by_key(|offset| offset.0.into_u64());
+    offsets
+}
+
+// The tables at these offsets. Where they ascend, a table that is a tail of another one shares its
+// declarations.
 fn tables_of<R: Reader>(
     alloc: Global,
     section: &DebugAbbrev<R>,
@@ -239,12 +253,13 @@ fn tables_of<R: Reader>(
     ensures err { IfErr result (λ e. e ≡ Memory) }
 {
     let mut tables = BTreeMap::new(alloc);
+    let mut last = None;
     for offset in offsets {
         let place = offset.0.into_u64();
         if tables.contains_key(&place) {
             continue;
         }
-        let table = cached_table(alloc, section, *offset)?;
+        let table = next_table(alloc, section, *offset, &mut last)?;
         put_table(&mut tables, place, table)?;
     }
     Ok(tables)
@@ -263,29 +278,4 @@ fn put_table(
 {
     tables.insert(place, table)?;
     Ok(())
-}
-
-// The table at an offset or why it can't be read, for the cache.
-fn cached_table<R: Reader>(
-    alloc: Global,
-    section: &DebugAbbrev<R>,
-    offset: DebugAbbrevOffset<R::Offset>,
-) -> Result<CachedTable, Error>
-    ensures ok { IfOk result (λ entry. table_view entry ≡ table_at (R.Offset.count offset.0)
-        section.now) }
-    ensures err { IfErr result (λ e. e ≡ Memory) }
-{
-    shared_table(alloc, section.abbreviations(alloc, offset))
-}
-
-// A table to share, or the fault of one that can't be read. Out of memory is returned.
-fn shared_table(alloc: Global, table: Result<Abbreviations, Error>) -> Result<CachedTable, Error>
-    ensures ok { IfOk result (λ entry. (table_view entry ≡ table) × (table ≢ Err Memory)) }
-    ensures err { IfErr result (λ e. e ≡ Memory) }
-{
-    match table {
-        Ok(abbreviations) => Ok(Ok(Rc::new(alloc, abbreviations)?)),
-        Err(Error::Memory) => Err(Error::Memory),
-        Err(error) => Ok(Err(error)),
-    }
 }

@@ -6,6 +6,7 @@ pub mod cache;
 pub mod laws;
 pub mod section;
 pub mod table;
+mod tails;
 
 pub use abbreviation::{Abbreviation, AttributeSpecification};
 pub use cache::{AbbreviationsCache, AbbreviationsCacheStrategy};

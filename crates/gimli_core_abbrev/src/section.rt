@@ -2,7 +2,8 @@
 
 ghost use Rattle.std.specs.Prelude.{◌≡◌};
 ghost use Rattle.std.specs.Fn.{FnOnceReturnsAt};
-ghost use Rattle.gimli_core_readers.specs.Calls.{ReturnsOrNoMemory};
+ghost use Rattle.gimli_core_readers.specs.Calls.{ReturnsOrNoMemory, ReturnsAsOrNoMemory};
+ghost use Rattle.gimli_core_readers.specs.Parsers.{skip};
 ghost use Rattle.gimli_core_abbrev.specs.TableParsing.{table_at};
 
 use crate::table::{self, Abbreviations};
@@ -84,8 +85,17 @@ impl<R: Reader> DebugAbbrev<R> {
     ) -> Result<Abbreviations, Error>
         ensures { ReturnsOrNoMemory result (table_at (R.Offset.count offset.0) self.now) }
     {
+        let mut input = self.input_at(offset)?;
+        table::parse(alloc, &mut input)
+    }
+
+    // The bytes from an offset on.
+    pub(crate) fn input_at(&self, offset: DebugAbbrevOffset<R::Offset>) -> Result<R, Error>
+        ensures { ReturnsAsOrNoMemory (λ input. (tt, R.view input)) result
+            (skip (R.Offset.count offset.0) self.now) }
+    {
         let mut input = self.section.copy()?;
         input.skip(offset.0)?;
-        table::parse(alloc, &mut input)
+        Ok(input)
     }
 }

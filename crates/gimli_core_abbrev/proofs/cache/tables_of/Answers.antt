@@ -17,11 +17,14 @@ loop-offset-preserved-then-contains_key g c =
     c.loop-offset-test.true in
     let there = ap (λ (k : ℕ). is_some (get nat_cmp c.loop-offset.tables k)) (sym c.into_u64-place.ensures.value)
     ∙ sym c.contains_key.ensures ∙ c.if-contains_key.true in
-    λ offset.
-    tables_same offset (place x) before tables (get nat_cmp c.loop-offset.tables (place x))
-    (get nat_cmp c.loop-offset.tables offset)
-    there (c.loop-offset.invariant (place x)) (c.loop-offset.invariant offset)
-    ∙ ap (λ (ps : List ℕ). cond (among offset ps) (Some (tables offset)) None) (sym more)
+    record {
+      tables = λ offset.
+          tables_same offset (place x) before tables (get nat_cmp c.loop-offset.tables (place x))
+          (get nat_cmp c.loop-offset.tables offset)
+          there (c.loop-offset.invariant.tables (place x)) (c.loop-offset.invariant.tables offset)
+          ∙ ap (λ (ps : List ℕ). cond (among offset ps) (Some (tables offset)) None) (sym more);
+      last = c.loop-offset.invariant.last;
+    }
 
 pub loop-offset-preserved : goal.loop-offset-preserved
 loop-offset-preserved g c =
@@ -31,10 +34,13 @@ loop-offset-preserved g c =
     let tables = λ (o : ℕ). table_at o c.args.section.now in
     let more = places_more place c.args.offsets.now c.loop-offset.offset-index x c.offset-item.is
     c.loop-offset-test.true in
-    λ offset.
-    tables_more offset (place x) before tables c.in_ok-table.table (get nat_cmp c.loop-offset.tables offset) _
-    (c.in_ok-put_table.ensures.ok offset
-    ∙ ap (λ (k : ℕ). cond (is_at (nat_cmp k) offset) (Some c.in_ok-table.table)
-    (get nat_cmp c.loop-offset.tables offset)) c.into_u64-place.ensures.value)
-    c.in_ok-table.ensures.ok (c.loop-offset.invariant offset)
-    ∙ ap (λ (ps : List ℕ). cond (among offset ps) (Some (tables offset)) None) (sym more)
+    record {
+      tables = λ offset.
+          tables_more offset (place x) before tables c.in_ok-table.table (get nat_cmp c.loop-offset.tables offset) _
+          (c.in_ok-put_table.ensures.ok offset
+          ∙ ap (λ (k : ℕ). cond (is_at (nat_cmp k) offset) (Some c.in_ok-table.table)
+          (get nat_cmp c.loop-offset.tables offset)) c.into_u64-place.ensures.value)
+          c.in_ok-table.ensures.ok (c.loop-offset.invariant.tables offset)
+          ∙ ap (λ (ps : List ℕ). cond (among offset ps) (Some (tables offset)) None) (sym more);
+      last = c.next_table.ensures.last;
+    }

@@ -24,7 +24,7 @@ returns-clause-ok g c =
           (list_any (λ (p : ℕ). eqb p offset) (map count xs))
           (Some (table_at offset c.args.section.now)) None) c.deref.ensures.value
           ∙ ap (λ (b : Bool). cond b (Some (table_at offset c.args.section.now)) None)
-          (c.in_ok-chosen.ensures.ok offset)
+          (c.ascending-chosen.ensures offset ∙ c.in_ok-chosen_of.ensures.ok offset)
           ∙ sym (get-tables_at (chosen_offsets c.args.strategy offsets) c.args.section.now offset)),
     )
 

@@ -1,19 +1,17 @@
-use Rattle.std.proofs.Common.{◌≡◌, List, None}
+use Rattle.std.proofs.Common.{◌≡◌, None}
 use Rattle.gimli_core_readers.specs.View.{bytes_left}
 use Rattle.gimli_core_readers.specs.Repetition.{prepend, listing_in}
-use Rattle.gimli_core_abbrev.specs.Declarations.{Declaration, by_code, repeated_code}
+use Rattle.gimli_core_abbrev.specs.Declarations.{repeated_code}
 use Rattle.gimli_core_abbrev.specs.TableParsing.{declaration}
-use Rattle.gimli_core_abbrev.proofs.table.parse.Given as goal
+use Rattle.gimli_core_abbrev.proofs.table.parse_list.Given as goal
 
 -- the declarations so far, with no code twice, and then those that are left
 abbrev pub invariant-loop-found : goal.invariant-loop-found
 invariant-loop-found g l =
     let view = g.R.Reader.view in
-    (ds : List Declaration)
-    × (prepend ds (listing_in bytes_left declaration (view l.input))
+    (prepend l.found (listing_in bytes_left declaration (view l.input))
     ≡ listing_in bytes_left declaration (view l.fn.input))
-    × (l.found ≡ by_code ds)
-    × (repeated_code ds ≡ None)
+    × (repeated_code l.found ≡ None)
 
 abbrev pub decreases-loop-found : goal.decreases-loop-found
 decreases-loop-found g l = bytes_left (g.R.Reader.view l.input)

@@ -1,0 +1,163 @@
+//! Tables that are a tail of the one that was read before them, and share its declarations.
+
+ghost use Rattle.std.specs.Prelude.{◌≡◌, ◌≢◌, true, MatchResult, Err, Some, Ok, IfOk, IfErr, IfSome};
+ghost use Rattle.gimli_core_readers.specs.Error.TheVariants.{Memory};
+ghost use Rattle.gimli_core_abbrev.specs.Declarations.{Declaration};
+ghost use Rattle.gimli_core_abbrev.specs.TableLayout.{IsListOf, IsListAt};
+ghost use Rattle.gimli_core_abbrev.specs.TableCache.{table_view};
+ghost use Rattle.gimli_core_abbrev.specs.TableParsing.{declaration, table_at};
+
+use crate::abbreviation;
+use crate::section::DebugAbbrev;
+use crate::table::{self, Abbreviations, DeclarationList};
+use gimli_core_readers::{DebugAbbrevOffset, Error, Reader, ReaderOffset, Section};
+use std::alloc::Global;
+use std::rc::Rc;
+
+// A list of declarations, and the bytes that it was read from, from one of the declarations on.
+#[derive(Drop)]
+pub(crate) struct ReadList<R: Reader> {
+    list: Rc<DeclarationList>,
+    // How many declarations come before these bytes.
+    before: usize,
+    input: R,
+    // How many bytes come after the list.
+    left_after: usize,
+}
+
+// The table at an offset, or why it can't be read. Where the offset is that of a declaration of the
+// list that was read last, and not before the one that was reached there, the table is a tail of
+// that list. Else it is read, and its list takes the other's place.
+pub(crate) fn next_table<R: Reader>(
+    alloc: Global,
+    section: &DebugAbbrev<R>,
+    offset: DebugAbbrevOffset<R::Offset>,
+    last: &mut Option<ReadList<R>>,
+) -> Result<Result<Rc<Abbreviations>, Error>, Error>
+    requires { IfSome last.old (λ l. IsListOf section.now l.list.value l.before
+        (R.view l.input)) }
+    ensures ok { IfOk result (λ table. table_view table ≡ table_at (R.Offset.count offset.0)
+        section.now) }
+    ensures err { IfErr result (λ e. e ≡ Memory) }
+    ensures last { IfSome last.new (λ l. IsListOf section.now l.list.value l.before
+        (R.view l.input)) }
+{
+    match list_at(alloc, section, offset, last.take())? {
+        Ok(list) => {
+            let table = Rc::new(alloc, Abbreviations::from_list(&list.list, list.before)?)?;
+            *last = Some(list);
+            Ok(Ok(table))
+        }
+        Err(error) => Ok(Err(error)),
+    }
+}
+
+// The list at an offset, or why it can't be read: the one that was read last, if it goes that far,
+// else a new one.
+fn list_at<R: Reader>(
+    alloc: Global,
+    section: &DebugAbbrev<R>,
+    offset: DebugAbbrevOffset<R::Offset>,
+    last: Option<ReadList<R>>,
+) -> Result<Result<ReadList<R>, Error>, Error>
+    requires { IfSome last (λ l. IsListOf section.now l.list.value l.before (R.view l.input)) }
+    ensures ok { IfOk result (λ list. MatchResult list
+        (λ l. IsListAt section.now (R.Offset.count offset.0) l.list.value l.before
+        (R.view l.input))
+        (λ e. table_at (R.Offset.count offset.0) section.now ≡ Err e)) }
+    ensures err { IfErr result (λ e. e ≡ Memory) }
+{
+    if let Some(list) = last {
+        if let Some(list) = skip_to(alloc, section, offset, list)? {
+            return Ok(Ok(list));
+        }
+    }
+    match read_list(alloc, section, offset) {
+        Ok(list) => Ok(Ok(list)),
+        Err(Error::Memory) => Err(Error::Memory), // never cached
+        Err(error) => Ok(Err(error)),
+    }
+}
+
+// Reads the list at an offset.
+fn read_list<R: Reader>(
+    alloc: Global,
+    section: &DebugAbbrev<R>,
+    offset: DebugAbbrevOffset<R::Offset>,
+) -> Result<ReadList<R>, Error>
+    ensures { MatchResult result
+        (λ l. IsListAt section.now (R.Offset.count offset.0) l.list.value l.before
+        (R.view l.input))
+        (λ e. e ≢ Memory → table_at (R.Offset.count offset.0) section.now ≡ Err e) }
+{
+    let input = section.input_at(offset)?;
+    let mut rest = input.copy()?;
+    let list = table::parse_list(alloc, &mut rest)?;
+    Ok(ReadList {
+        list: Rc::new(alloc, list)?,
+        before: 0,
+        input,
+        left_after: rest.as_bytes().len(),
+    })
+}
+
+// Goes on in a list to the declaration at an offset. There is none where the offset is inside one,
+// before those that were reached or after the list.
+fn skip_to<R: Reader>(
+    alloc: Global,
+    section: &DebugAbbrev<R>,
+    offset: DebugAbbrevOffset<R::Offset>,
+    list: ReadList<R>,
+) -> Result<Option<ReadList<R>>, Error>
+    requires { IsListOf section.now list.list.value list.before (R.view list.input) }
+    ensures ok { IfOk result (λ found. IfSome found (λ l. IsListAt section.now
+        (R.Offset.count offset.0) l.list.value l.before (R.view l.input))) }
+    ensures err { IfErr result (λ e. e ≡ Memory) }
+{
+    let total = section.reader().as_bytes().len() as u64;
+    let place = offset.0.into_u64();
+    if total < place {
+        return Ok(None);
+    }
+    let left = total - place;
+    if left <= list.left_after as u64 {
+        return Ok(None);
+    }
+    let ReadList {
+        list,
+        mut before,
+        mut input,
+        left_after,
+    } = list;
+    let count = list.as_ref().len();
+    while before < count && left < input.as_bytes().len() as u64 {
+        if !skip_declaration(alloc, &mut input)? {
+            return Ok(None);
+        }
+        before += 1;
+    }
+    if input.as_bytes().len() as u64 == left {
+        Ok(Some(ReadList {
+            list,
+            before,
+            input,
+            left_after,
+        }))
+    } else {
+        Ok(None)
+    }
+}
+
+// Reads a declaration and drops it, if there is one.
+fn skip_declaration<R: Reader>(alloc: Global, input: &mut R) -> Result<bool, Error>
+    ensures ok { IfOk result (λ b. b ≡ true → (d : Declaration)
+        × (declaration (R.view input.old) ≡ Ok (Some d, R.view input.new))) }
+    ensures err { IfErr result (λ e. e ≡ Memory) }
+{
+    match abbreviation::parse(alloc, input) {
+        Ok(Some(_)) => Ok(true),
+        Ok(None) => Ok(false),
+        Err(Error::Memory) => Err(Error::Memory),
+        Err(_) => Ok(false),
+    }
+}
