@@ -25,12 +25,12 @@ pub use addr2line_units::{
     DW_LANG_Rust, DebugAbbrev, DebugAbbrevOffset, DebugAddr, DebugAddrIndex, DebugAranges,
     DebugInfo, DebugLine, DebugLineStr, DebugLineStrOffset, DebugRanges, DebugRngLists,
     DebugRngListsIndex, DebugStr, DebugStrOffset, DebugStrOffsets, DebugStrOffsetsIndex, DwLang,
-    Dwarf, DwarfFileType, DwoId, EndianBytes, EndianSlice, Error, Format, LineCursor, LineIndex,
-    Lines, LinesBuilder, LittleEndian, Location, LocationLists, Probes, Range, RangeLists,
-    RangeListsOffset, RawRangeListsOffset, Reader, ReaderOffsetId, RootRanges, RowStretch,
-    RunTimeEndian, Runs, SectionId, Unit, UnitHeader, UnitLines, UnitOffset, UnitRange, UnitRanges,
-    UnitRangesBuilder, UnitRef, UnitRoot, UnitType, file_text, file_text_of_bytes, is_partial,
-    is_rooted, join, language_of, ranges_of_attributes, ranges_of_entry,
+    Dwarf, DwarfFileType, DwoId, EndianBytes, EndianSlice, Error, Format, LastList, LineCursor,
+    LineIndex, Lines, LinesBuilder, LittleEndian, Location, LocationLists, Probes, Range,
+    RangeLists, RangeListsOffset, RawRangeListsOffset, Reader, ReaderOffsetId, RootRanges,
+    RowStretch, RunTimeEndian, Runs, SectionId, Unit, UnitHeader, UnitLines, UnitOffset, UnitRange,
+    UnitRanges, UnitRangesBuilder, UnitRef, UnitRoot, UnitType, file_text, file_text_of_bytes,
+    is_partial, is_rooted, join, language_of, ranges_of_attributes, ranges_of_entry,
 };
 pub use call::Call;
 pub use calls::{FunctionCalls, calls_of_function};

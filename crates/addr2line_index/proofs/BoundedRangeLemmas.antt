@@ -1,95 +1,82 @@
 -- Where a search among ranges by their ends starts and stops.
-use Rattle.std.proofs.Common.{◌≡◌, ℕ, zero, suc, ◌+◌, ◌-◌, ◌<◌, ◌≤◌, max, min, Bool, true, false, cond, nat_lt, nat_le, List, [], ◌∷◌, ◌++◌, length, map, drop, take, reverse, get_or, refl, sym, ap, ◌∙◌, subst, arith}
-use Rattle.std.specs.Prelude.{◌&&◌}
+use Rattle.std.proofs.Common.{◌≡◌, ℕ, zero, suc, ◌+◌, ◌-◌, ◌<◌, ◌≤◌, max, min, Bool, true, false, cond, nat_lt, nat_le, List, [], ◌∷◌, ◌++◌, length, map, drop, take, reverse, filter, get_or, refl, sym, ap, ◌∙◌, subst, arith, append_assoc}
+use Rattle.std.specs.Prelude.{◌&&◌, ◌||◌, Option, Some, None, MatchOption}
 use Rattle.std.specs.List.{prefix_len}
-use Rattle.std.specs.List.Sorted.{IsNonDecreasingBy, IsPartitionPoint}
+use Rattle.std.specs.List.Sorted.{IsNonDecreasingBy, IsPartitionPoint, IsPartitionedBy}
 use Rattle.std.proofs.lemmas.Bool.Decides.{nat_tests}
-use Rattle.std.proofs.lemmas.List.{get_or-map, length-map, length-drop, take_all, reverse-append}
+use Rattle.std.proofs.lemmas.List.{get_or-map, length-map, length-drop, take_all, drop_all, drop-append-le, reverse-append}
+use Rattle.std.proofs.lemmas.List.Elements.{filter-append}
 use Rattle.std.proofs.lemmas.List.Sums.{prefix_len_is}
+use Rattle.std.proofs.lemmas.List.Sorted.{IsPartitionedBy-leb}
+use Rattle.addr2line_spec.specs.Range.{Range}
 use Rattle.addr2line_spec.specs.Choice.{holds}
 use Rattle.addr2line_spec.specs.Pairs.{overlaps}
 use Rattle.addr2line_index.specs.declared.unit_range.UnitRange.{UnitRange}
+use Rattle.addr2line_index.specs.declared.shared_range.SharedRange.{SharedRange}
 use Rattle.addr2line_index.specs.declared.bounded_range.BoundedRange.{BoundedRange}
 use Rattle.addr2line_index.specs.NumberedRanges.{covering_ranges, overlapping_ranges}
-use Rattle.addr2line_index.proofs.NumberedRangeLemmas.{end_of as end_of_range}
-use Rattle.addr2line_index.specs.BoundedRanges.{greatest_begin, least_begin, with_least_begins, ranges_in, IsBounded, ends_by, IsInOrder}
+use Rattle.addr2line_index.specs.SharedRanges.{in_units, more_units, pairs_in, pairs_in_all, count_in_all}
+use Rattle.addr2line_index.proofs.SharedRangeLemmas.{shared_end, filter-units}
+use Rattle.addr2line_index.specs.BoundedRanges.{greatest_begin, least_begin, shared_in, ranges_in, IsBounded, CountsFrom, end_of, ends_by, is_skipped, IsInOrder, IsCounted, index_of, pairs_left, IsBehind, IsNextPair, IsNextOverlap}
 
 -- ---- made from the last on
 
--- the least begin of ranges, and of others after them that have a least begin
-abbrev pub least_before : List UnitRange → ℕ → ℕ
-least_before [] least = least
-least_before (r ∷ rs) least = min r.range.begin (least_before rs least)
+-- those of ranges that are made, after the ones that are left
+abbrev pub AreMade : List SharedRange → List SharedRange → ℕ → ℕ → List BoundedRange → Type 0
+AreMade all left least after es =
+    (left ++ shared_in es ≡ all) × (least ≡ least_begin es) × (after ≡ count_in_all left) × IsBounded es
+    × CountsFrom after es
 
--- ranges with their least begins before others, of which one is known
-abbrev pub bounded_before : List UnitRange → ℕ → List BoundedRange → List BoundedRange
-bounded_before [] least es = es
-bounded_before (r ∷ rs) least es =
-    record { range = r; least_begin = least_before (r ∷ rs) least } ∷ bounded_before rs least es
+count_in_all-last : (rest : List SharedRange) (s : SharedRange)
+    → count_in_all (rest ++ s ∷ []) ≡ count_in_all rest + suc (more_units s)
+count_in_all-last [] s = omega arith
+count_in_all-last (r ∷ rest) s = omega (arith, count_in_all-last rest s)
 
-min_swap : (b least : ℕ) → min b least ≡ min least b
-min_swap b least = omega arith
+pub count-last : (left rest : List SharedRange) (s : SharedRange) → left ≡ rest ++ s ∷ []
+    → count_in_all left ≡ count_in_all rest + suc (more_units s)
+count-last left rest s is = ap count_in_all is ∙ count_in_all-last rest s
 
-least_before-last : (rs : List UnitRange) (r : UnitRange) (least : ℕ)
-    → least_before (rs ++ r ∷ []) least ≡ least_before rs (min least r.range.begin)
-least_before-last [] r least = min_swap r.range.begin least
-least_before-last (s ∷ rs) r least = ap (min s.range.begin) (least_before-last rs r least)
+pub made_more : (all rest left : List SharedRange) (s : SharedRange) (least next after before : ℕ)
+    (es : List BoundedRange) → left ≡ rest ++ s ∷ [] → next ≡ min least s.range.begin
+    → before ≡ after - more_units s - 1 → AreMade all left least after es
+    → AreMade all rest next before (record { shared = s; least_begin = next; after = after } ∷ es)
+made_more all rest left s least next after before es is lower fewer made =
+    let many = count-last left rest s is in
+    let low : next ≡ min s.range.begin (least_begin es) = omega arith in (
+      sym (append_assoc rest (s ∷ []) (shared_in es)) ∙ ap (λ l. l ++ shared_in es) (sym is) ∙ made.0,
+      low,
+      omega arith,
+      (low, made.3),
+      (omega arith, made.4),
+    )
 
-bounded_before-last : (rs : List UnitRange) (r : UnitRange) (least : ℕ) (es : List BoundedRange)
-    → bounded_before (rs ++ r ∷ []) least es
-    ≡ bounded_before rs (min least r.range.begin) (record { range = r; least_begin = min least r.range.begin } ∷ es)
-bounded_before-last [] r least es =
-    ap (λ n. record { range = r; least_begin = n } ∷ es) (min_swap r.range.begin least)
-bounded_before-last (s ∷ rs) r least es =
-    ap (λ n. record { range = s; least_begin = min s.range.begin n } ∷ bounded_before (rs ++ r ∷ []) least es)
-    (least_before-last rs r least)
-    ∙ ap (λ l. record { range = s; least_begin = least_before (s ∷ rs) (min least r.range.begin) } ∷ l)
-    (bounded_before-last rs r least es)
-
-least_before-none : (rs : List UnitRange) → least_before rs greatest_begin ≡ least_begin rs
-least_before-none [] = refl
-least_before-none (r ∷ rs) = ap (min r.range.begin) (least_before-none rs)
-
-pub bounded_before-none : (rs : List UnitRange) → bounded_before rs greatest_begin [] ≡ with_least_begins rs
-bounded_before-none [] = refl
-bounded_before-none (r ∷ rs) =
-    ap (λ n. record { range = r; least_begin = n } ∷ bounded_before rs greatest_begin []) (least_before-none (r ∷ rs))
-    ∙ ap (λ l. record { range = r; least_begin = least_begin (r ∷ rs) } ∷ l) (bounded_before-none rs)
+pub reverse-push : (made pushed : List BoundedRange) (e : BoundedRange) → pushed ≡ made ++ e ∷ []
+    → reverse pushed ≡ e ∷ reverse made
+reverse-push made pushed e is = ap reverse is ∙ reverse-append made (e ∷ [])
 
 -- ---- what is known of bounded ranges
 
-pub ranges_in-bounded : (rs : List UnitRange) → ranges_in (with_least_begins rs) ≡ rs
-ranges_in-bounded [] = refl
-ranges_in-bounded (r ∷ rs) = ap (λ l. r ∷ l) (ranges_in-bounded rs)
-
-pub bounded_is : (es : List BoundedRange) (rs : List UnitRange) → es ≡ with_least_begins rs → IsBounded es
-bounded_is es rs is = is ∙ ap with_least_begins (sym (ap ranges_in is ∙ ranges_in-bounded rs))
-
-pub bounded_rest : (e : BoundedRange) (es : List BoundedRange) → IsBounded (e ∷ es) → IsBounded es
-bounded_rest e es is =
-    let parts : e ∷ es
-    ≡ record { range = e.range; least_begin = least_begin (ranges_in (e ∷ es)) } ∷ with_least_begins (ranges_in es) =
-    is in cc
-
-pub bounded_first : (e : BoundedRange) (es : List BoundedRange) → IsBounded (e ∷ es)
-    → e.least_begin ≡ least_begin (ranges_in (e ∷ es))
-bounded_first e es is =
-    let parts : e ∷ es
-    ≡ record { range = e.range; least_begin = least_begin (ranges_in (e ∷ es)) } ∷ with_least_begins (ranges_in es) =
-    is in
-    let first : e ≡ record { range = e.range; least_begin = least_begin (ranges_in (e ∷ es)) } = cc in
-    ap (λ x. x.least_begin) first
-
 pub bounded_drop : (n : ℕ) (es : List BoundedRange) → IsBounded es → IsBounded (drop n es)
 bounded_drop zero es is = is
-bounded_drop (suc n) [] is = refl
-bounded_drop (suc n) (e ∷ es) is = bounded_drop n es (bounded_rest e es is)
+bounded_drop (suc n) [] is = tt
+bounded_drop (suc n) (e ∷ es) is = bounded_drop n es is.1
 
 pub bounded_at : (n : ℕ) (es : List BoundedRange) (d : BoundedRange) → n < length es → IsBounded es
-    → (get_or es n d).least_begin ≡ least_begin (drop n (ranges_in es))
+    → (get_or es n d).least_begin ≡ least_begin (drop n es)
 bounded_at n [] d below is = absurd (omega arith)
-bounded_at zero (e ∷ es) d below is = bounded_first e es is
-bounded_at (suc n) (e ∷ es) d below is = bounded_at n es d (omega arith) (bounded_rest e es is)
+bounded_at zero (e ∷ es) d below is = is.0
+bounded_at (suc n) (e ∷ es) d below is = bounded_at n es d (omega arith) is.1
+
+pub counted_at : (n before : ℕ) (es : List BoundedRange) (d : BoundedRange) → n < length es → CountsFrom before es
+    → before + suc (more_units (get_or es n d).shared) ≤ (get_or es n d).after
+counted_at n before [] d below is = absurd (omega arith)
+counted_at zero before (e ∷ es) d below is = omega arith
+counted_at (suc n) before (e ∷ es) d below is =
+    let later = counted_at n e.after es d (omega arith) is.1 in omega arith
+
+pub counted_here : (n : ℕ) (es : List BoundedRange) (d : BoundedRange) → n < length es → CountsFrom 0 es
+    → IsCounted (get_or es n d)
+counted_here n es d below is = omega (arith, counted_at n 0 es d below is)
 
 -- ---- where a search stops
 
@@ -110,24 +97,33 @@ le_above a b h = grind (arith, nat_tests)
 above_holds_not : (a begin end : ℕ) → a < begin → holds a (record { begin = begin; end = end }) ≡ false
 above_holds_not a begin end h = ap (λ b. b && nat_lt a end) (above_le a begin h)
 
-pub none_covers : (a : ℕ) (rs : List UnitRange) → a < least_begin rs → covering_ranges a rs ≡ []
+covering_step : (a : ℕ) (e : BoundedRange) (es : List BoundedRange) → covering_ranges a (ranges_in (e ∷ es))
+    ≡ cond (holds a e.shared.range) (pairs_in e.shared) [] ++ covering_ranges a (ranges_in es)
+covering_step a e es =
+    filter-append (λ (x : UnitRange). holds a x.range) (pairs_in e.shared) (ranges_in es)
+    ∙ ap (λ l. l ++ covering_ranges a (ranges_in es))
+    (filter-units (holds a) e.shared.range e.shared.first (more_units e.shared))
+
+pub covering_found : (a : ℕ) (e : BoundedRange) (es : List BoundedRange) → holds a e.shared.range ≡ true
+    → covering_ranges a (ranges_in (e ∷ es)) ≡ pairs_in e.shared ++ covering_ranges a (ranges_in es)
+covering_found a e es is =
+    covering_step a e es ∙ ap (λ b. cond b (pairs_in e.shared) [] ++ covering_ranges a (ranges_in es)) is
+
+pub covering_skipped : (a : ℕ) (e : BoundedRange) (es : List BoundedRange) → holds a e.shared.range ≡ false
+    → covering_ranges a (ranges_in (e ∷ es)) ≡ covering_ranges a (ranges_in es)
+covering_skipped a e es is =
+    covering_step a e es ∙ ap (λ b. cond b (pairs_in e.shared) [] ++ covering_ranges a (ranges_in es)) is
+
+pub none_covers : (a : ℕ) (es : List BoundedRange) → a < least_begin es → covering_ranges a (ranges_in es) ≡ []
 none_covers a [] h = refl
-none_covers a (r ∷ rs) h =
-    ap (λ b. cond b (r ∷ covering_ranges a rs) (covering_ranges a rs))
-    (above_holds_not a r.range.begin r.range.end (omega arith))
-    ∙ none_covers a rs (omega arith)
+none_covers a (e ∷ es) h =
+    covering_skipped a e es (above_holds_not a e.shared.range.begin e.shared.range.end (omega arith))
+    ∙ none_covers a es (omega arith)
 
 above_overlaps_not : (low high begin end : ℕ) → high ≤ begin
     → overlaps low high (record { begin = begin; end = end }) ≡ false
 above_overlaps_not low high begin end h =
     ap (λ b. nat_lt low end && b) (above_lt high begin h) ∙ and_false (nat_lt low end)
-
-pub none_overlaps : (low high : ℕ) (rs : List UnitRange) → high ≤ least_begin rs → overlapping_ranges low high rs ≡ []
-none_overlaps low high [] h = refl
-none_overlaps low high (r ∷ rs) h =
-    ap (λ b. cond b (r ∷ overlapping_ranges low high rs) (overlapping_ranges low high rs))
-    (above_overlaps_not low high r.range.begin r.range.end (omega arith))
-    ∙ none_overlaps low high rs (omega arith)
 
 -- ---- where it starts
 
@@ -149,8 +145,7 @@ covering_start a (e ∷ es) =
       | true ↦ λ ended.
           ap (λ n. covering_ranges a (ranges_in (drop n (e ∷ es)))) (one_before (prefix_len (ends_by a) es))
           ∙ covering_start a es
-          ∙ sym (ap (λ b. cond b (e.range ∷ covering_ranges a (ranges_in es)) (covering_ranges a (ranges_in es)))
-          (ended_holds_not a e.range.range.begin e.range.range.end ended))
+          ∙ sym (covering_skipped a e es (ended_holds_not a e.shared.range.begin e.shared.range.end ended))
       | false ↦ λ _. refl
     ] refl
 
@@ -159,51 +154,222 @@ ended_overlaps_not : (low high begin end : ℕ) → nat_le end low ≡ true
 ended_overlaps_not low high begin end h =
     ap (λ b. b && nat_lt begin high) (above_lt end low (le_above low end h))
 
-max_more : (m n : ℕ) → max (suc m) (1 + n) ≡ suc (max m n)
-max_more m n = omega arith
+-- ---- pairs from an index on
 
-max_none : (m : ℕ) → max (suc m) 0 ≡ suc m
-max_none m = omega arith
+length-units : (r : Range) (unit more : ℕ) → length (in_units r unit more) ≡ suc more
+length-units r unit zero = refl
+length-units r unit (suc more) = ap suc (length-units r (unit + 1) more)
 
-max_first : (n : ℕ) → max 0 n ≡ n
-max_first n = omega arith
+cond_same : (b : Bool) (rs : List UnitRange) → cond b rs rs ≡ rs
+cond_same true rs = refl
+cond_same false rs = refl
+
+drop-none : (n : ℕ) → drop n (let none : List UnitRange = [] in none) ≡ []
+drop-none n = drop_all n [] (omega arith)
+
+-- a test of the range passes all that are left of its units or none
+filter-drop_units : (p : Range → Bool) (n : ℕ) (r : Range) (unit more : ℕ)
+    → filter (λ (x : UnitRange). p x.range) (drop n (in_units r unit more))
+    ≡ cond (p r) (drop n (in_units r unit more)) []
+filter-drop_units p zero r unit more = filter-units p r unit more
+filter-drop_units p (suc n) r unit zero =
+    ap (filter (λ (x : UnitRange). p x.range)) (drop-none n)
+    ∙ sym (ap (λ l. cond (p r) l []) (drop-none n) ∙ cond_same (p r) [])
+filter-drop_units p (suc n) r unit (suc more) = filter-drop_units p n r (unit + 1) more
+
+-- of one range from a number of them on
+drop-units : (n : ℕ) (r : Range) (unit more : ℕ) → n ≤ more
+    → drop n (in_units r unit more) ≡ record { range = r; unit = unit + n } ∷ drop (suc n) (in_units r unit more)
+drop-units zero r unit zero le =
+    let same : unit ≡ unit + 0 = omega arith in ap (λ u. record { range = r; unit = u } ∷ []) same
+drop-units zero r unit (suc more) le =
+    let same : unit ≡ unit + 0 = omega arith in
+    ap (λ u. record { range = r; unit = u } ∷ in_units r (unit + 1) more) same
+drop-units (suc n) r unit zero le = absurd (omega arith)
+drop-units (suc n) r unit (suc more) le =
+    let same : unit + 1 + n ≡ unit + suc n = omega arith in
+    drop-units n r (unit + 1) more (omega arith)
+    ∙ ap (λ u. record { range = r; unit = u } ∷ drop (suc n) (in_units r (unit + 1) more)) same
+
+-- the pair at an index, and those after it
+pub next_pair : (from : ℕ) (e : BoundedRange) (unit next behind : ℕ) → IsCounted e → from < e.after
+    → behind ≡ min (more_units e.shared) (e.after - from - 1) → unit ≡ e.shared.first + (more_units e.shared - behind)
+    → next ≡ e.after - behind → IsNextPair from e (record { range = e.shared.range; unit = unit }, next)
+next_pair from e unit next behind counted below is here after =
+    let first : e.shared.first + (from - index_of e) ≡ unit = omega arith in
+    let rest : suc (from - index_of e) ≡ next - index_of e = omega arith in (
+      (below, omega arith, omega arith),
+      drop-units (from - index_of e) e.shared.range e.shared.first (more_units e.shared) (omega arith)
+          ∙ ap (λ u. record { range = e.shared.range; unit = u } ∷ drop (suc (from - index_of e)) (pairs_in e.shared))
+          first
+          ∙ ap (λ n. record { range = e.shared.range; unit = unit } ∷ drop n (pairs_in e.shared)) rest,
+    )
+
+-- what is said of a value that may be there, and of none, becomes what follows from it
+pub if_found : {X : Type 0} {P Q : Type 0} {R S : X → Type 0} (r : Option X) → (P → Q) → ((x : X) → R x → S x)
+    → MatchOption r P R → MatchOption r Q S
+if_found None none some h = none h
+if_found (Some x) none some h = some x h
+
+-- none are left from an index behind the last on
+pub none_left : (from : ℕ) (e : BoundedRange) → IsCounted e → e.after ≤ from → pairs_left from e ≡ []
+none_left from e counted over =
+    drop_all (from - index_of e) (pairs_in e.shared)
+    (omega (arith, length-units e.shared.range e.shared.first (more_units e.shared)))
 
 module _ (low high : ℕ) where
-  abbrev skips : List BoundedRange → ℕ
-  skips es = prefix_len (ends_by low) es
+  overlapping_left : (from : ℕ) (e : BoundedRange) → overlapping_ranges low high (pairs_left from e)
+      ≡ cond (overlaps low high e.shared.range) (pairs_left from e) []
+  overlapping_left from e =
+      filter-drop_units (overlaps low high) (from - index_of e) e.shared.range e.shared.first (more_units e.shared)
 
-  -- nor do they overlap what lies above it
-  overlapping_first : (es : List BoundedRange)
-      → overlapping_ranges low high (drop (skips es) (ranges_in es)) ≡ overlapping_ranges low high (ranges_in es)
-  overlapping_first [] = refl
-  overlapping_first (e ∷ es) =
-      elim (ends_by low e) as (λ b. ends_by low e ≡ b
-      → overlapping_ranges low high (drop (cond b (1 + skips es) 0) (ranges_in (e ∷ es)))
-      ≡ overlapping_ranges low high (ranges_in (e ∷ es))) [
-        | true ↦ λ ended.
-            ap (λ n. overlapping_ranges low high (drop n (ranges_in (e ∷ es)))) (one_before (skips es))
-            ∙ overlapping_first es
-            ∙ sym (ap (λ b. cond b (e.range ∷ overlapping_ranges low high (ranges_in es))
-            (overlapping_ranges low high (ranges_in es)))
-            (ended_overlaps_not low high e.range.range.begin e.range.range.end ended))
+  pub left_overlaps : (from : ℕ) (e : BoundedRange) → overlaps low high e.shared.range ≡ true
+      → overlapping_ranges low high (pairs_left from e) ≡ pairs_left from e
+  left_overlaps from e is = overlapping_left from e ∙ ap (λ b. cond b (pairs_left from e) []) is
+
+  pub left_overlaps_not : (from : ℕ) (e : BoundedRange) → overlaps low high e.shared.range ≡ false
+      → overlapping_ranges low high (pairs_left from e) ≡ []
+  left_overlaps_not from e is = overlapping_left from e ∙ ap (λ b. cond b (pairs_left from e) []) is
+
+  pub next_overlap : (from : ℕ) (e : BoundedRange) (f : UnitRange × ℕ) → overlaps low high e.shared.range ≡ true
+      → IsNextPair from e f → IsNextOverlap low high from e f
+  next_overlap from e f is next =
+      (next.0, left_overlaps from e is ∙ next.1 ∙ ap (λ l. f.0 ∷ l) (sym (left_overlaps f.1 e is)))
+
+-- the pairs of ranges from an index on
+abbrev pub all_left : ℕ → List BoundedRange → List UnitRange
+all_left from [] = []
+all_left from (e ∷ es) = pairs_left from e ++ all_left from es
+
+drop-append : {X : Type 0} (n : ℕ) (xs ys : List X) → drop n (xs ++ ys) ≡ drop n xs ++ drop (n - length xs) ys
+drop-append zero xs ys = let none : 0 ≡ 0 - length xs = omega arith in ap (λ n. xs ++ drop n ys) none
+drop-append (suc n) [] ys =
+    let same : suc n ≡ suc n - 0 = omega arith in ap (λ m. drop m ys) same
+drop-append (suc n) (x ∷ xs) ys =
+    let same : n - length xs ≡ suc n - suc (length xs) = omega arith in
+    drop-append n xs ys ∙ ap (λ m. drop n xs ++ drop m ys) same
+
+all_left_is : (from before : ℕ) (es : List BoundedRange) → CountsFrom before es
+    → drop (from - before) (ranges_in es) ≡ all_left from es
+all_left_is from before [] is = drop_all (from - before) [] (omega arith)
+all_left_is from before (e ∷ es) is =
+    let first : from - before ≡ from - index_of e = omega arith in
+    let many = length-units e.shared.range e.shared.first (more_units e.shared) in
+    let rest : from - before - length (pairs_in e.shared) ≡ from - e.after = omega arith in
+    drop-append (from - before) (pairs_in e.shared) (ranges_in es)
+    ∙ ap (λ n. drop n (pairs_in e.shared) ++ drop (from - before - length (pairs_in e.shared)) (ranges_in es)) first
+    ∙ ap (λ n. pairs_left from e ++ drop n (ranges_in es)) rest
+    ∙ ap (λ l. pairs_left from e ++ l) (all_left_is from e.after es is.1)
+
+pub left_is : (from : ℕ) (es : List BoundedRange) → CountsFrom 0 es → drop from (ranges_in es) ≡ all_left from es
+left_is from es is =
+    let same : from ≡ from - 0 = omega arith in ap (λ n. drop n (ranges_in es)) same ∙ all_left_is from 0 es is
+
+-- from an index at or below the first on, they are all
+all_left-whole : (from before : ℕ) (es : List BoundedRange) → from ≤ before → CountsFrom before es
+    → all_left from es ≡ ranges_in es
+all_left-whole from before es le is =
+    let none : from - before ≡ 0 = omega arith in
+    sym (all_left_is from before es is) ∙ ap (λ n. drop n (ranges_in es)) none
+
+-- behind a pair of the range at a place, those of that range and of all after it are left
+pub left_behind : (place from next before : ℕ) (es : List BoundedRange) (d : BoundedRange) → place < length es
+    → CountsFrom before es → IsBehind from (get_or es place d) next
+    → all_left next es ≡ pairs_left next (get_or es place d) ++ all_left from (drop (place + 1) es)
+left_behind place from next before [] d below is behind = absurd (omega arith)
+left_behind zero from next before (e ∷ es) d below is behind =
+    ap (λ l. pairs_left next e ++ l)
+    (all_left-whole next e.after es behind.2 is.1 ∙ sym (all_left-whole from e.after es (omega arith) is.1))
+left_behind (suc place) from next before (e ∷ es) d below is behind =
+    let later = counted_at place e.after es d (omega arith) is.1 in
+    let more : suc place + 1 ≡ suc (place + 1) = omega arith in
+    ap (λ l. l ++ all_left next es) (none_left next e (omega arith) (omega arith))
+    ∙ left_behind place from next e.after es d (omega arith) is.1 behind
+    ∙ ap (λ n. pairs_left next (get_or es place d) ++ all_left from (drop n (e ∷ es))) (sym more)
+
+left_at : (place from : ℕ) (es : List BoundedRange) (d : BoundedRange) → place < length es
+    → all_left from (drop place es) ≡ pairs_left from (get_or es place d) ++ all_left from (drop (place + 1) es)
+left_at place from [] d below = absurd (omega arith)
+left_at zero from (e ∷ es) d below = refl
+left_at (suc place) from (e ∷ es) d below =
+    let more : suc place + 1 ≡ suc (place + 1) = omega arith in
+    left_at place from es d (omega arith)
+    ∙ ap (λ n. pairs_left from (get_or es place d) ++ all_left from (drop n (e ∷ es))) (sym more)
+
+module _ (low high : ℕ) where
+  -- what overlaps
+  abbrev overlapping : List UnitRange → List UnitRange
+  overlapping rs = overlapping_ranges low high rs
+
+  overlapping-append : (xs ys : List UnitRange) → overlapping (xs ++ ys) ≡ overlapping xs ++ overlapping ys
+  overlapping-append xs ys = filter-append (λ x. overlaps low high x.range) xs ys
+
+  overlapping_at : (place from : ℕ) (es : List BoundedRange) (d : BoundedRange) → place < length es
+      → overlapping (all_left from (drop place es))
+      ≡ overlapping (pairs_left from (get_or es place d)) ++ overlapping (all_left from (drop (place + 1) es))
+  overlapping_at place from es d below =
+      ap overlapping (left_at place from es d below)
+      ∙ overlapping-append (pairs_left from (get_or es place d)) (all_left from (drop (place + 1) es))
+
+  -- no pair of the range at a place was one
+  pub overlapping_skipped : (place from : ℕ) (es : List BoundedRange) (d : BoundedRange) → place < length es
+      → overlapping (pairs_left from (get_or es place d)) ≡ []
+      → overlapping (all_left from (drop (place + 1) es)) ≡ overlapping (all_left from (drop place es))
+  overlapping_skipped place from es d below none =
+      sym (overlapping_at place from es d below
+      ∙ ap (λ l. l ++ overlapping (all_left from (drop (place + 1) es))) none)
+
+  -- a pair of it was
+  pub overlapping_found : (place from : ℕ) (es : List BoundedRange) (d : BoundedRange) (f : UnitRange × ℕ)
+      → place < length es → CountsFrom 0 es → IsNextOverlap low high from (get_or es place d) f
+      → overlapping (all_left from (drop place es)) ≡ f.0 ∷ overlapping (drop f.1 (ranges_in es))
+  overlapping_found place from es d f below is next =
+      let e = get_or es place d in
+      let rest = all_left from (drop (place + 1) es) in
+      overlapping_at place from es d below
+      ∙ ap (λ l. l ++ overlapping rest) next.1
+      ∙ ap (λ l. f.0 ∷ l) (sym (overlapping-append (pairs_left f.1 e) rest))
+      ∙ ap (λ l. f.0 ∷ overlapping l) (sym (left_behind place from f.1 0 es d below is next.0))
+      ∙ ap (λ l. f.0 ∷ overlapping l) (sym (left_is f.1 es is))
+
+  none_overlap : (from : ℕ) (es : List BoundedRange) → high ≤ least_begin es → overlapping (all_left from es) ≡ []
+  none_overlap from [] h = refl
+  none_overlap from (e ∷ es) h =
+      overlapping-append (pairs_left from e) (all_left from es)
+      ∙ ap (λ l. l ++ overlapping (all_left from es)) (left_overlaps_not low high from e
+      (above_overlaps_not low high e.shared.range.begin e.shared.range.end (omega arith)))
+      ∙ none_overlap from es (omega arith)
+
+  pub stop_overlapping : (place from : ℕ) (es : List BoundedRange) (d : BoundedRange) → place < length es
+      → IsBounded es → high ≤ (get_or es place d).least_begin → overlapping (all_left from (drop place es)) ≡ []
+  stop_overlapping place from es d below bounded over =
+      none_overlap from (drop place es) (omega (arith, bounded_at place es d below bounded))
+
+  -- what is skipped has none that overlaps
+  skipped_not : (from : ℕ) (e : BoundedRange) → IsCounted e → is_skipped from low e ≡ true
+      → overlapping (pairs_left from e) ≡ []
+  skipped_not from e counted skipped =
+      elim (ends_by low e) as (λ b. ends_by low e ≡ b → b || nat_le e.after from ≡ true
+      → overlapping (pairs_left from e) ≡ []) [
+        | true ↦ λ ended _. left_overlaps_not low high from e
+            (ended_overlaps_not low high e.shared.range.begin e.shared.range.end ended)
+        | false ↦ λ _ over. ap overlapping (none_left from e counted (le_above from e.after over))
+      ] refl skipped
+
+  pub overlapping_start : (from before : ℕ) (es : List BoundedRange) → CountsFrom before es
+      → overlapping (all_left from (drop (prefix_len (is_skipped from low) es) es)) ≡ overlapping (all_left from es)
+  overlapping_start from before [] is = refl
+  overlapping_start from before (e ∷ es) is =
+      elim (is_skipped from low e) as (λ b. is_skipped from low e ≡ b
+      → overlapping (all_left from (drop (cond b (1 + prefix_len (is_skipped from low) es) 0) (e ∷ es)))
+      ≡ overlapping (all_left from (e ∷ es))) [
+        | true ↦ λ skipped.
+            ap (λ n. overlapping (all_left from (drop n (e ∷ es)))) (one_before (prefix_len (is_skipped from low) es))
+            ∙ overlapping_start from e.after es is.1
+            ∙ sym (overlapping-append (pairs_left from e) (all_left from es)
+            ∙ ap (λ l. l ++ overlapping (all_left from es)) (skipped_not from e (omega arith) skipped))
         | false ↦ λ _. refl
       ] refl
-
-  pub overlapping_start : (from : ℕ) (es : List BoundedRange)
-      → overlapping_ranges low high (drop (max from (skips es)) (ranges_in es))
-      ≡ overlapping_ranges low high (drop from (ranges_in es))
-  overlapping_start zero es =
-      ap (λ n. overlapping_ranges low high (drop n (ranges_in es))) (max_first (skips es)) ∙ overlapping_first es
-  overlapping_start (suc from) [] = ap (λ n. overlapping_ranges low high (drop n [])) (max_none from)
-  overlapping_start (suc from) (e ∷ es) =
-      elim (ends_by low e) as (λ b.
-      overlapping_ranges low high (drop (max (suc from) (cond b (1 + skips es) 0)) (ranges_in (e ∷ es)))
-      ≡ overlapping_ranges low high (drop from (ranges_in es))) [
-        | true ↦
-            ap (λ n. overlapping_ranges low high (drop n (ranges_in (e ∷ es)))) (max_more from (skips es))
-            ∙ overlapping_start from es
-        | false ↦ ap (λ n. overlapping_ranges low high (drop n (ranges_in (e ∷ es)))) (max_none from)
-      ]
 
 -- ---- order
 
@@ -220,14 +386,10 @@ ascends_through f n xs up i j d le below =
     )
 
 -- the order of ranges by their ends is that of the bounded ones
-pub bounded_in_order : (es : List BoundedRange) (rs : List UnitRange) → es ≡ with_least_begins rs
-    → IsNonDecreasingBy end_of_range rs → IsInOrder es
-bounded_in_order es rs is up =
-    let same : ranges_in es ≡ rs = ap ranges_in is ∙ ranges_in-bounded rs in (
-      ascends_through (λ (e : BoundedRange). e.range) end_of_range es
-          (subst (IsNonDecreasingBy end_of_range) (sym same) up),
-      bounded_is es rs is,
-    )
+pub bounded_in_order : (es : List BoundedRange) (ss : List SharedRange) → shared_in es ≡ ss
+    → IsNonDecreasingBy shared_end ss → IsNonDecreasingBy end_of es
+bounded_in_order es ss same up =
+    ascends_through (λ (e : BoundedRange). e.shared) shared_end es (subst (IsNonDecreasingBy shared_end) (sym same) up)
 
 -- ---- the bisection
 
@@ -239,64 +401,68 @@ count_from_point p (x ∷ xs) n le point =
     sym (prefix_len_is p (x ∷ xs) n x le (λ k below. point.0 k x (omega arith) below)
     (λ below. point.1 n x (omega arith) below))
 
+-- the counts rise
+counts_rise : (before : ℕ) (es : List BoundedRange) → CountsFrom before es → IsNonDecreasingBy (λ e. e.after) es
+counts_rise before [] is i j d le below = absurd (omega arith)
+counts_rise before (e ∷ es) is zero zero d le below = omega arith
+counts_rise before (e ∷ es) is zero (suc j) d le below =
+    let later = counted_at j e.after es d (omega arith) is.1 in omega arith
+counts_rise before (e ∷ es) is (suc i) zero d le below = absurd (omega arith)
+counts_rise before (e ∷ es) is (suc i) (suc j) d le below =
+    counts_rise e.after es is.1 i j d (omega arith) (omega arith)
+
+or_kept : (p q r s : Bool) → (p ≡ true → r ≡ true) → (q ≡ true → s ≡ true) → p || q ≡ true → r || s ≡ true
+or_kept true q r s first second h = ap (λ b. b || s) (first refl)
+or_kept false q r s first second h = ap (λ b. r || b) (second h) ∙ elim r as (λ b. b || true ≡ true) [
+  | true ↦ refl
+  | false ↦ refl
+]
+
+-- what is skipped comes before what isn't
+pub skipped_first : (from low : ℕ) (es : List BoundedRange) → IsInOrder es → IsPartitionedBy (is_skipped from low) es
+skipped_first from low es is i j d le below h =
+    or_kept (ends_by low (get_or es j d)) (nat_le (get_or es j d).after from) (ends_by low (get_or es i d))
+    (nat_le (get_or es i d).after from) (IsPartitionedBy-leb end_of es low is.0 i j d le below)
+    (IsPartitionedBy-leb (λ (e : BoundedRange). e.after) es from (counts_rise 0 es is.2) i j d le below) h
+
 -- ---- steps of a walk
 
 pub stop_covering : (a : ℕ) (es : List BoundedRange) (d : BoundedRange) → 1 ≤ length es → IsBounded es
     → a < (get_or es 0 d).least_begin → covering_ranges a (ranges_in es) ≡ []
-stop_covering a es d some bounded below =
-    none_covers a (ranges_in es) (omega (arith, bounded_at 0 es d (omega arith) bounded))
-
-pub stop_overlapping : (low high n : ℕ) (es : List BoundedRange) (d : BoundedRange) → n < length es → IsBounded es
-    → high ≤ (get_or es n d).least_begin → overlapping_ranges low high (drop n (ranges_in es)) ≡ []
-stop_overlapping low high n es d within bounded over =
-    none_overlaps low high (drop n (ranges_in es)) (omega (arith, bounded_at n es d within bounded))
-
--- the next range comes first, if it overlaps
-pub overlapping_next : (low high n : ℕ) (es : List BoundedRange) (d : BoundedRange) → n < length es
-    → overlapping_ranges low high (drop n (ranges_in es))
-    ≡ cond (overlaps low high (get_or es n d).range.range)
-    ((get_or es n d).range ∷ overlapping_ranges low high (drop (n + 1) (ranges_in es)))
-    (overlapping_ranges low high (drop (n + 1) (ranges_in es)))
-overlapping_next low high n [] d within = absurd (omega arith)
-overlapping_next low high zero (e ∷ es) d within = refl
-overlapping_next low high (suc n) (e ∷ es) d within =
-    let more : suc n + 1 ≡ suc (n + 1) = omega arith in
-    overlapping_next low high n es d (omega arith)
-    ∙ ap (λ k. cond (overlaps low high (get_or es n d).range.range)
-    ((get_or es n d).range ∷ overlapping_ranges low high (drop k (ranges_in (e ∷ es))))
-    (overlapping_ranges low high (drop k (ranges_in (e ∷ es))))) (sym more)
-
-module _ (low high n : ℕ) (es : List BoundedRange) (d : BoundedRange) (within : n < length es) (b : Bool)
-    (is : b ≡ overlaps low high (get_or es n d).range.range) where
-  abbrev rest : List UnitRange
-  rest = overlapping_ranges low high (drop (n + 1) (ranges_in es))
-
-  pub overlapping_found : b ≡ true → overlapping_ranges low high (drop n (ranges_in es)) ≡ (get_or es n d).range ∷ rest
-  overlapping_found is_true =
-      overlapping_next low high n es d within ∙ ap (λ x. cond x ((get_or es n d).range ∷ rest) rest) (sym is ∙ is_true)
-
-  pub overlapping_skipped : b ≡ false → rest ≡ overlapping_ranges low high (drop n (ranges_in es))
-  overlapping_skipped is_false =
-      sym (overlapping_next low high n es d within
-      ∙ ap (λ x. cond x ((get_or es n d).range ∷ rest) rest) (sym is ∙ is_false))
+stop_covering a es d some bounded below = none_covers a es (omega (arith, bounded_at 0 es d (omega arith) bounded))
 
 -- what is left of a list from a place on
 pub rest_of : (n : ℕ) (es : List BoundedRange) → take (length es - n) (drop n es) ≡ drop n es
 rest_of n es =
     ap (λ k. take k (drop n es)) (sym (length-drop n es)) ∙ take_all (length (drop n es)) (drop n es) (omega arith)
 
--- a range, and the least begin from it on
-abbrev pub bounded_range : UnitRange → ℕ → BoundedRange
-bounded_range r least = record { range = r; least_begin = least }
+-- the ranges after the first
+abbrev pub after_first : List BoundedRange → List BoundedRange
+after_first es = take (length es - 1) (drop 1 es)
 
--- one more range was bounded
-pub bounded_more : (rest left : List UnitRange) (r : UnitRange) (least next : ℕ) (made pushed all : List BoundedRange)
-    → left ≡ rest ++ r ∷ [] → next ≡ min least r.range.begin → pushed ≡ made ++ bounded_range r next ∷ []
-    → bounded_before left least (reverse made) ≡ all → bounded_before rest next (reverse pushed) ≡ all
-bounded_more rest left r least next made pushed all parts is items before =
-    ap (λ es. bounded_before rest next (reverse es)) items
-    ∙ ap (bounded_before rest next) (reverse-append made (bounded_range r next ∷ []))
-    ∙ ap (λ n. bounded_before rest n (bounded_range r n ∷ reverse made)) is
-    ∙ sym (bounded_before-last rest r least (reverse made))
-    ∙ ap (λ l. bounded_before l least (reverse made)) (sym parts)
-    ∙ before
+pub is_held : (a begin end : ℕ) → begin ≤ a → a < end → holds a (record { begin = begin; end = end }) ≡ true
+is_held a begin end low high = grind (arith, nat_tests)
+
+pub is_below : (a begin end : ℕ) → a < begin → holds a (record { begin = begin; end = end }) ≡ false
+is_below a begin end h = above_holds_not a begin end h
+
+pub is_above : (a begin end : ℕ) → end ≤ a → holds a (record { begin = begin; end = end }) ≡ false
+is_above a begin end h = grind (arith, nat_tests)
+
+pub first_holds : (a : ℕ) (es : List BoundedRange) (d : BoundedRange) → 1 ≤ length es
+    → holds a (get_or es 0 d).shared.range ≡ true → covering_ranges a (ranges_in es)
+    ≡ pairs_in (get_or es 0 d).shared ++ covering_ranges a (ranges_in (after_first es))
+first_holds a [] d some is = absurd (omega arith)
+first_holds a (e ∷ es) d some is =
+    covering_found a e es is
+    ∙ ap (λ l. pairs_in e.shared ++ covering_ranges a (ranges_in l)) (sym (rest_of 1 (e ∷ es)))
+
+pub first_holds_not : (a : ℕ) (es : List BoundedRange) (d : BoundedRange) → 1 ≤ length es
+    → holds a (get_or es 0 d).shared.range ≡ false
+    → covering_ranges a (ranges_in (after_first es)) ≡ covering_ranges a (ranges_in es)
+first_holds_not a [] d some is = absurd (omega arith)
+first_holds_not a (e ∷ es) d some is =
+    ap (λ l. covering_ranges a (ranges_in l)) (rest_of 1 (e ∷ es)) ∙ sym (covering_skipped a e es is)
+
+pub bounded_after_first : (es : List BoundedRange) → IsBounded es → IsBounded (after_first es)
+bounded_after_first es is = subst IsBounded (sym (rest_of 1 es)) (bounded_drop 1 es is)

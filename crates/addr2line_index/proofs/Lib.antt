@@ -5,6 +5,7 @@ pub use Rattle.addr2line_spec.proofs.RangeHolders
 pub mod UnitAnswers
 pub mod PartialLineRows
 pub mod StableOrder
+pub mod SharedRangeLemmas
 pub mod NumberedRangeLemmas
 pub mod UnitViews
 pub mod StretchLemmas

@@ -8,29 +8,22 @@ use Rattle.addr2line_spec.specs.Range.{Range}
 use Rattle.addr2line_spec.specs.Orders.{in_order}
 use Rattle.addr2line_spec.specs.Pairs.{pairs_of, pairs_from, ends_after}
 use Rattle.addr2line_index.specs.declared.unit_range.UnitRange.{UnitRange}
+use Rattle.addr2line_index.specs.declared.shared_range.SharedRange.{SharedRange}
+use Rattle.addr2line_index.specs.declared.unit_run.UnitRun.{UnitRun}
 use Rattle.addr2line_index.specs.NumberedRanges.{numbered_range, ranges_of_units, unit_ranges}
-use Rattle.addr2line_index.proofs.StableOrder.{in_order-unique, in_order-map, by_number}
+use Rattle.addr2line_index.specs.SharedRanges.{pairs_in_all, with_unit, pairs_of_runs, shared_of_runs, AreShareable}
+use Rattle.addr2line_index.proofs.StableOrder.{in_order-map, by_number}
+use Rattle.addr2line_index.proofs.SharedRangeLemmas.{end_of, shared_end, sorted_pairs}
 
-abbrev pub end_of : UnitRange → ℕ
-end_of r = r.range.end
-
--- a range that ends at a number
-abbrev ends_at : ℕ → UnitRange
-ends_at a = record { range = record { begin = 0; end = a }; unit = 0 }
-
-pub sorted_ranges : (all sorted : List UnitRange) (units : List (List Range)) → IsNonDecreasingBy end_of sorted
-    → IsStableByKey end_of nat_cmp all sorted
-    → all ≡ ranges_of_units units → sorted ≡ unit_ranges units
-sorted_ranges all sorted units up stable of =
-    in_order-unique end_of all sorted up (λ a. stable (ends_at a))
+pub sorted_ranges : (us : List UnitRun) (sorted : List SharedRange) (units : List (List Range)) → AreShareable us
+    → IsNonDecreasingBy shared_end sorted → IsStableByKey shared_end nat_cmp (shared_of_runs us) sorted
+    → pairs_of_runs us ≡ ranges_of_units units → pairs_in_all sorted ≡ unit_ranges units
+sorted_ranges us sorted units shareable up stable of =
+    sorted_pairs us sorted shareable up stable
     ∙ ap (in_order (by_number end_of)) of
     ∙ in_order-map numbered_range ends_after (by_number end_of) (λ p q. refl) (pairs_from (λ rs. rs) 0 units)
 
 -- ---- one unit more
-
--- ranges of one unit
-abbrev pub with_unit : ℕ → List Range → List UnitRange
-with_unit n rs = map (λ r. record { range = r; unit = n }) rs
 
 numbered_range-pairs : (n : ℕ) (rs : List Range)
     → map numbered_range (pairs_of (λ (qs : List Range). qs) n rs) ≡ with_unit n rs

@@ -24,7 +24,7 @@ tail_of true x y xs ys e = cc
 tail_of false x y xs ys e = e
 
 -- a number ties with one of two that differ at most
-tie-once : (a s t : ℕ) → t < s → tie a s ≡ true → tie a t ≡ true → ⊥
+pub tie-once : (a s t : ℕ) → t < s → tie a s ≡ true → tie a t ≡ true → ⊥
 tie-once a s t h is is' =
     elim (cases_lt a s) [
       | inl below ↦ let e = tie-below a s below in cc
@@ -44,20 +44,20 @@ module _ {X : Type 0} (n : X → ℕ) where
   by_number x y = nat_lt (n y) (n x)
 
   -- each is at or above a bound
-  abbrev NotBelow : ℕ → List X → Type 0
+  abbrev pub NotBelow : ℕ → List X → Type 0
   NotBelow low [] = Unit {0}
   NotBelow low (x ∷ xs) = (low ≤ n x) × NotBelow low xs
 
   -- each is at or above those before it
-  abbrev Ascends : List X → Type 0
+  abbrev pub Ascends : List X → Type 0
   Ascends [] = Unit {0}
   Ascends (x ∷ xs) = NotBelow (n x) xs × Ascends xs
 
   -- the elements that tie with a number
-  abbrev class : ℕ → List X → List X
+  abbrev pub class : ℕ → List X → List X
   class a xs = filter (λ x. tie a (n x)) xs
 
-  NotBelow-lower : (low high : ℕ) (xs : List X) → low ≤ high → NotBelow high xs → NotBelow low xs
+  pub NotBelow-lower : (low high : ℕ) (xs : List X) → low ≤ high → NotBelow high xs → NotBelow low xs
   NotBelow-lower low high [] h r = tt
   NotBelow-lower low high (x ∷ xs) h r = (omega arith, NotBelow-lower low high xs h r.1)
 
@@ -67,7 +67,7 @@ module _ {X : Type 0} (n : X → ℕ) where
   NotBelow-from_places low (x ∷ xs) h =
       (h 0 x (omega arith), NotBelow-from_places low xs (λ j d b. h (suc j) d (omega arith)))
 
-  Ascends-from_places : (xs : List X) → IsNonDecreasingBy n xs → Ascends xs
+  pub Ascends-from_places : (xs : List X) → IsNonDecreasingBy n xs → Ascends xs
   Ascends-from_places [] h = tt
   Ascends-from_places (x ∷ xs) h = (
     NotBelow-from_places (n x) xs (λ j d b. h 0 (suc j) d (omega arith) (omega arith)),
@@ -156,11 +156,14 @@ module _ {X : Type 0} (n : X → ℕ) where
   Ascends-in_order (x ∷ xs) = Ascends-put x (in_order by_number xs) (Ascends-in_order xs)
 
   -- a list that ascends, with the same elements at each number in the same order, is the list in order
+  pub in_order-ascending : (xs sorted : List X) → Ascends sorted → ((a : ℕ) → class a sorted ≡ class a xs)
+      → sorted ≡ in_order by_number xs
+  in_order-ascending xs sorted up same =
+      same_from_classes sorted (in_order by_number xs) up (Ascends-in_order xs) (λ a. same a ∙ sym (in_order-class a xs))
+
   pub in_order-unique : (xs sorted : List X) → IsNonDecreasingBy n sorted → ((a : ℕ) → class a sorted ≡ class a xs)
       → sorted ≡ in_order by_number xs
-  in_order-unique xs sorted up same =
-      same_from_classes sorted (in_order by_number xs) (Ascends-from_places sorted up) (Ascends-in_order xs)
-      (λ a. same a ∙ sym (in_order-class a xs))
+  in_order-unique xs sorted up same = in_order-ascending xs sorted (Ascends-from_places sorted up) same
 
 -- ---- elements seen through a function
 

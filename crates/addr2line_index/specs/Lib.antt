@@ -31,5 +31,6 @@ pub mod RowIndexes
 pub mod LineIndexes
 pub mod LineCursors
 pub mod StretchesLeft
+pub mod SharedRanges
 pub mod BoundedRanges
 pub mod SequenceOrders

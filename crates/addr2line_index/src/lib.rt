@@ -16,9 +16,11 @@ mod row_place;
 pub mod sequence;
 mod sequence_index;
 mod sequence_order;
+mod shared_range;
 pub mod stretches;
 pub mod unit_range;
 pub mod unit_ranges;
+mod unit_run;
 
 pub use addr2line_search::{Mark, Probed, Probes, Tally};
 pub use addr2line_spec::{file_text, file_text_of_bytes, is_rooted, join};

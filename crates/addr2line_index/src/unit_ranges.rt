@@ -1,66 +1,101 @@
 //! The ranges of all units, in the order in which lookups ask the units.
 
-ghost use Rattle.std.specs.Prelude.{◌≡◌, ◌++◌, ◌∷◌, [], List, length, drop, map, OnOk, OnErr, IfOk, IfErr, MatchOption};
+ghost use Rattle.std.specs.Prelude.{◌≡◌, ◌++◌, ◌∷◌, [], true, List, length, drop, map, OnOk, OnErr, IfOk, IfErr, MatchOption};
 ghost use Rattle.addr2line_spec.specs.Error.TheVariants.{Memory};
 ghost use Rattle.addr2line_spec.specs.Range.{Range as RangePart};
 ghost use Rattle.addr2line_index.specs.NumberedRanges.{ranges_of_units, unit_ranges, covering_ranges, overlapping_ranges};
-ghost use Rattle.addr2line_index.specs.BoundedRanges.{ranges_in, with_least_begins, IsBounded};
+ghost use Rattle.addr2line_index.specs.SharedRanges.{pairs_in, count_in_all, shared_of_run, shared_of_runs, AreShareable, LastGoesOn, with_last};
+ghost use Rattle.addr2line_index.specs.BoundedRanges.{ranges_in, shared_in, IsBounded, CountsFrom};
 
 use crate::bounded_range::BoundedRange;
 use crate::next_range::{count_ending_by, next_overlapping};
+use crate::shared_range::SharedRange;
 use crate::unit_range::UnitRange;
+use crate::unit_run::UnitRun;
 use addr2line_spec::{Error, Range};
 use std::alloc::Global;
 use std::marker::Model;
 
-/// Ranges of units as they are read, one unit after the other.
+/// Ranges of units as they are read, one unit after the other. They are borrowed.
 #[derive(Debug, Drop)]
-pub struct UnitRangesBuilder {
-    ranges: Vec<UnitRange>,
+pub struct UnitRangesBuilder<'a> {
+    runs: Vec<UnitRun<'a>>,
 }
 
-impl Model for UnitRangesBuilder {
+impl<'a> Model for UnitRangesBuilder<'a> {
     ghost use Rattle.std.specs.Prelude.{List};
     ghost use Rattle.addr2line_index.specs.declared.unit_range.UnitRange.{UnitRange as Numbered};
+    ghost use Rattle.addr2line_index.specs.SharedRanges.{pairs_of_runs, AreShareable};
 
     ghost Value = { List Numbered };
 
-    ghost view = { λ b. b.ranges.items };
+    ghost view = { λ b. pairs_of_runs b.runs.items };
+
+    ghost invariant = { λ b. AreShareable b.runs.items };
 }
 
-fn push_ranges(all: &mut Vec<UnitRange>, unit: usize, ranges: &[Range]) -> Result<(), Error>
-    ensures ok { OnOk result
-        (all.new.items ≡ all.old.items ++ map (λ r. record { range = r; unit = unit }) ranges.now) }
-    ensures err { OnErr result (all.new.items ≡ all.old.items) }
+// Whether a unit may be the next of the last run.
+fn may_lengthen(runs: &[UnitRun<'_>], unit: usize, ranges: &[Range]) -> bool
+    requires { AreShareable runs.now }
+    ensures { result ≡ true → LastGoesOn runs.now unit ranges.now }
+{
+    match runs.split_last() {
+        Some((last, _)) => last.goes_on(unit, ranges),
+        None => false,
+    }
+}
+
+// Makes a unit the last of the last run.
+fn lengthen(runs: &mut [UnitRun<'_>], unit: usize)
+    ensures { runs.new ≡ with_last unit runs.old }
+{
+    let count = runs.len();
+    if count > 0 {
+        runs[count - 1].last = unit;
+    }
+}
+
+// Appends the ranges of a run.
+fn push_shared(all: &mut Vec<SharedRange>, run: &UnitRun<'_>) -> Result<(), Error>
+    ensures ok { OnOk result (all.new.items ≡ all.old.items ++ shared_of_run run.now) }
     ensures refusal { IfErr result (λ e. e ≡ Memory) }
 {
-    let before = all.len();
-    for range in ranges {
-        let added = all.push(UnitRange {
+    for range in run.ranges {
+        all.push(SharedRange {
             range: *range,
-            unit,
-        });
-        if added.is_err() {
-            all.truncate(before);
-            return Err(Error::Memory);
-        }
+            first: run.first,
+            last: run.last,
+        })?;
     }
     Ok(())
 }
 
-impl UnitRangesBuilder {
+// The ranges of runs, each once for a run.
+fn shared_ranges(alloc: Global, runs: &[UnitRun<'_>]) -> Result<Vec<SharedRange>, Error>
+    ensures ok { IfOk result (λ all. all.items ≡ shared_of_runs runs.now) }
+    ensures refusal { IfErr result (λ e. e ≡ Memory) }
+{
+    let mut all = Vec::new(alloc);
+    for run in runs {
+        push_shared(&mut all, run)?;
+    }
+    Ok(all)
+}
+
+impl<'a> UnitRangesBuilder<'a> {
     /// No ranges. It takes no memory.
     pub fn new(alloc: Global) -> Self
         ensures { result ≡ ranges_of_units [] }
     {
         UnitRangesBuilder {
-            ranges: Vec::new(alloc),
+            runs: Vec::new(alloc),
         }
     }
 
     /// Adds the ranges of the unit of that number, which comes after those of the units below it.
-    /// Out of memory leaves the builder as it was.
-    pub fn add_unit(&mut self, unit: usize, ranges: &[Range]) -> Result<(), Error>
+    /// It takes no memory where they are those of the unit before and no two have one end. Out of
+    /// memory leaves the builder as it was.
+    pub fn add_unit(&mut self, unit: usize, ranges: &'a [Range]) -> Result<(), Error>
         ensures ok { OnOk result
             ((units : List (List RangePart)) → self.old ≡ ranges_of_units units
             → length units ≡ unit
@@ -68,38 +103,74 @@ impl UnitRangesBuilder {
         ensures err { OnErr result (self.new ≡ self.old) }
         ensures refusal { IfErr result (λ e. e ≡ Memory) }
     {
-        push_ranges(&mut self.ranges, unit, ranges)
+        if may_lengthen(self.runs.as_slice(), unit, ranges) {
+            lengthen(self.runs.as_mut_slice(), unit);
+            return Ok(());
+        }
+        self.runs.push(UnitRun {
+            ranges,
+            first: unit,
+            last: unit,
+        })?;
+        Ok(())
     }
 
     /// The ranges by their ends, those of one end by their units' numbers, and those of one unit as
-    /// they were added.
+    /// they were added. Units in a row with equal ranges share them, unless two have one end. More
+    /// pairs of a range and a unit than a `usize` counts are refused as out of memory.
     pub fn finish(self) -> Result<UnitRanges, Error>
         ensures ok { IfOk result
-            (λ ranges. (units : List (List RangePart)) → self ≡ ranges_of_units units
+            (λ ranges. (units : List (List RangePart)) → self.entry ≡ ranges_of_units units
             → ranges ≡ unit_ranges units) }
         ensures refusal { IfErr result (λ e. e ≡ Memory) }
     {
-        let UnitRangesBuilder { mut ranges } = self;
+        let alloc = *self.runs.allocator();
+        let mut ranges = shared_ranges(alloc, self.runs.as_slice())?;
         ranges.sort_by_key(|range| range.range.end)?;
-        let entries = bounded(*ranges.allocator(), ranges.as_slice())?;
+        let entries = bounded(alloc, ranges.as_slice())?;
         Ok(UnitRanges { entries })
     }
 }
 
-// The ranges, each with the least begin from it on.
-fn bounded(alloc: Global, ranges: &[UnitRange]) -> Result<Vec<BoundedRange>, Error>
-    ensures ok { IfOk result (λ entries. entries.items ≡ with_least_begins ranges.now) }
+// How many pairs of a range and a unit there are.
+fn count_pairs(ranges: &[SharedRange]) -> Result<usize, Error>
+    ensures ok { IfOk result (λ count. count ≡ count_in_all ranges.now) }
+    ensures refusal { IfErr result (λ e. e ≡ Memory) }
+{
+    let mut count: usize = 0;
+    let mut left = ranges;
+    while let [first, rest @ ..] = left {
+        let Some(added) = count.checked_add(first.more()) else {
+            return Err(Error::Memory);
+        };
+        let Some(added) = added.checked_add(1) else {
+            return Err(Error::Memory);
+        };
+        count = added;
+        left = rest;
+    }
+    Ok(count)
+}
+
+// The ranges, each with the least begin from it on and the number of pairs up to it.
+fn bounded(alloc: Global, ranges: &[SharedRange]) -> Result<Vec<BoundedRange>, Error>
+    ensures ranges { IfOk result (λ entries. shared_in entries.items ≡ ranges.now) }
+    ensures bounds { IfOk result (λ entries. IsBounded entries.items) }
+    ensures counts { IfOk result (λ entries. CountsFrom 0 entries.items) }
     ensures refusal { IfErr result (λ e. e ≡ Memory) }
 {
     let mut entries = Vec::new(alloc);
     let mut least_begin = u64::MAX;
+    let mut after = count_pairs(ranges)?;
     let mut left = ranges;
     while let Some((last, rest)) = left.split_last() {
         least_begin = least_begin.min(last.range.begin);
         entries.push(BoundedRange {
-            range: *last,
+            shared: *last,
             least_begin,
+            after,
         })?;
+        after = after - last.more() - 1;
         left = rest;
     }
     entries.reverse();
@@ -133,6 +204,7 @@ impl UnitRanges {
         let entries = self.entries.as_slice();
         let first = count_ending_by(entries, probe);
         CoveringRanges {
+            shared: None,
             left: &entries[first..],
             probe,
         }
@@ -152,29 +224,32 @@ impl UnitRanges {
 /// The ranges that cover an address, from one of them on.
 #[derive(Debug, Drop)]
 pub struct CoveringRanges<'a> {
+    /// A range that covers it, for the units that are left.
+    shared: Option<SharedRange>,
     left: &'a [BoundedRange],
     probe: u64,
 }
 
 impl<'a> Model for CoveringRanges<'a> {
-    ghost use Rattle.std.specs.Prelude.{List};
+    ghost use Rattle.std.specs.Prelude.{List, ◌++◌};
     ghost use Rattle.addr2line_index.specs.declared.unit_range.UnitRange.{UnitRange as Numbered};
     ghost use Rattle.addr2line_index.specs.NumberedRanges.{covering_ranges};
+    ghost use Rattle.addr2line_index.specs.SharedRanges.{pairs_left_in};
     ghost use Rattle.addr2line_index.specs.BoundedRanges.{ranges_in, IsBounded};
 
     ghost Value = { List Numbered };
 
-    ghost view = { λ c. covering_ranges c.probe (ranges_in c.left.now) };
+    ghost view = { λ c. pairs_left_in c.shared ++ covering_ranges c.probe (ranges_in c.left.now) };
 
     ghost invariant = { λ c. IsBounded c.left.now };
 }
 
 // The first range that covers an address, and the ranges after it.
-fn first_covering(entries: &[BoundedRange], probe: u64) -> Option<(UnitRange, &[BoundedRange])>
+fn first_covering(entries: &[BoundedRange], probe: u64) -> Option<(SharedRange, &[BoundedRange])>
     requires { IsBounded entries.now }
     ensures next { MatchOption result (covering_ranges probe (ranges_in entries.now) ≡ [])
         (λ f. covering_ranges probe (ranges_in entries.now)
-        ≡ f.0 ∷ covering_ranges probe (ranges_in f.1.now)) }
+        ≡ pairs_in f.0 ++ covering_ranges probe (ranges_in f.1.now)) }
     ensures rest { MatchOption result (Unit {0}) (λ f. IsBounded f.1.now) }
 {
     let mut left = entries;
@@ -182,8 +257,9 @@ fn first_covering(entries: &[BoundedRange], probe: u64) -> Option<(UnitRange, &[
         if probe < first.least_begin {
             return None;
         }
-        if first.range.range.begin <= probe && probe < first.range.range.end {
-            return Some((first.range, rest));
+        let range = first.shared.range;
+        if range.begin <= probe && probe < range.end {
+            return Some((first.shared, rest));
         }
         left = rest;
     }
@@ -197,8 +273,15 @@ impl CoveringRanges<'_> {
         ensures none { MatchOption result (self.old ≡ []) (λ first. self.old ≡ first ∷ self.new) }
         ensures ended { self.old ≡ [] → self.new ≡ [] }
     {
-        let (first, rest) = first_covering(self.left, self.probe)?;
-        self.left = rest;
+        if let Some(shared) = self.shared {
+            let (first, rest) = shared.split_first();
+            self.shared = rest;
+            return Some(first);
+        }
+        let (shared, left) = first_covering(self.left, self.probe)?;
+        let (first, rest) = shared.split_first();
+        self.shared = rest;
+        self.left = left;
         Some(first)
     }
 }

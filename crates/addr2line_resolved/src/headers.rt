@@ -6,6 +6,7 @@ ghost use Rattle.addr2line_functions.specs.EntryViews.{entry_of};
 ghost use Rattle.addr2line_functions.specs.UnitFacts.{in_file};
 ghost use Rattle.addr2line_functions.specs.Contexts.{is_of_types, facts_of_code_unit};
 ghost use Rattle.addr2line_units.specs.ArangeIndexes.{IsIndexOf};
+ghost use Rattle.addr2line_units.specs.LastLists.{IsLastOf};
 ghost use Rattle.addr2line_resolved.specs.ResolvedUnits.{HasRoot, value_of_unit, with_new_unit, with_unit_of_header, KeepNoFunctions, RunForRangesAlone};
 
 use crate::load::share;
@@ -14,6 +15,7 @@ use crate::unit::ResUnit;
 use addr2line_functions::{
     ArangeIndex, DebuggingInformationEntry, Dwarf, Error, Reader, UnitHeader, UnitType,
 };
+use addr2line_units::LastList;
 use std::alloc::Global;
 use std::rc::Rc;
 
@@ -47,20 +49,23 @@ pub(crate) fn push_context_unit<R: Reader>(
     alloc: Global,
     sections: &Rc<Dwarf<R>>,
     aranges: &ArangeIndex,
+    last: &mut LastList,
     header: UnitHeader<R>,
     entry: &mut DebuggingInformationEntry<R>,
     units: &mut Vec<ResUnit<R>>,
 ) -> Result<(), Error>
-    requires { IsIndexOf sections.now.value.file aranges.now }
+    requires index { IsIndexOf sections.now.value.file aranges.now }
+    requires last { IsLastOf sections.now.value.file last.old }
     ensures units { ReturnsAsOrNoMemory (λ _. map value_of_unit units.new.items) result
         (with_unit_of_header sections.now.value.file header (map value_of_unit units.old.items)) }
     ensures lines { OnOk result
         (RunForRangesAlone units.old.items → RunForRangesAlone units.new.items) }
     ensures functions { OnOk result
         (KeepNoFunctions units.old.items → KeepNoFunctions units.new.items) }
+    ensures last { IsLastOf sections.now.value.file last.new }
 {
     match code_unit(alloc, sections, header, entry)? {
-        Some(main) => push_unit(alloc, aranges, main, entry, units),
+        Some(main) => push_unit(alloc, aranges, last, main, entry, units),
         None => Ok(()),
     }
 }
@@ -69,11 +74,13 @@ pub(crate) fn push_context_unit<R: Reader>(
 fn push_unit<R: Reader>(
     alloc: Global,
     aranges: &ArangeIndex,
+    last: &mut LastList,
     main: OwnedUnit<R>,
     entry: &DebuggingInformationEntry<R>,
     units: &mut Vec<ResUnit<R>>,
 ) -> Result<(), Error>
     requires index { IsIndexOf main.file aranges.now }
+    requires last { IsLastOf main.file last.old }
     requires root { HasRoot main (entry_of R.view R.Offset.count entry.now) }
     ensures units { ReturnsAsOrNoMemory (λ _. map value_of_unit units.new.items) result
         (with_new_unit main (map value_of_unit units.old.items)) }
@@ -81,8 +88,9 @@ fn push_unit<R: Reader>(
         (RunForRangesAlone units.old.items → RunForRangesAlone units.new.items) }
     ensures functions { OnOk result
         (KeepNoFunctions units.old.items → KeepNoFunctions units.new.items) }
+    ensures last { IsLastOf main.file last.new }
 {
-    let unit = ResUnit::read(alloc, main, entry, aranges)?;
+    let unit = ResUnit::read(alloc, main, entry, aranges, last)?;
     units.push(unit)?;
     Ok(())
 }

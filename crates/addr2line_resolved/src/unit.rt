@@ -8,6 +8,7 @@ ghost use Rattle.addr2line_functions.specs.EntryViews.{entry_of};
 ghost use Rattle.addr2line_functions.specs.BorrowedFrames.{frames_left};
 ghost use Rattle.addr2line_functions.specs.BorrowedLocations.{location_value};
 ghost use Rattle.addr2line_units.specs.ArangeIndexes.{IsIndexOf};
+ghost use Rattle.addr2line_units.specs.LastLists.{IsLastOf};
 ghost use Rattle.addr2line_units.specs.LineIndexes.{counted_lines};
 ghost use Rattle.addr2line_units.specs.RootRanges.{RunsForRanges, unit_with};
 ghost use Rattle.addr2line_units.specs.Searches.{AtMostProbes};
@@ -23,16 +24,18 @@ use addr2line_functions::{
     Functions, HasUnit, HoldingUnit, LineIndex, Location, Names, Probes, Range, Reader, Runs, Unit,
     UnitLines, UnitRoot, calls_of_function, functions_of_unit,
 };
-use addr2line_units::LineRow;
+use addr2line_units::{LastList, LineRow};
 use std::alloc::Global;
 use std::marker::Model;
+use std::rc::Rc;
 
 /// A unit of a context: the ranges that it covers, its language, the load of its split part and the
 /// first answer to it. Its lines, its functions and their calls are read when they are asked for,
 /// and kept, refusals too.
 pub struct ResUnit<R: Reader> {
     main: OwnedUnit<R>,
-    ranges: Vec<Range>,
+    /// Shared with the units before and after it that have the same range list.
+    ranges: Rc<Vec<Range>>,
     language: Option<DwLang>,
     load: KeptLoad<R>,
     first: Option<Result<Option<OwnedUnit<R>>, Error>>,
@@ -77,7 +80,7 @@ impl<R: Reader> Model for ResUnit<R> {
         file = u.main.file;
         unit = record {
           facts = u.main.facts;
-          ranges = u.ranges.items;
+          ranges = u.ranges.value.items;
           language = option_map (λ l. l.0) u.language;
           lines = lines_of_unit u.main;
         };
@@ -173,21 +176,25 @@ fn unit_under<'a, R: Reader>(
 
 impl<R: Reader> ResUnit<R> {
     /// The unit, with what its root says. Its line number program is run only where its ranges are
-    /// those of its lines, which are then kept. Refused by its root or its ranges.
+    /// those of its lines, which are then kept. Refused by its root or its ranges. A range list
+    /// that is the last one of the file isn't read again.
     pub fn read(
         alloc: Global,
         main: OwnedUnit<R>,
         entry: &DebuggingInformationEntry<R>,
         aranges: &ArangeIndex,
+        last: &mut LastList,
     ) -> Result<Self, Error>
         requires index { IsIndexOf main.file aranges.now }
+        requires last { IsLastOf main.file last.old }
         requires root { HasRoot main (entry_of R.view R.Offset.count entry.now) }
         ensures unit { ReturnsAsOrNoMemory (λ u. u.value) result (new_unit main) }
         ensures lines { IfOk result RunsForRangesAlone }
         ensures functions { IfOk result KeepsNoFunctions }
+        ensures last { IsLastOf main.file last.new }
     {
         let mut runs = Runs::new();
-        let root = UnitRoot::read(alloc, &main.unit_ref(), entry, aranges, &mut runs)?;
+        let root = UnitRoot::read(alloc, &main.unit_ref(), entry, aranges, last, &mut runs)?;
         ResUnit::of_root(alloc, main, root, runs)
     }
 
@@ -232,7 +239,7 @@ impl<R: Reader> ResUnit<R> {
     pub fn ranges(&self) -> &[Range]
         ensures { result.now ≡ self.now.value.unit.ranges }
     {
-        self.ranges.as_slice()
+        self.ranges.as_ref().as_slice()
     }
 
     /// The language of the unit, if its root names one (DWARF 5, 7.12).

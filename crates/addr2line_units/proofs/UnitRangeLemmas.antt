@@ -22,6 +22,9 @@ ok_facts last = Ok last
 abbrev pub ok_ranges : List Range → Result (List Range) Error
 ok_ranges rs = Ok rs
 
+abbrev pub refused_ranges : Error → Result (List Range) Error
+refused_ranges e = Err e
+
 module _ (u : UnitInFile) where
   by_list : (facts : List RangeFact) (list : Option (Option ℕ))
       → declared_ranges u facts list ≡ ranges_by u (range_of_root facts) list
@@ -48,6 +51,17 @@ module _ (u : UnitInFile) where
       → declared_by u last ≡ ok_ranges rs
       → ranges_of_attributes u lines attributes ≡ ok_ranges (or_else rs (ranges_of_lines lines))
   ranges-found lines attributes last rs h k =
+      let facts : Result (List RangeFact) Error = each (fact_of u) attributes in
+      let ends : List Range → Result (List Range) Error = λ rs. Ok (or_else rs (ranges_of_lines lines)) in
+      and_last facts (λ fs. declared_ranges u fs (last_of list_in fs)) ends
+      ∙ ap (λ r. and_then r ends) (by_last facts last h ∙ k)
+
+  -- the refusal of what they declare is theirs
+  pub ranges-refused : (lines : Result Lines Error) (attributes : List RawAttribute) (last : LastFacts) (e : Error)
+      → facts_of u attributes ≡ ok_facts last
+      → declared_by u last ≡ refused_ranges e
+      → ranges_of_attributes u lines attributes ≡ refused_ranges e
+  ranges-refused lines attributes last e h k =
       let facts : Result (List RangeFact) Error = each (fact_of u) attributes in
       let ends : List Range → Result (List Range) Error = λ rs. Ok (or_else rs (ranges_of_lines lines)) in
       and_last facts (λ fs. declared_ranges u fs (last_of list_in fs)) ends

@@ -59,5 +59,6 @@ pub mod FileTextLists
 pub mod LastFacts
 pub mod ArangeIndexes
 pub mod RangeListReading
+pub mod LastLists
 pub mod CountedRuns
 pub mod RootRanges

@@ -7,6 +7,7 @@ pub mod fact;
 pub mod facts;
 mod files;
 mod language;
+pub mod last_list;
 mod lists;
 mod partial;
 pub mod ranges;
@@ -36,6 +37,7 @@ pub use gimli_lines_rows::{
     ReaderOffsetId, RunTimeEndian, SectionId, UnitHeader, UnitOffset, UnitType,
 };
 pub use language::language_of;
+pub use last_list::LastList;
 pub use partial::is_partial;
 pub use ranges::{RootRanges, entry_ranges, ranges_of_attributes, ranges_of_entry};
 pub use root::UnitRoot;

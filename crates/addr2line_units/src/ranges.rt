@@ -11,11 +11,13 @@ ghost use Rattle.addr2line_index.specs.UnitLines.{lines_of_unit};
 ghost use Rattle.addr2line_units.specs.ArangeIndexes.{IsIndexOf};
 ghost use Rattle.addr2line_units.specs.CountedRuns.{runs_for_lines};
 ghost use Rattle.addr2line_units.specs.LastFacts.{root_range, declared_by, entry_ranges_by};
+ghost use Rattle.addr2line_units.specs.LastLists.{IsLastOf};
 ghost use Rattle.addr2line_units.specs.RootRanges.{ranges_by_run, RunsForRanges};
 
 use crate::arange_index::ArangeIndex;
 use crate::aranges::push_if_any;
 use crate::facts::{LastFacts, facts_of};
+use crate::last_list::{LastList, shared_list};
 use crate::lists::listed_ranges;
 use crate::unit_lines::{Runs, UnitLines};
 use addr2line_index::LineSequence;
@@ -23,6 +25,7 @@ use gimli_dwarf::UnitRef;
 use gimli_lines_rows::{Attribute, Error, Range, Reader, ReaderOffset};
 use std::alloc::Global;
 use std::marker::Model;
+use std::rc::Rc;
 
 // A range, if it begins before it ends.
 fn range_if_nonempty(begin: u64, end: u64) -> Option<Range>
@@ -87,21 +90,39 @@ fn aranges_of_unit<R: Reader>(
     aranges.ranges_at(alloc, unit.header.offset().0.into_u64())
 }
 
+// The same, to be shared.
+fn shared_aranges<R: Reader>(
+    alloc: Global,
+    unit: &UnitRef<'_, R>,
+    aranges: &ArangeIndex,
+    other: Option<Range>,
+) -> Result<Rc<Vec<Range>>, Error>
+    requires { IsIndexOf unit.now.file aranges.now }
+    ensures { ReturnsAsOrNoMemory (λ r. r.value.items) result
+        (Ok (or_else (ranges_of_aranges unit.now.file unit.now.facts.header.offset)
+        (option_to_list other))) }
+{
+    Ok(Rc::new(alloc, aranges_or(alloc, unit, aranges, other)?)?)
+}
+
 // What a unit declares: its range list, or else its address ranges, or else what low_pc and
 // high_pc say.
 fn declared_ranges<R: Reader>(
     alloc: Global,
     unit: &UnitRef<'_, R>,
     aranges: &ArangeIndex,
+    last: &mut LastList,
     facts: &LastFacts<R::Offset>,
-) -> Result<Vec<Range>, Error>
-    requires { IsIndexOf unit.now.file aranges.now }
-    ensures { ReturnsAsOrNoMemory (λ v. v.items) result
+) -> Result<Rc<Vec<Range>>, Error>
+    requires index { IsIndexOf unit.now.file aranges.now }
+    requires last { IsLastOf unit.now.file last.old }
+    ensures ranges { ReturnsAsOrNoMemory (λ r. r.value.items) result
         (declared_by unit.now facts.now) }
+    ensures last { IsLastOf unit.now.file last.new }
 {
     match facts.list {
-        Some(Some(offset)) => listed_ranges(alloc, unit, offset),
-        _ => aranges_or(alloc, unit, aranges, root_range(facts)),
+        Some(Some(offset)) => shared_list(alloc, unit, offset, last),
+        _ => shared_aranges(alloc, unit, aranges, root_range(facts)),
     }
 }
 
@@ -130,7 +151,7 @@ fn ranges_of_lines(alloc: Global, lines: &Result<UnitLines, Error>) -> Result<Ve
 /// was run for the ranges.
 #[derive(Drop)]
 pub struct RootRanges {
-    pub ranges: Vec<Range>,
+    pub ranges: Rc<Vec<Range>>,
     pub lines: Option<Result<UnitLines, Error>>,
 }
 
@@ -139,7 +160,7 @@ impl Model for RootRanges {
 
     ghost Value = { Found };
 
-    ghost view = { λ r. record { ranges = r.ranges.items; lines = r.lines } };
+    ghost view = { λ r. record { ranges = r.ranges.value.items; lines = r.lines } };
 }
 
 // The ranges of a unit's lines, with the lines.
@@ -152,7 +173,7 @@ fn ranges_by_run<R: Reader>(
     ensures counted { OnOk result (runs.new ≡ runs.old + runs_for_lines unit.now.facts) }
 {
     let lines = UnitLines::run_to_keep(alloc, unit, runs)?;
-    let ranges = ranges_of_lines(alloc, &lines)?;
+    let ranges = Rc::new(alloc, ranges_of_lines(alloc, &lines)?)?;
     Ok(RootRanges {
         ranges,
         lines: Some(lines),
@@ -164,14 +185,14 @@ fn or_by_run<R: Reader>(
     alloc: Global,
     unit: &UnitRef<'_, R>,
     runs: &mut Runs,
-    declared: Vec<Range>,
+    declared: Rc<Vec<Range>>,
 ) -> Result<RootRanges, Error>
     ensures ranges { ReturnsAsOrNoMemory (λ r. r.ranges) result
-        (Ok (or_else declared.items (ranges_of_lines (lines_of_unit unit.now)))) }
+        (Ok (or_else declared.value.items (ranges_of_lines (lines_of_unit unit.now)))) }
     ensures lines { IfOk result
         (λ r. RunsForRanges unit.now r.ranges r.lines runs.old runs.new) }
 {
-    if declared.is_empty() {
+    if declared.as_ref().is_empty() {
         return ranges_by_run(alloc, unit, runs);
     }
     Ok(RootRanges {
@@ -183,23 +204,27 @@ fn or_by_run<R: Reader>(
 /// The ranges of a unit whose root has these attributes: those that it declares, or else those of
 /// its lines, for which its line number program is run. Declared they are by its range list, or
 /// else by `.debug_aranges`, or else by low_pc and high_pc. Refused is an attribute whose address
-/// or list can't be read, the first of them, and then a range list.
+/// or list can't be read, the first of them, and then a range list. A list that is the last one of
+/// the file isn't read again.
 pub fn ranges_of_attributes<R: Reader>(
     alloc: Global,
     unit: &UnitRef<'_, R>,
     aranges: &ArangeIndex,
+    last: &mut LastList,
     runs: &mut Runs,
     attributes: &[Attribute<R>],
 ) -> Result<RootRanges, Error>
     requires index { IsIndexOf unit.now.file aranges.now }
+    requires last { IsLastOf unit.now.file last.old }
     ensures ranges { ReturnsAsOrNoMemory (λ r. r.ranges) result
         (ranges_of_attributes unit.now (lines_of_unit unit.now)
         (raw_attributes R.view R.Offset.count attributes.now)) }
     ensures lines { IfOk result
         (λ r. RunsForRanges unit.now r.ranges r.lines runs.old runs.new) }
+    ensures last { IsLastOf unit.now.file last.new }
 {
     let facts = facts_of(unit, attributes)?;
-    let declared = declared_ranges(alloc, unit, aranges, &facts)?;
+    let declared = declared_ranges(alloc, unit, aranges, last, &facts)?;
     or_by_run(alloc, unit, runs, declared)
 }
 

@@ -6,10 +6,12 @@ ghost use Rattle.gimli_dwarf.specs.EntryViews.{entry_of, raw_attributes};
 ghost use Rattle.addr2line_index.specs.UnitLines.{lines_of_unit};
 ghost use Rattle.addr2line_index.specs.Contexts.{unit_of_root, unit_of_entry};
 ghost use Rattle.addr2line_units.specs.ArangeIndexes.{IsIndexOf};
+ghost use Rattle.addr2line_units.specs.LastLists.{IsLastOf};
 ghost use Rattle.addr2line_units.specs.RootRanges.{RunsForRanges, unit_with};
 
 use crate::arange_index::ArangeIndex;
 use crate::language::language_of;
+use crate::last_list::LastList;
 use crate::partial::is_partial;
 use crate::ranges::{RootRanges, ranges_of_attributes};
 use crate::unit_lines::{Runs, UnitLines};
@@ -17,12 +19,13 @@ use gimli_dwarf::{DebuggingInformationEntry, UnitRef};
 use gimli_lines_rows::{Attribute, DwLang, Error, Range, Reader};
 use std::alloc::Global;
 use std::marker::Model;
+use std::rc::Rc;
 
 /// The ranges and the language that the root of a unit says, and the unit's lines, or why they
 /// can't be read, where its line number program was run for the ranges.
 #[derive(Drop)]
 pub struct UnitRoot {
-    pub ranges: Vec<Range>,
+    pub ranges: Rc<Vec<Range>>,
     pub language: Option<DwLang>,
     pub lines: Option<Result<UnitLines, Error>>,
 }
@@ -34,7 +37,7 @@ impl Model for UnitRoot {
     ghost Value = { RootFacts };
 
     ghost view = { λ r. record {
-      ranges = r.ranges.items;
+      ranges = r.ranges.value.items;
       language = option_map (λ l. l.0) r.language;
       lines = r.lines;
     } };
@@ -43,30 +46,33 @@ impl Model for UnitRoot {
 impl UnitRoot {
     /// What the root of a unit says; nothing of a unit that others import. The unit's line number
     /// program is run only where the root declares no ranges. Refused is an attribute of the root,
-    /// or else its range list.
+    /// or else its range list. A list that is the last one of the file isn't read again.
     pub fn read<R: Reader>(
         alloc: Global,
         unit: &UnitRef<'_, R>,
         root: &DebuggingInformationEntry<R>,
         aranges: &ArangeIndex,
+        last: &mut LastList,
         runs: &mut Runs,
     ) -> Result<Self, Error>
         requires index { IsIndexOf unit.now.file aranges.now }
+        requires last { IsLastOf unit.now.file last.old }
         ensures unit { ReturnsAsOrNoMemory (unit_with unit.now) result
             (unit_of_entry unit.now (lines_of_unit unit.now)
             (entry_of R.view R.Offset.count root.now)) }
         ensures lines { IfOk result
             (λ r. RunsForRanges unit.now r.ranges r.lines runs.old runs.new) }
+        ensures last { IsLastOf unit.now.file last.new }
     {
         let facts = unit.unit;
         if is_partial(&facts.header, root) {
             return Ok(UnitRoot {
-                ranges: Vec::new(alloc),
+                ranges: Rc::new(alloc, Vec::new(alloc))?,
                 language: None,
                 lines: None,
             });
         }
-        UnitRoot::of_root(alloc, unit, aranges, runs, root.attrs())
+        UnitRoot::of_root(alloc, unit, aranges, last, runs, root.attrs())
     }
 
     // What the attributes of a root say.
@@ -74,17 +80,20 @@ impl UnitRoot {
         alloc: Global,
         unit: &UnitRef<'_, R>,
         aranges: &ArangeIndex,
+        last: &mut LastList,
         runs: &mut Runs,
         attributes: &[Attribute<R>],
     ) -> Result<Self, Error>
         requires index { IsIndexOf unit.now.file aranges.now }
+        requires last { IsLastOf unit.now.file last.old }
         ensures unit { ReturnsAsOrNoMemory (unit_with unit.now) result
             (unit_of_root unit.now (lines_of_unit unit.now)
             (raw_attributes R.view R.Offset.count attributes.now)) }
         ensures lines { IfOk result
             (λ r. RunsForRanges unit.now r.ranges r.lines runs.old runs.new) }
+        ensures last { IsLastOf unit.now.file last.new }
     {
-        let found = ranges_of_attributes(alloc, unit, aranges, runs, attributes)?;
+        let found = ranges_of_attributes(alloc, unit, aranges, last, runs, attributes)?;
         let language = language_of(attributes)?;
         let RootRanges { ranges, lines } = found;
         Ok(UnitRoot {

@@ -75,8 +75,8 @@ impl UnitLines {
     /// Runs the line number program of a unit, and counts that (DWARF 5, 6.2). Its lines are the
     /// sequences of the program, and the texts of its files by their numbers; none where the unit
     /// has no program, and then no run is counted. Refused is a program by its fault, else by the
-    /// first of its files whose text can't be read. Takes memory for the rows and for the texts, and
-    /// where the program defines files for a second header that has them too.
+    /// first of its files whose text can't be read. Takes memory for the rows and for the texts,
+    /// and where the program defines files for a second header that has them too.
     pub fn run<R: Reader>(
         alloc: Global,
         unit: &UnitRef<'_, R>,

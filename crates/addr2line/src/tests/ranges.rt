@@ -5,7 +5,7 @@ use addr2line_context::{
     ArangeIndex, DW_LANG_Rust, DwLang, Error, Range, ReaderOffsetId, Runs, UnitRef, UnitRoot,
     language_of,
 };
-use addr2line_functions::{DebuggingInformationEntry, entries_raw};
+use addr2line_functions::{DebuggingInformationEntry, LastList, entries_raw};
 use std::alloc::Global;
 use std::test::Fail;
 
@@ -86,8 +86,9 @@ impl Question for Ranges {
         let aranges = ArangeIndex::read(alloc, unit.dwarf)?;
         let mut runs = Runs::new();
         let root = unit.root(alloc)?;
-        let UnitRoot { ranges, .. } = UnitRoot::read(alloc, unit, &root, &aranges, &mut runs)?;
-        Ok(ranges)
+        let mut last = LastList::new();
+        let root = UnitRoot::read(alloc, unit, &root, &aranges, &mut last, &mut runs)?;
+        Ok(root.ranges.as_ref().clone()?)
     }
 }
 

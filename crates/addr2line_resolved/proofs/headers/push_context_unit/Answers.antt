@@ -1,10 +1,12 @@
 use Rattle.std.proofs.Common.{◌≡◌, subst, sym, ap, ◌∙◌, List, Option, Some, None, option_map, map, Result}
+use Rattle.std.specs.Prelude.{IfSome}
 use Rattle.std.proofs.lemmas.Result.{err_from_is_err_and}
 use Rattle.addr2line_functions.specs.Error.{Error}
 use Rattle.addr2line_functions.specs.Calls.{ReturnsAsOrNoMemory}
 use Rattle.addr2line_functions.specs.Contexts.{facts_of_code_unit}
-use Rattle.addr2line_functions.specs.UnitFacts.{UnitInFile, in_file}
+use Rattle.addr2line_functions.specs.UnitFacts.{UnitFacts, UnitInFile, in_file}
 use Rattle.addr2line_functions.specs.DwarfFiles.{DwarfFile}
+use Rattle.addr2line_units.specs.LastLists.{IsListOf}
 use Rattle.addr2line_resolved.specs.ResolvedUnits.{AnsweredUnit, value_of_unit, new_unit}
 use Rattle.addr2line_resolved.proofs.UnitReading.{ok_of, append_some, append_none}
 use Rattle.addr2line_resolved.proofs.headers.push_context_unit.Goals as goal
@@ -26,6 +28,23 @@ returns-in-Some-clause-units g c =
     (sym (append_some (in_file file) new_unit (map value_of_unit c.args.units.now.items)
     (facts_of_code_unit file c.args.header) c.in-Some.main found))
     c.push_unit.ensures.units
+
+-- a unit in a file is in that file
+file_of : (file : DwarfFile) (o : Option UnitFacts) (u : UnitInFile) → option_map (in_file file) o ≡ Some u
+    → file ≡ u.file
+file_of file None u h = absurd cc
+file_of file (Some facts) u h =
+    let same : in_file file facts ≡ u = cc in
+    ap (λ (x : UnitInFile). x.file) same
+
+pub returns-in-Some-clause-last : goal.returns-in-Some-clause-last
+returns-in-Some-clause-last g c =
+    let file : DwarfFile = c.args.sections.now.value.file in
+    let o : Option UnitInFile = option_map (in_file file) (facts_of_code_unit file c.args.header) in
+    let one : ok_of o ≡ ok_of (Some c.in-Some.main) = c.in_ok-main.ensures.unit ∙ ap ok_of c.in-Some.is in
+    let found : o ≡ Some c.in-Some.main = cc in
+    subst (λ (f : DwarfFile). IfSome c.push_unit.new.last.list (IsListOf f))
+    (sym (file_of file (facts_of_code_unit file c.args.header) c.in-Some.main found)) c.push_unit.ensures.last
 
 pub returns-in-None-clause-units : goal.returns-in-None-clause-units
 returns-in-None-clause-units g c =

@@ -1,9 +1,12 @@
-use Rattle.std.proofs.Common.{◌≡◌, sym, ap, subst, ◌∙◌, map}
+use Rattle.std.proofs.Common.{◌≡◌, sym, ap, subst, ◌∙◌, map, Option}
+use Rattle.std.specs.Prelude.{IfSome}
 use Rattle.std.proofs.lemmas.Result.{err_from_is_err_and}
 use Rattle.addr2line_functions.specs.Tiling.{whole_section}
 use Rattle.addr2line_functions.specs.UnitHeaders.{units_to_come}
 use Rattle.addr2line_functions.specs.UnitFacts.{in_file}
 use Rattle.addr2line_units.specs.CachedFiles.{CachedFile}
+use Rattle.addr2line_units.specs.declared.last_list.ReadList.{ReadList}
+use Rattle.addr2line_units.specs.LastLists.{IsListOf}
 use Rattle.addr2line_functions.specs.DwarfFiles.{DwarfFile}
 use Rattle.addr2line_functions.specs.Contexts.{facts_of_code_unit, headers_of}
 use Rattle.addr2line_resolved.specs.ResolvedUnits.{value_of_unit, new_unit, new_units, KeepNoFunctions, RunForRangesAlone}
@@ -28,6 +31,7 @@ loop-headers-init g c =
           ∙ ap (λ (s : CachedFile). headers_of s.file) of_file);
       lines = subst RunForRangesAlone (sym c.new-units.ensures.items) tt;
       functions = subst KeepNoFunctions (sym c.new-units.ensures.items) tt;
+      last = subst (λ (l : Option ReadList). IfSome l (IsListOf file)) (sym c.new-last.ensures) tt;
     }
 
 pub returns-in_err-header-clause-units : goal.returns-in_err-header-clause-units
@@ -69,4 +73,5 @@ loop-headers-preserved g c =
           (map value_of_unit c.push_context_unit.new.units.items) c.in_ok-push_context_unit.ensures.units;
       lines = c.in_ok-push_context_unit.ensures.lines c.loop-headers.invariant.lines;
       functions = c.in_ok-push_context_unit.ensures.functions c.loop-headers.invariant.functions;
+      last = c.in_ok-push_context_unit.ensures.last;
     }
