@@ -1,13 +1,11 @@
 -- An answer to a load in a context is one to its unit, and what it leaves.
-use Rattle.std.proofs.Common.{◌≡◌, ◌<◌, ◌≤◌, inl, inr, ℕ, List, [], length, set, get_or, map, slice_get, Option, Some, None, option_map, Result, Ok, Err, refl, sym, ap, ◌∙◌, subst}
+use Rattle.std.proofs.Common.{◌≡◌, ◌<◌, inl, inr, ℕ, List, [], length, set, get_or, map, slice_get, Option, Some, None, option_map, Result, Ok, Err, refl, sym, ap, ◌∙◌, subst}
 use Rattle.std.proofs.lemmas.Simd.{map-map}
-use Rattle.std.proofs.lemmas.List.{length-map, map-set, set-get_or}
+use Rattle.std.proofs.lemmas.List.{map-set, set-get_or}
 use Rattle.std.proofs.lemmas.List.Elements.{All-set}
-use Rattle.std.proofs.lemmas.Option.{slice_get-map, slice_get-get_or, slice_get_past, get_or_from_slice_get}
+use Rattle.std.proofs.lemmas.Option.{slice_get-map, slice_get-get_or, get_or_from_slice_get}
 use Rattle.std.proofs.Math.Seq.{map-set_same}
 use Rattle.addr2line_resolved.specs.Error.{Error}
-use Rattle.addr2line_resolved.specs.Error.TheVariants.{NoSuchUnit}
-use Rattle.addr2line_resolved.specs.Calls.{Returns}
 use Rattle.addr2line_resolved.specs.Results.{and_then}
 use Rattle.addr2line_resolved.specs.DwarfFiles.{DwarfFile}
 use Rattle.addr2line_resolved.specs.UnitFacts.{UnitFacts, in_file}
@@ -17,7 +15,6 @@ use Rattle.addr2line_resolved.specs.Contexts.{FileContext}
 use Rattle.addr2line_resolved.specs.ResolvedUnits.{AnsweredUnit, ResolvedUnit, value_of_unit, plain_unit, main_unit, pending_load, undecided, decided, first_with, with_unit_answer}
 use Rattle.addr2line_resolved.proofs.NewUnits.{unit_of}
 use Rattle.addr2line_lookups.specs.AnsweredUnits.{first_of, answers_of, IsOfFile, AreOfFile}
-use Rattle.addr2line_lookups.specs.Preloads.{load_at}
 use Rattle.addr2line_lookups.specs.LoadAnswers.{AnswersOrNoMemory, check_unit, unit_after, answer_unit, answer_among, answer_at}
 use Rattle.addr2line_lookups.proofs.PendingUnits.{recorded_here, same_file}
 use Rattle.addr2line_lookups.proofs.ContextOfUnits.{context_of_units}
@@ -48,16 +45,6 @@ set_same xs n x is =
 -- a decided unit stays as it is
 pub decided_stays : (v : AnsweredUnit) (later : FirstAnswer) → pending_load v ≡ None → with_unit_answer later v ≡ v
 decided_stays v later decided = ap (λ o. record v { first = first_with o later v.first }) decided
-
-returned : (r meaning : Result (Unit {0}) Error) → Returns r meaning → meaning ≡ r
-returned (Ok x) meaning h = h
-returned (Err e) meaning h = h
-
-pub decided_answers : (v : AnsweredUnit) (answer : Option DwarfFile) (r : Result (Unit {0}) Error)
-    → Returns r (check_unit v) → pending_load v ≡ None → answer_unit v answer ≡ (r, v)
-decided_answers v answer r checked decided =
-    ap (λ (w : AnsweredUnit). (check_unit w, w)) (decided_stays v (answer_of v.unit.facts answer) decided)
-    ∙ ap (λ x. (x, v)) (returned r (check_unit v) checked)
 
 -- ---- units
 
@@ -162,21 +149,6 @@ module _ (us us' : List ResolvedUnit) (result : Result (Unit {0}) Error) (n : �
 -- ---- one of the units
 
 module _ (us : List ResolvedUnit) (n : ℕ) (answer : Option DwarfFile) where
-  -- none of that number
-  past_is : length us ≤ n → answer_at (map value_of_unit us) n answer ≡ (Err NoSuchUnit, map value_of_unit us)
-  past_is past =
-      ap (λ o. answer_among (map value_of_unit us) n o answer)
-      (slice_get_past (map value_of_unit us) n (subst (λ k. k ≤ n) (sym (length-map us value_of_unit)) past))
-
-  pub answer_past : length us ≤ n
-      → AnswersOrNoMemory (Err NoSuchUnit) (map value_of_unit us) (map value_of_unit us)
-      (answer_at (map value_of_unit us) n answer)
-  answer_past past = inl (past_is past)
-
-  pub decided_past : length us ≤ n → load_at (map value_of_unit us) n ≡ None
-      → answer_at (map value_of_unit us) n answer ≡ (Err NoSuchUnit, map value_of_unit us)
-  decided_past past none = past_is past
-
   module _ (u new : ResolvedUnit) (result : Result (Unit {0}) Error) (below : n < length us)
       (is : u ≡ get_or us n u) where
     value_here : slice_get (map value_of_unit us) n ≡ Some u.value

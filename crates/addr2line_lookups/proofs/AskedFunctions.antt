@@ -3,22 +3,13 @@ use Rattle.std.proofs.Common.{◌≡◌, ◌≢◌, ◌⊎◌, inl, inr, ℕ, tr
 use Rattle.std.proofs.lemmas.List.Elements.{All-head, All-tail}
 use Rattle.addr2line_resolved.specs.Error.{Error}
 use Rattle.addr2line_resolved.specs.Error.TheVariants.{Memory}
-use Rattle.addr2line_resolved.specs.UnitFacts.{UnitFacts, UnitInFile}
-use Rattle.addr2line_resolved.specs.Frames.{Frame}
-use Rattle.addr2line_resolved.specs.FirstAnswers.{PendingLoad, Lookup, output, pending}
-use Rattle.addr2line_resolved.specs.Lookups.{has_frames, is_there}
+use Rattle.addr2line_resolved.specs.FirstAnswers.{PendingLoad}
 use Rattle.addr2line_resolved.specs.UnitRange.{UnitRange}
 use Rattle.addr2line_resolved.specs.ResolvedUnits.{AnsweredUnit, ResolvedUnit, value_of_unit}
 use Rattle.addr2line_lookups.specs.KeptUnits.{KeepMoreFunctions, KeepsFunctionsAt}
-use Rattle.addr2line_lookups.specs.KeptCalls.{known_among}
 use Rattle.addr2line_lookups.specs.Preloads.{load_at}
-use Rattle.addr2line_lookups.specs.UnitLookups.{IsPending, frames_asked, FoundFrames, SettlesFrames, unit_asked, unit_at_number, FoundUnit, SettlesUnit}
 use Rattle.addr2line_lookups.specs.PassedUnits.{KeepsFunctionsOf, KnowsNothing, AsksUntil, KeepsAskedFunctions}
-use Rattle.addr2line_lookups.specs.declared.frame_place.FramePlace.{FramePlace}
-use Rattle.addr2line_lookups.specs.declared.settled.Settled.{Settled}
-use Rattle.addr2line_lookups.specs.declared.settled.Settled.TheVariants.{Waits, Found}
 use Rattle.addr2line_lookups.proofs.PassedUnits.{has_no_load}
-use Rattle.addr2line_lookups.proofs.SettledUnits.{frames_same, unit_same, frames_waiting, frames_place, unit_waiting, unit_number}
 
 -- ---- results
 
@@ -145,73 +136,3 @@ module _ {A : Type 0} (ask : AnsweredUnit → A) (nothing : A) (us : List Resolv
             → KeepsFunctionsAt ws n
         by (inl kept) = kept
         by (inr left) = absurd (something left.0)
-
--- ---- units that know something
-
-pending_knows : {A : Type 0} (m : Lookup A) (x : A) → IsPending m → m ≡ output x → ⊥
-pending_knows {A} m x waits is =
-    let load : PendingLoad = waits.0 in
-    let here : m ≡ pending load = waits.1 in
-    let never : pending load ≡ output x = sym here ∙ is in cc
-
-frames_know : (new : List ResolvedUnit) (m : Lookup (Result (List Frame) Error)) (p : FramePlace)
-    → FoundFrames new m p → m ≡ output (Ok []) → ⊥
-frames_know new m p found is =
-    let some : m ≡ output found.answer = found.is_found in
-    let same : output found.answer ≡ output (Ok []) = sym some ∙ is in
-    let none : found.answer ≡ Ok [] = cc in
-    let never : true ≡ false = sym found.holds.has_some ∙ ap has_frames none in cc
-
-refusal_knows : (m : Lookup (Result (List Frame) Error)) (e : Error) → m ≡ output (Err e) → m ≡ output (Ok []) → ⊥
-refusal_knows m e refused is =
-    let same : output (refusal (List Frame) e) ≡ output (value (List Frame) []) = sym refused ∙ is in
-    let never : refusal (List Frame) e ≡ value (List Frame) [] = cc in cc
-
-unit_knows : (vs : List AnsweredUnit) (m : Lookup (Option UnitInFile)) (n : ℕ) → FoundUnit vs m n
-    → m ≡ output None → ⊥
-unit_knows vs m n found is =
-    let some : m ≡ output (unit_at_number vs n) = found.is_found in
-    let same : output (unit_at_number vs n) ≡ output None = sym some ∙ is in
-    let none : unit_at_number vs n ≡ None = cc in
-    let never : true ≡ false = sym found.is_one ∙ ap is_there none in cc
-
--- the unit of a number, after others were asked
-module _ (us vs : List ResolvedUnit) (same : map value_of_unit vs ≡ map value_of_unit us) (s : List UnitFacts)
-    (a n : ℕ) where
-  module _ (new : List ResolvedUnit) where
-    abbrev frames_now : Lookup (Result (List Frame) Error)
-    frames_now = frames_asked (known_among vs s) (map value_of_unit vs) a n
-
-    abbrev no_frames : Type 0
-    no_frames = frames_asked (known_among us s) (map value_of_unit us) a n ≡ output (Ok [])
-
-    pub frames_refusal : (e : Error) → frames_now ≡ output (Err e) → no_frames → ⊥
-    frames_refusal e h nothing = refusal_knows frames_now e h (frames_same us vs same s a n ∙ nothing)
-
-    module _ (settled : Settled FramePlace) (h : SettlesFrames new frames_now (Ok settled)) where
-      pub frames_waited : settled ≡ Waits → no_frames → ⊥
-      frames_waited is nothing =
-          pending_knows frames_now (Ok []) (frames_waiting new frames_now settled h is)
-          (frames_same us vs same s a n ∙ nothing)
-
-      pub frames_there : (p : FramePlace) → settled ≡ Found p → no_frames → ⊥
-      frames_there p is nothing =
-          frames_know new frames_now p (frames_place new frames_now settled h p is)
-          (frames_same us vs same s a n ∙ nothing)
-
-  abbrev unit_now : Lookup (Option UnitInFile)
-  unit_now = unit_asked (known_among vs s) (map value_of_unit vs) a n
-
-  abbrev no_unit : Type 0
-  no_unit = unit_asked (known_among us s) (map value_of_unit us) a n ≡ output None
-
-  module _ (settled : Settled ℕ) (h : SettlesUnit (map value_of_unit vs) unit_now (Ok settled)) where
-    pub unit_waited : settled ≡ Waits → no_unit → ⊥
-    unit_waited is nothing =
-        pending_knows unit_now None (unit_waiting (map value_of_unit vs) unit_now settled h is)
-        (unit_same us vs same s a n ∙ nothing)
-
-    pub unit_there : (k : ℕ) → settled ≡ Found k → no_unit → ⊥
-    unit_there k is nothing =
-        unit_knows (map value_of_unit vs) unit_now k
-        (unit_number (map value_of_unit vs) unit_now settled h k is) (unit_same us vs same s a n ∙ nothing)

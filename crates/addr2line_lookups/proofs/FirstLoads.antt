@@ -1,11 +1,11 @@
 -- The first of the loads of ranges of units.
-use Rattle.std.proofs.Common.{◌≡◌, true, false, List, [], ◌∷◌, Option, Some, None, Result, Ok, Err, option_map, refl, sym, ap, ◌∙◌}
+use Rattle.std.proofs.Common.{◌≡◌, ℕ, true, false, List, [], ◌∷◌, slice_get, Option, Some, None, Result, Ok, Err, option_map, option_and_then, refl, sym, ap, ◌∙◌}
 use Rattle.std.specs.Prelude.{is_some}
 use Rattle.std.specs.List.{cons_option}
 use Rattle.addr2line_resolved.specs.Error.{Error}
 use Rattle.addr2line_resolved.specs.FirstAnswers.{SplitLoad, PendingLoad}
 use Rattle.addr2line_resolved.specs.UnitRange.{UnitRange}
-use Rattle.addr2line_resolved.specs.ResolvedUnits.{AnsweredUnit}
+use Rattle.addr2line_resolved.specs.ResolvedUnits.{AnsweredUnit, pending_load}
 use Rattle.addr2line_lookups.specs.Preloads.{numbered_load, load_at, loads_at, first_number, first_load}
 
 no_item : (o : Option PendingLoad) (rest : List PendingLoad) → cons_option o rest ≡ [] → (o ≡ None) × (rest ≡ [])
@@ -32,16 +32,9 @@ module _ (vs : List AnsweredUnit) (r : UnitRange) (old rest : List UnitRange) (i
     pub number_here : (all : List PendingLoad) → all ≡ loads_at vs old → Some r.unit ≡ first_number all
     number_here all left = sym (ap first_number (left ∙ first_of_all))
 
-    pub load_here : (all : List PendingLoad) → all ≡ loads_at vs old → Some load ≡ first_load all
-    load_here all left = sym (ap first_load (left ∙ first_of_all))
-
-module _ (vs : List AnsweredUnit) (old : List UnitRange) (is : old ≡ []) (all : List PendingLoad)
-    (left : all ≡ loads_at vs old) where
-  pub no_number : None ≡ first_number all
-  no_number = sym (ap first_number (left ∙ ap (loads_at vs) is))
-
-  pub no_load : None ≡ first_load all
-  no_load = sym (ap first_load (left ∙ ap (loads_at vs) is))
+pub no_number : (vs : List AnsweredUnit) (old : List UnitRange) → old ≡ [] → (all : List PendingLoad)
+    → all ≡ loads_at vs old → None ≡ first_number all
+no_number vs old is all left = sym (ap first_number (left ∙ ap (loads_at vs) is))
 
 -- ---- as it is asked for
 
@@ -60,16 +53,39 @@ module _ {A : Type 0} (see : A → SplitLoad) (vs : List AnsweredUnit) (r : Unit
   further_if_none (Some x) none here = absurd cc
 
 -- a load, if there is no refusal
-abbrev ok_load : SplitLoad → Result SplitLoad Error
+abbrev pub ok_load : SplitLoad → Result SplitLoad Error
 ok_load l = Ok l
 
 -- a copy is refused only when out of memory
 pub copies : (load : SplitLoad) (e : Error) → ok_load load ≡ Err e → ⊥
 copies load e h = cc
 
--- a copy of the first load
-pub load_copied : (vs : List AnsweredUnit) (r : UnitRange) (old rest : List UnitRange) → old ≡ r ∷ rest
-    → (load copied : SplitLoad) → Some (numbered_load r.unit load) ≡ load_at vs r.unit → ok_load load ≡ Ok copied
-    → (all : List PendingLoad) → all ≡ loads_at vs old → first_load all ≡ Some copied
-load_copied vs r old rest is load copied here same all left =
-    let equal : load ≡ copied = cc in sym (load_here vs r old rest is load here all left) ∙ ap Some equal
+-- ---- the first one
+
+-- the load of the unit of a number has that number
+has_number : (n : ℕ) (o : Option SplitLoad) (p : PendingLoad) → option_map (numbered_load n) o ≡ Some p → p.number ≡ n
+has_number n None p h = absurd cc
+has_number n (Some l) p h =
+    let same : numbered_load n l ≡ p = cc in sym (ap (λ (q : PendingLoad). q.number) same)
+
+-- the first load is that of the unit of its number
+pub load_of_first : (vs : List AnsweredUnit) (rs : List UnitRange) (n : ℕ) → Some n ≡ first_number (loads_at vs rs)
+    → first_load (loads_at vs rs) ≡ option_map (λ p. p.load) (load_at vs n)
+load_of_first vs [] n first = absurd cc
+load_of_first vs (r ∷ rs) n first = by (load_at vs r.unit) refl first (load_of_first vs rs n)
+  where
+    by : (o : Option PendingLoad) → load_at vs r.unit ≡ o → Some n ≡ first_number (cons_option o (loads_at vs rs))
+        → (Some n ≡ first_number (loads_at vs rs)
+        → first_load (loads_at vs rs) ≡ option_map (λ p. p.load) (load_at vs n))
+        → first_load (cons_option o (loads_at vs rs)) ≡ option_map (λ p. p.load) (load_at vs n)
+    by None is later rest = rest later
+    by (Some p) is here rest =
+        let number : n ≡ p.number = cc in
+        let unit = number ∙ has_number r.unit (option_and_then pending_load (slice_get vs r.unit)) p is in
+        sym (ap (λ k. option_map (λ (q : PendingLoad). q.load) (load_at vs k)) unit
+        ∙ ap (option_map (λ (q : PendingLoad). q.load)) is)
+
+-- where none has a number, there is none
+pub no_first_load : (ps : List PendingLoad) → None ≡ first_number ps → first_load ps ≡ None
+no_first_load [] h = refl
+no_first_load (p ∷ ps) h = absurd cc

@@ -1,6 +1,6 @@
 -- Units whose lines are kept, and what refuses the lines of all.
 use Rattle.std.proofs.Common.{◌≡◌, ℕ, zero, ◌+◌, ◌<◌, ◌≤◌, List, [], ◌∷◌, length, get_or, set, drop, map, suc, slice_get, Some, IfSome, Result, Ok, Err, refl, sym, ap, ◌∙◌, subst, arith, add-one}
-use Rattle.std.proofs.lemmas.List.{length-map, drop_all}
+use Rattle.std.proofs.lemmas.List.{length-map}
 use Rattle.std.proofs.lemmas.Simd.{map-map}
 use Rattle.std.proofs.lemmas.Option.{slice_get-get_or, slice_get_past}
 use Rattle.std.proofs.Math.Seq.{drop-cons}
@@ -74,10 +74,6 @@ pub check_refuses : (us : List ContextUnit) (n : ℕ) (e : Error) → n < length
     → check_from n us ≡ Err e
 check_refuses us n e below h = check_next us n below ∙ ap (λ r. and_then r (λ x. check_from (n + 1) us)) h
 
--- no units refuse nothing
-pub check_ends : (us : List ContextUnit) (n : ℕ) → length us ≤ n → check_from n us ≡ Ok tt
-check_ends us n past = ap all_lines_or_refusal (drop_all n us past)
-
 -- the units' values alone matter
 pub same_plain : (us vs : List ResolvedUnit) → map value_of_unit us ≡ map value_of_unit vs
     → map plain_unit us ≡ map plain_unit vs
@@ -105,9 +101,3 @@ module _ (us vs : List ResolvedUnit) (same : map value_of_unit vs ≡ map value_
 
   pub check_stops : (e : Error) → n < length vs → check_at (map plain_unit vs) n ≡ Err e → whole ≡ Err e
   check_stops e below h = sym before ∙ check_refuses (map plain_unit us) n e (below_plain below) (check_same ∙ h)
-
-  pub check_done : length vs ≤ n → whole ≡ Ok tt
-  check_done past =
-      sym before
-      ∙ check_ends (map plain_unit us) n
-      (subst (λ k. k ≤ n) (same_length vs us same ∙ sym (length-map us plain_unit)) past)

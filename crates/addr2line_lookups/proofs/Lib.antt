@@ -37,3 +37,5 @@ pub mod RangeUnits
 pub mod KeptFunctionLists
 pub mod KeptAhead
 pub mod AskedFunctions
+pub mod ReadLines
+pub mod AddressSearches

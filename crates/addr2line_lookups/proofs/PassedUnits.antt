@@ -53,11 +53,6 @@ next_comes a above from rs r next is h =
     λ qs. ap (λ n. overlapping_ranges a n qs) is ∙ covering_overlaps a qs in
     (r.range, sym (same (drop from rs)) ∙ h ∙ ap (λ qs. r ∷ qs) (same (drop next rs)))
 
-pub none_comes : (a above from : ℕ) (rs : List UnitRange) → above ≡ a + 1
-    → overlapping_ranges a above (drop from rs) ≡ [] → covering_ranges a (drop from rs) ≡ []
-none_comes a above from rs is h =
-    sym (ap (λ n. overlapping_ranges a n (drop from rs)) is ∙ covering_overlaps a (drop from rs)) ∙ h
-
 -- where none is over the address, none is from an index on
 none_after : (a : ℕ) (r : UnitRange) (rs : List UnitRange) → covering_ranges a (r ∷ rs) ≡ []
     → covering_ranges a rs ≡ []

@@ -1,5 +1,5 @@
 -- The functions of a unit and their calls, by what is kept of them.
-use Rattle.std.proofs.Common.{◌≡◌, ℕ, zero, suc, ◌<◌, Bool, true, false, List, [], ◌∷◌, length, slice_get, Option, Some, None, Result, Ok, Err, OnOk, refl, sym, ap, ◌∙◌, arith}
+use Rattle.std.proofs.Common.{◌≡◌, ℕ, zero, suc, ◌<◌, List, [], ◌∷◌, length, slice_get, Option, Some, None, Result, Ok, Err, OnOk, refl, ap, ◌∙◌, arith}
 use Rattle.addr2line_resolved.specs.Error.{Error}
 use Rattle.addr2line_resolved.specs.Results.{and_then, each}
 use Rattle.addr2line_resolved.specs.UnitFacts.{UnitInFile}
@@ -8,7 +8,7 @@ use Rattle.addr2line_resolved.specs.InlinedCalls.{Naming, calls_of_function}
 use Rattle.addr2line_resolved.specs.EntryReferences.{KnownUnits, HoldingUnit}
 use Rattle.addr2line_resolved.specs.KeptFunctions.{count_of_functions}
 use Rattle.addr2line_resolved.specs.FirstAnswers.{SplitLoad, FirstAnswer, load_of}
-use Rattle.addr2line_resolved.specs.ResolvedUnits.{AnsweredUnit, ResolvedUnit, main_unit, undecided, pending_load, first_with, with_unit_answer, first_answer, unit_of_functions, functions_of, calls_of, if_kept}
+use Rattle.addr2line_resolved.specs.ResolvedUnits.{AnsweredUnit, ResolvedUnit, main_unit, undecided, pending_load, first_with, with_unit_answer, first_answer, unit_of_functions, functions_of, calls_of}
 use Rattle.addr2line_lookups.specs.KeptCalls.{naming_from}
 use Rattle.addr2line_lookups.specs.UnitParses.{check_functions_of, check_calls_of, check_call_of, refusal_of}
 
@@ -31,19 +31,6 @@ pub decided_after_answer : (old new : ResolvedUnit) (later : FirstAnswer)
     → new.value ≡ with_unit_answer later old.value → pending_load new.value ≡ None
 decided_after_answer old new later is =
     ap pending_load is ∙ no_load_left (load_of (main_unit old.value)) old.value.first later
-
--- ---- functions
-
--- functions that are kept and refused, or aren't
-pub functions_refused : (old new : ResolvedUnit) (o : Option (Result (List Function) Error)) (e : Error)
-    → o ≡ Some (Err e) → o ≡ if_kept new.keeps_functions (functions_of new.value) → new.value ≡ old.value
-    → check_functions_of old.value ≡ Err e
-functions_refused old new o e is kept same =
-    ap check_functions_of (sym same) ∙ by new.keeps_functions (sym is ∙ kept)
-  where
-    by : (b : Bool) → Some (Err e) ≡ if_kept b (functions_of new.value) → check_functions_of new.value ≡ Err e
-    by true h = let refused : functions_of new.value ≡ Err e = cc in ap refusal_of refused
-    by false h = absurd cc
 
 -- ---- calls
 

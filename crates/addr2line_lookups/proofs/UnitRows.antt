@@ -1,7 +1,7 @@
 -- What the unit of a number answers.
-use Rattle.std.proofs.Common.{◌≡◌, ℕ, true, List, [], ◌∷◌, Option, Some, None, is_some, Result, Ok, Err, refl, sym, ap, ◌∙◌, subst, slice_get, get_or, set, map, option_map, length, ◌<◌, ◌≤◌}
+use Rattle.std.proofs.Common.{◌≡◌, ℕ, true, List, ◌∷◌, Option, Some, None, is_some, Result, Ok, Err, refl, sym, ap, ◌∙◌, subst, slice_get, get_or, set, map, option_map, length, ◌<◌}
 use Rattle.std.specs.Prelude.{option_and_then}
-use Rattle.std.proofs.lemmas.Option.{slice_get-map, slice_get-get_or, slice_get_past}
+use Rattle.std.proofs.lemmas.Option.{slice_get-map, slice_get-get_or}
 use Rattle.std.proofs.Math.Seq.{map-set_same}
 use Rattle.addr2line_resolved.specs.Error.{Error}
 use Rattle.addr2line_resolved.specs.Results.{and_then}
@@ -44,10 +44,6 @@ module _ (us : List ResolvedUnit) (n : ℕ) where
       → row_at_number (map plain_unit us) a n ≡ row_or_refusal a u.value.unit.lines
   row_here a u below is = row_by_number us a n (Some u) (found_unit u below is)
 
-  -- of none
-  pub no_row_past : (a : ℕ) → length us ≤ n → row_at_number (map plain_unit us) a n ≡ Ok None
-  no_row_past a past = row_by_number us a n None (sym (slice_get_past us n past))
-
   check_of_unit : (o : Option ResolvedUnit) → o ≡ slice_get us n
       → check_at (map plain_unit us) n ≡ check_of (option_map plain_unit o)
   check_of_unit o found =
@@ -56,9 +52,6 @@ module _ (us : List ResolvedUnit) (n : ℕ) where
   pub check_here : (u : ResolvedUnit) → n < length us → u ≡ get_or us n u
       → check_at (map plain_unit us) n ≡ and_then u.value.unit.lines (λ lines. Ok tt)
   check_here u below is = check_of_unit (Some u) (found_unit u below is)
-
-  pub no_check_past : length us ≤ n → check_at (map plain_unit us) n ≡ Ok tt
-  no_check_past past = check_of_unit None (sym (slice_get_past us n past))
 
 -- the values of units after one of them was put back with its value
 pub same_values : (us : List ResolvedUnit) (n : ℕ) (u new : ResolvedUnit) → u ≡ get_or us n u → new.value ≡ u.value
@@ -172,11 +165,6 @@ module _ (us vs : List ResolvedUnit) (same : map value_of_unit vs ≡ map value_
 
   pub refusal_found : (e : Error) → row_at_number (map plain_unit vs) a r.unit ≡ Err e → whole ≡ Err e
   refusal_found e h = first_and_rest ∙ refused_unit a (slice_get (map plain_unit vs) r.unit) answers_of_rest e h
-
--- after the last
-pub none_left : (us : List ResolvedUnit) (a : ℕ) (old : List UnitRange) (whole : Result (Option Location) Error)
-    → old ≡ [] → whole ≡ answer_from (map unit_places (map plain_unit us)) a old → whole ≡ Ok None
-none_left us a old whole is before = before ∙ ap (answer_from (map unit_places (map plain_unit us)) a) is
 
 -- ---- the row that was found
 

@@ -24,9 +24,6 @@ module _ (us : List ResolvedUnit) (n : ℕ) where
 
   -- ---- of none
 
-  pub no_turn_past : length us ≤ n → map value_of_unit us ≡ after_turn (map value_of_unit us) n
-  no_turn_past past = sym (ap (after_turn_of (map value_of_unit us) n) (no_value_past past))
-
   pub no_check_past : (check : AnsweredUnit → Result (Unit {0}) Error) → length us ≤ n
       → ChecksOrNoMemory (Ok tt) (check_unit_at check (map value_of_unit us) n)
   no_check_past check past = inl (ap (check_if_any check) (no_value_past past))

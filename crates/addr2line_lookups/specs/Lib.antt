@@ -77,3 +77,4 @@ pub mod FramePlaces
 pub mod LookupCosts
 pub mod UnitLookups
 pub mod PassedUnits
+pub mod AddressSearches

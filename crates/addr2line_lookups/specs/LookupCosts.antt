@@ -5,8 +5,9 @@ use Rattle.addr2line_resolved.specs.UnitRange.{UnitRange}
 use Rattle.addr2line_resolved.specs.Searches.{AtMostProbes}
 use Rattle.addr2line_resolved.specs.EntryReferences.{KnownUnits}
 use Rattle.addr2line_resolved.specs.KeptFunctions.{number_probes, kept_chain_probes}
-use Rattle.addr2line_resolved.specs.ResolvedUnits.{ResolvedUnit, AnsweredUnit, KeepsLines, functions_of, lines_probes}
-use Rattle.addr2line_lookups.specs.KeptUnits.{KeepsMore, KeepsMoreFunctions, KeepMoreFunctions}
+use Rattle.addr2line_resolved.specs.ResolvedUnits.{ResolvedUnit, AnsweredUnit, KeepsLines, value_of_unit, functions_of, lines_probes}
+use Rattle.addr2line_lookups.specs.KeptUnits.{KeepsMore, KeepsMoreFunctions, KeepMoreFunctions, ReadsNoFunctions}
+use Rattle.addr2line_lookups.specs.KeptCalls.{LeavesCalls}
 use Rattle.addr2line_lookups.specs.FunctionPlaces.{function_number_at, function_calls_at}
 
 -- ---- looks
@@ -36,6 +37,13 @@ pub record AtMostLooks (n : ℕ) (old new : List ResolvedUnit) : Type 0 where
   pub probes : probes_of new ≤ probes_of old + n
   pub more : KeepsMore old new
   pub functions : KeepMoreFunctions old new
+
+-- Lines alone were read, and nothing that is kept was looked at.
+pub record ReadsLines (old new : List ResolvedUnit) : Type 0 where
+  pub values : map value_of_unit new ≡ map value_of_unit old
+  pub calls : LeavesCalls old new
+  pub cost : AtMostLooks 0 old new
+  pub functions : ReadsNoFunctions old new
 
 -- ---- in the unit of a number
 

@@ -1,6 +1,6 @@
 -- Lookups over units by their numbers: what the units of ranges answer, one after the other, until
 -- one of them knows something or its load needs an answer.
-use Rattle.std.specs.Prelude.{◌≡◌, ◌≢◌, ℕ, Bool, true, List, [], map, slice_get, Option, Some, None, Result, Ok, Err, if◌then◌else◌}
+use Rattle.std.specs.Prelude.{◌≡◌, ◌≢◌, ℕ, Bool, true, List, [], ◌∷◌, map, slice_get, Option, Some, None, Result, Ok, Err, if◌then◌else◌, refl}
 use Rattle.addr2line_resolved.specs.Error.{Error}
 use Rattle.addr2line_resolved.specs.Error.TheVariants.{Memory}
 use Rattle.addr2line_resolved.specs.UnitFacts.{UnitInFile}
@@ -42,6 +42,14 @@ first_asked is_something ask nothing vs rs =
 abbrev pub IsPending : {A : Type 0} → Lookup A → Type 0
 IsPending {A} meaning = (p : PendingLoad) × (meaning ≡ pending p)
 
+-- What settling a lookup gave, where it is said what is found, and how it is refused.
+abbrev pub Settles : {A P : Type 0} → (Lookup A → P → Type 0) → (Lookup A → Error → Type 0) → A
+    → Lookup A → Result (Settled P) Error → Type 0
+Settles finds refuses nothing meaning (Ok Waits) = IsPending meaning
+Settles finds refuses nothing meaning (Ok Nothing) = meaning ≡ output nothing
+Settles finds refuses nothing meaning (Ok (Found p)) = finds meaning p
+Settles finds refuses nothing meaning (Err e) = refuses meaning e
+
 -- ---- frames
 
 -- the frames of an address in the unit of a number
@@ -54,6 +62,12 @@ abbrev pub frames_among : KnownUnits → List AnsweredUnit → ℕ → List Unit
     → Lookup (Result (List Frame) Error)
 frames_among known vs a rs = first_asked is_answer (frames_of_answered known a) (Ok []) vs rs
 
+-- frames that are some answer a lookup
+pub some_answer : (x : Result (List Frame) Error) → has_frames x ≡ true → is_answer x ≡ true
+some_answer (Ok []) h = h
+some_answer (Ok (f ∷ fs)) h = refl
+some_answer (Err e) h = refl
+
 -- the frames at a place are what a lookup finds
 pub record FoundFrames (us : List ResolvedUnit) (meaning : Lookup (Result (List Frame) Error))
     (p : FramePlace) : Type 0 where
@@ -61,13 +75,14 @@ pub record FoundFrames (us : List ResolvedUnit) (meaning : Lookup (Result (List 
   pub is_found : meaning ≡ output answer
   pub holds : HoldsFrames us answer p
 
+-- what refuses frames is the lookup's refusal
+abbrev pub RefusesFrames : Lookup (Result (List Frame) Error) → Error → Type 0
+RefusesFrames meaning e = e ≢ Memory → meaning ≡ output (Err e)
+
 -- what settling a lookup of frames found
 abbrev pub SettlesFrames : List ResolvedUnit → Lookup (Result (List Frame) Error)
     → Result (Settled FramePlace) Error → Type 0
-SettlesFrames us meaning (Ok Waits) = IsPending meaning
-SettlesFrames us meaning (Ok Nothing) = meaning ≡ output (Ok [])
-SettlesFrames us meaning (Ok (Found p)) = FoundFrames us meaning p
-SettlesFrames us meaning (Err e) = e ≢ Memory → meaning ≡ output (Err e)
+SettlesFrames us meaning result = Settles (FoundFrames us) RefusesFrames (Ok []) meaning result
 
 -- ---- units
 
@@ -108,7 +123,4 @@ pub record FoundUnit (vs : List AnsweredUnit) (meaning : Lookup (Option UnitInFi
 -- What settling a lookup of a unit found. What refuses frames refuses none.
 abbrev pub SettlesUnit : List AnsweredUnit → Lookup (Option UnitInFile)
     → Result (Settled ℕ) Error → Type 0
-SettlesUnit vs meaning (Ok Waits) = IsPending meaning
-SettlesUnit vs meaning (Ok Nothing) = meaning ≡ output None
-SettlesUnit vs meaning (Ok (Found n)) = FoundUnit vs meaning n
-SettlesUnit vs meaning (Err e) = e ≡ Memory
+SettlesUnit vs meaning result = Settles (FoundUnit vs) (λ m e. e ≡ Memory) None meaning result

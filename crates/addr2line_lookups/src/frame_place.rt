@@ -1,6 +1,6 @@
 //! The frames of an address in the unit of a number: found, and then lent.
 
-ghost use Rattle.std.specs.Prelude.{◌≡◌, ◌≢◌, ◌<◌, true, None, Err, length, map, option_map};
+ghost use Rattle.std.specs.Prelude.{◌≡◌, ◌≢◌, true, None, Err, map, option_map};
 ghost use Rattle.addr2line_resolved.specs.Calls.{ReturnsAs};
 ghost use Rattle.addr2line_resolved.specs.Error.TheVariants.{Memory};
 ghost use Rattle.addr2line_resolved.specs.BorrowedFrames.{frames_left};
@@ -8,10 +8,10 @@ ghost use Rattle.addr2line_resolved.specs.BorrowedLocations.{location_value};
 ghost use Rattle.addr2line_resolved.specs.Lines.{row_location};
 ghost use Rattle.addr2line_resolved.specs.ResolvedUnits.{value_of_unit};
 ghost use Rattle.addr2line_lookups.specs.Preloads.{load_at};
-ghost use Rattle.addr2line_lookups.specs.KeptUnits.{KeepsAt, ReadsAsked, KeepsFunctionsAt, ReadsAskedFunctions};
+ghost use Rattle.addr2line_lookups.specs.KeptUnits.{KeepsAt, KeepsFunctionsAt};
 ghost use Rattle.addr2line_lookups.specs.KeptCalls.{known_among, HoldCalls};
 ghost use Rattle.addr2line_lookups.specs.FramePlaces.{place_if_any, frames_at_number, frames_in_unit, frames_at_place, FindsFrames};
-ghost use Rattle.addr2line_lookups.specs.LookupCosts.{AtMostLooks, frame_probes_at};
+ghost use Rattle.addr2line_lookups.specs.AddressSearches.{SearchesUnit};
 
 use crate::function_place::find_function_at;
 use crate::settle::{find_row_at, unit_at};
@@ -44,37 +44,6 @@ fn place_if_any(unit: usize, function: Option<usize>, row: Option<LineRow>) -> O
     })
 }
 
-// The function and the row of an address in the unit of a number, and the calls that the address is
-// in there. The unit is there.
-fn find_place_at<R: Reader>(
-    alloc: Global,
-    units: &mut Vec<ResUnit<R>>,
-    supplement_units: &[Unit<R>],
-    number: usize,
-    probe: u64,
-) -> Result<Option<FramePlace>, Error>
-    requires unit { number < length units.old.items }
-    requires decided { load_at (map value_of_unit units.old.items) number ≡ None }
-    requires calls { HoldCalls (known_among units.old.items supplement_units.now)
-        units.old.items }
-    ensures values { map value_of_unit units.new.items ≡ map value_of_unit units.old.items }
-    ensures calls { HoldCalls (known_among units.old.items supplement_units.now)
-        units.new.items }
-    ensures found { FindsFrames units.new.items
-        (frames_at_number (known_among units.old.items supplement_units.now)
-        (map value_of_unit units.old.items) probe number) result }
-    ensures cost { AtMostLooks
-        (frame_probes_at (known_among units.old.items supplement_units.now)
-        (map value_of_unit units.old.items) probe number) units.old.items units.new.items }
-    ensures reads { ReadsAsked (λ n. n ≡ number) units.old.items units.new.items }
-    ensures functions { ReadsAskedFunctions (λ n. n ≡ number) units.old.items units.new.items }
-    ensures kept { result ≢ Err Memory → KeepsFunctionsAt units.new.items number }
-{
-    let function = find_function_at(alloc, units, supplement_units, number, probe)?;
-    let row = find_row_at(alloc, units, number, probe)?;
-    Ok(place_if_any(number, function, row))
-}
-
 // Where the frames of an address are in the unit of a number. Functions, calls and lines are read
 // on the way and kept; they refuse in this order.
 pub(crate) fn find_frames_at<R: Reader>(
@@ -87,23 +56,19 @@ pub(crate) fn find_frames_at<R: Reader>(
     requires decided { load_at (map value_of_unit units.old.items) number ≡ None }
     requires calls { HoldCalls (known_among units.old.items supplement_units.now)
         units.old.items }
-    ensures values { map value_of_unit units.new.items ≡ map value_of_unit units.old.items }
-    ensures calls { HoldCalls (known_among units.old.items supplement_units.now)
-        units.new.items }
+    ensures change { SearchesUnit (known_among units.old.items supplement_units.now) probe number
+        units.old.items units.new.items }
     ensures found { FindsFrames units.new.items
         (frames_at_number (known_among units.old.items supplement_units.now)
         (map value_of_unit units.old.items) probe number) result }
-    ensures cost { AtMostLooks
-        (frame_probes_at (known_among units.old.items supplement_units.now)
-        (map value_of_unit units.old.items) probe number) units.old.items units.new.items }
-    ensures reads { ReadsAsked (λ n. n ≡ number) units.old.items units.new.items }
-    ensures functions { ReadsAskedFunctions (λ n. n ≡ number) units.old.items units.new.items }
     ensures kept { result ≢ Err Memory → KeepsFunctionsAt units.new.items number }
 {
     if number >= units.len() {
         return Ok(None);
     }
-    find_place_at(alloc, units, supplement_units, number, probe)
+    let function = find_function_at(alloc, units, supplement_units, number, probe)?;
+    let row = find_row_at(alloc, units, number, probe)?;
+    Ok(place_if_any(number, function, row))
 }
 
 // ---- lending

@@ -2,6 +2,7 @@
 //! of the loads of split units.
 #![tactic(auto)]
 
+mod address_search;
 mod covering;
 pub mod frame_place;
 mod function_place;

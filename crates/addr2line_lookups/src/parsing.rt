@@ -4,10 +4,9 @@ ghost use Rattle.std.specs.Prelude.{◌≡◌, ◌≢◌, Err, map};
 ghost use Rattle.addr2line_resolved.specs.Calls.{ReturnsOrNoMemory};
 ghost use Rattle.addr2line_resolved.specs.Error.TheVariants.{Memory};
 ghost use Rattle.addr2line_resolved.specs.Contexts.{all_lines_or_refusal};
-ghost use Rattle.addr2line_resolved.specs.ResolvedUnits.{plain_unit, value_of_unit};
-ghost use Rattle.addr2line_lookups.specs.KeptCalls.{LeavesCalls};
-ghost use Rattle.addr2line_lookups.specs.KeptUnits.{KeepsAt, KeepsAsked, ReadsAsked, ReadsNoFunctions, AsksForLines, check_at};
-ghost use Rattle.addr2line_lookups.specs.LookupCosts.{AtMostLooks};
+ghost use Rattle.addr2line_resolved.specs.ResolvedUnits.{plain_unit};
+ghost use Rattle.addr2line_lookups.specs.KeptUnits.{KeepsAt, KeepsAsked, ReadsAsked, AsksForLines, check_at};
+ghost use Rattle.addr2line_lookups.specs.LookupCosts.{ReadsLines};
 
 use addr2line_resolved::{Error, Reader, ResUnit};
 use std::alloc::Global;
@@ -19,13 +18,10 @@ pub(crate) fn check_at<R: Reader>(
     units: &mut Vec<ResUnit<R>>,
     number: usize,
 ) -> Result<(), Error>
-    ensures values { map value_of_unit units.new.items ≡ map value_of_unit units.old.items }
-    ensures calls { LeavesCalls units.old.items units.new.items }
-    ensures cost { AtMostLooks 0 units.old.items units.new.items }
+    ensures change { ReadsLines units.old.items units.new.items }
     ensures found { ReturnsOrNoMemory result (check_at (map plain_unit units.old.items) number) }
     ensures kept { result ≢ Err Memory → KeepsAt units.new.items number }
     ensures reads { ReadsAsked (λ n. n ≡ number) units.old.items units.new.items }
-    ensures functions { ReadsNoFunctions units.old.items units.new.items }
     ensures free { KeepsAt units.old.items number → result ≢ Err Memory }
 {
     if number >= units.len() {
@@ -41,16 +37,13 @@ pub(crate) fn check_lines<R: Reader>(
     alloc: Global,
     units: &mut Vec<ResUnit<R>>,
 ) -> Result<(), Error>
-    ensures values { map value_of_unit units.new.items ≡ map value_of_unit units.old.items }
-    ensures calls { LeavesCalls units.old.items units.new.items }
-    ensures cost { AtMostLooks 0 units.old.items units.new.items }
+    ensures change { ReadsLines units.old.items units.new.items }
     ensures found { ReturnsOrNoMemory result
         (all_lines_or_refusal (map plain_unit units.old.items)) }
     ensures asked { result ≢ Err Memory
         → KeepsAsked (AsksForLines (map plain_unit units.old.items)) units.new.items }
     ensures reads { ReadsAsked (AsksForLines (map plain_unit units.old.items))
         units.old.items units.new.items }
-    ensures functions { ReadsNoFunctions units.old.items units.new.items }
     ensures free { KeepsAsked (AsksForLines (map plain_unit units.old.items)) units.old.items
         → result ≢ Err Memory }
 {

@@ -9,10 +9,9 @@ ghost use Rattle.addr2line_resolved.specs.PlaceLookups.{stretches_between};
 ghost use Rattle.addr2line_resolved.specs.UnitRange.{UnitRange as Numbered};
 ghost use Rattle.addr2line_resolved.specs.NumberedRanges.{overlapping_ranges};
 ghost use Rattle.addr2line_resolved.specs.ContextUnits.{unit_places};
-ghost use Rattle.addr2line_resolved.specs.ResolvedUnits.{KeepsLines, plain_unit, value_of_unit};
-ghost use Rattle.addr2line_lookups.specs.KeptCalls.{LeavesCalls};
-ghost use Rattle.addr2line_lookups.specs.KeptUnits.{KeepsAt, KeepsAsked, ReadsAsked, ReadsNoFunctions, IsUnitOf, lines_at, check_at};
-ghost use Rattle.addr2line_lookups.specs.LookupCosts.{AtMostLooks};
+ghost use Rattle.addr2line_resolved.specs.ResolvedUnits.{KeepsLines, plain_unit};
+ghost use Rattle.addr2line_lookups.specs.KeptUnits.{KeepsAt, KeepsAsked, ReadsAsked, IsUnitOf, lines_at, check_at};
+ghost use Rattle.addr2line_lookups.specs.LookupCosts.{ReadsLines};
 ghost use Rattle.addr2line_lookups.specs.RangeWalks.{BeginsRange, NextInRange, NextOfRows, KeepsStretch, FindsStretch, walk_left, stretches_left, AreOfRange, IsUnitOfRows, ComesTo, AsksForStretch, StaysOnItsWay};
 
 use crate::parsing::check_at;
@@ -164,11 +163,8 @@ fn first_rows<R: Reader>(
     range: UnitRange,
     low: u64,
 ) -> Result<Option<RangeRows>, Error>
-    ensures values { map value_of_unit units.new.items ≡ map value_of_unit units.old.items }
-    ensures calls { LeavesCalls units.old.items units.new.items }
-    ensures cost { AtMostLooks 0 units.old.items units.new.items }
+    ensures change { ReadsLines units.old.items units.new.items }
     ensures reads { ReadsAsked (λ n. n ≡ range.unit) units.old.items units.new.items }
-    ensures functions { ReadsNoFunctions units.old.items units.new.items }
     ensures rows { (high : ℕ) → BeginsRange (map unit_places (map plain_unit units.old.items)) low
         high range result }
     ensures range { IfOk result (AreOfRange range) }
@@ -186,11 +182,8 @@ fn next_of_rows<R: Reader>(
     units: &mut Vec<ResUnit<R>>,
     walk: &mut RangeWalk,
 ) -> Result<Option<UnitStretch>, Error>
-    ensures values { map value_of_unit units.new.items ≡ map value_of_unit units.old.items }
-    ensures calls { LeavesCalls units.old.items units.new.items }
-    ensures cost { AtMostLooks 0 units.old.items units.new.items }
+    ensures change { ReadsLines units.old.items units.new.items }
     ensures reads { ReadsAsked (IsUnitOfRows walk.old.rows) units.old.items units.new.items }
-    ensures functions { ReadsNoFunctions units.old.items units.new.items }
     ensures stretch { NextOfRows (map plain_unit units.old.items) result walk.old walk.new }
     ensures unit { (n : ℕ) → IsUnitOfRows walk.new.rows n → IsUnitOfRows walk.old.rows n }
     ensures kept { KeepsStretch units.new.items result }
@@ -220,9 +213,7 @@ pub(crate) fn next_stretch<R: Reader>(
     ranges: &UnitRanges,
     walk: &mut RangeWalk,
 ) -> Result<Option<UnitStretch>, Error>
-    ensures values { map value_of_unit units.new.items ≡ map value_of_unit units.old.items }
-    ensures calls { LeavesCalls units.old.items units.new.items }
-    ensures cost { AtMostLooks 0 units.old.items units.new.items }
+    ensures change { ReadsLines units.old.items units.new.items }
     ensures stretch { FindsStretch (map plain_unit units.old.items) result
         (walk_left (map unit_places (map plain_unit units.old.items)) ranges.now walk.old)
         (walk_left (map unit_places (map plain_unit units.old.items)) ranges.now walk.new) }
@@ -233,7 +224,6 @@ pub(crate) fn next_stretch<R: Reader>(
     ensures reads { ReadsAsked
         (AsksForStretch (map unit_places (map plain_unit units.old.items)) ranges.now walk.old)
         units.old.items units.new.items }
-    ensures functions { ReadsNoFunctions units.old.items units.new.items }
     ensures free { KeepsAsked
         (AsksForStretch (map unit_places (map plain_unit units.old.items)) ranges.now walk.old)
         units.old.items → result ≢ Err Memory }

@@ -10,7 +10,7 @@ ghost use Rattle.addr2line_resolved.specs.ResolvedUnits.{plain_unit, value_of_un
 ghost use Rattle.addr2line_lookups.specs.KeptCalls.{LeavesCalls, kept_calls_of};
 ghost use Rattle.addr2line_lookups.specs.FunctionPlaces.{chain_of};
 ghost use Rattle.addr2line_lookups.specs.KeptUnits.{KeepsAt, KeepsAsked, ReadsAsked, ReadsNoFunctions, AsksAmong, row_at_number, location_of_unit_row, FindsRow, KeepsFound};
-ghost use Rattle.addr2line_lookups.specs.LookupCosts.{AtMostLooks, row_probes_at, probes_among};
+ghost use Rattle.addr2line_lookups.specs.LookupCosts.{AtMostLooks, ReadsLines, row_probes_at, probes_among};
 
 use addr2line_resolved::{Error, LineRow, Location, Reader, ResUnit, UnitRanges};
 use std::alloc::Global;
@@ -118,12 +118,9 @@ pub(crate) fn read_at<R: Reader>(
     units: &mut Vec<ResUnit<R>>,
     number: usize,
 ) -> Result<(), Error>
-    ensures values { map value_of_unit units.new.items ≡ map value_of_unit units.old.items }
-    ensures calls { LeavesCalls units.old.items units.new.items }
+    ensures change { ReadsLines units.old.items units.new.items }
     ensures kept { OnOk result (KeepsAt units.new.items number) }
-    ensures cost { AtMostLooks 0 units.old.items units.new.items }
     ensures reads { ReadsAsked (λ n. n ≡ number) units.old.items units.new.items }
-    ensures functions { ReadsNoFunctions units.old.items units.new.items }
     ensures refusal { IfErr result (λ e. e ≡ Memory) }
     ensures free { KeepsAt units.old.items number → result ≢ Err Memory }
 {

@@ -13,17 +13,19 @@ ghost use Rattle.addr2line_lookups.specs.KeptCalls.{LeavesCalls, HoldCalls, know
 ghost use Rattle.addr2line_lookups.specs.LoadAnswers.{AnswersOrNoMemory, answer_at};
 ghost use Rattle.addr2line_lookups.specs.Preloads.{load_at, loads_at, load_of_item, first_number, first_load};
 ghost use Rattle.addr2line_lookups.specs.FramePlaces.{LendsFrames};
-ghost use Rattle.addr2line_lookups.specs.PassedUnits.{PassFrames, PassUnits, PassLoads, PassedAreKept, AsksFramesAmong, AsksUnitAmong, KeepsAskedFunctions};
+ghost use Rattle.addr2line_lookups.specs.PassedUnits.{Pass, PassFrames, PassUnits, PassLoads, PassedAreKept, AsksFramesAmong, AsksUnitAmong, KeepsAskedFunctions};
 ghost use Rattle.addr2line_lookups.specs.UnitLookups.{frames_among, SettlesFrames, unit_among, SettlesUnit, unit_at_number};
+ghost use Rattle.addr2line_lookups.specs.AddressSearches.{SettlesAmong};
 ghost use Rattle.addr2line_resolved.specs.BorrowedFrames.{frames_left};
 ghost use Rattle.addr2line_lookups.specs.KeptUnits.{KeepsAt, KeepsFound, KeepsAsked, ReadsAsked, ReadsNoLines, ReadsAskedFunctions, ReadsNoFunctions, AsksForRow, AsksForLines, FindsRow, location_of_unit_row};
 ghost use Rattle.addr2line_lookups.specs.RangeWalks.{FindsStretch, KeepsStretch, stretches_left, AsksForNextStretch, StaysOnItsWay};
 ghost use Rattle.addr2line_lookups.specs.LookupCosts.{AtMostLooks, row_probes_at, frame_probes_at, probes_among};
 ghost use Rattle.addr2line_lookups.specs.UnitParses.{WalksOrNoMemory, KeepsParsed, KeepAllCalls, check_functions_of, check_calls_of};
 
+use crate::address_search::{AddressSearch, FrameSearch, UnitSearch};
 use crate::frame_place::{FramePlace, frames_at_place};
 use crate::load_answers::answer_at;
-use crate::lookups::{functions_unit_at, settle_frames, settle_unit};
+use crate::lookups::{functions_unit_at, settle};
 use crate::parsing::check_lines;
 use crate::parsing_calls::check_calls;
 use crate::parsing_functions::check_functions;
@@ -32,7 +34,7 @@ use crate::range_walk::{RangeWalk, UnitStretch, next_stretch};
 use crate::settle::{UnitRow, find_row, place_in};
 use crate::settled::Settled;
 use crate::token::UnitToken;
-use crate::waiting::{first_load, first_waiting};
+use crate::waiting::{copy_load_at, first_waiting};
 use addr2line_resolved::{
     Dwarf, Error, FrameIter, Location, Reader, ResUnit, SplitDwarfLoad, Unit, UnitRanges, UnitRef,
     frame_without_function, ordered_ranges,
@@ -219,6 +221,34 @@ impl<R: Reader> Units<R> {
 
     // ---- frames and units
 
+    // What a search finds, among the units with a range over an address.
+    fn settle<S: AddressSearch>(
+        &mut self,
+        supplement_units: &[Unit<R>],
+        probe: u64,
+        from: &mut usize,
+    ) -> Result<Settled<S::Found>, Error>
+        requires calls { HoldCalls (known_among self.old supplement_units.now) self.old }
+        requires passed { Pass (S.ask (known_among self.old supplement_units.now) probe) S.nothing
+            (map value_of_unit self.old) probe from.old (ordered_ranges (map plain_unit self.old)) }
+        requires kept { PassedAreKept self.old probe from.old
+            (ordered_ranges (map plain_unit self.old)) }
+        ensures { SettlesAmong S.is_something S.nothing
+            (S.ask (known_among self.old supplement_units.now) probe) S.Finds S.Refuses
+            (known_among self.old supplement_units.now) probe
+            (ordered_ranges (map plain_unit self.old)) self.old result self.new from.new }
+    {
+        let alloc = *self.units.allocator();
+        settle::<R, S>(
+            alloc,
+            &mut self.units,
+            &self.ranges,
+            supplement_units,
+            probe,
+            from,
+        )
+    }
+
     /// Where the frames of an address are: of the units with a range over it, in their order, in
     /// the first that has some, unless one is refused or waits for its load before.
     /// What is read is kept, and neither lines nor functions of units after the one in which it
@@ -261,15 +291,7 @@ impl<R: Reader> Units<R> {
         ensures kept { PassedAreKept self.new probe from.new
             (ordered_ranges (map plain_unit self.old)) }
     {
-        let alloc = *self.units.allocator();
-        settle_frames(
-            alloc,
-            &mut self.units,
-            &self.ranges,
-            supplement_units,
-            probe,
-            from,
-        )
+        self.settle::<FrameSearch>(supplement_units, probe, from)
     }
 
     /// The number of the first unit, of those with a range over an address, that has a function or
@@ -312,15 +334,7 @@ impl<R: Reader> Units<R> {
         ensures kept { PassedAreKept self.new probe from.new
             (ordered_ranges (map plain_unit self.old)) }
     {
-        let alloc = *self.units.allocator();
-        settle_unit(
-            alloc,
-            &mut self.units,
-            &self.ranges,
-            supplement_units,
-            probe,
-            from,
-        )
+        self.settle::<UnitSearch>(supplement_units, probe, from)
     }
 
     /// The frames at a place that was found last in its unit. Nothing is searched.
@@ -359,6 +373,9 @@ impl<R: Reader> Units<R> {
             (Ok (first_load (loads_at (map value_of_unit self.now)
             (covering_ranges probe (ordered_ranges (map plain_unit self.now)))))) }
     {
-        first_load(self.units.as_slice(), &self.ranges, probe, from)
+        match self.first_waiting(probe, from) {
+            Some(number) => copy_load_at(self.units.as_slice(), number),
+            None => Ok(None),
+        }
     }
 }

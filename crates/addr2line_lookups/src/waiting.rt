@@ -5,7 +5,7 @@ ghost use Rattle.addr2line_resolved.specs.Calls.{ReturnsAsOrNoMemory};
 ghost use Rattle.addr2line_resolved.specs.NumberedRanges.{covering_ranges};
 ghost use Rattle.addr2line_resolved.specs.ResolvedUnits.{value_of_unit};
 ghost use Rattle.addr2line_lookups.specs.PassedUnits.{PassLoads};
-ghost use Rattle.addr2line_lookups.specs.Preloads.{loads_at, first_number, first_load};
+ghost use Rattle.addr2line_lookups.specs.Preloads.{load_at, loads_at, first_number};
 
 use crate::covering::next_covering;
 use crate::preload::load_at;
@@ -33,23 +33,17 @@ pub(crate) fn first_waiting<R: Reader>(
     None
 }
 
-// A copy of the load of the first of these units, if there is one. The only error is out of memory.
-pub(crate) fn first_load<R: Reader>(
+// A copy of the load of the unit of a number, if it needs an answer. The only error is out of
+// memory.
+pub(crate) fn copy_load_at<R: Reader>(
     units: &[ResUnit<R>],
-    ranges: &UnitRanges,
-    probe: u64,
-    from: usize,
+    number: usize,
 ) -> Result<Option<SplitDwarfLoad<R>>, Error>
-    requires { PassLoads (map value_of_unit units.now) probe from ranges.now }
-    ensures { ReturnsAsOrNoMemory (option_map (λ l. l)) result (Ok (first_load
-        (loads_at (map value_of_unit units.now) (covering_ranges probe ranges.now)))) }
+    ensures { ReturnsAsOrNoMemory (option_map (λ l. l)) result
+        (Ok (option_map (λ p. p.load) (load_at (map value_of_unit units.now) number))) }
 {
-    let mut place = from;
-    while let Some((unit, next)) = next_covering(ranges, place, probe) {
-        if let Some(load) = load_at(units, unit) {
-            return Ok(Some(load.copy()?));
-        }
-        place = next;
+    match load_at(units, number) {
+        Some(load) => Ok(Some(load.copy()?)),
+        None => Ok(None),
     }
-    Ok(None)
 }

@@ -41,7 +41,7 @@ pub rows_in-requires-clause-lines : goal.rows_in-requires-clause-lines
 rows_in-requires-clause-lines g c =
     subst (λ (us : List ContextUnit). check_at us c.args.range.unit ≡ Ok tt)
     (sym (ap (map plain_unit) c.as_slice.ensures.value
-    ∙ same_plain c.check_at.new.units.items c.args.units.now.items c.in_ok-check_at.ensures.values))
+    ∙ same_plain c.check_at.new.units.items c.args.units.now.items c.in_ok-check_at.ensures.change.values))
     c.in_ok-check_at.ensures.found
 
 pub returns-clause-rows : goal.returns-clause-rows
@@ -49,7 +49,7 @@ returns-clause-rows g c high =
     subst (λ (us : List ContextUnit).
     BeginsRange (map unit_places us) c.args.low high c.args.range (Ok c.rows_in.result))
     (ap (map plain_unit) c.as_slice.ensures.value
-    ∙ same_plain c.check_at.new.units.items c.args.units.now.items c.in_ok-check_at.ensures.values)
+    ∙ same_plain c.check_at.new.units.items c.args.units.now.items c.in_ok-check_at.ensures.change.values)
     (c.rows_in.ensures.rows high)
 
 pub returns-clause-kept : goal.returns-clause-kept

@@ -26,7 +26,7 @@ returns-in-Some-next_in-clause-stretch g c =
           (subst (λ (xs : List ContextUnit). NextInRange xs w.low w.high c.in-Some.rows
           (Some (s, c.in-Some-next_in.rest)))
           (ap (map plain_unit) c.as_slice.ensures.value
-          ∙ same_plain c.read_at.new.units.items c.args.units.now.items c.in_ok-read_at.ensures.values)
+          ∙ same_plain c.read_at.new.units.items c.args.units.now.items c.in_ok-read_at.ensures.change.values)
           c.in-Some-next_in.ensures.stretch),
     )
 
@@ -42,7 +42,7 @@ returns-in-None-clause-stretch g c =
       subst (λ (o : Option RangeRows). rows_left us w.low w.high o ≡ []) (sym c.in-Some.is)
           (subst (λ (xs : List ContextUnit). NextInRange xs w.low w.high c.in-Some.rows None)
           (ap (map plain_unit) c.as_slice.ensures.value
-          ∙ same_plain c.read_at.new.units.items c.args.units.now.items c.in_ok-read_at.ensures.values)
+          ∙ same_plain c.read_at.new.units.items c.args.units.now.items c.in_ok-read_at.ensures.change.values)
           c.in-None.ensures.stretch),
     )
 

@@ -8,12 +8,11 @@ use Rattle.addr2line_lookups.specs.RangeWalks.{BeginsRange, NextOfRows, walk_lef
 use Rattle.addr2line_lookups.specs.declared.range_walk.RangeRows.{RangeRows}
 use Rattle.addr2line_lookups.specs.declared.range_walk.UnitStretch.{UnitStretch}
 use Rattle.addr2line_lookups.proofs.AskedStretches.{AsksAfter, walk_begins, rows_found, rows_passed, rows_reads, rows_kept, walk_ends, next_begins, next_refused, next_reads, next_kept, refused_stretch, stretch_not_refused, rows_not_refused}
-use Rattle.addr2line_lookups.proofs.CallsLeft.{leaves_none, leaves_both}
-use Rattle.addr2line_lookups.proofs.KeptFunctionLists.{no_functions_none, no_functions_both}
 use Rattle.addr2line_lookups.proofs.KeptLines.{same_plain}
 use Rattle.addr2line_lookups.proofs.RangeSteps.{first_left, next_range, refused_range, no_range, stays_empty, ok_stretch}
 use Rattle.addr2line_lookups.proofs.RangeUnits.{way_of_rows, way_of_range}
-use Rattle.addr2line_lookups.proofs.UnitProbes.{looks_none, looks_after, refused_so}
+use Rattle.addr2line_lookups.proofs.ReadLines.{lines_none, lines_both}
+use Rattle.addr2line_lookups.proofs.UnitProbes.{refused_so}
 use Rattle.addr2line_lookups.proofs.range_walk.next_stretch.Goals as goal
 
 pub range-init : goal.range-init
@@ -21,12 +20,9 @@ range-init g c =
     let us = c.args.units.now.items in
     let left = walk_left (map unit_places (map plain_unit us)) c.args.ranges.now c.args.walk.now in
     record {
-      values = refl;
+      change = lines_none us;
       left = refl {a = left};
-      calls = leaves_none us;
-      cost = looks_none 0 us;
       asks = walk_begins us c.args.ranges.now c.args.walk.now;
-      functions = no_functions_none us;
       way = λ n come. come;
     }
 
@@ -37,7 +33,7 @@ returns-in-Some-clause-stretch g c =
     first_left units c.args.ranges.now c.in-Some.stretch c.range.walk c.next_of_rows.new.walk
     (subst (λ r. NextOfRows units r c.range.walk c.next_of_rows.new.walk) (ap ok_stretch c.in-Some.is)
     (subst (λ (xs : List ContextUnit). NextOfRows xs (Ok c.in_ok-stretch.field-0) c.range.walk c.next_of_rows.new.walk)
-    (same_plain c.range.units.items c.args.units.now.items c.range.invariant.values)
+    (same_plain c.range.units.items c.args.units.now.items c.range.invariant.change.values)
     c.in_ok-stretch.ensures.stretch)) in (found.0, found.1, sym c.range.invariant.left ∙ found.2)
 
 pub returns-in_default-next_overlapping-clause-stretch : goal.returns-in_default-next_overlapping-clause-stretch
@@ -49,7 +45,7 @@ returns-in_default-next_overlapping-clause-stretch g c =
     let stays =
     stays_empty units c.range.walk w c.in_ok-stretch.field-0 c.in_default.is
     (subst (λ (xs : List ContextUnit). NextOfRows xs (Ok c.in_ok-stretch.field-0) c.range.walk w)
-    (same_plain c.range.units.items c.args.units.now.items c.range.invariant.values)
+    (same_plain c.range.units.items c.args.units.now.items c.range.invariant.change.values)
     c.in_ok-stretch.ensures.stretch) in
     let same : walk_left us ranges w ≡ walk_left us ranges c.args.walk.now =
     ap (walk_left us ranges) stays.0 ∙ c.range.invariant.left in
@@ -67,14 +63,14 @@ returns-in_err-walk-clause-stretch g c =
     let stays =
     stays_empty units c.range.walk w c.in_ok-stretch.field-0 c.in_default.is
     (subst (λ (xs : List ContextUnit). NextOfRows xs (Ok c.in_ok-stretch.field-0) c.range.walk w)
-    (same_plain c.range.units.items c.args.units.now.items c.range.invariant.values)
+    (same_plain c.range.units.items c.args.units.now.items c.range.invariant.change.values)
     c.in_ok-stretch.ensures.stretch) in
     let same : walk_left us ranges w ≡ walk_left us ranges c.args.walk.now =
     ap (walk_left us ranges) stays.0 ∙ c.range.invariant.left in
     let refuses : BeginsRange us w.low w.high r (Err e) =
     subst (λ (xs : List ContextUnit). BeginsRange (map unit_places xs) w.low w.high r (Err e))
     (same_plain c.next_of_rows.new.units.items c.args.units.now.items
-    (c.in_ok-stretch.ensures.values ∙ c.range.invariant.values)) (c.in_err-walk.ensures.rows w.high) in
+    (c.in_ok-stretch.ensures.change.values ∙ c.range.invariant.change.values)) (c.in_err-walk.ensures.rows w.high) in
     rw (p.1, p.2) (
       λ other.
           sym same
@@ -97,66 +93,50 @@ range-preserved g c =
     let stays =
     stays_empty units c.range.walk w c.in_ok-stretch.field-0 c.in_default.is
     (subst (λ (xs : List ContextUnit). NextOfRows xs (Ok c.in_ok-stretch.field-0) c.range.walk w)
-    (same_plain c.range.units.items old c.range.invariant.values) c.in_ok-stretch.ensures.stretch) in
+    (same_plain c.range.units.items old c.range.invariant.change.values) c.in_ok-stretch.ensures.stretch) in
     let begins : BeginsRange us w.low w.high r (Ok rows) =
     subst (λ (xs : List ContextUnit). BeginsRange (map unit_places xs) w.low w.high r (Ok rows))
-    (same_plain now old (c.in_ok-stretch.ensures.values ∙ c.range.invariant.values))
+    (same_plain now old (c.in_ok-stretch.ensures.change.values ∙ c.range.invariant.change.values))
     (c.in_ok-walk.ensures.rows w.high) in
     let on_way : StaysOnItsWay ranges c.range.walk w =
     way_of_rows (map plain_unit c.range.units.items) ranges (Ok c.in_ok-stretch.field-0) c.range.walk w
     c.in_ok-stretch.ensures.stretch c.in_ok-stretch.ensures.unit in
     let passed : AsksAfter old ranges c.args.walk.now w now =
     rows_passed old ranges c.args.walk.now c.range.walk c.range.units.items c.range.invariant.asks now
-    c.in_ok-stretch.ensures.reads c.in_ok-stretch.ensures.cost.more
-    (c.in_ok-stretch.ensures.asked (stretch_not_refused _)) c.range.invariant.values w c.in_ok-stretch.field-0
+    c.in_ok-stretch.ensures.reads c.in_ok-stretch.ensures.change.cost.more
+    (c.in_ok-stretch.ensures.asked (stretch_not_refused _)) c.range.invariant.change.values w c.in_ok-stretch.field-0
     c.in_ok-stretch.ensures.stretch c.in_default.is in
     record {
-      values = c.in_ok-walk.ensures.values ∙ c.in_ok-stretch.ensures.values ∙ c.range.invariant.values;
+      change =
+          lines_both (lines_both c.range.invariant.change c.in_ok-stretch.ensures.change) c.in_ok-walk.ensures.change;
       left =
           next_range us ranges w stays.1 r next rows c.in-Some-next_overlapping.ensures begins
           ∙ ap (walk_left us ranges) stays.0 ∙ c.range.invariant.left;
-      calls =
-          leaves_both old now c.first_rows.new.units.items
-          (leaves_both old c.range.units.items now c.range.invariant.calls c.in_ok-stretch.ensures.calls)
-          c.in_ok-walk.ensures.calls;
-      cost =
-          looks_after 0 old now c.first_rows.new.units.items
-          (looks_after 0 old c.range.units.items now c.range.invariant.cost c.in_ok-stretch.ensures.cost)
-          c.in_ok-walk.ensures.cost;
       asks =
           next_begins old ranges c.args.walk.now w now passed r next c.in-Some-next_overlapping.ensures
-          c.first_rows.new.units.items c.in_ok-walk.ensures.reads c.in_ok-walk.ensures.cost.more
+          c.first_rows.new.units.items c.in_ok-walk.ensures.reads c.in_ok-walk.ensures.change.cost.more
           (c.in_ok-walk.ensures.kept (rows_not_refused _)) rows c.in_ok-walk.ensures.range begins;
-      functions =
-          no_functions_both old now c.first_rows.new.units.items
-          (no_functions_both old c.range.units.items now c.range.invariant.functions c.in_ok-stretch.ensures.functions)
-          c.in_ok-walk.ensures.functions;
       way = λ n come.
           c.range.invariant.way n
           (on_way n
           (way_of_range ranges w r next c.in-Some-next_overlapping.ensures rows c.in_ok-walk.ensures.range n come));
     }
 
-pub returns-in_err-stretch-clause-calls : goal.returns-in_err-stretch-clause-calls
-returns-in_err-stretch-clause-calls g c =
-    leaves_both c.args.units.now.items c.range.units.items c.next_of_rows.new.units.items c.range.invariant.calls
-    c.in_err-stretch.ensures.calls
+pub returns-in_err-stretch-clause-change : goal.returns-in_err-stretch-clause-change
+returns-in_err-stretch-clause-change g c =
+    lines_both c.range.invariant.change c.in_err-stretch.ensures.change
 
-pub returns-in-Some-clause-calls : goal.returns-in-Some-clause-calls
-returns-in-Some-clause-calls g c =
-    leaves_both c.args.units.now.items c.range.units.items c.next_of_rows.new.units.items c.range.invariant.calls
-    c.in_ok-stretch.ensures.calls
+pub returns-in-Some-clause-change : goal.returns-in-Some-clause-change
+returns-in-Some-clause-change g c =
+    lines_both c.range.invariant.change c.in_ok-stretch.ensures.change
 
-pub returns-in_default-next_overlapping-clause-calls : goal.returns-in_default-next_overlapping-clause-calls
-returns-in_default-next_overlapping-clause-calls g c =
-    leaves_both c.args.units.now.items c.range.units.items c.next_of_rows.new.units.items c.range.invariant.calls
-    c.in_ok-stretch.ensures.calls
+pub returns-in_default-next_overlapping-clause-change : goal.returns-in_default-next_overlapping-clause-change
+returns-in_default-next_overlapping-clause-change g c =
+    lines_both c.range.invariant.change c.in_ok-stretch.ensures.change
 
-pub returns-in_err-walk-clause-calls : goal.returns-in_err-walk-clause-calls
-returns-in_err-walk-clause-calls g c =
-    leaves_both c.args.units.now.items c.next_of_rows.new.units.items c.first_rows.new.units.items
-    (leaves_both c.args.units.now.items c.range.units.items c.next_of_rows.new.units.items c.range.invariant.calls
-    c.in_ok-stretch.ensures.calls) c.in_err-walk.ensures.calls
+pub returns-in_err-walk-clause-change : goal.returns-in_err-walk-clause-change
+returns-in_err-walk-clause-change g c =
+    lines_both (lines_both c.range.invariant.change c.in_ok-stretch.ensures.change) c.in_err-walk.ensures.change
 
 -- ---- lines that are asked for
 
@@ -169,8 +149,8 @@ pub returns-in-Some-clause-asked : goal.returns-in-Some-clause-asked
 returns-in-Some-clause-asked g c = λ answered.
     rows_found c.args.units.now.items c.args.ranges.now c.args.walk.now c.range.walk c.range.units.items
     c.range.invariant.asks c.next_of_rows.new.units.items c.in_ok-stretch.ensures.reads
-    c.in_ok-stretch.ensures.cost.more (c.in_ok-stretch.ensures.asked (stretch_not_refused _))
-    c.range.invariant.values c.next_of_rows.new.walk c.in_ok-stretch.field-0 c.in_ok-stretch.ensures.stretch
+    c.in_ok-stretch.ensures.change.cost.more (c.in_ok-stretch.ensures.asked (stretch_not_refused _))
+    c.range.invariant.change.values c.next_of_rows.new.walk c.in_ok-stretch.field-0 c.in_ok-stretch.ensures.stretch
     c.in-Some.stretch c.in-Some.is
 
 pub returns-in_default-next_overlapping-clause-asked : goal.returns-in_default-next_overlapping-clause-asked
@@ -180,8 +160,8 @@ returns-in_default-next_overlapping-clause-asked g c = λ answered.
     let now = c.next_of_rows.new.units.items in
     walk_ends old ranges c.args.walk.now c.next_of_rows.new.walk now
     (rows_passed old ranges c.args.walk.now c.range.walk c.range.units.items c.range.invariant.asks now
-    c.in_ok-stretch.ensures.reads c.in_ok-stretch.ensures.cost.more
-    (c.in_ok-stretch.ensures.asked (stretch_not_refused _)) c.range.invariant.values c.next_of_rows.new.walk
+    c.in_ok-stretch.ensures.reads c.in_ok-stretch.ensures.change.cost.more
+    (c.in_ok-stretch.ensures.asked (stretch_not_refused _)) c.range.invariant.change.values c.next_of_rows.new.walk
     c.in_ok-stretch.field-0 c.in_ok-stretch.ensures.stretch c.in_default.is) c.in_default-next_overlapping.ensures
 
 pub returns-in_err-walk-clause-asked : goal.returns-in_err-walk-clause-asked
@@ -195,16 +175,16 @@ returns-in_err-walk-clause-asked g c =
     let e = c.in_err-walk.field-0.0 in
     let refuses : BeginsRange (map unit_places (map plain_unit old)) w.low w.high r (Err e) =
     subst (λ (xs : List ContextUnit). BeginsRange (map unit_places xs) w.low w.high r (Err e))
-    (same_plain now old (c.in_ok-stretch.ensures.values ∙ c.range.invariant.values))
+    (same_plain now old (c.in_ok-stretch.ensures.change.values ∙ c.range.invariant.change.values))
     (c.in_err-walk.ensures.rows w.high) in
     rw (p.1, p.2) (λ other.
     next_refused old ranges c.args.walk.now w now
     (rows_passed old ranges c.args.walk.now c.range.walk c.range.units.items c.range.invariant.asks now
-    c.in_ok-stretch.ensures.reads c.in_ok-stretch.ensures.cost.more
-    (c.in_ok-stretch.ensures.asked (stretch_not_refused _)) c.range.invariant.values w c.in_ok-stretch.field-0
+    c.in_ok-stretch.ensures.reads c.in_ok-stretch.ensures.change.cost.more
+    (c.in_ok-stretch.ensures.asked (stretch_not_refused _)) c.range.invariant.change.values w c.in_ok-stretch.field-0
     c.in_ok-stretch.ensures.stretch c.in_default.is) r c.in-Some-next_overlapping.next
     c.in-Some-next_overlapping.ensures c.first_rows.new.units.items c.in_err-walk.ensures.reads
-    c.in_err-walk.ensures.cost.more
+    c.in_err-walk.ensures.change.cost.more
     (c.in_err-walk.ensures.kept (refused_so (Option UnitStretch) (Option RangeRows) _ Memory other)) e
     (λ is. other (ap refused_stretch is)) refuses)
 
@@ -231,8 +211,8 @@ returns-in_err-walk-clause-reads g c =
     let now = c.next_of_rows.new.units.items in
     next_reads old ranges c.args.walk.now w now
     (rows_passed old ranges c.args.walk.now c.range.walk c.range.units.items c.range.invariant.asks now
-    c.in_ok-stretch.ensures.reads c.in_ok-stretch.ensures.cost.more
-    (c.in_ok-stretch.ensures.asked (stretch_not_refused _)) c.range.invariant.values w c.in_ok-stretch.field-0
+    c.in_ok-stretch.ensures.reads c.in_ok-stretch.ensures.change.cost.more
+    (c.in_ok-stretch.ensures.asked (stretch_not_refused _)) c.range.invariant.change.values w c.in_ok-stretch.field-0
     c.in_ok-stretch.ensures.stretch c.in_default.is) c.in-Some-next_overlapping.range
     c.in-Some-next_overlapping.next c.in-Some-next_overlapping.ensures c.first_rows.new.units.items
     c.in_err-walk.ensures.reads
@@ -257,8 +237,8 @@ returns-in_err-walk-clause-free g c =
     (c.in_err-walk.ensures.free
     (next_kept old ranges c.args.walk.now w now
     (rows_passed old ranges c.args.walk.now c.range.walk c.range.units.items c.range.invariant.asks now
-    c.in_ok-stretch.ensures.reads c.in_ok-stretch.ensures.cost.more
-    (c.in_ok-stretch.ensures.asked (stretch_not_refused _)) c.range.invariant.values w c.in_ok-stretch.field-0
+    c.in_ok-stretch.ensures.reads c.in_ok-stretch.ensures.change.cost.more
+    (c.in_ok-stretch.ensures.asked (stretch_not_refused _)) c.range.invariant.change.values w c.in_ok-stretch.field-0
     c.in_ok-stretch.ensures.stretch c.in_default.is) c.in-Some-next_overlapping.range
     c.in-Some-next_overlapping.next c.in-Some-next_overlapping.ensures kept)))
 
@@ -287,26 +267,3 @@ returns-in_err-walk-clause-way g c n come =
     c.range.invariant.way n
     (way_of_rows (map plain_unit c.range.units.items) c.args.ranges.now (Ok c.in_ok-stretch.field-0) c.range.walk
     c.next_of_rows.new.walk c.in_ok-stretch.ensures.stretch c.in_ok-stretch.ensures.unit n come)
-
--- ---- functions
-
-pub returns-in_err-stretch-clause-functions : goal.returns-in_err-stretch-clause-functions
-returns-in_err-stretch-clause-functions g c =
-    no_functions_both c.args.units.now.items c.range.units.items c.next_of_rows.new.units.items
-    c.range.invariant.functions c.in_err-stretch.ensures.functions
-
-pub returns-in-Some-clause-functions : goal.returns-in-Some-clause-functions
-returns-in-Some-clause-functions g c =
-    no_functions_both c.args.units.now.items c.range.units.items c.next_of_rows.new.units.items
-    c.range.invariant.functions c.in_ok-stretch.ensures.functions
-
-pub returns-in_default-next_overlapping-clause-functions : goal.returns-in_default-next_overlapping-clause-functions
-returns-in_default-next_overlapping-clause-functions g c =
-    no_functions_both c.args.units.now.items c.range.units.items c.next_of_rows.new.units.items
-    c.range.invariant.functions c.in_ok-stretch.ensures.functions
-
-pub returns-in_err-walk-clause-functions : goal.returns-in_err-walk-clause-functions
-returns-in_err-walk-clause-functions g c =
-    no_functions_both c.args.units.now.items c.next_of_rows.new.units.items c.first_rows.new.units.items
-    (no_functions_both c.args.units.now.items c.range.units.items c.next_of_rows.new.units.items
-    c.range.invariant.functions c.in_ok-stretch.ensures.functions) c.in_err-walk.ensures.functions

@@ -10,12 +10,12 @@ pub invariant_of-self : goal.invariant_of-self
 invariant_of-self g c =
     c.self.invariant
     ∙ ap ordered_ranges
-    (sym (same_plain c.check_lines.new.units.items c.self.inside.units.items c.check_lines.ensures.values))
+    (sym (same_plain c.check_lines.new.units.items c.self.inside.units.items c.check_lines.ensures.change.values))
 
 pub returns-clause-calls : goal.returns-clause-calls
 returns-clause-calls g c =
     subst (λ (us : List ResolvedUnit). LeavesCalls us c.check_lines.new.units.items) c.self.view_is
-    c.check_lines.ensures.calls
+    c.check_lines.ensures.change.calls
 
 pub returns-clause-asked : goal.returns-clause-asked
 returns-clause-asked g c = λ answered.
@@ -37,4 +37,4 @@ returns-clause-free g c = λ kept.
 pub returns-clause-functions : goal.returns-clause-functions
 returns-clause-functions g c =
     subst (λ (us : List ResolvedUnit). ReadsNoFunctions us c.check_lines.new.units.items) c.self.view_is
-    c.check_lines.ensures.functions
+    c.check_lines.ensures.change.functions

@@ -1,34 +1,28 @@
-use Rattle.std.proofs.Common.{List, map, option_map, ◌∙◌, ap, sym, subst, Ok}
+use Rattle.std.proofs.Common.{List, map, option_map, sym, ap, ◌∙◌, subst, Ok, Option}
 use Rattle.addr2line_resolved.specs.Calls.{ReturnsAsOrNoMemory}
+use Rattle.addr2line_resolved.specs.FirstAnswers.{SplitLoad}
 use Rattle.addr2line_resolved.specs.NumberedRanges.{covering_ranges}
-use Rattle.addr2line_resolved.specs.UnitRange.{UnitRange}
 use Rattle.addr2line_resolved.specs.ContextUnits.{ordered_ranges}
 use Rattle.addr2line_resolved.specs.ResolvedUnits.{ResolvedUnit, plain_unit, value_of_unit}
-use Rattle.addr2line_lookups.specs.Preloads.{loads_at, first_load}
-use Rattle.addr2line_lookups.specs.PassedUnits.{PassLoads}
+use Rattle.addr2line_lookups.specs.Preloads.{loads_at, load_at}
+use Rattle.addr2line_lookups.proofs.FirstLoads.{load_of_first, no_first_load}
 use Rattle.addr2line_lookups.proofs.units.Units.first_load.Goals as goal
 
-pub first_load-requires : goal.first_load-requires
-first_load-requires g c =
-    let units = c.as_slice.result.now in
-    let passes : List ResolvedUnit → List UnitRange → Type 0 =
-    λ us rs. PassLoads (map value_of_unit us) c.args.probe c.args.from rs in
-    let here : List ResolvedUnit → Type 0 = λ us. passes us (ordered_ranges (map plain_unit us)) in
-    let same = c.as_slice.ensures.value ∙ c.self.view_is in
-    let order =
-    c.self.invariant
-    ∙ ap (λ (us : List ResolvedUnit). ordered_ranges (map plain_unit us)) (sym c.as_slice.ensures.value) in
-    subst (passes units) (sym order) (subst here (sym same) c.requires)
+pub returns-in-Some : goal.returns-in-Some
+returns-in-Some g c =
+    let us = c.args.self.now in
+    let finds : Option SplitLoad → Type 0 =
+    λ o. ReturnsAsOrNoMemory (option_map (λ l. l)) c.copy_load_at.result (Ok o) in
+    subst finds
+    (sym (load_of_first (map value_of_unit us) (covering_ranges c.args.probe (ordered_ranges (map plain_unit us)))
+    c.in-Some.number c.in-Some.ensures))
+    (subst
+    (λ (xs : List ResolvedUnit). finds (option_map (λ p. p.load) (load_at (map value_of_unit xs) c.in-Some.number)))
+    (c.as_slice.ensures.value ∙ c.self.view_is) c.copy_load_at.ensures)
 
-pub returns : goal.returns
-returns g c =
-    let units = c.as_slice.result.now in
-    subst (λ (us : List ResolvedUnit). ReturnsAsOrNoMemory (option_map (λ l. l)) c.first_load.result
-    (Ok (first_load (loads_at (map value_of_unit us)
-    (covering_ranges c.args.probe (ordered_ranges (map plain_unit us)))))))
-    (c.as_slice.ensures.value ∙ c.self.view_is)
-    (subst (λ (rs : List UnitRange). ReturnsAsOrNoMemory (option_map (λ l. l)) c.first_load.result
-    (Ok (first_load (loads_at (map value_of_unit units) (covering_ranges c.args.probe rs)))))
-    (c.self.invariant
-    ∙ ap (λ (us : List ResolvedUnit). ordered_ranges (map plain_unit us)) (sym c.as_slice.ensures.value))
-    c.first_load.ensures)
+pub returns-in-None : goal.returns-in-None
+returns-in-None g c =
+    let us = c.args.self.now in
+    ap Ok
+    (no_first_load (loads_at (map value_of_unit us) (covering_ranges c.args.probe (ordered_ranges (map plain_unit us))))
+    c.in-None.ensures)

@@ -12,7 +12,7 @@ pub invariant_of-self : goal.invariant_of-self
 invariant_of-self g c =
     c.self.invariant
     ∙ ap ordered_ranges
-    (sym (same_plain c.next_stretch.new.units.items c.self.inside.units.items c.next_stretch.ensures.values))
+    (sym (same_plain c.next_stretch.new.units.items c.self.inside.units.items c.next_stretch.ensures.change.values))
 
 pub returns-clause-stretch : goal.returns-clause-stretch
 returns-clause-stretch g c =
@@ -28,7 +28,7 @@ returns-clause-stretch g c =
 pub returns-clause-calls : goal.returns-clause-calls
 returns-clause-calls g c =
     subst (λ (us : List ResolvedUnit). LeavesCalls us c.next_stretch.new.units.items) c.self.view_is
-    c.next_stretch.ensures.calls
+    c.next_stretch.ensures.change.calls
 
 pub returns-clause-asked : goal.returns-clause-asked
 returns-clause-asked g c = λ answered.
@@ -66,4 +66,4 @@ returns-clause-way g c =
 pub returns-clause-functions : goal.returns-clause-functions
 returns-clause-functions g c =
     subst (λ (us : List ResolvedUnit). ReadsNoFunctions us c.next_stretch.new.units.items) c.self.view_is
-    c.next_stretch.ensures.functions
+    c.next_stretch.ensures.change.functions
