@@ -1,5 +1,5 @@
 -- A context from its parts.
-use Rattle.std.proofs.Common.{◌≡◌, ◌≢◌, ℕ, List, map, Option, None, Some, Result, Ok, Err, refl, sym, ap, ◌∙◌, subst}
+use Rattle.std.proofs.Common.{◌≡◌, ◌≢◌, ℕ, List, map, Option, None, Result, Ok, Err, refl, sym, ap, ◌∙◌, subst}
 use Rattle.std.proofs.lemmas.Simd.{map-map}
 use Rattle.addr2line_lookups.specs.Error.{Error}
 use Rattle.addr2line_lookups.specs.Error.TheVariants.{Memory}
@@ -94,10 +94,6 @@ module _ (s : DwarfFile) where
   pub units_refused : (e : Error) → fault_of_sets ≡ None → units_of_file s ≡ Err e → file_context s ≡ Err e
   units_refused e sound file =
       ap (λ r. and_then r (with_file s)) (ap (with_sets s) sound ∙ ap (λ r. and_then r (with_units s)) file)
-
-  -- or by its address ranges
-  pub sets_refused : (e : Error) → fault_of_sets ≡ Some e → file_context s ≡ Err e
-  sets_refused e unsound = ap (λ r. and_then r (with_file s)) (ap (with_sets s) unsound)
 
 -- ---- a context whose units were read
 

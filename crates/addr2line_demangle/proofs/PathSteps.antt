@@ -40,11 +40,6 @@ shorter text =
       | false ↦ λ e. tt
     ] refl
 
-pub shorter_some : (text : List ℕ) (e : Element) → Some e ≡ first_element text
-    → length e.rest < length text
-shorter_some text e h =
-    let F : Option Element → Type 0 = IsShorter text in subst F (sym h) (shorter text)
-
 abbrev IsAsciiRest : Option Element → Type 0
 IsAsciiRest None = Unit {0}
 IsAsciiRest (Some e) = IsAscii e.rest

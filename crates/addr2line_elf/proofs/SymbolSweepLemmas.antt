@@ -119,21 +119,7 @@ active_at-hidden a last (e ∷ es) lt =
       | false ↦ λ _. refl
     ] refl
 
--- entries that end above an address stay
-pub still_active-above : (last : ℕ) (es : List SymbolEntry) → EndsAbove last es → still_active last es ≡ es
-still_active-above last [] h = refl
-still_active-above last (e ∷ es) h =
-    ap (λ b. cond b (still_active last es) (e ∷ es)) (lt-leb (last_covered e) last h)
-
-pub still_active-ended : (last : ℕ) (e : SymbolEntry) (es : List SymbolEntry) → last_covered e ≤ last
-    → still_active last (e ∷ es) ≡ still_active last es
-still_active-ended last e es h =
-    ap (λ b. cond b (still_active last es) (e ∷ es)) (le-leb (last_covered e) last h)
-
 -- ---- steps of the sweep
-
-pub swept_none : IsSweptTo 0 [] [] []
-swept_none = record { ended = tt; swept = record { order = tt; answers = λ a fits. refl } }
 
 pub swept_later : (low high : ℕ) (ss : List SymbolStretch) (active entries : List SymbolEntry) → low ≤ high
     → IsSweptTo low ss active entries → IsSweptTo high ss active entries

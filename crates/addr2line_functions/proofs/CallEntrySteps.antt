@@ -30,9 +30,6 @@ refusal e = Err e
 abbrev size : FunctionWalk → ℕ
 size i = bytes_left i.walk.rest
 
-outer_of : FunctionWalk → List Row
-outer_of i = enclosing_rows i.walk.depth i.before
-
 shrinks_row : (limit : ℕ) (i : FunctionWalk) (n : ℕ) (x : Result (Row × Walk) Error)
     → row_choosing limit (is_call_in (enclosing_rows i.walk.depth i.before)) i.walk ≡ x → size i ≤ n
     → SomeBelow size n (entry_of_row i x)
@@ -133,9 +130,6 @@ call-first : (fault : Option Error) (c : Call) (rest : Result (List Call) Error)
 call-first fault c (Ok cs) = unless-first fault c cs
 call-first fault c (Err e) = refl
 
-some_call : Call → Result (Option Call) Error
-some_call c = Ok (Some c)
-
 read-first : (fault : Option Error) (r : Result Call Error) (rest : Result (List Call) Error)
     → unless_fault fault (and_then r (λ c. and_then rest (λ cs. Ok (c ∷ cs))))
     ≡ after_entry (and_then r (λ c. Ok (Some c))) (unless_fault fault rest)
@@ -197,9 +191,6 @@ module _ (limit : ℕ) (u : UnitInFile) (naming : Naming) where
     pub read : row_choosing limit (is_call_where (leave w.depth o)) w ≡ Ok (row, t)
     pub called : call_if u naming row (call_depth (leave w.depth o) row.tag) ≡ Ok c
     pub leads_to : inside_of row.tag row.depth (leave w.depth o) ≡ p
-
-  row_is : {A : Type 0} (x y : A) → ok_of x ≡ Ok y → x ≡ y
-  row_is x y h = cc
 
   pub entry_parts : (w t : Walk) (o p : Nesting) (c : Option Call)
       → next_call limit u naming (record { walk = w; nesting = o }) ≡ Ok (c, record { walk = t; nesting = p })

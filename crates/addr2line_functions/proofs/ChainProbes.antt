@@ -20,7 +20,3 @@ pub looks-next : (old new bound p q n m : ℕ) → n ≡ m + 1 → q ≡ p → n
 looks-next old new bound p q n m is each more enough =
     let same : (n + 1) * p ≡ (m + 1 + 1) * p = ap (λ k. (k + 1) * p) is in
     omega (arith, each, same, more, enough)
-
--- and at the last for one more search
-pub looks-last : (old new bound p q n : ℕ) → q ≡ p → new ≤ old + q → old + (n + 1) * p ≤ bound → new ≤ bound
-looks-last old new bound p q n each more enough = omega (arith, each, more, enough)

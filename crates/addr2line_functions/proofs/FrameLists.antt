@@ -1,5 +1,5 @@
 -- The next of the remaining frames, and those after it.
-use Rattle.std.proofs.Common.{◌≡◌, ◌≢◌, ℕ, List, [], ◌∷◌, ◌++◌, Option, Some, None, Result, Ok, Err, refl, sym, ap, ◌∙◌, option_to_list}
+use Rattle.std.proofs.Common.{◌≡◌, ◌≢◌, ℕ, List, [], ◌∷◌, ◌++◌, Option, Some, None, Result, Ok, Err, refl, sym, ap, ◌∙◌}
 use Rattle.std.specs.Prelude.{OnOk, OnErr}
 use Rattle.gimli_units_entries.specs.Error.{Error}
 use Rattle.gimli_units_entries.specs.Error.TheVariants.{Memory, UnexpectedEof, BadUnsignedLeb128, BadSignedLeb128, UnknownReservedLength, UnsupportedOffset, UnsupportedAddressSize, AbbreviationTagZero, AttributeNameZero, AttributeFormZero, InvalidAbbreviationChildren, DuplicateAbbreviationCode, InvalidAbbreviationCode, UnknownForm, InvalidImplicitConst, UnknownVersion, UnsupportedUnitType, UnsupportedSegmentSize, OffsetOutOfBounds, NoEntryAtGivenOffset, MissingUnitDie, AddressOverflow, UnknownRangeListsEntry, UnknownLocListsEntry, MinimumInstructionLengthZero, MaximumOperationsPerInstructionZero, LineRangeZero, OpcodeBaseZero, MissingFileEntryFormatPath, ExpectedStringAttributeValue, BadUtf8, OffsetSumOverflow, NoSuchUnit}
@@ -7,7 +7,7 @@ use Rattle.gimli_units_entries.specs.Calls.{ReturnsOrNoMemory}
 use Rattle.gimli_units_entries.specs.View.{View}
 use Rattle.addr2line_units.specs.Lines.{Location}
 use Rattle.addr2line_units.specs.InlinedCalls.{Call}
-use Rattle.addr2line_units.specs.Frames.{Frame, FunctionAt, call_site, frame, frames_in, frame_without_function}
+use Rattle.addr2line_units.specs.Frames.{Frame, FunctionAt, call_site, frame, frames_in}
 use Rattle.addr2line_functions.specs.BorrowedFrames.{frames_at_place}
 use Rattle.addr2line_functions.specs.CallNumbers.{calls_of_numbers}
 use Rattle.addr2line_functions.specs.NextFrames.{NextOf}
@@ -45,14 +45,6 @@ module _ (language : Option ℕ) (files : List (List ℕ)) where
       ∙ call_next here f numbers before c is
       ∙ ap (λ x. frame language c.offset c.name here
       ∷ frames_at_place language files (Some (call_site files c)) x before) (sym some)
-
-  -- and where there is no call, the function's own
-  pub function_next : (here : Option Location) (o : Option FunctionAt) (f : FunctionAt) (numbers : List ℕ)
-      → o ≡ Some f → calls_of_numbers f.calls.calls numbers ≡ []
-      → frames_at_place language files here o numbers ≡ frame language f.offset f.calls.name here ∷ []
-  function_next here o f numbers some none =
-      ap (λ x. frames_at_place language files here x numbers) some
-      ∙ ap (frames_in language files here f.offset f.calls.name) none
 
 -- a result that is a frame
 abbrev made : Frame → Result (Option Frame) Error
@@ -109,9 +101,3 @@ made_next (Ok (Some x)) f old new later is ok err first =
 made_next (Ok None) f old new later is ok err first = absurd cc
 made_next (Err e) f old new later is ok err first =
     (only_memory e (λ m. let never = is m in absurd cc), err)
-
--- the frame of a place, if there is one
-pub place_next : (o : Option Frame) (old new : List Frame) → option_to_list o ≡ old → new ≡ []
-    → NextOf (λ x. x) (Ok o) old new
-place_next (Some x) old new is none = sym is ∙ ap (λ l. x ∷ l) (sym none)
-place_next None old new is none = (sym is, none)

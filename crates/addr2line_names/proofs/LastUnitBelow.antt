@@ -15,10 +15,6 @@ cond_true : {A : Type 0} (b : Bool) (x y : A) → b ≡ true → cond b x y ≡ 
 cond_true true x y h = refl
 cond_true false x y h = absurd cc
 
-cond_false : {A : Type 0} (b : Bool) (x y : A) → b ≡ false → cond b x y ≡ y
-cond_false true x y h = absurd cc
-cond_false false x y h = refl
-
 module _ {X A : Type 0} (f : X → A) (p : A → Bool) where
   abbrev pub last_in : List X → Option A
   last_in xs = last_or None (filter p (map f xs))
@@ -41,12 +37,6 @@ module _ {X A : Type 0} (f : X → A) (p : A → Bool) where
       → last_in xs ≡ whole → whole ≡ Some (f x)
   last_is xs before x whole is passes same =
       sym same ∙ by_last xs before x is ∙ cond_true (p (f x)) (Some (f x)) (last_in before) passes
-
-  -- or it is one of those before
-  pub last_is_before : (xs before : List X) (x : X) (whole : Option A) → xs ≡ before ++ (x ∷ []) → p (f x) ≡ false
-      → last_in xs ≡ whole → last_in before ≡ whole
-  last_is_before xs before x whole is fails same =
-      sym (cond_false (p (f x)) (Some (f x)) (last_in before) fails) ∙ sym (by_last xs before x is) ∙ same
 
 -- ---- in order
 

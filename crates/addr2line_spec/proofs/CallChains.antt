@@ -1,7 +1,7 @@
 -- The calls of an address by their depths.
-use Rattle.std.proofs.Common.{◌≡◌, ℕ, zero, suc, ◌+◌, ◌-◌, ◌<◌, ◌≤◌, Bool, true, false, cond, ◌==◌, nat_lt, List, [], ◌∷◌, ◌++◌, length, map, filter, Option, Some, None, option_map, MatchOption, refl, sym, ap, ◌∙◌, subst, arith}
+use Rattle.std.proofs.Common.{◌≡◌, ℕ, zero, suc, ◌+◌, ◌-◌, ◌≤◌, false, cond, ◌==◌, List, [], ◌∷◌, ◌++◌, length, map, filter, Option, Some, None, option_map, MatchOption, refl, sym, ap, ◌∙◌, subst, arith}
 use Rattle.std.specs.List.{range_with_len}
-use Rattle.std.proofs.lemmas.Bool.{eqb-true, ltb-true}
+use Rattle.std.proofs.lemmas.Bool.{eqb-true}
 use Rattle.std.proofs.lemmas.Bool.Decides.{nat_tests}
 use Rattle.std.proofs.lemmas.List.Elements.{filter-append}
 use Rattle.gimli_lines_machine.specs.Range.{Range}
@@ -54,16 +54,6 @@ no_call_at_depth : (cs : List Call) (a depth : ℕ) → depth_count cs ≤ depth
 no_call_at_depth cs a depth h =
     ap (λ l. option_map (λ (p : Pair Call). p.unit) (holder (λ (p : Pair Call). p.range) a l))
     (none_deeper 0 depth cs h)
-
--- where one does, its depth is below the first that no call has
-pub call_depth_below : (cs : List Call) (a depth : ℕ) (c : Call) → call_at_depth cs a depth ≡ Some c
-    → depth < depth_count cs
-call_depth_below cs a depth c e = by (nat_lt depth (depth_count cs)) refl
-  where
-    by : (b : Bool) → nat_lt depth (depth_count cs) ≡ b → depth < depth_count cs
-    by true h = ltb-true depth (depth_count cs) h
-    by false h = let le : depth_count cs ≤ depth = grind (arith, nat_tests) in let none =
-        no_call_at_depth cs a depth le in absurd cc
 
 -- ---- chains
 

@@ -14,7 +14,8 @@ use Rattle.gimli_dwarf_spec.specs.TableParsing.{attribute, attributes, children,
 use Rattle.gimli_dwarf_spec.specs.FormSpellings.{spelling}
 use Rattle.gimli_dwarf_spec.specs.EntryRows.{row, rows, row_or_end, row_choosing}
 use Rattle.gimli_dwarf_spec.specs.EntryWalks.{entry_head, values, skip_values}
-use Rattle.gimli_dwarf_spec.specs.UnitHeaders.{compilation, fields_to_4, unit_fields, unit_in, unit}
+use Rattle.gimli_dwarf_spec.specs.SectionParts.{counted_part}
+use Rattle.gimli_dwarf_spec.specs.UnitHeaders.{compilation, fields_to_4, unit_fields, unit_in}
 use Rattle.gimli_dwarf_spec.specs.DwarfFiles.{DwarfFile}
 use Rattle.gimli_dwarf_spec.specs.UnitFacts.{UnitFacts, in_file}
 use Rattle.addr2line_spec.specs.Frames.{Frame}
@@ -193,7 +194,7 @@ module _ (b : Bases) where
   a_code_without_a_declaration : answer_load split_context (no_answers 2) 0 (Some (file_of_code 9))
       ≡ (Err (InvalidAbbreviationCode 9), Some (Err (InvalidAbbreviationCode 9)) ∷ None ∷ [])
   unfolding row entry_head values unsigned reading.attributes listing_in items_within rows row_or_end row_choosing
-      skip_values skipping.skip_values skipping.skip_ways skipping.run unit unit_in unit_fields fields_to_4
+      skip_values skipping.skip_values skipping.skip_ways skipping.run counted_part unit_in unit_fields fields_to_4
       initial_length word sized_offset address_size fixed table declaration coded_declaration declaration_of children
       attributes attribute unsigned_16
   a_code_without_a_declaration = refl
@@ -233,7 +234,7 @@ module _ (b : Bases) where
       ≡ loads_answer (load None ∷ []) ∷ completion (Ok tt) ∷ completion (Ok tt) ∷ no_token
       ∷ frames_answer (Ok (at_line 0x20)) ∷ []
   unfolding row entry_head values unsigned reading.attributes listing_in items_within rows row_or_end row_choosing
-      skip_values skipping.skip_values skipping.skip_ways skipping.run unit unit_in unit_fields fields_to_4
+      skip_values skipping.skip_values skipping.skip_ways skipping.run counted_part unit_in unit_fields fields_to_4
       initial_length word sized_offset address_size fixed table declaration coded_declaration declaration_of children
       attributes attribute unsigned_16
   the_first_answer_stays = refl

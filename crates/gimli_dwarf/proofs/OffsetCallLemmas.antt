@@ -3,20 +3,11 @@ use Rattle.std.proofs.Common.{◌≡◌, ℕ, List, [], ◌∷◌, map, Option, 
 use Rattle.std.specs.Iterator.{YieldsThen}
 use Rattle.gimli_dwarf_spec.specs.Error.{Error}
 use Rattle.gimli_dwarf_spec.specs.Tiling.{RemainingSection, whole_section}
-use Rattle.gimli_dwarf_spec.specs.Repetition.{Listing, prepend}
 use Rattle.gimli_dwarf_spec.specs.TableCache.{TablesByOffset, EndsOffsets}
-use Rattle.gimli_dwarf_spec.specs.View.{View}
-use Rattle.gimli_dwarf_spec.specs.UnitHeaders.{DebugUnit, units_of}
+use Rattle.gimli_dwarf_spec.specs.UnitHeaders.{units_of}
 use Rattle.gimli_dwarf_spec.specs.DwarfFiles.{DwarfFile}
 use Rattle.gimli_dwarf.specs.CachedFiles.{cached_file, offsets_of_tables, table_offsets}
 use Rattle.gimli_dwarf.specs.OffsetCalls.{offsets_to_come, GivesOffset}
-
--- one more unit to come is one more offset
-pub one_more : (old new : Listing View DebugUnit) (u : DebugUnit) (n : ℕ) → old ≡ prepend (u ∷ []) new
-    → n ≡ u.abbrev_offset → offsets_of_tables old.items ≡ n ∷ offsets_of_tables new.items
-one_more old new u n more is =
-    ap (λ (l : Listing View DebugUnit). offsets_of_tables l.items) more
-    ∙ ap (λ (k : ℕ). k ∷ offsets_of_tables new.items) (sym is)
 
 module _ {S O : Type 0} (limit : ℕ) (count : O → ℕ) (units : S → Option RemainingSection) where
   abbrev pub Gives : S → Option (Result O Error) → S → Type 0

@@ -22,6 +22,14 @@ pub record LineUnit : Type 0 where
   pub directory : Option View
   pub name : Option View
 
+-- The same, where the texts are readers with these views.
+abbrev pub line_unit : {R : Type 0} → (R → View) → ℕ → Option R → Option R → LineUnit
+line_unit view address_bytes directory name = record {
+  address_bytes = address_bytes;
+  directory = option_map view directory;
+  name = option_map view name;
+}
+
 -- ---- fields
 
 -- in version 5 the size of an address, and that of a segment selector, which has none

@@ -8,6 +8,7 @@ pub use Rattle.gimli_units_forms.specs.AttributeReading
 pub use Rattle.gimli_units_forms.specs.FormSpellings
 pub use Rattle.gimli_units_forms.specs.AttributeValues
 pub use Rattle.gimli_units_headers.specs.ArangeSets
+pub use Rattle.gimli_units_headers.specs.SectionParts
 pub use Rattle.gimli_units_headers.specs.Tiling
 pub use Rattle.gimli_units_headers.specs.UnitHeaders
 pub use Rattle.gimli_units_headers.specs.UnitOffsets

@@ -52,15 +52,16 @@ files_have content h = nat_le h.encoding.version 4 || has_content content h.file
 abbrev pub with_file : FileFacts → LineHeader → LineHeader
 with_file file h = record h { files = h.files ++ file ∷ [] }
 
--- what holds of every header that is read
-pub record IsWellFormed (h : LineHeader) : Type 0 where
-  pub first_version : 2 ≤ h.encoding.version
-  pub last_version : h.encoding.version ≤ 5
-  pub has_address_size : IsTrue (is_address_size h.encoding.address_size)
-  pub has_instructions : 0 < h.line_encoding.minimum_instruction_length
-  pub has_operations : 0 < h.line_encoding.maximum_operations_per_instruction
-  pub has_lines : 0 < h.line_encoding.line_range
-  pub has_opcodes : 0 < h.opcode_base
+-- what holds of the fields of every header that is read
+pub record IsWellFormed (encoding : Encoding) (line_encoding : LineEncoding) (opcode_base : ℕ)
+    (standard_opcode_lengths : View) (file_formats : List FileEntryFormat) : Type 0 where
+  pub first_version : 2 ≤ encoding.version
+  pub last_version : encoding.version ≤ 5
+  pub has_address_size : IsTrue (is_address_size encoding.address_size)
+  pub has_instructions : 0 < line_encoding.minimum_instruction_length
+  pub has_operations : 0 < line_encoding.maximum_operations_per_instruction
+  pub has_lines : 0 < line_encoding.line_range
+  pub has_opcodes : 0 < opcode_base
   -- a length for each standard opcode, which are those from 1 on below the base
-  pub each_opcode : bytes_left h.standard_opcode_lengths + 1 ≡ h.opcode_base
-  pub formats_of_5 : h.encoding.version ≤ 4 → h.file_formats ≡ []
+  pub each_opcode : bytes_left standard_opcode_lengths + 1 ≡ opcode_base
+  pub formats_of_5 : encoding.version ≤ 4 → file_formats ≡ []

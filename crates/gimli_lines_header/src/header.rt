@@ -82,22 +82,8 @@ impl<R: Reader> Model for LineProgramHeader<R> {
       unit_file = h.comp_file;
     } };
 
-    ghost invariant = { λ h. IsWellFormed (record {
-      offset = R.Offset.count h.offset.0;
-      unit_length = R.Offset.count h.unit_length;
-      encoding = h.encoding;
-      header_length = R.Offset.count h.header_length;
-      line_encoding = h.line_encoding;
-      opcode_base = h.opcode_base;
-      standard_opcode_lengths = R.view h.standard_opcode_lengths;
-      directory_formats = h.directory_entry_format.items;
-      directories = map (raw_value_of R.view R.Offset.count) h.include_directories.items;
-      file_formats = h.file_name_entry_format.items;
-      files = h.file_names.items;
-      program = R.view h.program_buf;
-      unit_directory = option_map (raw_value_of R.view R.Offset.count) h.comp_dir;
-      unit_file = h.comp_file;
-    }) };
+    ghost invariant = { λ h. IsWellFormed h.encoding h.line_encoding h.opcode_base
+        (R.view h.standard_opcode_lengths) h.file_name_entry_format.items };
 }
 
 impl<R: Reader> LineProgramHeader<R> {

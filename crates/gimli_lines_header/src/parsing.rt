@@ -7,7 +7,7 @@ ghost use Rattle.gimli_units_headers.specs.NumberParsers.{is_address_size};
 ghost use Rattle.gimli_units_forms.specs.AttributeValues.{raw_value_of, string};
 ghost use Rattle.gimli_lines_header.specs.LineFiles.{file_named};
 ghost use Rattle.gimli_lines_header.specs.HeaderBounds.{bounds_of};
-ghost use Rattle.gimli_lines_header.specs.HeaderParsing.{line_sizes, operations, line_parameters, opcodes, header_fields, line_header, header_at};
+ghost use Rattle.gimli_lines_header.specs.HeaderParsing.{line_unit, line_sizes, operations, line_parameters, opcodes, header_fields, line_header, header_at};
 
 use crate::file::FileEntry;
 use crate::header::LineProgramHeader;
@@ -200,12 +200,7 @@ impl<R: Reader> LineProgramHeader<R> {
         requires { IsTrue (is_address_size address_size) }
         ensures { ReturnsAsOrNoMemory (λ header. (header, R.view input.new)) result
             (line_header R.Offset.limit (R.Offset.count offset.0)
-            (record {
-              address_bytes = address_size;
-              directory = option_map R.view comp_dir;
-              name = option_map R.view comp_name;
-            })
-            (R.view input.old)) }
+            (line_unit R.view address_size comp_dir comp_name) (R.view input.old)) }
     {
         let (unit_length, format) = input.read_initial_length()?;
         let mut program = input.split(unit_length)?;
@@ -237,12 +232,7 @@ impl<R: Reader> DebugLine<R> {
         requires { IsTrue (is_address_size address_size) }
         ensures { ReturnsOrNoMemory result
             (header_at R.Offset.limit (R.Offset.count offset.0)
-            (record {
-              address_bytes = address_size;
-              directory = option_map R.view comp_dir;
-              name = option_map R.view comp_name;
-            })
-            self.now) }
+            (line_unit R.view address_size comp_dir comp_name) self.now) }
     {
         let mut input = self.reader().copy()?;
         input.skip(offset.0)?;

@@ -2,14 +2,14 @@
 use Rattle.std.proofs.Common.{◌≡◌, ℕ, ◌-◌, ◌≤◌, List, eqb, ltb, arith, ap, length-drop, ◌∙◌}
 use Rattle.std.specs.Prelude.{slice_index}
 use Rattle.gimli_core_readers.specs.View.{View, bytes_left}
-use Rattle.gimli_core_readers.specs.Parsers.{Parser, ◌>>=◌, give, lift, part, within, value_of}
-use Rattle.gimli_core_readers.specs.Repetition.{times, until_end}
+use Rattle.gimli_core_readers.specs.Parsers.{Parser, ◌>>=◌, lift, part, within, value_of}
+use Rattle.gimli_core_readers.specs.Repetition.{until_end}
 use Rattle.gimli_core_readers.proofs.StepSizes.{Below, SomeBelow-until_end}
 use Rattle.gimli_core_readers.proofs.Listings.{Shrinks}
-use Rattle.gimli_core_readers.specs.NumberParsers.{fixed, unsigned, signed, offset_below}
+use Rattle.gimli_core_readers.specs.NumberParsers.{fixed, unsigned, offset_below}
 use Rattle.gimli_lines_machine.specs.declared.rules.LineRules.{LineRules}
 use Rattle.gimli_lines_machine.specs.LineInstructions.{special, copy, advance_pc, advance_line, set_file, set_column, negate_stmt, set_basic_block, const_add_pc, fixed_advance_pc, set_prologue_end, set_epilogue_begin, set_isa, unknown_standard_0, unknown_standard_1, unknown_standard_n}
-use Rattle.gimli_lines_machine.specs.Decoding.{FileMaker, span_of, unknown_instruction, standard_instruction, extended_instruction, extended_in, of_opcode, instruction_with}
+use Rattle.gimli_lines_machine.specs.Decoding.{FileMaker, unknown_instruction, standard_instruction, extended_instruction, extended_in, of_opcode, instruction_with}
 use Rattle.gimli_lines_machine.proofs.CutBytes.{ReadsCut, cut-give, cut-lift, cut-then, cut-mapped, cut-branch, cut-less, cut-times, cut-span_of, cut-part}
 use Rattle.gimli_lines_machine.proofs.CutNumbers.{cut-fixed, cut-unsigned, cut-signed}
 

@@ -1,12 +1,12 @@
 //! Programs whose rows are read.
 
-ghost use Rattle.std.specs.Prelude.{◌≡◌, ◌≢◌, Bool, OnOk, IfOk, IfErr, IsOk, IsTrue, option_map, true, false, Ok, Err};
+ghost use Rattle.std.specs.Prelude.{◌≡◌, ◌≢◌, Bool, OnOk, IfOk, IfErr, IsOk, IsTrue, true, false, Ok, Err};
 ghost use Rattle.gimli_lines_machine.specs.Calls.{ReturnsOrNoMemory};
 ghost use Rattle.gimli_lines_machine.specs.Error.TheVariants.{Memory};
 ghost use Rattle.gimli_lines_machine.specs.View.{View};
 ghost use Rattle.gimli_lines_machine.specs.NumberParsers.{is_address_size};
 ghost use Rattle.gimli_lines_header.specs.LineHeaders.{LineHeader};
-ghost use Rattle.gimli_lines_header.specs.HeaderParsing.{header_at};
+ghost use Rattle.gimli_lines_header.specs.HeaderParsing.{line_unit, header_at};
 ghost use Rattle.gimli_lines_rows.specs.ProgramRows.{header_with_any, header_with};
 ghost use Rattle.gimli_lines_rows.specs.RowSequences.{SequencesOf, program_rows, sequence_rows};
 
@@ -39,12 +39,7 @@ pub trait LinePrograms<R: Reader> {
         requires { IsTrue (is_address_size address_size) }
         ensures { ReturnsOrNoMemory result
             (header_at R.Offset.limit (R.Offset.count offset.0)
-            (record {
-              address_bytes = address_size;
-              directory = option_map R.view comp_dir;
-              name = option_map R.view comp_name;
-            })
-            (section self.now)) }
+            (line_unit R.view address_size comp_dir comp_name) (section self.now)) }
     {
         let section = self.debug_line();
         let header = section.header(alloc, offset, address_size, comp_dir, comp_name)?;

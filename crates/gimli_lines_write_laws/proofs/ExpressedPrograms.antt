@@ -39,9 +39,6 @@ use Rattle.gimli_lines_write_laws.specs.ExpressiblePrograms.{text_form, list_for
 abbrev pub Refuses : (Error → Type 0) → Result (List ℕ) Error → Type 0
 Refuses P r = (e : Error) → r ≡ Err e → P e
 
-abbrev err_bytes : Error → Result (List ℕ) Error
-err_bytes e = Err e
-
 pub ok_refuses : (P : Error → Type 0) (bytes : List ℕ) → Refuses P (Ok bytes)
 ok_refuses P bytes e h = absurd (cc)
 

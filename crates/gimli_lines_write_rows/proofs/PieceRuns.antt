@@ -5,7 +5,7 @@ use Rattle.std.proofs.lemmas.Bool.{eqb-true}
 use Rattle.gimli_lines_write_bytes.specs.Repetition.{Listing, prepend}
 use Rattle.gimli_lines_machine.specs.declared.rules.LineRules.{LineRules}
 use Rattle.gimli_lines_machine.specs.declared.registers.Registers.{Registers}
-use Rattle.gimli_lines_machine.specs.LineInstructions.{InstructionOf, set_file, set_column, negate_stmt, set_basic_block, set_prologue_end, set_epilogue_begin, set_isa, set_discriminator}
+use Rattle.gimli_lines_machine.specs.LineInstructions.{InstructionOf, negate_stmt, set_basic_block, set_prologue_end, set_epilogue_begin}
 use Rattle.gimli_lines_machine.specs.Machine.{registers_after, gives_row, next_registers, after_row}
 use Rattle.gimli_lines_machine.specs.Runs.{run, run_step, shown_rows, is_shown, row_of}
 use Rattle.gimli_lines_write_rows.specs.declared.row.LineRow.{LineRow}
@@ -89,41 +89,34 @@ module _ {F : Type 0} (w : LineRules) where
   epilogue_begin_set r true rest h = plain_step set_epilogue_begin r (record r { epilogue_begin = true }) rest refl refl
   epilogue_begin_set r false rest h = ap (λ b. shows w (record r { epilogue_begin = b }) rest) h
 
+  -- an instruction that sets a number, if it is another before
+  number_set : (i : LineInstruction) (r : Registers) (with_number : ℕ → Registers) (old n : ℕ)
+      (rest : List (InstructionOf F)) → r ≡ with_number old
+      → registers_after w (to_instruction {F = F} i) r ≡ Ok (with_number n) → gives_row (to_instruction {F = F} i) ≡ false
+      → shows w r (onto (when (not (n == old)) i) rest) ≡ shows w (with_number n) rest
+  number_set i r with_number old n rest is sets no_row = by (n == old) refl
+    where
+      by : (b : Bool) → (n == old) ≡ b → shows w r (onto (when (not b) i) rest) ≡ shows w (with_number n) rest
+      by true e = ap (λ s. shows w s rest) is ∙ ap (λ m. shows w (with_number m) rest) (sym (eqb-true n old e))
+      by false e = plain_step (to_instruction i) r (with_number n) rest sets no_row
+
   discriminator_set : (r : Registers) (d : ℕ) (rest : List (InstructionOf F)) → r.discriminator ≡ 0
       → shows w r (onto (when (not (d == 0)) (SetDiscriminator d)) rest) ≡ shows w (record r { discriminator = d }) rest
-  discriminator_set r d rest h = by (d == 0) refl
-    where
-      by : (b : Bool) → (d == 0) ≡ b → shows w r (onto (when (not b) (SetDiscriminator d)) rest)
-          ≡ shows w (record r { discriminator = d }) rest
-      by true e = ap (λ n. shows w (record r { discriminator = n }) rest) (h ∙ sym (eqb-true d 0 e))
-      by false e = plain_step (set_discriminator d) r (record r { discriminator = d }) rest refl refl
+  discriminator_set r d rest h =
+      number_set (SetDiscriminator d) r (λ n. record r { discriminator = n }) 0 d rest
+      (ap (λ n. record r { discriminator = n }) h) refl refl
 
   file_set : (r : Registers) (n : ℕ) (rest : List (InstructionOf F))
       → shows w r (onto (when (not (n == r.file)) (SetFile n)) rest) ≡ shows w (record r { file = n }) rest
-  file_set r n rest = by (n == r.file) refl
-    where
-      by : (b : Bool) → (n == r.file) ≡ b → shows w r (onto (when (not b) (SetFile n)) rest)
-          ≡ shows w (record r { file = n }) rest
-      by true e = ap (λ m. shows w (record r { file = m }) rest) (sym (eqb-true n r.file e))
-      by false e = plain_step (set_file n) r (record r { file = n }) rest refl refl
+  file_set r n rest = number_set (SetFile n) r (λ m. record r { file = m }) r.file n rest refl refl refl
 
   column_set : (r : Registers) (n : ℕ) (rest : List (InstructionOf F))
       → shows w r (onto (when (not (n == r.column)) (SetColumn n)) rest) ≡ shows w (record r { column = n }) rest
-  column_set r n rest = by (n == r.column) refl
-    where
-      by : (b : Bool) → (n == r.column) ≡ b → shows w r (onto (when (not b) (SetColumn n)) rest)
-          ≡ shows w (record r { column = n }) rest
-      by true e = ap (λ m. shows w (record r { column = m }) rest) (sym (eqb-true n r.column e))
-      by false e = plain_step (set_column n) r (record r { column = n }) rest refl refl
+  column_set r n rest = number_set (SetColumn n) r (λ m. record r { column = m }) r.column n rest refl refl refl
 
   isa_set : (r : Registers) (n : ℕ) (rest : List (InstructionOf F))
       → shows w r (onto (when (not (n == r.isa)) (SetIsa n)) rest) ≡ shows w (record r { isa = n }) rest
-  isa_set r n rest = by (n == r.isa) refl
-    where
-      by : (b : Bool) → (n == r.isa) ≡ b → shows w r (onto (when (not b) (SetIsa n)) rest)
-          ≡ shows w (record r { isa = n }) rest
-      by true e = ap (λ m. shows w (record r { isa = m }) rest) (sym (eqb-true n r.isa e))
-      by false e = plain_step (set_isa n) r (record r { isa = n }) rest refl refl
+  isa_set r n rest = number_set (SetIsa n) r (λ m. record r { isa = m }) r.isa n rest refl refl refl
 
   statement_set : (r : Registers) (b : Bool) (rest : List (InstructionOf F))
       → shows w r (onto (when (not (beq b r.is_stmt)) NegateStatement) rest) ≡ shows w (record r { is_stmt = b }) rest

@@ -63,13 +63,6 @@ impl FileTable {
         }
     }
 
-    /// How many directories there are.
-    pub fn directory_count(&self) -> usize
-        ensures { result ≡ length self.now.directories }
-    {
-        self.directories.len()
-    }
-
     /// How many files there are.
     pub fn file_count(&self) -> usize
         ensures { result ≡ length self.now.files }

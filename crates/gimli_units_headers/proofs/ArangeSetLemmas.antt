@@ -6,7 +6,7 @@ use Rattle.std.specs.List.{filter_map, cons_option}
 use Rattle.gimli_core_base.specs.declared.error.Error.{Error}
 use Rattle.gimli_core_base.specs.declared.error.Error.TheVariants.{UnknownVersion, UnsupportedSegmentSize}
 use Rattle.gimli_core_base.specs.View.{View, bytes_left}
-use Rattle.gimli_core_base.specs.Parsers.{proceed, give, value_of}
+use Rattle.gimli_core_base.specs.Parsers.{proceed, give}
 use Rattle.gimli_core_base.specs.Calls.{ReturnsOrNoMemory}
 use Rattle.gimli_core_base.specs.Repetition.{Listing, listing_in}
 use Rattle.gimli_core_base.proofs.StepParts.{begins, value_is, state_is}
@@ -15,7 +15,8 @@ use Rattle.gimli_core_base.proofs.Listings.{Shrinks, listing_end, listing_item}
 use Rattle.gimli_core_base.specs.declared.common.Format.{Format}
 use Rattle.gimli_core_base.specs.NumberParsers.{is_address_size}
 use Rattle.gimli_core_readers.specs.Iterators.{ReturnsNext}
-use Rattle.gimli_units_headers.specs.ArangeSets.{ArangeSet, ArangeFields, ArangePair, RemainingPairs, arange_fields, arange_padding, arange_set_in, arange_set, set_size, pair, next_pair, arange_of, transpose, pairs_of, pairs_to_come, aranges_to_come}
+use Rattle.gimli_units_headers.specs.SectionParts.{counted_part}
+use Rattle.gimli_units_headers.specs.ArangeSets.{ArangeSet, ArangePair, RemainingPairs, arange_fields, arange_padding, arange_set_in, arange_set, set_size, pair, next_pair, arange_of, transpose, pairs_of, pairs_to_come, aranges_to_come}
 use Rattle.gimli_core_readers.proofs.ByteCountLemmas.{Took, took_left, took_both, Yields, yields-Ok, yields-Err, yields-proceed, yields-cond, some_size, fixed_took, skip_took, word_took, address_size_took}
 use Rattle.gimli_core_readers.proofs.TilingLemmas.{Parts, IsCounted, counted_parts, listing_few}
 
@@ -48,28 +49,10 @@ set_is limit offset set_length format v =
 
 -- sets are parts of a section that lie end to end
 pub sets_are_parts : (limit : ℕ) → Parts (arange_set limit) (λ s. s.offset) set_size
-unfolding arange_set
+unfolding counted_part
 sets_are_parts limit =
     counted_parts (λ (s : ArangeSet). s.offset) (λ s. s.length) (λ s. s.encoding.format) limit
     (λ offset l. arange_set_in limit offset l.0 l.1) (λ offset l v. set_is limit offset l.0 l.1 v)
-
--- by the fields that are read
-pub set_in_refused : (limit offset set_length : ℕ) (format : Format) (v : View) (e : Error)
-    → arange_fields limit format v ≡ Err e → value_of (arange_set_in limit offset set_length format v) ≡ Err e
-unfolding arange_set_in
-set_in_refused limit offset set_length format v e h = rw h refl
-
-pub set_in_is_read : (limit offset set_length : ℕ) (format : Format) (v : View) (fields : ArangeFields) (w : View)
-    → arange_fields limit format v ≡ Ok (fields, w)
-    → value_of (arange_set_in limit offset set_length format v) ≡ Ok (record {
-      offset = offset;
-      length = set_length;
-      encoding = fields.encoding;
-      info_offset = fields.info_offset;
-      pairs = w;
-    })
-unfolding arange_set_in
-set_in_is_read limit offset set_length format v fields w h = rw h refl
 
 -- ---- pairs
 

@@ -1,16 +1,16 @@
 -- What a part takes of a section that is read part by part.
-use Rattle.std.proofs.Common.{◌≡◌, ℕ, ◌≤◌, Bool, true, false, cond, eqb, ltb, length, Option, Some, None, Result, Ok, Err, refl, sym, ◌∙◌, ap, arith}
+use Rattle.std.proofs.Common.{◌≡◌, ℕ, ◌+◌, ◌≤◌, Bool, true, false, cond, eqb, ltb, length, Option, Some, None, Result, Ok, Err, refl, sym, ◌∙◌, ap, arith}
+use Rattle.std.proofs.lemmas.Bool.{ltb-false}
 use Rattle.gimli_core_base.specs.declared.error.Error.{Error}
 use Rattle.gimli_core_base.specs.View.{View, after, prefix, bytes_left, unexpected_end}
 use Rattle.gimli_core_base.specs.declared.common.Format.{Format}
+use Rattle.gimli_core_base.specs.FormatSizes.{initial_length_size}
 use Rattle.gimli_core_base.specs.NumberParsers.{initial_length}
-use Rattle.gimli_core_base.specs.Parsers.{Parser, ◌>>=◌, proceed, give, value_of, lift, part, truncate, within}
+use Rattle.gimli_core_base.specs.Parsers.{Parser, proceed, give, value_of, truncate}
 use Rattle.gimli_core_base.specs.Repetition.{no_items, next_item, items_within, listing_in, until_end}
-use Rattle.std.specs.Result.{IsErrAnd}
-use Rattle.gimli_core_base.specs.Calls.{Returns}
-use Rattle.gimli_core_readers.proofs.MemoryLemmas.{IsFree, free-cond, free-Ok}
-use Rattle.gimli_core_base.proofs.StepParts.{read, state_is, value_of-Ok}
+use Rattle.gimli_core_base.proofs.StepParts.{read, value_of-Ok}
 use Rattle.gimli_core_readers.specs.Tiling.{RemainingSection, next_offset, part_of, next_part, parts_to_come}
+use Rattle.gimli_core_readers.proofs.ByteCountLemmas.{took_left, initial_length_took}
 use Rattle.gimli_core_readers.proofs.TilingLemmas.{Parts}
 
 -- a view as an answer
@@ -90,77 +90,21 @@ fault_is_next {A} parse s offset v d some copied at e =
     nothing : Result (Option A × View) Error
     nothing = Ok (None, s.rest)
 
--- ---- a length, and what is in the bytes that it counts
+-- ---- a length, and the bytes that it counts
 
--- these bytes, as a part and by dropping the others
-pub part_of_truncated : (n : ℕ) (v w : View) → truncate n v ≡ Ok (tt, w) → part n v ≡ Ok (w, after n v)
-part_of_truncated n v w h = cases (ltb (length v.bytes) n) h
+-- bytes that are kept are there
+truncated_fits : (n : ℕ) (v w : View) → truncate n v ≡ Ok (tt, w) → n ≤ bytes_left v
+truncated_fits n v w h = cases (ltb (length v.bytes) n) refl h
   where
-    cases : (b : Bool)
+    cases : (b : Bool) → ltb (length v.bytes) n ≡ b
         → cond {A = Result (Unit {0} × View) Error} b (Err (unexpected_end v)) (Ok (tt, prefix n v)) ≡ Ok (tt, w)
-        → cond {A = Result (View × View) Error} b (Err (unexpected_end v)) (Ok (prefix n v, after n v))
-        ≡ Ok (w, after n v)
-    cases true k = absurd cc
-    cases false k = ap (λ (u : View). read u (after n v)) (state_is tt tt (prefix n v) w k)
+        → n ≤ bytes_left v
+    cases true e k = absurd cc
+    cases false e k = ltb-false (length v.bytes) n e
 
-pub part_refused : (n : ℕ) (v : View) (e : Error) → truncate n v ≡ Err e → part n v ≡ Err e
-part_refused n v e h = cases (ltb (length v.bytes) n) h
-  where
-    refusal : Error → Result (View × View) Error
-    refusal y = Err y
-
-    error_of : Error → Result (Unit {0} × View) Error
-    error_of y = Err y
-
-    is_refusal : (y : Error) → error_of y ≡ Err e → y ≡ e
-    is_refusal y k = cc
-
-    cases : (b : Bool)
-        → cond {A = Result (Unit {0} × View) Error} b (Err (unexpected_end v)) (Ok (tt, prefix n v)) ≡ Err e
-        → cond {A = Result (View × View) Error} b (Err (unexpected_end v)) (Ok (prefix n v, after n v)) ≡ Err e
-    cases true k = ap refusal (is_refusal (unexpected_end v) k)
-    cases false k = absurd cc
-
--- what a length and the bytes after it are read as
-abbrev pub length_and_part : {A : Type 0} → (ℕ × Format → Parser A) → ℕ → Parser A
-length_and_part f limit = initial_length limit >>= λ l. (part l.0 >>= λ bytes. within bytes (f l))
-
-value_of_lift : {A : Type 0} (r : Result A Error) (s : View) → value_of (lift r s) ≡ r
-value_of_lift (Ok x) s = refl
-value_of_lift (Err e) s = refl
-
-pub framed_fault : {A : Type 0} (f : ℕ × Format → Parser A) (limit : ℕ) (v : View) (e : Error)
-    → initial_length limit v ≡ Err e → value_of (length_and_part f limit v) ≡ Err e
-framed_fault {A} f limit v e first =
-    ap (λ (r : Result ((ℕ × Format) × View) Error). value_of (proceed r (λ m. part m.0 >>= λ b. within b (f m))))
-    first
-
-pub framed_value : {A : Type 0} (f : ℕ × Format → Parser A) (limit : ℕ) (v : View) (l : ℕ × Format) (s w : View)
-    → initial_length limit v ≡ Ok (l, s) → truncate l.0 s ≡ Ok (tt, w)
-    → value_of (length_and_part f limit v) ≡ value_of (f l w)
-framed_value {A} f limit v l s w first cut =
-    ap (λ (r : Result ((ℕ × Format) × View) Error). value_of (proceed r (λ m. part m.0 >>= λ b. within b (f m))))
-    first
-    ∙ ap (λ (r : Result (View × View) Error). value_of (proceed r (λ b. within b (f l))))
-    (part_of_truncated l.0 s w cut)
-    ∙ value_of_lift (value_of (f l w)) (after l.0 s)
-
-pub framed_refused : {A : Type 0} (f : ℕ × Format → Parser A) (limit : ℕ) (v : View) (l : ℕ × Format) (s : View)
-    (e : Error) → initial_length limit v ≡ Ok (l, s) → truncate l.0 s ≡ Err e
-    → value_of (length_and_part f limit v) ≡ Err e
-framed_refused {A} f limit v l s e first cut =
-    ap (λ (r : Result ((ℕ × Format) × View) Error). value_of (proceed r (λ m. part m.0 >>= λ b. within b (f m))))
-    first
-    ∙ ap (λ (r : Result (View × View) Error). value_of (proceed r (λ b. within b (f l)))) (part_refused l.0 s e cut)
-
--- a refusal that is handed on is the meaning's
-pub refused_as : {A : Type 0} (r meaning : Result A Error) (d : Error) → IsErrAnd r (λ e. e ≡ d) → meaning ≡ Err d
-    → Returns r meaning
-refused_as (Ok x) meaning d h k = absurd h
-refused_as {A} (Err e) meaning d h k = k ∙ ap refusal (sym h)
-  where
-    refusal : Error → Result A Error
-    refusal y = Err y
-
-pub free-truncate : (n : ℕ) (v : View) → IsFree (truncate n v)
-free-truncate n v = free-cond (ltb (length v.bytes) n) (λ h. absurd cc) (free-Ok _)
+pub counted_fits : (limit : ℕ) (v : View) (l : ℕ × Format) (s w : View) → initial_length limit v ≡ Ok (l, s)
+    → truncate l.0 s ≡ Ok (tt, w) → initial_length_size l.1 + l.0 ≤ bytes_left v
+counted_fits limit v l s w first cut =
+    let left = took_left ((initial_length_took limit v).hold l s first) in
+    let fits = truncated_fits l.0 s w cut in
+    omega arith

@@ -1,8 +1,7 @@
 -- What is known of a unit that was read: its offset, the bytes that it takes, and the sizes of its header and entries.
-use Rattle.std.proofs.Common.{◌≡◌, ℕ, ◌+◌, ◌<◌, ◌≤◌, ◌≢◌, Bool, false, leb, eqb, Ok, Err, refl, sym, ◌∙◌, ap, subst, arith, length-take, ◌&&◌}
+use Rattle.std.proofs.Common.{◌≡◌, ℕ, ◌+◌, ◌<◌, ◌≤◌, ◌≢◌, Bool, false, leb, eqb, Ok, refl, sym, ap, arith, ◌&&◌}
 use Rattle.std.proofs.lemmas.Bool.{and_parts, leb-true, ne_eqb}
 use Rattle.std.specs.Prelude.{IsTrue, ◌==◌, if◌then◌else◌}
-use Rattle.gimli_core_base.specs.declared.error.Error.{Error}
 use Rattle.gimli_core_base.specs.declared.error.Error.TheVariants.{UnknownVersion, UnsupportedUnitType}
 use Rattle.gimli_core_base.specs.View.{View, bytes_left}
 use Rattle.gimli_core_base.specs.Parsers.{value_of}
@@ -10,9 +9,10 @@ use Rattle.gimli_core_base.proofs.StepParts.{value_of-Ok}
 use Rattle.gimli_core_base.specs.declared.common.Format.{Format}
 use Rattle.gimli_core_base.specs.FormatSizes.{initial_length_size, word_size}
 use Rattle.gimli_core_base.specs.NumberParsers.{is_address_size}
-use Rattle.gimli_units_headers.specs.UnitHeaders.{UnitKind, compilation, type_unit, partial, skeleton, split_compilation, split_type, DebugUnit, HeaderFields, unit_type, with_dwo_id, with_signature, kind_of_type, fields_to_4, fields_of_5, unit_fields, unit_in, unit, length_including_self, kind_size, fields_size, size_of_header, IsWellFormed}
-use Rattle.gimli_core_readers.proofs.ByteCountLemmas.{Took, took_left, took_both, took_same, Yields, yields-Ok, yields-Err, yields-proceed, yields-cond, yields-weaker, yields-within, four_at_least, fixed_took, part_took, word_took, address_size_took, initial_length_took}
-use Rattle.gimli_core_readers.proofs.TilingLemmas.{Parts}
+use Rattle.gimli_units_headers.specs.SectionParts.{counted_part}
+use Rattle.gimli_units_headers.specs.UnitHeaders.{UnitKind, compilation, type_unit, partial, skeleton, split_compilation, split_type, DebugUnit, HeaderFields, unit_type, with_dwo_id, with_signature, kind_of_type, fields_to_4, fields_of_5, unit_fields, unit_in, unit, length_including_self, kind_size, fields_size, IsWellFormed}
+use Rattle.gimli_core_readers.proofs.ByteCountLemmas.{Took, took_left, took_both, took_same, Yields, yields-Ok, yields-Err, yields-proceed, yields-cond, yields-weaker, fixed_took, word_took, address_size_took}
+use Rattle.gimli_core_readers.proofs.TilingLemmas.{Parts, counted_parts}
 
 -- ---- what a type adds
 
@@ -124,61 +124,30 @@ unit_in_is limit offset unit_length format v =
     (record
     { at_offset = refl; long = refl; in_format = h.in_format; has_address_size = h.has_address_size; took = h.took }))
 
--- a unit, the bytes that it takes, and its sizes
-pub record IsUnit (limit offset : ℕ) (v : View) (u : DebugUnit) (w : View) : Type 0 where
-  pub at_offset : u.offset ≡ offset
-  pub took : Took (length_including_self u) v w
-  pub has_address_size : IsTrue (is_address_size u.encoding.address_size)
-  pub is_whole : size_of_header u + bytes_left u.entries ≡ length_including_self u
-
-pub unit_is : (limit offset : ℕ) (v : View) → Yields (λ u w. IsUnit limit offset v u w) (unit limit offset v)
-unfolding unit
-unit_is limit offset v =
-    yields-proceed (initial_length_took limit v) (λ l s h.
-    yields-proceed (part_took l.0 s) (λ bytes t part.
-    yields-weaker (yields-within bytes (unit_in limit offset l.0 l.1) t (unit_in_is limit offset l.0 l.1 bytes))
-    (λ u w is.
-    let long : u.unit_length ≡ l.0 = is.0.long in
-    let format : initial_length_size u.encoding.format
-    ≡ initial_length_size l.1 = ap initial_length_size is.0.in_format in
-    let enough = part.1.enough in
-    let whole : bytes_left bytes ≡ l.0 = ap bytes_left part.0 ∙ length-take l.0 s.bytes ∙ (omega arith) in
-    let entries = took_left is.0.took in
-    record {
-      at_offset = is.0.at_offset;
-      took =
-          subst (λ (x : View). Took (length_including_self u) v x) (sym is.1)
-          (took_same (took_both h part.1) (omega arith));
-      has_address_size = is.0.has_address_size;
-      is_whole = omega arith;
-    })))
-
--- a unit of bytes that end at an offset
-pub unit_is_well_formed : (limit offset : ℕ) (v : View) (u : DebugUnit) → offset + bytes_left v < limit
-    → value_of (unit limit offset v) ≡ Ok u → IsWellFormed limit u
-unit_is_well_formed limit offset v u fits e =
-    let found = value_of-Ok (unit limit offset v) u e in
-    let is = (unit_is limit offset v).hold u found.0 found.1 in
+-- a unit of bytes whose end is an offset
+pub unit_is_well_formed : (limit offset unit_length : ℕ) (format : Format) (v : View) (u : DebugUnit)
+    → bytes_left v ≡ unit_length → offset + (initial_length_size format + unit_length) < limit
+    → value_of (unit_in limit offset unit_length format v) ≡ Ok u → IsWellFormed limit u
+unit_is_well_formed limit offset unit_length format v u whole fits e =
+    let found = value_of-Ok (unit_in limit offset unit_length format v) u e in
+    let is = (unit_in_is limit offset unit_length format v).hold u found.0 found.1 in
     let at_offset = is.at_offset in
-    let enough = is.took.enough in
-    record { has_address_size = is.has_address_size; is_whole = is.is_whole; fits = omega arith }
+    let long = is.long in
+    let entries = took_left is.took in
+    let length_size : initial_length_size u.encoding.format ≡ initial_length_size format =
+    ap initial_length_size is.in_format in
+    record { has_address_size = is.has_address_size; is_whole = omega arith; fits = omega arith }
 
 -- units are parts of a section that lie end to end
 pub units_are_parts : (limit : ℕ) → Parts (unit limit) (λ u. u.offset) length_including_self
-units_are_parts limit = record {
-  each = λ offset v u w e.
-      let is = (unit_is limit offset v).hold u w e in
-      let some = four_at_least u.encoding.format in
-      record { at_offset = is.at_offset; took = is.took; some = omega arith };
-}
+unfolding counted_part
+units_are_parts limit =
+    counted_parts (λ (u : DebugUnit). u.offset) (λ u. u.unit_length) (λ u. u.encoding.format) limit
+    (λ offset l. unit_in limit offset l.0 l.1)
+    (λ offset l v. yields-weaker (unit_in_is limit offset l.0 l.1 v)
+    (λ u w is. record { at_offset = is.at_offset; long = is.long; in_format = is.in_format }))
 
--- ---- by the fields that are read
-
-pub unit_in_refused : (limit offset unit_length : ℕ) (format : Format) (v : View) (e : Error)
-    → unit_fields limit format v ≡ Err e → value_of (unit_in limit offset unit_length format v) ≡ Err e
-unfolding unit_in
-unit_in_refused limit offset unit_length format v e h = rw h refl
-
+-- by the fields that are read
 pub unit_in_is_read : (limit offset unit_length : ℕ) (format : Format) (v : View) (fields : HeaderFields) (w : View)
     → unit_fields limit format v ≡ Ok (fields, w) → value_of (unit_in limit offset unit_length format v) ≡ Ok (record {
       offset = offset;

@@ -5,15 +5,15 @@ use Rattle.std.specs.List.{All, filter_map}
 use Rattle.gimli_core_base.specs.declared.error.Error.{Error}
 use Rattle.gimli_core_base.specs.declared.error.Error.TheVariants.{UnknownVersion, UnsupportedSegmentSize, AddressOverflow}
 use Rattle.gimli_core_base.specs.View.{View, bytes_left}
-use Rattle.gimli_core_base.specs.Parsers.{Parser, ◌>>=◌, give, demand, within, here, part, skip, proceed}
+use Rattle.gimli_core_base.specs.Parsers.{Parser, ◌>>=◌, give, demand, here, skip, proceed}
 use Rattle.gimli_core_base.specs.Repetition.{Listing, listing_in}
 use Rattle.gimli_core_base.specs.declared.common.Format.{Format}
 use Rattle.gimli_core_base.specs.declared.common.Encoding.{Encoding}
 use Rattle.gimli_core_base.specs.FormatSizes.{initial_length_size, word_size}
-use Rattle.gimli_core_base.specs.NumberParsers.{fixed, initial_length, word, address_size}
+use Rattle.gimli_core_base.specs.NumberParsers.{fixed, word, address_size}
 use Rattle.gimli_core_readers.specs.Addresses.{is_tombstone}
 use Rattle.gimli_core_readers.specs.Tiling.{RemainingSection, whole_section, next_part, parts_to_come}
-use Rattle.gimli_units_headers.specs.SectionParts.{part_lookup}
+use Rattle.gimli_units_headers.specs.SectionParts.{counted_part, part_lookup}
 
 -- ---- sets
 
@@ -68,11 +68,8 @@ arange_set_in limit offset set_length format = do
   })
 
 -- the set that begins at an offset: a length n, and a set in the n bytes after it
-unfoldable pub arange_set : ℕ → ℕ → Parser ArangeSet
-arange_set limit offset = do
-  l ← initial_length limit
-  bytes ← part l.0
-  within bytes (arange_set_in limit offset l.0 l.1)
+abbrev pub arange_set : ℕ → ℕ → Parser ArangeSet
+arange_set limit = counted_part limit (arange_set_in limit)
 
 -- the bytes of a set, its length field included
 abbrev pub set_size : ArangeSet → ℕ

@@ -5,14 +5,14 @@ use Rattle.gimli_core_base.specs.declared.constants.TheConstants.{DW_UT_compile,
 use Rattle.gimli_core_base.specs.declared.error.Error.{Error}
 use Rattle.gimli_core_base.specs.declared.error.Error.TheVariants.{UnknownVersion, UnsupportedUnitType}
 use Rattle.gimli_core_base.specs.View.{View, bytes_left}
-use Rattle.gimli_core_base.specs.Parsers.{Parser, ◌>>=◌, give, fail, branch, within, here, part}
+use Rattle.gimli_core_base.specs.Parsers.{Parser, ◌>>=◌, give, fail, branch, here}
 use Rattle.gimli_core_base.specs.Repetition.{Listing}
 use Rattle.gimli_core_base.specs.declared.common.Format.{Format}
 use Rattle.gimli_core_base.specs.declared.common.Encoding.{Encoding}
 use Rattle.gimli_core_base.specs.FormatSizes.{initial_length_size, word_size}
-use Rattle.gimli_core_base.specs.NumberParsers.{fixed, initial_length, word, address_size, is_address_size}
+use Rattle.gimli_core_base.specs.NumberParsers.{fixed, word, address_size, is_address_size}
 use Rattle.gimli_core_readers.specs.Tiling.{RemainingSection, whole_section, next_part, parts_to_come}
-use Rattle.gimli_units_headers.specs.SectionParts.{part_lookup}
+use Rattle.gimli_units_headers.specs.SectionParts.{counted_part, part_lookup}
 
 -- what a unit is, and what its header says for that (DWARF 5, 7.5.1.1 to 7.5.1.3)
 pub data UnitKind : Type 0 where
@@ -118,11 +118,8 @@ unit_in limit offset unit_length format = do
   })
 
 -- the unit that begins at an offset: a length n, and a unit in the n bytes after it
-unfoldable pub unit : ℕ → ℕ → Parser DebugUnit
-unit limit offset = do
-  l ← initial_length limit
-  bytes ← part l.0
-  within bytes (unit_in limit offset l.0 l.1)
+abbrev pub unit : ℕ → ℕ → Parser DebugUnit
+unit limit = counted_part limit (unit_in limit)
 
 -- ---- a section of units
 

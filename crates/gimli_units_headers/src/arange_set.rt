@@ -92,19 +92,22 @@ pub struct ArangeFields<O> {
 }
 
 impl<R: Reader> SectionPart<R> for ArangeHeader<R> {
-    ghost use Rattle.gimli_units_headers.specs.ArangeSets.{arange_set, set_size};
+    ghost use Rattle.gimli_units_headers.specs.ArangeSets.{arange_set_in, set_size};
 
-    ghost read = { arange_set R.Offset.limit };
+    ghost read_in = { arange_set_in R.Offset.limit };
 
     ghost offset_of = { λ s. s.offset };
 
     ghost size_of = { set_size };
 
-    // The set at an offset of its section. The bytes become its pairs.
-    #[tactic(auto, unfolding(crate::specs::ArangeSets::arange_set, crate::specs::ArangeSets::arange_set_in), using(crate::proofs::ArangeSetLemmas::sets_are_parts))]
-    fn parse(mut bytes: R, offset: R::Offset) -> Result<Self, Error> {
-        let (length, format) = bytes.read_initial_length()?;
-        bytes.truncate(length)?;
+    // The bytes become the pairs of the set.
+    #[tactic(auto, unfolding(crate::specs::ArangeSets::arange_set_in))]
+    fn parse_in(
+        mut bytes: R,
+        offset: R::Offset,
+        length: R::Offset,
+        format: Format,
+    ) -> Result<Self, Error> {
         let fields = parse_fields(&mut bytes, format)?;
         Ok(ArangeHeader {
             offset: DebugArangesOffset(offset),

@@ -247,23 +247,26 @@ impl<R: Reader> UnitHeader<R> {
 }
 
 impl<R: Reader> SectionPart<R> for UnitHeader<R> {
-    ghost use Rattle.gimli_units_headers.specs.UnitHeaders.{unit, length_including_self};
+    ghost use Rattle.gimli_units_headers.specs.UnitHeaders.{unit_in, length_including_self};
 
-    ghost read = { unit R.Offset.limit };
+    ghost read_in = { unit_in R.Offset.limit };
 
     ghost offset_of = { λ u. u.offset };
 
     ghost size_of = { length_including_self };
 
-    // The unit at an offset of its section. The bytes become its entries.
-    #[tactic(auto, unfolding(crate::specs::UnitHeaders::unit, crate::specs::UnitHeaders::unit_in), using(crate::proofs::UnitHeaderLemmas::units_are_parts))]
-    fn parse(mut bytes: R, offset: R::Offset) -> Result<Self, Error> {
-        let (unit_length, format) = bytes.read_initial_length()?;
-        bytes.truncate(unit_length)?;
+    // The bytes become the entries of the unit.
+    #[tactic(auto, unfolding(crate::specs::UnitHeaders::unit_in))]
+    fn parse_in(
+        mut bytes: R,
+        offset: R::Offset,
+        length: R::Offset,
+        format: Format,
+    ) -> Result<Self, Error> {
         let fields = parse_fields(&mut bytes, format)?;
         Ok(UnitHeader {
             offset: DebugInfoOffset(offset),
-            unit_length,
+            unit_length: length,
             encoding: fields.encoding,
             unit_type: fields.unit_type,
             debug_abbrev_offset: fields.debug_abbrev_offset,

@@ -1,8 +1,7 @@
 -- What is read of an entry of a location list leaves what comes after some bytes.
 use Rattle.std.proofs.Common.{ℕ, ◌≡◌, Bool, Option, Some, None, Ok, eqb, leb}
-use Rattle.gimli_core_readers.specs.Error.TheVariants.{UnknownLocListsEntry}
 use Rattle.gimli_core_readers.specs.View.{View}
-use Rattle.gimli_core_readers.specs.Parsers.{Parser, ◌>>=◌, give, fail, branch, lift, part}
+use Rattle.gimli_core_readers.specs.Parsers.{Parser, ◌>>=◌, give, lift, part}
 use Rattle.gimli_core_readers.specs.Encoding.{Encoding}
 use Rattle.gimli_core_readers.specs.NumberParsers.{fixed, unsigned, address, offset_below}
 use Rattle.gimli_units_lists.specs.ListEntries.{RawEntry, address_or_offset_pair, base_address, base_addressx, startx_endx, startx_length, offset_pair, start_end, start_length}

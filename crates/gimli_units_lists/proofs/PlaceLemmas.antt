@@ -1,5 +1,5 @@
 -- What is read leaves what comes after some bytes.
-use Rattle.std.proofs.Common.{◌≡◌, ℕ, ◌+◌, ◌-◌, ◌≤◌, ◌<◌, Bool, true, false, cond, length, drop, Result, Ok, Err, refl, sym, ap, subst, ◌∙◌, inl, inr, arith, length-drop}
+use Rattle.std.proofs.Common.{◌≡◌, ℕ, ◌+◌, ◌-◌, ◌≤◌, Bool, true, false, cond, length, drop, Result, Ok, Err, refl, sym, ap, subst, ◌∙◌, inl, inr, arith, length-drop}
 use Rattle.std.specs.Prelude.{◌^◌, nat_lt, List}
 use Rattle.std.proofs.lemmas.Bool.{cases_lt, lt-ltb, le-ltb}
 use Rattle.gimli_core_readers.specs.Error.{Error}
@@ -7,8 +7,8 @@ use Rattle.gimli_core_readers.specs.Error.TheVariants.{BadUnsignedLeb128, Unsupp
 use Rattle.gimli_core_readers.specs.Fault.{Fault}
 use Rattle.gimli_core_readers.specs.Fault.TheVariants.{Bad}
 use Rattle.gimli_core_readers.specs.Leb128.{unsigned_number, bounded_string, unsigned_of}
-use Rattle.gimli_core_readers.specs.View.{View, after, prefix, unexpected_end, bytes_left}
-use Rattle.gimli_core_readers.specs.Parsers.{Parser, Step, ◌>>=◌, give, fail, proceed, branch, lift, part}
+use Rattle.gimli_core_readers.specs.View.{View, after, bytes_left}
+use Rattle.gimli_core_readers.specs.Parsers.{Parser, ◌>>=◌, give, fail, branch, lift, part}
 use Rattle.gimli_core_readers.specs.NumberParsers.{fixed, unsigned, address, is_address_size, number_and_rest}
 use Rattle.gimli_core_readers.proofs.StepParts.{begins, state_is, read, lift-Ok}
 use Rattle.gimli_core_readers.proofs.NumberReadSizes.{judged_fits_in}

@@ -1,5 +1,5 @@
-//! Whether ranges overlap: in a pass or two over them where they ascend or descend, else by trying
-//! each pair.
+//! Whether ranges overlap: in at most four passes over them where they ascend in the order of their
+//! owners or with the last owner first, else by trying each pair.
 
 ghost use Rattle.std.specs.Prelude.{◌≡◌, ◌<◌, drop, flat_map, false, get_or, length, true, not, option_map, IsTrue};
 ghost use Rattle.std.specs.List.{list_any};
@@ -11,9 +11,9 @@ use crate::range_owners::RangeOwner;
 use crate::ranges::overlap;
 use linemap_meaning::table::TableRange;
 
-/// Whether two of the items' ranges overlap. Linear where the ranges ascend or descend, whether
-/// they overlap or not, since then neighbours overlap if any do; else it may take the square of
-/// their number.
+/// Whether two of the items' ranges overlap. Linear where no range is empty and each begins at or
+/// above the start of the one before it, the items taken in their order or from the last to the
+/// first, and the ranges of each in their order. Elsewhere it may take the square of their number.
 pub fn any_overlap<T: RangeOwner>(items: &[T]) -> bool
     ensures { result ≡ any_overlap (flat_map T.ranges items.now) }
 {

@@ -1,17 +1,12 @@
 -- How many bytes the parts of an image have.
-use Rattle.std.proofs.Common.{◌≡◌, ℕ, ◌+◌, ◌-◌, ◌*◌, ◌≤◌, Bool, List, [], ◌∷◌, ◌++◌, length, map, sum_by, refl, sym, ap, ◌∙◌, arith, suc, append_assoc}
-use Rattle.std.specs.Prelude.{flat_map}
+use Rattle.std.proofs.Common.{◌≡◌, ℕ, ◌+◌, ◌-◌, ◌≤◌, Bool, List, [], ◌∷◌, ◌++◌, length, map, sum_by, refl, sym, ap, ◌∙◌, arith, append_assoc}
 use Rattle.std.proofs.lemmas.List.{length-append, length-map, length-replicate}
 use Rattle.std.proofs.lemmas.List.Sums.{sum_by-cons}
-use Rattle.std.proofs.Math.Nat.{add-mul, suc-mul}
 use Rattle.gimli_lines_write_bytes.specs.Fixed.{number_bytes}
 use Rattle.gimli_lines_write_bytes.proofs.NumberRoundTrip.{length-spelled}
 use Rattle.addr2line_elf.specs.declared.class.Class.{Class}
 use Rattle.addr2line_elf.specs.declared.class.Class.TheVariants.{Elf32, Elf64}
-use Rattle.addr2line_elf.specs.declared.headers.SectionHeader.{SectionHeader}
-use Rattle.addr2line_elf.specs.ElfClasses.{section_header_size}
-use Rattle.linemap_elf.specs.SpelledImages.{Field, spelled_fields, file_header_size, spelled_identification, file_header_fields, section_header_fields, spelled_section_header, null_header, NamedBytes, program_section, names_section, all_sections, headers_from, body, body_end, next_multiple_of_8, table_offset, header_count, padding, spelled_file_header, spelled_table, spelled_image, image_size}
-use Rattle.linemap_elf.proofs.SectionsFound.{length-headers_from}
+use Rattle.linemap_elf.specs.SpelledImages.{Field, spelled_fields, file_header_size, spelled_identification, file_header_fields, NamedBytes, program_section, names_section, all_sections, body, body_end, next_multiple_of_8, table_offset, header_count, padding, spelled_file_header, spelled_table, spelled_image}
 
 -- ---- headers
 
@@ -29,11 +24,6 @@ file_header_widths : (class : Class) (offset count : ℕ)
 file_header_widths Elf32 offset count = refl
 file_header_widths Elf64 offset count = refl
 
-section_header_widths : (class : Class) (alignment : ℕ) (h : SectionHeader)
-    → sum_by (λ (f : Field). f.width) (section_header_fields class alignment h) ≡ section_header_size class
-section_header_widths Elf32 alignment h = refl
-section_header_widths Elf64 alignment h = refl
-
 pub length-file_header : (class : Class) (is_big : Bool) (sections : List NamedBytes)
     → length (spelled_file_header class is_big sections) ≡ file_header_size class
 length-file_header class is_big sections =
@@ -41,24 +31,6 @@ length-file_header class is_big sections =
     length-append (spelled_identification class is_big) (spelled_fields is_big fields)
     ∙ ap (λ n. 16 + n) (length-spelled_fields is_big fields)
     ∙ file_header_widths class (table_offset class sections) (header_count sections)
-
-length-section_header : (class : Class) (is_big : Bool) (alignment : ℕ) (h : SectionHeader)
-    → length (spelled_section_header class is_big alignment h) ≡ section_header_size class
-length-section_header class is_big alignment h =
-    length-spelled_fields is_big (section_header_fields class alignment h) ∙ section_header_widths class alignment h
-
-length-headers : (class : Class) (is_big : Bool) (hs : List SectionHeader)
-    → length (flat_map (spelled_section_header class is_big 1) hs) ≡ length hs * section_header_size class
-length-headers class is_big [] = omega arith
-length-headers class is_big (h ∷ hs) =
-    let here = length-section_header class is_big 1 h in
-    let others = length-headers class is_big hs in
-    let whole =
-    length-append (spelled_section_header class is_big 1 h) (flat_map (spelled_section_header class is_big 1) hs) in
-    sum (length hs) (section_header_size class) _ _ _ here others whole
-  where
-    sum : (k s a b x : ℕ) → a ≡ s → b ≡ k * s → x ≡ a + b → x ≡ suc k * s
-    sum k s a b x p q r = rw suc-mul (omega arith)
 
 -- ---- sections
 
@@ -90,23 +62,6 @@ length-before_table class is_big sections =
     sum : (h size b p e x t : ℕ) → h ≡ size → x ≡ h + e → e ≡ b + p → p ≡ t - (size + b) → size + b ≤ t → x ≡ t
     sum h size b p e x t i j k l m = omega arith
 
-pub length-table : (class : Class) (is_big : Bool) (sections : List NamedBytes)
-    → length (spelled_table class is_big sections) ≡ header_count sections * section_header_size class
-length-table class is_big sections =
-    let hs = headers_from 1 (file_header_size class) (all_sections sections) in
-    let first = length-section_header class is_big 0 null_header in
-    let others = length-headers class is_big hs in
-    let whole =
-    length-append (spelled_section_header class is_big 0 null_header)
-    (flat_map (spelled_section_header class is_big 1) hs) in
-    let few = length-headers_from (all_sections sections) 1 (file_header_size class) ∙ length-all_sections sections in
-    sum (length sections) (length hs) (section_header_size class) _ _ _ few first others whole
-  where
-    sum : (k m s a b x : ℕ) → m ≡ k + 1 → a ≡ s → b ≡ m * s → x ≡ a + b → x ≡ (k + 2) * s
-    sum k m s a b x i p q r =
-        let e : m * s ≡ k * s + 1 * s = ap (λ n. n * s) i ∙ add-mul k 1 s in
-        rw add-mul (omega arith)
-
 -- the file's header, the sections, and the section headers, in another grouping
 pub table_last : (class : Class) (is_big : Bool) (sections : List NamedBytes)
     → spelled_image class is_big sections ≡ before_table class is_big sections ++ spelled_table class is_big sections
@@ -116,11 +71,3 @@ table_last class is_big sections =
   where
     grouped : (h b p t : List ℕ) → h ++ (b ++ (p ++ t)) ≡ (h ++ (b ++ p)) ++ t
     grouped h b p t = simp append_assoc
-
-pub length-image : (class : Class) (is_big : Bool) (sections : List NamedBytes)
-    → length (spelled_image class is_big sections) ≡ image_size class sections
-length-image class is_big sections =
-    ap length (table_last class is_big sections)
-    ∙ length-append (before_table class is_big sections) (spelled_table class is_big sections)
-    ∙ ap (λ n. n + length (spelled_table class is_big sections)) (length-before_table class is_big sections)
-    ∙ ap (λ n. table_offset class sections + n) (length-table class is_big sections)

@@ -1,5 +1,5 @@
 -- The parts of an image as they are written.
-use Rattle.std.proofs.Common.{◌≡◌, ℕ, zero, suc, ◌+◌, ◌*◌, ◌<◌, ◌≤◌, ◌^◌, Bool, List, [], ◌∷◌, ◌++◌, length, map, take, drop, get_or, refl, sym, ap, ◌∙◌, arith, append_assoc, append-nil}
+use Rattle.std.proofs.Common.{◌≡◌, ℕ, zero, suc, ◌+◌, ◌*◌, ◌<◌, ◌≤◌, ◌^◌, List, [], ◌∷◌, ◌++◌, length, map, take, drop, get_or, refl, sym, ap, ◌∙◌, arith, append_assoc, append-nil}
 use Rattle.std.specs.Prelude.{flat_map, replicate}
 use Rattle.std.proofs.lemmas.List.{length-append, drop_more}
 use Rattle.std.proofs.lemmas.List.Concat.{flat_map-append}
@@ -7,7 +7,7 @@ use Rattle.std.proofs.lemmas.List.Folds.{flat_map-map}
 use Rattle.addr2line_elf.specs.declared.class.Class.{Class}
 use Rattle.addr2line_elf.specs.declared.class.Class.TheVariants.{Elf32, Elf64}
 use Rattle.addr2line_elf.specs.ElfClasses.{word_size, section_header_size}
-use Rattle.linemap_elf.specs.SpelledImages.{file_header_size, spelled_section_header, FitsHeader, NamedBytes, ImageSection, program_section, spelled_name, names_name, names_section, header_of, headers_from, body, body_end, table_offset, header_count, image_size}
+use Rattle.linemap_elf.specs.SpelledImages.{file_header_size, FitsHeader, plain_header, NamedBytes, ImageSection, program_section, spelled_name, names_name, names_section, body, body_end, table_offset, header_count, image_size}
 use Rattle.linemap_elf.specs.WrittenImages.{ImageBytes, append, bytes_joined, names_joined}
 use Rattle.linemap_elf.specs.ImageLaws.{ImageFits}
 use Rattle.linemap_elf.proofs.ImageSizes.{multiple_after}
@@ -105,31 +105,7 @@ is_bounded class sections fits =
 
 -- ---- section headers
 
--- the headers of the sections from one on, of which that one is written
-pub headers_more : (class : Class) (is_big : Bool) (written : List ℕ) (name offset i : ℕ) (sections : List NamedBytes)
-    (own : ImageSection) (s : NamedBytes) → i < length sections → s ≡ get_or sections i s
-    → (written ++ spelled_section_header class is_big 1 (header_of name offset (program_section s)))
-    ++ flat_map (spelled_section_header class is_big 1)
-    (headers_from (name + (length s.name + 1)) (offset + length s.bytes)
-    (map program_section (drop (i + 1) sections) ++ own ∷ []))
-    ≡ written ++ flat_map (spelled_section_header class is_big 1)
-    (headers_from name offset (map program_section (drop i sections) ++ own ∷ []))
-headers_more class is_big written name offset i sections own s within is =
-    let spelled = spelled_section_header class is_big 1 in
-    let rest = map program_section (drop (i + 1) sections) ++ own ∷ [] in
-    let text : name + (length s.name + 1) ≡ name + length (spelled_name s.name) =
-    omega (arith, length-append s.name (0 ∷ [])) in
-    let next : drop i sections ≡ s ∷ drop (i + 1) sections =
-    drop_more sections i s within ∙ ap (λ (t : NamedBytes). t ∷ drop (i + 1) sections) (sym is) in
-    append_assoc written (spelled (header_of name offset (program_section s)))
-    (flat_map spelled (headers_from (name + (length s.name + 1)) (offset + length s.bytes) rest))
-    ∙ ap (λ (n : ℕ). written ++ (spelled (header_of name offset (program_section s))
-    ++ flat_map spelled (headers_from n (offset + length s.bytes) rest))) text
-    ∙ ap (λ (l : List NamedBytes). written ++ flat_map spelled
-    (headers_from name offset (map program_section l ++ own ∷ [])))
-    (sym next)
-
--- the same of their names and bytes
+-- the names and the bytes of the sections from one on, by those of that one
 pub names_more : (i : ℕ) (sections : List NamedBytes) (s : NamedBytes) → i < length sections → s ≡ get_or sections i s
     → length (names_joined (drop i sections)) ≡ length s.name + 1 + length (names_joined (drop (i + 1) sections))
 names_more i sections s within is =
@@ -149,16 +125,8 @@ bytes_more i sections s within is =
 
 -- a section's header has room for it
 pub fits_section : (class : Class) (section_type name offset size : ℕ) → section_type < 256 ^ 4 → name < 256 ^ 4
-    → offset < 256 ^ word_size class → size < 256 ^ word_size class → FitsHeader class (record {
-      name = name;
-      section_type = section_type;
-      flags = 0;
-      address = 0;
-      offset = offset;
-      size = size;
-      link = 0;
-      info = 0;
-    })
+    → offset < 256 ^ word_size class → size < 256 ^ word_size class
+    → FitsHeader class (plain_header section_type name offset size)
 fits_section class section_type name offset size a b c d = record {
   name = b;
   section_type = a;

@@ -86,18 +86,22 @@ pub record FitsHeader (class : Class) (h : SectionHeader) : Type 0 where
   pub link : h.link < 256 ^ 4
   pub info : h.info < 256 ^ 4
 
--- the header at index 0, of no section
-abbrev pub null_header : SectionHeader
-null_header = record {
-  name = 0;
-  section_type = 0;
+-- the header of a section of a type, whose name and bytes are at two offsets
+abbrev pub plain_header : (section_type name offset size : ℕ) → SectionHeader
+plain_header section_type name offset size = record {
+  name = name;
+  section_type = section_type;
   flags = 0;
   address = 0;
-  offset = 0;
-  size = 0;
+  offset = offset;
+  size = size;
   link = 0;
   info = 0;
 }
+
+-- the header at index 0, of no section
+abbrev pub null_header : SectionHeader
+null_header = plain_header 0 0 0 0
 
 -- ---- sections
 
@@ -143,16 +147,7 @@ all_sections sections = map program_section sections ++ names_section sections �
 
 -- the header of a section whose name and bytes are at two offsets
 abbrev pub header_of : ℕ → ℕ → ImageSection → SectionHeader
-header_of name offset s = record {
-  name = name;
-  section_type = s.section_type;
-  flags = 0;
-  address = 0;
-  offset = offset;
-  size = length s.bytes;
-  link = 0;
-  info = 0;
-}
+header_of name offset s = plain_header s.section_type name offset (length s.bytes)
 
 -- the headers of sections whose names and bytes follow each other from two offsets on
 abbrev pub headers_from : ℕ → ℕ → List ImageSection → List SectionHeader

@@ -4,7 +4,7 @@ ghost use Rattle.std.specs.Prelude.{◌≡◌, ◌<◌, ◌≤◌, ◌^◌, ◌+
 ghost use Rattle.gimli_lines_write_bytes.specs.ByteOrders.{is_big_endian};
 ghost use Rattle.addr2line_elf.specs.ElfClasses.{word_size, section_header_size};
 ghost use Rattle.linemap_elf.specs.ImageLaws.{ImageFits};
-ghost use Rattle.linemap_elf.specs.SpelledImages.{class_number, order_number, spelled_identification, file_header_size, file_header_fields, spelled_fields, FitsHeader, spelled_section_header, all_sections, headers_from, spelled_table};
+ghost use Rattle.linemap_elf.specs.SpelledImages.{class_number, order_number, spelled_identification, file_header_size, file_header_fields, spelled_fields, FitsHeader, spelled_section_header, plain_header, all_sections, headers_from, spelled_table};
 ghost use Rattle.linemap_elf.specs.WrittenImages.{append};
 
 use crate::constants::{
@@ -149,17 +149,7 @@ fn write_header(
 
 // The header of a section whose name and bytes are at two offsets.
 fn header_of(section_type: u32, name: u32, offset: u64, size: u64) -> SectionHeader
-    ensures { result
-        ≡ record {
-          name = name;
-          section_type = section_type;
-          flags = 0;
-          address = 0;
-          offset = offset;
-          size = size;
-          link = 0;
-          info = 0;
-        } }
+    ensures { result ≡ plain_header section_type name offset size }
 {
     SectionHeader {
         name,
@@ -174,6 +164,7 @@ fn header_of(section_type: u32, name: u32, offset: u64, size: u64) -> SectionHea
 }
 
 // Writes the headers of the sections and of the section of their names.
+#[tactic(auto, using(crate::proofs::WrittenParts::is_bounded, crate::proofs::WrittenParts::names_more, crate::proofs::WrittenParts::bytes_more))]
 fn write_headers(w: &mut ImageWriter, sections: &[Section<'_>]) -> Result<(), AllocError>
     requires { ImageFits w.old.class sections.now }
     ensures { OnOk result (w.new

@@ -17,7 +17,7 @@ use Rattle.linemap_emit_units.specs.DwarfFiles.{DwarfFile}
 use Rattle.linemap_emit_units.specs.UnitFacts.{UnitFacts, UnitInFile, in_file}
 use Rattle.linemap_emit_units.specs.TableParts.{RangePart}
 use Rattle.linemap_emit_units.specs.Entry.{Entry}
-use Rattle.linemap_emit_units.specs.Entry.TheVariants.{AbstractFunction, Function, Call}
+use Rattle.linemap_emit_units.specs.Entry.TheVariants.{Function, Call}
 use Rattle.linemap_emit_units.specs.EmittedEntries.{attributes_of, raw_attribute_of, attribute_with, sec_offset, udata}
 use Rattle.linemap_emit_units.specs.EmittedEntryRows.{row_for}
 use Rattle.linemap_emit_units.specs.LookupAgreement.{lookup_range}
@@ -48,10 +48,6 @@ list_fact s b t range_list =
 module _ (e : Encoding) (s : DwarfFile) (f : UnitFacts) (main : s.sections.file_type ≡ Main)
     (encoding : f.bases.encoding ≡ e) (low : f.bases.low_pc ≡ 0) where
   -- ---- functions
-
-  -- an abstract function has no range
-  pub no_ranges : (text : ℕ) → ranges_of_entry (in_file s f) (raw_attributes e (AbstractFunction text)) ≡ Ok []
-  no_ranges text = refl
 
   -- a function has those of its list
   pub function_ranges : (has_children : Bool) (name range_list : ℕ) (rs : List RangePart)

@@ -9,7 +9,6 @@ use Rattle.linemap_emit_units.specs.Encoding.{Encoding}
 use Rattle.linemap_emit_units.specs.Format.{Format}
 use Rattle.linemap_emit_units.specs.Format.TheVariants.{Dwarf32, Dwarf64}
 use Rattle.linemap_emit_units.specs.FormatSizes.{word_size}
-use Rattle.linemap_emit_units.specs.NumberParsers.{is_address_size}
 use Rattle.linemap_emit_units.specs.NumberBytes.{constant_of, bytes_in_width, length_bytes, escape, complement}
 use Rattle.linemap_emit_units.specs.WriteError.{Error}
 use Rattle.linemap_emit_units.specs.WriteError.TheVariants.{NeedVersion}
@@ -44,10 +43,6 @@ use Rattle.linemap_emit_fits.proofs.FileTableSizes.{text_size, file_size, tables
 
 -- ---- words
 
-word_is_size : (format : Format) → is_address_size (word_size format) ≡ true
-word_is_size Dwarf32 = refl
-word_is_size Dwarf64 = refl
-
 word_within : (is_big : Bool) (format : Format) (n : ℕ) → n < 2 ^ 31
     → IsWithin 8 (bytes_in_width is_big (word_size format) n)
 word_within is_big Dwarf32 n low = sized_within is_big 4 n refl (omega arith)
@@ -64,10 +59,6 @@ length_within is_big Dwarf64 n low = sized_within is_big 8 n refl (omega arith)
 escape_few : (format : Format) → length (escape format) ≤ 4
 escape_few Dwarf32 = omega arith
 escape_few Dwarf64 = omega arith
-
--- no more than a greater number
-within_more : {r : Result (List ℕ) Error} (m n : ℕ) → IsWithin m r → m ≤ n → IsWithin n r
-within_more m n h more = record { bytes = h.bytes; are = h.are; few = let low = h.few in omega arith }
 
 -- ---- lists
 

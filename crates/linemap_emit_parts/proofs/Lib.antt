@@ -1,11 +1,7 @@
 pub use Rattle.gimli_lines_header.proofs.ArangeSetLemmas
 pub use Rattle.gimli_lines_header.proofs.TilingLemmas
 pub use Rattle.gimli_lines_write_bytes.proofs.FollowedReads
-pub use Rattle.gimli_units_entries.proofs.RowParts
-pub use Rattle.gimli_units_entries.proofs.StepParts
-pub use Rattle.gimli_units_entries.proofs.StepSizes
 pub use Rattle.gimli_units_entries.proofs.RowLaws
-pub use Rattle.gimli_units_entries.proofs.RowSteps
 pub mod ValuesRead
 pub mod EntryAttributesRead
 pub mod DeclarationsRead

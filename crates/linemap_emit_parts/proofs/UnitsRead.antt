@@ -20,6 +20,7 @@ use Rattle.gimli_units_lists.proofs.Wrapping.{at_most_eight}
 use Rattle.gimli_lines_header.specs.Tiling.{part_of, whole_section}
 use Rattle.gimli_lines_header.proofs.TilingLemmas.{parts_shrink}
 use Rattle.gimli_lines_header.proofs.UnitHeaderLemmas.{units_are_parts}
+use Rattle.gimli_lines_header.specs.SectionParts.{counted_part}
 use Rattle.gimli_lines_header.specs.UnitHeaders.{DebugUnit, HeaderFields, unit, unit_in, unit_fields, fields_to_4, fields_of_5, unit_type, kind_of_type, compilation, units_to_come}
 use Rattle.linemap_emit_parts.specs.declared.entries.Entry.{Entry}
 use Rattle.linemap_emit_parts.specs.EmittedEntryRows.{spelled_entries}
@@ -184,7 +185,7 @@ part_is is_big first xs =
 pub unit_again : (limit offset : ℕ) (e : Encoding) (is_big : Bool) (first : ℕ) (xs : List Entry) → IsWritten e
     → length (spelled_unit_body e is_big xs) < length_limit e.format → length (spelled_unit_body e is_big xs) < limit
     → Again is_big first (unit limit offset) (unit_for e is_big offset first xs) (spelled_unit e is_big xs)
-unfolding unit
+unfolding counted_part
 unit_again limit offset e is_big first xs w fits small =
     let n = length (spelled_unit_body e is_big xs) in
     let at = first + length (spelled_length e.format is_big n) in

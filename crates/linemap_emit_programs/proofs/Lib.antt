@@ -1,8 +1,4 @@
-pub use Rattle.linemap_emit_rows.proofs.RowSteps
 pub use Rattle.linemap_emit_rows.proofs.RowLaws
-pub use Rattle.linemap_emit_rows.proofs.StepSizes
-pub use Rattle.linemap_emit_rows.proofs.StepParts
-pub use Rattle.linemap_emit_rows.proofs.RowParts
 pub use Rattle.linemap_emit_rows.proofs.EntryListsRead
 pub use Rattle.linemap_emit_rows.proofs.Wrapping
 pub use Rattle.linemap_emit_rows.proofs.ArangeSetLemmas
@@ -16,7 +12,6 @@ pub use Rattle.linemap_emit_rows.proofs.ValuesRead
 pub use Rattle.linemap_emit_rows.proofs.SoundUnits
 pub use Rattle.linemap_emit_rows.proofs.TableViewLemmas
 pub use Rattle.linemap_emit_rows.proofs.TableLocations
-pub use Rattle.linemap_emit_rows.proofs.EmittedProgramRows
 pub use Rattle.linemap_emit_rows.proofs.EmittedRowsShown
 pub use Rattle.linemap_emit_rows.proofs.EmittedRowsBuilt
 pub use Rattle.linemap_emit_rows.proofs.SoundSequenceLemmas

@@ -147,9 +147,6 @@ module _ (e : Encoding) (is_big : Bool) (u : UnitPart) (line_texts : List (List 
       ap (λ (t : Tables). unit_bytes constant_of is_big (emitted_rules e) t (emitted_sequences place u.sequences))
       (sym same_tables) ∙ bytes_are
 
-  directory_count : length first.tables.directories ≡ 1
-  directory_count = refl
-
   few_directories : length st.tables.directories < 2 ^ 64
   few_directories = let n = directories_few u.files first in omega arith
 

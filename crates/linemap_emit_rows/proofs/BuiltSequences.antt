@@ -1,5 +1,5 @@
 -- A builder that adds the sequences of a table has their entries.
-use Rattle.std.proofs.Common.{◌≡◌, ℕ, ◌+◌, ◌-◌, ◌≤◌, true, false, List, [], ◌∷◌, ◌++◌, Some, refl, sym, ap, subst, ◌∙◌, append_assoc}
+use Rattle.std.proofs.Common.{◌≡◌, ℕ, ◌-◌, true, false, List, [], ◌∷◌, ◌++◌, Some, refl, sym, ap, subst, ◌∙◌, append_assoc}
 use Rattle.std.proofs.lemmas.Bool.{and_parts}
 use Rattle.gimli_lines_write_rows.specs.Address.TheVariants.{Constant}
 use Rattle.gimli_lines_write_rows.specs.declared.row.LineRow.{LineRow}

@@ -1,8 +1,4 @@
-pub use Rattle.linemap_emit_parts.proofs.RowSteps
 pub use Rattle.linemap_emit_parts.proofs.RowLaws
-pub use Rattle.linemap_emit_parts.proofs.StepSizes
-pub use Rattle.linemap_emit_parts.proofs.StepParts
-pub use Rattle.linemap_emit_parts.proofs.RowParts
 pub use Rattle.linemap_emit_parts.proofs.EntryListsRead
 pub use Rattle.linemap_places_laws.proofs.FilePathLemmas
 pub use Rattle.gimli_lines_write_rows.proofs.Wrapping

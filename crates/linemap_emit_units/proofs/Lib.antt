@@ -1,5 +1,4 @@
 pub use Rattle.linemap_emit_programs.proofs.BuiltUnits
-pub use Rattle.linemap_emit_programs.proofs.ListPlaces
 pub use Rattle.linemap_emit_programs.proofs.PlacedFiles
 pub use Rattle.linemap_emit_programs.proofs.SoundFiles
 pub use Rattle.linemap_emit_programs.proofs.UnitProgramsRead
@@ -20,17 +19,12 @@ pub use Rattle.linemap_emit_programs.proofs.FollowedReads
 pub use Rattle.linemap_emit_programs.proofs.UnitsRead
 pub use Rattle.linemap_emit_programs.proofs.ValuesRead
 pub use Rattle.linemap_emit_programs.proofs.EmittedFileTexts
-pub use Rattle.linemap_emit_programs.proofs.EmittedProgramRows
 pub use Rattle.linemap_emit_programs.proofs.EmittedRowsBuilt
 pub use Rattle.linemap_emit_programs.proofs.EmittedRowsShown
 pub use Rattle.linemap_emit_programs.proofs.SoundSequenceLemmas
 pub use Rattle.linemap_emit_programs.proofs.SoundUnits
 pub use Rattle.linemap_emit_programs.proofs.TableLocations
-pub use Rattle.linemap_emit_programs.proofs.RowParts
-pub use Rattle.linemap_emit_programs.proofs.StepParts
-pub use Rattle.linemap_emit_programs.proofs.StepSizes
 pub use Rattle.linemap_emit_programs.proofs.RowLaws
-pub use Rattle.linemap_emit_programs.proofs.RowSteps
 pub mod EmittedTextLemmas
 pub mod InlinedNameLemmas
 pub mod EmittedCallLemmas

@@ -18,9 +18,6 @@ use Rattle.std.specs.Io.KnownBytes.{Consumes, Keeps}
 use Rattle.linemap_lookup.specs.LineReads.{AppendsPart, IsPartOfLine, IsWholeInput, is_whole, line_feed}
 use Rattle.linemap_lookup.specs.declared.lines.LineBuffer.{LineBuffer}
 
-is_line_feed : ℕ → Bool
-is_line_feed b = b == line_feed
-
 pub other : (x : ℕ) → (x == line_feed) ≡ false → x ≢ line_feed
 other x not is = true≢false (sym (eq-eqb x line_feed is) ∙ not)
 

@@ -43,9 +43,6 @@ all_climb files low end (r ∷ rs) le rises =
 abbrev ends_above : ℕ → Stretch → Bool
 ends_above low t = nat_lt low (t.address + t.length)
 
-abbrev is_below : ℕ → LineRow → Bool
-is_below low r = nat_le r.address low
-
 all_above : (files : List (List ℕ)) (low end : ℕ) (rows : List LineRow) → low < next_address rows end → Rises end rows
     → filter (ends_above low) (stretches_of files end rows) ≡ stretches_of files end rows
 all_above files low end rows lt rises =

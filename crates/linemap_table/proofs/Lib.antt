@@ -1,4 +1,3 @@
-pub use Rattle.linemap_check.proofs.SoundUnits
 pub use Rattle.linemap_check.proofs.SoundFits
 mod TargetSizes
 mod JsonLemmas

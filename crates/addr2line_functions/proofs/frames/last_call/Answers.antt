@@ -1,5 +1,4 @@
-use Rattle.std.proofs.Common.{◌≡◌, length, sym, ap, ◌∙◌}
-use Rattle.addr2line_functions.specs.CallNumbers.{calls_of_numbers}
+use Rattle.std.proofs.Common.{sym, ◌∙◌}
 use Rattle.addr2line_functions.proofs.ChainSteps.{numbers_more, numbers_skip}
 use Rattle.addr2line_functions.proofs.frames.last_call.Goals as goal
 

@@ -1,5 +1,5 @@
 -- Each entry that is skipped leaves what is to come as it was.
-use Rattle.std.proofs.Common.{◌≡◌, Option, option_map, Result, Ok, Err, Some, None, refl, sym, ◌∙◌, ap, rules}
+use Rattle.std.proofs.Common.{Option, option_map, Result, Ok, Err, Some, None, refl, sym, ◌∙◌, ap}
 use Rattle.gimli_core_readers.specs.Error.{Error}
 use Rattle.gimli_units_lists.specs.Lists.{Resolution}
 use Rattle.gimli_units_lists.proofs.ListRefusals.{refusal_is_next, refusal_takes, item_is_next}

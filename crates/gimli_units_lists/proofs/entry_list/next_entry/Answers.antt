@@ -1,6 +1,6 @@
 -- Each answer is what was to come.
-use Rattle.std.proofs.Common.{rules, sym}
-use Rattle.gimli_units_lists.proofs.RawListSteps.{takes, come_none, come_item, come_end, come_fault, no_more}
+use Rattle.std.proofs.Common.{rules}
+use Rattle.gimli_units_lists.proofs.RawListSteps.{takes, come_item, come_end, come_fault, no_more}
 use Rattle.gimli_units_lists.proofs.entry_list.next_entry.Goals as goal
 
 pub returns-then-is_empty-clause-next : goal.returns-then-is_empty-clause-next

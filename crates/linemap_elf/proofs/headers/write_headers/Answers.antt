@@ -4,7 +4,7 @@ use Rattle.addr2line_elf.specs.declared.class.Class.{Class}
 use Rattle.addr2line_elf.specs.declared.headers.SectionHeader.{SectionHeader}
 use Rattle.linemap_elf.specs.SpelledImages.{FitsHeader}
 use Rattle.linemap_elf.specs.WrittenImages.{bytes_joined, names_joined}
-use Rattle.linemap_elf.proofs.WrittenParts.{names_more, bytes_more, is_bounded, fits_section}
+use Rattle.linemap_elf.proofs.WrittenParts.{bytes_more, is_bounded, fits_section}
 use Rattle.linemap_elf.proofs.headers.write_headers.Goals as goal
 
 pub write_header-requires-clause-fits : goal.write_header-requires-clause-fits
@@ -19,42 +19,6 @@ write_header-requires-clause-fits c =
     (subst (λ (h : SectionHeader). FitsHeader class h) (sym c.header_of.ensures)
     (fits_section class 1 c.loop-section.name c.loop-section.offset (length c.bytes.result.now) (omega arith)
     (omega arith) (omega arith) (omega arith)))
-
-pub overflow_cast-name : goal.overflow_cast-name
-overflow_cast-name c =
-    let b = is_bounded c.args.w.now.class c.args.sections.now c.requires in
-    let more =
-    names_more c.loop-section.section-index c.args.sections.now c.section-item.result c.loop-section-test.true
-    c.section-item.is in
-    let same = ap length c.name.ensures in
-    omega arith
-
-pub overflow_add-name : goal.overflow_add-name
-overflow_add-name c =
-    let b = is_bounded c.args.w.now.class c.args.sections.now c.requires in
-    let more =
-    names_more c.loop-section.section-index c.args.sections.now c.section-item.result c.loop-section-test.true
-    c.section-item.is in
-    let same = ap length c.name.ensures in
-    omega arith
-
-pub overflow_add-name-in-loop-section : goal.overflow_add-name-in-loop-section
-overflow_add-name-in-loop-section c =
-    let b = is_bounded c.args.w.now.class c.args.sections.now c.requires in
-    let more =
-    names_more c.loop-section.section-index c.args.sections.now c.section-item.result c.loop-section-test.true
-    c.section-item.is in
-    let same = ap length c.name.ensures in
-    omega arith
-
-pub overflow_add-offset : goal.overflow_add-offset
-overflow_add-offset c =
-    let b = is_bounded c.args.w.now.class c.args.sections.now c.requires in
-    let more =
-    bytes_more c.loop-section.section-index c.args.sections.now c.section-item.result c.loop-section-test.true
-    c.section-item.is in
-    let size = ap length c.bytes.ensures in
-    omega arith
 
 pub write_header-requires-2-clause-fits : goal.write_header-requires-2-clause-fits
 write_header-requires-2-clause-fits c =

@@ -4,7 +4,7 @@ use Rattle.addr2line_units.specs.InlinedCalls.{Call}
 use Rattle.addr2line_functions.specs.BorrowedLines.{files_in}
 use Rattle.addr2line_functions.specs.BorrowedFrames.{function_value, frames_left}
 use Rattle.addr2line_functions.specs.CallNumbers.{calls_of_numbers}
-use Rattle.addr2line_functions.proofs.FrameLists.{call_next_in, function_next, made_next, same_left}
+use Rattle.addr2line_functions.proofs.FrameLists.{call_next_in, made_next, same_left}
 use Rattle.addr2line_functions.proofs.frames.FrameIter.next.Goals as goal
 
 pub returns-in-Some-last_call-clause-frame : goal.returns-in-Some-last_call-clause-frame
