@@ -4,7 +4,7 @@ use crate::answers::Answers;
 use crate::fault::Fault;
 use crate::request::{Part, Question, Task};
 use addr2line_context::{Context, Error, LocationRangeIter, Reader};
-use std::alloc::AllocError;
+use std::alloc::{AllocError, Global};
 use std::io;
 use std::io::Write;
 use std::rt::Runtime;
