@@ -102,9 +102,9 @@ impl<R: Reader> Context<R> {
     ghost use Rattle.std.specs.Io.BufRead.{Rests};
     ghost use Rattle.addr2line_context.specs.contracts.context.Context.{the_row};
 
-    /// The context of a file's sections. It reads the abbreviation tables of the file's units first,
-    /// once each, and keeps them for the units; what they have in common is kept once. It takes
-    /// memory for them and for what shares the sections, and else is `from_arc_dwarf`.
+    /// The context of a file's sections. It reads the abbreviation tables of the file's units
+    /// first, once each, and keeps them for the units; what they have in common is kept once. It
+    /// takes memory for them and for what shares the sections, and else is `from_arc_dwarf`.
     pub fn from_dwarf(alloc: Global, sections: Dwarf<R>) -> Result<Self, Error>
         ensures context { ReturnsAsOrNoMemory (λ c. c.value.plain) result
             (file_context sections.file) }

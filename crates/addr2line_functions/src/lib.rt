@@ -25,7 +25,7 @@ pub use addr2line_units::{
     DW_LANG_Rust, DebugAbbrev, DebugAbbrevOffset, DebugAddr, DebugAddrIndex, DebugAranges,
     DebugInfo, DebugLine, DebugLineStr, DebugLineStrOffset, DebugRanges, DebugRngLists,
     DebugRngListsIndex, DebugStr, DebugStrOffset, DebugStrOffsets, DebugStrOffsetsIndex, DwLang,
-    Dwarf, DwarfFileType, DwoId, EndianBytes, EndianSlice, Error, Format, LastList, LineCursor,
+    Dwarf, DwarfFileType, DwoId, EndianBytes, EndianSlice, Error, Format, LastRanges, LineCursor,
     LineIndex, Lines, LinesBuilder, LittleEndian, Location, LocationLists, Probes, Range,
     RangeLists, RangeListsOffset, RawRangeListsOffset, Reader, ReaderOffsetId, RootRanges,
     RowStretch, RunTimeEndian, Runs, SectionId, Unit, UnitHeader, UnitLines, UnitOffset, UnitRange,

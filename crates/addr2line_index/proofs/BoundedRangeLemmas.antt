@@ -192,10 +192,10 @@ drop-units (suc n) r unit (suc more) le =
     ∙ ap (λ u. record { range = r; unit = u } ∷ drop (suc n) (in_units r (unit + 1) more)) same
 
 -- the pair at an index, and those after it
-pub next_pair : (from : ℕ) (e : BoundedRange) (unit next behind : ℕ) → IsCounted e → from < e.after
-    → behind ≡ min (more_units e.shared) (e.after - from - 1) → unit ≡ e.shared.first + (more_units e.shared - behind)
-    → next ≡ e.after - behind → IsNextPair from e (record { range = e.shared.range; unit = unit }, next)
-next_pair from e unit next behind counted below is here after =
+pub next_pair : (from : ℕ) (e : BoundedRange) (unit next later : ℕ) → IsCounted e → from < e.after
+    → later ≡ min (more_units e.shared) (e.after - from - 1) → unit ≡ e.shared.first + (more_units e.shared - later)
+    → next ≡ e.after - later → IsNextPair from e (record { range = e.shared.range; unit = unit }, next)
+next_pair from e unit next later counted below is here after =
     let first : e.shared.first + (from - index_of e) ≡ unit = omega arith in
     let rest : suc (from - index_of e) ≡ next - index_of e = omega arith in (
       (below, omega arith, omega arith),
@@ -211,7 +211,7 @@ pub if_found : {X : Type 0} {P Q : Type 0} {R S : X → Type 0} (r : Option X) �
 if_found None none some h = none h
 if_found (Some x) none some h = some x h
 
--- none are left from an index behind the last on
+-- none are left from an index after the last on
 pub none_left : (from : ℕ) (e : BoundedRange) → IsCounted e → e.after ≤ from → pairs_left from e ≡ []
 none_left from e counted over =
     drop_all (from - index_of e) (pairs_in e.shared)

@@ -98,7 +98,7 @@ module _ (a n : ℕ) (all : List NumberedSequence) (numbered : all ≡ numbered_
       (all_numbered n 0 [] (sequences_of all) refl))
       (ap (holder range_of_numbered a) (sym (all_at_level all)) ∙ e)
 
-  -- the same behind a reference
+  -- the same through a reference
   pub counter_of_found : (name : ℕ) (o : Option (Bor NumberedSequence))
       → option_map (λ (s : Bor NumberedSequence). s.now) o ≡ numbered_holder a all → name ≡ n
       → MatchOption o (Unit {0}) (λ s. name ≡ s.now.counter)
@@ -142,7 +142,7 @@ numbered-more counter all more s ss e =
     ∙ ap (λ m. (all ++ one ∷ []) ++ numbered_from counter m ss) many
     ∙ append_assoc all (one ∷ []) (numbered_from counter (length all + 1) ss)
 
--- ---- what is behind a reference
+-- ---- what a reference is to
 
 pub map-now : {A B : Type 0} (g : A → B) (o : Option (Bor A))
     → option_map (λ (r : Bor A). g r.now) o ≡ option_map g (option_map (λ (r : Bor A). r.now) o)

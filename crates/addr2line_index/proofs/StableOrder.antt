@@ -159,7 +159,8 @@ module _ {X : Type 0} (n : X → ℕ) where
   pub in_order-ascending : (xs sorted : List X) → Ascends sorted → ((a : ℕ) → class a sorted ≡ class a xs)
       → sorted ≡ in_order by_number xs
   in_order-ascending xs sorted up same =
-      same_from_classes sorted (in_order by_number xs) up (Ascends-in_order xs) (λ a. same a ∙ sym (in_order-class a xs))
+      same_from_classes sorted (in_order by_number xs) up (Ascends-in_order xs)
+      (λ a. same a ∙ sym (in_order-class a xs))
 
   pub in_order-unique : (xs sorted : List X) → IsNonDecreasingBy n sorted → ((a : ℕ) → class a sorted ≡ class a xs)
       → sorted ≡ in_order by_number xs

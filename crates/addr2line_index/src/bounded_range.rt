@@ -27,8 +27,8 @@ impl BoundedRange {
         }
         let SharedRange { range, first, last } = self.shared;
         let more = last.saturating_sub(first);
-        let behind = more.min(self.after - from - 1);
-        let unit = first + (more - behind);
-        Some((UnitRange { range, unit }, self.after - behind))
+        let later = more.min(self.after - from - 1);
+        let unit = first + (more - later);
+        Some((UnitRange { range, unit }, self.after - later))
     }
 }

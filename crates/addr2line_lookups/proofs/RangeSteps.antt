@@ -27,7 +27,7 @@ use Rattle.addr2line_lookups.specs.declared.range_walk.RangeRows.{RangeRows}
 use Rattle.addr2line_lookups.specs.declared.range_walk.RangeWalk.{RangeWalk}
 use Rattle.addr2line_lookups.specs.declared.range_walk.UnitStretch.{UnitStretch}
 
--- lines behind a reference, if there are any
+-- lines that a reference is to, if there are any
 abbrev pub ok_lines : Option (Bor Lines) → Result (Option Lines) Error
 ok_lines o = Ok (option_map (λ l. l.now) o)
 

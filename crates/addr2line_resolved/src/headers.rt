@@ -6,7 +6,8 @@ ghost use Rattle.addr2line_functions.specs.EntryViews.{entry_of};
 ghost use Rattle.addr2line_functions.specs.UnitFacts.{in_file};
 ghost use Rattle.addr2line_functions.specs.Contexts.{is_of_types, facts_of_code_unit};
 ghost use Rattle.addr2line_units.specs.ArangeIndexes.{IsIndexOf};
-ghost use Rattle.addr2line_units.specs.LastLists.{IsLastOf};
+ghost use Rattle.addr2line_units.specs.LastPrograms.{HasHeaderInFile};
+ghost use Rattle.addr2line_units.specs.LastRanges.{AreLastOf};
 ghost use Rattle.addr2line_resolved.specs.ResolvedUnits.{HasRoot, value_of_unit, with_new_unit, with_unit_of_header, KeepNoFunctions, RunForRangesAlone};
 
 use crate::load::share;
@@ -15,7 +16,7 @@ use crate::unit::ResUnit;
 use addr2line_functions::{
     ArangeIndex, DebuggingInformationEntry, Dwarf, Error, Reader, UnitHeader, UnitType,
 };
-use addr2line_units::LastList;
+use addr2line_units::LastRanges;
 use std::alloc::Global;
 use std::rc::Rc;
 
@@ -33,6 +34,7 @@ fn code_unit<R: Reader>(
         (facts_of_code_unit sections.now.value.file header))) }
     ensures root { IfOk result (λ found. IfSome found
         (λ u. HasRoot u (entry_of R.view R.Offset.count entry.new))) }
+    ensures header { IfOk result (λ found. IfSome found HasHeaderInFile) }
 {
     if is_of_types(&header) {
         return Ok(None);
@@ -49,20 +51,20 @@ pub(crate) fn push_context_unit<R: Reader>(
     alloc: Global,
     sections: &Rc<Dwarf<R>>,
     aranges: &ArangeIndex,
-    last: &mut LastList,
+    last: &mut LastRanges,
     header: UnitHeader<R>,
     entry: &mut DebuggingInformationEntry<R>,
     units: &mut Vec<ResUnit<R>>,
 ) -> Result<(), Error>
     requires index { IsIndexOf sections.now.value.file aranges.now }
-    requires last { IsLastOf sections.now.value.file last.old }
+    requires last { AreLastOf sections.now.value.file last.old }
     ensures units { ReturnsAsOrNoMemory (λ _. map value_of_unit units.new.items) result
         (with_unit_of_header sections.now.value.file header (map value_of_unit units.old.items)) }
     ensures lines { OnOk result
         (RunForRangesAlone units.old.items → RunForRangesAlone units.new.items) }
     ensures functions { OnOk result
         (KeepNoFunctions units.old.items → KeepNoFunctions units.new.items) }
-    ensures last { IsLastOf sections.now.value.file last.new }
+    ensures last { AreLastOf sections.now.value.file last.new }
 {
     match code_unit(alloc, sections, header, entry)? {
         Some(main) => push_unit(alloc, aranges, last, main, entry, units),
@@ -74,21 +76,22 @@ pub(crate) fn push_context_unit<R: Reader>(
 fn push_unit<R: Reader>(
     alloc: Global,
     aranges: &ArangeIndex,
-    last: &mut LastList,
+    last: &mut LastRanges,
     main: OwnedUnit<R>,
     entry: &DebuggingInformationEntry<R>,
     units: &mut Vec<ResUnit<R>>,
 ) -> Result<(), Error>
     requires index { IsIndexOf main.file aranges.now }
-    requires last { IsLastOf main.file last.old }
+    requires last { AreLastOf main.file last.old }
     requires root { HasRoot main (entry_of R.view R.Offset.count entry.now) }
+    requires header { HasHeaderInFile main }
     ensures units { ReturnsAsOrNoMemory (λ _. map value_of_unit units.new.items) result
         (with_new_unit main (map value_of_unit units.old.items)) }
     ensures lines { OnOk result
         (RunForRangesAlone units.old.items → RunForRangesAlone units.new.items) }
     ensures functions { OnOk result
         (KeepNoFunctions units.old.items → KeepNoFunctions units.new.items) }
-    ensures last { IsLastOf main.file last.new }
+    ensures last { AreLastOf main.file last.new }
 {
     let unit = ResUnit::read(alloc, main, entry, aranges, last)?;
     units.push(unit)?;

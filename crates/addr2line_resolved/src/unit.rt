@@ -8,7 +8,8 @@ ghost use Rattle.addr2line_functions.specs.EntryViews.{entry_of};
 ghost use Rattle.addr2line_functions.specs.BorrowedFrames.{frames_left};
 ghost use Rattle.addr2line_functions.specs.BorrowedLocations.{location_value};
 ghost use Rattle.addr2line_units.specs.ArangeIndexes.{IsIndexOf};
-ghost use Rattle.addr2line_units.specs.LastLists.{IsLastOf};
+ghost use Rattle.addr2line_units.specs.LastPrograms.{HasHeaderInFile};
+ghost use Rattle.addr2line_units.specs.LastRanges.{AreLastOf, AreLastFor};
 ghost use Rattle.addr2line_units.specs.LineIndexes.{counted_lines};
 ghost use Rattle.addr2line_units.specs.RootRanges.{RunsForRanges, unit_with};
 ghost use Rattle.addr2line_units.specs.Searches.{AtMostProbes};
@@ -24,7 +25,7 @@ use addr2line_functions::{
     Functions, HasUnit, HoldingUnit, LineIndex, Location, Names, Probes, Range, Reader, Runs, Unit,
     UnitLines, UnitRoot, calls_of_function, functions_of_unit,
 };
-use addr2line_units::{LastList, LineRow};
+use addr2line_units::{LastRanges, LineRow};
 use std::alloc::Global;
 use std::marker::Model;
 use std::rc::Rc;
@@ -176,22 +177,22 @@ fn unit_under<'a, R: Reader>(
 
 impl<R: Reader> ResUnit<R> {
     /// The unit, with what its root says. Its line number program is run only where its ranges are
-    /// those of its lines, which are then kept. Refused by its root or its ranges. A range list
-    /// that is the last one of the file isn't read again.
+    /// those of its lines, which are then kept. Refused by its root or its ranges. A range list or a
+    /// program that is the last one of the file isn't read or run again.
     pub fn read(
         alloc: Global,
         main: OwnedUnit<R>,
         entry: &DebuggingInformationEntry<R>,
         aranges: &ArangeIndex,
-        last: &mut LastList,
+        last: &mut LastRanges,
     ) -> Result<Self, Error>
         requires index { IsIndexOf main.file aranges.now }
-        requires last { IsLastOf main.file last.old }
+        requires last { AreLastFor main last.old }
         requires root { HasRoot main (entry_of R.view R.Offset.count entry.now) }
         ensures unit { ReturnsAsOrNoMemory (λ u. u.value) result (new_unit main) }
         ensures lines { IfOk result RunsForRangesAlone }
         ensures functions { IfOk result KeepsNoFunctions }
-        ensures last { IsLastOf main.file last.new }
+        ensures last { HasHeaderInFile main → AreLastOf main.file last.new }
     {
         let mut runs = Runs::new();
         let root = UnitRoot::read(alloc, &main.unit_ref(), entry, aranges, last, &mut runs)?;

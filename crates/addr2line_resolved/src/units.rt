@@ -8,14 +8,14 @@ ghost use Rattle.addr2line_resolved.specs.ResolvedUnits.{value_of_unit, new_unit
 use crate::headers::push_context_unit;
 use crate::unit::ResUnit;
 use addr2line_functions::{ArangeIndex, DebuggingInformationEntry, Dwarf, Error, Reader};
-use addr2line_units::LastList;
+use addr2line_units::LastRanges;
 use std::alloc::Global;
 use std::rc::Rc;
 
 /// A context's units of a file. Refused by the first refusal of such a unit's ranges, or by a
 /// header that can't be read, which ends the units. The lines of a unit are read only where its
 /// ranges are those of its lines, and no functions are. A range list that units in a row name is read
-/// once.
+/// once, and a line number program that they take their ranges from is run once.
 pub fn units_of_file<R: Reader>(
     alloc: Global,
     sections: &Rc<Dwarf<R>>,
@@ -29,7 +29,7 @@ pub fn units_of_file<R: Reader>(
 {
     let mut units = Vec::new(alloc);
     let mut entry = DebuggingInformationEntry::null(alloc);
-    let mut last = LastList::new();
+    let mut last = LastRanges::new();
     let mut headers = sections.as_ref().units()?;
     while let Some(header) = headers.next()? {
         push_context_unit(

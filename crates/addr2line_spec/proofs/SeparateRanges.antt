@@ -116,13 +116,13 @@ module _ {X : Type 0} (range : X → Range) (a : ℕ) where
   ends x = nat_lt a (range x).end
 
   -- what is known of a range after the first
-  abbrev IsBehind : Range → X → Type 0
-  IsBehind r y = (is_apart r (range y) ≡ true) × (has_address (range y) ≡ true) × (begins y ≡ true)
+  abbrev IsLater : Range → X → Type 0
+  IsLater r y = (is_apart r (range y) ≡ true) × (has_address (range y) ≡ true) × (begins y ≡ true)
 
   -- the first, where it begins at or below the address: it holds it where it ends above, and else what is after it does
   -- or doesn't
   first_of : (x : X) (o : Option X) → nat_le (range x).begin a ≡ true → has_address (range x) ≡ true
-      → ((y : X) → o ≡ Some y → IsBehind (range x) y)
+      → ((y : X) → o ≡ Some y → IsLater (range x) y)
       → only_if ends (Some (later_of range x o)) ≡ cond (ends x) (Some x) (only_if ends o)
   first_of x None begin some lower = refl
   first_of x (Some y) begin some lower =
@@ -157,7 +157,7 @@ module _ {X : Type 0} (range : X → Range) (a : ℕ) where
       and_parts (has_address (range x) && list_all (is_apart (range x)) (map range xs))
       (are_apart (map range xs)) h in
       let first = and_parts (has_address (range x)) (list_all (is_apart (range x)) (map range xs)) later.0 in
-      let lower : (y : X) → latest_at_or_below range a xs ≡ Some y → IsBehind (range x) y = λ y e.
+      let lower : (y : X) → latest_at_or_below range a xs ≡ Some y → IsLater (range x) y = λ y e.
       let apart = latest_of_rest (λ z. is_apart (range x) (range z)) xs y (all_apart (range x) xs first.1) e in
       (apart.0, (latest_of_rest (λ z. has_address (range z)) xs y (all_some xs later.1) e).0, apart.1) in
       elim (nat_le (range x).begin a) as (λ b. nat_le (range x).begin a ≡ b

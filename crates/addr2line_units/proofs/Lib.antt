@@ -15,3 +15,6 @@ pub mod LastFactLemmas
 pub mod LastValueStep
 pub mod ArangeIndexLemmas
 pub mod RootLemmas
+pub mod HeaderUnits
+pub mod SharedPrograms
+pub mod HeadersInFiles

@@ -1,7 +1,5 @@
 -- What a root's facts declare, from the last of each kind.
-use Rattle.std.proofs.Common.{◌≡◌, ℕ, ◌+◌, Bool, false, List, [], ◌∷◌, length, Option, Some, None, Result, Ok, Err, refl, ap, ◌∙◌, subst, arith}
-use Rattle.std.specs.Prelude.{◌==◌, OnOk, IfOk}
-use Rattle.gimli_lines_rows.specs.Calls.{ReturnsOrNoMemory, ReturnsAsOrNoMemory}
+use Rattle.std.proofs.Common.{◌≡◌, ℕ, List, Option, Some, None, Result, Ok, Err, refl, ap, ◌∙◌}
 use Rattle.gimli_lines_rows.specs.Error.{Error}
 use Rattle.gimli_lines_rows.specs.Range.{Range}
 use Rattle.gimli_lines_rows.specs.AttributeValues.{RawAttribute}
@@ -9,9 +7,6 @@ use Rattle.gimli_lines_rows.specs.Results.{and_then, each}
 use Rattle.gimli_dwarf.specs.UnitFacts.{UnitInFile}
 use Rattle.addr2line_index.specs.Lines.{Lines}
 use Rattle.addr2line_index.specs.UnitRanges.{RangeFact, fact_of, list_in, last_of, range_of_root, declared_ranges, or_else, ranges_of_lines, ranges_of_attributes}
-use Rattle.addr2line_index.specs.UnitLines.{lines_of_unit}
-use Rattle.addr2line_units.specs.CountedRuns.{runs_for_lines}
-use Rattle.addr2line_units.specs.RootRanges.{RootRanges, ranges_by_run, RunsForRanges}
 use Rattle.addr2line_index.specs.EntryRanges.{ranges_of_facts, ranges_of_entry}
 use Rattle.addr2line_units.specs.LastFacts.{LastFacts, last_facts, facts_of, ranges_by, declared_by, entry_ranges_in, entry_ranges_by}
 
@@ -87,32 +82,3 @@ module _ (u : UnitInFile) where
       → facts_of u attributes ≡ ok_facts last
       → ranges_of_entry u attributes ≡ entry_ranges_by u last
   entry_ranges-found attributes last h = entry_by_last (each (fact_of u) attributes) last h
-
--- ---- ranges by a run
-
-abbrev pub found : RootRanges → Result RootRanges Error
-found r = Ok r
-
-module _ (u : UnitInFile) where
-  -- what a run gives is the ranges where none are declared
-  pub ranges_by_run-found : (r : Result RootRanges Error) (declared : List Range) → length declared ≡ 0
-      → ReturnsOrNoMemory r (found (ranges_by_run u))
-      → ReturnsAsOrNoMemory (λ x. x.ranges) r (ok_ranges (or_else declared (ranges_of_lines (lines_of_unit u))))
-  ranges_by_run-found (Ok x) [] none h =
-      let same : ranges_by_run u ≡ x = cc in ap (λ y. ok_ranges y.ranges) same
-  ranges_by_run-found (Err e) [] none h = λ ne. let never = h ne in absurd cc
-  ranges_by_run-found r (d ∷ ds) none h = absurd (omega arith)
-
-  -- and its lines are those of one run
-  pub lines_by_run-found : (r : Result RootRanges Error) (old new : ℕ) → ReturnsOrNoMemory r (found (ranges_by_run u))
-      → OnOk r (new ≡ old + runs_for_lines u.facts) → IfOk r (λ x. RunsForRanges u x.ranges x.lines old new)
-  lines_by_run-found (Ok x) old new h counted =
-      let same : ranges_by_run u ≡ x = cc in
-      subst (λ y. RunsForRanges u y.ranges y.lines old new) same (refl, refl, counted)
-  lines_by_run-found (Err e) old new h counted = tt
-
-  -- ranges that are declared stay
-  pub declared-found : (declared : List Range) (b : Bool) → b ≡ (length declared == 0) → b ≡ false
-      → or_else declared (ranges_of_lines (lines_of_unit u)) ≡ declared
-  declared-found [] b is not = cc
-  declared-found (d ∷ ds) b is not = refl

@@ -60,5 +60,7 @@ pub mod LastFacts
 pub mod ArangeIndexes
 pub mod RangeListReading
 pub mod LastLists
+pub mod LastPrograms
+pub mod LastRanges
 pub mod CountedRuns
 pub mod RootRanges

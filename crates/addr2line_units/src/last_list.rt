@@ -54,7 +54,8 @@ fn list_key<R: Reader>(unit: &UnitRef<'_, R>, offset: RangeListsOffset<R::Offset
     }
 }
 
-fn share(ranges: &Rc<Vec<Range>>) -> Result<Rc<Vec<Range>>, Error>
+// The same ranges once more.
+pub(crate) fn share(ranges: &Rc<Vec<Range>>) -> Result<Rc<Vec<Range>>, Error>
     ensures { ReturnsAsOrNoMemory (λ r. r.value.items) result (Ok ranges.now.value.items) }
 {
     Ok(ranges.clone()?)

@@ -8,6 +8,8 @@ pub mod facts;
 mod files;
 mod language;
 pub mod last_list;
+pub mod last_program;
+pub mod last_ranges;
 mod lists;
 mod partial;
 pub mod ranges;
@@ -37,7 +39,7 @@ pub use gimli_lines_rows::{
     ReaderOffsetId, RunTimeEndian, SectionId, UnitHeader, UnitOffset, UnitType,
 };
 pub use language::language_of;
-pub use last_list::LastList;
+pub use last_ranges::LastRanges;
 pub use partial::is_partial;
 pub use ranges::{RootRanges, entry_ranges, ranges_of_attributes, ranges_of_entry};
 pub use root::UnitRoot;

@@ -1,6 +1,6 @@
 //! The ranges that a unit covers (DWARF 5, 2.17 and 3.1.1).
 
-ghost use Rattle.std.specs.Prelude.{◌≡◌, ◌+◌, Ok, OnOk, IfOk, map};
+ghost use Rattle.std.specs.Prelude.{◌≡◌, ◌+◌, Some, Ok, OnOk, IfOk, map};
 ghost use Rattle.std.specs.Option.{option_to_list};
 ghost use Rattle.gimli_lines_rows.specs.Calls.{ReturnsAsOrNoMemory, ReturnsOrNoMemory};
 ghost use Rattle.gimli_dwarf.specs.EntryViews.{raw_attributes};
@@ -12,12 +12,16 @@ ghost use Rattle.addr2line_units.specs.ArangeIndexes.{IsIndexOf};
 ghost use Rattle.addr2line_units.specs.CountedRuns.{runs_for_lines};
 ghost use Rattle.addr2line_units.specs.LastFacts.{root_range, declared_by, entry_ranges_by};
 ghost use Rattle.addr2line_units.specs.LastLists.{IsLastOf};
+ghost use Rattle.addr2line_units.specs.LastPrograms.{program_key, HasHeaderInFile, IsLastProgramOf, IsLastProgramFor};
+ghost use Rattle.addr2line_units.specs.LastRanges.{AreLastOf, AreLastFor};
 ghost use Rattle.addr2line_units.specs.RootRanges.{ranges_by_run, RunsForRanges};
 
 use crate::arange_index::ArangeIndex;
 use crate::aranges::push_if_any;
 use crate::facts::{LastFacts, facts_of};
-use crate::last_list::{LastList, shared_list};
+use crate::last_list::{LastList, share, shared_list};
+use crate::last_program::{LastProgram, ProgramKey, ProgramRanges, program_key};
+use crate::last_ranges::LastRanges;
 use crate::lists::listed_ranges;
 use crate::unit_lines::{Runs, UnitLines};
 use addr2line_index::LineSequence;
@@ -180,20 +184,74 @@ fn ranges_by_run<R: Reader>(
     })
 }
 
-// Those that are declared, or else those of the unit's lines.
-fn or_by_run<R: Reader>(
+// Those of a unit whose program depends on this. It isn't run if the last one depends on the same;
+// else this is the last one then.
+fn ranges_by_key<R: Reader>(
     alloc: Global,
     unit: &UnitRef<'_, R>,
+    last: &mut LastProgram,
+    runs: &mut Runs,
+    key: ProgramKey,
+) -> Result<RootRanges, Error>
+    requires key { program_key unit.now.facts ≡ Some key }
+    requires last { IsLastProgramFor unit.now last.old }
+    ensures ranges { ReturnsAsOrNoMemory (λ r. r.ranges) result
+        (Ok (ranges_of_lines (lines_of_unit unit.now))) }
+    ensures lines { IfOk result
+        (λ r. RunsForRanges unit.now r.ranges r.lines runs.old runs.new) }
+    ensures last { HasHeaderInFile unit.now → IsLastProgramOf unit.now.file last.new }
+{
+    if let Some(ranges) = last.ranges(&key) {
+        return Ok(RootRanges {
+            ranges: share(ranges)?,
+            lines: None,
+        });
+    }
+    let found = ranges_by_run(alloc, unit, runs)?;
+    last.program = Some(ProgramRanges {
+        key,
+        ranges: share(&found.ranges)?,
+    });
+    Ok(found)
+}
+
+// The ranges of a unit's lines, and the lines where its program was run for them.
+fn ranges_by_program<R: Reader>(
+    alloc: Global,
+    unit: &UnitRef<'_, R>,
+    last: &mut LastProgram,
+    runs: &mut Runs,
+) -> Result<RootRanges, Error>
+    requires last { IsLastProgramFor unit.now last.old }
+    ensures ranges { ReturnsAsOrNoMemory (λ r. r.ranges) result
+        (Ok (ranges_of_lines (lines_of_unit unit.now))) }
+    ensures lines { IfOk result
+        (λ r. RunsForRanges unit.now r.ranges r.lines runs.old runs.new) }
+    ensures last { HasHeaderInFile unit.now → IsLastProgramOf unit.now.file last.new }
+{
+    match program_key(unit) {
+        Some(key) => ranges_by_key(alloc, unit, last, runs, key),
+        None => ranges_by_run(alloc, unit, runs),
+    }
+}
+
+// Those that are declared, or else those of the unit's lines.
+fn or_by_program<R: Reader>(
+    alloc: Global,
+    unit: &UnitRef<'_, R>,
+    last: &mut LastProgram,
     runs: &mut Runs,
     declared: Rc<Vec<Range>>,
 ) -> Result<RootRanges, Error>
+    requires last { IsLastProgramFor unit.now last.old }
     ensures ranges { ReturnsAsOrNoMemory (λ r. r.ranges) result
         (Ok (or_else declared.value.items (ranges_of_lines (lines_of_unit unit.now)))) }
     ensures lines { IfOk result
         (λ r. RunsForRanges unit.now r.ranges r.lines runs.old runs.new) }
+    ensures last { HasHeaderInFile unit.now → IsLastProgramOf unit.now.file last.new }
 {
     if declared.as_ref().is_empty() {
-        return ranges_by_run(alloc, unit, runs);
+        return ranges_by_program(alloc, unit, last, runs);
     }
     Ok(RootRanges {
         ranges: declared,
@@ -204,28 +262,28 @@ fn or_by_run<R: Reader>(
 /// The ranges of a unit whose root has these attributes: those that it declares, or else those of
 /// its lines, for which its line number program is run. Declared they are by its range list, or
 /// else by `.debug_aranges`, or else by low_pc and high_pc. Refused is an attribute whose address
-/// or list can't be read, the first of them, and then a range list. A list that is the last one of
-/// the file isn't read again.
+/// or list can't be read, the first of them, and then a range list. A list or a program that is the
+/// last one of the file isn't read or run again.
 pub fn ranges_of_attributes<R: Reader>(
     alloc: Global,
     unit: &UnitRef<'_, R>,
     aranges: &ArangeIndex,
-    last: &mut LastList,
+    last: &mut LastRanges,
     runs: &mut Runs,
     attributes: &[Attribute<R>],
 ) -> Result<RootRanges, Error>
     requires index { IsIndexOf unit.now.file aranges.now }
-    requires last { IsLastOf unit.now.file last.old }
+    requires last { AreLastFor unit.now last.old }
     ensures ranges { ReturnsAsOrNoMemory (λ r. r.ranges) result
         (ranges_of_attributes unit.now (lines_of_unit unit.now)
         (raw_attributes R.view R.Offset.count attributes.now)) }
     ensures lines { IfOk result
         (λ r. RunsForRanges unit.now r.ranges r.lines runs.old runs.new) }
-    ensures last { IsLastOf unit.now.file last.new }
+    ensures last { HasHeaderInFile unit.now → AreLastOf unit.now.file last.new }
 {
     let facts = facts_of(unit, attributes)?;
-    let declared = declared_ranges(alloc, unit, aranges, last, &facts)?;
-    or_by_run(alloc, unit, runs, declared)
+    let declared = declared_ranges(alloc, unit, aranges, &mut last.list, &facts)?;
+    or_by_program(alloc, unit, &mut last.program, runs, declared)
 }
 
 // A range as a list, if there is one.

@@ -6,12 +6,13 @@ ghost use Rattle.gimli_dwarf.specs.EntryViews.{entry_of, raw_attributes};
 ghost use Rattle.addr2line_index.specs.UnitLines.{lines_of_unit};
 ghost use Rattle.addr2line_index.specs.Contexts.{unit_of_root, unit_of_entry};
 ghost use Rattle.addr2line_units.specs.ArangeIndexes.{IsIndexOf};
-ghost use Rattle.addr2line_units.specs.LastLists.{IsLastOf};
+ghost use Rattle.addr2line_units.specs.LastPrograms.{HasHeaderInFile};
+ghost use Rattle.addr2line_units.specs.LastRanges.{AreLastOf, AreLastFor};
 ghost use Rattle.addr2line_units.specs.RootRanges.{RunsForRanges, unit_with};
 
 use crate::arange_index::ArangeIndex;
 use crate::language::language_of;
-use crate::last_list::LastList;
+use crate::last_ranges::LastRanges;
 use crate::partial::is_partial;
 use crate::ranges::{RootRanges, ranges_of_attributes};
 use crate::unit_lines::{Runs, UnitLines};
@@ -46,23 +47,24 @@ impl Model for UnitRoot {
 impl UnitRoot {
     /// What the root of a unit says; nothing of a unit that others import. The unit's line number
     /// program is run only where the root declares no ranges. Refused is an attribute of the root,
-    /// or else its range list. A list that is the last one of the file isn't read again.
+    /// or else its range list. A list or a program that is the last one of the file isn't read or
+    /// run again.
     pub fn read<R: Reader>(
         alloc: Global,
         unit: &UnitRef<'_, R>,
         root: &DebuggingInformationEntry<R>,
         aranges: &ArangeIndex,
-        last: &mut LastList,
+        last: &mut LastRanges,
         runs: &mut Runs,
     ) -> Result<Self, Error>
         requires index { IsIndexOf unit.now.file aranges.now }
-        requires last { IsLastOf unit.now.file last.old }
+        requires last { AreLastFor unit.now last.old }
         ensures unit { ReturnsAsOrNoMemory (unit_with unit.now) result
             (unit_of_entry unit.now (lines_of_unit unit.now)
             (entry_of R.view R.Offset.count root.now)) }
         ensures lines { IfOk result
             (λ r. RunsForRanges unit.now r.ranges r.lines runs.old runs.new) }
-        ensures last { IsLastOf unit.now.file last.new }
+        ensures last { HasHeaderInFile unit.now → AreLastOf unit.now.file last.new }
     {
         let facts = unit.unit;
         if is_partial(&facts.header, root) {
@@ -80,18 +82,18 @@ impl UnitRoot {
         alloc: Global,
         unit: &UnitRef<'_, R>,
         aranges: &ArangeIndex,
-        last: &mut LastList,
+        last: &mut LastRanges,
         runs: &mut Runs,
         attributes: &[Attribute<R>],
     ) -> Result<Self, Error>
         requires index { IsIndexOf unit.now.file aranges.now }
-        requires last { IsLastOf unit.now.file last.old }
+        requires last { AreLastFor unit.now last.old }
         ensures unit { ReturnsAsOrNoMemory (unit_with unit.now) result
             (unit_of_root unit.now (lines_of_unit unit.now)
             (raw_attributes R.view R.Offset.count attributes.now)) }
         ensures lines { IfOk result
             (λ r. RunsForRanges unit.now r.ranges r.lines runs.old runs.new) }
-        ensures last { IsLastOf unit.now.file last.new }
+        ensures last { HasHeaderInFile unit.now → AreLastOf unit.now.file last.new }
     {
         let found = ranges_of_attributes(alloc, unit, aranges, last, runs, attributes)?;
         let language = language_of(attributes)?;

@@ -95,7 +95,16 @@ Moves-signed : {u : View} (v : View) → IsPart u v → Moves u (signed v)
 unfolding signed
 Moves-signed {u} v h = Moves-number u v BadSignedLeb128 (signed_at v.bytes) (signed_fits v.bytes) h
 
-ruleset moves = (Moves-Ok, Moves-Err, Moves-proceed, Moves-cond, Moves-fixed, Moves-unsigned, Moves-unsigned_16, Moves-signed)
+ruleset moves = (
+  Moves-Ok,
+  Moves-Err,
+  Moves-proceed,
+  Moves-cond,
+  Moves-fixed,
+  Moves-unsigned,
+  Moves-unsigned_16,
+  Moves-signed,
+)
 
 -- ---- attributes
 

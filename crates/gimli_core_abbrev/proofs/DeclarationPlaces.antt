@@ -176,7 +176,8 @@ absent_after code before (x ∷ ds) there once from =
     both : (eqb x.code code || has_code code before) ≡ true
     both = ap (λ (b : Bool). eqb x.code code || b) there ∙ or-true (eqb x.code code)
 
-    by_place : (n : ℕ) → ((m : ℕ) → declaration_at code (drop m ds) ≡ None) → declaration_at code (drop n (x ∷ ds)) ≡ None
+    by_place : (n : ℕ) → ((m : ℕ) → declaration_at code (drop m ds) ≡ None)
+        → declaration_at code (drop n (x ∷ ds)) ≡ None
     by_place zero rest = rw other (rest 0)
     by_place (suc n) rest = rest n
 

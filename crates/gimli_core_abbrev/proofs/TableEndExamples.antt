@@ -19,7 +19,7 @@ pub zero_ends_none : table_to_0_at 0 (view (0 ∷ [])) ≡ Ok []
 unfolding coded_declaration unsigned listing_in items_within
 zero_ends_none = refl
 
--- a declaration of a compilation unit with a name, without and with a code 0 behind it
+-- a declaration of a compilation unit with a name, without and with a code 0 after it
 pub ends_one : IsEndedBySection 0 (view (1 ∷ 0x11 ∷ 1 ∷ 3 ∷ 0x0e ∷ 0 ∷ 0 ∷ []))
 unfolding table declaration coded_declaration declaration_of children attributes attribute attribute_of implicit_const
     fixed unsigned unsigned_16 listing_in items_within

@@ -129,7 +129,8 @@ table_of_tail : (v w : View) (ds : List Declaration) → repeated_code ds ≡ No
     → (all v).ending ≡ Ok w → table v ≡ Ok (by_code ds, w)
 unfolding table
 table_of_tail v w ds once items ending =
-    ap (λ (xs : List Declaration). distinct (repeated_code xs) (proceed (whole_of xs (all v).ending) (λ ys. give (by_code ys))))
+    ap (λ (xs : List Declaration). distinct (repeated_code xs)
+    (proceed (whole_of xs (all v).ending) (λ ys. give (by_code ys))))
     items
     ∙ rw (once, ending) refl
 

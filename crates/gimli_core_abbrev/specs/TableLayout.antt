@@ -1,5 +1,5 @@
--- How a table stores its declarations: in the order of their bytes, with the places of all codes but
--- the first ones, which are 1, 2, ..
+-- How a table stores its declarations: in the order of their bytes, with the places of all codes
+-- but the first ones, which are 1, 2, ..
 use Rattle.std.specs.Prelude.{◌≡◌, ◌≤◌, ℕ, zero, suc, ◌==◌, nat_lt, List, [], ◌∷◌, drop, Option, Some, None, option_map, Ok, if◌then◌else◌}
 use Rattle.std.specs.List.{slice_get}
 use Rattle.gimli_core_readers.specs.View.{View, bytes_left, after}
@@ -43,8 +43,8 @@ listed v =
     let listing : Listing View Declaration = listing_in bytes_left declaration v in
     distinct (repeated_code listing.items) (whole listing)
 
--- A list that was read from a section, up to one of its declarations: the bytes from that one on are
--- at a place of the section, and hold the rest of the list and then its end.
+-- A list that was read from a section, up to one of its declarations: the bytes from that one on
+-- are at a place of the section, and hold the rest of the list and then its end.
 pub record IsListOf (section : View) (ds : List Declaration) (before : ℕ)
     (input : View) : Type 0 where
   pub once : repeated_code ds ≡ None

@@ -90,35 +90,25 @@ impl DeclarationList {
         }
     }
 
-    // With one declaration more, whose code isn't 0 and isn't there.
-    fn with(self, abbreviation: Abbreviation) -> Result<Self, Error>
+    // Adds a declaration, whose code isn't 0 and isn't there.
+    fn push(&mut self, abbreviation: Abbreviation) -> Result<(), Error>
         requires counts { 0 < (declaration_view abbreviation).code }
-        requires is_new { declaration_at (declaration_view abbreviation).code self ≡ None }
-        ensures ok { IfOk result (λ list. list ≡ self ++ declaration_view abbreviation ∷ []) }
+        requires is_new { declaration_at (declaration_view abbreviation).code self.old ≡ None }
+        ensures ok { OnOk result (self.new ≡ self.old ++ declaration_view abbreviation ∷ []) }
         ensures err { IfErr result (λ e. e ≡ Memory) }
     {
-        let DeclarationList {
-            mut declarations,
-            in_order,
-            mut places,
-        } = self;
         let code = abbreviation.code();
-        let place = declarations.len();
-        declarations.push(abbreviation)?;
-        if in_order == place && code - 1 == place as u64 {
-            Ok(DeclarationList {
-                in_order: declarations.len(),
-                declarations,
-                places,
-            })
-        } else {
-            put_place(&mut places, code, place)?;
-            Ok(DeclarationList {
-                declarations,
-                in_order,
-                places,
-            })
+        let place = self.declarations.len();
+        self.declarations.push(abbreviation)?;
+        if self.in_order == place && code - 1 == place as u64 {
+            self.in_order = place + 1;
+            return Ok(());
         }
+        if let Err(refusal) = put_place(&mut self.places, code, place) {
+            self.declarations.pop();
+            return Err(refusal);
+        }
+        Ok(())
     }
 }
 
@@ -142,7 +132,8 @@ fn get_by_place<'a>(
 fn put_place(places: &mut BTreeMap<u64, usize>, code: u64, place: usize) -> Result<(), Error>
     ensures ok { OnOk result ((other : ℕ) → get nat_cmp places.new other
         ≡ (if is_at (nat_cmp code) other then Some place else get nat_cmp places.old other)) }
-    ensures err { IfErr result (λ e. e ≡ Memory) }
+    ensures err { IfErr result (λ e. (e ≡ Memory)
+        × ((other : ℕ) → get nat_cmp places.new other ≡ get nat_cmp places.old other)) }
 {
     places.insert(code, place)?;
     Ok(())
@@ -210,7 +201,7 @@ pub(crate) fn parse_list<R: Reader>(alloc: Global, input: &mut R) -> Result<Decl
         if found.get(0, code).is_some() {
             return Err(Error::DuplicateAbbreviationCode(code));
         }
-        found = found.with(abbreviation)?;
+        found.push(abbreviation)?;
     }
     Ok(found)
 }

@@ -16,7 +16,7 @@ use std::rc::Rc;
 
 // A list of declarations, and the bytes that it was read from, from one of the declarations on.
 #[derive(Drop)]
-pub(crate) struct ReadList<R: Reader> {
+pub(crate) struct ListTail<R: Reader> {
     list: Rc<DeclarationList>,
     // How many declarations come before these bytes.
     before: usize,
@@ -32,7 +32,7 @@ pub(crate) fn next_table<R: Reader>(
     alloc: Global,
     section: &DebugAbbrev<R>,
     offset: DebugAbbrevOffset<R::Offset>,
-    last: &mut Option<ReadList<R>>,
+    last: &mut Option<ListTail<R>>,
 ) -> Result<Result<Rc<Abbreviations>, Error>, Error>
     requires { IfSome last.old (λ l. IsListOf section.now l.list.value l.before
         (R.view l.input)) }
@@ -58,8 +58,8 @@ fn list_at<R: Reader>(
     alloc: Global,
     section: &DebugAbbrev<R>,
     offset: DebugAbbrevOffset<R::Offset>,
-    last: Option<ReadList<R>>,
-) -> Result<Result<ReadList<R>, Error>, Error>
+    last: Option<ListTail<R>>,
+) -> Result<Result<ListTail<R>, Error>, Error>
     requires { IfSome last (λ l. IsListOf section.now l.list.value l.before (R.view l.input)) }
     ensures ok { IfOk result (λ list. MatchResult list
         (λ l. IsListAt section.now (R.Offset.count offset.0) l.list.value l.before
@@ -84,7 +84,7 @@ fn read_list<R: Reader>(
     alloc: Global,
     section: &DebugAbbrev<R>,
     offset: DebugAbbrevOffset<R::Offset>,
-) -> Result<ReadList<R>, Error>
+) -> Result<ListTail<R>, Error>
     ensures { MatchResult result
         (λ l. IsListAt section.now (R.Offset.count offset.0) l.list.value l.before
         (R.view l.input))
@@ -93,7 +93,7 @@ fn read_list<R: Reader>(
     let input = section.input_at(offset)?;
     let mut rest = input.copy()?;
     let list = table::parse_list(alloc, &mut rest)?;
-    Ok(ReadList {
+    Ok(ListTail {
         list: Rc::new(alloc, list)?,
         before: 0,
         input,
@@ -107,8 +107,8 @@ fn skip_to<R: Reader>(
     alloc: Global,
     section: &DebugAbbrev<R>,
     offset: DebugAbbrevOffset<R::Offset>,
-    list: ReadList<R>,
-) -> Result<Option<ReadList<R>>, Error>
+    list: ListTail<R>,
+) -> Result<Option<ListTail<R>>, Error>
     requires { IsListOf section.now list.list.value list.before (R.view list.input) }
     ensures ok { IfOk result (λ found. IfSome found (λ l. IsListAt section.now
         (R.Offset.count offset.0) l.list.value l.before (R.view l.input))) }
@@ -123,7 +123,7 @@ fn skip_to<R: Reader>(
     if left <= list.left_after as u64 {
         return Ok(None);
     }
-    let ReadList {
+    let ListTail {
         list,
         mut before,
         mut input,
@@ -137,7 +137,7 @@ fn skip_to<R: Reader>(
         before += 1;
     }
     if input.as_bytes().len() as u64 == left {
-        Ok(Some(ReadList {
+        Ok(Some(ListTail {
             list,
             before,
             input,

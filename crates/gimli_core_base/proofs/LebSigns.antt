@@ -1,5 +1,5 @@
 -- The sign of a LEB128 string.
-use Rattle.std.proofs.Common.{◌≡◌, ℕ, zero, suc, ◌+◌, ◌-◌, ◌*◌, ◌^◌, ◌<◌, ◌≤◌, ◌%◌, true, false, leb, List, [], ◌∷◌, ◌++◌, length, get_or, take, drop, Ok, Err, refl, sym, ap, subst, ◌∙◌, arith, inl, inr}
+use Rattle.std.proofs.Common.{◌≡◌, ℕ, zero, suc, ◌+◌, ◌-◌, ◌*◌, ◌^◌, ◌<◌, ◌≤◌, ◌/◌, ◌%◌, true, false, cond, leb, ltb, List, [], ◌∷◌, ◌++◌, length, get_or, take, drop, Ok, Err, refl, sym, ap, subst, ◌∙◌, arith, inl, inr}
 use Rattle.std.specs.Prelude.{◌≢◌, ℤ, pos, negsuc, ◌-ℤ◌, FitsSigned}
 use mir.Val.{to_z}
 use Rattle.std.specs.Int.{w64}
@@ -9,7 +9,7 @@ use Rattle.std.proofs.lemmas.List.{length-take-le, length-append}
 use Rattle.std.proofs.Math.Nat.{pow-succ', pow-le-pow_right, mul-le-mul_right}
 use Rattle.gimli_core_base.specs.declared.leb128.Fault.TheVariants.{Bad}
 use Rattle.gimli_core_base.specs.Leb128.{unsigned_number, is_negative, signed_number, fits_i64, bounded_string, signed_at}
-use Rattle.gimli_core_base.proofs.LebStrings.{pow128, unsigned_number-push, unsigned_number-below, take_at_place, drop_at_place, next_power, NextDigit, judged_from, judged_from-long, judged_from-end}
+use Rattle.gimli_core_base.proofs.LebStrings.{pow128, unsigned_number-push, unsigned_number-below, take_at_place, drop_at_place, NextDigit, judged_from, judged_from-long, judged_from-end}
 
 pub is_negative-push : (front : List ℕ) (b : ℕ) → is_negative (front ++ b ∷ []) ≡ leb 64 (b % 128)
 is_negative-push [] b = refl
@@ -46,20 +46,29 @@ pub signed_refused : (bytes string : List ℕ) → bounded_string 10 bytes ≡ O
     → (FitsSigned w64 (signed_number string) → ⊥) → Err Bad ≡ signed_at bytes
 signed_refused bytes string found past = rw (found, fits_i64-no (signed_number string) past) refl
 
--- what bit 6 of the last byte is worth
-pub record IsHalf (half n : ℕ) : Type 0 where
-  pub two_halves : 2 * half ≡ 128 ^ n
+-- half of what bit 6 of the last byte takes away
+pub record IsHalf (half n last : ℕ) : Type 0 where
+  pub two_halves : 2 * half ≡ cond (ltb last 64) 0 (128 ^ n)
   pub fits : half ≤ 2 ^ 62
 
-pub half_is : (n sum : ℕ) → n ≤ 9 → 128 ^ n ≤ 2 * sum → sum < 128 ^ n → IsHalf (1 * 2 ^ (7 * n - 1) % 2 ^ 64) n
-half_is zero sum short set digits = absurd (omega arith)
-half_is (suc n) sum short set digits =
-    let top : 2 ^ (7 * suc n - 1) ≤ 2 ^ 62 = pow-le-pow_right {n = 2} (omega arith) {i = 7 * suc n - 1} {j = 62}
-    (omega arith) in
-    let one : 7 * suc n ≡ suc (7 * suc n - 1) = omega arith in
-    let twice : 128 ^ suc n ≡ 2 * 2 ^ (7 * suc n - 1) = pow128 (suc n) ∙ ap (λ (e : ℕ). 2 ^ e) one
-    ∙ pow-succ' 2 (7 * suc n - 1) in
-    record { two_halves = omega (arith, top, twice); fits = omega (arith, top) }
+pub half_is : (n last bit : ℕ) → 0 < n → n ≤ 9 → last < 128 → bit ≡ last / 64
+    → IsHalf (bit * 2 ^ (7 * n - 1) % 2 ^ 64) n last
+half_is zero last bit some short below is = absurd (omega arith)
+half_is (suc n) last bit some short below is = elim (cases_lt last 64) [
+  | inl low ↦
+      let none : bit ≡ 0 = omega (arith, is, low) in
+      subst (λ (k : ℕ). IsHalf (k * 2 ^ (7 * suc n - 1) % 2 ^ 64) (suc n) last) (sym none)
+      (record { two_halves = rw (lt-ltb last 64 low) (omega arith); fits = omega arith })
+  | inr set ↦
+      let one : bit ≡ 1 = omega (arith, is, set, below) in
+      let top : 2 ^ (7 * suc n - 1) ≤ 2 ^ 62 = pow-le-pow_right {n = 2} (omega arith) {i = 7 * suc n - 1} {j = 62}
+      (omega arith) in
+      let more : 7 * suc n ≡ suc (7 * suc n - 1) = omega arith in
+      let twice : 128 ^ suc n ≡ 2 * 2 ^ (7 * suc n - 1) = pow128 (suc n) ∙ ap (λ (e : ℕ). 2 ^ e) more
+      ∙ pow-succ' 2 (7 * suc n - 1) in
+      subst (λ (k : ℕ). IsHalf (k * 2 ^ (7 * suc n - 1) % 2 ^ 64) (suc n) last) (sym one)
+      (record { two_halves = rw (le-ltb last 64 set) (omega (arith, top, twice)); fits = omega (arith, top) })
+]
 
 pub nine_sevens : (n : ℕ) → n ≤ 9 → 128 ^ n ≤ 2 ^ 63
 nine_sevens n short =
@@ -68,7 +77,7 @@ nine_sevens n short =
 
 -- ---- a string that ends at place i, short of the tenth byte
 
-pub positive_ends : (bytes : List ℕ) (i next : ℕ) → i < length bytes → NextDigit bytes i next → get_or bytes i 0 < 64
+positive_ends : (bytes : List ℕ) (i next : ℕ) → i < length bytes → NextDigit bytes i next → get_or bytes i 0 < 64
     → bounded_string 10 bytes ≡ Ok (take (i + 1) bytes) → Ok (to_z w64 next, i + 1) ≡ signed_at bytes
 positive_ends bytes i next inside digit low found =
     let is_z : to_z w64 next ≡ signed_number (take (i + 1) bytes) =
@@ -79,18 +88,7 @@ positive_ends bytes i next inside digit low found =
     (sym (length-take-le (i + 1) bytes (omega arith)))
     (rw (to_z_pos w64 next digit.fits) (record { sfits = digit.fits }))
 
--- bit 6 is worth half of what the bytes are
-pub bit_6 : (bytes : List ℕ) (i next : ℕ) → i < length bytes → NextDigit bytes i next → 64 ≤ get_or bytes i 0
-    → get_or bytes i 0 < 128 → 128 ^ (i + 1) ≤ 2 * next
-bit_6 bytes i next inside digit set last =
-    let b = get_or bytes i 0 in
-    let len : length (take i bytes) ≡ i = length-take-le i bytes (omega arith) in
-    let sum : next ≡ unsigned_number (take i bytes) + b % 128 * 128 ^ i = digit.number
-    ∙ rw (take_at_place bytes i inside, unsigned_number-push (take i bytes) b, len) refl in
-    let worth : 64 * 128 ^ i ≤ b % 128 * 128 ^ i = mul-le-mul_right (128 ^ i) (omega arith) in
-    omega (arith, sum, worth, next_power i)
-
-pub negative_ends : (bytes : List ℕ) (i next : ℕ) (z : ℤ) → i < length bytes → i ≤ 8 → NextDigit bytes i next
+negative_ends : (bytes : List ℕ) (i next : ℕ) (z : ℤ) → i < length bytes → i ≤ 8 → NextDigit bytes i next
     → 64 ≤ get_or bytes i 0 → get_or bytes i 0 < 128 → bounded_string 10 bytes ≡ Ok (take (i + 1) bytes)
     → z ≡ pos next -ℤ pos (128 ^ (i + 1)) → Ok (z, i + 1) ≡ signed_at bytes
 negative_ends bytes i next z inside short digit set last found z-is =
@@ -102,6 +100,22 @@ negative_ends bytes i next z inside short digit set last found z-is =
     let whole = nine_sevens (i + 1) (omega arith) in
     signed_ends bytes (take (i + 1) bytes) z (i + 1) found is_z (sym len)
     (omega (arith, ints, z-is, whole, digit.below))
+
+-- of either sign
+pub number_ends : (bytes : List ℕ) (i next : ℕ) (z : ℤ) → i < length bytes → i ≤ 8 → NextDigit bytes i next
+    → get_or bytes i 0 < 128 → bounded_string 10 bytes ≡ Ok (take (i + 1) bytes)
+    → z ≡ pos next -ℤ pos (cond (ltb (get_or bytes i 0) 64) 0 (128 ^ (i + 1))) → Ok (z, i + 1) ≡ signed_at bytes
+number_ends bytes i next z inside short digit last found z-is = elim (cases_lt (get_or bytes i 0) 64) [
+  | inl low ↦
+      let less : z ≡ pos next -ℤ pos 0 =
+      z-is ∙ ap (λ b. pos next -ℤ pos (cond b 0 (128 ^ (i + 1)))) (lt-ltb (get_or bytes i 0) 64 low) in
+      let is : z ≡ pos next = omega (arith, ints, less) in
+      ap (λ (k : ℤ). Ok (k, i + 1)) (is ∙ sym (to_z_pos w64 next digit.fits))
+      ∙ positive_ends bytes i next inside digit low found
+  | inr set ↦
+      negative_ends bytes i next z inside short digit set last found
+      (z-is ∙ ap (λ b. pos next -ℤ pos (cond b 0 (128 ^ (i + 1)))) (le-ltb (get_or bytes i 0) 64 set))
+]
 
 -- ---- the tenth byte
 

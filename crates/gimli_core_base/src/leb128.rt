@@ -1,6 +1,6 @@
 //! LEB128 (DWARF 5, 7.6): a string is bytes from 128 on, and a last one below 128.
 
-ghost use Rattle.std.specs.Prelude.{◌≡◌, ◌^◌, ◌*◌, ◌<◌, ◌≤◌, ◌-ℤ◌, pos, length, option_map};
+ghost use Rattle.std.specs.Prelude.{◌≡◌, ◌^◌, ◌*◌, ◌<◌, ◌≤◌, ◌-ℤ◌, pos, nat_lt, length, option_map, if◌then◌else◌};
 ghost use Rattle.gimli_core_base.specs.Leb128.{leb_string, unsigned_at, signed_at};
 
 mod writer;
@@ -66,15 +66,16 @@ pub fn unsigned_16(bytes: &[u8]) -> Result<(u16, usize), Fault>
     }
 }
 
-// The number of a signed string of this length, below ten, whose digits sum up to `sum` and whose
-// last byte has bit 6 set.
-fn negative(sum: u64, length: usize) -> i64
+// The number of a signed string of this length, below ten, whose digits sum up to `sum`, by its
+// last byte. It takes no branch, since no one can predict the signs.
+fn with_sign(sum: u64, last: u8, length: usize) -> i64
+    requires some { 0 < length }
     requires short { length ≤ 9 }
-    requires bit_6_set { 128 ^ length ≤ 2 * sum }
+    requires is_last { last < 128 }
     requires digits { sum < 128 ^ length }
-    ensures { result ≡ pos sum -ℤ pos (128 ^ length) }
+    ensures { result ≡ pos sum -ℤ pos (if nat_lt last 64 then 0 else 128 ^ length) }
 {
-    let half = (1u64 << (7 * length - 1)) as i64;
+    let half = (u64::from(last / 64) << (7 * length - 1)) as i64;
     sum as i64 - half - half
 }
 
@@ -92,11 +93,8 @@ pub fn signed(bytes: &[u8]) -> Result<(i64, usize), Fault>
             };
         }
         number += u64::from(*byte & 0x7f) << (7 * i);
-        if *byte < 64 {
-            return Ok((number as i64, i + 1));
-        }
         if *byte < 128 {
-            return Ok((negative(number, i + 1), i + 1));
+            return Ok((with_sign(number, *byte, i + 1), i + 1));
         }
     }
     Err(Fault::Cut)

@@ -92,7 +92,8 @@ module _ {F : Type 0} (w : LineRules) where
   -- an instruction that sets a number, if it is another before
   number_set : (i : LineInstruction) (r : Registers) (with_number : ℕ → Registers) (old n : ℕ)
       (rest : List (InstructionOf F)) → r ≡ with_number old
-      → registers_after w (to_instruction {F = F} i) r ≡ Ok (with_number n) → gives_row (to_instruction {F = F} i) ≡ false
+      → registers_after w (to_instruction {F = F} i) r ≡ Ok (with_number n)
+      → gives_row (to_instruction {F = F} i) ≡ false
       → shows w r (onto (when (not (n == old)) i) rest) ≡ shows w (with_number n) rest
   number_set i r with_number old n rest is sets no_row = by (n == old) refl
     where

@@ -5,7 +5,7 @@ use addr2line_context::{
     ArangeIndex, DW_LANG_Rust, DwLang, Error, Range, ReaderOffsetId, Runs, UnitRef, UnitRoot,
     language_of,
 };
-use addr2line_functions::{DebuggingInformationEntry, LastList, entries_raw};
+use addr2line_functions::{DebuggingInformationEntry, LastRanges, entries_raw};
 use std::alloc::Global;
 use std::test::Fail;
 
@@ -86,7 +86,7 @@ impl Question for Ranges {
         let aranges = ArangeIndex::read(alloc, unit.dwarf)?;
         let mut runs = Runs::new();
         let root = unit.root(alloc)?;
-        let mut last = LastList::new();
+        let mut last = LastRanges::new();
         let root = UnitRoot::read(alloc, unit, &root, &aranges, &mut last, &mut runs)?;
         Ok(root.ranges.as_ref().clone()?)
     }

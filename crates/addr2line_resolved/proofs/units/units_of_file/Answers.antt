@@ -1,12 +1,9 @@
-use Rattle.std.proofs.Common.{◌≡◌, sym, ap, subst, ◌∙◌, map, Option}
-use Rattle.std.specs.Prelude.{IfSome}
+use Rattle.std.proofs.Common.{◌≡◌, sym, ap, subst, ◌∙◌, map}
 use Rattle.std.proofs.lemmas.Result.{err_from_is_err_and}
 use Rattle.addr2line_functions.specs.Tiling.{whole_section}
 use Rattle.addr2line_functions.specs.UnitHeaders.{units_to_come}
 use Rattle.addr2line_functions.specs.UnitFacts.{in_file}
 use Rattle.addr2line_units.specs.CachedFiles.{CachedFile}
-use Rattle.addr2line_units.specs.declared.last_list.ReadList.{ReadList}
-use Rattle.addr2line_units.specs.LastLists.{IsListOf}
 use Rattle.addr2line_functions.specs.DwarfFiles.{DwarfFile}
 use Rattle.addr2line_functions.specs.Contexts.{facts_of_code_unit, headers_of}
 use Rattle.addr2line_resolved.specs.ResolvedUnits.{value_of_unit, new_unit, new_units, KeepNoFunctions, RunForRangesAlone}
@@ -31,8 +28,14 @@ loop-headers-init g c =
           ∙ ap (λ (s : CachedFile). headers_of s.file) of_file);
       lines = subst RunForRangesAlone (sym c.new-units.ensures.items) tt;
       functions = subst KeepNoFunctions (sym c.new-units.ensures.items) tt;
-      last = subst (λ (l : Option ReadList). IfSome l (IsListOf file)) (sym c.new-last.ensures) tt;
+      last = c.new-last.ensures.files file;
     }
+
+pub returns-in_err-headers-clause-units : goal.returns-in_err-headers-clause-units
+returns-in_err-headers-clause-units g c =
+    let p =
+    err_from_is_err_and c.from_residual.result c.from_residual.ensures.1 in
+    rw (p.1, p.2) (λ m. cc (c.in_err-headers.ensures.value m))
 
 pub returns-in_err-header-clause-units : goal.returns-in_err-header-clause-units
 returns-in_err-header-clause-units g c =

@@ -12,11 +12,11 @@ use Rattle.addr2line_units.proofs.ranges.ranges_of_attributes.Goals as goal
 pub returns-clause-ranges : goal.returns-clause-ranges
 returns-clause-ranges g c =
     let P : Result (List Range) Error → Type 0 =
-    λ r. ReturnsAsOrNoMemory (λ (v : RootRanges). v.ranges) c.or_by_run.result r in
+    λ r. ReturnsAsOrNoMemory (λ (v : RootRanges). v.ranges) c.or_by_program.result r in
     subst P (sym (ranges-found c.args.unit.now (lines_of_unit c.args.unit.now)
     (raw_attributes g.R.Reader.view g.R.Offset.ReaderOffset.count c.args.attributes.now) c.in_ok-facts.facts
     c.in_ok-declared.declared.value.items
-    c.in_ok-facts.ensures c.in_ok-declared.ensures.ranges)) c.or_by_run.ensures.ranges
+    c.in_ok-facts.ensures c.in_ok-declared.ensures.ranges)) c.or_by_program.ensures.ranges
 
 pub returns-in_err-declared-clause-ranges : goal.returns-in_err-declared-clause-ranges
 returns-in_err-declared-clause-ranges g c =

@@ -25,8 +25,8 @@ returns-in_err-abbreviation g c =
     returns_refused _ c.from_residual.result _ _ c.from_residual.ensures.1
     (λ ne. list_fault c.loop-found.found _ _ _ was.0 was.1 (c.in_err-abbreviation.ensures ne))
 
-pub with-requires-clause-counts : goal.with-requires-clause-counts
-with-requires-clause-counts g c =
+pub push-requires-clause-counts : goal.push-requires-clause-counts
+push-requires-clause-counts g c =
     let view = g.R.Reader.view in declaration-coded (view c.loop-found.input) (declaration_view c.in-Some.abbreviation)
     (view c.parse.new.input) (search rules)
 
@@ -47,8 +47,8 @@ loop-found-smaller g c =
     let view = g.R.Reader.view in item_smaller declarations-shrink (view c.loop-found.input)
     (declaration_view c.in-Some.abbreviation) (view c.parse.new.input) (search rules)
 
-pub with-requires-clause-is_new : goal.with-requires-clause-is_new
-with-requires-clause-is_new g c =
+pub push-requires-clause-is_new : goal.push-requires-clause-is_new
+push-requires-clause-is_new g c =
     let d = declaration_view c.in-Some.abbreviation in
     sym (found_by_code d.code c.loop-found.found c.loop-found.invariant.1)
     ∙ none_there (declaration_at d.code (by_code c.loop-found.found))
@@ -67,7 +67,7 @@ loop-found-preserved g c =
     ∙ ap is_some (sym c.get.ensures) ∙ is_some-map (λ a. declaration_view a.now) c.get.result
     ∙ sym c.is_some.ensures ∙ c.if-is_some.false) in (
       ap (λ (ds : List Declaration). prepend ds (listing_in bytes_left declaration (view c.parse.new.input)))
-          c.in_ok-found.ensures.ok
+          c.in_ok-push.ensures.ok
           ∙ listing_further c.loop-found.found d _ _ (view c.parse.new.input) was.0 (search rules),
-      ap repeated_code c.in_ok-found.ensures.ok ∙ repeated_push c.loop-found.found d was.1 absent,
+      ap repeated_code c.in_ok-push.ensures.ok ∙ repeated_push c.loop-found.found d was.1 absent,
     )

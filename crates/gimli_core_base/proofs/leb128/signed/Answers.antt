@@ -2,7 +2,7 @@ use Rattle.std.proofs.Common.{rules, ◌≢◌, ℕ, arith, get_or, ap, subst, s
 use Rattle.std.proofs.lemmas.Int.{ints}
 use Rattle.gimli_core_base.specs.Leb128.{bounded_string}
 use Rattle.gimli_core_base.proofs.LebStrings.{next_digit, judged_from-more, judged_from-end}
-use Rattle.gimli_core_base.proofs.LebSigns.{tenth_negative, tenth_refused, positive_ends, negative_ends, bit_6, tenth}
+use Rattle.gimli_core_base.proofs.LebSigns.{tenth_negative, tenth_refused, number_ends, tenth}
 use Rattle.gimli_core_base.proofs.leb128.signed.Goals as goal
 
 pub returns-in-127 : goal.returns-in-127
@@ -28,28 +28,8 @@ overflow_add-number c =
     c.from.ensures c.loop-i.invariant.number in
     omega (arith, digit.fits)
 
-pub overflow_cast-result-then-byte-lt64 : goal.overflow_cast-result-then-byte-lt64
-overflow_cast-result-then-byte-lt64 c =
-    let digit = next_digit c.args.bytes.now c.loop-i.i c.loop-i.number c.from.result c.loop-i-test.true (omega arith)
-    c.from.ensures c.loop-i.invariant.number in
-    record { sfits = digit.fits }
-
-pub returns-then-byte-lt64 : goal.returns-then-byte-lt64
-returns-then-byte-lt64 c =
-    let digit = next_digit c.args.bytes.now c.loop-i.i c.loop-i.number c.from.result c.loop-i-test.true (omega arith)
-    c.from.ensures c.loop-i.invariant.number in
-    positive_ends c.args.bytes.now c.loop-i.i _ c.loop-i-test.true digit c.if-byte-lt64.true
-    (judged_from-end 10 c.args.bytes.now c.loop-i.i (bounded_string 10 c.args.bytes.now) c.loop-i-test.true
-    (omega arith) (omega arith) c.loop-i.invariant.judges)
-
-pub negative-requires-clause-bit_6_set : goal.negative-requires-clause-bit_6_set
-negative-requires-clause-bit_6_set c =
-    let digit = next_digit c.args.bytes.now c.loop-i.i c.loop-i.number c.from.result c.loop-i-test.true (omega arith)
-    c.from.ensures c.loop-i.invariant.number in
-    bit_6 c.args.bytes.now c.loop-i.i _ c.loop-i-test.true digit c.if-byte-lt64.false c.if-byte-lt128.true
-
-pub negative-requires-clause-digits : goal.negative-requires-clause-digits
-negative-requires-clause-digits c =
+pub with_sign-requires-clause-digits : goal.with_sign-requires-clause-digits
+with_sign-requires-clause-digits c =
     let digit = next_digit c.args.bytes.now c.loop-i.i c.loop-i.number c.from.result c.loop-i-test.true (omega arith)
     c.from.ensures c.loop-i.invariant.number in
     digit.below
@@ -60,8 +40,8 @@ returns-then-byte-lt128 c =
     c.from.ensures c.loop-i.invariant.number in
     let found = judged_from-end 10 c.args.bytes.now c.loop-i.i (bounded_string 10 c.args.bytes.now) c.loop-i-test.true
     (omega arith) c.if-byte-lt128.true c.loop-i.invariant.judges in
-    negative_ends c.args.bytes.now c.loop-i.i _ _ c.loop-i-test.true (omega arith) digit c.if-byte-lt64.false
-    c.if-byte-lt128.true found (search (rules, ints))
+    number_ends c.args.bytes.now c.loop-i.i _ _ c.loop-i-test.true (omega arith) digit c.if-byte-lt128.true found
+    (search (rules, ints))
 
 pub loop-i-preserved : goal.loop-i-preserved
 loop-i-preserved c =

@@ -5,6 +5,6 @@ use Rattle.addr2line_index.proofs.bounded_range.BoundedRange.pair_from.Goals as 
 pub returns : goal.returns
 returns c =
     let e = c.args.self.now in
-    let behind = c.min-behind.result in
-    next_pair c.args.from e (e.shared.first + (c.saturating_sub-more.result - behind)) (e.after - behind) behind
+    let later = c.min-later.result in
+    next_pair c.args.from e (e.shared.first + (c.saturating_sub-more.result - later)) (e.after - later) later
     c.requires c.if-self-from.false (omega arith) (omega arith) refl

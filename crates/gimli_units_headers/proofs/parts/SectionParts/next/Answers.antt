@@ -9,7 +9,8 @@ use Rattle.gimli_units_headers.proofs.parts.SectionParts.next.Goals as goal
 
 pub returns-then-is_empty-clause-order : goal.returns-then-is_empty-clause-order
 returns-then-is_empty-clause-order g c =
-    let none = none_to_come (counted_part g.R.Offset.ReaderOffset.limit g.P.SectionPart.read_in) c.args.self.now (search rules) in
+    let none =
+    none_to_come (counted_part g.R.Offset.ReaderOffset.limit g.P.SectionPart.read_in) c.args.self.now (search rules) in
     (ap (λ l. l.items) none, ap fault_of none)
 
 pub parse-requires : goal.parse-requires
@@ -60,6 +61,7 @@ returns-in-Err-clause-order g c =
       rest = g.R.Reader.view c.empty.new.self;
     })
     (search rules)
-    (λ ne. fault_is_next (counted_part g.R.Offset.ReaderOffset.limit g.P.SectionPart.read_in) c.args.self.now (g.R.Offset.ReaderOffset.count c.next_offset.result)
+    (λ ne. fault_is_next (counted_part g.R.Offset.ReaderOffset.limit g.P.SectionPart.read_in) c.args.self.now
+    (g.R.Offset.ReaderOffset.count c.next_offset.result)
     (g.R.Reader.view c.in_ok-bytes.bytes) c.in-Err.fault (search rules) (search rules) c.next_offset.ensures.value
     c.in-Err.ensures.value)
