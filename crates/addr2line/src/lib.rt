@@ -15,11 +15,11 @@ pub use addr2line_split::{FileSource, MapSource, SplitFile, SplitSource, load_sp
 
 /// What holds of the definitions, as contracts.
 pub mod laws {
-    pub use addr2line_demangle::laws as demangling;
-    pub use addr2line_elf::laws as symbols;
+    pub use addr2line_demangle::name_laws as demangling;
+    pub use addr2line_elf::symbol_laws as symbols;
     pub use addr2line_index::index_laws as lookups;
     pub use addr2line_names::laws as names;
-    pub use addr2line_paths::laws as paths;
+    pub use addr2line_paths::path_laws as paths;
     pub use addr2line_spec::{
         call_laws as calls, lookup_laws as meaning, suspension_laws as suspension,
     };

@@ -56,7 +56,10 @@ impl Image {
     }
 
     /// Its sections, through readers that borrow their bytes.
-    pub fn borrowed(&self, alloc: Global) -> Result<Dwarf<EndianSlice<'_, RunTimeEndian>>, Error> {
+    pub fn load_borrowed(
+        &self,
+        alloc: Global,
+    ) -> Result<Dwarf<EndianSlice<'_, RunTimeEndian>>, Error> {
         Dwarf::load(
             alloc,
             |id: SectionId| -> Result<EndianSlice<'_, RunTimeEndian>, Error> {
@@ -66,7 +69,7 @@ impl Image {
     }
 
     /// Its sections, through readers that share their bytes.
-    pub fn shared(&self, alloc: Global) -> Result<Dwarf<Shared>, Error> {
+    pub fn load_shared(&self, alloc: Global) -> Result<Dwarf<Shared>, Error> {
         Dwarf::load(alloc, |id: SectionId| -> Result<Shared, Error> {
             self.section(id).copy()
         })

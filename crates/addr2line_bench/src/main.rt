@@ -106,7 +106,7 @@ fn borrowed_context(
     alloc: Global,
     image: &Image,
 ) -> Result<Context<EndianSlice<'_, RunTimeEndian>>, Error> {
-    match image.borrowed(alloc) {
+    match image.load_borrowed(alloc) {
         Ok(dwarf) => Context::from_dwarf(alloc, dwarf),
         Err(error) => Err(error),
     }
@@ -117,7 +117,7 @@ fn shared_context(
     alloc: Global,
     image: &Image,
 ) -> Result<Context<EndianBytes<RunTimeEndian>>, Error> {
-    match image.shared(alloc) {
+    match image.load_shared(alloc) {
         Ok(dwarf) => Context::from_dwarf(alloc, dwarf),
         Err(error) => Err(error),
     }

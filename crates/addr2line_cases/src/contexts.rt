@@ -2,7 +2,9 @@
 
 use crate::answer::{Answer, without_refusals};
 use crate::case::{Asked, Case};
-use crate::files::{Borrowed, File, Sections, borrowed, borrowed_files, shared, shared_files};
+use crate::files::{
+    Borrowed, File, Sections, borrow_sections, borrowed_files, share_sections, shared_files,
+};
 use crate::question::{Question, Steps};
 use crate::{frames, loads, places};
 use addr2line_context::{Context, Dwarf, Error, Reader, SectionId};
@@ -47,7 +49,7 @@ fn longest(one: String, other: String) -> String {
 // Through borrowed bytes.
 fn answers_by_borrowed(alloc: Global, files: &[File], case: &Case) -> Result<String, AllocError> {
     let named = borrowed_files(alloc, files)?;
-    let file = borrowed(alloc, &case.file)?;
+    let file = borrow_sections(alloc, &case.file)?;
     let context = match context_of(alloc, &file, supplement_in(case, &named)) {
         Err(Error::Memory) => context_of(alloc, &file, supplement_in(case, &named)),
         made => made,
@@ -71,7 +73,7 @@ fn answers_by_sections(alloc: Global, files: &[File], case: &Case) -> Result<Str
 // Through shared bytes.
 fn answers_by_shared(alloc: Global, files: &[File], case: &Case) -> Result<String, AllocError> {
     let named = shared_files(alloc, files)?;
-    let file = shared(alloc, &case.file)?;
+    let file = share_sections(alloc, &case.file)?;
     let context = match counted_context_of(alloc, &file, supplement_in(case, &named)) {
         Err(Error::Memory) => counted_context_of(alloc, &file, supplement_in(case, &named)),
         made => made,
@@ -151,12 +153,12 @@ fn dwarf_of<R: Reader>(
     supplement: Option<&Sections<R>>,
 ) -> Result<Dwarf<R>, Error> {
     match (file.load(alloc), supplement) {
-        (Ok(dwarf), Some(supplement)) => supplemented(alloc, dwarf, supplement),
+        (Ok(dwarf), Some(supplement)) => with_supplement(alloc, dwarf, supplement),
         (loaded, _) => loaded,
     }
 }
 
-fn supplemented<R: Reader>(
+fn with_supplement<R: Reader>(
     alloc: Global,
     mut dwarf: Dwarf<R>,
     supplement: &Sections<R>,
@@ -177,12 +179,12 @@ fn sections_of<R: Reader>(
         return Ok(None);
     };
     match named.get(number) {
-        Some(file) => counted(alloc, file),
+        Some(file) => load_counted(alloc, file),
         None => Ok(None),
     }
 }
 
-fn counted<R: Reader>(alloc: Global, file: &Sections<R>) -> loads::Sections<R> {
+fn load_counted<R: Reader>(alloc: Global, file: &Sections<R>) -> loads::Sections<R> {
     match file.load(alloc) {
         Ok(dwarf) => match Rc::new(alloc, dwarf) {
             Ok(dwarf) => Ok(Some(dwarf)),

@@ -117,7 +117,10 @@ pub type Borrowed<'a> = EndianSlice<'a, LittleEndian>;
 pub type Shared = EndianBytes<LittleEndian>;
 
 /// The sections of a file, through readers that borrow their bytes.
-pub fn borrowed<'a>(alloc: Global, file: &'a File) -> Result<Sections<Borrowed<'a>>, AllocError> {
+pub fn borrow_sections<'a>(
+    alloc: Global,
+    file: &'a File,
+) -> Result<Sections<Borrowed<'a>>, AllocError> {
     let mut readers = Vec::new(alloc);
     for (id, bytes) in file.sections.iter() {
         readers.push((*id, EndianSlice::new(bytes, LittleEndian)))?;
@@ -129,7 +132,7 @@ pub fn borrowed<'a>(alloc: Global, file: &'a File) -> Result<Sections<Borrowed<'
 }
 
 /// The same, through readers that share them.
-pub fn shared(alloc: Global, file: &File) -> Result<Sections<Shared>, AllocError> {
+pub fn share_sections(alloc: Global, file: &File) -> Result<Sections<Shared>, AllocError> {
     let mut readers = Vec::new(alloc);
     for (id, bytes) in file.sections.iter() {
         let bytes = Bytes::copy_from_slice(alloc, bytes)?;
@@ -148,7 +151,7 @@ pub fn borrowed_files<'a>(
 ) -> Result<Vec<Sections<Borrowed<'a>>>, AllocError> {
     let mut all = Vec::new(alloc);
     for file in files {
-        all.push(borrowed(alloc, file)?)?;
+        all.push(borrow_sections(alloc, file)?)?;
     }
     Ok(all)
 }
@@ -157,7 +160,7 @@ pub fn borrowed_files<'a>(
 pub fn shared_files(alloc: Global, files: &[File]) -> Result<Vec<Sections<Shared>>, AllocError> {
     let mut all = Vec::new(alloc);
     for file in files {
-        all.push(shared(alloc, file)?)?;
+        all.push(share_sections(alloc, file)?)?;
     }
     Ok(all)
 }

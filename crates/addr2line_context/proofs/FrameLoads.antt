@@ -40,7 +40,7 @@ fewer_loads_of_frames c new a (Ok done) waits fewer =
     by (suc n) h some = let next = h (omega arith) in omega (arith, next)
 fewer_loads_of_frames c new a (Err e) waits fewer = tt
 
--- what settling found tells whether they wait
+-- whether they wait, by what settling found
 pub frames_tell : (us : List ResolvedUnit) (m : Lookup (Result (List Frame) Error))
     (settled : Result (Settled FramePlace) Error) (r : Result Bool Error) → SettlesFrames us m settled
     → TellsIfWaiting settled r → TellsWaiting m r

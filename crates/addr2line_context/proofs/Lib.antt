@@ -1,18 +1,18 @@
-pub mod ContextParts
-pub mod NewContexts
-pub mod ContextLoads
-pub mod KeptUnits
-pub mod ContextWalks
-pub mod ContextLooks
-pub mod AskedUnits
+mod ContextParts
+mod NewContexts
+mod ContextLoads
+mod KeptUnits
+mod ContextWalks
+mod ContextLooks
+mod AskedUnits
 pub mod AnsweredFirst
-pub mod SkippedLoads
-pub mod ResumedWithoutFiles
-pub mod SettledContexts
-pub mod FirstLoads
+mod SkippedLoads
+mod ResumedWithoutFiles
+mod SettledContexts
+mod FirstLoads
 pub mod FoundRows
-pub mod LookupResults
+mod LookupResults
 pub mod ResumedLookups
-pub mod UnitRuns
+mod UnitRuns
 pub mod FrameLoads
 pub mod UnitLoads

@@ -15,18 +15,18 @@ use Rattle.addr2line_context.proofs.SkippedLoads.{none_recorded, none_is_recorde
 -- ---- units without an answer
 
 -- how many there are
-abbrev pub unanswered : FirstAnswers → ℕ
-unanswered [] = 0
-unanswered (None ∷ answers) = unanswered answers + 1
-unanswered (Some first ∷ answers) = unanswered answers
+abbrev pub unanswered_count : FirstAnswers → ℕ
+unanswered_count [] = 0
+unanswered_count (None ∷ answers) = unanswered_count answers + 1
+unanswered_count (Some first ∷ answers) = unanswered_count answers
 
-at_most : (answers : FirstAnswers) → unanswered answers ≤ length answers
+at_most : (answers : FirstAnswers) → unanswered_count answers ≤ length answers
 at_most [] = omega arith
 at_most (None ∷ answers) = let h = at_most answers in omega (arith, h)
 at_most (Some first ∷ answers) = let h = at_most answers in omega (arith, h)
 
 one_fewer : (answers : FirstAnswers) (n : ℕ) (first : FirstAnswer) → recorded_answer answers n ≡ None
-    → n < length answers → unanswered (set answers n (Some first)) + 1 ≡ unanswered answers
+    → n < length answers → unanswered_count (set answers n (Some first)) + 1 ≡ unanswered_count answers
 one_fewer [] n first none within = absurd (omega (arith, within))
 one_fewer (None ∷ answers) zero first none within = refl
 one_fewer (Some x ∷ answers) zero first none within = absurd cc
@@ -59,9 +59,9 @@ module _ {A : Type 0} (plain : FileContext) (lookup : FirstAnswers → Lookup A)
       recorded : none_after answers p ≡ set answers p.number (Some (Ok None))
       recorded = none_is_recorded (with_answers plain answers) p its_unit.0 its_unit.1
 
-      fewer : unanswered (none_after answers p) + 1 ≡ unanswered answers
+      fewer : unanswered_count (none_after answers p) + 1 ≡ unanswered_count answers
       fewer =
-          ap (λ left. unanswered left + 1) recorded
+          ap (λ left. unanswered_count left + 1) recorded
           ∙ one_fewer answers p.number (Ok None) (none_recorded (with_answers plain answers) p its_unit.0 its_unit.1)
           (subst (λ n. p.number < n) (sym enough)
           (slice_get_within plain.context.units p.number its_unit.0 its_unit.1.0))
@@ -75,7 +75,7 @@ module _ {A : Type 0} (plain : FileContext) (lookup : FirstAnswers → Lookup A)
   abbrev resumed : ℕ → FirstAnswers → Lookup A
   resumed k answers = (resume plain lookup (replicate k None) answers).0
 
-  pub finds_without_files : (k : ℕ) (answers : FirstAnswers) → has_enough answers → unanswered answers ≤ k
+  pub finds_without_files : (k : ℕ) (answers : FirstAnswers) → has_enough answers → unanswered_count answers ≤ k
       → resumed k answers ≡ lookup (answers_without_files answers)
   finds_without_files zero answers enough few = by (lookup answers) refl
     where
@@ -85,7 +85,7 @@ module _ {A : Type 0} (plain : FileContext) (lookup : FirstAnswers → Lookup A)
   finds_without_files (suc k) answers enough few = by (lookup answers) refl (finds_without_files k)
     where
       by : (l : Lookup A) → lookup answers ≡ l
-          → ((left : FirstAnswers) → has_enough left → unanswered left ≤ k
+          → ((left : FirstAnswers) → has_enough left → unanswered_count left ≤ k
           → resumed k left ≡ lookup (answers_without_files left))
           → (if_output l (λ x. (output x, answers))
           (λ p. resume plain lookup (replicate k None) (none_after answers p))).0
@@ -99,7 +99,7 @@ module _ {A : Type 0} (plain : FileContext) (lookup : FirstAnswers → Lookup A)
 -- ---- frames and units
 
 module _ (c : AnsweredContext) (a : ℕ) (enough : length c.answers ≡ length c.plain.context.units) where
-  few : unanswered c.answers ≤ length c.plain.context.units
+  few : unanswered_count c.answers ≤ length c.plain.context.units
   few = let h = at_most c.answers in omega (arith, h, enough)
 
   pub frames_resumed : (without_loads c.plain (λ answers. frames c.plain (naming_in c.plain) answers a) c.answers).0

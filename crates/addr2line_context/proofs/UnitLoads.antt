@@ -25,7 +25,7 @@ first_load_of_unit c a p h =
     (λ q. unit_under c.plain (naming_in c.plain) a q.unit) (λ q (first : FirstAnswer). first) p
     (covering_pairs ranges_of c.plain.context.units a) h)
 
--- what settling found tells whether it waits
+-- whether it waits, by what settling found
 pub unit_tells : (vs : List AnsweredUnit) (m : Lookup (Option UnitInFile)) (settled : Result (Settled ℕ) Error)
     (r : Result Bool Error) → SettlesUnit vs m settled → TellsIfWaiting settled r → TellsWaiting m r
 unit_tells vs m (Ok Waits) r h is = subst (TellsWaiting m) (sym is) h

@@ -1,10 +1,10 @@
-pub mod DotPairs
-pub mod PathGrammar
-pub mod ElementLists
-pub mod DigitTexts
-pub mod ElementParts
-pub mod PlainElements
-pub mod PathSteps
-pub mod LlvmSuffixes
-pub mod WholeNames
+mod DotPairs
+mod PathGrammar
+mod ElementLists
+mod DigitTexts
+mod ElementParts
+mod PlainElements
+mod PathSteps
+mod LlvmSuffixes
+mod WholeNames
 mod LegacyNameExamples

@@ -7,7 +7,7 @@ use Rattle.std.proofs.Math.Seq.{take-append_seam, drop-append_seam}
 use Rattle.std.proofs.lemmas.Bool.{and_parts, and_from, ltb-true, leb-true, lt-ltb, le-leb, cond-true, cond-false, eqb-true}
 use Rattle.std.proofs.lemmas.List.{take-append-drop, length-append, length-take}
 use Rattle.std.proofs.lemmas.List.Folds.{length-prefix_len}
-use Rattle.addr2line_demangle.specs.LegacyNames.{Element, first_element, length_digits, after_digits, stated_length, Path, add_first, path_end, element_or_end, path_within, path_of}
+use Rattle.addr2line_demangle.specs.LegacyNames.{Element, first_element, length_digits, after_digits, stated_length, MangledPath, add_first, path_end, element_or_end, path_within, path_of}
 use Rattle.addr2line_demangle.specs.LegacyNameLaws.{IsElementAndRest, IsPath}
 use Rattle.addr2line_demangle.proofs.PathSteps.{step}
 
@@ -141,11 +141,11 @@ first_is_read text =
       | false ↦ λ e. tt
     ] refl
 
-end_is_read : (text : List ℕ) (path : Path) → path_end text ≡ Some path
+end_is_read : (text : List ℕ) (path : MangledPath) → path_end text ≡ Some path
     → IsPath text path.elements path.suffix
 end_is_read [] path h = cc
 end_is_read (b ∷ text) path h =
-    let F : Path → Type 0 = λ p. IsPath (b ∷ text) p.elements p.suffix in
+    let F : MangledPath → Type 0 = λ p. IsPath (b ∷ text) p.elements p.suffix in
     elim (b == 69) as
     (λ t. (b == 69) ≡ t
     → cond t (Some (record { elements = []; suffix = text })) None ≡ Some path → F path) [
@@ -154,17 +154,17 @@ end_is_read (b ∷ text) path h =
       | false ↦ λ e h. cc
     ] refl h
 
-more_is_read : (o : Option Path) (e : Element) (text : List ℕ) (path : Path)
-    → ((q : Path) → o ≡ Some q → IsPath e.rest q.elements q.suffix)
+more_is_read : (o : Option MangledPath) (e : Element) (text : List ℕ) (path : MangledPath)
+    → ((q : MangledPath) → o ≡ Some q → IsPath e.rest q.elements q.suffix)
     → IsElementAndRest text e.text e.rest → option_map (add_first e.text) o ≡ Some path
     → IsPath text path.elements path.suffix
 more_is_read None e text path rest first h = cc
 more_is_read (Some q) e text path rest first h =
-    let F : Path → Type 0 = λ p. IsPath text p.elements p.suffix in
+    let F : MangledPath → Type 0 = λ p. IsPath text p.elements p.suffix in
     let same : add_first e.text q ≡ path = cc in
     subst F same (e.rest, first, rest q refl)
 
-read_within : (n : ℕ) (text : List ℕ) (path : Path) → path_within n text ≡ Some path
+read_within : (n : ℕ) (text : List ℕ) (path : MangledPath) → path_within n text ≡ Some path
     → IsPath text path.elements path.suffix
 unfolding path_within
 read_within zero text path h = cc
@@ -178,6 +178,6 @@ read_within (suc n) text path h =
           (λ q k. read_within n e.rest q k) first h
     ] (first_is_read text) h
 
-pub only_paths_are_read : (text : List ℕ) (path : Path) → path_of text ≡ Some path
+pub only_paths_are_read : (text : List ℕ) (path : MangledPath) → path_of text ≡ Some path
     → IsPath text path.elements path.suffix
 only_paths_are_read text path h = read_within (length text) text path h

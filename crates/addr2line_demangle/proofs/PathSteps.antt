@@ -6,7 +6,7 @@ use Rattle.std.proofs.lemmas.Bool.{and_parts, ltb-true, cond-false, ne_eqb}
 use Rattle.std.proofs.lemmas.List.{append_assoc, append-nil, length-drop}
 use Rattle.std.proofs.lemmas.List.Sums.{prefix_len-le-length}
 use Rattle.std.proofs.lemmas.Str.{IsAscii-drop}
-use Rattle.addr2line_demangle.specs.LegacyNames.{Element, first_element, after_digits, stated_length, Path, add_first, path_end, element_or_end, path_within, path_of}
+use Rattle.addr2line_demangle.specs.LegacyNames.{Element, first_element, after_digits, stated_length, MangledPath, add_first, path_end, element_or_end, path_within, path_of}
 
 abbrev has_element : List ℕ → Bool
 has_element text =
@@ -103,13 +103,13 @@ step (b ∷ text) =
 -- ---- elements already read
 
 -- further elements before those of a path
-abbrev pub with_elements_before : List (List ℕ) → Path → Path
+abbrev pub with_elements_before : List (List ℕ) → MangledPath → MangledPath
 with_elements_before es path = record { elements = es ++ path.elements; suffix = path.suffix }
 
-abbrev pub path_after : List (List ℕ) → Option Path → Option Path
+abbrev pub path_after : List (List ℕ) → Option MangledPath → Option MangledPath
 path_after es path = option_map (with_elements_before es) path
 
-one_more : (es : List (List ℕ)) (e : List ℕ) (path : Option Path)
+one_more : (es : List (List ℕ)) (e : List ℕ) (path : Option MangledPath)
     → path_after es (option_map (add_first e) path) ≡ path_after (es ++ e ∷ []) path
 one_more es e None = refl
 one_more es e (Some path) =

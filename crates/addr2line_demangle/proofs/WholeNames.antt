@@ -5,7 +5,7 @@ use Rattle.std.specs.List.{list_all}
 use Rattle.std.specs.Option.{option_or}
 use Rattle.std.proofs.lemmas.Bool.{and_from, lt-ltb, cond-true}
 use Rattle.std.proofs.lemmas.Str.{IsAscii-take, IsAscii-drop}
-use Rattle.addr2line_demangle.specs.LegacyNames.{Path, after_prefix, path_bytes, is_llvm_suffix, without_llvm, path_of, path_text, rust_text}
+use Rattle.addr2line_demangle.specs.LegacyNames.{MangledPath, after_prefix, path_bytes, is_llvm_suffix, without_llvm, path_of, path_text, rust_text}
 
 all_ascii : (name : List ℕ) → IsAscii name → list_all is_ascii name ≡ true
 all_ascii [] h = refl
@@ -64,7 +64,7 @@ ascii_path name path h e =
 
 -- ---- the name's text
 
-pub whole_text : (name path : List ℕ) (p : Path) → IsAscii name
+pub whole_text : (name path : List ℕ) (p : MangledPath) → IsAscii name
     → Some path ≡ path_bytes (without_llvm name) → path_of path ≡ Some p
     → path_text p ≡ rust_text name
 whole_text name path p h e k =

@@ -4,7 +4,7 @@ use Rattle.std.specs.Char.{is_ascii_digit}
 use Rattle.std.specs.List.{list_all}
 use Rattle.std.specs.Str.Parse.{digits_value}
 use Rattle.addr2line_demangle.specs.LegacyElements.{dollar, dot, element_text}
-use Rattle.addr2line_demangle.specs.LegacyNames.{Path, end_of_path, path_of}
+use Rattle.addr2line_demangle.specs.LegacyNames.{MangledPath, end_of_path, path_of}
 
 -- a text is decimal digits, as many as there are, then an element of the length that they write,
 -- and a rest
@@ -32,7 +32,7 @@ PathsAreRead =
 -- and nothing else is read
 abbrev pub OnlyPathsAreRead : Type 0
 OnlyPathsAreRead =
-    (text : List ℕ) (path : Path) → path_of text ≡ Some path
+    (text : List ℕ) (path : MangledPath) → path_of text ≡ Some path
     → IsPath text path.elements path.suffix
 
 -- the text of an element without dollar signs and dots is the element

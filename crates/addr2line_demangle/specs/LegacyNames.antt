@@ -83,32 +83,32 @@ first_element text =
     else None
 
 -- a path's elements, and the text after its end
-pub record Path : Type 0 where
+pub record MangledPath : Type 0 where
   pub elements : List (List ℕ)
   pub suffix : List ℕ
 
-abbrev pub add_first : List ℕ → Path → Path
+abbrev pub add_first : List ℕ → MangledPath → MangledPath
 add_first element path = record { elements = element ∷ path.elements; suffix = path.suffix }
 
 -- the path's end
-abbrev pub path_end : List ℕ → Option Path
+abbrev pub path_end : List ℕ → Option MangledPath
 path_end text =
     if slice_index text 0 == end_of_path then Some (record { elements = []; suffix = drop 1 text })
     else None
 
 -- an element and the path after it, or the path's end
-abbrev pub element_or_end : Option Element → Option Path → (List ℕ → Option Path)
-    → Option Path
+abbrev pub element_or_end : Option Element → Option MangledPath → (List ℕ → Option MangledPath)
+    → Option MangledPath
 element_or_end None end rest = end
 element_or_end (Some e) end rest = option_map (add_first e.text) (rest e.rest)
 
 -- a path of fewer than n elements: as many as there are, and an 'E'
-unfoldable pub path_within : ℕ → List ℕ → Option Path
+unfoldable pub path_within : ℕ → List ℕ → Option MangledPath
 path_within zero text = None
 path_within (suc n) text = element_or_end (first_element text) (path_end text) (path_within n)
 
 -- each element takes a byte or more, so there are fewer of them than bytes
-abbrev pub path_of : List ℕ → Option Path
+abbrev pub path_of : List ℕ → Option MangledPath
 path_of text = path_within (length text) text
 
 -- ---- the whole name
@@ -130,7 +130,7 @@ elements_text [] = []
 elements_text (e ∷ es) = element_text e ++ flat_map (λ f. codes "::" ++ element_text f) es
 
 -- the text of a path of one element or more, with its suffix
-abbrev pub path_text : Path → Option (List ℕ)
+abbrev pub path_text : MangledPath → Option (List ℕ)
 path_text path =
     if nat_lt 0 (length path.elements) && is_suffix path.suffix
     then Some (elements_text (without_hash path.elements) ++ path.suffix)

@@ -2,7 +2,7 @@
 #![tactic(auto)]
 
 mod elements;
-pub mod laws;
+pub mod name_laws;
 mod names;
 mod paths;
 

@@ -1,11 +1,11 @@
-pub mod Loads
-pub mod CountedReads
-pub mod TextLemmas
-pub mod NameLemmas
-pub mod NamePartLemmas
-pub mod SymbolNames
-pub mod FirstHighestSymbol
-pub mod SectionTableRoom
-pub mod SymbolChoice
-pub mod SymbolStretchLemmas
-pub mod SymbolSweepLemmas
+mod Loads
+mod CountedReads
+mod TextLemmas
+mod NameLemmas
+mod NamePartLemmas
+mod SymbolNames
+mod FirstHighestSymbol
+mod SectionTableRoom
+mod SymbolChoice
+mod SymbolStretchLemmas
+mod SymbolSweepLemmas

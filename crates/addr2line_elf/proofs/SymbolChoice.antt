@@ -4,7 +4,7 @@ use Rattle.std.specs.List.{find, filter_map, cons_option}
 use Rattle.std.specs.List.Sorted.{IsSortedBy, IsStableBy}
 use Rattle.std.specs.Option.{is_some, option_and_then}
 use Rattle.std.proofs.lemmas.Bool.{cases_lt, lt-ltb, le-ltb, ltb-false}
-use Rattle.addr2line_elf.specs.declared.entries.SymbolEntry.{SymbolEntry}
+use Rattle.addr2line_elf.specs.declared.symbol_entries.SymbolEntry.{SymbolEntry}
 use Rattle.addr2line_elf.specs.declared.stretch.SymbolStretch.{SymbolStretch}
 use Rattle.gimli_core_readers.specs.View.{View}
 use Rattle.gimli_core_readers.specs.Results.{◌>>=◌}
@@ -252,10 +252,10 @@ best_symbol texts a (e ∷ es) named =
     ∙ ap (higher (if_holds a (symbol_of texts e))) (best_symbol texts a es named.1)
     ∙ sym (one_more a (symbol_of texts e) (filter_map (symbol_of texts) es))
 
-pub divided : (texts : List ℕ) (entries sorted : List SymbolEntry) (stretches : List SymbolStretch)
+pub stretches_divide : (texts : List ℕ) (entries sorted : List SymbolEntry) (stretches : List SymbolStretch)
     → IsSortedBy comes_before sorted → IsStableBy comes_before entries sorted → AnswersFor sorted stretches
     → AreNamed texts entries → IsDivided texts entries stretches
-divided texts entries sorted stretches up stable answer named =
+stretches_divide texts entries sorted stretches up stable answer named =
     record {
       order = answer.order;
       answers = λ a fits. ap (option_and_then (symbol_of texts)) (answer.answers a fits

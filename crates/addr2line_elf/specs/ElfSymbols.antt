@@ -9,7 +9,7 @@ use Rattle.addr2line_elf.specs.declared.class.Class.{Class}
 use Rattle.addr2line_elf.specs.declared.constants.TheConstants.{SHN_UNDEF, SHT_SYMTAB, SHT_DYNSYM, STT_FUNC}
 use Rattle.addr2line_elf.specs.declared.error.LoadError.{LoadError}
 use Rattle.addr2line_elf.specs.declared.headers.SectionHeader.{SectionHeader}
-use Rattle.addr2line_elf.specs.declared.entries.SymbolEntry.{SymbolEntry}
+use Rattle.addr2line_elf.specs.declared.symbol_entries.SymbolEntry.{SymbolEntry}
 use Rattle.addr2line_elf.specs.ElfClasses.{symbol_size}
 use Rattle.addr2line_elf.specs.SymbolEntries.{symbol_entry}
 use Rattle.gimli_core_readers.specs.Results.{◌>>=◌}

@@ -62,7 +62,7 @@ pub record IsLongestText (bytes : List ℕ) (n : ℕ) : Type 0 where
   pub valid : IsUtf8 (take n bytes)
   pub longest : (m : ℕ) → n < m → m ≤ length bytes → ¬ (IsUtf8 (take m bytes))
 
--- so many bytes end with the last zero byte; 0, where there is none
+-- how many bytes end with the last zero byte; 0, where there is none
 pub record IsLastZero (bytes : List ℕ) (n : ℕ) : Type 0 where
   pub within : n ≤ length bytes
   pub zero_at : 0 < n → slice_index bytes (n - 1) ≡ 0

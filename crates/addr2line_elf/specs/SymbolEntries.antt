@@ -3,7 +3,7 @@ use Rattle.gimli_core_readers.specs.Parsers.{Parser, ◌>>=◌, give, skip}
 use Rattle.gimli_core_readers.specs.NumberParsers.{fixed}
 use Rattle.addr2line_elf.specs.declared.class.Class.{Class}
 use Rattle.addr2line_elf.specs.declared.class.Class.TheVariants.{Elf32, Elf64}
-use Rattle.addr2line_elf.specs.declared.entries.SymbolEntry.{SymbolEntry}
+use Rattle.addr2line_elf.specs.declared.symbol_entries.SymbolEntry.{SymbolEntry}
 
 -- name, value, size, info, other, section
 unfoldable pub entry_of_32 : Parser SymbolEntry

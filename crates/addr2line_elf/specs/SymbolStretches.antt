@@ -3,7 +3,7 @@ use Rattle.std.specs.Prelude.{◌≡◌, ℕ, ◌+◌, ◌-◌, ◌^◌, ◌≤�
 use Rattle.std.specs.List.{filter_map}
 use Rattle.std.specs.List.Sorted.{IsNonDecreasingBy}
 use Rattle.std.specs.Option.{is_some, option_and_then}
-use Rattle.addr2line_elf.specs.declared.entries.SymbolEntry.{SymbolEntry}
+use Rattle.addr2line_elf.specs.declared.symbol_entries.SymbolEntry.{SymbolEntry}
 use Rattle.addr2line_elf.specs.declared.stretch.SymbolStretch.{SymbolStretch}
 use Rattle.addr2line_elf.specs.ElfSymbols.{symbol_of, symbol_at}
 

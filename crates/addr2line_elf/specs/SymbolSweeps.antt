@@ -2,7 +2,7 @@
 use Rattle.std.specs.Prelude.{◌≡◌, ℕ, ◌+◌, vec_len, ◌<◌, ◌≤◌, nat_le, Bool, List, [], ◌∷◌, ◌++◌, map, Option, Some, None, if◌then◌else◌}
 use Rattle.std.specs.List.{find}
 use Rattle.std.specs.List.Sorted.{IsNonDecreasingBy}
-use Rattle.addr2line_elf.specs.declared.entries.SymbolEntry.{SymbolEntry}
+use Rattle.addr2line_elf.specs.declared.symbol_entries.SymbolEntry.{SymbolEntry}
 use Rattle.addr2line_elf.specs.declared.stretch.SymbolStretch.{SymbolStretch}
 use Rattle.addr2line_elf.specs.declared.sweep.Sweep.{Sweep}
 use Rattle.addr2line_elf.specs.ElfSymbols.{covers}

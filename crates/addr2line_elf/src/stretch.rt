@@ -5,7 +5,7 @@ ghost use Rattle.std.specs.List.{prefix_len};
 ghost use Rattle.std.specs.List.Sorted.{IsNonDecreasingBy};
 ghost use Rattle.addr2line_elf.specs.SymbolStretches.{last_of, ends_before, entry_at};
 
-use crate::entries::SymbolEntry;
+use crate::symbol_entries::SymbolEntry;
 
 /// The addresses up to one of them, from the end of the stretch before on, and the entry of their
 /// symbol, if they have one.

@@ -8,9 +8,9 @@ ghost use Rattle.addr2line_elf.specs.declared.error.LoadError.TheVariants.{Memor
 ghost use Rattle.addr2line_elf.specs.SymbolStretches.{greatest_address, last_covered, last_of, entry_at, AreNamed, IsDivided};
 ghost use Rattle.addr2line_elf.specs.SymbolSweeps.{entry_covers, first_active, still_active, EndsAbove, IsFilledTo, IsSweptTo, Falls, AnswersFor, stretch_count};
 
-use crate::entries::SymbolEntry;
 use crate::error::LoadError;
 use crate::stretch::SymbolStretch;
+use crate::symbol_entries::SymbolEntry;
 use std::alloc::Global;
 use std::cmp::Ordering;
 

@@ -14,13 +14,13 @@ ghost use Rattle.addr2line_elf.specs.declared.error.LoadError.TheVariants.{Memor
 
 use crate::class::Class;
 use crate::constants::{SHN_UNDEF, SHT_DYNSYM, SHT_SYMTAB, STT_FUNC};
-use crate::entries::SymbolEntry;
 use crate::error::LoadError;
 use crate::headers::SectionHeader;
 use crate::names::NameTable;
 use crate::reading::{in_file, input_of};
 use crate::stretch::{SymbolStretch, entry_at};
 use crate::sweep::stretches_of;
+use crate::symbol_entries::SymbolEntry;
 use crate::texts::text_at;
 use gimli_core_readers::{EndianBytes, EndianSlice, Error, Reader, RunTimeEndian};
 use std::alloc::Global;

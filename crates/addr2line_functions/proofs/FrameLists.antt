@@ -47,8 +47,8 @@ module _ (language : Option ℕ) (files : List (List ℕ)) where
       ∷ frames_at_place language files (Some (call_site files c)) x before) (sym some)
 
 -- a result that is a frame
-abbrev made : Frame → Result (Option Frame) Error
-made f = Ok (Some f)
+abbrev ok_frame : Frame → Result (Option Frame) Error
+ok_frame f = Ok (Some f)
 
 -- no other refusal than out of memory
 only_memory : (e : Error) → (e ≢ Memory → ⊥) → e ≡ Memory
@@ -94,7 +94,7 @@ same_left (Err e) see new old same = ap see same
 
 -- a frame that was made, where the others remain
 pub made_next : (r : Result (Option Frame) Error) (f : Frame) (old new later : List Frame)
-    → ReturnsOrNoMemory r (made f) → OnOk r (new ≡ later) → OnErr r (new ≡ old) → old ≡ f ∷ later
+    → ReturnsOrNoMemory r (ok_frame f) → OnOk r (new ≡ later) → OnErr r (new ≡ old) → old ≡ f ∷ later
     → NextOf (λ x. x) r old new
 made_next (Ok (Some x)) f old new later is ok err first =
     let one : f ≡ x = cc in first ∙ ap (λ y. y ∷ later) one ∙ ap (λ l. x ∷ l) (sym ok)

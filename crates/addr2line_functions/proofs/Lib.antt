@@ -5,16 +5,16 @@ pub use Rattle.addr2line_units.proofs.UnitViews
 pub use Rattle.addr2line_units.proofs.EntryLevels
 pub use Rattle.addr2line_units.proofs.PendingLoads
 pub mod RangeNumbers
-pub mod PairNumbers
-pub mod FunctionEntrySteps
-pub mod NestingLemmas
+mod PairNumbers
+mod FunctionEntrySteps
+mod NestingLemmas
 pub mod CallEntrySteps
-pub mod NameFolds
-pub mod CallFactSteps
-pub mod ChainSteps
+mod NameFolds
+mod CallFactSteps
+mod ChainSteps
 pub mod NumberedCalls
-pub mod UnsignedValues
-pub mod FunctionRowSteps
-pub mod FrameLists
-pub mod ChainProbes
-pub mod MadeValues
+mod UnsignedValues
+mod FunctionRowSteps
+mod FrameLists
+mod ChainProbes
+mod MadeValues

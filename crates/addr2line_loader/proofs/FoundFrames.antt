@@ -13,12 +13,12 @@ use Rattle.addr2line_context.specs.ResolvedUnits.{ResolvedUnit}
 use Rattle.addr2line_context.specs.SettledLookups.{frames_in}
 use Rattle.addr2line_loader.specs.LoadedFiles.{LoadedFile}
 use Rattle.addr2line_loader.specs.ResolvedFiles.{ResolvedFile, ReadsForFrames, answered_context}
-use Rattle.addr2line_loader.specs.SourceAnswers.{LoadState, load_state, frames_by_answers, AnswersAllOrNoMemory, FindsFrames, AfterFrames}
+use Rattle.addr2line_loader.specs.SourceAnswers.{LoadState, load_state, frames_by_answers, AnswersAllOrNoMemory, SourceFindsFrames, AfterFrames}
 use Rattle.addr2line_loader.proofs.AnsweredLoads.{finds_decided}
 use Rattle.addr2line_loader.proofs.FrameReads.{reads_then_search, asked_by_search, looks_of_one, looks_of_two}
 
-abbrev refused : (F : Type 0) → Error → Result F Error
-refused F e = Err e
+abbrev err_of_type : (F : Type 0) → Error → Result F Error
+err_of_type F e = Err e
 
 module _ {S F : Type 0} (answers : S → List ℕ → List ℕ → Result (Option (List ℕ)) Error → S → Type 0) (a : ℕ)
     (see : F → List Frame) (source : S) where
@@ -39,12 +39,12 @@ module _ {S F : Type 0} (answers : S → List ℕ → List ℕ → Result (Optio
       (alone : IsDone (frames_in (answered_context inside) a)
       → AfterSearch AsksForFrames first_has a (record { value = answered_context inside; units = us }) answered)
       (left : ResolvedContext) (r : Result F Error)
-      (after : AfterSearch AsksForFrames (r ≢ refused F Memory) a answered left)
+      (after : AfterSearch AsksForFrames (r ≢ err_of_type F Memory) a answered left)
       (found : GivesDecided see r (frames_in answered.value a)) where
     abbrev asked : FirstAnswers → LoadState S
     asked x = record { answers = x; source = source_after }
 
-    finds_here : FindsFrames answers a see inside source r (over_context inside left).file source_after
+    finds_here : SourceFindsFrames answers a see inside source r (over_context inside left).file source_after
     finds_here = record {
       same =
           ap (λ x. with_context inside x left.value.answers)
@@ -78,9 +78,9 @@ module _ {S F : Type 0} (answers : S → List ℕ → List ℕ → Result (Optio
       (alone : IsDone (frames_in (answered_context inside) a)
       → AfterSearch AsksForFrames first_has a (record { value = answered_context inside; units = us }) answered) where
     pub stops_frames : (old : ResolvedFile) → record { file = inside; units = us } ≡ old
-        → AfterFrames answers a see old source (refused F e) (over_context inside answered) source_after
+        → AfterFrames answers a see old source (err_of_type F e) (over_context inside answered) source_after
     stops_frames old is =
-        subst (λ (x : ResolvedFile). AfterFrames answers a see x source (refused F e) (over_context inside answered)
+        subst (λ (x : ResolvedFile). AfterFrames answers a see x source (err_of_type F e) (over_context inside answered)
         source_after) is
         (record {
           found = record {
@@ -88,6 +88,6 @@ module _ {S F : Type 0} (answers : S → List ℕ → List ℕ → Result (Optio
             finds = (λ other. absurd (other some.0), λ memory. some.1);
           };
           units = reads;
-          asked = λ other. absurd (other (ap (refused F) some.0));
+          asked = λ other. absurd (other (ap (err_of_type F) some.0));
           cost = λ done. looks_of_one a (record { value = answered_context inside; units = us }) answered (alone done);
         })

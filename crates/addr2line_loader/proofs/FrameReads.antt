@@ -109,8 +109,8 @@ asked_by_search a mid new after has =
     subst (λ (x : AnsweredContext). KeepsAskedFunctions (AsksForFrames x a) new.units) (sym after.value)
     (after.asked has)
 
-abbrev answered : FileContext → FirstAnswers → AnsweredContext
-answered p first = record { plain = p; answers = first }
+abbrev with_first_answers : FileContext → FirstAnswers → AnsweredContext
+with_first_answers p first = record { plain = p; answers = first }
 
 -- an answer to the first load, or none
 pub asks_left : (old new : AnsweredContext) (a : ℕ) (file : Option DwarfFile) → new.plain ≡ old.plain
@@ -119,7 +119,7 @@ pub asks_left : (old new : AnsweredContext) (a : ℕ) (file : Option DwarfFile) 
 asks_left old new a file same left n asked = by left
   where
     with_answers : (first : FirstAnswers) → new.answers ≡ first → new ≡ record old { answers = first }
-    with_answers first is = ap (λ p. answered p new.answers) same ∙ ap (answered old.plain) is
+    with_answers first is = ap (λ p. answered p new.answers) same ∙ ap (with_first_answers old.plain) is
 
     by : (new.answers ≡ (after_answer old a file).answers) ⊎ (new.answers ≡ old.answers) → AsksForFrames new a n
     by (inl is) =

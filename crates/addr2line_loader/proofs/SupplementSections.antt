@@ -15,8 +15,8 @@ use Rattle.addr2line_split.proofs.SectionAnswers.{of_loaded, of_refused}
 abbrev with_supplement_if : DwarfFile → Result DwarfFile LoadError → Result DwarfFile LoadError
 with_supplement_if file sections = and_then sections (λ s. Ok (with_supplement s file))
 
-abbrev loaded : DwarfFile → Result DwarfFile LoadError
-loaded file = Ok file
+abbrev ok_file : DwarfFile → Result DwarfFile LoadError
+ok_file file = Ok file
 
 module _ {F R : Type 0} (step : F → SectionId → Result R LoadError → F → Type 0) (view : R → View)
     (section : SectionId → Result View LoadError) (p : F)
@@ -28,7 +28,7 @@ module _ {F R : Type 0} (step : F → SectionId → Result R LoadError → F →
       ⊎ ((s : DwarfFile) × Loads step view offset_limit p s × (e ≡ Memory)))
       → LoadsAsOrNoMemory (λ (done : Unit {0}). new.file) r (with_supplement_if old.file (file_by section))
   of_load_sup old new (Ok done) ok refused =
-      ap (with_supplement_if old.file) (of_loaded step view section p answers ok.0 ok.1) ∙ ap loaded (sym ok.2)
+      ap (with_supplement_if old.file) (of_loaded step view section p answers ok.0 ok.1) ∙ ap ok_file (sym ok.2)
   of_load_sup old new (Err e) ok (inl refused) = λ ne.
       ap (with_supplement_if old.file) (of_refused step view section p answers e ne refused)
   of_load_sup old new (Err e) ok (inr refused) = λ ne. absurd (ne refused.2)

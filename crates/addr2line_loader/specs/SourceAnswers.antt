@@ -95,7 +95,7 @@ abbrev pub load_state : {S : Type 0} → LoadedFile → S → LoadState S
 load_state file source = record { answers = file.answers; source = source }
 
 -- A lookup of frames in a file leaves it with more first answers, and else as it was.
-pub record FindsFrames {S F : Type 0}
+pub record SourceFindsFrames {S F : Type 0}
     (answers : S → List ℕ → List ℕ → Result (Option (List ℕ)) Error → S → Type 0) (a : ℕ)
     (see : F → List Frame) (old : LoadedFile) (source : S) (result : Result F Error)
     (new : LoadedFile) (source_after : S) : Type 0 where
@@ -110,7 +110,7 @@ pub record AfterFrames {S F : Type 0}
     (answers : S → List ℕ → List ℕ → Result (Option (List ℕ)) Error → S → Type 0) (a : ℕ)
     (see : F → List Frame) (old : ResolvedFile) (source : S) (result : Result F Error)
     (new : ResolvedFile) (source_after : S) : Type 0 where
-  pub found : FindsFrames answers a see old.file source result new.file source_after
+  pub found : SourceFindsFrames answers a see old.file source result new.file source_after
   pub units : ReadsForFrames (answered_context new.file) a old.units new.units
   pub asked : result ≢ Err Memory
       → KeepsAskedFunctions (AsksForFrames (answered_context new.file) a) new.units

@@ -2,7 +2,7 @@
 //! their bytes say, whatever system they come from.
 #![tactic(auto)]
 
-pub mod laws;
 mod path;
+pub mod path_laws;
 
 pub use path::{file_text, file_text_of_bytes, is_rooted, join};

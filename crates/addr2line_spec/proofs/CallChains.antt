@@ -57,7 +57,7 @@ no_call_at_depth cs a depth h =
 
 -- ---- chains
 
--- the chain of so many depths from one on
+-- the chain of a number of depths from one on
 abbrev chain_within : List Call → ℕ → ℕ → ℕ → List Call
 chain_within cs a depth n = up_to_none (map (call_at_depth cs a) (range_with_len depth n))
 

@@ -25,7 +25,7 @@ struct FileTexts {
 /// file has none. After the rows and the files comes the section of all texts.
 pub fn answer<E: Endianity>(alloc: Global, case: &Case, order: E, out: &mut Answer) {
     let mut texts = LineStringTable::new(alloc);
-    match written(alloc, case, &mut texts, order, out) {
+    match write_case(alloc, case, &mut texts, order, out) {
         Ok(unit) => {
             programs::read(alloc, case, &unit, order, out);
             section(alloc, &texts, order, out);
@@ -46,7 +46,7 @@ fn section<E: Endianity>(alloc: Global, texts: &LineStringTable, order: E, out: 
     }
 }
 
-fn written<E: Endianity>(
+fn write_case<E: Endianity>(
     alloc: Global,
     case: &Case,
     texts: &mut LineStringTable,

@@ -258,14 +258,14 @@ fn sequences<R: Reader>(alloc: Global, header: LineProgramHeader<R>, out: &mut A
                 out.hex(sequence.start);
                 out.text(" ");
                 out.hex(sequence.end);
-                resumed(&program, sequence, out);
+                resume(&program, sequence, out);
             }
         }
         Err(error) => out.refuse(error),
     }
 }
 
-fn resumed<R: Reader>(
+fn resume<R: Reader>(
     program: &CompleteLineProgram<R>,
     sequence: &LineSequence<R>,
     out: &mut Answer,

@@ -34,7 +34,7 @@ fn read<R: Reader>(case: &Case, reader: &mut R, out: &mut Answer) -> bool {
         "uleb128_of_32_bits" => out.outcome(reader.read_uleb128_u32()),
         "uleb128_of_16_bits" => out.outcome(leb128::read::u16(reader)),
         "sleb128" => out.outcome(leb128::read::signed(reader)),
-        "skip_leb128" => out.outcome(skipped(leb128::read::skip(reader))),
+        "skip_leb128" => out.outcome(skip_outcome(leb128::read::skip(reader))),
         _ => false,
     }
 }
@@ -86,7 +86,7 @@ fn signed_fixed<R: Reader>(size: u8, reader: &mut R) -> Result<i64, Error> {
     }
 }
 
-fn skipped(outcome: Result<(), Error>) -> Result<&'static str, Error> {
+fn skip_outcome(outcome: Result<(), Error>) -> Result<&'static str, Error> {
     match outcome {
         Ok(()) => Ok("skipped"),
         Err(error) => Err(error),

@@ -36,7 +36,7 @@ pub fn answer<E: Endianity>(alloc: Global, case: &Case, order: E, out: &mut Answ
         by_reference::answer(alloc, case, order, out);
         return;
     }
-    match written(alloc, case, order, out) {
+    match write_case(alloc, case, order, out) {
         Ok(unit) => read(alloc, case, &unit, order, out),
         Err(error) => out.refuse_to_write(error),
     }
@@ -52,7 +52,7 @@ pub fn read<E: Endianity>(alloc: Global, case: &Case, unit: &[u8], order: E, out
     lines::answer(alloc, case, sections, out);
 }
 
-fn written<E: Endianity>(
+fn write_case<E: Endianity>(
     alloc: Global,
     case: &Case,
     order: E,

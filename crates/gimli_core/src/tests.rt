@@ -17,7 +17,7 @@ const BROKEN: &[u8] = b"a\xffb";
 // Each call is in a helper to which its bytes are passed: with the literals in one body, the
 // checker would compute the contracts on them.
 
-fn shared(bytes: &'static [u8]) -> EndianBytes<BigEndian> {
+fn share_bytes(bytes: &'static [u8]) -> EndianBytes<BigEndian> {
     EndianBytes::new(Bytes::from_static(bytes), BigEndian)
 }
 
@@ -45,10 +45,10 @@ fn is_empty_after_all<R: Reader>(mut reader: R) -> bool {
 
 #[test]
 fn parts_of_shared_bytes(rt: HostRuntime) -> Result<(), Fail> {
-    let mut reader = shared(b"cdef");
+    let mut reader = share_bytes(b"cdef");
     assert_eq!(rt; split(&mut reader, b"cd", 4)?, (true, Some(2)));
     assert_eq!(rt; two_bytes(&mut reader)?, [b'e', b'f']);
-    assert!(rt; is_empty_after_all(shared(b"cdef")));
+    assert!(rt; is_empty_after_all(share_bytes(b"cdef")));
     Ok(())
 }
 
@@ -99,10 +99,10 @@ fn texts_of_readers(rt: HostRuntime) -> Result<(), Fail> {
     let alloc = rt.alloc();
     let valid = (Ok(true), true, true);
     assert_eq!(rt; texts(alloc, &slice(VALID), "na\u{ef}ve")?, valid);
-    assert_eq!(rt; texts(alloc, &shared(VALID), "na\u{ef}ve")?, valid);
+    assert_eq!(rt; texts(alloc, &share_bytes(VALID), "na\u{ef}ve")?, valid);
     let broken = (Err(Error::BadUtf8), true, false);
     assert_eq!(rt; texts(alloc, &slice(BROKEN), "a\u{fffd}b")?, broken);
-    assert_eq!(rt; texts(alloc, &shared(BROKEN), "a\u{fffd}b")?, broken);
+    assert_eq!(rt; texts(alloc, &share_bytes(BROKEN), "a\u{fffd}b")?, broken);
     Ok(())
 }
 

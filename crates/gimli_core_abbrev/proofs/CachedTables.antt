@@ -18,19 +18,6 @@ use Rattle.gimli_core_abbrev.proofs.DeclarationPlaces.{place_test}
 abbrev refusal : Error → Result (List Declaration) Error
 refusal e = Err e
 
--- a table that is known to be no refusal for memory is the wanted one
-wanted_is : (read wanted : Result (List Declaration) Error) → ReturnsOrNoMemory read wanted → read ≢ Err Memory
-    → read ≡ wanted
-wanted_is (Ok table) wanted h known = sym h
-wanted_is (Err e) wanted h known = sym (h (λ is. known (ap refusal is)))
-
-pub if_shared : (read wanted : Result (List Declaration) Error)
-    (shared : Result (Result (Rc Abbreviations Global) Error) Error)
-    → ReturnsOrNoMemory read wanted → IfOk shared (λ cached. (table_view cached ≡ read) × (read ≢ Err Memory))
-    → IfOk shared (λ cached. table_view cached ≡ wanted)
-if_shared read wanted (Ok cached) h is = is.0 ∙ wanted_is read wanted h is.1
-if_shared read wanted (Err e) h is = tt
-
 -- ---- the tables at the offsets of a list
 
 abbrev CachedTable : Type 0

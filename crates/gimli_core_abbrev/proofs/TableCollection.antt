@@ -13,7 +13,7 @@ use Rattle.gimli_core_readers.proofs.Listings.{listing_item, listing_end, listin
 use Rattle.gimli_core_readers.specs.NumberParsers.{unsigned}
 use Rattle.gimli_core_abbrev.specs.Declarations.{Declaration, declaration_at, has_code, put, put_all, by_code, repeated_after, repeated_code}
 use Rattle.gimli_core_abbrev.specs.TableParsing.{declaration_of, coded_declaration, unless_ended, declaration, distinct, table}
-use Rattle.gimli_core_abbrev.specs.TableLayout.{listed}
+use Rattle.gimli_core_abbrev.specs.TableLayout.{declaration_list}
 use Rattle.gimli_core_abbrev.proofs.DeclarationSizes.{declarations-shrink}
 
 -- ---- codes
@@ -63,11 +63,6 @@ has_code-put_all code table (d ∷ ds) =
 pub has_code-by_code : (code : ℕ) (ds : List Declaration)
     → is_some (declaration_at code (by_code ds)) ≡ has_code code ds
 has_code-by_code code ds = has_code-put_all code [] ds
-
-pub put_all-push : (so_far ds : List Declaration) (d : Declaration)
-    → put_all so_far (ds ++ d ∷ []) ≡ put d (put_all so_far ds)
-put_all-push so_far [] d = refl
-put_all-push so_far (x ∷ ds) d = put_all-push (put x so_far) ds d
 
 -- ---- the answer of a look-up
 
@@ -172,24 +167,24 @@ list_of l = distinct (repeated_code l.items) (whole l)
 
 pub list_fault : (ds : List Declaration) (v w : View) (e : Error)
     → prepend ds (listing_in bytes_left declaration w) ≡ listing_in bytes_left declaration v → repeated_code ds ≡ None
-    → declaration w ≡ Err e → listed v ≡ Err e
-unfolding listed
+    → declaration w ≡ Err e → declaration_list v ≡ Err e
+unfolding declaration_list
 list_fault ds v w e same once fault =
     ap list_of (sym same ∙ ap (prepend ds) (listing_fault declarations-shrink w e fault))
     ∙ rw (append-nil ds, once) refl
 
 pub list_end : (ds : List Declaration) (v w u : View) → prepend ds (listing_in bytes_left declaration w)
     ≡ listing_in bytes_left declaration v → repeated_code ds ≡ None → declaration w ≡ Ok (None, u)
-    → listed v ≡ Ok (ds, u)
-unfolding listed
+    → declaration_list v ≡ Ok (ds, u)
+unfolding declaration_list
 list_end ds v w u same once end =
     ap list_of (sym same ∙ ap (prepend ds) (listing_end declarations-shrink w u end)) ∙ rw (append-nil ds, once) refl
 
 pub list_repeated : (ds : List Declaration) (d : Declaration) (v w u : View)
     → prepend ds (listing_in bytes_left declaration w) ≡ listing_in bytes_left declaration v → repeated_code ds ≡ None
     → declaration w ≡ Ok (Some d, u) → is_some (declaration_at d.code (by_code ds)) ≡ true
-    → listed v ≡ Err (DuplicateAbbreviationCode d.code)
-unfolding listed
+    → declaration_list v ≡ Err (DuplicateAbbreviationCode d.code)
+unfolding declaration_list
 list_repeated ds d v w u same once item twice =
     let rest = listing_in bytes_left declaration u in
     let items : repeated_code ((ds ++ d ∷ []) ++ rest.items) ≡ Some d.code =
@@ -203,15 +198,15 @@ by_codes : (o : Option ℕ) (r : Result (List Declaration × View) Error)
 by_codes (Some code) r = refl
 by_codes None r = refl
 
-pub table_listed : (v : View) → table v ≡ proceed (listed v) (λ ds. give (by_code ds))
-unfolding table listed
+pub table_listed : (v : View) → table v ≡ proceed (declaration_list v) (λ ds. give (by_code ds))
+unfolding table declaration_list
 table_listed v =
     by_codes (repeated_code (listing_in bytes_left declaration v).items) (whole (listing_in bytes_left declaration v))
 
-pub table_refused : (v : View) (e : Error) → listed v ≡ Err e → table v ≡ Err e
+pub table_refused : (v : View) (e : Error) → declaration_list v ≡ Err e → table v ≡ Err e
 table_refused v e h = table_listed v ∙ ap (λ r. proceed r (λ ds. give (by_code ds))) h
 
-pub table_is : (v u : View) (ds : List Declaration) → listed v ≡ Ok (ds, u) → table v ≡ Ok (by_code ds, u)
+pub table_is : (v u : View) (ds : List Declaration) → declaration_list v ≡ Ok (ds, u) → table v ≡ Ok (by_code ds, u)
 table_is v u ds h = table_listed v ∙ ap (λ r. proceed r (λ ds. give (by_code ds))) h
 
 pub listing_further : (ds : List Declaration) (d : Declaration) (v w u : View)

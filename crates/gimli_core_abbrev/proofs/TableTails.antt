@@ -12,7 +12,7 @@ use Rattle.gimli_core_readers.proofs.StepParts.{value_is, state_is}
 use Rattle.gimli_core_readers.proofs.Listings.{listing_next}
 use Rattle.gimli_core_abbrev.specs.Declarations.{Declaration, by_code, repeated_code}
 use Rattle.gimli_core_abbrev.specs.TableParsing.{declaration, distinct, table, table_at}
-use Rattle.gimli_core_abbrev.specs.TableLayout.{listed, IsListOf, IsListAt}
+use Rattle.gimli_core_abbrev.specs.TableLayout.{declaration_list, IsListOf, IsListAt}
 use Rattle.gimli_core_abbrev.proofs.DeclarationSizes.{declarations-shrink}
 use Rattle.gimli_core_abbrev.proofs.DeclarationPlaces.{once_from}
 use Rattle.gimli_core_abbrev.proofs.DeclarationMoves.{IsPart-IsPart, declaration_leaves}
@@ -26,12 +26,12 @@ all v = listing_in bytes_left declaration v
 abbrev table_after : Result (Unit {0} × View) Error → Result (List Declaration) Error
 table_after r = value_of (proceed r (λ _. table))
 
-abbrev skipped : View → Result (Unit {0} × View) Error
-skipped v = Ok (tt, v)
+abbrev ok_skip : View → Result (Unit {0} × View) Error
+ok_skip v = Ok (tt, v)
 
-skip_is : (place : ℕ) (section : View) → place ≤ bytes_left section → skip place section ≡ skipped (after place section)
+skip_is : (place : ℕ) (section : View) → place ≤ bytes_left section → skip place section ≡ ok_skip (after place section)
 skip_is place section h =
-    ap (λ (b : Bool). cond b (Err (unexpected_end section)) (skipped (after place section)))
+    ap (λ (b : Bool). cond b (Err (unexpected_end section)) (ok_skip (after place section)))
     (le-ltb (length section.bytes) place h)
 
 table_at-is : (place : ℕ) (section : View) → place ≤ bytes_left section
@@ -43,20 +43,16 @@ record Skips (place : ℕ) (section v : View) : Type 0 where
   inside : place ≤ bytes_left section
   is_there : v ≡ after place section
 
-skips : (place : ℕ) (section v : View) → skip place section ≡ skipped v → Skips place section v
+skips : (place : ℕ) (section v : View) → skip place section ≡ ok_skip v → Skips place section v
 skips place section v e = by_test (ltb (length section.bytes) place) refl e
   where
     by_test : (b : Bool) → ltb (length section.bytes) place ≡ b
-        → cond b (Err (unexpected_end section)) (skipped (after place section)) ≡ skipped v → Skips place section v
+        → cond b (Err (unexpected_end section)) (ok_skip (after place section)) ≡ ok_skip v → Skips place section v
     by_test true t h = absurd cc
     by_test false t h = record { inside = ltb-false _ _ t; is_there = sym (state_is tt tt (after place section) v h) }
 
-pub skip_refused : (place : ℕ) (section : View) (e : Error) → skip place section ≡ Err e
-    → table_at place section ≡ Err e
-skip_refused place section e h = ap table_after h
-
-pub list_refused : (place : ℕ) (section v : View) (e : Error) → skip place section ≡ Ok (tt, v) → listed v ≡ Err e
-    → table_at place section ≡ Err e
+pub list_refused : (place : ℕ) (section v : View) (e : Error) → skip place section ≡ Ok (tt, v)
+    → declaration_list v ≡ Err e → table_at place section ≡ Err e
 list_refused place section v e there h = ap table_after there ∙ ap value_of (table_refused v e h)
 
 -- ---- a list
@@ -68,8 +64,8 @@ record Whole (v : View) (ds : List Declaration) : Type 0 where
   rest : View
   ending : (all v).ending ≡ Ok rest
 
-listed_whole : (v w : View) (ds : List Declaration) → listed v ≡ Ok (ds, w) → Whole v ds
-unfolding listed
+listed_whole : (v w : View) (ds : List Declaration) → declaration_list v ≡ Ok (ds, w) → Whole v ds
+unfolding declaration_list
 listed_whole v w ds e = cases (repeated_code (all v).items) (all v).ending refl refl e
   where
     cases : (o : Option ℕ) (r : Result View Error) → repeated_code (all v).items ≡ o → (all v).ending ≡ r
@@ -81,7 +77,7 @@ listed_whole v w ds e = cases (repeated_code (all v).items) (all v).ending refl 
         record { once = ap repeated_code (sym is) ∙ once; items = is; rest = t; ending = end }
 
 pub list_begins : (place : ℕ) (section v w : View) (ds xs : List Declaration) → skip place section ≡ Ok (tt, v)
-    → listed v ≡ Ok (ds, w) → xs ≡ ds → IsListAt section place xs 0 v
+    → declaration_list v ≡ Ok (ds, w) → xs ≡ ds → IsListAt section place xs 0 v
 list_begins place section v w ds xs there read same =
     let s = skips place section v there in
     let whole = listed_whole v w ds read in (

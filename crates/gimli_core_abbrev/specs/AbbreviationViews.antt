@@ -17,7 +17,3 @@ declaration_view a =
       attributes = map
           attribute_view a.attributes.items;
     }
-
--- an entry of a map
-abbrev pub entry_view : ℕ × Abbreviation → ℕ × Declaration
-entry_view e = (e.0, declaration_view e.1)

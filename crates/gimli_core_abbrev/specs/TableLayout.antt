@@ -38,8 +38,8 @@ at_place from (Some place) ds = if nat_lt place from then None else slice_get ds
 -- ---- lists
 
 -- the declarations of a table in the order of their bytes
-unfoldable pub listed : Parser (List Declaration)
-listed v =
+unfoldable pub declaration_list : Parser (List Declaration)
+declaration_list v =
     let listing : Listing View Declaration = listing_in bytes_left declaration v in
     distinct (repeated_code listing.items) (whole listing)
 

@@ -126,14 +126,14 @@ impl AbbreviationsCache {
             (unwrap_or (finite_map.get self.now (R.Offset.count offset.0))
             (table_at (R.Offset.count offset.0) section.now)) }
     {
-        match self.cached(offset.0.into_u64()) {
+        match self.cached_table(offset.0.into_u64()) {
             Some(table) => copy_of(table),
             None => Ok(Rc::new(alloc, section.abbreviations(alloc, offset)?)?),
         }
     }
 
     // What is cached at an offset.
-    fn cached(&self, offset: u64) -> Option<&CachedTable>
+    fn cached_table(&self, offset: u64) -> Option<&CachedTable>
         ensures { option_map (λ table. table_view table.now) result
             ≡ finite_map.get self.now offset }
     {

@@ -2,8 +2,8 @@
 #![tactic(auto)]
 
 pub mod abbreviation;
+pub mod abbreviation_laws;
 pub mod cache;
-pub mod laws;
 pub mod section;
 pub mod table;
 mod tails;

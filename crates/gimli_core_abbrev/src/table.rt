@@ -7,7 +7,7 @@ ghost use Rattle.gimli_core_readers.specs.Calls.{ReturnsAsOrNoMemory};
 ghost use Rattle.gimli_core_readers.specs.Error.TheVariants.{Memory};
 ghost use Rattle.gimli_core_abbrev.specs.Declarations.{declaration_at, by_code};
 ghost use Rattle.gimli_core_abbrev.specs.TableParsing.{table};
-ghost use Rattle.gimli_core_abbrev.specs.TableLayout.{listed, at_place};
+ghost use Rattle.gimli_core_abbrev.specs.TableLayout.{declaration_list, at_place};
 ghost use Rattle.gimli_core_abbrev.specs.AbbreviationViews.{declaration_view};
 
 use crate::abbreviation::{self, Abbreviation};
@@ -190,10 +190,10 @@ impl Abbreviations {
 }
 
 // Reads declarations up to the code 0 or the end of the bytes.
-#[tactic(auto, unfolding(crate::specs::TableLayout::listed))]
+#[tactic(auto, unfolding(crate::specs::TableLayout::declaration_list))]
 pub(crate) fn parse_list<R: Reader>(alloc: Global, input: &mut R) -> Result<DeclarationList, Error>
     ensures { ReturnsAsOrNoMemory (λ l. (l, R.view input.new)) result
-        (listed (R.view input.old)) }
+        (declaration_list (R.view input.old)) }
 {
     let mut found = DeclarationList::empty(alloc);
     while let Some(abbreviation) = abbreviation::parse(alloc, input)? {

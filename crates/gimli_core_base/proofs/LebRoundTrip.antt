@@ -108,7 +108,7 @@ signed_found (suc j) z rest below = elim (cases_lt (mag z) 64) [
       (omega arith) ∙ ap (option_map (λ (s : List ℕ). (128 + signed_digit z) ∷ s)) tail)
 ]
 
--- a string isn't empty, and its last byte tells its sign
+-- a string isn't empty, and its last byte has its sign
 is_negative-cons : (b : ℕ) (s : List ℕ) → 0 < length s → is_negative (b ∷ s) ≡ is_negative s
 is_negative-cons b [] h = absurd (omega arith)
 is_negative-cons b (c ∷ s) h = refl

@@ -25,7 +25,7 @@ string_at-goes_on b bs h = rw (le-ltb b 128 h) refl
 abbrev pub length_from : ℕ → List ℕ → Option ℕ
 length_from i bytes = option_map (λ (s : List ℕ). i + length s) (leb_string bytes)
 
--- ---- the string at the front, behind bytes that go on
+-- ---- the string at the start, with more bytes after it
 
 -- the string that the bytes in front begin, judged by limit bytes of the rest
 abbrev pub judged_from : ℕ → List ℕ → List ℕ → Result (List ℕ) Fault

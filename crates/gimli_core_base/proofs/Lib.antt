@@ -5,10 +5,10 @@ pub mod RefusedCalls
 pub mod Times
 pub mod PrefixReads
 pub mod LebStrings
-pub mod LebSigns
-pub mod ByteWeights
-pub mod Spellings
-pub mod LebRoundTrip
+mod LebSigns
+mod ByteWeights
+mod Spellings
+mod LebRoundTrip
 pub mod LebStringLaws
 pub mod NumberReadSizes
 pub mod NumberRoundTrip

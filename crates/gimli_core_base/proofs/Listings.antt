@@ -41,7 +41,7 @@ listing_next {size = size} {p = p} h s = next_same (p s) (items_within (size s) 
     let lt : size t < size s = (h.smaller s (size s) (omega arith)).left x t e in within-enough h (size s)
     (suc (size t)) t lt (omega arith))
 
--- an item that is read goes behind those in front
+-- an item that is read comes after those before it
 pub listing_item : {S A : Type 0} {size : S → ℕ} {p : Step S (Option A)} → Shrinks size p
     → (xs : List A) (x : A) (s t : S) → p s ≡ Ok (Some x, t)
     → prepend xs (listing_in size p s) ≡ prepend (xs ++ x ∷ []) (listing_in size p t)

@@ -36,7 +36,7 @@ part_again v xs rest k whole len =
 
 -- ---- texts: bytes without a zero byte, and then one
 
--- the first zero byte is the one behind the text
+-- the first zero byte is the one after the text
 text_long : (xs rest : List ℕ) → list_any (λ x. eqb x 0) xs ≡ false
     → prefix_len (λ x. not (eqb x 0)) (xs ++ 0 ∷ rest) ≡ length xs
 text_long [] rest none = refl

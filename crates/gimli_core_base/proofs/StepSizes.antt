@@ -159,7 +159,7 @@ Below-null_terminated {n} v h = cases (position (λ x. eqb x 0) v.bytes) refl
     cases (Some i) e = let lt : i < length v.bytes = (position-Some (λ x. eqb x 0) v.bytes i 0 e).0 in Below-Ok
         (omega (arith, length-drop (i + 1) v.bytes))
 
--- what is behind or in front of a place is no more than there was
+-- what is after or before a place is no more than there was
 pub drop_at_most : {n : ℕ} (k : ℕ) (xs : List ℕ) → length xs ≤ n → length (drop k xs) ≤ n
 drop_at_most k xs h = omega (arith, length-drop k xs)
 

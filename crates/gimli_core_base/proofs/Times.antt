@@ -17,7 +17,7 @@ prepend-onward {S} {A} xs x (Ok r) = ap (λ (zs : List A). read zs r.1) (sym (ap
     read zs s = Ok (zs, s)
 prepend-onward xs x (Err e) = refl
 
--- an item that is read goes behind those in front
+-- an item that is read comes after those before it
 pub times_item : {S A : Type 0} (p : Step S A) (n : ℕ) (xs : List A) (x : A) (s t : S) → p s ≡ Ok (x, t)
     → prepend xs (times (suc n) p s) ≡ prepend (xs ++ x ∷ []) (times n p t)
 unfolding times

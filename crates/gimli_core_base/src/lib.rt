@@ -6,8 +6,8 @@
 pub mod common;
 pub mod constants;
 pub mod error;
-pub mod laws;
 pub mod leb128;
+pub mod number_laws;
 pub mod offset;
 pub mod order;
 

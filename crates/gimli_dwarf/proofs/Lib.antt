@@ -1,7 +1,7 @@
 pub use Rattle.gimli_dwarf_spec.proofs.RefusedCalls
-pub mod CachedTables
+mod CachedTables
 pub mod LastAttributes
-pub mod OffsetCallLemmas
-pub mod SectionCalls
-pub mod RootLemmas
-pub mod UnitSteps
+mod OffsetCallLemmas
+mod SectionCalls
+mod RootLemmas
+mod UnitSteps

@@ -18,10 +18,10 @@ pub mod write {
 
 /// What holds of the definitions, as contracts.
 pub mod laws {
-    pub use gimli_lines_rows::laws as headers;
+    pub use gimli_lines_rows::header_laws as headers;
     pub use gimli_lines_write_program::{
-        header_laws as headers_written, laws as units_written, row_laws as rows_written,
-        table_laws as tables,
+        header_laws as headers_written, row_laws as rows_written, table_laws as tables,
+        unit_laws as units_written,
     };
 }
 

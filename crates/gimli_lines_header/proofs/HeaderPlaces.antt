@@ -212,7 +212,7 @@ fields_bounded limit directory name b v =
           (let first = h.enough in let second = j.enough in let third = k.enough in let last = l.enough in omega arith);
     })))))
 
--- a header in so many bytes
+-- a header in a number of bytes
 record IsIn (unit_length : ℕ) (format : Format) (bytes : View) (h : LineHeader) : Type 0 where
   long : h.unit_length ≡ unit_length
   in_format : h.encoding.format ≡ format

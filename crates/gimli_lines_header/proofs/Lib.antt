@@ -1,11 +1,11 @@
 pub use Rattle.gimli_units_headers.proofs.ArangeSetLemmas
 pub use Rattle.gimli_units_headers.proofs.TilingLemmas
 pub use Rattle.gimli_units_headers.proofs.UnitHeaderLemmas
-pub mod NumberedItems
-pub mod TableLoops
+mod NumberedItems
+mod TableLoops
 pub mod TextSizes
-pub mod ParserChains
-pub mod HeaderCopies
-pub mod FieldSizes
-pub mod TableSizes
-pub mod HeaderPlaces
+mod ParserChains
+mod HeaderCopies
+mod FieldSizes
+mod TableSizes
+mod HeaderPlaces

@@ -1,4 +1,4 @@
--- How a loop that reads so many items goes on, and how one that reads the fields of an entry does.
+-- How a loop that reads n items continues, and how one that reads the fields of an entry does.
 use Rattle.std.proofs.Common.{◌≡◌, ℕ, suc, ◌+◌, ◌-◌, ◌<◌, ◌≤◌, Bool, List, [], ◌∷◌, ◌++◌, length, drop, get_or, map, Result, Ok, Err, refl, sym, ◌∙◌, ap, arith, drop-cons}
 use Rattle.std.proofs.lemmas.List.{map-append, drop_all}
 use Rattle.gimli_units_headers.specs.Error.{Error}

@@ -141,7 +141,7 @@ entry_format-takes v w format read =
 
 -- ---- repetitions
 
--- items that take so many bytes each
+-- items that take n bytes each
 pub record Each {A : Type 0} (k : ℕ) (p : Step View A) : Type 0 where
   pub takes : (v w : View) (x : A) → p v ≡ Ok (x, w) → bytes_left w + k ≤ bytes_left v
 

@@ -58,7 +58,7 @@ impl<R: Reader> Model for FileEntry<R> {
 
 impl<R: Reader> FileEntry<R> {
     // A unit's file: its name, in directory 0.
-    pub(crate) fn named(name: R) -> Self
+    pub(crate) fn of_unit_name(name: R) -> Self
         ensures { result ≡ file_named (R.view name) }
     {
         FileEntry {

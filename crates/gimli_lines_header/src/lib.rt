@@ -2,13 +2,13 @@
 #![tactic(auto)]
 
 mod copies;
-mod entries;
 pub mod file;
 pub mod formats;
 pub mod header;
-pub mod laws;
+pub mod header_laws;
 mod parsing;
 pub mod section;
+mod table_entries;
 mod tables;
 
 pub use file::FileEntry;

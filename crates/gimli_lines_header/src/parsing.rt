@@ -127,7 +127,7 @@ fn unit_directory<R: Reader>(comp_dir: Option<R>) -> Option<AttributeValue<R>>
 fn unit_file<R: Reader>(comp_name: Option<R>) -> Option<FileEntry<R>>
     ensures { result ≡ option_map file_named (option_map R.view comp_name) }
 {
-    Some(FileEntry::named(comp_name?))
+    Some(FileEntry::of_unit_name(comp_name?))
 }
 
 // What is known of a header before its fields.

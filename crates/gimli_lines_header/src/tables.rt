@@ -7,9 +7,9 @@ ghost use Rattle.gimli_units_forms.specs.AttributeValues.{raw_value_of};
 ghost use Rattle.gimli_lines_header.specs.TableEntries.{directory_entry, file_entry};
 ghost use Rattle.gimli_lines_header.specs.HeaderTables.{directory_text, file_text, directory_texts, file_texts, directory_entries, file_entries, directories_of_5, files_of_5, directories, files};
 
-use crate::entries::{parse_directory, parse_file};
 use crate::file::FileEntry;
 use crate::formats::{self, FileEntryFormat};
+use crate::table_entries::{parse_directory, parse_file};
 use gimli_units_forms::AttributeValue;
 use gimli_units_headers::{Encoding, Error, Reader};
 use std::alloc::Global;

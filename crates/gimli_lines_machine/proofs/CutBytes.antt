@@ -39,7 +39,7 @@ front_front k n v le = ap with_bytes (take-take k n v.bytes le)
 
 -- ---- what is kept
 
--- A value was read from so many bytes, at least as many as said, and is read again from any prefix that has them.
+-- A value was read from `count` bytes, at least `least`, and is read again from any prefix that has them.
 pub record ReadsCutAt {A : Type 0} (least : ℕ) (p : Parser A) (v w : View) (x : A) : Type 0 where
   pub count : ℕ
   pub some : least ≤ count

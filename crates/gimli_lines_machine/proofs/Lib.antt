@@ -4,7 +4,7 @@ pub use Rattle.gimli_core_readers.proofs.RefusedCalls
 pub use Rattle.gimli_core_readers.proofs.StepParts
 pub use Rattle.gimli_core_readers.proofs.Times
 pub use Rattle.gimli_core_readers.proofs.Wrapping
-pub mod MachineExamples
+mod MachineExamples
 pub mod CutBytes
-pub mod CutNumbers
+mod CutNumbers
 pub mod CutInstructions

@@ -1,10 +1,10 @@
 pub use Rattle.gimli_lines_machine.proofs.RefusedCalls
 pub use Rattle.gimli_lines_machine.proofs.StepParts
-pub mod Operands
-pub mod NumericSteps
+mod Operands
+mod NumericSteps
 pub mod LineRowSteps
 pub mod RowPaths
-pub mod ResumedRows
-pub mod StepsAtOnce
+mod ResumedRows
+mod StepsAtOnce
 pub mod SequenceLoops
-pub mod FileDefinitions
+mod FileDefinitions

@@ -58,7 +58,7 @@ unsigned_holds s v w x h e =
 
 -- ---- the loop
 
--- of so many operands some are left, and the rest was read
+-- of the operands some are left, and the rest was read
 pub record Spans (count left : ℕ) (start now : View) : Type 0 where
   pub numbers : List ℕ
   pub same : prepend numbers (times left unsigned now) ≡ times count unsigned start
@@ -109,7 +109,7 @@ spans_end count i start v le h =
 abbrev step_result : View → Result (Unit {0} × View) Error
 step_result w = Ok (tt, w)
 
--- so many bytes of the view are there
+-- the view has this number of bytes
 pub truncated_there : (start v : View) (n : ℕ) → Holds start v → n + start.first ≡ v.first → truncate n start
     ≡ Ok (tt, prefix (v.first - start.first) start)
 truncated_there start v n h at =

@@ -86,7 +86,7 @@ read_parts limit h v w i e = by_end (eqb (length v.bytes) 0) refl
               ∙ ap (read i) (state_is (some_of b.0) (some_of i) b.1 w b.3),
         )
 
--- so many bytes were taken, and the instruction is read again from any prefix that has them
+-- the instruction took these bytes, and is read again from any prefix that has them
 pub record ReadsInstruction (limit : ℕ) (h : LineHeader) (v w : View) (i : InstructionOf FileFacts) : Type 0 where
   pub count : ℕ
   pub some : 1 ≤ count

@@ -1,10 +1,10 @@
-pub mod SpelledPieces
-pub mod FileBytes
-pub mod TableBytes
-pub mod UnitBytesAgain
-pub mod RowAnswers
+mod SpelledPieces
+mod FileBytes
+mod TableBytes
+mod UnitBytesAgain
+mod RowAnswers
 pub mod UnitReading
-pub mod ReadTexts
+mod ReadTexts
 pub mod StoredFiles
 pub mod ProgramReading
 pub mod WrittenForms

@@ -32,7 +32,7 @@ same_ok a b e = cc
 
 -- ---- texts
 
--- an offset that so many bytes hold
+-- an offset that n bytes hold
 abbrev pub Fits : Format → WrittenText → Type 0
 Fits format (in_place text) = Unit {0}
 Fits format (in_strings offset) = offset < 256 ^ word_size format

@@ -1,7 +1,7 @@
 //! Units of `.debug_line` that were written read back as what was recorded (DWARF 5, 6.2).
 #![tactic(auto)]
 
-pub mod laws;
+pub mod unit_laws;
 
 pub use gimli_lines_write_unit::{
     Address, DW_FORM_string, DebugLineOffset, DirectoryId, DwForm, Encoding, EndianVec, Error,

@@ -1,4 +1,4 @@
-pub mod RestOfLists
-pub mod KnownTables
-pub mod WritablePrograms
-pub mod WrittenUnit
+mod RestOfLists
+mod KnownTables
+mod WritablePrograms
+mod WrittenUnit

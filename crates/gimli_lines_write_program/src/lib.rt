@@ -8,7 +8,7 @@ mod text_checks;
 
 pub use gimli_lines_write_laws::{
     Address, DirectoryId, EndianVec, Error, FileId, FileInfo, InitialLengthOffset, LineRow,
-    LineString, LineStringId, LineStringTable, StringId, StringTable, Writer, header_laws, laws,
-    row_laws, table_laws,
+    LineString, LineStringId, LineStringTable, StringId, StringTable, Writer, header_laws,
+    row_laws, table_laws, unit_laws,
 };
 pub use program::LineProgram;

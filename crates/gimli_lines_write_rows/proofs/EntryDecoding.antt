@@ -64,7 +64,7 @@ length-within (suc k) n = by (nat_lt n 128) (length-within k (n / 128))
 
 module _ {F : Type 0} {is_big : Bool} (make : FileMaker F) (limit : ℕ) (wide : 128 ≤ limit) (rules : LineRules)
     (base : rules.opcode_base ≡ 13) (counts : List ℕ) where
-  -- an extended opcode in so many bytes
+  -- an extended opcode in n bytes
   extended_again : (s : List ℕ) (x : InstructionOf F) → length s < 128 → Again is_big (extended_in make rules) s x
       → Again is_big (extended_instruction make limit rules) (length s ∷ s) x
   unfolding extended_instruction

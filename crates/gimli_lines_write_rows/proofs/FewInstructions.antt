@@ -80,7 +80,7 @@ length-row_piece rules previous row =
     sum : (p q r x y : ℕ) → p ≤ 4 → q ≤ 4 → r ≤ 3 → x ≡ p + y → y ≡ q + r → x ≤ 11
     sum p q r x y e f g u v = omega arith
 
--- where nothing else is recorded and one opcode can tell the moves, there is that opcode alone
+-- where nothing else is recorded and one opcode can encode the moves, there is that opcode alone
 pub row_piece-one : (rules : LineRules) (previous row : LineRow) → flags row ≡ []
     → changes rules.encoding.version previous row ≡ []
     → is_special rules.line_encoding (pos row.line -ℤ pos previous.line) ≡ true

@@ -3,14 +3,14 @@ pub use Rattle.gimli_lines_write_bytes.proofs.Listings
 pub use Rattle.gimli_lines_write_bytes.proofs.NumberRoundTrip
 pub use Rattle.gimli_lines_write_bytes.proofs.PrefixReads
 pub use Rattle.gimli_lines_machine.proofs.Wrapping
-pub mod PieceRuns
-pub mod Moves
+mod PieceRuns
+mod Moves
 pub mod ProgramRuns
-pub mod MoveBytes
-pub mod JoinedWrites
-pub mod RowTests
-pub mod BytesAgain
+mod MoveBytes
+mod JoinedWrites
+mod RowTests
+mod BytesAgain
 pub mod EntryDecoding
-pub mod BuiltEntries
+mod BuiltEntries
 pub mod RowsDecoding
 pub mod FewInstructions

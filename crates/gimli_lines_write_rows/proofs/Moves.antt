@@ -19,7 +19,7 @@ use Rattle.gimli_lines_write_rows.specs.RowPieces.{IsBuildable, when, is_special
 use Rattle.gimli_lines_write_rows.specs.EntryInstructions.{shows, onto}
 use Rattle.gimli_lines_write_rows.proofs.PieceRuns.{onto-append, plain_step, row_step}
 
--- the registers so many operations on
+-- the registers after n more operations
 abbrev pub moved_by : LineRules → ℕ → Registers → Registers
 moved_by w n r = record r {
   address = r.address + w.line_encoding.minimum_instruction_length
@@ -177,7 +177,7 @@ module _ {F : Type 0} (w : LineRules) (can_build : IsBuildable w) where
       lines : ((13 + d + w.line_encoding.line_range * k) - w.opcode_base) % w.line_encoding.line_range ≡ d
       lines = ap (λ v. v % w.line_encoding.line_range) above ∙ mod-mul-add k w.line_encoding.line_range d low
 
-  -- the row at registers, so many lines above the line base
+  -- the row at registers, a number of lines above the line base
   abbrev row_at : ℕ → ℕ → List (InstructionOf F) → Registers → Listing Registers Registers
   row_at line d rest to = prepend (with_line (line_after line (w.line_encoding.line_base +ℤ pos d)) to ∷ [])
       (shows w (after_row w (with_line (line_after line (w.line_encoding.line_base +ℤ pos d)) to)) rest)

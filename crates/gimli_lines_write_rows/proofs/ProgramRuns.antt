@@ -33,7 +33,7 @@ pub record IsPlaced (w : LineRules) (previous : LineRow) : Type 0 where
   pub within : previous.op_index < w.line_encoding.maximum_operations_per_instruction
   pub low : previous.line < 2 ^ 63
 
--- a place that can follow, by what it tells
+-- a place that can follow, by its cases
 pub record Follows (w : LineRules) (previous : LineRow) (offset op_index : ℕ) : Type 0 where
   pub onward : previous.address_offset ≤ offset
   pub aligned : offset % w.line_encoding.minimum_instruction_length ≡ 0

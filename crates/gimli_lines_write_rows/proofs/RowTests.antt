@@ -1,4 +1,4 @@
--- What the test of a row tells.
+-- What follows from the test of a row.
 use Rattle.std.proofs.Common.{◌≡◌, ◌<◌, ◌^◌, nat_lt, true}
 use Rattle.std.proofs.lemmas.Bool.{ltb-true}
 use Rattle.gimli_lines_machine.specs.declared.rules.LineRules.{LineRules}

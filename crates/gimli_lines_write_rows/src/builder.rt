@@ -9,9 +9,9 @@ ghost use Rattle.gimli_lines_write_rows.specs.EntryBytes.{can_come, entries_byte
 ghost use Rattle.gimli_lines_write_rows.specs.RowsBuilding.{with_entry, with_address, with_sequence};
 ghost use Rattle.gimli_lines_write_rows.specs.declared.entry.LineEntry.TheVariants.{Row, EndSequence};
 
-use crate::entries::write_entries;
 use crate::entry::LineEntry;
 use crate::places::{can_place, can_show};
+use crate::program_bytes::write_entries;
 use crate::row::LineRow;
 use gimli_lines_machine::LineRules;
 use gimli_lines_write_bytes::{Address, Error, Writer};

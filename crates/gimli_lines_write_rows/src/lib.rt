@@ -4,13 +4,13 @@
 
 pub mod builder;
 pub mod encoding;
-pub mod entries;
 pub mod entry;
 pub mod file_id;
 pub mod instruction;
-pub mod laws;
 pub mod places;
+pub mod program_bytes;
 pub mod row;
+pub mod row_laws;
 
 pub use builder::RowsBuilder;
 pub use entry::LineEntry;

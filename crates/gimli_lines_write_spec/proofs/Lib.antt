@@ -1,8 +1,8 @@
-pub mod TablesAgain
-pub mod FieldsAgain
-pub mod Digests
-pub mod EntriesAgain
-pub mod FormatsAgain
-pub mod TablesToVersion4
-pub mod HeadersAgain
+mod TablesAgain
+mod FieldsAgain
+mod Digests
+mod EntriesAgain
+mod FormatsAgain
+mod TablesToVersion4
+mod HeadersAgain
 pub mod LineUnitsAgain

@@ -2,6 +2,6 @@
 //! and the law that they read back.
 #![tactic(auto)]
 
-pub mod laws;
+pub mod header_laws;
 
 pub use gimli_lines_header::FileEntryFormat;

@@ -1,9 +1,9 @@
 pub use Rattle.gimli_lines_write_tables.proofs.RowsDecoding
 pub use Rattle.gimli_lines_write_tables.proofs.SectionTexts
 pub use Rattle.gimli_lines_write_spec.proofs.LineUnitsAgain
-pub mod TextForms
-pub mod WrittenLists
-pub mod FileLists
+mod TextForms
+mod WrittenLists
+mod FileLists
 pub mod KnownTexts
-pub mod LengthPatches
+mod LengthPatches
 pub mod EmptyTexts

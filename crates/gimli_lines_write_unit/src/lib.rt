@@ -11,12 +11,12 @@ pub mod texts;
 pub mod unit;
 
 pub use details::FileDetails;
-pub use gimli_lines_write_spec::laws as header_laws;
+pub use gimli_lines_write_spec::header_laws;
 pub use gimli_lines_write_tables::{
     Address, DW_FORM_string, DebugLineOffset, DirectoryId, DwForm, Encoding, EndianVec, Error,
     FileId, FileInfo, FileKey, FileTable, Format, InitialLengthOffset, LineEncoding, LineRow,
     LineRules, LineString, LineStringId, LineStringTable, RowsBuilder, StringId, StringTable,
-    Writer, laws as table_laws, row_laws,
+    Writer, row_laws, table_laws,
 };
 pub use header::listed_directories;
 pub use sources::first_source;

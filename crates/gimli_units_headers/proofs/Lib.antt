@@ -7,7 +7,7 @@ pub use Rattle.gimli_core_base.proofs.Times
 pub use Rattle.gimli_core_readers.proofs.ByteCountLemmas
 pub use Rattle.gimli_core_readers.proofs.TilingLemmas
 pub mod UnitHeaderLemmas
-pub mod PartLemmas
+mod PartLemmas
 pub mod ArangeSetLemmas
-pub mod HeaderMemoryLemmas
-pub mod PairSkipLemmas
+mod HeaderMemoryLemmas
+mod PairSkipLemmas

@@ -23,6 +23,7 @@ pub use Rattle.linemap_text.specs.EmitErrorCodes
 pub use Rattle.linemap_text.specs.SectionAnswers
 pub use Rattle.linemap_text.specs.SectionBytesById
 pub use Rattle.linemap_text.specs.ErrorLine
+pub use Rattle.linemap_text.specs.Outcome
 pub use Rattle.linemap_text.specs.WriterBytes
 pub use Rattle.linemap_words.specs.CommandLine
 pub use Rattle.linemap_words.specs.WordsRequest

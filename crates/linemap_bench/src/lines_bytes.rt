@@ -23,7 +23,7 @@ pub fn section(alloc: Global, size: usize) -> Result<Vec<u8>, AllocError> {
         instruction(&mut source, &mut program)?;
     }
     program.extend_from_slice(&[0, 1, 1])?;
-    headed(alloc, &program)
+    with_header(alloc, &program)
 }
 
 // An instruction, or the end of a sequence and the start of the next one.
@@ -79,7 +79,7 @@ fn sequence(source: &mut Source, bytes: &mut Vec<u8>) -> Result<(), AllocError> 
 }
 
 // The header, and the program after it.
-fn headed(alloc: Global, program: &[u8]) -> Result<Vec<u8>, AllocError> {
+fn with_header(alloc: Global, program: &[u8]) -> Result<Vec<u8>, AllocError> {
     let length = AFTER_LENGTH.len().wrapping_add(program.len());
     let length = u32::try_from(length).unwrap_or(0);
     let mut section = Vec::new(alloc);

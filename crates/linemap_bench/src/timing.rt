@@ -17,7 +17,7 @@ pub fn slice(bytes: &[u8]) -> EndianSlice<'_, LittleEndian> {
 }
 
 /// A reader of shared bytes, which are a copy of these.
-pub fn shared<R: AllocGlobal>(rt: &R, bytes: &[u8]) -> io::Result<EndianBytes<LittleEndian>> {
+pub fn share<R: AllocGlobal>(rt: &R, bytes: &[u8]) -> io::Result<EndianBytes<LittleEndian>> {
     let bytes = Bytes::copy_from_slice(rt.alloc(), bytes)?;
     Ok(EndianBytes::new(bytes, LittleEndian))
 }

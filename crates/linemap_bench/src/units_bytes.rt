@@ -79,7 +79,7 @@ fn unit(alloc: Global, size: usize) -> Result<Vec<u8>, AllocError> {
         }
     }
     entries.push(0)?;
-    headed(alloc, &entries)
+    with_header(alloc, &entries)
 }
 
 fn function(source: &mut Source, bytes: &mut Vec<u8>) -> Result<(), AllocError> {
@@ -142,7 +142,7 @@ fn structure(source: &mut Source, bytes: &mut Vec<u8>) -> Result<(), AllocError>
 }
 
 // The header of version 5 in the 32-bit format, and the entries after it.
-fn headed(alloc: Global, entries: &[u8]) -> Result<Vec<u8>, AllocError> {
+fn with_header(alloc: Global, entries: &[u8]) -> Result<Vec<u8>, AllocError> {
     let length = u32::try_from(entries.len())
         .unwrap_or(0)
         .wrapping_add(AFTER_LENGTH);

@@ -1,6 +1,6 @@
 //! Answers as they are written.
 
-use crate::emitted::Refusal;
+use crate::emission::Refusal;
 use addr2line_context::Error;
 use linemap_lookup::LoadError;
 use std::alloc::{AllocError, Global};

@@ -1,7 +1,7 @@
 //! The frames of an address, from the image of a table.
 
 use crate::answer::Answer;
-use crate::emitted::image_of;
+use crate::emission::image_of;
 use crate::places;
 use crate::question::{Change, Probe};
 use addr2line_context::{Error, Frame, FrameIter, Reader};

@@ -1,7 +1,7 @@
 //! What `lookup` prints of the image of a table, over streams that fail.
 
 use crate::answer::Answer;
-use crate::emitted::image_of;
+use crate::emission::image_of;
 use crate::question::{Change, change_of, target_of};
 use crate::streams::{CutReader, CutWriter, Fault};
 use bytes::Bytes;

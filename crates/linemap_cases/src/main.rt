@@ -31,14 +31,14 @@
 #![tactic(auto)]
 
 mod answer;
-mod emitted;
+mod emission;
 mod frames;
+mod image_file;
 mod lookup;
 mod places;
 mod question;
 mod replays;
 mod streams;
-mod written;
 
 use answer::Answer;
 use question::{Question, Topic, question_in};

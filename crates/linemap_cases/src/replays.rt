@@ -1,7 +1,7 @@
 //! Calls on one context over what is emitted of a table.
 
 use crate::answer::Answer;
-use crate::emitted::sections_of;
+use crate::emission::sections_of;
 use crate::places;
 use crate::question::{Probe, Series};
 use addr2line_context::{EndianSlice, Location, RunTimeEndian};

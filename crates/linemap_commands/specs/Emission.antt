@@ -44,12 +44,12 @@ IsFitting e (Ok units) = fits e.address_size units ≡ true
 
 -- the refusal is the text's own, or memory is refused: for the table, or for the emission of one
 -- that fits
-abbrev pub Refuses : Encoding → Result (List UnitPart) TableError → Refusal → Type 0
-Refuses e table TableMemory = ⊤
-Refuses e table (Table error) = refusal_of e table ≡ Some (Table error)
-Refuses e table DoesNotFit = refusal_of e table ≡ Some DoesNotFit
-Refuses e table EmissionMemory = IsFitting e table
-Refuses e table TooLarge = refusal_of e table ≡ Some TooLarge
+abbrev pub RefusesTable : Encoding → Result (List UnitPart) TableError → Refusal → Type 0
+RefusesTable e table TableMemory = ⊤
+RefusesTable e table (Table error) = refusal_of e table ≡ Some (Table error)
+RefusesTable e table DoesNotFit = refusal_of e table ≡ Some DoesNotFit
+RefusesTable e table EmissionMemory = IsFitting e table
+RefusesTable e table TooLarge = refusal_of e table ≡ Some TooLarge
 
 -- ---- what is made
 
@@ -84,5 +84,5 @@ Reports refusal old new e =
 pub record EndsRefused (encoding : Encoding) (table : Result (List UnitPart) TableError)
     (old new : Option (List ℕ)) (e : Ended) : Type 0 where
   pub why : Refusal
-  pub refuses : Refuses encoding table why
+  pub refuses : RefusesTable encoding table why
   pub reports : Reports why old new e

@@ -4,7 +4,7 @@ ghost use Rattle.std.specs.Prelude.{◌≡◌, IfErr, IfOk, OnOk};
 ghost use Rattle.std.specs.Io.KnownBytes.{Keeps};
 ghost use Rattle.linemap_image.specs.EmissionTargets.{encoding_of, is_big_of};
 ghost use Rattle.linemap_image.specs.TableInText.{table_in};
-ghost use Rattle.linemap_commands.specs.Emission.{EndsRefused, IsImage, Refuses, Reports};
+ghost use Rattle.linemap_commands.specs.Emission.{EndsRefused, IsImage, RefusesTable, Reports};
 
 use crate::reports::table_out_of_memory;
 use linemap_image::{EmitError, Table, TableError, Target, emit};
@@ -93,7 +93,7 @@ pub fn emission<E: Write>(
 fn image_of(alloc: Global, text: &[u8], target: Target) -> Result<Vec<u8>, Refusal>
     ensures image { IfOk result (λ image. IsImage (encoding_of target) (is_big_of target)
         (table_in text.now) image.items) }
-    ensures refusal { IfErr result (Refuses (encoding_of target) (table_in text.now)) }
+    ensures refusal { IfErr result (RefusesTable (encoding_of target) (table_in text.now)) }
 {
     let table = Table::read(alloc, text)?;
     if !table.fits(&target) {

@@ -6,21 +6,21 @@ use Rattle.gimli_lines_write_bytes.specs.Fixed.{number_bytes}
 use Rattle.gimli_lines_write_bytes.proofs.NumberRoundTrip.{length-spelled}
 use Rattle.addr2line_elf.specs.declared.class.Class.{Class}
 use Rattle.addr2line_elf.specs.declared.class.Class.TheVariants.{Elf32, Elf64}
-use Rattle.linemap_elf.specs.SpelledImages.{Field, spelled_fields, file_header_size, spelled_identification, file_header_fields, NamedBytes, program_section, names_section, all_sections, body, body_end, next_multiple_of_8, table_offset, header_count, padding, spelled_file_header, spelled_table, spelled_image}
+use Rattle.linemap_elf.specs.SpelledImages.{SizedNumber, spelled_fields, file_header_size, spelled_identification, file_header_fields, NamedBytes, program_section, names_section, all_sections, body, body_end, next_multiple_of_8, table_offset, header_count, padding, spelled_file_header, spelled_table, spelled_image}
 
 -- ---- headers
 
-length-spelled_fields : (is_big : Bool) (fields : List Field)
+length-spelled_fields : (is_big : Bool) (fields : List SizedNumber)
     → length (spelled_fields is_big fields) ≡ sum_by (λ f. f.width) fields
 length-spelled_fields is_big [] = refl
 length-spelled_fields is_big (f ∷ fs) =
     length-append (number_bytes is_big f.width f.value) (spelled_fields is_big fs)
     ∙ ap (λ n. n + length (spelled_fields is_big fs)) (length-spelled is_big f.width f.value)
     ∙ ap (λ n. f.width + n) (length-spelled_fields is_big fs)
-    ∙ sym (sum_by-cons (λ (g : Field). g.width) f fs)
+    ∙ sym (sum_by-cons (λ (g : SizedNumber). g.width) f fs)
 
 file_header_widths : (class : Class) (offset count : ℕ)
-    → 16 + sum_by (λ (f : Field). f.width) (file_header_fields class offset count) ≡ file_header_size class
+    → 16 + sum_by (λ (f : SizedNumber). f.width) (file_header_fields class offset count) ≡ file_header_size class
 file_header_widths Elf32 offset count = refl
 file_header_widths Elf64 offset count = refl
 

@@ -24,7 +24,7 @@ use Rattle.addr2line_elf.specs.ImageLoading.{or_truncated, read_in}
 use Rattle.addr2line_elf.specs.ElfImages.{Image, Identification, identification, Sections, section_count, names_index, linked_contents, contents_of, contents, table, sections_of, image_in, image_of}
 use Rattle.addr2line_elf.specs.ElfSymbols.{symbols_of, symbols_at, section_or}
 use Rattle.linemap_elf.specs.SpelledImages.{file_header_size, spelled_identification, spelled_fields, file_header_fields, spelled_section_header, FitsHeader, null_header, NamedBytes, ImageSection, program_section, spelled_name, names_section, all_sections, header_of, headers_from, body, body_end, table_offset, header_count, padding, spelled_file_header, spelled_table, spelled_image}
-use Rattle.linemap_elf.specs.ImageLaws.{is_name, ImageFits, bytes_named, HasBytes, HoldsSections}
+use Rattle.linemap_elf.specs.ImageLaws.{is_name, ImageFits, bytes_named, SectionHasBytes, HoldsSections}
 use Rattle.linemap_elf.proofs.HeadersRead.{again_skip, file_header_of, file_header_again, section_header_again, AllFitHeaders, table_again}
 use Rattle.linemap_elf.proofs.SectionsFound.{IsOfContents, contents_are, image_with, section_is, AllOfContents, sections_found, none_of_type, length-headers_from, last_header, all_fit}
 use Rattle.linemap_elf.proofs.ImageSizes.{length-file_header, length-all_sections, multiple_after, before_table, length-before_table, table_last}
@@ -277,7 +277,7 @@ module _ (class : Class) (is_big : Bool) (sections : List NamedBytes) (fits : Im
       (spelled_fields is_big (file_header_fields class offset count) ++ (body sections ++ rest)))
       ∙ in_file
 
-  each : (name : List ℕ) → HasBytes image is_big name (bytes_named name sections_all)
+  each : (name : List ℕ) → SectionHasBytes image is_big name (bytes_named name sections_all)
   each name =
       let found =
       sections_found is_big file own.bytes name sections_all 1 (file_header_size class)

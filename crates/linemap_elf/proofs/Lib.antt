@@ -1,6 +1,6 @@
-pub mod HeadersRead
-pub mod SectionsFound
-pub mod ImageSizes
-pub mod ImagesRead
+mod HeadersRead
+mod SectionsFound
+mod ImageSizes
+mod ImagesRead
 pub mod WrittenParts
-pub mod HeaderLoops
+mod HeaderLoops

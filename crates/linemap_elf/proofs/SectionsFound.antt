@@ -80,7 +80,7 @@ text_is before name rest offset good at =
 
 -- ---- sections by name
 
--- the bytes that a header tells of, in a file; none of no header
+-- the bytes that a header describes, in a file; none without a header
 abbrev pub contents_of_any : Option SectionHeader → View → Result View LoadError
 contents_of_any None file = Ok (prefix 0 file)
 contents_of_any (Some h) file = contents h file

@@ -28,7 +28,7 @@ bytes_named name [] = []
 bytes_named name (s ∷ ss) = if pointwise nat_eq s.name name then s.bytes else bytes_named name ss
 
 -- an image's section of a name has these bytes, in an order
-pub record HasBytes (image : Image) (is_big : Bool) (name bytes : List ℕ) : Type 0 where
+pub record SectionHasBytes (image : Image) (is_big : Bool) (name bytes : List ℕ) : Type 0 where
   pub first : ℕ
   pub section_is : section_named name image ≡ Ok (bytes_at is_big first bytes)
 
@@ -37,7 +37,7 @@ pub record HoldsSections (is_big : Bool) (sections : List ImageSection) (file : 
   where
     pub image : Image
     pub image_is : image_of file ≡ Ok image
-    pub each : (name : List ℕ) → HasBytes image is_big name (bytes_named name sections)
+    pub each : (name : List ℕ) → SectionHasBytes image is_big name (bytes_named name sections)
     pub no_symbols : symbols_of image ≡ Ok []
 
 abbrev pub ImagesAgain : Type 0

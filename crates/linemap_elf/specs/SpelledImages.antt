@@ -13,22 +13,22 @@ use Rattle.linemap_elf.specs.declared.constants.TheConstants.{ELFCLASS32, ELFCLA
 -- ---- fields
 
 -- a number, and how many bytes it is written in
-pub record Field : Type 0 where
+pub record SizedNumber : Type 0 where
   pub width : ℕ
   pub value : ℕ
 
 -- a half word, a word, and an address, an offset or a size of a class
-abbrev pub half : ℕ → Field
+abbrev pub half : ℕ → SizedNumber
 half n = record { width = 2; value = n }
 
-abbrev pub word : ℕ → Field
+abbrev pub word : ℕ → SizedNumber
 word n = record { width = 4; value = n }
 
-abbrev pub address : Class → ℕ → Field
+abbrev pub address : Class → ℕ → SizedNumber
 address class n = record { width = word_size class; value = n }
 
 -- fields one after the other
-abbrev pub spelled_fields : Bool → List Field → List ℕ
+abbrev pub spelled_fields : Bool → List SizedNumber → List ℕ
 spelled_fields is_big fields = flat_map (λ f. number_bytes is_big f.width f.value) fields
 
 -- ---- the file's header
@@ -54,7 +54,7 @@ spelled_identification class is_big =
 -- of the names: type, machine and version; entry point, offset of program headers, offset of
 -- section headers; flags; sizes of this header and of a program header, number of program headers;
 -- size and number of section headers, and the index of the names.
-abbrev pub file_header_fields : Class → ℕ → ℕ → List Field
+abbrev pub file_header_fields : Class → ℕ → ℕ → List SizedNumber
 file_header_fields class table_offset count =
     half ET_EXEC ∷ half EM_NONE ∷ word EV_CURRENT
     ∷ address class 0 ∷ address class 0 ∷ address class table_offset
@@ -65,7 +65,7 @@ file_header_fields class table_offset count =
 -- ---- section headers
 
 -- name, type, flags, address, offset, size, link, info, alignment, and the size of an entry
-abbrev pub section_header_fields : Class → ℕ → SectionHeader → List Field
+abbrev pub section_header_fields : Class → ℕ → SectionHeader → List SizedNumber
 section_header_fields class alignment h =
     word h.name ∷ word h.section_type ∷ address class h.flags ∷ address class h.address
     ∷ address class h.offset ∷ address class h.size ∷ word h.link ∷ word h.info

@@ -3,7 +3,7 @@ use Rattle.std.specs.Prelude.{ℕ, Bool, List, ◌++◌, flat_map}
 use Rattle.addr2line_elf.specs.declared.class.Class.{Class}
 use Rattle.linemap_elf.specs.declared.field.Field as declared
 use Rattle.linemap_elf.specs.declared.field.Field.TheVariants.{Half, Word, Xword}
-use Rattle.linemap_elf.specs.SpelledImages.{Field, half, word, NamedBytes, spelled_name}
+use Rattle.linemap_elf.specs.SpelledImages.{SizedNumber, half, word, NamedBytes, spelled_name}
 
 -- a field as a width and a value
 abbrev pub field_of : declared.Field → Field

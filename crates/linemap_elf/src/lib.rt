@@ -5,7 +5,7 @@ pub mod constants;
 pub mod field;
 mod headers;
 mod image;
-pub mod laws;
+pub mod image_laws;
 pub mod section;
 mod sections;
 pub mod writer;

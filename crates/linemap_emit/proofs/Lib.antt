@@ -1,7 +1,7 @@
 pub use Rattle.linemap_emit_laws.proofs.LookupsWithoutLoads
 pub use Rattle.linemap_emit_fits.proofs.EmissionSums
-pub mod SectionAnswerLemmas
-pub mod ServedEncodings
-pub mod TableEmitterLemmas
-pub mod UnitTextLemmas
+mod SectionAnswerLemmas
+mod ServedEncodings
+mod TableEmitterLemmas
+mod UnitTextLemmas
 pub mod FittingTables

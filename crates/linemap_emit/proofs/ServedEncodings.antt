@@ -1,10 +1,9 @@
--- What holds in the encodings that are served.
-use Rattle.std.proofs.Common.{◌≡◌, ℕ, ◌<◌, ◌≤◌, ◌^◌, Bool, true, not, ◌==◌, ◌&&◌, ◌||◌, nat_le, List, refl, ap, inl, inr, arith}
+-- What holds in the encodings of targets.
+use Rattle.std.proofs.Common.{◌≡◌, ℕ, ◌≤◌, ◌^◌, Bool, true, not, ◌==◌, ◌&&◌, ◌||◌, nat_le, List, refl, ap, inl, inr, arith}
 use Rattle.std.specs.Prelude.{All}
 use Rattle.std.proofs.lemmas.Bool.{and_parts, or_cases, eqb-true, leb-true}
 use Rattle.linemap_emit_fits.specs.Encoding.{Encoding}
 use Rattle.linemap_emit_fits.specs.NumberParsers.{is_address_size}
-use Rattle.linemap_emit_fits.specs.RowPieces.{IsBuildable}
 use Rattle.linemap_table.specs.EmissionTargets.{encoding_of}
 use Rattle.linemap_table.specs.TargetEncodings.{is_64_bit}
 use Rattle.linemap_table.specs.declared.target.Target.{Target}
@@ -12,39 +11,13 @@ use Rattle.linemap_emit_fits.specs.Entry.{Entry}
 use Rattle.linemap_emit_laws.proofs.EmittedFunctionLemmas.{entries_below}
 use Rattle.linemap_emit_fits.specs.EmittedEntries.{AllFit, attributes_of}
 use Rattle.linemap_emit_fits.specs.EmittedUnits.{IsWritten}
-use Rattle.linemap_emit_fits.specs.EmittedRows.{emitted_rules}
-use Rattle.linemap_emit_fits.specs.FittingUnits.{IsServed}
-use Rattle.linemap_emit_fits.specs.NumberBytes.{length_limit}
-use Rattle.linemap_emit_laws.proofs.EmittedProgramLemmas.{length_fits}
-
-pub is_written : (e : Encoding) → IsServed e → IsWritten e
-is_written e served = record {
-  not_before_2 = served.not_before_2;
-  not_after_5 = served.not_after_5;
-  has_address_size = served.has_address_size;
-}
-
-pub is_buildable : (e : Encoding) → IsServed e → IsBuildable (emitted_rules e)
-is_buildable e served = record {
-  has_address_size = served.has_address_size;
-  has_bytes = omega arith;
-  has_operations = omega arith;
-  base_is_low = search tt;
-  covers_zero = search tt;
-  range_is_low = omega arith;
-  first_special = refl;
-}
-
--- small lengths can be written
-pub below_limit : (e : Encoding) (n : ℕ) → n < 2 ^ 31 → n < length_limit e.format
-below_limit e n small = length_fits e.format n small
 
 -- entries that fit below a limit fit below a larger one
 pub entries_fit : (e : Encoding) (xs : List Entry) → All (λ x. AllFit (2 ^ 31) e (attributes_of x)) xs
     → All (λ x. AllFit (2 ^ 64) e (attributes_of x)) xs
 entries_fit e xs h = entries_below (2 ^ 64) e xs (omega arith) h
 
--- ---- the targets that are served
+-- ---- the encoding of a target can be written
 
 -- the version and the size of addresses
 not_before_2 : (version : ℕ) (b : Bool)
@@ -67,8 +40,8 @@ not_after_5 version b h = elim (or_cases ((version == 2) && b) (nat_le 3 version
   | inr new ↦ leb-true version 5 (and_parts (nat_le 3 version) (nat_le version 5) new).1
 ]
 
-pub target_served : (t : Target) → IsServed (encoding_of t)
-target_served t =
+pub target_is_written : (t : Target) → IsWritten (encoding_of t)
+target_is_written t =
     let e = encoding_of t in
     let version = ((e.version == 2) && not (is_64_bit e.format)) || (nat_le 3 e.version && nat_le e.version 5) in
     let parts = and_parts version ((e.address_size == 4) || (e.address_size == 8)) t.served in

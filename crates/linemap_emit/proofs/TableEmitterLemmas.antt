@@ -9,12 +9,12 @@ use Rattle.linemap_emit_fits.specs.Entry.{Entry}
 use Rattle.linemap_emit_fits.specs.EmittedEntries.{AllFit, attributes_of, spelled_declarations}
 use Rattle.linemap_emit_fits.specs.EmittedSections.{sections_of}
 use Rattle.linemap_emit_fits.specs.StringSections.{section_of}
-use Rattle.linemap_emit_fits.specs.EmittedUnits.{spelled_unit_body, spelled_unit, spelled_units}
+use Rattle.linemap_emit_fits.specs.EmittedUnits.{IsWritten, spelled_unit_body, spelled_unit, spelled_units}
 use Rattle.linemap_emit_fits.specs.Entry.TheVariants.{AbstractFunction}
 use Rattle.linemap_emit_fits.specs.InlinedNames.{inlined_names}
 use Rattle.linemap_emit_fits.specs.UnitEmission.{EmittedUnit, CanEmitUnit, text_offset, with_name, with_entry, has_calls, with_end_of_children, with_abstract_functions, with_call, with_calls, with_function_entry, with_function, with_functions, with_unit_entry, with_unit, without_entries}
 use Rattle.linemap_emit_fits.specs.TableEmission.{EmittedTable, no_units, number_of, emitted_table, before_entries, after_entries, with_emitted_unit, with_emitted_units}
-use Rattle.linemap_emit_fits.specs.FittingUnits.{IsServed, UnitFits, AllUnitsFit}
+use Rattle.linemap_emit_fits.specs.FittingUnits.{UnitFits, AllUnitsFit}
 use Rattle.linemap_emit_fits.specs.WriteError.{Error}
 use Rattle.linemap_emit_fits.specs.RowPieces.{IsBuildable}
 use Rattle.linemap_emit_fits.specs.NumberBytes.{constant_of}
@@ -27,7 +27,7 @@ use Rattle.linemap_emit_fits.proofs.EmittedRowsBuilt.{sequences_ordered}
 use Rattle.linemap_emit_fits.proofs.PlacedFiles.{place_is_low}
 use Rattle.linemap_emit_fits.proofs.BuiltUnits.{ids_counted}
 use Rattle.linemap_emit_fits.proofs.UnitProgramsRead.{program_known}
-use Rattle.linemap_emit.proofs.ServedEncodings.{is_buildable}
+use Rattle.linemap_emit_laws.proofs.EmittedProgramLemmas.{buildable}
 use Rattle.linemap_emit.specs.declared.table_emitter.TableEmitter.{TableEmitter}
 use Rattle.linemap_emit.specs.TableEmitterSteps.{bytes_in_order, unit_after_entries, with_unit_added, HoldsTable, CanAddUnit, sections_in}
 
@@ -214,7 +214,7 @@ unit_ready u s t =
     let info_big : t.is_big ≡ s.info.is_big = sym (ap (λ (x : WriterContents). x.is_big) t.holds_before.units_are) in
     let small_there : length (spelled_unit_body e t.is_big (unit_after_entries u s).entries) < 2 ^ 31 =
     subst (λ (x : EmittedUnit). length (spelled_unit_body e t.is_big x.entries) < 2 ^ 31) here fits.entries_small in
-    let built = is_buildable e t.is_served in
+    let built = buildable e t.is_written in
     record {
       buildable = built;
       texts = fits.table_texts;
@@ -294,14 +294,14 @@ pub others_fit : (e : Encoding) (is_big : Bool) (u : UnitPart) (us : List UnitPa
 unfolding AllUnitsFit
 others_fit e is_big u us st fit = fit.1
 
-pub can_take : (e : Encoding) (is_big : Bool) (u : UnitPart) (st : EmittedTable) (s : TableEmitter) → IsServed e
+pub can_take : (e : Encoding) (is_big : Bool) (u : UnitPart) (st : EmittedTable) (s : TableEmitter) → IsWritten e
     → HoldsTable e is_big st s → UnitFits e is_big u st → CanAddUnit u s
 can_take e is_big u st s served holds_before fits =
     let same = sym holds_before.encoding_is in
     record {
       before = st;
       is_big = is_big;
-      is_served = subst IsServed same served;
+      is_written = subst IsWritten same served;
       holds_before = subst (λ (x : Encoding). HoldsTable x is_big st s) same holds_before;
       fits = subst (λ (x : Encoding). UnitFits x is_big u st) same fits;
     }

@@ -3,14 +3,14 @@ use Rattle.std.specs.Prelude.{◌≡◌, ℕ, nat_le, Bool, List, [], length, if
 use Rattle.linemap_emit_fits.specs.Encoding.{Encoding}
 use Rattle.linemap_emit_fits.specs.OutputBytes.{WriterContents, append}
 use Rattle.linemap_table.specs.TableParts.{UnitPart}
-use Rattle.linemap_emit_fits.specs.EmittedUnits.{spelled_unit, spelled_units}
+use Rattle.linemap_emit_fits.specs.EmittedUnits.{IsWritten, spelled_unit, spelled_units}
 use Rattle.linemap_emit_fits.specs.UnitEmission.{EmittedUnit, with_unit, without_entries}
 use Rattle.linemap_emit_fits.specs.EmittedFiles.{unit_files, unit_file_ids, file_number}
 use Rattle.linemap_emit_fits.specs.EmittedPrograms.{line_program_bytes, bytes_if_any}
 use Rattle.linemap_emit_fits.specs.TableEmission.{EmittedTable, before_entries}
 use Rattle.linemap_emit_fits.specs.EmittedRanges.{spelled_lists}
 use Rattle.linemap_emit_fits.specs.EmittedSections.{SectionBytes}
-use Rattle.linemap_emit_fits.specs.FittingUnits.{IsServed, UnitFits}
+use Rattle.linemap_emit_fits.specs.FittingUnits.{UnitFits}
 use Rattle.linemap_emit.specs.declared.table_emitter.TableEmitter.{TableEmitter}
 
 -- bytes in an order
@@ -61,6 +61,6 @@ sections_in s declarations line_texts texts = record {
 pub record CanAddUnit (u : UnitPart) (s : TableEmitter) : Type 0 where
   pub before : EmittedTable
   pub is_big : Bool
-  pub is_served : IsServed s.encoding
+  pub is_written : IsWritten s.encoding
   pub holds_before : HoldsTable s.encoding is_big before s
   pub fits : UnitFits s.encoding is_big u before

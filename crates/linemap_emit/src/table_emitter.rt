@@ -7,12 +7,12 @@ ghost use Rattle.linemap_emit_fits.specs.NumberBytes.{length_limit};
 ghost use Rattle.linemap_emit_fits.specs.StringSections.{section_of};
 ghost use Rattle.linemap_table.specs.TableViews.{unit_part};
 ghost use Rattle.linemap_emit_fits.specs.EmittedEntries.{AllFit, attributes_of, spelled_declarations};
-ghost use Rattle.linemap_emit_fits.specs.EmittedUnits.{spelled_unit_body, spelled_unit};
+ghost use Rattle.linemap_emit_fits.specs.EmittedUnits.{IsWritten, spelled_unit_body, spelled_unit};
 ghost use Rattle.linemap_emit_fits.specs.WriteResults.{Appends};
 ghost use Rattle.linemap_emit_fits.specs.EmittedFiles.{file_number};
 ghost use Rattle.linemap_emit_fits.specs.UnitEmission.{CanEmitUnit, with_unit, without_entries};
 ghost use Rattle.linemap_emit_fits.specs.TableEmission.{no_units, emitted_table};
-ghost use Rattle.linemap_emit_fits.specs.FittingUnits.{IsServed, AllUnitsFit};
+ghost use Rattle.linemap_emit_fits.specs.FittingUnits.{AllUnitsFit};
 ghost use Rattle.linemap_table.specs.EmissionTargets.{encoding_of, is_big_of};
 ghost use Rattle.linemap_emit_fits.specs.EmittedSections.{emitted_sections};
 ghost use Rattle.linemap_emit.specs.TableEmitterSteps.{CanAddUnit, HoldsTable, sections_in, with_unit_added};
@@ -37,7 +37,7 @@ pub struct TableEmitter {
 }
 
 // Writes the entries of a unit whose line number program is at an offset.
-#[tactic(auto, using(crate::proofs::ServedEncodings::is_written, crate::proofs::ServedEncodings::entries_fit, crate::proofs::ServedEncodings::below_limit))]
+#[tactic(auto, using(crate::proofs::ServedEncodings::entries_fit, linemap_emit_laws::proofs::EmittedProgramLemmas::length_fits))]
 fn write_info(
     alloc: Global,
     w: &mut EndianVec<RunTimeEndian>,
@@ -47,7 +47,7 @@ fn write_info(
     files: &[FileId],
     line_program: u64,
 ) -> Result<(), Error>
-    requires served { IsServed encoding }
+    requires can_write { IsWritten encoding }
     requires same { emitter.old.encoding ≡ encoding }
     requires files { length files.now ≡ length (unit_part unit.now).files }
     requires can { CanEmitUnit encoding.address_size (unit_part unit.now) }
@@ -145,7 +145,7 @@ impl TableEmitter {
     }
 
     // All sections, with those of the declarations and of the texts.
-    #[tactic(auto, using(crate::proofs::ServedEncodings::below_limit))]
+    #[tactic(auto, using(linemap_emit_laws::proofs::EmittedProgramLemmas::length_fits))]
     fn into_sections(
         self,
         alloc: Global,

@@ -1,9 +1,9 @@
 pub use Rattle.linemap_frames_laws.proofs.AgreeingFunctions
 pub use Rattle.linemap_frames_laws.proofs.AgreeingFrames
 pub use Rattle.linemap_frames_laws.proofs.TableFrames
-pub mod EntryDepths
-pub mod EntryFacts
-pub mod OriginNames
-pub mod CallEntriesRead
-pub mod FunctionEntriesRead
+mod EntryDepths
+mod EntryFacts
+mod OriginNames
+mod CallEntriesRead
+mod FunctionEntriesRead
 pub mod UnitFunctionsFound

@@ -22,13 +22,12 @@ use Rattle.linemap_emit_units.specs.Entry.TheVariants.{CompileUnit, AbstractFunc
 use Rattle.linemap_emit_units.specs.EmittedEntries.{attributes_of, spelled_entry, declarations, spelled_attributes, spelled_declaration, spelled_declarations}
 use Rattle.linemap_emit_units.specs.EmittedEntryRows.{spelled_entries}
 use Rattle.linemap_emit_units.specs.EmittedRanges.{spelled_ranges, spelled_lists_header, spelled_lists}
-use Rattle.linemap_emit_units.specs.EmittedUnits.{spelled_fields, spelled_unit_body, spelled_unit, spelled_units}
+use Rattle.linemap_emit_units.specs.EmittedUnits.{IsWritten, spelled_fields, spelled_unit_body, spelled_unit, spelled_units}
 use Rattle.linemap_emit_units.specs.EmittedSections.{emitted_sections}
 use Rattle.linemap_emit_units.specs.InlinedNames.{inlined_names}
 use Rattle.linemap_emit_units.specs.LookupAgreement.{lookup_range}
 use Rattle.linemap_emit_units.specs.NumberBytes.{spelled_length}
 use Rattle.linemap_emit_units.specs.SoundSequences.{CanEmitSequences, AllCanEmitSequences}
-use Rattle.linemap_emit_units.specs.FittingUnits.{IsServed}
 use Rattle.linemap_emit_units.specs.UnitEmission.{EmittedUnit, text_offset, with_name, with_list, list_offset, with_entry, has_calls, with_end_of_children, with_abstract_functions, origin_of, with_call, with_calls, with_function_entry, with_function, with_functions, with_unit_entry, with_unit}
 use Rattle.linemap_emit_units.specs.TableEmission.{EmittedTable, no_units, number_of, before_entries, after_entries, with_emitted_unit, with_emitted_units, emitted_table}
 use Rattle.linemap_emit_units.specs.EmittedPrograms.{line_program_bytes, bytes_if_any}
@@ -178,7 +177,7 @@ unit_few e is_big xs =
     sum : (l f x b n : ℕ) → l ≤ 12 → f ≤ 12 → b ≡ f + x → n ≡ l + b → n ≤ 24 + x
     sum l f x b n g h i j = omega arith
 
-module _ (e : Encoding) (is_big : Bool) (served : IsServed e) where
+module _ (e : Encoding) (is_big : Bool) (served : IsWritten e) where
   unit_added : (m : ℕ) (u : UnitPart) (st : EmittedTable)
       → CanEmitSequences e.address_size (length u.files) u.sequences → CanEmitUnitSequences e.address_size u
       → IsTableBounded m st → m + unit_weight u < 2 ^ 31 → IsTableSummed e is_big m st
@@ -305,7 +304,7 @@ lists_few e is_big false lists =
     let whole = length-append (spelled_lists_header e is_big (length lists)) lists in
     omega arith
 
-pub weight_bounds_size : (e : Encoding) (is_big : Bool) (us : List UnitPart) → IsServed e → IsSound us
+pub weight_bounds_size : (e : Encoding) (is_big : Bool) (us : List UnitPart) → IsWritten e → IsSound us
     → fits e.address_size us ≡ true → table_weight us < 2 ^ 31
     → sections_size (emitted_sections e is_big us) ≤ table_weight us
 unfolding section_of

@@ -10,7 +10,7 @@ use Rattle.linemap_emit_units.specs.EncodingFits.{fits}
 use Rattle.linemap_emit_units.specs.TableParts.{FilePart, UnitPart}
 use Rattle.linemap_emit_units.specs.TableWeight.{file_weight, sequence_weight, unit_weight, table_weight}
 use Rattle.linemap_emit_units.specs.EmittedEntryRows.{spelled_entries}
-use Rattle.linemap_emit_units.specs.EmittedUnits.{spelled_fields}
+use Rattle.linemap_emit_units.specs.EmittedUnits.{IsWritten, spelled_fields}
 use Rattle.linemap_emit_units.specs.SoundSequences.{CanEmitSequences, AllCanEmitSequences}
 use Rattle.linemap_emit_units.proofs.SoundSequenceLemmas.{sound_can_emit}
 use Rattle.linemap_emit_units.proofs.Wrapping.{at_most_eight}
@@ -19,7 +19,7 @@ use Rattle.linemap_emit_units.specs.EmittedFiles.{unit_files}
 use Rattle.linemap_emit_units.specs.EmittedPrograms.{line_program_bytes, bytes_if_any}
 use Rattle.linemap_emit_units.proofs.SoundFiles.{unit_sound}
 use Rattle.linemap_emit_units.proofs.PlacedFiles.{numbers_low}
-use Rattle.linemap_emit_units.specs.FittingUnits.{IsServed, UnitFits, AllUnitsFit}
+use Rattle.linemap_emit_units.specs.FittingUnits.{UnitFits, AllUnitsFit}
 use Rattle.linemap_emit_fits.specs.EmissionBounds.{IsUnitBounded, IsTableBounded}
 use Rattle.linemap_emit_fits.proofs.InstructionSizes.{IsWithin}
 use Rattle.linemap_emit_fits.proofs.EntryListSizes.{fields_few}
@@ -30,7 +30,7 @@ use Rattle.linemap_emit_fits.proofs.LineProgramSizes.{program_within}
 use Rattle.linemap_emit_fits.proofs.EntrySizes.{unit_most, unit_is_bounded}
 use Rattle.linemap_emit_fits.proofs.SoundUnitFits.{CanEmitUnitSequences, plain_can_emit, AllPlain, sound_is_plain}
 
-module _ (e : Encoding) (is_big : Bool) (served : IsServed e) where
+module _ (e : Encoding) (is_big : Bool) (served : IsWritten e) where
   -- the entries of a unit after others
   entries_bounded : (m : ℕ) (u : UnitPart) (st : EmittedTable) → length u.files < 2 ^ 31
       → CanEmitUnitSequences e.address_size u → IsTableBounded m st → m + unit_weight u < 2 ^ 31
@@ -145,7 +145,7 @@ module _ (e : Encoding) (is_big : Bool) (served : IsServed e) where
             (unit_bounded m u st rows.0 can bounded here) (omega arith),
       )
 
-pub tables_fit : (e : Encoding) (is_big : Bool) (us : List UnitPart) → IsServed e → IsSound us
+pub tables_fit : (e : Encoding) (is_big : Bool) (us : List UnitPart) → IsWritten e → IsSound us
     → fits e.address_size us ≡ true → table_weight us < 2 ^ 31 → AllUnitsFit e is_big us no_units
 unfolding section_of
 tables_fit e is_big us served sound fitting light =

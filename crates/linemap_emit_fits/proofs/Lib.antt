@@ -3,14 +3,14 @@ pub use Rattle.linemap_emit_units.proofs.BuiltUnits
 pub use Rattle.linemap_emit_units.proofs.PlacedFiles
 pub use Rattle.linemap_emit_units.proofs.EmittedRowsBuilt
 pub use Rattle.linemap_emit_units.proofs.EmittedCallLemmas
-pub mod NumberSizes
-pub mod StringSectionSizes
-pub mod InstructionSizes
-pub mod EntryListSizes
-pub mod InlinedNameSizes
-pub mod FileTableSizes
-pub mod LineProgramSizes
-pub mod EntrySizes
-pub mod SoundUnitFits
+mod NumberSizes
+mod StringSectionSizes
+mod InstructionSizes
+mod EntryListSizes
+mod InlinedNameSizes
+mod FileTableSizes
+mod LineProgramSizes
+mod EntrySizes
+mod SoundUnitFits
 pub mod EmittedUnitSizes
 pub mod EmissionSums

@@ -30,7 +30,7 @@ use Rattle.linemap_emit_units.specs.SoundSequences.{CanEmitSequences}
 use Rattle.linemap_emit_units.specs.TableParts.{UnitPart}
 use Rattle.linemap_emit_units.specs.TableWeight.{sequence_weight}
 use Rattle.linemap_emit_units.specs.EmittedRows.{emitted_rules, emitted_sequences}
-use Rattle.linemap_emit_units.specs.FittingUnits.{IsServed}
+use Rattle.linemap_emit_units.specs.EmittedUnits.{IsWritten}
 use Rattle.linemap_emit_units.specs.Fixed.{number_bytes}
 use Rattle.linemap_emit_units.specs.Spelling.{unsigned_string}
 use Rattle.linemap_emit_units.proofs.NumberRoundTrip.{length-spelled}
@@ -285,8 +285,9 @@ listed_few version (t ∷ ts) = by (nat_le version 4)
     by true = let whole = sum_by-cons text_size t ts in omega arith
     by false = omega arith
 
-module _ (e : Encoding) (is_big : Bool) (served : IsServed e) (st : EmittedFiles) (same : st.tables.version ≡ e.version)
-    (sound : AreSound st) (small : length (section_of st.line_texts) < 2 ^ 31) where
+module _ (e : Encoding) (is_big : Bool) (served : IsWritten e) (st : EmittedFiles)
+    (same : st.tables.version ≡ e.version) (sound : AreSound st)
+    (small : length (section_of st.line_texts) < 2 ^ 31) where
   -- the tables of a version
   abbrev tables_in : ℕ → Tables
   tables_in version = record {
@@ -387,7 +388,7 @@ module _ (e : Encoding) (is_big : Bool) (served : IsServed e) (st : EmittedFiles
         (unit_bytes constant_of is_big (emitted_rules e) (tables_in v) entries)) (sym same) unit_within
 
 -- a unit's program
-pub program_within : (e : Encoding) (is_big : Bool) (u : UnitPart) (line_texts : List (List ℕ)) → IsServed e
+pub program_within : (e : Encoding) (is_big : Bool) (u : UnitPart) (line_texts : List (List ℕ)) → IsWritten e
     → HasTableTexts u → All IsText line_texts → CanEmitSequences e.address_size (length u.files) u.sequences
     → length (section_of (unit_files e u line_texts).line_texts) < 2 ^ 31
     → 200 + tables_size (unit_files e u line_texts) + sum_by sequence_weight u.sequences < 2 ^ 31

@@ -7,7 +7,7 @@ use Rattle.linemap_emit_units.specs.EncodingFits.{fits}
 use Rattle.linemap_emit_units.specs.TableParts.{UnitPart}
 use Rattle.linemap_emit_units.specs.TableWeight.{table_weight}
 use Rattle.linemap_emit_units.specs.EmittedSections.{SectionBytes, emitted_sections}
-use Rattle.linemap_emit_units.specs.FittingUnits.{IsServed}
+use Rattle.linemap_emit_units.specs.EmittedUnits.{IsWritten}
 use Rattle.linemap_emit_units.specs.EmittedEntries.{AllFit, attributes_of}
 use Rattle.linemap_emit_units.specs.EmittedEntryRows.{spelled_entries}
 use Rattle.linemap_emit_units.specs.UnitEmission.{EmittedUnit}
@@ -43,5 +43,5 @@ sections_size s =
 abbrev pub WeightBoundsSize : Type 0
 WeightBoundsSize =
     (e : Encoding) (is_big : Bool) (us : List UnitPart)
-    → IsServed e → IsSound us → fits e.address_size us ≡ true → table_weight us < 2 ^ 31
+    → IsWritten e → IsSound us → fits e.address_size us ≡ true → table_weight us < 2 ^ 31
     → sections_size (emitted_sections e is_big us) ≤ table_weight us

@@ -12,7 +12,7 @@ use Rattle.linemap_emit_units.specs.Entry.{Entry}
 use Rattle.linemap_emit_units.specs.Entry.TheVariants.{CompileUnit, AbstractFunction, EndOfChildren}
 use Rattle.linemap_emit_units.specs.EmittedEntryLaws.{AllEntriesFit}
 use Rattle.linemap_emit_units.specs.EmittedEntryRows.{spelled_entries}
-use Rattle.linemap_emit_units.specs.EmittedUnits.{entries_start, abstract_offset}
+use Rattle.linemap_emit_units.specs.EmittedUnits.{IsWritten, entries_start, abstract_offset}
 use Rattle.linemap_emit_units.specs.InlinedNames.{inlined_names, IsAmong}
 use Rattle.linemap_emit_units.specs.UnitEmission.{EmittedUnit, text_offset, list_offset, with_name, with_abstract_functions, with_functions, with_unit_entry, origin_of}
 use Rattle.linemap_emit_units.specs.EmittedSections.{HoldTable}
@@ -21,7 +21,7 @@ use Rattle.linemap_emit_units.specs.EmittedFiles.{unit_file_ids, place_in}
 use Rattle.linemap_emit_units.specs.BuiltRows.{raw_file}
 use Rattle.linemap_emit_units.proofs.PlacedFiles.{place_is_low}
 use Rattle.linemap_emit_calls_laws.specs.InlinedCalls.{file_number}
-use Rattle.linemap_emit_units.specs.FittingUnits.{IsServed, UnitFits}
+use Rattle.linemap_emit_units.specs.FittingUnits.{UnitFits}
 use Rattle.linemap_emit_calls_laws.specs.RecordedFunctions.{entries_of_functions, HasOrigin, RecordsFunctions}
 use Rattle.linemap_emit_laws.proofs.EmissionGrowth.{Grows, grows_on, entry_grows, functions_grow, unit_grows, Extends}
 use Rattle.linemap_emit_laws.proofs.EmittedFunctionLemmas.{entries_below, all_refs, abstract_texts, abstract_entries, functions_entries, root_takes, origin_there, functions_recorded}
@@ -99,7 +99,7 @@ module _ (e : Encoding) (is_big : Bool) (u : UnitPart) (st : EmittedTable) where
       regroup : (x a f n : List Entry) → ((x ++ a) ++ f) ++ n ≡ x ++ (a ++ (f ++ n))
       regroup x a f n = simp append_assoc
 
-  pub functions_are_recorded : (final : EmittedTable) (s : DwarfFile) → IsServed e → 2 ^ 31 ≤ s.offset_limit
+  pub functions_are_recorded : (final : EmittedTable) (s : DwarfFile) → IsWritten e → 2 ^ 31 ≤ s.offset_limit
       → UnitFits e is_big u st → HoldTable e is_big final s → All HasNoZero final.texts
       → Extends (with_emitted_unit e is_big u st) final
       → RecordsFunctions e s number u.functions root_entry other_entries

@@ -19,7 +19,8 @@ use Rattle.linemap_emit_units.specs.TableParts.{UnitPart}
 use Rattle.linemap_emit_units.specs.EmittedRows.{emitted_rules}
 use Rattle.linemap_emit_units.specs.EmittedPrograms.{line_program_bytes, bytes_if_any}
 use Rattle.linemap_emit_units.specs.TableEmission.{EmittedTable}
-use Rattle.linemap_emit_units.specs.FittingUnits.{IsServed, UnitFits}
+use Rattle.linemap_emit_units.specs.EmittedUnits.{IsWritten}
+use Rattle.linemap_emit_units.specs.FittingUnits.{UnitFits}
 use Rattle.linemap_emit_units.proofs.UnitProgramsRead.{program_header, header_is}
 use Rattle.linemap_emit_laws.proofs.EmittedListLemmas.{skip_before}
 
@@ -37,7 +38,7 @@ below_limit limit n wide small = omega arith
 -- ---- the header
 
 -- any row can be written with the parameters of programs
-pub buildable : (e : Encoding) → IsServed e → IsBuildable (emitted_rules e)
+pub buildable : (e : Encoding) → IsWritten e → IsBuildable (emitted_rules e)
 buildable e served = record {
   has_address_size = served.has_address_size;
   has_bytes = omega arith;
@@ -53,7 +54,7 @@ abbrev pub unit_of : Encoding → View → View → LineUnit
 unit_of e directory name = record { address_bytes = e.address_size; directory = Some directory; name = Some name }
 
 -- what is read of the program at an offset of a section whose first byte has an identifier
-abbrev pub program_read : (e : Encoding) (is_big : Bool) (u : UnitPart) (st : EmittedTable) → IsServed e
+abbrev pub program_read : (e : Encoding) (is_big : Bool) (u : UnitPart) (st : EmittedTable) → IsWritten e
     → UnitFits e is_big u st → ℕ → ℕ → View → View → LineHeader
 program_read e is_big u st served fit offset first directory name =
     program_header e is_big u st.line_texts fit.program (buildable e served) fit.table_texts fit.no_zeros fit.few_files
@@ -61,7 +62,7 @@ program_read e is_big u st served fit offset first directory name =
 
 -- a program after others, and before others
 pub program_is : (e : Encoding) (is_big : Bool) (first : ℕ) (u : UnitPart) (st : EmittedTable)
-    (s : DwarfFile) (front rest : List ℕ) (directory name : View) → (served : IsServed e) → 2 ^ 31 ≤ s.offset_limit
+    (s : DwarfFile) (front rest : List ℕ) (directory name : View) → (served : IsWritten e) → 2 ^ 31 ≤ s.offset_limit
     → (fit : UnitFits e is_big u st)
     → s.sections.debug_line
     ≡ bytes_at is_big first ((front ++ bytes_if_any (line_program_bytes e is_big u st.line_texts)) ++ rest)

@@ -8,7 +8,7 @@ use Rattle.linemap_emit_units.specs.TableParts.{UnitPart}
 use Rattle.linemap_emit_units.specs.Entry.{Entry}
 use Rattle.linemap_emit_units.specs.Entry.TheVariants.{CompileUnit}
 use Rattle.linemap_emit_units.specs.EmittedEntries.{AllFit, attributes_of}
-use Rattle.linemap_emit_units.specs.EmittedUnits.{AllSmall}
+use Rattle.linemap_emit_units.specs.EmittedUnits.{IsWritten, AllSmall}
 use Rattle.linemap_emit_units.specs.EmittedRanges.{lists_start, spelled_ranges}
 use Rattle.linemap_emit_units.proofs.EmittedRowsShown.{sequences_shown}
 use Rattle.linemap_emit_units.specs.EmittedRows.{emitted_rules}
@@ -21,7 +21,7 @@ use Rattle.linemap_emit_laws.proofs.EmittedFunctionUnits.{unit_entries, other_en
 use Rattle.linemap_emit_laws.specs.RecordedTables.{RecordsUnit, RecordsUnits, RecordsTable}
 use Rattle.linemap_emit_units.specs.EmittedSections.{HoldTable}
 use Rattle.linemap_emit_units.specs.TableEmission.{EmittedTable, no_units, number_of, before_entries, after_entries, with_emitted_unit, with_emitted_units, emitted_table}
-use Rattle.linemap_emit_units.specs.FittingUnits.{IsServed, UnitFits, AllUnitsFit, IsInUtf8, AllInUtf8}
+use Rattle.linemap_emit_units.specs.FittingUnits.{UnitFits, AllUnitsFit, IsInUtf8, AllInUtf8}
 use Rattle.linemap_emit_laws.proofs.EmissionGrowth.{TextsStay, texts_stay_on, Grows, root_grows, Extends, extends_by_nothing, extends_on, all_extend, entries_of_all, units_are}
 use Rattle.linemap_emit_laws.proofs.EmittedStringLemmas.{text_stays, all_hold, text_is}
 use Rattle.linemap_emit_laws.proofs.EmittedListLemmas.{list_is}
@@ -46,7 +46,7 @@ root_fits limit e name directory line_program range_list wide fit = (
 
 -- a unit, where what was emitted after it comes after
 unit_recorded : (e : Encoding) (is_big : Bool) (u : UnitPart) (st final : EmittedTable) (s : DwarfFile)
-    → IsServed e → 2 ^ 31 ≤ s.offset_limit → IsInUtf8 u → UnitFits e is_big u st → HoldTable e is_big final s
+    → IsWritten e → 2 ^ 31 ≤ s.offset_limit → IsInUtf8 u → UnitFits e is_big u st → HoldTable e is_big final s
     → All HasNoZero final.texts → Extends (with_emitted_unit e is_big u st) final
     → RecordsUnit e s u (after_entries e is_big u st).entries
 unit_recorded e is_big u st final s served wide utf8 fit hold no_zeros extends = record {
@@ -131,7 +131,7 @@ unit_recorded e is_big u st final s served wide utf8 fit hold no_zeros extends =
 
 -- units one after the other
 units_recorded : (e : Encoding) (is_big : Bool) (us : List UnitPart) (st final : EmittedTable)
-    (s : DwarfFile) → IsServed e → 2 ^ 31 ≤ s.offset_limit → AllInUtf8 us → AllUnitsFit e is_big us st
+    (s : DwarfFile) → IsWritten e → 2 ^ 31 ≤ s.offset_limit → AllInUtf8 us → AllUnitsFit e is_big us st
     → HoldTable e is_big final s → All HasNoZero final.texts → Extends (with_emitted_units e is_big us st) final
     → RecordsUnits e s us (entries_of_all e is_big us st)
 unfolding with_emitted_units entries_of_all AllUnitsFit AllInUtf8
@@ -154,7 +154,7 @@ all_small limit e is_big (u ∷ us) st wide fit = (
 )
 
 -- what was emitted of a table
-pub emission_recorded : (e : Encoding) (is_big : Bool) (us : List UnitPart) (s : DwarfFile) → IsServed e
+pub emission_recorded : (e : Encoding) (is_big : Bool) (us : List UnitPart) (s : DwarfFile) → IsWritten e
     → 2 ^ 31 ≤ s.offset_limit → AllInUtf8 us → AllUnitsFit e is_big us no_units
     → HoldTable e is_big (emitted_table e is_big us) s
     → RecordsTable e is_big s us (emitted_table e is_big us).units
@@ -163,11 +163,7 @@ emission_recorded e is_big us s served wide utf8 fit hold =
     let whole = units_are e is_big us no_units in
     let no_zeros = all_hold e is_big us no_units fit (All-nil HasNoZero) in
     record {
-      encoding_is_written = record {
-        not_before_2 = served.not_before_2;
-        not_after_5 = served.not_after_5;
-        has_address_size = served.has_address_size;
-      };
+      encoding_is_written = served;
       units_are_small =
           subst (AllSmall s.offset_limit e is_big) (sym whole)
           (all_small s.offset_limit e is_big us no_units wide fit);

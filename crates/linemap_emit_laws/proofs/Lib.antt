@@ -1,14 +1,14 @@
 pub use Rattle.addr2line_spec.proofs.LookupsWithoutLoads
-pub mod RecordedUnitFacts
-pub mod RecordedContexts
-pub mod RecordedFrames
+mod RecordedUnitFacts
+mod RecordedContexts
+mod RecordedFrames
 pub mod RecordedAnswers
-pub mod EmissionGrowth
-pub mod EmittedStringLemmas
-pub mod EmittedListLemmas
+mod EmissionGrowth
+mod EmittedStringLemmas
+mod EmittedListLemmas
 pub mod EmittedProgramLemmas
 pub mod EmittedFunctionLemmas
-pub mod EmittedFunctionUnits
+mod EmittedFunctionUnits
 pub mod EmittedUnitLemmas
 mod ListTablesRead
 mod UnitsApart

@@ -8,13 +8,14 @@ use Rattle.linemap_emit_laws.specs.RecordedTables.{RecordsTable}
 use Rattle.linemap_emit_laws.specs.RecordedTableLaws.{AnswersTable}
 use Rattle.linemap_emit_units.specs.TableEmission.{no_units, emitted_table}
 use Rattle.linemap_emit_units.specs.EmittedSections.{HoldTable}
-use Rattle.linemap_emit_units.specs.FittingUnits.{IsServed, AllUnitsFit, AllInUtf8}
+use Rattle.linemap_emit_units.specs.EmittedUnits.{IsWritten}
+use Rattle.linemap_emit_units.specs.FittingUnits.{AllUnitsFit, AllInUtf8}
 
 -- Files that hold what was emitted say what the table says.
 abbrev pub EmissionRecords : Type 0
 EmissionRecords =
     (e : Encoding) (is_big : Bool) (us : List UnitPart) (s : DwarfFile)
-    → IsServed e → 2 ^ 31 ≤ s.offset_limit → AllInUtf8 us
+    → IsWritten e → 2 ^ 31 ≤ s.offset_limit → AllInUtf8 us
     → AllUnitsFit e is_big us no_units
     → HoldTable e is_big (emitted_table e is_big us) s
     → RecordsTable e is_big s us (emitted_table e is_big us).units
@@ -24,7 +25,7 @@ EmissionRecords =
 abbrev pub EmissionAnswers : Type 0
 EmissionAnswers =
     (e : Encoding) (is_big : Bool) (us : List UnitPart) (s : DwarfFile)
-    → IsSound us → IsServed e → 2 ^ 31 ≤ s.offset_limit → AllInUtf8 us
+    → IsSound us → IsWritten e → 2 ^ 31 ≤ s.offset_limit → AllInUtf8 us
     → AllUnitsFit e is_big us no_units
     → HoldTable e is_big (emitted_table e is_big us) s
     → AnswersTable s us

@@ -55,7 +55,7 @@ after_first (y ∷ xs) n x h = h
 
 -- ---- texts
 
--- a text that stands has bytes
+-- a text in the tables has bytes
 stands_for : (version : ℕ) (line_texts : List (List ℕ)) (t : Text) → Stands version line_texts t
     → (bytes : List ℕ) × (bytes_of [] line_texts t ≡ Some bytes)
 stands_for version line_texts (in_header bytes) h = (bytes, refl)

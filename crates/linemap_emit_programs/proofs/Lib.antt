@@ -15,13 +15,13 @@ pub use Rattle.linemap_emit_rows.proofs.TableLocations
 pub use Rattle.linemap_emit_rows.proofs.EmittedRowsShown
 pub use Rattle.linemap_emit_rows.proofs.EmittedRowsBuilt
 pub use Rattle.linemap_emit_rows.proofs.SoundSequenceLemmas
-pub mod HeaderTextLemmas
+mod HeaderTextLemmas
 pub mod BuiltUnits
-pub mod ListPlaces
+mod ListPlaces
 pub mod SoundFiles
 pub mod PlacedFiles
 pub mod EmittedFileTexts
 pub mod UnitProgramsRead
-pub mod WrittenPrograms
-pub mod AddedFiles
-pub mod WholeSequences
+mod WrittenPrograms
+mod AddedFiles
+mod WholeSequences

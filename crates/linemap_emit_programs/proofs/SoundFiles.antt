@@ -82,7 +82,7 @@ pub record FileStands (version : ℕ) (line_texts : List (List ℕ)) (directorie
   pub path : Stands version line_texts f.path
   pub directory : f.directory < directories
 
--- The texts stand, and nothing else is recorded of files.
+-- The texts are in the tables, and nothing else is recorded of files.
 pub record AreSound (st : EmittedFiles) : Type 0 where
   pub no_zeros : All IsText st.line_texts
   pub directories : All (Stands st.tables.version st.line_texts) st.tables.directories

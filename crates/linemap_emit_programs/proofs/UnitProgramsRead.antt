@@ -72,7 +72,7 @@ info_fits i e = subst InfoFits (sym e) (record {
 info_free : (i : Info) → i ≡ no_info → SourceHasNoZero i
 info_free i e = subst SourceHasNoZero (sym e) tt
 
--- a text that stands is known
+-- a text in the tables is known
 known_is : (version : ℕ) (line_texts : List (List ℕ)) (t : Text) → Stands version line_texts t
     → IsKnown [] line_texts t
 known_is version line_texts (in_header bytes) h = tt

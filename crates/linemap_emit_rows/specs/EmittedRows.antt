@@ -49,7 +49,7 @@ emitted_sequences place ss = flat_map (emitted_sequence place) ss
 
 -- ---- the rows that are shown
 
--- no row is below an address, and each is of one of so many files
+-- no row is below an address, and each has one of the files
 unfoldable pub AllFrom : ℕ → ℕ → List RowPart → Type 0
 AllFrom files low [] = Unit {0}
 AllFrom files low (r ∷ rs) = (low ≤ r.address) × (r.file < files) × AllFrom files low rs

@@ -16,7 +16,7 @@ with_entries entries b = record b { entries = b.entries ++ entries }
 abbrev pub with_row : LineRow → BuilderState → BuilderState
 with_row row b = record (with_entry (Row row) b) { row = row_after_row row }
 
--- with the end of a sequence, so many bytes after its address
+-- with the end of a sequence, at an offset from its address
 abbrev pub with_end : ℕ → BuilderState → BuilderState
 with_end offset b =
     record (with_entry (EndSequence offset 0) b) { row = first_row b.rules; in_sequence = false }

@@ -5,7 +5,7 @@ use Rattle.linemap_places_laws.specs.Conditions.{IsSound}
 use Rattle.linemap_places_laws.specs.EncodingFits.{fits}
 use Rattle.linemap_emit_rows.specs.EmittedRows.{AllSequences, AllCanBuild}
 
--- sequences that can be built with addresses of a size, and shown, with rows of so many files
+-- sequences that can be built with addresses of a size, and shown, with rows of the files
 pub record CanEmitSequences (size files : ℕ) (ss : List SequencePart) : Type 0 where
   pub can_build : AllCanBuild size ss
   pub can_show : AllSequences files ss

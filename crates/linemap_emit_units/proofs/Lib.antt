@@ -25,7 +25,7 @@ pub use Rattle.linemap_emit_programs.proofs.SoundSequenceLemmas
 pub use Rattle.linemap_emit_programs.proofs.SoundUnits
 pub use Rattle.linemap_emit_programs.proofs.TableLocations
 pub use Rattle.linemap_emit_programs.proofs.RowLaws
-pub mod EmittedTextLemmas
+mod EmittedTextLemmas
 pub mod InlinedNameLemmas
 pub mod EmittedCallLemmas
 mod WorkedEmission

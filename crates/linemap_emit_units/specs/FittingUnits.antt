@@ -2,13 +2,12 @@
 use Rattle.std.specs.Prelude.{◌≡◌, ℕ, ◌+◌, ◌≤◌, ◌<◌, ◌^◌, Bool, true, List, [], ◌∷◌, All, length, Ok}
 use Rattle.std.specs.Str.{IsUtf8}
 use Rattle.gimli_lines_write_tables.specs.Encoding.{Encoding}
-use Rattle.gimli_lines_write_tables.specs.NumberParsers.{is_address_size}
 use Rattle.linemap_emit_programs.specs.Conditions.{IsSound}
 use Rattle.linemap_emit_programs.specs.EncodingFits.{fits}
 use Rattle.linemap_emit_programs.specs.TableParts.{UnitPart}
 use Rattle.linemap_emit_programs.specs.TableWeight.{table_weight}
 use Rattle.linemap_emit_programs.specs.EmittedEntries.{AllFit, attributes_of}
-use Rattle.linemap_emit_programs.specs.EmittedUnits.{spelled_unit_body}
+use Rattle.linemap_emit_programs.specs.EmittedUnits.{IsWritten, spelled_unit_body}
 use Rattle.linemap_emit_units.specs.UnitEmission.{CanEmitUnit}
 use Rattle.gimli_lines_write_tables.specs.StringSections.{IsText, section_of}
 use Rattle.linemap_emit_programs.specs.FilePaths.{is_rooted}
@@ -16,12 +15,6 @@ use Rattle.linemap_emit_programs.specs.EmittedFiles.{HasTableTexts, unit_files}
 use Rattle.linemap_emit_programs.specs.SoundSequences.{CanEmitSequences}
 use Rattle.linemap_emit_programs.specs.EmittedPrograms.{FilesAreUtf8, line_program_bytes}
 use Rattle.linemap_emit_units.specs.TableEmission.{EmittedTable, no_units, after_entries, with_emitted_unit}
-
--- The encodings of a target.
-pub record IsServed (e : Encoding) : Type 0 where
-  pub not_before_2 : 2 ≤ e.version
-  pub not_after_5 : e.version ≤ 5
-  pub has_address_size : is_address_size e.address_size ≡ true
 
 -- A unit after others: its texts, ranges and rows can be written, its directory has a root, its
 -- line number program isn't refused, its entries' offsets and the lengths of its headers and texts
@@ -50,10 +43,10 @@ AllUnitsFit e is_big (u ∷ us) st =
     UnitFits e is_big u st × AllUnitsFit e is_big us (with_emitted_unit e is_big u st)
 
 -- A sound table that fits the encoding can be emitted where its weight is below 2^31.
-abbrev pub TablesFit : Type 0
-TablesFit =
+abbrev pub SoundTablesFit : Type 0
+SoundTablesFit =
     (e : Encoding) (is_big : Bool) (us : List UnitPart)
-    → IsServed e → IsSound us → fits e.address_size us ≡ true → table_weight us < 2 ^ 31
+    → IsWritten e → IsSound us → fits e.address_size us ≡ true → table_weight us < 2 ^ 31
     → AllUnitsFit e is_big us no_units
 
 -- the texts of a unit's directory and files are UTF-8

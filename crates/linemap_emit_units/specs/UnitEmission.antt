@@ -119,7 +119,7 @@ without_entries st = record st { entries = [] }
 abbrev pub CanEmit : ℕ → List ℕ → List RangePart → Type 0
 CanEmit size name rs = IsText name × AllWritable size (map lookup_range rs)
 
--- the same of calls, each with those in it, in so many files
+-- the same of calls, each with those in it, over a number of files
 unfoldable pub CanEmitCalls : ℕ → ℕ → Calls → Type 0
 CanEmitCalls size files no_calls = Unit {0}
 CanEmitCalls size files (more_calls site inner others) =

@@ -1,7 +1,7 @@
-pub mod RangeCounts
-pub mod RangeOwners
-pub mod CallDepths
-pub mod AgreeingChains
+mod RangeCounts
+mod RangeOwners
+mod CallDepths
+mod AgreeingChains
 pub mod AgreeingFunctions
 pub mod AgreeingFrames
 pub mod TableFrames

@@ -1,3 +1,3 @@
 pub use Rattle.linemap_emit.proofs.LookupsWithoutLoads
-pub mod LoadedImages
-pub mod ImageBounds
+mod LoadedImages
+mod ImageBounds

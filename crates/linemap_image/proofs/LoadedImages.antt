@@ -43,41 +43,41 @@ sections_by bytes b =
     (cond b (DebugAbbrev ∷ DebugInfo ∷ DebugLine ∷ DebugRanges ∷ DebugStr ∷ [])
     (DebugAbbrev ∷ DebugInfo ∷ DebugLine ∷ DebugLineStr ∷ DebugRngLists ∷ DebugStr ∷ []))
 
-abbrev found : SectionBytes → SectionId → Bool → List ℕ
-found bytes id b = bytes_named (name_of id) (all_sections (sections_by bytes b))
+abbrev section_bytes : SectionBytes → SectionId → Bool → List ℕ
+section_bytes bytes id b = bytes_named (name_of id) (all_sections (sections_by bytes b))
 
-abbrev_found : (bytes : SectionBytes) (b : Bool) → found bytes DebugAbbrev b ≡ bytes.debug_abbrev
+abbrev_found : (bytes : SectionBytes) (b : Bool) → section_bytes bytes DebugAbbrev b ≡ bytes.debug_abbrev
 abbrev_found bytes true = refl
 abbrev_found bytes false = refl
 
-info_found : (bytes : SectionBytes) (b : Bool) → found bytes DebugInfo b ≡ bytes.debug_info
+info_found : (bytes : SectionBytes) (b : Bool) → section_bytes bytes DebugInfo b ≡ bytes.debug_info
 info_found bytes true = refl
 info_found bytes false = refl
 
-line_found : (bytes : SectionBytes) (b : Bool) → found bytes DebugLine b ≡ bytes.debug_line
+line_found : (bytes : SectionBytes) (b : Bool) → section_bytes bytes DebugLine b ≡ bytes.debug_line
 line_found bytes true = refl
 line_found bytes false = refl
 
-str_found : (bytes : SectionBytes) (b : Bool) → found bytes DebugStr b ≡ bytes.debug_str
+str_found : (bytes : SectionBytes) (b : Bool) → section_bytes bytes DebugStr b ≡ bytes.debug_str
 str_found bytes true = refl
 str_found bytes false = refl
 
-aranges_found : (bytes : SectionBytes) (b : Bool) → found bytes DebugAranges b ≡ []
+aranges_found : (bytes : SectionBytes) (b : Bool) → section_bytes bytes DebugAranges b ≡ []
 aranges_found bytes true = refl
 aranges_found bytes false = refl
 
 ranges_found : (bytes : SectionBytes) (b : Bool) → (b ≡ false → bytes.debug_ranges ≡ [])
-    → found bytes DebugRanges b ≡ bytes.debug_ranges
+    → section_bytes bytes DebugRanges b ≡ bytes.debug_ranges
 ranges_found bytes true none = refl
 ranges_found bytes false none = sym (none refl)
 
 lists_found : (bytes : SectionBytes) (b : Bool) → (b ≡ true → bytes.debug_rnglists ≡ [])
-    → found bytes DebugRngLists b ≡ bytes.debug_rnglists
+    → section_bytes bytes DebugRngLists b ≡ bytes.debug_rnglists
 lists_found bytes true none = sym (none refl)
 lists_found bytes false none = refl
 
 line_str_found : (bytes : SectionBytes) (b : Bool) → (b ≡ true → bytes.debug_line_str ≡ [])
-    → found bytes DebugLineStr b ≡ bytes.debug_line_str
+    → section_bytes bytes DebugLineStr b ≡ bytes.debug_line_str
 line_str_found bytes true none = sym (none refl)
 line_str_found bytes false none = refl
 

@@ -6,7 +6,7 @@ use Rattle.addr2line_context.specs.Error.{Error}
 use Rattle.addr2line_context.specs.Error.TheVariants.{Memory}
 use Rattle.addr2line_context.specs.Frames.{Frame}
 use Rattle.addr2line_loader.specs.LoadedFiles.{LoadedFile, symbol_name}
-use Rattle.addr2line_loader.specs.SourceAnswers.{FindsFrames}
+use Rattle.addr2line_loader.specs.SourceAnswers.{SourceFindsFrames}
 use Rattle.addr2line_split.specs.ElfSymbols.{symbol_at}
 use Rattle.addr2line_split.specs.Range.{Range}
 use Rattle.linemap_output.specs.declared.options.Options.{Options}
@@ -96,7 +96,8 @@ module _ {S : Type 0} {answers : S → List ℕ → List ℕ → Result (Option 
   pub frames_found : {F : Type 0} {a : ℕ} {see : F → List Frame} {symbol : Option (List ℕ)}
       {file file_after : LoadedFile} {source source_after : S} {found : Result F Error} {f : F}
       {old new : AnswerBuffer} → found ≡ Ok f
-      → FindsFrames answers a see file source found file_after source_after → GrowsByFound o a symbol (see f) old new
+      → SourceFindsFrames answers a see file source found file_after source_after
+      → GrowsByFound o a symbol (see f) old new
       → GrowsByFrames answers o a symbol file source old new file_after source_after
   frames_found {see} {f} is finds grows =
       let ok = rw is at finds in
@@ -112,7 +113,8 @@ module _ {S : Type 0} {answers : S → List ℕ → List ℕ → Result (Option 
   -- or its refusal
   pub frames_refused : {F : Type 0} {a : ℕ} {see : F → List Frame} {symbol : Option (List ℕ)}
       {file file_after : LoadedFile} {source source_after : S} {found : Result F Error} {e : Error}
-      {old new : AnswerBuffer} → found ≡ Err e → FindsFrames answers a see file source found file_after source_after
+      {old new : AnswerBuffer} → found ≡ Err e
+      → SourceFindsFrames answers a see file source found file_after source_after
       → Grows old new (frames_answer o a symbol (Err e) [] false)
       → GrowsByFrames answers o a symbol file source old new file_after source_after
   frames_refused {e} is finds grows =

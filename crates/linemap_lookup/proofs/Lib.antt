@@ -1,9 +1,9 @@
-pub mod HexadecimalTexts
-pub mod FrameSteps
-pub mod AnswerSteps
-pub mod LineParts
-pub mod LineTexts
-pub mod RunSteps
-pub mod LineRuns
-pub mod AllAddresses
-pub mod ProgramSteps
+mod HexadecimalTexts
+mod FrameSteps
+mod AnswerSteps
+mod LineParts
+mod LineTexts
+mod RunSteps
+mod LineRuns
+mod AllAddresses
+mod ProgramSteps

@@ -12,7 +12,7 @@ use Rattle.linemap_meaning.specs.AnswerTexts.{word_address}
 use Rattle.linemap_output.specs.ErrorLine.{EndsOutOfMemory}
 use Rattle.linemap_output.specs.declared.ended.Ended.{Ended}
 use Rattle.linemap_output.specs.declared.options.Options.{Options}
-use Rattle.linemap_lookup.specs.LineReads.{AsksLines, IsWholeInput, ReadsLines, Takes, TakesLine, TakesNoLine, YieldsAddress}
+use Rattle.linemap_lookup.specs.LineReads.{AsksLines, IsWholeInput, ReadsTextLines, Takes, TakesLine, TakesNoLine, YieldsAddress}
 use Rattle.linemap_lookup.specs.LookupAnswers.{LookupState}
 use Rattle.linemap_lookup.specs.LookupRuns.{AnswersAll, AnswersSome, StopsBefore, Streams, WritesAddress, WritesAddresses, nothing, with_flags}
 use Rattle.linemap_lookup.specs.declared.lines.LineBuffer.{LineBuffer}
@@ -56,7 +56,7 @@ reads_more a b c before after ls line so_far next unfinished = record {
 
 -- those that are read, and whatever was read of the next
 pub reads_some : (a b c : Option (List ℕ)) (buffer : LineBuffer) (ls : List (List ℕ)) → ReadsSoFar a b buffer ls
-    → Takes b c → ReadsLines a c ls true
+    → Takes b c → ReadsTextLines a c ls true
 reads_some a b c buffer ls so_far takes = record {
   taken = so_far.taken;
   rest = takes.0;
@@ -76,7 +76,7 @@ whole_then_nothing a b buffer ls so_far false unfinished none =
 
 -- all of them
 pub reads_all : (a b c : Option (List ℕ)) (before after : LineBuffer) (ls : List (List ℕ)) → ReadsSoFar a b before ls
-    → TakesNoLine b c before after → ReadsLines a c ls after.has_failed
+    → TakesNoLine b c before after → ReadsTextLines a c ls after.has_failed
 reads_all a b c before after ls so_far none = record {
   taken = so_far.taken;
   rest = none.rest;

@@ -15,7 +15,8 @@ use Rattle.linemap_output.proofs.WritingLemmas.{appends_nothing}
 use Rattle.linemap_lookup.specs.LineReads.{AsksLines}
 use Rattle.linemap_lookup.specs.LookupAnswers.{Answer, LookupState}
 use Rattle.linemap_lookup.specs.LookupRuns.{AnswersAll, AnswersSome, ReportsStop, Stops, StopsAmong, Streams, WritesAddresses}
-use Rattle.linemap_lookup.specs.Programs.{Asks, LacksMemory, LacksMemoryFor, LacksMemoryForAll, Outcome, Prints, Question, RefusesOrLacksMemory, Runs, all_memory_line, answered, words_of}
+use Rattle.linemap_output.specs.Outcome.{Outcome}
+use Rattle.linemap_lookup.specs.Programs.{Asks, LacksMemory, LacksMemoryFor, LacksMemoryForAll, Prints, Question, RefusesOrLacksMemory, Runs, all_memory_line, answers_outcome, words_of}
 
 -- ---- flags
 
@@ -82,7 +83,7 @@ module _ {S : Type 0} (answers : S → List ℕ → List ℕ → Result (Option 
   )
   prints image supplement (Ok q) old new e (inr (inl all)) memory write =
       let writes = all.writes.writes in (
-        answered all.writes.xs,
+        answers_outcome all.writes.xs,
         record {
           addresses = all.addresses;
           are_asked = all.are_asked;

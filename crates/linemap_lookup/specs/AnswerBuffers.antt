@@ -7,7 +7,7 @@ use Rattle.addr2line_context.specs.Error.{Error}
 use Rattle.addr2line_context.specs.Frames.{Frame}
 use Rattle.addr2line_context.specs.Lines.{Location}
 use Rattle.addr2line_loader.specs.LoadedFiles.{LoadedFile}
-use Rattle.addr2line_loader.specs.SourceAnswers.{FindsFrames}
+use Rattle.addr2line_loader.specs.SourceAnswers.{SourceFindsFrames}
 use Rattle.linemap_output.specs.declared.options.Options.{Options}
 use Rattle.linemap_lookup.specs.FirstFrames.{AreFirstFrames}
 use Rattle.linemap_lookup.specs.LookupAnswers.{AddressAnswer, Answer, AnswersIfAny, LookupState, found_or, frames_answer, is_memory, place_answer, refusal_line}
@@ -46,7 +46,7 @@ pub record GrowsByFrames {S : Type 0}
     (o : Options) (a : ℕ) (symbol : Option (List ℕ)) (file : LoadedFile) (source : S)
     (old new : AnswerBuffer) (file_after : LoadedFile) (source_after : S) : Type 0 where
   pub found : Result (List Frame) Error
-  pub finds : FindsFrames answers a (λ fs. fs) file source found file_after source_after
+  pub finds : SourceFindsFrames answers a (λ fs. fs) file source found file_after source_after
   pub frames : List Frame
   pub is_refused : Bool
   pub are_first : AreFirstFrames (found_or [] found) frames is_refused

@@ -19,6 +19,7 @@ pub use Rattle.addr2line_split.specs.LoadErrors
 pub use Rattle.addr2line_split.specs.Range
 pub use Rattle.addr2line_loader.specs.LoadedFiles
 pub use Rattle.addr2line_loader.specs.SourceAnswers
+pub use Rattle.linemap_output.specs.Outcome
 pub use Rattle.linemap_output.specs.declared.options.Options
 pub mod AddressTexts
 pub mod FrameTexts

@@ -100,7 +100,7 @@ YieldsAddress old new before after (Some a) =
 
 -- What is read of an input is whole lines, each of them text; and nothing else, unless a read
 -- failed or the next line is no text.
-pub record ReadsLines (old new : Option (List ℕ)) (ls : List (List ℕ)) (is_cut : Bool) : Type 0
+pub record ReadsTextLines (old new : Option (List ℕ)) (ls : List (List ℕ)) (is_cut : Bool) : Type 0
   where
     pub taken : List ℕ
     pub rest : List ℕ
@@ -112,4 +112,4 @@ pub record ReadsLines (old new : Option (List ℕ)) (ls : List (List ℕ)) (is_c
 -- the addresses in those lines
 abbrev pub AsksLines : Option (List ℕ) → Option (List ℕ) → Bool → List (Option ℕ) → Type 0
 AsksLines old new is_cut addresses =
-    (ls : List (List ℕ)) × ReadsLines old new ls is_cut × (addresses ≡ map word_address ls)
+    (ls : List (List ℕ)) × ReadsTextLines old new ls is_cut × (addresses ≡ map word_address ls)

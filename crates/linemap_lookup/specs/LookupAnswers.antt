@@ -12,7 +12,7 @@ use Rattle.addr2line_context.specs.Lines.{Location}
 use Rattle.addr2line_split.specs.ElfSymbols.{symbol_at}
 use Rattle.addr2line_split.specs.Range.{Range}
 use Rattle.addr2line_loader.specs.LoadedFiles.{LoadedFile, symbol_name}
-use Rattle.addr2line_loader.specs.SourceAnswers.{FindsFrames}
+use Rattle.addr2line_loader.specs.SourceAnswers.{SourceFindsFrames}
 use Rattle.linemap_output.specs.ErrorLine.{error_line}
 use Rattle.linemap_output.specs.declared.options.Options.{Options}
 use Rattle.linemap_lookup.specs.AddressTexts.{address_text, hexadecimal, location_text_if_any}
@@ -128,7 +128,7 @@ pub record AnswersFrames {S : Type 0}
     (o : Options) (a : ℕ) (before : LookupState S) (x : Answer) (after : LookupState S) : Type 0
   where
     pub found : Result (List Frame) Error
-    pub finds : FindsFrames answers a (λ fs. fs) before.file before.source found after.file
+    pub finds : SourceFindsFrames answers a (λ fs. fs) before.file before.source found after.file
         after.source
     pub frames : List Frame
     pub is_refused : Bool

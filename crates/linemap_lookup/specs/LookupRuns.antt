@@ -31,7 +31,8 @@ pub record Records (old new : Ended) (is_memory_refused : Bool) : Type 0 where
   pub read : new.read ≡ old.read
 
 -- An answer goes to the output, and its error lines to the error stream, unless that fails.
-pub record Writes (x : Answer) (old new : Streams) (ended_old ended_new : Ended) : Type 0 where
+pub record WritesAnswer (x : Answer) (old new : Streams)
+    (ended_old ended_new : Ended) : Type 0 where
   pub out : Appends old.out new.out x.text
   pub err : ended_new.write ≡ false → Appends old.err new.err x.errors
   pub flags : Records ended_old ended_new x.is_memory_refused
@@ -83,7 +84,7 @@ module _ {S : Type 0} (answers : S → List ℕ → List ℕ → Result (Option 
     pub answer : Answer
     pub answers_it : AnswersAddress answers o section before
         (record { address = a; answer = answer }) after
-    pub writes : Writes answer old new ended_old ended_new
+    pub writes : WritesAnswer answer old new ended_old ended_new
 
   -- Addresses are answered one after the other, and their answers are written.
   pub record WritesAddresses (addresses : List (Option ℕ)) (before after : LookupState S)
@@ -91,7 +92,7 @@ module _ {S : Type 0} (answers : S → List ℕ → List ℕ → Result (Option 
     pub xs : List AddressAnswer
     pub are_addresses : map (λ x. x.address) xs ≡ addresses
     pub answer_them : AnswersAddresses answers o section before xs after
-    pub writes : Writes (answers_together xs) old new ended_old ended_new
+    pub writes : WritesAnswer (answers_together xs) old new ended_old ended_new
 
   -- this is the answer of the first address
   abbrev pub AnswersFirst : List (Option ℕ) → LookupState S → Answer → Type 0

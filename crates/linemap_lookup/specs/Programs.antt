@@ -14,6 +14,7 @@ use Rattle.addr2line_split.specs.Range.{Range}
 use Rattle.addr2line_loader.specs.LoadedFiles.{LoadedFile, loaded_file, range_of}
 use Rattle.linemap_meaning.specs.AnswerTexts.{word_address}
 use Rattle.linemap_output.specs.ErrorLine.{Fails, error_line}
+use Rattle.linemap_output.specs.Outcome.{Outcome}
 use Rattle.linemap_output.specs.declared.ended.Ended.{Ended}
 use Rattle.linemap_output.specs.declared.options.Options.{Options}
 use Rattle.linemap_lookup.specs.LineReads.{AsksLines}
@@ -87,8 +88,8 @@ question o image supplement = do
 -- ---- how a refusal is reported
 
 -- the line of a refusal is written
-abbrev pub Refuses : List ℕ → Option (List ℕ) → Option (List ℕ) → Ended → Type 0
-Refuses line old new e = Fails line old new e × (e.memory ≡ false)
+abbrev pub EndsWithLine : List ℕ → Option (List ℕ) → Option (List ℕ) → Ended → Type 0
+EndsWithLine line old new e = Fails line old new e × (e.memory ≡ false)
 
 -- the line of a refusal for memory is written, and the memory flag is set
 abbrev pub LacksMemory : List ℕ → Option (List ℕ) → Option (List ℕ) → Ended → Type 0
@@ -106,13 +107,13 @@ all_memory_line = error_line (codes "failed to find all addresses: ") (codes "E1
 abbrev pub RefusesOrLacksMemory : List ℕ → List ℕ → Option (List ℕ) → Option (List ℕ) → Ended
     → Type 0
 RefusesOrLacksMemory line memory_line old new e =
-    LacksMemory memory_line old new e ⊎ Refuses line old new e
+    LacksMemory memory_line old new e ⊎ EndsWithLine line old new e
 
 -- the refusal of what is asked is reported
 abbrev pub RefusesBy : {A : Type 0} → Result A (List ℕ) → Option (List ℕ) → Option (List ℕ) → Ended
     → Type 0
 RefusesBy asked old new e =
-    (line : List ℕ) × (asked ≡ Err line) × Refuses line old new e
+    (line : List ℕ) × (asked ≡ Err line) × EndsWithLine line old new e
 
 -- or one for memory is
 abbrev pub RefusesByOrLacksMemory : {A : Type 0} → Result A (List ℕ) → List ℕ → Option (List ℕ)
@@ -154,15 +155,9 @@ Asks None None old new is_cut addresses = AsksLines old new is_cut addresses
 
 -- ---- what is printed
 
--- what goes to the output and to the error stream, and the exit status
-pub record Outcome : Type 0 where
-  pub out : List ℕ
-  pub err : List ℕ
-  pub status : ℕ
-
 -- the answers, and their error lines
-abbrev pub answered : List AddressAnswer → Outcome
-answered xs = record {
+abbrev pub answers_outcome : List AddressAnswer → Outcome
+answers_outcome xs = record {
   out = (answers_together xs).text;
   err = (answers_together xs).errors;
   status = 0;
@@ -184,7 +179,7 @@ module _ {S : Type 0} (answers : S → List ℕ → List ℕ → Result (Option 
     pub after : LookupState S
     pub answer_them : AnswersAddresses answers o q.section (first_state q.file) xs after
     pub none_refused : (answers_together xs).is_memory_refused ≡ false
-    pub is_outcome : p ≡ answered xs
+    pub is_outcome : p ≡ answers_outcome xs
 
   -- those, or the line of a refusal alone
   abbrev pub Prints : Result Question (List ℕ) → Bool → Outcome → Type 0
@@ -195,7 +190,7 @@ module _ {S : Type 0} (answers : S → List ℕ → List ℕ → Result (Option 
 
   -- All is answered, or some; or there is a refusal, and nothing is printed but its line.
   abbrev pub RunsOn : Result Question (List ℕ) → Streams → Streams → Ended → Type 0
-  RunsOn (Err line) old new e = Refuses line old.err new.err e × Keeps old.out new.out
+  RunsOn (Err line) old new e = EndsWithLine line old.err new.err e × Keeps old.out new.out
   RunsOn (Ok q) old new e =
       AnswersAll answers o q.section (Asks q.all (words_of o) input_old input_new)
       (first_state q.file) old new no_flags e

@@ -7,7 +7,8 @@ ghost use Rattle.addr2line_loader.specs.LoadedFiles.{loaded_file};
 ghost use Rattle.addr2line_split.specs.LoadErrors.{text_of};
 ghost use Rattle.linemap_output.specs.ErrorLine.{error_line};
 ghost use Rattle.linemap_lookup.specs.LookupRuns.{AnswersAll, AnswersSome};
-ghost use Rattle.linemap_lookup.specs.Programs.{Asks, LacksMemory, LacksMemoryFor, LacksMemoryForAll, Outcome, Prints, RefusesBy, RefusesByOrLacksMemory, RefusesOrLacksMemory, Runs, RunsOn, load_memory_line, or_line, question, question_of, section_if_any, words_of};
+ghost use Rattle.linemap_output.specs.Outcome.{Outcome};
+ghost use Rattle.linemap_lookup.specs.Programs.{Asks, LacksMemory, LacksMemoryFor, LacksMemoryForAll, Prints, RefusesBy, RefusesByOrLacksMemory, RefusesOrLacksMemory, Runs, RunsOn, load_memory_line, or_line, question, question_of, section_if_any, words_of};
 
 use crate::all::find_all;
 use crate::engine::Engine;

@@ -6,7 +6,7 @@ ghost use Rattle.std.specs.Io.KnownBytes.{Appends};
 ghost use Rattle.linemap_meaning.specs.AnswerTexts.{word_address};
 ghost use Rattle.linemap_output.specs.WriterBytes.{AppendsPrefix};
 ghost use Rattle.linemap_lookup.specs.AnswerBuffers.{answer_of};
-ghost use Rattle.linemap_lookup.specs.LookupRuns.{Records, Stops, StopsAmong, StopsBefore, Writes, WritesAddress, WritesAddresses, with_flags};
+ghost use Rattle.linemap_lookup.specs.LookupRuns.{Records, Stops, StopsAmong, StopsBefore, WritesAnswer, WritesAddress, WritesAddresses, with_flags};
 
 use crate::answer::AnswerBuffer;
 use crate::engine::Engine;
@@ -108,7 +108,7 @@ fn write_answer<O: Write, E: Write>(
     err: &mut E,
     ended: &mut Ended,
 ) -> Result<(), Ended>
-    ensures whole { OnOk result (Writes (answer_of answer.now)
+    ensures whole { OnOk result (WritesAnswer (answer_of answer.now)
         (record { out = O.contents out.old; err = E.contents err.old })
         (record { out = O.contents out.new; err = E.contents err.new }) ended.old ended.new) }
     ensures stop { IfErr result (Stops (answer_of answer.now)

@@ -1,4 +1,4 @@
-pub mod FrameLanguages
-pub mod FrameAgreement
-pub mod AddressAnswers
-pub mod TableRuns
+mod FrameLanguages
+mod FrameAgreement
+mod AddressAnswers
+mod TableRuns

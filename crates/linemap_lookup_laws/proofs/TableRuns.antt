@@ -15,7 +15,8 @@ use Rattle.linemap_lookup.specs.LoadError.{LoadError}
 use Rattle.linemap_lookup.specs.LoadErrors.{text_of}
 use Rattle.linemap_lookup.specs.LookupRuns.{answers_together}
 use Rattle.linemap_lookup.specs.Options.{Options}
-use Rattle.linemap_lookup.specs.Programs.{Outcome, Prints, PrintsAnswers, Question, all_if_asked, ascending_after, begins_of, or_line, question, question_of, section_if_any}
+use Rattle.linemap_lookup.specs.Outcome.{Outcome}
+use Rattle.linemap_lookup.specs.Programs.{Prints, PrintsAnswers, Question, all_if_asked, ascending_after, begins_of, or_line, question, question_of, section_if_any}
 use Rattle.linemap_lookup.specs.Range.{Range}
 use Rattle.linemap_lookup.specs.Repetition.{Listing}
 use Rattle.linemap_lookup.specs.Results.{◌>>=◌}

@@ -5,7 +5,8 @@ use Rattle.linemap_image.specs.ImageAnswers.{FileAnswers}
 use Rattle.linemap_image.specs.TableParts.{UnitPart}
 use Rattle.linemap_lookup.specs.Error.{Error}
 use Rattle.linemap_lookup.specs.Options.{Options}
-use Rattle.linemap_lookup.specs.Programs.{Asks, Outcome, Prints, question, section_if_any, words_of}
+use Rattle.linemap_lookup.specs.Outcome.{Outcome}
+use Rattle.linemap_lookup.specs.Programs.{Asks, Prints, question, section_if_any, words_of}
 use Rattle.linemap_lookup.specs.Range.{Range}
 use Rattle.linemap_lookup_laws.specs.TableTexts.{all_addresses, table_text}
 

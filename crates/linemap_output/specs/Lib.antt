@@ -1,2 +1,3 @@
 pub mod ErrorLine
+pub mod Outcome
 pub mod WriterBytes

@@ -8,6 +8,6 @@ pub use Rattle.linemap_meaning.proofs.TableCallChains
 pub use Rattle.linemap_meaning.proofs.TableRangeHolders
 pub use Rattle.linemap_meaning.proofs.TableViewLemmas
 pub mod AgreeingSequences
-pub mod RowsBelow
+mod RowsBelow
 pub mod UnitLocations
 pub mod TableLocations

@@ -12,7 +12,7 @@ use Rattle.addr2line_context.specs.Histories.{ContextCall, CallAnswer, ContextSt
 use Rattle.linemap_replay.specs.declared.answer.Answer.{Answer}
 use Rattle.linemap_replay.specs.declared.call.Call.{Call}
 use Rattle.linemap_replay.specs.OwnedAnswers.{CopiedAnswer, answer_of, copied_answer}
-use Rattle.linemap_replay.specs.Replays.{AreRunOnce, context_call, call_on, state_of, state_after, replayed}
+use Rattle.linemap_replay.specs.Replays.{AreRunOnce, context_call, call_on, state_of, state_after, replay_answers}
 use Rattle.linemap_replay.proofs.AnsweredPlaces.{items_at}
 
 -- what the calls that are left answer and leave
@@ -31,7 +31,7 @@ module _ (files : List (Option DwarfFile)) (start : AnsweredContext) (calls : Li
     pub plain : v.plain ≡ start.plain
     pub answers :
         map answer_of found ++ answers_left start.plain (calls_from i) (state_of v tokens)
-        ≡ replayed start (map (context_call files) calls)
+        ≡ replay_answers start (map (context_call files) calls)
     pub state :
         state_left start.plain (calls_from i) (state_of v tokens)
         ≡ state_left start.plain (map (context_call files) calls) (state_of start [])
@@ -90,7 +90,7 @@ module _ (files : List (Option DwarfFile)) (start : AnsweredContext) (calls : Li
     none_left : calls_from i ≡ []
     none_left = ap (map (context_call files)) (drop_all i calls ended)
 
-    pub all_answers : map answer_of found ≡ replayed start (map (context_call files) calls)
+    pub all_answers : map answer_of found ≡ replay_answers start (map (context_call files) calls)
     all_answers =
         sym (append-nil (map answer_of found))
         ∙ ap (λ ks. map answer_of found ++ answers_left start.plain ks (state_of v tokens)) (sym none_left)

@@ -10,7 +10,7 @@ use Rattle.addr2line_context.specs.Lookups.{if_output, answer_load, resume}
 use Rattle.addr2line_context.specs.ResolvedUnits.{ResolvedUnit}
 use Rattle.addr2line_context.specs.SettledLookups.{loads_in, answers_with_first, after_answer}
 use Rattle.addr2line_context.specs.UnitLookups.{IsPending}
-use Rattle.linemap_replay.specs.Replays.{WaitsForFirst, resumed}
+use Rattle.linemap_replay.specs.Replays.{WaitsForFirst, resume_with_all}
 
 -- what holds whatever a result is
 pub if_ok : {A E : Type 0} (r : Result A E) (P : Type 0) → P → OnOk r P
@@ -45,7 +45,7 @@ module _ {A : Type 0} (lookup : AnsweredContext → ℕ → Lookup A) (a : ℕ) 
 
   -- one that waits for no load takes no answer
   pub resumed_done : (v : AnsweredContext) → IsDone (lookup v a) → (files : List (Option DwarfFile))
-      → resumed lookup v a files ≡ (lookup v a, v.answers)
+      → resume_with_all lookup v a files ≡ (lookup v a, v.answers)
   resumed_done v done [] = refl
   resumed_done v done (file ∷ files) =
       ap (go_on v file files) done.1 ∙ ap (λ (l : Lookup A). (l, v.answers)) (sym done.1)
@@ -54,11 +54,11 @@ module _ {A : Type 0} (lookup : AnsweredContext → ℕ → Lookup A) (a : ℕ) 
   pub resumed_waiting : (v mid new : AnsweredContext) → WaitsForFirst (loads_in v a) (lookup v a)
       → IsPending (lookup v a) → mid ≡ v → new.plain ≡ mid.plain
       → (file : Option DwarfFile) → new.answers ≡ (after_answer mid a file).answers → (files : List (Option DwarfFile))
-      → resumed lookup new a files ≡ resumed lookup v a (file ∷ files)
+      → resume_with_all lookup new a files ≡ resume_with_all lookup v a (file ∷ files)
   resumed_waiting v mid new first waits is same file answered files =
-      ap (λ c. resumed lookup (record { plain = c; answers = new.answers }) a files)
+      ap (λ c. resume_with_all lookup (record { plain = c; answers = new.answers }) a files)
       (same ∙ ap (λ (x : AnsweredContext). x.plain) is)
-      ∙ ap (λ answers. resumed lookup (record v { answers = answers }) a files)
+      ∙ ap (λ answers. resume_with_all lookup (record v { answers = answers }) a files)
       (answered ∙ ap (λ x. (after_answer x a file).answers) is
       ∙ ap (λ ps. answers_with_first v ps file) (first waits.0 waits.1).1)
       ∙ sym (ap (go_on v file files) waits.1)

@@ -15,7 +15,7 @@ use Rattle.linemap_replay.specs.declared.answer.Answer.{Answer}
 use Rattle.linemap_replay.specs.Outcomes.{CopiesOrNoMemory, Refuses, Completes}
 use Rattle.linemap_replay.specs.OwnedAnswers.{CopiedAnswer, dwo_ids, missing_token, answer_of, copied_answer}
 use Rattle.linemap_replay.specs.Replays.{state_of, call_on, token_of}
-use Rattle.linemap_replay.proofs.CopiedAnswers.{completion_copy, if_completed, answered}
+use Rattle.linemap_replay.proofs.CopiedAnswers.{completion_copy, if_completed, meaning_is_answer}
 
 -- ---- loads
 
@@ -71,7 +71,7 @@ module _ (v : AnsweredContext) (loads : List (SplitLoad × ℕ)) (number : ℕ) 
         (sym at)
         (completion_copy done meaning.0 r
         (λ other. ap (λ (x : Result (Unit {0}) Error × FirstAnswers). x.0)
-        (answered done v.answers new meaning answers other)) completes)
+        (meaning_is_answer done v.answers new meaning answers other)) completes)
 
     pub token_left : OnOk r (new ≡ (call_on v tokens (answer_token number file)).1.answers)
     token_left =
@@ -79,7 +79,7 @@ module _ (v : AnsweredContext) (loads : List (SplitLoad × ℕ)) (number : ℕ) 
         (sym at)
         (if_completed done r (new ≡ meaning.1)
         (λ other. sym (ap (λ (x : Result (Unit {0}) Error × FirstAnswers). x.1)
-        (answered done v.answers new meaning answers other))) completes)
+        (meaning_is_answer done v.answers new meaning answers other))) completes)
 
   -- there is none
   module _ (at : slice_get tokens number ≡ None) where

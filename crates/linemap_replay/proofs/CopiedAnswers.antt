@@ -45,21 +45,22 @@ if_completed done (Err e) P ended h = tt
 abbrev err_of : Error → Result (Unit {0}) Error
 err_of e = Err e
 
-pub returned : (done meaning : Result (Unit {0}) Error) → ReturnsOrNoMemory done meaning → done ≢ Err Memory
+pub meaning_is_result : (done meaning : Result (Unit {0}) Error) → ReturnsOrNoMemory done meaning → done ≢ Err Memory
     → meaning ≡ done
-returned (Ok x) meaning h other = h
-returned (Err e) meaning h other = h (λ is. other (ap err_of is))
+meaning_is_result (Ok x) meaning h other = h
+meaning_is_result (Err e) meaning h other = h (λ is. other (ap err_of is))
 
-pub answered : {S : Type 0} (done : Result (Unit {0}) Error) (old new : S) (meaning : Result (Unit {0}) Error × S)
-    → AnswersOrNoMemory done old new meaning → done ≢ Err Memory → meaning ≡ (done, new)
-answered done old new meaning (inl is) other = is
-answered done old new meaning (inr none) other = absurd (other none.0)
+pub meaning_is_answer : {S : Type 0} (done : Result (Unit {0}) Error) (old new : S)
+    (meaning : Result (Unit {0}) Error × S) → AnswersOrNoMemory done old new meaning
+    → done ≢ Err Memory → meaning ≡ (done, new)
+meaning_is_answer done old new meaning (inl is) other = is
+meaning_is_answer done old new meaning (inr none) other = absurd (other none.0)
 
-pub parsed : (c : FileContext) (parse : ContextUnit → FirstAnswer → Result (Unit {0}) Error)
+pub meaning_is_parse : (c : FileContext) (parse : ContextUnit → FirstAnswer → Result (Unit {0}) Error)
     (done : Result (Unit {0}) Error) (old new : FirstAnswers)
     → ParsesOrNoMemory c parse done old new → done ≢ Err Memory → parse_all c parse old ≡ (done, new)
-parsed c parse done old new (inl is) other = is
-parsed c parse done old new (inr none) other = absurd (other none.0)
+meaning_is_parse c parse done old new (inl is) other = is
+meaning_is_parse c parse done old new (inr none) other = absurd (other none.0)
 
 -- ---- lookups
 

@@ -1,6 +1,6 @@
-pub mod AnsweredPlaces
-pub mod AnsweredCalls
-pub mod CopiedAnswers
-pub mod AnsweredTokens
-pub mod NoLoads
-pub mod TableCalls
+mod AnsweredPlaces
+mod AnsweredCalls
+mod CopiedAnswers
+mod AnsweredTokens
+mod NoLoads
+mod TableCalls

@@ -14,7 +14,7 @@ use Rattle.linemap_emit.specs.Meaning as table
 use Rattle.linemap_emit.specs.RecordedTableLaws.{AnswersTable}
 use Rattle.linemap_emit.specs.TableParts.{UnitPart}
 use Rattle.linemap_replay.specs.OwnedAnswers.{CopiedName, copied_name, copied_frame, copied_answer}
-use Rattle.linemap_replay.specs.Replays.{state_of, replayed}
+use Rattle.linemap_replay.specs.Replays.{state_of, replay_answers}
 use Rattle.linemap_replay.specs.TableHistories.{IsFrameOf, IsTableAnswer}
 use Rattle.linemap_replay.proofs.NoLoads.{no_loads}
 
@@ -49,16 +49,16 @@ module _ (s : DwarfFile) (us : List UnitPart) (x : AnswersTable s us) where
   file = record { file = s; context = x.found }
 
   -- the answer to a call, and what it leaves
-  abbrev answered : ContextCall → ContextState → CallAnswer × ContextState
-  answered k state = call file (naming_in file) k state
+  abbrev after_call : ContextCall → ContextState → CallAnswer × ContextState
+  after_call k state = call file (naming_in file) k state
 
   -- after any calls there are no tokens
   pub record IsAnswered (k : ContextCall) (state : ContextState) : Type 0 where
-    pub answer : IsTableAnswer us k (copied_answer (answered k state).0)
-    pub no_tokens : (answered k state).1.tokens ≡ []
+    pub answer : IsTableAnswer us k (copied_answer (after_call k state).0)
+    pub no_tokens : (after_call k state).1.tokens ≡ []
 
   frames_answered : (a : ℕ) (files : List (Option DwarfFile)) (state : ContextState)
-      → (answered (find_frames a files) state).0 ≡ frames_answer (Ok (x.frames_are state.answers a).list)
+      → (after_call (find_frames a files) state).0 ≡ frames_answer (Ok (x.frames_are state.answers a).list)
   frames_answered a files state =
       ap (λ r. answer_or_suspension frames_answer r.0)
       (resume_output file (λ answers. frames file (naming_in file) answers a) (Ok (x.frames_are state.answers a).list)
@@ -91,7 +91,7 @@ module _ (s : DwarfFile) (us : List UnitPart) (x : AnswersTable s us) where
         no_tokens = ap (λ (ps : List PendingLoad). map (λ p. p.number) ps) is;
       }
   one_call (answer_token place file_there) state none =
-      let is : answered (answer_token place file_there) state ≡ token_call file None file_there state =
+      let is : after_call (answer_token place file_there) state ≡ token_call file None file_there state =
       ap (λ (ts : List ℕ). token_call file (slice_get ts place) file_there state) none in
       record {
         answer = ap (λ (r : CallAnswer × ContextState). copied_answer r.0) is;
@@ -105,7 +105,7 @@ module _ (s : DwarfFile) (us : List UnitPart) (x : AnswersTable s us) where
       → OneByOne (IsTableAnswer us) ks (map copied_answer (history_from file (naming_in file) ks state))
   all_calls [] state none = tt
   all_calls (k ∷ ks) state none =
-      let here = one_call k state none in (here.answer, all_calls ks (answered k state).1 here.no_tokens)
+      let here = one_call k state none in (here.answer, all_calls ks (after_call k state).1 here.no_tokens)
 
 same_found : {A E : Type 0} (r : Result A E) (x y : A) → r ≡ Ok x → r ≡ Ok y → y ≡ x
 same_found r x y is other = cc
@@ -113,7 +113,7 @@ same_found r x y is other = cc
 -- whatever first answers the context begins with
 pub calls_answered_by : (us : List UnitPart) (c : AnsweredContext) (ks : List ContextCall)
     → AnswersTable c.plain.file us → context c.plain.file ≡ Ok c.plain.context
-    → OneByOne (IsTableAnswer us) ks (replayed c ks)
+    → OneByOne (IsTableAnswer us) ks (replay_answers c ks)
 calls_answered_by us c ks x is =
     let same : c.plain ≡ record { file = c.plain.file; context = x.found } =
     ap (λ (f : Context). record { file = c.plain.file; context = f })

@@ -52,9 +52,9 @@ WaitsForFirst loads lookup =
 
 -- A lookup of an address in a context, resumed with an answer to each load in turn, and the first
 -- answers after it.
-abbrev pub resumed : {A : Type 0} → (AnsweredContext → ℕ → Lookup A) → AnsweredContext → ℕ
+abbrev pub resume_with_all : {A : Type 0} → (AnsweredContext → ℕ → Lookup A) → AnsweredContext → ℕ
     → List (Option DwarfFile) → Lookup A × FirstAnswers
-resumed lookup c a files =
+resume_with_all lookup c a files =
     resume c.plain (λ answers. lookup (record c { answers = answers }) a) files c.answers
 
 -- ---- calls one after the other
@@ -65,8 +65,8 @@ state_after c naming [] s = s
 state_after c naming (k ∷ ks) s = state_after c naming ks (call c naming k s).1
 
 -- the copies of their answers, on a context that gave no tokens yet
-abbrev pub replayed : AnsweredContext → List ContextCall → List CopiedAnswer
-replayed c ks =
+abbrev pub replay_answers : AnsweredContext → List ContextCall → List CopiedAnswer
+replay_answers c ks =
     map copied_answer (history_from c.plain (naming_in c.plain) ks (state_of c []))
 
 -- the first answers that they leave there

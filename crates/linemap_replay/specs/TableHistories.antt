@@ -12,7 +12,7 @@ use Rattle.linemap_emit.specs.Meaning as table
 use Rattle.linemap_emit.specs.SectionAnswers.{AreAnswers}
 use Rattle.linemap_emit.specs.TableParts.{UnitPart}
 use Rattle.linemap_replay.specs.OwnedAnswers.{CopiedFrame, CopiedAnswer, location_copy, frames_copy, stretches_copy, dwo_ids, missing_token}
-use Rattle.linemap_replay.specs.Replays.{replayed}
+use Rattle.linemap_replay.specs.Replays.{replay_answers}
 
 -- the name and the place of a frame are a table's
 pub record IsFrameOf (f : table.Frame) (g : CopiedFrame) : Type 0 where
@@ -45,4 +45,4 @@ CallsAnswered =
     (calls : List ContextCall)
     → AreAnswers is_big bytes us → 2 ^ 31 ≤ c.plain.file.offset_limit
     → HoldBytes is_big bytes c.plain.file → context c.plain.file ≡ Ok c.plain.context
-    → OneByOne (IsTableAnswer us) calls (replayed c calls)
+    → OneByOne (IsTableAnswer us) calls (replay_answers c calls)

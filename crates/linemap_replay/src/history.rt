@@ -4,7 +4,7 @@ ghost use Rattle.std.specs.Prelude.{◌≡◌, OnOk, map, option_map};
 ghost use Rattle.addr2line_context.specs.KeptUnits.{KeepsMore};
 ghost use Rattle.linemap_replay.specs.Outcomes.{CopiesOrNoMemory};
 ghost use Rattle.linemap_replay.specs.OwnedAnswers.{answer_of, copied_answer};
-ghost use Rattle.linemap_replay.specs.Replays.{AreRunOnce, context_call, call_on, state_of, token_of, replayed, answers_after};
+ghost use Rattle.linemap_replay.specs.Replays.{AreRunOnce, context_call, call_on, state_of, token_of, replay_answers, answers_after};
 
 use crate::address_lookup::{FrameLookup, UnitLookup};
 use crate::answer::Answer;
@@ -68,7 +68,7 @@ pub fn replay<R: Reader>(
     answers: &[Option<Rc<Dwarf<R>>>],
 ) -> Result<Vec<Answer>, Error>
     ensures answers { CopiesOrNoMemory (λ found. map answer_of found.items) result
-        (replayed context.old.value
+        (replay_answers context.old.value
         (map (context_call (map (option_map (λ f. f.value.file)) answers.now)) calls.now)) }
     ensures left { OnOk result (context.new.value.answers ≡ answers_after context.old.value
         (map (context_call (map (option_map (λ f. f.value.file)) answers.now)) calls.now)) }

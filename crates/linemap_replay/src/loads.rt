@@ -6,7 +6,7 @@ ghost use Rattle.addr2line_context.specs.FrameLoads.{TellsWaiting};
 ghost use Rattle.addr2line_context.specs.KeptUnits.{KeepsMore};
 ghost use Rattle.addr2line_context.specs.SettledLookups.{after_answer};
 ghost use Rattle.linemap_replay.specs.Outcomes.{CopiesOrNoMemory};
-ghost use Rattle.linemap_replay.specs.Replays.{file_at, resumed};
+ghost use Rattle.linemap_replay.specs.Replays.{file_at, resume_with_all};
 
 use crate::address_lookup::AddressLookup;
 use addr2line_context::frame_loads::answer_first;
@@ -53,7 +53,7 @@ pub(crate) fn resume_lookup<R: Reader, L: AddressLookup<R>>(
     answers: &[Option<Rc<Dwarf<R>>>],
 ) -> Result<bool, Error>
     ensures waits { TellsWaiting (L.lookup context.new.value probe) result }
-    ensures resumed { OnOk result (resumed L.lookup context.old.value probe
+    ensures resumed { OnOk result (resume_with_all L.lookup context.old.value probe
         (map (file_at (map (option_map (λ f. f.value.file)) answers.now)) places.now)
         ≡ (L.lookup context.new.value probe, context.new.value.answers)) }
     ensures plain { context.new.value.plain ≡ context.old.value.plain }

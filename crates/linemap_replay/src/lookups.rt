@@ -5,7 +5,7 @@ ghost use Rattle.addr2line_context.specs.KeptUnits.{KeepsMore};
 ghost use Rattle.addr2line_context.specs.Histories.{find_location, find_location_range, answer_or_suspension};
 ghost use Rattle.linemap_replay.specs.Outcomes.{CopiesOrNoMemory};
 ghost use Rattle.linemap_replay.specs.OwnedAnswers.{answer_of, copied_answer};
-ghost use Rattle.linemap_replay.specs.Replays.{file_at, call_on, resumed};
+ghost use Rattle.linemap_replay.specs.Replays.{file_at, call_on, resume_with_all};
 
 use crate::address_lookup::AddressLookup;
 use crate::answer::Answer;
@@ -58,10 +58,10 @@ pub(crate) fn find_copied<R: Reader, L: AddressLookup<R>>(
     answers: &[Option<Rc<Dwarf<R>>>],
 ) -> Result<Answer, Error>
     ensures answer { CopiesOrNoMemory answer_of result (copied_answer (answer_or_suspension L.answer
-        (resumed L.lookup context.old.value probe
+        (resume_with_all L.lookup context.old.value probe
         (map (file_at (map (option_map (λ f. f.value.file)) answers.now)) places.now)).0)) }
     ensures left { OnOk result (context.new.value.answers
-        ≡ (resumed L.lookup context.old.value probe
+        ≡ (resume_with_all L.lookup context.old.value probe
         (map (file_at (map (option_map (λ f. f.value.file)) answers.now)) places.now)).1) }
     ensures plain { context.new.value.plain ≡ context.old.value.plain }
     ensures kept { KeepsMore context.old.units context.new.units }

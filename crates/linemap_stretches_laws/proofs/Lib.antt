@@ -1,10 +1,10 @@
-pub mod AlikeStretches
-pub mod StretchBlocks
-pub mod StretchesBetweenEnds
-pub mod SequenceRowStretches
-pub mod UnitSequenceStretches
-pub mod ClippedStretches
-pub mod StretchHomes
-pub mod UnitStretchFacts
+mod AlikeStretches
+mod StretchBlocks
+mod StretchesBetweenEnds
+mod SequenceRowStretches
+mod UnitSequenceStretches
+mod ClippedStretches
+mod StretchHomes
+mod UnitStretchFacts
 pub mod TableLookupStretches
 mod WorkedStretches

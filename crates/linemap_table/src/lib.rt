@@ -14,14 +14,14 @@ mod element;
 pub mod error;
 mod fault;
 mod fields;
-mod streamed;
+mod stream;
 pub mod target;
 mod values;
 
 use crate::element::units_of;
 pub use crate::error::TableError;
 use crate::fault::Fault;
-use crate::streamed::read_units;
+use crate::stream::read_units;
 pub use crate::target::Target;
 use linemap_check::fits::are_below;
 use linemap_check::rules::first_broken;

@@ -10,7 +10,8 @@ use Rattle.linemap_output.proofs.WritingLemmas.{appends_more, prefix_after, pref
 use Rattle.linemap_output.specs.ErrorLine.{Fails}
 use Rattle.linemap_output.specs.declared.ended.Ended.{Ended}
 use Rattle.linemap_output.specs.declared.writing.WriteFault.TheVariants.{BrokenPipe, Failed}
-use Rattle.linemap_text.specs.Ask.{AskOutcome, FlagsMean, StopsAt, Reports}
+use Rattle.linemap_output.specs.Outcome.{Outcome}
+use Rattle.linemap_text.specs.Ask.{FlagsMean, StopsAt, Reports}
 use Rattle.linemap_text.specs.declared.stops.Stop.{Stop}
 use Rattle.linemap_text.specs.declared.stops.Stop.TheVariants.{Memory, Table, TooLarge, Output}
 use Rattle.std.specs.Io.KnownBytes.{Appends}
@@ -66,7 +67,7 @@ module _ (places : Context) (ws : List (String Global)) where
       (prefix_after a b c (answers_to i) line p f))
 
 -- an end without flags
-pub flags_of_none : (p : AskOutcome) (old new : Option (List ℕ)) (e : Ended)
+pub flags_of_none : (p : Outcome) (old new : Option (List ℕ)) (e : Ended)
     → e ≡ record { status = 0; memory = false; read = false; write = false } → FlagsMean p old new e
 flags_of_none p old new e is = record {
   memory = λ set. absurd (let no : true ≡ false = sym set ∙ ap (λ (x : Ended). x.memory) is in cc);
@@ -79,7 +80,7 @@ both_set true set clear = let no : true ≡ false = clear in cc
 both_set false set clear = let no : true ≡ false = sym set in cc
 
 -- the flags that a stop sets
-pub flags_of_stop : (p : AskOutcome) (stop : Stop) (old new : Option (List ℕ)) (e : Ended) → StopsAt p stop
+pub flags_of_stop : (p : Outcome) (stop : Stop) (old new : Option (List ℕ)) (e : Ended) → StopsAt p stop
     → Reports stop old new e → FlagsMean p old new e
 flags_of_stop p (Memory what) old new e at ends = record {
   memory = λ _. (what, at, ends.0);
@@ -90,8 +91,8 @@ flags_of_stop p (Table error) old new e at ends = record {
   memory = λ set. absurd (both_set e.memory set ends.1);
   write =
       λ _ _. inl (
-        ap (λ (q : AskOutcome). q.status) at,
-        subst (λ (q : AskOutcome). Fails q.err old new e) (sym at) ends.0,
+        ap (λ (q : Outcome). q.status) at,
+        subst (λ (q : Outcome). Fails q.err old new e) (sym at) ends.0,
       );
   read = ends.0.read;
 }
@@ -99,8 +100,8 @@ flags_of_stop p TooLarge old new e at ends = record {
   memory = λ set. absurd (both_set e.memory set ends.1);
   write =
       λ _ _. inl (
-        ap (λ (q : AskOutcome). q.status) at,
-        subst (λ (q : AskOutcome). Fails q.err old new e) (sym at) ends.0,
+        ap (λ (q : Outcome). q.status) at,
+        subst (λ (q : Outcome). Fails q.err old new e) (sym at) ends.0,
       );
   read = ends.0.read;
 }

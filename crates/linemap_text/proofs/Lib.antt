@@ -1,4 +1,4 @@
-pub mod AskLemmas
-pub mod SectionAnswersPrinted
-pub mod AnsweringContexts
-pub mod WordTextLemmas
+mod AskLemmas
+mod SectionAnswersPrinted
+mod AnsweringContexts
+mod WordTextLemmas

@@ -6,6 +6,7 @@ use Rattle.linemap_emit.specs.TableWeight.{table_weight}
 use Rattle.linemap_emit.specs.declared.error.EmitError.{EmitError}
 use Rattle.linemap_emit.specs.declared.error.EmitError.TheVariants.{Memory as NoRoom, TooLarge as TooHeavy}
 use Rattle.linemap_output.specs.ErrorLine.{EndsAtFault, Fails, error_line}
+use Rattle.linemap_output.specs.Outcome.{Outcome}
 use Rattle.linemap_output.specs.declared.ended.Ended.{Ended}
 use Rattle.linemap_output.specs.declared.writing.WriteFault.{WriteFault}
 use Rattle.linemap_emit.specs.TableErrorCodes.{table_error_code}
@@ -19,24 +20,18 @@ use Rattle.linemap_text.specs.declared.stops.Stop.TheVariants.{Memory, Table, To
 
 -- ---- what is printed
 
--- what goes to the output and to the error stream, and the exit status
-pub record AskOutcome : Type 0 where
-  pub out : List ℕ
-  pub err : List ℕ
-  pub status : ℕ
-
-abbrev pub refusal : List ℕ → List ℕ → AskOutcome
+abbrev pub refusal : List ℕ → List ℕ → Outcome
 refusal message detail = record { out = []; err = error_line message detail; status = 1 }
 
 -- the answers, unless the table weighs 2^31 or more
-abbrev pub outcome_of : Result (List UnitPart) TableError → List (List ℕ) → AskOutcome
+abbrev pub outcome_of : Result (List UnitPart) TableError → List (List ℕ) → Outcome
 outcome_of (Err e) words = refusal (codes "table refused: ") (table_error_code e)
 outcome_of (Ok units) words = if nat_lt (table_weight units) (2 ^ 31)
     then record { out = ask_text units words; err = []; status = 0 }
     else refusal (codes "emit refused: ") (codes "M2")
 
 -- what `ask` prints for the text of a table and for words
-abbrev pub ask_outcome : List ℕ → List (List ℕ) → AskOutcome
+abbrev pub ask_outcome : List ℕ → List (List ℕ) → Outcome
 ask_outcome text words = outcome_of (table_in text) words
 
 -- ---- what stops it
@@ -70,19 +65,19 @@ StopsWriting TooLarge = ⊥
 StopsWriting (Output fault) = ⊤
 
 -- the text is a table: there are answers to print, or the table is refused for its weight
-abbrev pub EmitsTable : AskOutcome → Type 0
+abbrev pub EmitsTable : Outcome → Type 0
 EmitsTable p = (p.status ≡ 0) ⊎ (p ≡ refusal (codes "emit refused: ") (codes "M2"))
 
 -- memory may be refused for the table, then for its sections, and, where there are answers to
 -- print, for the context and the answers
-abbrev pub MayRefuse : AskOutcome → MemoryUse → Type 0
+abbrev pub MayRefuse : Outcome → MemoryUse → Type 0
 MayRefuse p memory.Table = ⊤
 MayRefuse p memory.Emission = EmitsTable p
 MayRefuse p memory.Context = p.status ≡ 0
 MayRefuse p memory.Answers = p.status ≡ 0
 
 -- a refusal is the one that `ask` prints, and nothing is written before it
-abbrev pub StopsAt : AskOutcome → Stop → Type 0
+abbrev pub StopsAt : Outcome → Stop → Type 0
 StopsAt p (Memory what) = MayRefuse p what
 StopsAt p (Table e) = p ≡ refusal (codes "table refused: ") (table_error_code e)
 StopsAt p TooLarge = p ≡ refusal (codes "emit refused: ") (codes "M2")
@@ -108,18 +103,18 @@ Reports TooLarge old new e =
 Reports (Output fault) old new e = EndsAtFault fault old new e
 
 -- the error stream failed while the refusal was written, or the output failed
-abbrev pub EndsAtWrite : AskOutcome → Option (List ℕ) → Option (List ℕ) → Ended → Type 0
+abbrev pub EndsAtWrite : Outcome → Option (List ℕ) → Option (List ℕ) → Ended → Type 0
 EndsAtWrite p old new e =
     ((p.status ≡ 1) × Fails p.err old new e)
     ⊎ ((p.status ≡ 0) × ((fault : WriteFault) × EndsAtFault fault old new e))
 
 -- memory was refused for one of its uses
-abbrev pub EndsForMemory : AskOutcome → Option (List ℕ) → Option (List ℕ) → Ended → Type 0
+abbrev pub EndsForMemory : Outcome → Option (List ℕ) → Option (List ℕ) → Ended → Type 0
 EndsForMemory p old new e =
     (what : MemoryUse) × MayRefuse p what × Fails (memory_line what) old new e
 
 -- the status and the error line that each flag means; nothing is read
-pub record FlagsMean (p : AskOutcome) (old new : Option (List ℕ)) (e : Ended) : Type 0 where
+pub record FlagsMean (p : Outcome) (old new : Option (List ℕ)) (e : Ended) : Type 0 where
   pub memory : e.memory ≡ true → EndsForMemory p old new e
   pub write : e.memory ≡ false → e.write ≡ true → EndsAtWrite p old new e
   pub read : e.read ≡ false

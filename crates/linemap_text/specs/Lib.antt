@@ -18,6 +18,7 @@ pub use Rattle.linemap_emit.specs.TableRangeLaws
 pub use Rattle.linemap_emit.specs.TableViews
 pub use Rattle.linemap_emit.specs.TableWeight
 pub use Rattle.linemap_output.specs.ErrorLine
+pub use Rattle.linemap_output.specs.Outcome
 pub use Rattle.linemap_output.specs.WriterBytes
 pub use Rattle.linemap_emit.specs.JsonShapes
 pub use Rattle.linemap_emit.specs.ShapeFaults

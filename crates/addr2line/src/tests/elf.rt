@@ -178,10 +178,15 @@ impl Kind {
 
     // Why a file with a header, one section header, and names is refused.
     fn refused_header(self, alloc: Global, header: [u64; 5], first: Section) -> Option<LoadError> {
-        self.headed(alloc, header, first).err()
+        self.with_header(alloc, header, first).err()
     }
 
-    fn headed(self, alloc: Global, header: [u64; 5], first: Section) -> Result<Elf, LoadError> {
+    fn with_header(
+        self,
+        alloc: Global,
+        header: [u64; 5],
+        first: Section,
+    ) -> Result<Elf, LoadError> {
         let mut out = Vec::new(alloc);
         self.put_header(&mut out, header)?;
         self.put_sections(&mut out, &[first])?;
@@ -272,7 +277,7 @@ fn load_error(error: Error) -> LoadError {
     LoadError::from(error)
 }
 
-fn printed(alloc: Global, errors: [LoadError; 2]) -> Result<String, AllocError> {
+fn print_both(alloc: Global, errors: [LoadError; 2]) -> Result<String, AllocError> {
     let [first, second] = errors;
     format!(in alloc; "{first} {second}")
 }
@@ -315,7 +320,7 @@ fn refused_files(rt: HostRuntime) -> Result<(), Fail> {
         assert_eq!(rt; WIDE.refused_header(rt.alloc(), header, first), error);
     }
     let eof = load_error(Error::UnexpectedEof(ReaderOffsetId(7)));
-    let text = printed(rt.alloc(), [eof, LoadError::Io])?;
+    let text = print_both(rt.alloc(), [eof, LoadError::Io])?;
     assert_eq!(rt; text.as_str(), "L8 E2 L2");
     Ok(())
 }

@@ -150,7 +150,7 @@ pub fn unit(
 }
 
 /// The unit of a program whose texts are in its header.
-pub fn written(
+pub fn write_program(
     rt: &impl Abort,
     alloc: Global,
     program: &LineProgram,

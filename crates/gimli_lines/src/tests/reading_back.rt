@@ -4,7 +4,7 @@ ghost use Rattle.std.specs.Prelude.{◌<◌, length};
 ghost use Rattle.gimli_lines.specs.StringSections.{IsText};
 
 use super::programs::{
-    RowFacts, add_file, add_row, add_rows, begin, end, new_program, set_address, written,
+    RowFacts, add_file, add_row, add_rows, begin, end, new_program, set_address, write_program,
 };
 use crate::write::{Address, Error, FileInfo, LineProgram, LineString};
 use crate::{
@@ -120,7 +120,7 @@ fn round_trip(
 ) -> Result<(Option<Details>, Vec<RowFacts>), Fail> {
     let mut program = new_program(alloc, version, format)?;
     assert!(rt; add_file_and_rows(alloc, &mut program)?);
-    let unit = written(rt, alloc, &program, endian)?;
+    let unit = write_program(rt, alloc, &program, endian)?;
     let program = program_at(alloc, unit.as_slice(), endian)?;
     let details = details(program.header());
     Ok((details, rows_of(alloc, program)?))
@@ -197,7 +197,7 @@ fn unit_with_file(
     program: &mut LineProgram,
 ) -> Result<Vec<u8>, Error> {
     add_detailed_file(alloc, program, b"src", b"b.c", b"int")?;
-    written(rt, alloc, program, RunTimeEndian::Little)
+    write_program(rt, alloc, program, RunTimeEndian::Little)
 }
 
 // What is read of file 1 of a program of version 5 that records a detail.
@@ -237,7 +237,7 @@ fn add_rows_that_go_back(program: &mut LineProgram) -> Result<bool, Error> {
 fn rows_after_going_back(rt: &impl Abort, alloc: Global) -> Result<Vec<RowFacts>, Fail> {
     let mut program = new_program(alloc, 4, Format::Dwarf32)?;
     assert!(rt; add_rows_that_go_back(&mut program)?);
-    let unit = written(rt, alloc, &program, RunTimeEndian::Little)?;
+    let unit = write_program(rt, alloc, &program, RunTimeEndian::Little)?;
     let program = program_at(alloc, unit.as_slice(), RunTimeEndian::Little)?;
     rows_of(alloc, program)
 }

@@ -3,7 +3,7 @@
 ghost use Rattle.std.specs.Prelude.{◌<◌, length};
 ghost use Rattle.gimli_lines.specs.StringSections.{IsText};
 
-use super::programs::{add_file, add_rows, begin, new_program, program_of, unit, written};
+use super::programs::{add_file, add_rows, begin, new_program, program_of, unit, write_program};
 use crate::write::{
     EndianVec, Error, FileId, FileInfo, LineProgram, LineString, LineStringId, LineStringTable,
     StringTable, Writer,
@@ -53,7 +53,7 @@ fn version_4_by_hand(rt: HostRuntime) -> Result<(), Fail> {
     let mut program = new_program(rt.alloc(), 4, Format::Dwarf32)?;
     let added = add_file_and_rows(rt.alloc(), &mut program)?;
     assert_eq!(rt; added, (1, true));
-    let bytes = written(&rt, rt.alloc(), &program, RunTimeEndian::Little)?;
+    let bytes = write_program(&rt, rt.alloc(), &program, RunTimeEndian::Little)?;
     assert!(rt; are(&bytes, UNIT_OF_4));
     Ok(())
 }
@@ -328,7 +328,7 @@ fn add_all(alloc: Global, table: &mut StringTable) -> [Result<(bool, usize), Err
     ]
 }
 
-// Whether the table has these bytes and so many strings.
+// Whether the table has these bytes and this number of strings.
 fn holds(alloc: Global, table: &StringTable, wanted: &[u8], count: usize) -> bool {
     match bytes_of_table(alloc, table) {
         Ok((bytes, strings)) => bytes.as_slice() == wanted && strings == count,

@@ -112,7 +112,7 @@ fn sections_for(
     }
 }
 
-fn printed(alloc: Global, first: EmitError, second: EmitError) -> Result<String, AllocError> {
+fn print_both(alloc: Global, first: EmitError, second: EmitError) -> Result<String, AllocError> {
     format!(in alloc; "{first} {second}")
 }
 
@@ -136,7 +136,7 @@ fn sections_of_tables(rt: HostRuntime) -> Result<(), Fail> {
     let empty = sections_of(alloc, Vec::new(alloc), (4, Format::Dwarf32, 8, false))?;
     assert!(rt; holds(&empty, SectionId::DebugAbbrev, ABBREV));
     assert!(rt; holds(&empty, SectionId::DebugInfo, b""));
-    let text = printed(alloc, EmitError::Memory, EmitError::TooLarge)?;
+    let text = print_both(alloc, EmitError::Memory, EmitError::TooLarge)?;
     assert_eq!(rt; text.as_str(), "M1 M2");
     Ok(())
 }

@@ -9,8 +9,8 @@ use Rattle.addr2line_functions.proofs.CallFactSteps.{facts_refused, ranges_refus
 use Rattle.addr2line_functions.proofs.walk.call_at.Goals as goal
 
 -- facts that are read
-abbrev read : LastCallFacts → Result LastCallFacts Error
-read f = Ok f
+abbrev ok_facts : LastCallFacts → Result LastCallFacts Error
+ok_facts f = Ok f
 
 pub returns-in_err-found : goal.returns-in_err-found
 returns-in_err-found g c =
@@ -24,7 +24,7 @@ returns-in_err-ranges g c =
     let r = row_view g.R.Reader.view g.R.Offset.ReaderOffset.count c.args.row c.args.attributes.now in
     returns_refused _ _ _ _ c.from_residual-in_err-ranges.ensures.1
     (λ m. ranges_refused c.args.unit.now (g.N.Names.naming c.args.names.now) c.args.depth r _ _
-    (c.in_ok-found.ensures ∙ ap read (sym c.found.view_is)) (c.in_err-ranges.ensures m))
+    (c.in_ok-found.ensures ∙ ap ok_facts (sym c.found.view_is)) (c.in_err-ranges.ensures m))
 
 pub returns : goal.returns
 returns g c =
@@ -36,5 +36,5 @@ returns g c =
     call_read c.args.unit.now (g.N.Names.naming c.args.names.now) c.args.depth r
     (record { name = option_map g.R.Reader.view c.found.inside.name; ranges = c.found.inside.ranges })
     c.in_ok-ranges.ranges.items c.call_file.result c.number_or_0.result c.number_or_0-2.result
-    (c.in_ok-found.ensures ∙ ap read (sym c.found.view_is)) c.in_ok-ranges.ensures
+    (c.in_ok-found.ensures ∙ ap ok_facts (sym c.found.view_is)) c.in_ok-ranges.ensures
     (c.call_file.ensures ∙ ap (λ v. call_file v attributes) version) c.number_or_0.ensures c.number_or_0-2.ensures

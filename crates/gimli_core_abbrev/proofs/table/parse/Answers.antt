@@ -6,8 +6,8 @@ use Rattle.gimli_core_abbrev.specs.Declarations.{Declaration, by_code}
 use Rattle.gimli_core_abbrev.proofs.TableCollection.{table_refused, table_is}
 use Rattle.gimli_core_abbrev.proofs.table.parse.Goals as goal
 
-abbrev read : List Declaration → View → Result (List Declaration × View) Error
-read ds v = Ok (by_code ds, v)
+abbrev ok_table : List Declaration → View → Result (List Declaration × View) Error
+ok_table ds v = Ok (by_code ds, v)
 
 pub returns-in_err-list : goal.returns-in_err-list
 returns-in_err-list g c =
@@ -18,4 +18,4 @@ pub returns : goal.returns
 returns g c =
     let view = g.R.Reader.view in
     table_is (view c.args.input.now) (view c.parse_list.new.input) c.in_ok-list.list c.in_ok-list.ensures
-    ∙ ap (λ (ds : List Declaration). read ds (view c.parse_list.new.input)) (sym c.in_ok-new.ensures.ok)
+    ∙ ap (λ (ds : List Declaration). ok_table ds (view c.parse_list.new.input)) (sym c.in_ok-new.ensures.ok)

@@ -7,7 +7,7 @@ use Rattle.linemap_emit_fits.specs.TableEmission.{EmittedTable, with_emitted_uni
 use Rattle.linemap_emit_fits.specs.FittingUnits.{AllUnitsFit}
 use Rattle.linemap_table.specs.EmissionTargets.{encoding_of, is_big_of}
 use Rattle.linemap_emit.specs.TableEmitterSteps.{HoldsTable}
-use Rattle.linemap_emit.proofs.ServedEncodings.{target_served}
+use Rattle.linemap_emit.proofs.ServedEncodings.{target_is_written}
 use Rattle.linemap_emit.proofs.TableEmitterLemmas.{unit_added, first_fits, can_take, others_fit, all_later, none_left}
 use Rattle.linemap_emit.proofs.table_emitter.emitter_of_units.Goals as goal
 
@@ -24,7 +24,7 @@ unit-requires c =
     let so_far = c.loop-unit.invariant in
     let here = from_here us i unit c.loop-unit-test.true c.unit-item.is in
     let fit = subst (λ (l : List TableUnit). AllUnitsFit e is_big (map unit_part l) so_far.0) here so_far.2 in
-    can_take e is_big (unit_part unit) so_far.0 c.loop-unit.emitter (target_served c.args.target) so_far.1
+    can_take e is_big (unit_part unit) so_far.0 c.loop-unit.emitter (target_is_written c.args.target) so_far.1
     (first_fits e is_big (unit_part unit) (map unit_part (drop (i + 1) us)) so_far.0 fit)
 
 pub loop-unit-preserved : goal.loop-unit-preserved

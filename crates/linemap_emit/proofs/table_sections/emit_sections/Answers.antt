@@ -9,7 +9,7 @@ use Rattle.linemap_table.specs.EmissionTargets.{encoding_of, is_big_of}
 use Rattle.linemap_emit.specs.SectionAnswers.{AreAnswers}
 use Rattle.linemap_emit_fits.specs.EmissionBounds.{sections_size}
 use Rattle.linemap_emit_fits.specs.EmittedSections.{SectionBytes}
-use Rattle.linemap_emit.proofs.ServedEncodings.{target_served}
+use Rattle.linemap_emit.proofs.ServedEncodings.{target_is_written}
 use Rattle.linemap_emit.proofs.SectionAnswerLemmas.{light_fits, light_small, light_answers}
 use Rattle.linemap_emit.proofs.table_sections.emit_sections.Goals as goal
 
@@ -21,7 +21,7 @@ emit_units-requires c =
     let same = sym c.units.ensures.value in
     let light : table_weight (units_of c.args.table.now) < 2 ^ 31 =
     omega (arith, c.weight.ensures, c.if-weight-ge-WEIGHT_LIMIT.false) in
-    light_fits e is_big units (target_served c.args.target) (subst IsSound same c.units.ensures.sound)
+    light_fits e is_big units (target_is_written c.args.target) (subst IsSound same c.units.ensures.sound)
     (subst (λ (us : List UnitPart). fits e.address_size us ≡ true) same c.requires.fits)
     (subst (λ (us : List UnitPart). table_weight us < 2 ^ 31) same light)
 
@@ -34,7 +34,7 @@ returns-in-Ok-clause-answers c =
     let light : table_weight (units_of c.args.table.now) < 2 ^ 31 =
     omega (arith, c.weight.ensures, c.if-weight-ge-WEIGHT_LIMIT.false) in
     let answers =
-    light_answers e is_big units (target_served c.args.target) (subst IsSound (sym value) c.units.ensures.sound)
+    light_answers e is_big units (target_is_written c.args.target) (subst IsSound (sym value) c.units.ensures.sound)
     (subst (λ (us : List UnitPart). fits e.address_size us ≡ true) (sym value) c.requires.fits)
     (subst (λ (us : List UnitPart). table_weight us < 2 ^ 31) (sym value) light) in
     subst (AreAnswers is_big c.in-Ok.sections) value
@@ -49,7 +49,7 @@ returns-in-Ok-clause-small c =
     let light : table_weight (units_of c.args.table.now) < 2 ^ 31 =
     omega (arith, c.weight.ensures, c.if-weight-ge-WEIGHT_LIMIT.false) in
     let small =
-    light_small e is_big units (target_served c.args.target) (subst IsSound (sym value) c.units.ensures.sound)
+    light_small e is_big units (target_is_written c.args.target) (subst IsSound (sym value) c.units.ensures.sound)
     (subst (λ (us : List UnitPart). fits e.address_size us ≡ true) (sym value) c.requires.fits)
     (subst (λ (us : List UnitPart). table_weight us < 2 ^ 31) (sym value) light) in
     subst (λ (us : List UnitPart). sections_size c.in-Ok.sections ≤ table_weight us) value

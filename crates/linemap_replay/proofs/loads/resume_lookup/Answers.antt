@@ -2,7 +2,7 @@ use Rattle.std.proofs.Common.{◌+◌, ◌∙◌, sym, ap, subst, map, option_ma
 use Rattle.std.proofs.lemmas.List.{drop_all}
 use Rattle.addr2line_context.specs.AnsweredContexts.{AnsweredContext}
 use Rattle.addr2line_context.specs.FrameLoads.{TellsWaiting, IsDone}
-use Rattle.linemap_replay.specs.Replays.{file_at, resumed}
+use Rattle.linemap_replay.specs.Replays.{file_at, resume_with_all}
 use Rattle.linemap_replay.proofs.AnsweredPlaces.{keeps_more, number_at, resumed_done, resumed_waiting, found_in_same, if_ok}
 use Rattle.linemap_replay.proofs.loads.resume_lookup.Goals as goal
 
@@ -20,7 +20,7 @@ loop-place-preserved g c =
       resumed_waiting lookup a v c.waits.new.context.value c.answer_next.new.context.value c.waits.ensures.first waits
           is c.answer_next.ensures.plain _ c.in_ok-answer_next.ensures.answered
           (map (file_at files) (drop (c.loop-place.place-index + 1) c.args.places.now))
-          ∙ ap (λ ps. resumed lookup v a (map (file_at files) ps))
+          ∙ ap (λ ps. resume_with_all lookup v a (map (file_at files) ps))
           (sym (number_at c.args.places.now c.loop-place.place-index c.loop-place-test.true))
           ∙ c.loop-place.invariant.2,
     )
@@ -58,5 +58,5 @@ returns-clause-resumed g c =
     if_ok c.waits-2.result _
     (found_in_same lookup a v _ c.waits-2.ensures.value _
     (sym c.loop-place.invariant.2
-    ∙ ap (λ ps. resumed lookup v a (map (file_at files) ps))
+    ∙ ap (λ ps. resume_with_all lookup v a (map (file_at files) ps))
     (drop_all c.loop-place.place-index c.args.places.now c.loop-place-test.false)))

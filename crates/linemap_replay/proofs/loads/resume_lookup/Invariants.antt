@@ -1,7 +1,7 @@
 -- The loads so far were answered in turn, and what is left to resume is the same.
 use Rattle.std.proofs.Common.{◌≡◌, map, drop, option_map}
 use Rattle.addr2line_context.specs.KeptUnits.{KeepsMore}
-use Rattle.linemap_replay.specs.Replays.{file_at, resumed}
+use Rattle.linemap_replay.specs.Replays.{file_at, resume_with_all}
 use Rattle.linemap_replay.proofs.loads.resume_lookup.Given as goal
 
 abbrev pub invariant-loop-place : goal.invariant-loop-place
@@ -11,5 +11,5 @@ invariant-loop-place g l =
     let start = l.fn.context.value in
     (l.context.value.plain ≡ start.plain)
     × KeepsMore l.fn.context.units l.context.units
-    × (resumed lookup l.context.value l.probe (map (file_at files) (drop l.place-index l.places))
-    ≡ resumed lookup start l.probe (map (file_at files) l.places))
+    × (resume_with_all lookup l.context.value l.probe (map (file_at files) (drop l.place-index l.places))
+    ≡ resume_with_all lookup start l.probe (map (file_at files) l.places))

@@ -3,7 +3,7 @@ use Rattle.addr2line_context.specs.Error.{Error}
 use Rattle.addr2line_context.specs.FirstAnswers.{FirstAnswers}
 use Rattle.addr2line_context.specs.ContextNames.{naming_in}
 use Rattle.addr2line_context.specs.Histories.{calls_or_refusal, parse_all}
-use Rattle.linemap_replay.proofs.CopiedAnswers.{completion_copy, if_completed, parsed}
+use Rattle.linemap_replay.proofs.CopiedAnswers.{completion_copy, if_completed, meaning_is_parse}
 use Rattle.linemap_replay.proofs.parses.read_calls.Goals as goal
 
 pub returns-clause-answer : goal.returns-clause-answer
@@ -12,7 +12,7 @@ returns-clause-answer g c =
     let parse = calls_or_refusal c.args.context.now.value.plain (naming_in c.args.context.now.value.plain) in
     completion_copy c.parse_inlined_functions.result (parse_all old.plain parse old.answers).0 c.complete.result
     (λ other. ap (λ (x : Result (Unit {0}) Error × FirstAnswers). x.0)
-    (parsed old.plain parse c.parse_inlined_functions.result old.answers
+    (meaning_is_parse old.plain parse c.parse_inlined_functions.result old.answers
     c.parse_inlined_functions.new.self.value.answers
     c.parse_inlined_functions.ensures.calls other)) c.complete.ensures
 
@@ -23,6 +23,6 @@ returns-clause-left g c =
     if_completed c.parse_inlined_functions.result c.complete.result
     (c.parse_inlined_functions.new.self.value.answers ≡ (parse_all old.plain parse old.answers).1)
     (λ other. sym (ap (λ (x : Result (Unit {0}) Error × FirstAnswers). x.1)
-    (parsed old.plain parse c.parse_inlined_functions.result old.answers
+    (meaning_is_parse old.plain parse c.parse_inlined_functions.result old.answers
     c.parse_inlined_functions.new.self.value.answers
     c.parse_inlined_functions.ensures.calls other))) c.complete.ensures

@@ -1,9 +1,9 @@
 use Rattle.addr2line_context.specs.Contexts.{all_lines_or_refusal}
-use Rattle.linemap_replay.proofs.CopiedAnswers.{completion_copy, returned}
+use Rattle.linemap_replay.proofs.CopiedAnswers.{completion_copy, meaning_is_result}
 use Rattle.linemap_replay.proofs.parses.read_lines.Goals as goal
 
 pub returns-clause-answer : goal.returns-clause-answer
 returns-clause-answer g c =
     let meaning = all_lines_or_refusal c.args.context.now.value.plain.context.units in
     completion_copy c.parse_lines.result meaning c.complete.result
-    (returned c.parse_lines.result meaning c.parse_lines.ensures.lines) c.complete.ensures
+    (meaning_is_result c.parse_lines.result meaning c.parse_lines.ensures.lines) c.complete.ensures

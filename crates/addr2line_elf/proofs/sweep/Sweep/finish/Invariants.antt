@@ -1,5 +1,5 @@
 use Rattle.std.proofs.Common.{◌+◌, ◌≤◌, List, length, reverse, vec_len}
-use Rattle.addr2line_elf.specs.declared.entries.SymbolEntry.{SymbolEntry}
+use Rattle.addr2line_elf.specs.declared.symbol_entries.SymbolEntry.{SymbolEntry}
 use Rattle.addr2line_elf.specs.SymbolSweeps.{IsSwept}
 use Rattle.addr2line_elf.proofs.sweep.Sweep.finish.Given as goal
 

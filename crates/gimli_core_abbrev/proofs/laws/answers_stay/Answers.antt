@@ -1,5 +1,0 @@
-use Rattle.gimli_core_abbrev.proofs.SectionEnds.{answers_stay}
-use Rattle.gimli_core_abbrev.proofs.laws.answers_stay.Goals as goal
-
-pub returns : goal.returns
-returns c = answers_stay

@@ -1,5 +1,0 @@
-use Rattle.gimli_core_abbrev.proofs.TableRoom.{needs_room}
-use Rattle.gimli_core_abbrev.proofs.laws.needs_room.Goals as goal
-
-pub returns : goal.returns
-returns c = needs_room

@@ -1,5 +1,0 @@
-use Rattle.gimli_core_base.proofs.LebStringLaws.{signed_ignores_rest}
-use Rattle.gimli_core_base.proofs.laws.signed_ignores_rest.Goals as goal
-
-pub returns : goal.returns
-returns c = signed_ignores_rest

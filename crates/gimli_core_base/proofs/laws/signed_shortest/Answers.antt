@@ -1,5 +1,0 @@
-use Rattle.gimli_core_base.proofs.LebStringLaws.{signed_shortest}
-use Rattle.gimli_core_base.proofs.laws.signed_shortest.Goals as goal
-
-pub returns : goal.returns
-returns c = signed_shortest

@@ -1,5 +1,0 @@
-use Rattle.gimli_core_base.proofs.LebStringLaws.{unsigned_shortest}
-use Rattle.gimli_core_base.proofs.laws.unsigned_shortest.Goals as goal
-
-pub returns : goal.returns
-returns c = unsigned_shortest

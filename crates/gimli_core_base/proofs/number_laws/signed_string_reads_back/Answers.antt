@@ -1,0 +1,5 @@
+use Rattle.gimli_core_base.proofs.LebRoundTrip.{signed_string_reads_back}
+use Rattle.gimli_core_base.proofs.number_laws.signed_string_reads_back.Goals as goal
+
+pub returns : goal.returns
+returns c = signed_string_reads_back
