@@ -24,7 +24,7 @@ module _ (us : List ResolvedUnit) (meaning : Lookup (Result (List Frame) Error))
       f.is_found ∙ ap output (by_answer f.answer f.holds.has_some f.holds.frames_are f.holds.keeps_lines)
 
 -- the unit that a lookup found
-abbrev ok_unit : Option UnitInFile → Result (Option UnitInFile) Error
+abbrev pub ok_unit : Option UnitInFile → Result (Option UnitInFile) Error
 ok_unit u = Ok u
 
 pub unit_lent : (vs : List AnsweredUnit) (meaning : Lookup (Option UnitInFile)) (n : ℕ) (u : Option UnitInFile)

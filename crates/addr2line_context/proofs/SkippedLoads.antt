@@ -16,6 +16,7 @@ use Rattle.addr2line_context.specs.FrameLoads.{GivesDecided}
 use Rattle.addr2line_context.specs.SettledLookups.{frames_in, unit_in, loads_in, answers_with_first, after_answer}
 use Rattle.addr2line_context.specs.SkippedLoads.{answers_without_files, without_files}
 use Rattle.addr2line_context.proofs.AnsweredFirst.{IsLoadOf, first_load_of}
+use Rattle.addr2line_context.proofs.LookupResults.{ok_unit}
 
 -- ---- a load that is answered by no file
 
@@ -124,9 +125,6 @@ module _ (c : AnsweredContext) (a : ℕ) where
       (covering_pairs ranges_of c.plain.context.units a)
 
 -- the unit of an address, as a lookup that may be refused
-abbrev ok_unit : Option UnitInFile → Result (Option UnitInFile) Error
-ok_unit u = Ok u
-
 abbrev pub unit_or_refusal : AnsweredContext → ℕ → Lookup (Result (Option UnitInFile) Error)
 unit_or_refusal c a = map_output (λ u. Ok u) (unit_in c a)
 

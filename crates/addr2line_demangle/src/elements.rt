@@ -101,7 +101,7 @@ fn push_plain(text: &mut String, plain: &str) -> Result<(), AllocError>
     text.push_str(rest)
 }
 
-/// Appends the text of an element.
+// Appends the text of an element.
 pub(crate) fn push_element(text: &mut String, element: &str) -> Result<(), AllocError>
     ensures { OnOk result
         (string_bytes text.new ≡ string_bytes text.old ++ element_text element.now) }

@@ -10,7 +10,7 @@ ghost use Rattle.addr2line_demangle.specs.LegacyPathView.{path_view};
 use gimli_core_base::error::Error;
 use std::alloc::Global;
 
-/// The elements of a path, and the text after its end.
+// The elements of a path, and the text after its end.
 #[derive(Drop)]
 pub(crate) struct Path<'a> {
     pub(crate) elements: Vec<&'a str>,
@@ -47,7 +47,7 @@ fn first_element(text: &str) -> Option<(&str, &str)>
     }
 }
 
-/// The path that a text is, if its elements reach its end.
+// The path that a text is, if its elements reach its end.
 pub(crate) fn read_path(alloc: Global, text: &str) -> Result<Option<Path<'_>>, Error>
     requires { IsAscii text.now }
     ensures { ReturnsAsOrNoMemory (option_map path_view) result (Ok (path_of text.now)) }

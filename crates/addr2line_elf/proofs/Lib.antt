@@ -1,5 +1,4 @@
 mod Loads
-mod CountedReads
 mod TextLemmas
 mod NameLemmas
 mod NamePartLemmas

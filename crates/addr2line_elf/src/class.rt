@@ -12,7 +12,7 @@ pub enum Class {
 }
 
 impl Class {
-    /// The bytes of an address, an offset or a size.
+    // The bytes of an address, an offset or a size.
     pub(crate) fn word_size(self) -> usize
         ensures value { result ≡ word_size self }
         ensures small { result ≤ 8 }
@@ -23,7 +23,7 @@ impl Class {
         }
     }
 
-    /// The bytes of a section header.
+    // The bytes of a section header.
     pub(crate) fn section_header_size(self) -> u16
         ensures value { result ≡ section_header_size self }
     {
@@ -33,7 +33,7 @@ impl Class {
         }
     }
 
-    /// The bytes of an entry of a symbol table.
+    // The bytes of an entry of a symbol table.
     pub(crate) fn symbol_size(self) -> usize
         ensures value { result ≡ symbol_size self }
         ensures some { 0 < result }

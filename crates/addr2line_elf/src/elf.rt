@@ -109,7 +109,7 @@ impl Elf {
         }
     }
 
-    /// No bytes, as of a section that isn't there.
+    // No bytes, as of a section that isn't there.
     #[tactic(auto, using(crate::proofs::Loads::of_returned, crate::proofs::Loads::of_read))]
     pub(crate) fn no_section(&self) -> Result<EndianBytes<RunTimeEndian>, LoadError>
         ensures { LoadsOrNoMemory result (Ok (prefix 0 self.now.file)) }

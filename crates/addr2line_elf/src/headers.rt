@@ -45,7 +45,7 @@ pub struct SectionHeader {
 }
 
 impl FileHeader {
-    /// The header at the start of a file.
+    // The header at the start of a file.
     #[tactic(auto, unfolding(crate::specs::ElfHeaders::file_header))]
     pub(crate) fn parse(
         input: &mut EndianSlice<'_, RunTimeEndian>,
@@ -75,7 +75,7 @@ impl FileHeader {
 }
 
 impl SectionHeader {
-    /// The next section header.
+    // The next section header.
     #[tactic(auto, unfolding(crate::specs::ElfHeaders::section_header))]
     pub(crate) fn parse(
         input: &mut EndianSlice<'_, RunTimeEndian>,

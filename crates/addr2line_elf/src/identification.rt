@@ -12,7 +12,7 @@ use gimli_core_readers::RunTimeEndian;
 // What an ELF file begins with.
 const MAGIC: [u8; 4] = [0x7f, b'E', b'L', b'F'];
 
-/// The class of an ELF file and the order of its bytes (System V ABI, "ELF Identification").
+// The class of an ELF file and the order of its bytes (System V ABI, "ELF Identification").
 pub(crate) fn identify(file: &[u8]) -> Result<(Class, RunTimeEndian), LoadError>
     ensures { ReturnsAs (λ id. record { class = id.0; is_big = is_big_endian id.1 }) result
         (identification file.now) }

@@ -11,14 +11,14 @@ use std::alloc::Global;
 use std::marker::Model;
 use std::str;
 
-/// A part of a string table that is UTF-8 and ends with a zero byte.
+// A part of a string table that is UTF-8 and ends with a zero byte.
 #[derive(Clone, Copy, Debug, PartialEq, Eq)]
 pub(crate) struct NamePart {
     pub(crate) begin: usize,
     pub(crate) end: usize,
 }
 
-/// A string table, and the parts of it in which names begin.
+// A string table, and the parts of it in which names begin.
 #[derive(Drop)]
 pub(crate) struct NameTable<'a> {
     texts: &'a [u8],
@@ -37,8 +37,8 @@ impl<'a> Model for NameTable<'a> {
 }
 
 impl<'a> NameTable<'a> {
-    /// Reads a string table once. Takes memory for a list of its parts: one, where all of it is
-    /// UTF-8.
+    // Reads a string table once. Takes memory for a list of its parts: one, where all of it is
+    // UTF-8.
     pub(crate) fn read(alloc: Global, texts: &'a [u8]) -> Result<Self, LoadError>
         ensures ok { IfOk result (λ table. table ≡ texts.now) }
         ensures refusal { IfErr result (λ e. e ≡ Memory) }
@@ -47,7 +47,7 @@ impl<'a> NameTable<'a> {
         Ok(NameTable { texts, parts })
     }
 
-    /// Whether a name begins at an offset. It is a bisection of the parts, and reads one byte.
+    // Whether a name begins at an offset. It is a bisection of the parts, and reads one byte.
     pub(crate) fn begins_at(&self, offset: u32) -> bool
         ensures { result ≡ begins_name self.now offset }
     {

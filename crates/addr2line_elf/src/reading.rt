@@ -9,8 +9,8 @@ ghost use Rattle.addr2line_elf.specs.ImageLoading.{bytes_at, InFile};
 use crate::error::LoadError;
 use gimli_core_readers::{EndianBytes, EndianSlice, Error, Reader, RunTimeEndian};
 
-/// A read of the file's bytes as a step of loading: an error is that of the file's end, unless it
-/// is out of memory.
+// A read of the file's bytes as a step of loading: an error is that of the file's end, unless it
+// is out of memory.
 pub(crate) fn in_file<T>(read: Result<T, Error>) -> Result<T, LoadError>
     ensures { InFile read result }
 {
@@ -21,7 +21,7 @@ pub(crate) fn in_file<T>(read: Result<T, Error>) -> Result<T, LoadError>
     }
 }
 
-/// The bytes, to be read from the start. Takes no memory.
+// The bytes, to be read from the start. Takes no memory.
 pub(crate) fn input_of(file: &EndianBytes<RunTimeEndian>) -> EndianSlice<'_, RunTimeEndian>
     ensures { result ≡ file.now }
 {
@@ -29,7 +29,7 @@ pub(crate) fn input_of(file: &EndianBytes<RunTimeEndian>) -> EndianSlice<'_, Run
     EndianSlice::with_first_id(bytes, file.endian(), file.offset_id())
 }
 
-/// The bytes from an offset on, to be read. Takes no memory.
+// The bytes from an offset on, to be read. Takes no memory.
 pub(crate) fn input_at(
     file: &EndianBytes<RunTimeEndian>,
     offset: u64,
@@ -41,7 +41,7 @@ pub(crate) fn input_at(
     Ok(input)
 }
 
-/// A number of bytes from an offset on, shared.
+// A number of bytes from an offset on, shared.
 pub(crate) fn part_at(
     file: &EndianBytes<RunTimeEndian>,
     offset: u64,
@@ -55,7 +55,7 @@ pub(crate) fn part_at(
     Ok(part)
 }
 
-/// No bytes, shared.
+// No bytes, shared.
 pub(crate) fn nothing_of(
     file: &EndianBytes<RunTimeEndian>,
 ) -> Result<EndianBytes<RunTimeEndian>, Error>

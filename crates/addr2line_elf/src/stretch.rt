@@ -15,7 +15,7 @@ pub struct SymbolStretch {
     pub(crate) entry: Option<SymbolEntry>,
 }
 
-/// The entry of the stretch of an address, by a bisection.
+// The entry of the stretch of an address, by a bisection.
 pub(crate) fn entry_at(stretches: &[SymbolStretch], address: u64) -> Option<SymbolEntry>
     requires { IsNonDecreasingBy last_of stretches.now }
     ensures { result ≡ entry_at address stretches.now None }

@@ -14,8 +14,8 @@ use crate::symbol_entries::SymbolEntry;
 use std::alloc::Global;
 use std::cmp::Ordering;
 
-/// The addresses divided into stretches, each with the entry of its symbol: the one of the greatest
-/// value that covers them, and of these the first in the list. It sorts the entries.
+// The addresses divided into stretches, each with the entry of its symbol: the one of the greatest
+// value that covers them, and of these the first in the list. It sorts the entries.
 pub(crate) fn stretches_of(
     alloc: Global,
     entries: Vec<SymbolEntry>,

@@ -22,7 +22,7 @@ pub struct SymbolEntry {
 }
 
 impl SymbolEntry {
-    /// The next entry.
+    // The next entry.
     pub(crate) fn parse(
         input: &mut EndianSlice<'_, RunTimeEndian>,
         class: Class,

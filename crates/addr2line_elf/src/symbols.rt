@@ -97,7 +97,7 @@ impl Model for Symbols {
 impl Symbols {
     ghost use Rattle.std.specs.Prelude.{[]};
 
-    /// No symbols.
+    // No symbols.
     pub(crate) fn none(alloc: Global, texts: EndianBytes<RunTimeEndian>) -> Symbols
         ensures { result ≡ [] }
     {
@@ -109,8 +109,8 @@ impl Symbols {
         }
     }
 
-    /// The symbols of a table, with their names. The section of names is read once, however many
-    /// symbols share a name, and the entries are sorted by their addresses.
+    // The symbols of a table, with their names. The section of names is read once, however many
+    // symbols share a name, and the entries are sorted by their addresses.
     pub(crate) fn read(
         alloc: Global,
         class: Class,
@@ -205,7 +205,7 @@ fn read_next(
     Ok(entries)
 }
 
-/// The section with the symbols.
+// The section with the symbols.
 pub(crate) fn symbol_table(sections: &[SectionHeader]) -> Option<&SectionHeader>
     ensures { option_map (λ section. section.now) result ≡ symbol_table sections.now }
 {

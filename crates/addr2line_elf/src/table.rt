@@ -20,14 +20,14 @@ use bytes::Bytes;
 use gimli_core_readers::{EndianBytes, EndianSlice, Error, Reader, ReaderOffsetId, RunTimeEndian};
 use std::alloc::Global;
 
-/// The sections of an image, in order, and the bytes of the section with their names.
+// The sections of an image, in order, and the bytes of the section with their names.
 #[derive(Debug, Drop)]
 pub(crate) struct SectionTable {
     pub headers: Vec<SectionHeader>,
     pub names: EndianBytes<RunTimeEndian>,
 }
 
-/// The header of the file. Takes no memory.
+// The header of the file. Takes no memory.
 #[tactic(auto, using(crate::proofs::Loads::of_returned, crate::proofs::Loads::of_read))]
 pub(crate) fn parse_file_header(
     file: &EndianBytes<RunTimeEndian>,
@@ -38,7 +38,7 @@ pub(crate) fn parse_file_header(
     in_file(FileHeader::parse(&mut input_of(file), class))
 }
 
-/// The sections that the file's header leads to.
+// The sections that the file's header leads to.
 #[tactic(auto, using(crate::proofs::Loads::of_returned, crate::proofs::Loads::of_read))]
 pub(crate) fn parse_sections(
     alloc: Global,
@@ -188,7 +188,7 @@ fn read_headers(
     Ok(headers)
 }
 
-/// The bytes of the section that an index names; none where it names no section.
+// The bytes of the section that an index names; none where it names no section.
 #[tactic(auto, using(crate::proofs::Loads::of_returned, crate::proofs::Loads::of_read))]
 pub(crate) fn linked_contents(
     file: &EndianBytes<RunTimeEndian>,
@@ -206,7 +206,7 @@ pub(crate) fn linked_contents(
     }
 }
 
-/// The bytes of a section.
+// The bytes of a section.
 #[tactic(auto, using(crate::proofs::Loads::of_returned, crate::proofs::Loads::of_read))]
 pub(crate) fn contents(
     file: &EndianBytes<RunTimeEndian>,

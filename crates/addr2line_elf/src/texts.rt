@@ -4,14 +4,14 @@ ghost use Rattle.std.specs.Prelude.{◌≡◌, ◌==◌, option_map};
 ghost use Rattle.std.specs.List.{position};
 ghost use Rattle.addr2line_elf.specs.ElfTexts.{text_before_zero, text_at, is_text};
 
-/// The bytes from an offset up to a zero byte, if there is one.
+// The bytes from an offset up to a zero byte, if there is one.
 pub(crate) fn text_at(texts: &[u8], offset: u32) -> Option<&[u8]>
     ensures { option_map (λ text. text.now) result ≡ text_at texts.now offset }
 {
     text_before_zero(texts.get(offset as usize..)?)
 }
 
-/// Whether the text at an offset is this one. It looks at no more bytes than that has, and one.
+// Whether the text at an offset is this one. It looks at no more bytes than that has, and one.
 pub(crate) fn is_text_at(texts: &[u8], offset: u32, text: &[u8]) -> bool
     ensures { result ≡ is_text (text_at texts.now offset) text.now }
 {

@@ -9,7 +9,7 @@ use addr2line_units::{LastFacts, UnitRef, fact_of};
 use gimli_units_entries::{Attribute, Error, Reader};
 use std::marker::Model;
 
-/// The name of the function that is called, and of each kind of fact on ranges the last.
+// The name of the function that is called, and of each kind of fact on ranges the last.
 #[derive(Drop)]
 pub(crate) struct CallFacts<R: Reader> {
     pub name: Option<R>,
@@ -25,8 +25,8 @@ impl<R: Reader> Model for CallFacts<R> {
     ghost view = { λ f. record { name = option_map R.view f.name; ranges = f.ranges } };
 }
 
-/// What the attributes of a call say, or the refusal of the first of them whose name or fact is
-/// refused.
+// What the attributes of a call say, or the refusal of the first of them whose name or fact is
+// refused.
 pub(crate) fn call_facts<R: Reader, N: Names<R>>(
     unit: &UnitRef<'_, R>,
     names: &N,

@@ -23,7 +23,7 @@ pub trait Names<R: Reader> {
             (raw_attribute_of R.view R.Offset.count attribute.now)) };
 }
 
-/// The name of an entry with these attributes, if they have one, or the first refusal.
+// The name of an entry with these attributes, if they have one, or the first refusal.
 pub(crate) fn name_by<R: Reader, N: Names<R>>(
     names: &N,
     attributes: &[Attribute<R>],

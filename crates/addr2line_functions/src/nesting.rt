@@ -9,8 +9,8 @@ use gimli_units_entries::{DW_TAG_inlined_subroutine, DW_TAG_subprogram, DwTag, E
 use std::alloc::Global;
 use std::marker::Model;
 
-/// The depths of the calls that an entry is in, the outermost first, and of the nested function
-/// that it is in, if it is in one.
+// The depths of the calls that an entry is in, the outermost first, and of the nested function
+// that it is in, if it is in one.
 #[derive(Drop)]
 pub(crate) struct Nesting {
     calls: Vec<isize>,
@@ -49,7 +49,7 @@ fn if_shallower(nested: Option<isize>, depth: isize) -> Option<isize>
 }
 
 impl Nesting {
-    /// Of an entry that is in neither. It takes no memory.
+    // Of an entry that is in neither. It takes no memory.
     pub(crate) fn new(alloc: Global) -> Self
         ensures { result ≡ no_nesting }
     {
@@ -59,7 +59,7 @@ impl Nesting {
         }
     }
 
-    /// Leaves the calls and the nested function that an entry of a depth isn't in.
+    // Leaves the calls and the nested function that an entry of a depth isn't in.
     pub(crate) fn leave(&mut self, depth: isize)
         ensures { self.new ≡ leave depth self.old }
     {
@@ -67,7 +67,7 @@ impl Nesting {
         self.nested = if_shallower(self.nested, depth);
     }
 
-    /// The tag of the entries that are read here: of calls, unless they are in a nested function.
+    // The tag of the entries that are read here: of calls, unless they are in a nested function.
     pub(crate) fn read_tag(&self) -> Option<DwTag>
         ensures { is_chosen result ≡ is_call_where self.now }
     {
@@ -77,8 +77,8 @@ impl Nesting {
         }
     }
 
-    /// Enters an entry. Returns how many calls it is in, if it is a call and not in a nested
-    /// function.
+    // Enters an entry. Returns how many calls it is in, if it is a call and not in a nested
+    // function.
     pub(crate) fn enter(&mut self, tag: DwTag, depth: isize) -> Result<Option<usize>, Error>
         ensures { ReturnsAsOrNoMemory (λ d. (d, self.new)) result (enter tag.0 depth self.old) }
     {

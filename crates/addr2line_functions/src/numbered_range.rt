@@ -33,7 +33,7 @@ impl Ranged for NumberedRange {
     }
 }
 
-/// What has ranges, all at one depth.
+// What has ranges, all at one depth.
 pub(crate) trait HasRanges {
     ghost depth: { Self → ℕ };
 
@@ -80,8 +80,8 @@ fn numbered_ranges<T: HasRanges>(alloc: Global, items: &[T]) -> Result<Vec<Numbe
     Ok(all)
 }
 
-/// The ranges of items, sorted by depth, begin, end and appearance. This counter counts looks at
-/// them.
+// The ranges of items, sorted by depth, begin, end and appearance. This counter counts looks at
+// them.
 pub(crate) fn range_index<T: HasRanges>(
     alloc: Global,
     items: &[T],
@@ -96,7 +96,7 @@ pub(crate) fn range_index<T: HasRanges>(
     RangeIndex::new(ranges, probes)
 }
 
-/// The number of the item that holds an address, among those of a depth.
+// The number of the item that holds an address, among those of a depth.
 pub(crate) fn number_at(
     ranges: &RangeIndex<NumberedRange>,
     depth: usize,

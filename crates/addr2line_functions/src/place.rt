@@ -34,7 +34,7 @@ fn last_unsigned<R: Reader>(attributes: &[Attribute<R>], name: DwAt) -> Option<u
     found
 }
 
-/// The number of the file that calls; before version 5 of the format the number 0 means none.
+// The number of the file that calls; before version 5 of the format the number 0 means none.
 pub(crate) fn call_file<R: Reader>(attributes: &[Attribute<R>], version: u16) -> Option<u64>
     ensures { result ≡ call_file version (raw_attributes R.view R.Offset.count attributes.now) }
 {
@@ -46,7 +46,7 @@ pub(crate) fn call_file<R: Reader>(attributes: &[Attribute<R>], version: u16) ->
     }
 }
 
-/// The line or the column that calls, modulo 2^32; 0 where it isn't known.
+// The line or the column that calls, modulo 2^32; 0 where it isn't known.
 pub(crate) fn number_or_0<R: Reader>(attributes: &[Attribute<R>], name: DwAt) -> u32
     ensures { result
         ≡ number_or_0 (λ n. n == name.0) (raw_attributes R.view R.Offset.count attributes.now) }

@@ -27,7 +27,7 @@ fn file_of(lines: Option<&LineIndex>, number: Option<u64>) -> Option<&str>
     }
 }
 
-/// The place that calls, in the files of the unit's lines.
+// The place that calls, in the files of the unit's lines.
 pub(crate) fn call_site<'ctx, R: Reader>(
     lines: Option<&'ctx LineIndex>,
     call: &Call<R>,

@@ -99,7 +99,7 @@ fn push_if_any<R: Reader>(calls: &mut Vec<Call<R>>, call: Option<Call<R>>) -> Re
     Ok(())
 }
 
-/// The calls of a function, from the entries after its own, which is at depth 0.
+// The calls of a function, from the entries after its own, which is at depth 0.
 pub(crate) fn calls_below<R: Reader, N: Names<R>>(
     alloc: Global,
     unit: &UnitRef<'_, R>,

@@ -119,7 +119,7 @@ pub asks_left : (old new : AnsweredContext) (a : ℕ) (file : Option DwarfFile) 
 asks_left old new a file same left n asked = by left
   where
     with_answers : (first : FirstAnswers) → new.answers ≡ first → new ≡ record old { answers = first }
-    with_answers first is = ap (λ p. answered p new.answers) same ∙ ap (with_first_answers old.plain) is
+    with_answers first is = ap (λ p. with_first_answers p new.answers) same ∙ ap (with_first_answers old.plain) is
 
     by : (new.answers ≡ (after_answer old a file).answers) ⊎ (new.answers ≡ old.answers) → AsksForFrames new a n
     by (inl is) =

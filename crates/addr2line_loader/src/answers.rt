@@ -14,8 +14,8 @@ use addr2line_context::{Context, Error};
 use addr2line_split::{ImageReader, SplitSource, load_split};
 use std::alloc::Global;
 
-/// Answers each load that the frames of an address wait for by the split file that a source has for
-/// it, or by none.
+// Answers each load that the frames of an address wait for by the split file that a source has for
+// it, or by none.
 pub(crate) fn answer_loads<S: SplitSource>(
     alloc: Global,
     context: &mut Context<ImageReader>,

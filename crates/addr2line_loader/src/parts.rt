@@ -16,21 +16,21 @@ use bytes::Bytes;
 use std::alloc::Global;
 use std::rc::Rc;
 
-/// A file's sections, and the context that shares them.
+// A file's sections, and the context that shares them.
 #[derive(Drop)]
 pub(crate) struct SharedContext<R: Reader> {
     pub sections: Rc<Dwarf<R>>,
     pub context: Context<R>,
 }
 
-/// The symbols of an ELF file, and the context over its sections.
+// The symbols of an ELF file, and the context over its sections.
 #[derive(Drop)]
 pub(crate) struct Parts {
     pub symbols: Symbols,
     pub debug: SharedContext<ImageReader>,
 }
 
-/// The parts of an ELF file, with a supplement if there is one.
+// The parts of an ELF file, with a supplement if there is one.
 pub(crate) fn parts_of(
     alloc: Global,
     elf: &Elf,

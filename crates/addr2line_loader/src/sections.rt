@@ -13,7 +13,7 @@ use addr2line_split::{Elf, ImageReader, LoadError};
 use bytes::Bytes;
 use std::alloc::Global;
 
-/// The sections of an ELF file as those of a main file. It shares the file's bytes.
+// The sections of an ELF file as those of a main file. It shares the file's bytes.
 pub(crate) fn main_sections(alloc: Global, elf: &Elf) -> Result<Dwarf<ImageReader>, LoadError>
     ensures { LoadsAsOrNoMemory (λ dwarf. dwarf.file) result (main_file elf.now) }
 {
@@ -25,7 +25,7 @@ pub(crate) fn main_sections(alloc: Global, elf: &Elf) -> Result<Dwarf<ImageReade
     )
 }
 
-/// Adds the sections of an ELF file of these bytes to a file, as its supplement's, if there is one.
+// Adds the sections of an ELF file of these bytes to a file, as its supplement's, if there is one.
 pub(crate) fn add_supplement(
     alloc: Global,
     dwarf: &mut Dwarf<ImageReader>,

@@ -24,8 +24,8 @@ pub fn read_file<R: Files + AllocGlobal, P: AsPath>(rt: &R, path: P) -> Result<B
     }
 }
 
-/// The same of a file whose name an image gives: nothing but a regular file is read, since a device
-/// or a pipe may never end. All else is refused as a file that can't be read.
+// The same of a file whose name an image gives: nothing but a regular file is read, since a device
+// or a pipe may never end. All else is refused as a file that can't be read.
 pub(crate) fn read_regular_file<R: Files + AllocGlobal>(
     rt: &R,
     path: PathBuf,
@@ -65,7 +65,7 @@ fn room_for<F: OpenFile>(file: &F) -> usize {
     }
 }
 
-/// What was read, if it can be read. The only refusal is out of memory.
+// What was read, if it can be read. The only refusal is out of memory.
 pub(crate) fn if_readable<T>(read: Result<T, LoadError>) -> Result<Option<T>, Error>
     ensures { result ≡ if_readable read }
 {

@@ -1,8 +1,9 @@
 -- What is read stays where bytes are appended, unless the end of the bytes showed in it.
 use Rattle.std.proofs.Common.{◌≡◌, ◌≢◌, ℕ, zero, suc, ◌+◌, ◌<◌, ◌≤◌, Bool, true, false, cond, List, [], ◌∷◌, ◌++◌, length, Option, Some, None, Result, Ok, Err, refl, sym, ap, ◌∙◌, inl, inr, arith}
-use Rattle.std.specs.Prelude.{ℤ, nat_lt, ◌^◌}
+use Rattle.std.specs.Prelude.{nat_lt, ◌^◌}
 use Rattle.std.proofs.lemmas.Bool.{cases_lt, lt-ltb, le-ltb}
 use Rattle.std.proofs.lemmas.List.{take-append-le, drop-append-le, length-append}
+use Rattle.gimli_core_readers.proofs.LebStringFits.{signed_fits}
 use Rattle.gimli_core_readers.specs.ReaderOffsetId.{ReaderOffsetId}
 use Rattle.gimli_core_readers.specs.Error.{Error}
 use Rattle.gimli_core_readers.specs.Error.TheVariants.{UnexpectedEof, BadUnsignedLeb128, BadSignedLeb128}
@@ -13,7 +14,7 @@ use Rattle.gimli_core_readers.proofs.StepParts.{read}
 use Rattle.gimli_core_readers.proofs.Listings.{Shrinks, listing_next, item_smaller}
 use Rattle.gimli_core_readers.specs.Fault.{Fault}
 use Rattle.gimli_core_readers.specs.Fault.TheVariants.{Cut, Bad}
-use Rattle.gimli_core_readers.specs.Leb128.{bounded_string, unsigned_number, signed_number, fits_i64, unsigned_of, unsigned_at, signed_of, signed_at}
+use Rattle.gimli_core_readers.specs.Leb128.{bounded_string, unsigned_number, unsigned_of, unsigned_at, signed_at}
 use Rattle.gimli_core_readers.specs.NumberParsers.{fixed, number_and_rest, unsigned, unsigned_16, signed}
 use Rattle.gimli_core_readers.proofs.LebStringLaws.{unsigned_ignores_rest, signed_ignores_rest}
 use Rattle.gimli_core_readers.proofs.NumberReadSizes.{judged_fits_in}
@@ -125,19 +126,6 @@ unsigned_fits bound limit bytes x k e = judgement (bounded_string limit bytes) r
         cases : (b : Bool) → cond b (value_and_count (unsigned_number s) (length s)) (Err Bad) ≡ value_and_count x k
             → k ≤ length bytes
         cases true g = rw (← length_is (unsigned_number s) x (length s) k g) (judged_fits_in limit bytes s is).fits
-        cases false g = absurd cc
-
-pub signed_fits : (bytes : List ℕ) (x : ℤ) (k : ℕ) → signed_at bytes ≡ Ok (x, k) → k ≤ length bytes
-signed_fits bytes x k e = judgement (bounded_string 10 bytes) refl e
-  where
-    judgement : (r : Result (List ℕ) Fault) → bounded_string 10 bytes ≡ r → signed_of r ≡ value_and_count x k
-        → k ≤ length bytes
-    judgement (Err fault) is h = absurd cc
-    judgement (Ok s) is h = cases (fits_i64 (signed_number s)) h
-      where
-        cases : (b : Bool) → cond b (value_and_count (signed_number s) (length s)) (Err Bad) ≡ value_and_count x k
-            → k ≤ length bytes
-        cases true g = rw (← length_is (signed_number s) x (length s) k g) (judged_fits_in 10 bytes s is).fits
         cases false g = absurd cc
 
 rest-stays : {A : Type 0} {more : List ℕ} (bad : Error) (v : View) (r s : Result (A × ℕ) Fault)

@@ -1,5 +1,5 @@
 -- What a cache takes of a table that was read, or refused.
-use Rattle.std.proofs.Common.{◌≡◌, ◌≢◌, ◌∙◌, refl, ap, sym, ℕ, Bool, true, false, cond, ◌||◌, eqb, List, [], ◌∷◌, ◌++◌, Option, Some, None, option_map, is_some, Result, Ok, Err, IfOk}
+use Rattle.std.proofs.Common.{◌≡◌, ◌∙◌, refl, ap, sym, ℕ, Bool, true, false, cond, ◌||◌, eqb, List, [], ◌∷◌, ◌++◌, Option, Some, None, option_map, is_some, Result, Err}
 use Rattle.std.specs.Ordering.{nat_cmp}
 use Rattle.std.specs.BTreeMap.{is_at}
 use Rattle.std.proofs.Math.Bool.{or-false}
@@ -7,8 +7,6 @@ use Rattle.std.proofs.lemmas.Bool.{eqb-true}
 use Rattle.std.specs.declared.rc.Rc.{Rc}
 use Rattle.std.specs.declared.alloc.Global.{Global}
 use Rattle.gimli_core_readers.specs.Error.{Error}
-use Rattle.gimli_core_readers.specs.Error.TheVariants.{Memory}
-use Rattle.gimli_core_readers.specs.Calls.{ReturnsOrNoMemory}
 use Rattle.gimli_core_abbrev.specs.declared.table.Abbreviations.{Abbreviations}
 use Rattle.gimli_core_abbrev.specs.Declarations.{Declaration}
 use Rattle.gimli_core_abbrev.specs.TableCache.{table_view}

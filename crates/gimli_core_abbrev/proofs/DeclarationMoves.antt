@@ -14,7 +14,8 @@ use Rattle.gimli_core_readers.proofs.StepParts.{begins, state_is}
 use Rattle.gimli_core_readers.proofs.ViewCuts.{after-after}
 use Rattle.gimli_core_abbrev.specs.Declarations.{Attribute, Declaration}
 use Rattle.gimli_core_abbrev.specs.TableParsing.{implicit_const, attribute_of, attribute, attributes, children, declaration_of, coded_declaration, unless_ended, declaration}
-use Rattle.gimli_core_abbrev.proofs.AppendedBytes.{unsigned_fits, signed_fits}
+use Rattle.gimli_core_readers.proofs.LebStringFits.{signed_fits}
+use Rattle.gimli_core_abbrev.proofs.AppendedBytes.{unsigned_fits}
 
 -- w is what is left of v after some bytes
 pub record IsPart (v w : View) : Type 0 where

@@ -1,5 +1,5 @@
 -- What a contract sees of a declaration.
-use Rattle.std.specs.Prelude.{ℕ, map}
+use Rattle.std.specs.Prelude.{map}
 use Rattle.gimli_core_abbrev.specs.declared.abbreviation.AttributeSpecification.{AttributeSpecification}
 use Rattle.gimli_core_abbrev.specs.declared.abbreviation.Abbreviation.{Abbreviation}
 use Rattle.gimli_core_abbrev.specs.Declarations.{Attribute, Declaration}

@@ -57,12 +57,14 @@ impl AttributeSpecification {
         }
     }
 
+    /// The attribute's name.
     pub fn name(&self) -> DwAt
         ensures { result.0 ≡ (attribute_view self.now).name }
     {
         self.name
     }
 
+    /// The form of its values.
     pub fn form(&self) -> DwForm
         ensures { result.0 ≡ (attribute_view self.now).form }
     {
@@ -128,12 +130,14 @@ impl Drop for Abbreviation {
 }
 
 impl Abbreviation {
+    /// The code by which entries name it.
     pub fn code(&self) -> u64
         ensures { result ≡ (declaration_view self.now).code }
     {
         self.code
     }
 
+    /// The tag of its entries.
     pub fn tag(&self) -> DwTag
         ensures { result.0 ≡ (declaration_view self.now).tag }
     {

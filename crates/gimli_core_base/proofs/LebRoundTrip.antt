@@ -11,12 +11,9 @@ use Rattle.gimli_core_base.specs.Leb128.{leb_string, digits_from, unsigned_numbe
 use Rattle.gimli_core_base.specs.Spelling.{unsigned_within, unsigned_string, signed_digit, is_digit, signed_within, signed_string}
 use Rattle.gimli_core_base.proofs.LebStrings.{string_at-last, string_at-goes_on, next_power}
 use Rattle.gimli_core_base.proofs.LebSigns.{fits_i64-yes}
-use Rattle.gimli_core_base.proofs.Spellings.{unsigned_within-more, unsigned_within-last, signed_within-more, signed_within-last}
+use Rattle.gimli_core_base.proofs.Spellings.{fewer_digits, unsigned_within-more, unsigned_within-last, signed_within-more, signed_within-last}
 
 -- ---- the bytes are a string
-
-fewer : (k n : ℕ) → n < 128 ^ suc k → n / 128 < 128 ^ k
-fewer k n h = div_below n 128 (128 ^ k) (omega arith) (rw (← pow-suc 128 k) h)
 
 found_last : (k n : ℕ) (rest : List ℕ) → n < 128 → leb_string (take (suc k) (unsigned_within (suc k) n ++ rest))
     ≡ Some (unsigned_within (suc k) n)
@@ -28,7 +25,7 @@ unsigned_found zero n rest below = found_last 0 n rest (omega arith)
 unsigned_found (suc j) n rest below = elim (cases_lt n 128) [
   | inl last ↦ found_last (suc j) n rest last
   | inr more ↦
-      let tail = unsigned_found j (n / 128) rest (fewer (suc j) n below) in
+      let tail = unsigned_found j (n / 128) rest (fewer_digits (suc j) n below) in
       rw (unsigned_within-more (suc j) n more)
       (string_at-goes_on (128 + n % 128) (take (suc j) (unsigned_within (suc j) (n / 128) ++ rest)) (omega arith)
       ∙ ap (option_map (λ (s : List ℕ). (128 + n % 128) ∷ s)) tail)
@@ -53,7 +50,7 @@ unsigned_digits zero n i below = digits_last 0 n i (omega arith)
 unsigned_digits (suc j) n i below = elim (cases_lt n 128) [
   | inl last ↦ digits_last (suc j) n i last
   | inr more ↦
-      let tail = unsigned_digits j (n / 128) (i + 1) (fewer (suc j) n below) in
+      let tail = unsigned_digits j (n / 128) (i + 1) (fewer_digits (suc j) n below) in
       let digit : (128 + n % 128) % 128 ≡ n % 128 = omega arith in
       rw (unsigned_within-more (suc j) n more, tail, digit) (split_digit n (128 ^ i) (128 ^ (i + 1)) (next_power i))
 ]

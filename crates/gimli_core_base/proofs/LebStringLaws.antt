@@ -12,15 +12,10 @@ use Rattle.std.proofs.Math.Nat.{pow-suc, mul-le-mul_right}
 use Rattle.gimli_core_base.specs.declared.leb128.Fault.TheVariants.{Cut}
 use Rattle.gimli_core_base.specs.Leb128.{leb_string, digits_from, unsigned_number, is_negative, signed_number, bounded_string, unsigned_of, unsigned_at, signed_of, signed_at}
 use Rattle.gimli_core_base.specs.Spelling.{unsigned_within, unsigned_string, is_digit, signed_within, signed_string}
-use Rattle.gimli_core_base.proofs.LebStrings.{string_at-last, string_at-goes_on, next_power, unsigned_number-below}
+use Rattle.gimli_core_base.proofs.LebStrings.{map_some, string_at-last, string_at-goes_on, next_power, unsigned_number-below}
 use Rattle.gimli_core_base.proofs.Spellings.{signed_within-more, signed_within-last, mag-shr}
 
 -- ---- what follows
-
-map_some : (b : ℕ) (o : Option (List ℕ)) (s : List ℕ) → option_map (λ (t : List ℕ). b ∷ t) o ≡ Some s → (t : List ℕ)
-    × (o ≡ Some t) × (b ∷ t ≡ s)
-map_some b None s e = absurd cc
-map_some b (Some t) s e = (t, refl, cc)
 
 pub string_at-append : (a b s : List ℕ) → leb_string a ≡ Some s → leb_string (a ++ b) ≡ Some s
 string_at-append [] b s e = absurd cc

@@ -25,6 +25,12 @@ string_at-goes_on b bs h = rw (le-ltb b 128 h) refl
 abbrev pub length_from : ℕ → List ℕ → Option ℕ
 length_from i bytes = option_map (λ (s : List ℕ). i + length s) (leb_string bytes)
 
+-- a string with one more byte before it, by its parts
+pub map_some : (b : ℕ) (o : Option (List ℕ)) (s : List ℕ) → option_map (λ (t : List ℕ). b ∷ t) o ≡ Some s
+    → (t : List ℕ) × (o ≡ Some t) × (b ∷ t ≡ s)
+map_some b None s e = absurd cc
+map_some b (Some t) s e = (t, refl, cc)
+
 -- ---- the string at the start, with more bytes after it
 
 -- the string that the bytes in front begin, judged by limit bytes of the rest

@@ -1,5 +1,5 @@
 -- How much the numbers take of the bytes: what a repetition needs to end.
-use Rattle.std.proofs.Common.{◌≡◌, ℕ, ◌<◌, ◌≤◌, Bool, true, false, List, [], ◌∷◌, length, take, Option, Some, None, option_map, Result, Ok, Err, refl, sym, ap, ◌∙◌, inl, inr, arith, length-drop}
+use Rattle.std.proofs.Common.{◌≡◌, ℕ, ◌<◌, ◌≤◌, Bool, true, false, List, [], ◌∷◌, length, take, Option, Some, None, Result, Ok, Err, refl, sym, ap, ◌∙◌, inl, inr, arith, length-drop}
 use Rattle.std.specs.Prelude.{nat_lt, ◌^◌}
 use Rattle.std.specs.Option.{ok_or}
 use Rattle.std.specs.Int.{Width}
@@ -15,7 +15,7 @@ use Rattle.gimli_core_base.specs.FormatSizes.{word_size}
 use Rattle.gimli_core_base.specs.declared.leb128.Fault.{Fault}
 use Rattle.gimli_core_base.specs.Leb128.{leb_string, unsigned_number, signed_number, fits_i64, bounded_string, unsigned_of, unsigned_at, signed_of, signed_at}
 use Rattle.gimli_core_base.specs.NumberParsers.{fixed, fixed_signed, number_and_rest, rest_after_string, unsigned, unsigned_16, unsigned_32, signed, skip_leb, sized_offset, word, initial_length, address_size, address}
-use Rattle.gimli_core_base.proofs.LebStrings.{string_at-last, string_at-goes_on}
+use Rattle.gimli_core_base.proofs.LebStrings.{map_some, string_at-last, string_at-goes_on}
 
 -- ---- fixed numbers
 
@@ -58,13 +58,8 @@ string_fits_in (b ∷ bytes) string e = elim (cases_lt b 128) [
     some_is : (x y : List ℕ) → Some x ≡ Some y → x ≡ y
     some_is x y h = cc
 
-    map_some : (a : ℕ) (o : Option (List ℕ)) (s : List ℕ) → option_map (λ (t : List ℕ). a ∷ t) o ≡ Some s → (t : List ℕ)
-        × (o ≡ Some t) × (a ∷ t ≡ s)
-    map_some a None s h = absurd cc
-    map_some a (Some t) s h = (t, refl, cc)
-
 -- the string that was found
-found_is : (o : Option (List ℕ)) (fault : Fault) (string : List ℕ) → ok_or o fault ≡ Ok string → o ≡ Some string
+pub found_is : (o : Option (List ℕ)) (fault : Fault) (string : List ℕ) → ok_or o fault ≡ Ok string → o ≡ Some string
 found_is None fault string e = absurd cc
 found_is (Some s) fault string e = cc
 

@@ -43,15 +43,15 @@ pub length-spelled : (is_big : Bool) (n x : ℕ) → length (number_bytes is_big
 length-spelled true n x = length-high n x
 length-spelled false n x = length-low 0 n x
 
-byte_at-pow : (k x : ℕ) → byte_at k x ≡ x / 256 ^ k % 256
+pub byte_at-pow : (k x : ℕ) → byte_at k x ≡ x / 256 ^ k % 256
 byte_at-pow zero x = ap (λ (y : ℕ). y % 256) (sym (div-one x))
 byte_at-pow (suc k) x = refl
 
-pow_pos256 : (n : ℕ) → zero < 256 ^ n
+pub pow_pos256 : (n : ℕ) → zero < 256 ^ n
 pow_pos256 n = let h = one-le-pow n 256 (omega arith) in omega arith
 
 -- the two low digits of n, to the bases c and then m
-mod-split : (n : ℕ) {m c : ℕ} → zero < m → zero < c → n % (m * c) ≡ (n / c % m) * c + n % c
+pub mod-split : (n : ℕ) {m c : ℕ} → zero < m → zero < c → n % (m * c) ≡ (n / c % m) * c + n % c
 mod-split n {m} {c} hm hc =
     let a = mod-lt (n / c) hm in
     let b = mod-lt n hc in

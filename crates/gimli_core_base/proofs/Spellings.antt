@@ -22,7 +22,7 @@ unfolding unsigned_within
 unsigned_within-last k n h = rw (lt-ltb n 128 h) refl
 
 -- a digit fewer is a power less
-fewer_digits : (k n : ℕ) → n < 128 ^ suc k → n / 128 < 128 ^ k
+pub fewer_digits : (k n : ℕ) → n < 128 ^ suc k → n / 128 < 128 ^ k
 fewer_digits k n h = div_below n 128 (128 ^ k) (omega arith) (rw (← pow-suc 128 k) h)
 
 -- the string goes on: room is left, and what is spelled so far has one byte more

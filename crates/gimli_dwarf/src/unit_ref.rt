@@ -37,6 +37,7 @@ impl<'a, R: Reader> Model for UnitRef<'a, R> {
 }
 
 impl<'a, R: Reader> UnitRef<'a, R> {
+    /// A unit beside the sections that it is read from.
     pub fn new(dwarf: &'a Dwarf<R>, unit: &'a Unit<R>) -> Self
         ensures { result ≡ in_file dwarf.now.file unit.now }
     {

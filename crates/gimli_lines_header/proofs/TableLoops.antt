@@ -6,7 +6,7 @@ use Rattle.gimli_units_headers.specs.View.{View}
 use Rattle.gimli_units_headers.specs.Parsers.{Step, proceed, give}
 use Rattle.gimli_units_headers.specs.Repetition.{times}
 use Rattle.gimli_units_headers.proofs.StepParts.{proceed-proceed}
-use Rattle.gimli_units_headers.proofs.Times.{prepend, times_item, times_fault, times_end}
+use Rattle.gimli_units_headers.proofs.Times.{prepend, count_item}
 use Rattle.gimli_units_headers.specs.Encoding.{Encoding}
 use Rattle.gimli_units_forms.specs.AttributeValues.{RawValue}
 use Rattle.gimli_lines_header.specs.declared.formats.FileEntryFormat.{FileEntryFormat}
@@ -26,43 +26,13 @@ count_start {S} {A} p count xs s none =
     nothing_before (Ok r) = refl
     nothing_before (Err d) = refl
 
--- a further item is read
-pub count_item : {S A : Type 0} (p : Step S A) (count i : ℕ) (xs : List A) (x : A) (s t : S)
-    (all : Result (List A × S) Error) → i < count → p s ≡ Ok (x, t) → prepend xs (times (count - i) p s) ≡ all
-    → prepend (xs ++ x ∷ []) (times (count - (i + 1)) p t) ≡ all
-count_item {S} {A} p count i xs x s t all more read same =
-    let left : count - i ≡ suc (count - (i + 1)) = omega arith in
-    sym (times_item p (count - (i + 1)) xs x s t read) ∙ ap (λ (n : ℕ). prepend xs (times n p s)) (sym left) ∙ same
-
--- the same, where a contract sees items by a function
+-- a further item is read, where a contract sees items by a function
 pub count_view : {S A X : Type 0} (p : Step S A) (see : X → A) (count i : ℕ) (xs ys : List X) (x : X) (s t : S)
     (all : Result (List A × S) Error) → i < count → p s ≡ Ok (see x, t) → ys ≡ xs ++ x ∷ []
     → prepend (map see xs) (times (count - i) p s) ≡ all → prepend (map see ys) (times (count - (i + 1)) p t) ≡ all
 count_view {S} {A} p see count i xs ys x s t all more read pushed same =
     ap (λ (zs : List A). prepend zs (times (count - (i + 1)) p t)) (ap (map see) pushed ∙ map-append see xs (x ∷ []))
     ∙ count_item p count i (map see xs) (see x) s t all more read same
-
--- the same, where the item was pushed after the others
-pub count_push : {S A : Type 0} (p : Step S A) (count i : ℕ) (xs ys : List A) (x : A) (s t : S)
-    (all : Result (List A × S) Error) → i < count → p s ≡ Ok (x, t) → ys ≡ xs ++ x ∷ []
-    → prepend xs (times (count - i) p s) ≡ all → prepend ys (times (count - (i + 1)) p t) ≡ all
-count_push {S} {A} p count i xs ys x s t all more read pushed same =
-    ap (λ (zs : List A). prepend zs (times (count - (i + 1)) p t)) pushed
-    ∙ count_item p count i xs x s t all more read same
-
--- an item can't be read
-pub count_fault : {S A : Type 0} (p : Step S A) (count i : ℕ) (xs : List A) (s : S) (d : Error)
-    (all : Result (List A × S) Error) → i < count → p s ≡ Err d → prepend xs (times (count - i) p s) ≡ all → all ≡ Err d
-count_fault p count i xs s d all more fault same =
-    let left : count - i ≡ suc (count - (i + 1)) = omega arith in
-    sym same ∙ ap (λ (n : ℕ). prepend xs (times n p s)) left ∙ times_fault p (count - (i + 1)) xs s d fault
-
--- all are read
-pub count_end : {S A : Type 0} (p : Step S A) (count i : ℕ) (xs : List A) (s : S) (all : Result (List A × S) Error)
-    → count ≤ i → prepend xs (times (count - i) p s) ≡ all → all ≡ Ok (xs, s)
-count_end p count i xs s all over same =
-    let none : count - i ≡ 0 = omega arith in
-    sym same ∙ ap (λ (n : ℕ). prepend xs (times n p s)) none ∙ times_end p xs s
 
 -- ---- the fields of an entry
 

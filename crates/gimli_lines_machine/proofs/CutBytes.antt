@@ -1,11 +1,12 @@
 -- What a step that reads from the front says of bytes that are cut after what it took: it gives the same.
 use Rattle.std.proofs.Common.{◌≡◌, ℕ, zero, suc, ◌+◌, ◌-◌, ◌<◌, ◌≤◌, Bool, true, false, cond, ltb, List, [], ◌∷◌, length, take, drop, Result, Ok, Err, sym, ap, ◌∙◌, arith, length-drop, ◌⊎◌, inl, inr}
-use Rattle.std.proofs.lemmas.List.{drop-drop, drop-take, take-take, length-take}
+use Rattle.std.proofs.lemmas.List.{drop-take, take-take, length-take}
 use Rattle.std.proofs.lemmas.Bool.{le-ltb, lt-ltb, cases_lt}
 use Rattle.gimli_core_readers.specs.Error.{Error}
 use Rattle.gimli_core_readers.specs.View.{View, after, prefix, bytes_left, unexpected_end}
 use Rattle.gimli_core_readers.specs.Parsers.{Parser, proceed, give, ◌>>=◌, branch, lift, part, map_value}
 use Rattle.gimli_core_readers.specs.Repetition.{times}
+use Rattle.gimli_core_readers.proofs.ByteCountLemmas.{after_after}
 use Rattle.gimli_core_readers.proofs.StepParts.{begins, read, value_is, state_is}
 use Rattle.gimli_lines_machine.specs.Decoding.{span_of}
 
@@ -16,12 +17,6 @@ after_zero v = let place : v.first ≡ v.first + 0 = omega arith in ap at place
   where
     at : ℕ → View
     at n = record { bytes = v.bytes; is_big = v.is_big; first = n }
-
-pub after_after : (m n : ℕ) (v : View) → after n (after m v) ≡ after (m + n) v
-after_after m n v =
-    let bytes : drop n (drop m v.bytes) ≡ drop (m + n) v.bytes = drop-drop n m v.bytes in
-    let place : (v.first + m) + n ≡ v.first + (m + n) = omega arith in
-    cc
 
 pub after_front : (k n : ℕ) (v : View) → k ≤ n → after k (prefix n v) ≡ prefix (n - k) (after k v)
 after_front k n v le =

@@ -1,5 +1,5 @@
 -- Numbers are read again from any prefix of their bytes that has them.
-use Rattle.std.proofs.Common.{◌≡◌, ℕ, zero, suc, ◌^◌, ◌<◌, ◌≤◌, Bool, true, false, cond, ltb, List, [], ◌∷◌, length, take, Option, Some, None, option_map, Result, Ok, Err, refl, sym, ap, ◌∙◌, arith, inl, inr, ◌⊎◌}
+use Rattle.std.proofs.Common.{◌≡◌, ℕ, zero, suc, ◌^◌, ◌<◌, ◌≤◌, Bool, true, false, cond, ltb, List, [], ◌∷◌, length, take, Option, Some, option_map, Result, Ok, Err, refl, sym, ap, ◌∙◌, arith, inl, inr, ◌⊎◌}
 use Rattle.std.specs.Prelude.{ℤ}
 use Rattle.std.specs.Option.{ok_or}
 use Rattle.std.proofs.lemmas.List.{take-take, length-take, take_all}
@@ -13,8 +13,8 @@ use Rattle.gimli_core_readers.specs.Fault.TheVariants.{Cut, Bad}
 use Rattle.gimli_core_readers.specs.Fixed.{number}
 use Rattle.gimli_core_readers.specs.Leb128.{leb_string, bounded_string, unsigned_of, signed_of, unsigned_number, signed_number, fits_i64}
 use Rattle.gimli_core_readers.specs.NumberParsers.{fixed, number_and_rest, unsigned, signed}
-use Rattle.gimli_core_readers.proofs.NumberReadSizes.{judged_fits_in}
-use Rattle.gimli_core_readers.proofs.LebStrings.{string_at-last, string_at-goes_on}
+use Rattle.gimli_core_readers.proofs.NumberReadSizes.{judged_fits_in, found_is}
+use Rattle.gimli_core_readers.proofs.LebStrings.{map_some, string_at-last, string_at-goes_on}
 use Rattle.gimli_lines_machine.proofs.CutBytes.{ReadsCutAt, ReadsCut, long_enough}
 
 -- ---- fixed numbers
@@ -69,11 +69,6 @@ string_cut (b ∷ bytes) string zero e le = elim (cases_lt b 128) [
   where
     some_is : (x y : List ℕ) → Some x ≡ Some y → x ≡ y
     some_is x y h = cc
-
-    map_some : (a : ℕ) (o : Option (List ℕ)) (s : List ℕ) → option_map (λ (t : List ℕ). a ∷ t) o ≡ Some s → (t : List ℕ)
-        × (o ≡ Some t) × (a ∷ t ≡ s)
-    map_some a None s h = absurd cc
-    map_some a (Some t) s h = (t, refl, cc)
 string_cut (b ∷ bytes) string (suc n) e le = elim (cases_lt b 128) [
   | inl last ↦ string_at-last b (take n bytes) last ∙ sym (string_at-last b bytes last) ∙ e
   | inr more ↦
@@ -85,15 +80,6 @@ string_cut (b ∷ bytes) string (suc n) e le = elim (cases_lt b 128) [
   where
     some : List ℕ → Option (List ℕ)
     some t = Some t
-
-    map_some : (a : ℕ) (o : Option (List ℕ)) (s : List ℕ) → option_map (λ (t : List ℕ). a ∷ t) o ≡ Some s → (t : List ℕ)
-        × (o ≡ Some t) × (a ∷ t ≡ s)
-    map_some a None s h = absurd cc
-    map_some a (Some t) s h = (t, refl, cc)
-
-found_is : (o : Option (List ℕ)) (fault : Fault) (string : List ℕ) → ok_or o fault ≡ Ok string → o ≡ Some string
-found_is None fault string e = absurd cc
-found_is (Some s) fault string e = cc
 
 take_both : (m n : ℕ) (xs : List ℕ) → take m (take n xs) ≡ take n (take m xs)
 take_both m n xs = elim (cases_lt m n) [

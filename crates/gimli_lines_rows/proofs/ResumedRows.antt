@@ -52,10 +52,10 @@ instruction_result i w = Ok (Some i, w)
 abbrev some_of : InstructionOf FileFacts → Option (InstructionOf FileFacts)
 some_of i = Some i
 
-abbrev no_more : View → Result (Option (InstructionOf FileFacts) × View) Error
+abbrev pub no_more : View → Result (Option (InstructionOf FileFacts) × View) Error
 no_more v = Ok (None, v)
 
-abbrev more : Result (InstructionOf FileFacts × View) Error → Result (Option (InstructionOf FileFacts) × View) Error
+abbrev pub more : Result (InstructionOf FileFacts × View) Error → Result (Option (InstructionOf FileFacts) × View) Error
 more r = proceed r (λ x. give (Some x))
 
 pub read_parts : (limit : ℕ) (h : LineHeader) (v w : View) (i : InstructionOf FileFacts) → next_instruction limit h v
@@ -274,22 +274,14 @@ path_at_most {s = s} {u = u} p =
     ∙ length-drop t.count s.rest.bytes in
     omega arith
 
-step_less : (limit : ℕ) (s : RemainingRows) (b : Bool) (t : RemainingRows) → next_step limit s ≡ Ok (Some b, t)
-    → bytes_left t.rest < bytes_left s.rest
-step_less limit s b t e = step_smaller limit s b t e
-
-fewer_rows : {limit : ℕ} {s u : RemainingRows} {rows : List Row} → Path limit s rows u → rows ≢ []
-    → bytes_left u.rest < bytes_left s.rest
-fewer_rows (stays s) some = absurd (some refl)
-fewer_rows {limit} (shows s t u rows e p) some =
-    let lt : bytes_left t.rest < bytes_left s.rest = step_less limit s true t e in
-    let le : bytes_left u.rest ≤ bytes_left t.rest = path_at_most p in
-    omega arith
-fewer_rows {limit} (passes s t u rows e p) some =
-    let lt : bytes_left t.rest < bytes_left s.rest = step_less limit s false t e in
-    let le : bytes_left u.rest ≤ bytes_left t.rest = path_at_most p in
-    omega arith
-
 pub path_smaller : {limit : ℕ} {s u : RemainingRows} {rows : List Row} → Path limit s rows u → rows ≢ []
     → bytes_left u.rest < bytes_left s.rest
-path_smaller p some = fewer_rows p some
+path_smaller (stays s) some = absurd (some refl)
+path_smaller {limit} (shows s t u rows e p) some =
+    let lt : bytes_left t.rest < bytes_left s.rest = step_smaller limit s true t e in
+    let le : bytes_left u.rest ≤ bytes_left t.rest = path_at_most p in
+    omega arith
+path_smaller {limit} (passes s t u rows e p) some =
+    let lt : bytes_left t.rest < bytes_left s.rest = step_smaller limit s false t e in
+    let le : bytes_left u.rest ≤ bytes_left t.rest = path_at_most p in
+    omega arith

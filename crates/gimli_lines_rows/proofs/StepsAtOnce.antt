@@ -3,7 +3,6 @@ use Rattle.std.proofs.Common.{◌≡◌, ◌≢◌, ℕ, ◌-◌, ◌<◌, ◌�
 use Rattle.std.proofs.lemmas.Bool.{ne_eqb}
 use Rattle.gimli_lines_machine.specs.Error.{Error}
 use Rattle.gimli_lines_machine.specs.View.{View, after, bytes_left}
-use Rattle.gimli_lines_machine.specs.Parsers.{proceed, give}
 use Rattle.gimli_lines_machine.proofs.StepParts.{value_is, state_is}
 use Rattle.gimli_lines_header.specs.LineFiles.{FileFacts, file_in}
 use Rattle.gimli_lines_header.specs.LineHeaders.{LineHeader}
@@ -17,7 +16,7 @@ use Rattle.gimli_lines_rows.specs.ProgramInstructions.{rules_of, instruction_in,
 use Rattle.gimli_lines_rows.specs.ProgramRows.{Row, RemainingRows, header_after, step_of, step_to, next_step, last_row, Path}
 use Rattle.gimli_lines_rows.specs.NumericSteps.{Effect, effect_to, effect_of, numeric_effect, rows_at, StepsAtOnce, RunsToRow}
 use Rattle.gimli_lines_rows.proofs.LineRowSteps.{step_smaller}
-use Rattle.gimli_lines_rows.proofs.ResumedRows.{path_took}
+use Rattle.gimli_lines_rows.proofs.ResumedRows.{no_more, more, path_took, path_at_most}
 
 -- ---- an instruction
 
@@ -25,12 +24,6 @@ header_same : (takes_files : Bool) (i : InstructionOf FileFacts) (h : LineHeader
     → header_after takes_files i h ≡ h
 header_same takes_files (define_file file) h e = absurd cc
 header_same takes_files _ h e = refl
-
-abbrev no_more : View → Result (Option (InstructionOf FileFacts) × View) Error
-no_more v = Ok (None, v)
-
-abbrev more : Result (InstructionOf FileFacts × View) Error → Result (Option (InstructionOf FileFacts) × View) Error
-more r = proceed r (λ x. give (Some x))
 
 -- what was read is the next instruction
 read_next : (limit : ℕ) (h : LineHeader) (v w : View) (i : InstructionOf FileFacts) → instruction_in limit h v
@@ -129,16 +122,7 @@ steps_row limit h rules r last v w after r1 last1 b shown same is e is_shown row
 
 -- ---- bytes
 
--- how many bytes a path took
-pub path_fits : {limit : ℕ} {s u : RemainingRows} {rows : List Row} → Path limit s rows u
-    → bytes_left u.rest ≤ bytes_left s.rest
-path_fits {s = s} {u = u} p =
-    let t = path_took p in
-    let left : bytes_left u.rest ≡ bytes_left s.rest - t.count = ap bytes_left t.rest
-    ∙ length-drop t.count s.rest.bytes in
-    omega arith
-
--- the bytes that it leaves
+-- the bytes that a path leaves
 pub path_leaves : {limit : ℕ} {s u : RemainingRows} {rows : List Row} → Path limit s rows u
     → u.rest ≡ after (bytes_left s.rest - bytes_left u.rest) s.rest
 path_leaves {s = s} {u = u} p =
@@ -174,7 +158,7 @@ pub run_fits : (limit : ℕ) (b : Bool) (h : LineHeader) (r last r1 last1 : Regi
     → ((takes_files : Bool) → RunsToRow limit b (rows_at h takes_files r last v) (rows_at h takes_files r1 last1 w))
     → length left ≤ length before
 run_fits limit b h r last r1 last1 v w before left before_is left_is run =
-    let fits : bytes_left w ≤ bytes_left v = path_fits (run true).0 in
+    let fits : bytes_left w ≤ bytes_left v = path_at_most (run true).0 in
     let all : length before ≡ bytes_left v = ap length before_is in
     let rest : length left ≡ bytes_left w = ap length left_is in
     omega arith
@@ -213,5 +197,5 @@ pub step_below : (limit : ℕ) (s t u : RemainingRows) (b : Bool) → Path limit
     → bytes_left u.rest < bytes_left s.rest
 step_below limit s t u b p e =
     let below : bytes_left u.rest < bytes_left t.rest = step_smaller limit t b u e in
-    let fits : bytes_left t.rest ≤ bytes_left s.rest = path_fits p in
+    let fits : bytes_left t.rest ≤ bytes_left s.rest = path_at_most p in
     omega arith

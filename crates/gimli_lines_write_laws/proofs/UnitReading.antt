@@ -2,7 +2,6 @@
 use Rattle.std.proofs.Common.{◌≡◌, ℕ, ◌+◌, ◌<◌, ◌≤◌, Bool, true, false, List, [], ◌∷◌, ◌++◌, length, map, Result, Ok, refl, sym, ap, subst, ◌∙◌, arith}
 use Rattle.std.specs.Prelude.{nat_le, All}
 use Rattle.std.proofs.lemmas.Bool.{le-leb, lt-leb}
-use Rattle.std.proofs.lemmas.List.{length-append}
 use Rattle.std.proofs.lemmas.List.Elements.{All-head}
 use Rattle.gimli_lines_write_unit.specs.Format.{Format}
 use Rattle.gimli_lines_write_unit.specs.LineRules.{LineRules}
@@ -17,7 +16,7 @@ use Rattle.gimli_lines_write_unit.specs.HeaderTexts.{WrittenText, in_place, in_s
 use Rattle.gimli_lines_write_unit.specs.EntryFields.{WrittenFile, IsReadableFile}
 use Rattle.gimli_lines_write_unit.specs.HeaderSpelling.{Tables, path_form, source_form, spelled_header, spelled_body, fields_at, header_value}
 use Rattle.gimli_lines_write_unit.specs.HeaderReadBack.{FitsVersion4, FitsVersion5, CanWrite}
-use Rattle.gimli_lines_write_unit.proofs.LineUnitsAgain.{unit_again}
+use Rattle.gimli_lines_write_unit.proofs.LineUnitsAgain.{below_back, unit_again}
 use Rattle.gimli_lines_write_laws.specs.UnitReadBack.{IsBelow, FileBelow, HasNoZero, HasBytes, FileReadsBack, records_sources, TablesReadBack, UnitReadsBack}
 use Rattle.gimli_lines_write_laws.proofs.SpelledPieces.{Fits}
 use Rattle.gimli_lines_write_laws.proofs.TableBytes.{DirectoryIs, FileIs, form_at, header_is}
@@ -110,9 +109,6 @@ module _ (rules : LineRules) (t : Tables) (read_back : TablesReadBack rules.enco
 
 -- ---- the unit
 
-rest_length : (a b : List ℕ) (n : ℕ) → length (a ++ b) < n → length b < n
-rest_length a b n h = omega (arith, length-append a b)
-
 one_is : (n : ℕ) → 0 < n → n ≤ 1 → n ≡ 1
 one_is n above below = omega arith
 
@@ -159,7 +155,7 @@ unit_is_read address_of rules t entries is_big bytes can_build byte few read_bac
             to_4 = stands_to_4 rules t read_back tables.0 tables.1;
             in_5 = stands_in_5 rules t read_back tables.0 tables.1;
             length_fits = unit.length_fits;
-            small = rest_length (spelled_length rules.encoding.format is_big
+            small = below_back (spelled_length rules.encoding.format is_big
                 (length (spelled_body rules is_big t unit.program))) (spelled_body rules is_big t unit.program) limit
                 (subst (λ l. length l < limit) unit.bytes_are small);
           } in

@@ -2,7 +2,7 @@
 use Rattle.std.proofs.Common.{◌≡◌, ℕ, ◌<◌, nat_lt, Bool, true, false, ◌&&◌, ◌||◌, not, List, [], ◌∷◌, length, Option, Some, None, unwrap_or, refl}
 use Rattle.std.specs.Prelude.{All, ◌↔◌}
 use Rattle.std.specs.List.{list_all}
-use Rattle.std.proofs.lemmas.Bool.{ltb-true, lt-ltb}
+use Rattle.std.proofs.lemmas.Bool.{and_parts, ltb-true, lt-ltb}
 use Rattle.std.proofs.lemmas.List.Elements.{All-nil, All-cons, All-head, All-tail}
 use Rattle.gimli_lines_write_laws.specs.FileTables.{Text, in_header, of_strings, of_line_strings, File, Info, ProgramFiles}
 use Rattle.gimli_lines_write_laws.specs.FileDetails.{FileDetails}
@@ -10,11 +10,6 @@ use Rattle.gimli_lines_write_laws.specs.HeaderContents.{IsKnown, AllKnown, recor
 use Rattle.gimli_lines_write_program.specs.TextTests.{is_known, is_source_known, has_texts}
 
 -- ---- lists
-
-pub both_true : (a b : Bool) → (a && b) ≡ true → (a ≡ true) × (b ≡ true)
-both_true true true h = (refl, refl)
-both_true true false h = absurd (cc)
-both_true false b h = absurd (cc)
 
 pub true_both : (a b : Bool) → a ≡ true → b ≡ true → (a && b) ≡ true
 true_both true true p q = refl
@@ -27,7 +22,7 @@ pub list_all_decides : {A : Type 0} (test : A → Bool) (P : A → Type 0) → (
 list_all_decides test P each [] = ((λ h. All-nil P), λ h. refl)
 list_all_decides test P each (x ∷ xs) =
     let rest = list_all_decides test P each xs in (
-      (λ h. let b = both_true (test x) (list_all test xs) h in
+      (λ h. let b = and_parts (test x) (list_all test xs) h in
           All-cons P x xs ((each x).0 b.0) (rest.0 b.1)),
       (λ all. true_both (test x) (list_all test xs) ((each x).1 (All-head P x xs all)) (rest.1 (All-tail P x xs all))),
     )
@@ -68,8 +63,8 @@ module _ (s l : List (List ℕ)) where
       let a = list_all (is_known s l) k.directories in
       let b = list_all (λ (f : File). is_known s l f.path) k.files in
       let c = not (records_source k.version d) || list_all (λ (i : Info). is_source_known s l i.source) k.infos in (
-        (λ h. let p = both_true (a && b) c h in
-            let q = both_true a b p.0 in
+        (λ h. let p = and_parts (a && b) c h in
+            let q = and_parts a b p.0 in
             record { directories = directories.0 q.0; paths = paths.0 q.1; sources = sources.0 p.1 }),
         (λ known. true_both (a && b) c (true_both a b (directories.1 known.directories) (paths.1 known.paths))
             (sources.1 known.sources)),

@@ -2,7 +2,7 @@
 use Rattle.std.proofs.Common.{◌≡◌, ℕ, ◌≤◌, Bool, true, false, cond, ◌&&◌, ◌||◌, not, List, Option, Some, None, refl, sym, ap, subst, arith}
 use Rattle.std.specs.Prelude.{All, ◌↔◌, ◌==◌, nat_le}
 use Rattle.std.specs.Option.{IfSome}
-use Rattle.std.proofs.lemmas.Bool.{leb-true, leb-false, le-leb, eqb-true, eq-eqb}
+use Rattle.std.proofs.lemmas.Bool.{and_parts, leb-true, leb-false, le-leb, eqb-true, eq-eqb}
 use Rattle.std.proofs.lemmas.List.Folds.{list_all-map}
 use Rattle.gimli_lines_write_laws.specs.FileTables.{Text, File, Info}
 use Rattle.gimli_lines_write_laws.specs.HeaderContents.{listed_directories, first_source, records_source}
@@ -11,7 +11,7 @@ use Rattle.gimli_lines_write_laws.proofs.ExpressedPrograms.{first_form_is, each_
 use Rattle.gimli_lines_write_program.specs.BuiltPrograms.{Program, CanBeWritten}
 use Rattle.gimli_lines_write_program.specs.TextTests.{has_texts}
 use Rattle.gimli_lines_write_program.specs.FormTests.{needed_form, have_form, have_paths_of_form, source_has_form, have_sources_of_form, has_version, has_forms, is_writable}
-use Rattle.gimli_lines_write_program.proofs.KnownTables.{both_true, true_both, list_all_decides, tables_decide}
+use Rattle.gimli_lines_write_program.proofs.KnownTables.{true_both, list_all_decides, tables_decide}
 
 -- ---- numbers
 
@@ -94,13 +94,13 @@ writable_decides s l p =
     let b = have_paths_of_form (list_form k.version (paths_of k.files)) k.files in
     let c = not (records_source k.version d)
     || have_sources_of_form (needed_form k.version (first_source k.infos)) k.infos in (
-      (λ h. let forms = both_true (some && has_texts s l k d && has_version rules) (has_forms k d) h in
-          let version = both_true (some && has_texts s l k d) (has_version rules) forms.0 in
-          let first = both_true some (has_texts s l k d) version.0 in
-          let parts = both_true (a && b) c forms.1 in
-          let lists = both_true a b parts.0 in
-          let range = both_true (low && high) few version.1 in
-          let ends = both_true low high range.0 in
+      (λ h. let forms = and_parts (some && has_texts s l k d && has_version rules) (has_forms k d) h in
+          let version = and_parts (some && has_texts s l k d) (has_version rules) forms.0 in
+          let first = and_parts some (has_texts s l k d) version.0 in
+          let parts = and_parts (a && b) c forms.1 in
+          let lists = and_parts a b parts.0 in
+          let range = and_parts (low && high) few version.1 in
+          let ends = and_parts low high range.0 in
           record {
             is_some = is_some_if p.is_none first.0;
             texts = texts.0 first.1;

@@ -7,7 +7,7 @@ mod PieceRuns
 mod Moves
 pub mod ProgramRuns
 mod MoveBytes
-mod JoinedWrites
+pub mod JoinedWrites
 mod RowTests
 mod BytesAgain
 pub mod EntryDecoding

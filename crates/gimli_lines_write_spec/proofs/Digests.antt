@@ -1,16 +1,13 @@
 -- The bytes of a number that bytes spell are those bytes.
-use Rattle.std.proofs.Common.{◌≡◌, ℕ, zero, suc, ◌+◌, ◌*◌, ◌^◌, ◌/◌, ◌<◌, ◌≤◌, ◌%◌, Bool, true, false, List, [], ◌∷◌, length, refl, sym, ap, ◌∙◌, arith}
+use Rattle.std.proofs.Common.{◌≡◌, ℕ, suc, ◌+◌, ◌*◌, ◌^◌, ◌/◌, ◌<◌, ◌≤◌, ◌%◌, Bool, true, false, List, [], ◌∷◌, length, refl, sym, ap, ◌∙◌, arith}
 use Rattle.std.specs.Prelude.{All}
 use Rattle.std.specs.Int.{byte_at, bytes_low_first, bytes_high_first}
 use Rattle.std.proofs.lemmas.List.Elements.{All-head, All-tail}
-use Rattle.std.proofs.Math.Nat.{add-mul, add_assoc, mul-add-mod_self_right, mul-le-mul_right, mul_assoc, div-add-mod', div-div-eq-div-mul, div-one, mod-eq_of_lt, mod-lt, one-le-pow, pow-suc, pow-succ'}
+use Rattle.std.proofs.Math.Nat.{add-mul, mul-add-mod_self_right, mul-le-mul_right, div-div-eq-div-mul, div-one, mod-eq_of_lt, mod-lt, pow-suc, pow-succ'}
 use Rattle.std.proofs.lemmas.Nat.{div-mul-add}
 use Rattle.gimli_lines_write_rows.specs.Fixed.{little, big, number, number_bytes}
+use Rattle.gimli_lines_write_rows.proofs.NumberRoundTrip.{byte_at-pow, pow_pos256, mod-split}
 use Rattle.gimli_lines_write_spec.specs.EntryFields.{IsDigest}
-
-byte_at-pow : (k x : ℕ) → byte_at k x ≡ x / 256 ^ k % 256
-byte_at-pow zero x = ap (λ (y : ℕ). y % 256) (sym (div-one x))
-byte_at-pow (suc k) x = refl
 
 abbrev IsByte : ℕ → Type 0
 IsByte b = b < 256
@@ -35,9 +32,6 @@ low_is j (b ∷ bs) x good is =
 
 -- ---- the highest byte first
 
-pow_above : (n : ℕ) → zero < 256 ^ n
-pow_above n = let h = one-le-pow n 256 (omega arith) in omega arith
-
 -- digits to a base are those of one number alone
 same_digits : (c d b r s : ℕ) → r < c → s < c → d * c + r ≡ b * c + s → (d ≡ b) × (r ≡ s)
 same_digits c d b r s below small same = (
@@ -55,30 +49,14 @@ big_below (b ∷ bs) good =
     let split = add-mul b 1 (256 ^ length bs) in
     rw (pow-succ' 256 (length bs)) (omega arith)
 
--- the two low digits of n, to the bases c and then m
-mod-split : (n : ℕ) {m c : ℕ} → zero < m → zero < c → n % (m * c) ≡ (n / c % m) * c + n % c
-mod-split n {m} {c} hm hc =
-    let a = mod-lt (n / c) hm in
-    let b = mod-lt n hc in
-    let top : (n / c % m + 1) * c ≤ m * c = mul-le-mul_right c (omega arith) in
-    let expand : (n / c % m + 1) * c ≡ n / c % m * c + 1 * c = add-mul (n / c % m) 1 c in
-    let split : n ≡ n / c / m * (m * c) + (n / c % m * c + n % c) =
-    sym (div-add-mod' n c)
-    ∙ ap (λ (x : ℕ). x * c + n % c) (sym (div-add-mod' (n / c) m))
-    ∙ ap (λ (x : ℕ). x + n % c) (add-mul (n / c / m * m) (n / c % m) c
-    ∙ ap (λ (x : ℕ). x + n / c % m * c) (mul_assoc (n / c / m) m c))
-    ∙ add_assoc (n / c / m * (m * c)) (n / c % m * c) (n % c) in
-    ap (λ (x : ℕ). x % (m * c)) split ∙ mul-add-mod_self_right (n / c / m) (m * c) (n / c % m * c + n % c)
-    ∙ mod-eq_of_lt (omega arith)
-
 high_is : (bs : List ℕ) (x : ℕ) → All IsByte bs → x % 256 ^ length bs ≡ big bs → bytes_high_first (length bs) x ≡ bs
 high_is [] x good is = refl
 high_is (b ∷ bs) x good is =
     let c = 256 ^ length bs in
     let split : x % 256 ^ suc (length bs) ≡ (x / c % 256) * c + x % c =
     ap (λ (p : ℕ). x % p) (pow-succ' 256 (length bs))
-    ∙ mod-split x {m = 256} {c = c} (omega arith) (pow_above (length bs)) in
-    let digits = same_digits c (x / c % 256) b (x % c) (big bs) (mod-lt x (pow_above (length bs)))
+    ∙ mod-split x {m = 256} {c = c} (omega arith) (pow_pos256 (length bs)) in
+    let digits = same_digits c (x / c % 256) b (x % c) (big bs) (mod-lt x (pow_pos256 (length bs)))
     (big_below bs (All-tail IsByte b bs good)) (sym split ∙ is) in
     ap (λ (d : ℕ). d ∷ bytes_high_first (length bs) x) (byte_at-pow (length bs) x ∙ digits.0)
     ∙ ap (λ ds. b ∷ ds) (high_is bs x (All-tail IsByte b bs good) digits.1)

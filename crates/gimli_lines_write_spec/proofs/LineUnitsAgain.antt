@@ -37,7 +37,7 @@ use Rattle.gimli_lines_write_rows.specs.NumberBytes.{length_limit, spelled_lengt
 below_front : (a b : List ℕ) (n : ℕ) → length (a ++ b) < n → length a < n
 below_front a b n h = omega (arith, length-append a b)
 
-below_back : (a b : List ℕ) (n : ℕ) → length (a ++ b) < n → length b < n
+pub below_back : (a b : List ℕ) (n : ℕ) → length (a ++ b) < n → length b < n
 below_back a b n h = omega (arith, length-append a b)
 
 limit_fits : (format : Format) (n : ℕ) → n < length_limit format → (n < 2 ^ 64) × (n < 256 ^ word_size format)

@@ -6,7 +6,7 @@ use Rattle.std.proofs.lemmas.List.{length-append}
 use Rattle.std.proofs.lemmas.List.Elements.{All-push, All-nil, All-weaker}
 use Rattle.gimli_lines_write_tables.specs.FileTables.{Text, File, Info, IsConsistent, HasNoZero, HasBytes, is_same}
 use Rattle.gimli_lines_write_tables.specs.StringSections.{with_item, item_index}
-use Rattle.gimli_lines_write_tables.proofs.Keys.{index_of_none}
+use Rattle.gimli_lines_write_tables.proofs.TextTableLemmas.{index-none}
 
 module _ {A : Type 0} (P : A → Type 0) (same : A → A → Bool) where
   pub All-with : (things : List A) (x : A) → All P things → P x → All P (with_item same things x)
@@ -45,7 +45,7 @@ place_within same things x = by (list_any (same x) things) refl
     by : (b : Bool) → list_any (same x) things ≡ b
         → position_or_len (same x) things < length (cond b things (things ++ x ∷ []))
     by true is = found_within (same x) things is
-    by false is = omega (arith, length-append things (x ∷ []), index_of_none (same x) things is)
+    by false is = omega (arith, length-append things (x ∷ []), index-none (same x) things is)
 
 -- and none is lost
 with_item-longer : {A : Type 0} (same : A → A → Bool) (things : List A) (x : A)

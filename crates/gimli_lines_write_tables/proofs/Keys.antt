@@ -1,6 +1,6 @@
 -- Keys that are equal are seen as the same things, and an inserted key is found where it is seen.
-use Rattle.std.proofs.Common.{length, nat_lt, Some, None, true≢false, ◌≡◌, ℕ, ◌+◌, Bool, true, false, cond, not, ◌||◌, List, [], ◌∷◌, ◌++◌, map, refl, sym, ap, ◌∙◌, arith}
-use Rattle.std.specs.List.{list_any, position, position_or_len}
+use Rattle.std.proofs.Common.{◌≡◌, ◌+◌, Bool, true, false, cond, not, ◌||◌, List, [], ◌∷◌, ◌++◌, map, refl, sym, ap, ◌∙◌}
+use Rattle.std.specs.List.{list_any, position_or_len}
 use Rattle.std.proofs.lemmas.List.{map-append}
 use Rattle.indexmap.specs.IndexSet.{insert_key}
 use Rattle.gimli_lines_write_tables.specs.declared.line_string.LineString.{LineString}
@@ -55,22 +55,3 @@ with_new same things x h = ap (λ b. cond b things (things ++ x ∷ [])) h
 pub with_old : {A : Type 0} (same : A → A → Bool) (things : List A) (x : A) → list_any (same x) things ≡ true
     → with_item same things x ≡ things
 with_old same things x h = ap (λ b. cond b things (things ++ x ∷ [])) h
-
--- the place that `position` gives is the first that passes
-pub position_index : {A : Type 0} (p : A → Bool) (xs : List A) (i : ℕ) → position p xs ≡ Some i
-    → i ≡ position_or_len p xs
-position_index p xs i = by (nat_lt (position_or_len p xs) (length xs))
-  where
-    by : (b : Bool) → cond b (Some (position_or_len p xs)) None ≡ Some i → i ≡ position_or_len p xs
-    by true h = cc
-    by false h = cc
-
--- where none passes, it is the end
-pub index_of_none : {A : Type 0} (p : A → Bool) (xs : List A) → list_any p xs ≡ false → position_or_len p xs ≡ length xs
-index_of_none p [] h = refl
-index_of_none p (x ∷ xs) h = by (p x) h (index_of_none p xs)
-  where
-    by : (b : Bool) → (b || list_any p xs) ≡ false → (list_any p xs ≡ false → position_or_len p xs ≡ length xs)
-        → cond (not b) (1 + position_or_len p xs) 0 ≡ length (x ∷ xs)
-    by true g rest = absurd (true≢false g)
-    by false g rest = let t = rest g in omega arith

@@ -1,23 +1,14 @@
 -- Things that are written one after the other.
-use Rattle.std.proofs.Common.{◌≡◌, ℕ, ◌+◌, ◌<◌, Bool, List, [], ◌∷◌, ◌++◌, drop, map, Result, Ok, Err, refl, sym, ap, subst, ◌∙◌, append_assoc, length, get_or, add-one}
-use Rattle.std.proofs.Math.Seq.{drop-cons}
+use Rattle.std.proofs.Common.{◌≡◌, ℕ, ◌+◌, ◌<◌, Bool, List, [], ◌∷◌, ◌++◌, drop, map, Result, Ok, Err, refl, sym, ap, subst, ◌∙◌, append_assoc, length, get_or}
 use Rattle.std.proofs.lemmas.List.{append-nil}
 use Rattle.gimli_lines_write_tables.specs.WriteError.{Error}
 use Rattle.gimli_lines_write_tables.specs.OutputBytes.{WriterContents, append, append_result}
 use Rattle.gimli_lines_write_tables.specs.EntryBytes.{join_bytes, Extends, Continues}
+use Rattle.gimli_lines_write_tables.proofs.JoinedWrites.{joined-none, joined-assoc, next_drop}
 use Rattle.std.specs.Prelude.{flat_map}
 use Rattle.gimli_lines_write_spec.specs.FileEntryFormat.{FileEntryFormat}
 use Rattle.gimli_lines_write_spec.specs.EntryFields.{spelled_format}
 use Rattle.gimli_lines_write_unit.specs.HeaderBytes.{all_bytes}
-
-pub joined-none : (r : Result (List ℕ) Error) → r ≡ join_bytes (Ok []) r
-joined-none (Ok b) = refl
-joined-none (Err e) = refl
-
-pub joined-later : (a b : List ℕ) (r : Result (List ℕ) Error) → join_bytes (Ok a) (join_bytes (Ok b) r)
-    ≡ join_bytes (Ok (a ++ b)) r
-joined-later a b (Ok c) = ap Ok (sym (append_assoc a b c))
-joined-later a b (Err e) = refl
 
 -- What is left of a list that is being written, whose things are written in an order.
 pub record Left {A : Type 0} (f : Bool → A → Result (List ℕ) Error) (start now : WriterContents)
@@ -58,13 +49,10 @@ module _ {A : Type 0} (f : Bool → A → Result (List ℕ) Error) (start now : 
               order = ap (λ (w : WriterContents). w.is_big) (sym there) ∙ left.begins.order;
             };
             bytes = ahead ∙ ap (λ r. join_bytes (Ok left.begins.more) (join_bytes r (all_bytes (f start.is_big) rest)))
-                s ∙ joined-later left.begins.more b (all_bytes (f start.is_big) rest);
+                s ∙ joined-assoc left.begins.more b (all_bytes (f start.is_big) rest);
           }
 
 -- the next thing, before those after it
-pub next_drop : {A : Type 0} (xs : List A) (i : ℕ) (d : A) → i < length xs → drop i xs ≡ get_or xs i d ∷ drop (i + 1) xs
-next_drop xs i d h = rw add-one (drop-cons xs i d h)
-
 pub next_view : {A B : Type 0} (see : A → B) (xs : List A) (i : ℕ) (d : A) → i < length xs → map see (drop i xs)
     ≡ see (get_or xs i d) ∷ map see (drop (i + 1) xs)
 next_view see xs i d h = ap (map see) (next_drop xs i d h)

@@ -106,12 +106,14 @@ impl<R: Reader> UnitHeader<R> {
         self.encoding.address_size
     }
 
+    /// Whether offsets take 4 or 8 bytes (DWARF 5, 7.4).
     pub fn format(&self) -> Format
         ensures { result ≡ self.now.encoding.format }
     {
         self.encoding.format
     }
 
+    /// The unit's type, with what its header has for that type (DWARF 5, 7.5.1).
     pub fn type_(&self) -> UnitType<R::Offset>
         ensures { kind_of R.Offset.count result ≡ self.now.kind }
     {

@@ -28,7 +28,7 @@ and_swap false false = refl
 overlap_swap : (q r : RangePart) → overlap q r ≡ overlap r q
 overlap_swap q r = and_swap (nat_lt q.begin r.end) (nat_lt r.begin q.end)
 
-or_swap : (a b c : Bool) → (a || (b || c)) ≡ (b || (a || c))
+pub or_swap : (a b c : Bool) → (a || (b || c)) ≡ (b || (a || c))
 or_swap true true c = refl
 or_swap true false c = refl
 or_swap false b c = refl
@@ -40,7 +40,7 @@ list_any_among p [] x ys = refl
 list_any_among p (z ∷ xs) x ys =
     ap (λ b. p z || b) (list_any_among p xs x ys) ∙ or_swap (p z) (p x) (list_any p (xs ++ ys))
 
-or_regroup : (a b c d : Bool) → ((a || b) || (c || d)) ≡ ((a || c) || (b || d))
+pub or_regroup : (a b c d : Bool) → ((a || b) || (c || d)) ≡ ((a || c) || (b || d))
 or_regroup true b c d = refl
 or_regroup false true true d = refl
 or_regroup false true false d = refl

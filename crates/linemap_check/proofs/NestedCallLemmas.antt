@@ -1,5 +1,5 @@
 -- Lists of calls.
-use Rattle.std.proofs.Common.{◌≡◌, Bool, true, false, ◌||◌, List, [], ◌∷◌, ◌++◌, flat_map, map, refl, sym, ap, ◌∙◌}
+use Rattle.std.proofs.Common.{◌≡◌, ◌||◌, List, [], ◌∷◌, ◌++◌, flat_map, map, refl, sym, ap, ◌∙◌}
 use Rattle.std.proofs.lemmas.List.Folds.{list_any-append}
 use Rattle.linemap_meaning.specs.TableParts.{RangePart, Calls, no_calls, more_calls}
 use Rattle.linemap_meaning.specs.Conditions.{any_outside, any_call_outside, is_outside, sibling_ranges}
@@ -7,6 +7,7 @@ use Rattle.linemap_meaning.specs.TableViews.{range_part, calls_part}
 use Rattle.linemap_meaning.specs.declared.table.TableCall.{TableCall}
 use Rattle.linemap_meaning.specs.declared.table.TableCall.TheViews.{out-TableCall}
 use Rattle.linemap_meaning.proofs.TableViewLemmas.{site-out}
+use Rattle.linemap_check.proofs.DirectionLemmas.{or_regroup}
 use Rattle.linemap_check.specs.RangePasses.{any_inner_outside}
 
 abbrev pub call_ranges : TableCall → List RangePart
@@ -18,15 +19,6 @@ sibling_ranges_calls (c ∷ cs) =
     ap (λ rs. rs ++ sibling_ranges (calls_part cs)) (ap (λ s. s.ranges) (site-out c))
     ∙ ap (λ rs. call_ranges c ++ rs) (sibling_ranges_calls cs)
 
-swap_tests : (x d e : Bool) → (x || (d || e)) ≡ (d || (x || e))
-swap_tests true true e = refl
-swap_tests true false e = refl
-swap_tests false d e = refl
-
-swap_inner_tests : (a x d e : Bool) → ((a || x) || (d || e)) ≡ ((a || d) || (x || e))
-swap_inner_tests true x d e = refl
-swap_inner_tests false x d e = swap_tests x d e
-
 -- ranges outside, a level at a time
 pub any_call_outside_levels : (parent : List RangePart) (cs : Calls)
     → any_call_outside parent cs ≡ (any_outside parent (sibling_ranges cs) || any_inner_outside cs)
@@ -37,6 +29,6 @@ any_call_outside_levels parent (more_calls site inner others) =
     ap (λ b. (any_outside parent site.ranges || b) || any_call_outside parent others)
     (any_call_outside_levels site.ranges inner)
     ∙ ap (λ b. (any_outside parent site.ranges || below) || b) (any_call_outside_levels parent others)
-    ∙ swap_inner_tests (any_outside parent site.ranges) below beside (any_inner_outside others)
+    ∙ or_regroup (any_outside parent site.ranges) below beside (any_inner_outside others)
     ∙ ap (λ b. b || (below || any_inner_outside others))
     (sym (list_any-append (is_outside parent) site.ranges (sibling_ranges others)))

@@ -6,7 +6,7 @@ use Rattle.linemap_elf.specs.declared.field.Field.TheVariants.{Half, Word, Xword
 use Rattle.linemap_elf.specs.SpelledImages.{SizedNumber, half, word, NamedBytes, spelled_name}
 
 -- a field as a width and a value
-abbrev pub field_of : declared.Field → Field
+abbrev pub field_of : declared.Field → SizedNumber
 field_of (Half n) = half n
 field_of (Word n) = word n
 field_of (Xword n) = record { width = 8; value = n }

@@ -18,7 +18,7 @@ pub enum Field {
     Xword(u64),
 }
 
-/// An address, an offset or a size of a class.
+// An address, an offset or a size of a class.
 pub(crate) fn address(class: Class, n: u64) -> Field
     requires { n < 256 ^ word_size class }
     ensures { field_of result ≡ address class n }

@@ -8,7 +8,7 @@ use crate::section::Section;
 use crate::writer::ImageWriter;
 use std::alloc::AllocError;
 
-/// The name of the section of names.
+// The name of the section of names.
 pub(crate) const NAMES_NAME: &str = ".shstrtab";
 
 // How many bytes the sections have.

@@ -25,9 +25,11 @@ use Rattle.linemap_emit_units.specs.EmittedEntryLaws.{AllEntriesFit}
 use Rattle.linemap_emit_units.proofs.EntryRowsRead.{row_again}
 use Rattle.linemap_emit_units.proofs.InlinedNameLemmas.{All-left, All-right}
 use Rattle.addr2line_functions.specs.InlinedCalls.{Call as FoundCall, FunctionWalk, NestedEntry, Naming, enclosing_rows, is_nested, is_inlined, is_call_in, is_call, calls_above, call_at, call_of, entries_below}
-use Rattle.linemap_frames_laws.specs.CallAgreement.{OneByOne, CallAgrees, CallsAgree, calls_at_depth}
+use Rattle.linemap_frames_laws.specs.CallAgreement.{CallAgrees, CallsAgree, calls_at_depth}
 use Rattle.linemap_emit_calls_laws.specs.RecordedFunctions.{CallReferences, no_references, more_references, entries_of_calls, RecordsCall, RecordsCalls}
-use Rattle.linemap_emit_calls_laws.proofs.EntryDepths.{deeper, less_deep, enclosing-same, enclosing-more}
+use Rattle.addr2line_functions.proofs.EntryLevels.{enclosing_rows-same, enclosing_rows-more}
+use Rattle.linemap_frames_laws.proofs.AgreeingFrames.{one-append}
+use Rattle.linemap_emit_calls_laws.proofs.EntryDepths.{deeper, less_deep}
 use Rattle.addr2line_functions.proofs.CallEntrySteps.{entries-next}
 
 -- ---- lists
@@ -61,13 +63,6 @@ filter-append {A} p (x ∷ xs) ys = by (p x) (filter-append p xs ys)
         → cond b (x ∷ filter p (xs ++ ys)) (filter p (xs ++ ys)) ≡ cond b (x ∷ filter p xs) (filter p xs) ++ filter p ys
     by true later = ap (λ l. x ∷ l) later
     by false later = later
-
-pub one_by_one-append : {A B : Type 0} (R : A → B → Type 0) (xs xs' : List A) (ys ys' : List B) → OneByOne R xs ys
-    → OneByOne R xs' ys' → OneByOne R (xs ++ xs') (ys ++ ys')
-one_by_one-append R [] xs' [] ys' h k = k
-one_by_one-append R [] xs' (y ∷ ys) ys' h k = absurd h
-one_by_one-append R (x ∷ xs) xs' [] ys' h k = absurd h
-one_by_one-append R (x ∷ xs) xs' (y ∷ ys) ys' h k = (h.0, one_by_one-append R xs xs' ys ys' h.1 k)
 
 -- listings one after the other, with an item before each of two
 joined : {S A : Type 0} (l0 l1 l2 l3 l4 : Listing S A) (x y : A) (xs ys : List A) → l0 ≡ prepend (x ∷ []) l1
@@ -287,7 +282,7 @@ module _ (limit : ℕ) (e : Encoding) (is_big : Bool) (end_offset : ℕ) (is_siz
           let own = or_parts (has_bad_number site) (any_call has_bad_number no_calls) tests.0 in
           let here = reads site origin range_list file recorded.0 own.0 false k xs in
           let level : pos (k + 1) ≤ℤ pos (k + 1) = omega (arith, ints) in
-          let same = enclosing-same (pos (k + 1)) r before level in
+          let same = enclosing_rows-same (pos (k + 1)) r before level in
           let later =
           calls_read others after k (first + length (spelled_entry e is_big x)) (r ∷ before) rest recorded.2
           (All-tail (λ y. AllFit limit e (attributes_of y)) x (entries_of_calls others after) fit) tests.1
@@ -300,7 +295,7 @@ module _ (limit : ℕ) (e : Encoding) (is_big : Bool) (end_offset : ℕ) (is_siz
                 (All-head (λ y. AllFit limit e (attributes_of y)) x (entries_of_calls others after) fit) plain
                 ∙ ap (λ (l : Listing FunctionWalk NestedEntry). prepend (nested_entry (k + 1) x xs before ∷ []) l)
                 later.below;
-            keeps = λ d h. later.keeps d h ∙ enclosing-same d r before h;
+            keeps = λ d h. later.keeps d h ∙ enclosing_rows-same d r before h;
             flat = here.0 ∷ later.flat;
             each_is = one_call k x xs before later.items here.0 later.flat refl plain above here.1 later.each_is;
             agree = (here.2, later.agree);
@@ -324,7 +319,7 @@ module _ (limit : ℕ) (e : Encoding) (is_big : Bool) (end_offset : ℕ) (is_siz
           let level : pos (k + 1) ≤ℤ pos (k + 1) = omega (arith, ints) in
           let further : pos (k + 1) <ℤ pos (k + 1 + 1) = omega (arith, ints) in
           let opened : enclosing_rows (pos (k + 1 + 1)) (r ∷ before) ≡ r ∷ enclosing_rows (pos (k + 1)) before =
-          enclosing-more (pos (k + 1 + 1)) r before further in
+          enclosing_rows-more (pos (k + 1 + 1)) r before further in
           let one_more : calls_above (r ∷ enclosing_rows (pos (k + 1)) before) ≡ k + 1 =
           let next : suc k ≡ k + 1 = omega arith in ap suc above ∙ next in
           let middle =
@@ -335,7 +330,7 @@ module _ (limit : ℕ) (e : Encoding) (is_big : Bool) (end_offset : ℕ) (is_siz
           let kept : (d : ℤ) → d ≤ℤ pos (k + 1) → enclosing_rows d (null ∷ middle.before) ≡ enclosing_rows d before =
           λ d h.
           let lower : d ≤ℤ pos (k + 1 + 1) = omega (arith, ints, h) in
-          enclosing-same d null middle.before lower ∙ middle.keeps d lower ∙ enclosing-same d r before h in
+          enclosing_rows-same d null middle.before lower ∙ middle.keeps d lower ∙ enclosing_rows-same d r before h in
           let later =
           calls_read others after k (middle.next_first + length (spelled_entry e is_big EndOfChildren))
           (null ∷ middle.before) rest recorded.2
@@ -374,7 +369,7 @@ module _ (limit : ℕ) (e : Encoding) (is_big : Bool) (end_offset : ℕ) (is_siz
                 later.flat middle.each_is later.each_is);
             agree = (
               here.2,
-              one_by_one-append (CallAgrees number) (calls_at_depth (k + 1) inner) (calls_at_depth k others)
+              one-append (CallAgrees number) (calls_at_depth (k + 1) inner) (calls_at_depth k others)
                   middle.flat later.flat middle.agree later.agree,
             );
           }

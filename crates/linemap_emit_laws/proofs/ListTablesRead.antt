@@ -1,5 +1,5 @@
 -- The bytes of a table of range lists are read as the table.
-use Rattle.std.proofs.Common.{◌≡◌, ℕ, ◌<◌, ◌≤◌, ◌+◌, Bool, true, false, cond, List, [], ◌∷◌, ◌++◌, length, Result, Ok, Err, refl, ap, ◌∙◌, arith, append_assoc}
+use Rattle.std.proofs.Common.{◌≡◌, ℕ, ◌<◌, ◌≤◌, ◌+◌, Bool, true, false, cond, List, ◌∷◌, ◌++◌, length, Result, Ok, Err, refl, ap, ◌∙◌, arith, append_assoc}
 use Rattle.std.specs.Prelude.{nat_lt, ◌==◌}
 use Rattle.std.proofs.lemmas.List.{length-append, take_at}
 use Rattle.std.proofs.lemmas.Bool.{eq-eqb, le-ltb, lt-leb}
@@ -16,6 +16,7 @@ use Rattle.linemap_emit_units.specs.Fixed.{number_bytes}
 use Rattle.linemap_emit_units.specs.NumberBytes.{length_limit, spelled_length}
 use Rattle.linemap_emit_units.specs.BytesAt.{bytes_at}
 use Rattle.linemap_emit_units.proofs.FollowedReads.{Again, again_onward, again_then, again_same, again_fixed, one_byte, length_again}
+use Rattle.linemap_emit_units.proofs.UnitsRead.{size_again}
 use Rattle.linemap_emit_units.proofs.NumberRoundTrip.{length-spelled}
 use Rattle.linemap_emit_units.proofs.Wrapping.{at_most_eight}
 use Rattle.linemap_emit_units.specs.ListSections.{lists_header, header_fields}
@@ -23,11 +24,6 @@ use Rattle.linemap_emit_units.specs.EmittedRanges.{lists_start, spelled_lists}
 use Rattle.linemap_emit_units.specs.EmittedUnits.{IsWritten}
 
 -- ---- the fields after the length
-
-size_again : (is_big : Bool) (first n : ℕ) → is_address_size n ≡ true → n < 256
-    → Again is_big first address_size n (n ∷ [])
-unfolding address_size
-size_again is_big first n is_size small = again_then _ (one_byte is_big first n small) (λ v. rw is_size refl)
 
 -- the bytes of the fields
 abbrev spelled_fields : Encoding → Bool → List ℕ

@@ -37,14 +37,9 @@ use Rattle.linemap_emit_units.specs.EmittedUnits.{IsWritten, unit_for, units_for
 use Rattle.linemap_emit_units.proofs.UnitsRead.{units_again}
 use Rattle.linemap_emit_units.specs.LookupAgreement.{lookup_range, TableAgrees}
 use Rattle.linemap_emit_laws.specs.RecordedTables.{RecordsUnit, RecordsUnits, RecordsTable}
+use Rattle.linemap_emit_calls_laws.proofs.EntryFacts.{all_there}
 use Rattle.linemap_emit_laws.proofs.RecordedUnitFacts.{root_attributes, facts_recorded, root_again, root_offset, facts_again}
 use Rattle.linemap_emit_units.specs.BytesAt.{bytes_at}
-
--- all of some ranges, none of which is refused
-all_there : (rs : List RangePart) → each (λ (r : Result Range Error). r) (map (λ r. Ok (lookup_range r)) rs)
-    ≡ Ok (map lookup_range rs)
-all_there [] = refl
-all_there (r ∷ rs) = ap (λ q. and_then q (λ ys. Ok (lookup_range r ∷ ys))) (all_there rs)
 
 -- ranges that aren't none come before others
 first_ranges : (rs : List RangePart) (others : List Range) → (length rs == 0) ≡ false

@@ -10,7 +10,6 @@ use Rattle.gimli_lines_write_bytes.specs.Encoding.{Encoding}
 use Rattle.gimli_lines_write_bytes.specs.Format.{Format}
 use Rattle.gimli_lines_write_bytes.specs.Format.TheVariants.{Dwarf32, Dwarf64}
 use Rattle.gimli_lines_write_bytes.specs.FormatSizes.{word_size}
-use Rattle.gimli_lines_write_bytes.proofs.PrefixReads.{part_again}
 use Rattle.gimli_lines_write_bytes.specs.NumberParsers.{is_address_size, address_size, word}
 use Rattle.gimli_lines_write_bytes.specs.Fixed.{number_bytes}
 use Rattle.gimli_lines_write_bytes.proofs.NumberRoundTrip.{length-spelled}
@@ -25,13 +24,13 @@ use Rattle.gimli_lines_header.specs.UnitHeaders.{DebugUnit, HeaderFields, unit, 
 use Rattle.linemap_emit_parts.specs.declared.entries.Entry.{Entry}
 use Rattle.linemap_emit_parts.specs.EmittedEntryRows.{spelled_entries}
 use Rattle.linemap_emit_parts.specs.EmittedUnits.{IsWritten, spelled_fields, spelled_unit_body, spelled_unit, spelled_units, unit_for, units_for, IsSmall, AllSmall}
-use Rattle.gimli_lines_write_bytes.proofs.FollowedReads.{Again, again_onward, again_then, again_same, again_fixed, one_byte, word_again, length_again}
+use Rattle.gimli_lines_write_bytes.proofs.FollowedReads.{Again, again_onward, again_then, again_same, again_fixed, one_byte, part_is, word_again, length_again}
 use Rattle.gimli_lines_write_bytes.specs.NumberBytes.{length_limit, spelled_length}
 use Rattle.gimli_lines_write_bytes.specs.BytesAt.{bytes_at}
 
 -- ---- numbers
 
-size_again : (is_big : Bool) (first n : ℕ) → is_address_size n ≡ true → n < 256
+pub size_again : (is_big : Bool) (first n : ℕ) → is_address_size n ≡ true → n < 256
     → Again is_big first address_size n (n ∷ [])
 unfolding address_size
 size_again is_big first n is_size small = again_then _ (one_byte is_big first n small) (λ v. rw is_size refl)
@@ -175,12 +174,6 @@ within_again limit offset e is_big first xs some w =
       entries = entries;
     })))
     ((fields_again limit e is_big first some w).again (spelled_entries e is_big xs))
-
--- the part of a length
-part_is : (is_big : Bool) (first : ℕ) (xs : List ℕ)
-    → Again is_big first (part (length xs)) (bytes_at is_big first xs) xs
-part_is is_big first xs =
-    record { again = λ rest. part_again (bytes_at is_big first (xs ++ rest)) xs rest (length xs) refl refl }
 
 pub unit_again : (limit offset : ℕ) (e : Encoding) (is_big : Bool) (first : ℕ) (xs : List Entry) → IsWritten e
     → length (spelled_unit_body e is_big xs) < length_limit e.format → length (spelled_unit_body e is_big xs) < limit

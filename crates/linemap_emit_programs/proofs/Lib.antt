@@ -23,5 +23,5 @@ pub mod PlacedFiles
 pub mod EmittedFileTexts
 pub mod UnitProgramsRead
 mod WrittenPrograms
-mod AddedFiles
+pub mod AddedFiles
 mod WholeSequences

@@ -9,7 +9,8 @@ use Rattle.std.proofs.Math.ListN.{get_or-append}
 use Rattle.std.proofs.Math.Seq.{get_or-append_seam}
 use Rattle.gimli_lines_write_tables.specs.StringSections.{with_item, item_index}
 use Rattle.gimli_lines_write_tables.specs.FileTables.{Text, in_header, of_strings, of_line_strings, File, is_same, is_same_file}
-use Rattle.gimli_lines_write_tables.proofs.Keys.{with_new, with_old, index_of_none}
+use Rattle.gimli_lines_write_tables.proofs.Keys.{with_new, with_old}
+use Rattle.gimli_lines_write_tables.proofs.TextTableLemmas.{index-none}
 
 -- ---- lists
 
@@ -91,7 +92,7 @@ module _ {A : Type 0} (same : A → A → Bool) (equal : (x y : A) → same x y 
       by true e = ap (λ (l : List A). slice_get l (item_index same items x)) (with_old same items x e)
           ∙ found x items e
       by false e = ap (λ (l : List A). slice_get l (item_index same items x)) (with_new same items x e)
-          ∙ ap (slice_get (items ++ x ∷ [])) (index_of_none (same x) items e) ∙ get_end items x
+          ∙ ap (slice_get (items ++ x ∷ [])) (index-none (same x) items e) ∙ get_end items x
 
 -- ---- texts and files
 

@@ -1,11 +1,11 @@
 -- Calls, one level at a time.
-use Rattle.std.proofs.Math.Seq.{drop-cons}
-use Rattle.std.proofs.Common.{◌≡◌, ℕ, suc, ◌+◌, ◌<◌, drop, get_or, Bool, true, false, not, eqb, List, [], ◌∷◌, length, slice_get, Some, ap, refl, sym, ◌∙◌, arith}
+use Rattle.std.proofs.Common.{◌≡◌, ℕ, ◌+◌, drop, Bool, true, false, not, eqb, List, [], ◌∷◌, length, slice_get, Some, ap, refl, sym, ◌∙◌, arith}
 use Rattle.std.proofs.lemmas.Bool.{ne_eqb}
 use Rattle.std.proofs.lemmas.Option.{slice_get_within, get_or_from_slice_get}
 use Rattle.linemap_emit_programs.specs.TableViews.{call_part, calls_part}
 use Rattle.linemap_emit_programs.specs.TableCall.{TableCall}
 use Rattle.linemap_emit_programs.specs.TableCall.TheViews.{out-TableCall}
+use Rattle.linemap_emit_programs.proofs.AddedFiles.{first_left}
 use Rattle.linemap_emit_programs.proofs.TableViewLemmas.{inner-out}
 use Rattle.linemap_emit_programs.specs.TableParts.{Calls, no_calls, more_calls, FunctionPart}
 use Rattle.linemap_emit_units.specs.InlinedNames.{call_names, with_texts, NamesAre, FunctionNamesAre, IsAmong}
@@ -13,13 +13,6 @@ use Rattle.linemap_emit_units.proofs.InlinedNameLemmas.{with_texts-append}
 use Rattle.gimli_lines_write_tables.specs.StringSections.{IsText, with_text}
 use Rattle.linemap_emit_programs.specs.Entry.TheVariants.{AbstractFunction}
 use Rattle.linemap_emit_units.specs.UnitEmission.{EmittedUnit, text_offset, with_name, with_entry, with_abstract_functions, has_calls, with_end_of_children, with_call, with_calls, with_function_entry, with_function, with_functions, CanEmitCalls, CanEmitFunctions}
-
--- an element before those after it
-pub from_here : {X : Type 0} (xs : List X) (i : ℕ) (x : X) → i < length xs → x ≡ get_or xs i x
-    → drop i xs ≡ (x ∷ drop (i + 1) xs)
-from_here xs i x inside is =
-    let next : suc i ≡ i + 1 = omega arith in
-    drop-cons xs i x inside ∙ ap (λ y. y ∷ drop (suc i) xs) (sym is) ∙ ap (λ n. x ∷ drop n xs) next
 
 -- there are some
 pub some_calls : (cs : List TableCall) → has_calls (calls_part cs) ≡ not (eqb (length cs) 0)
@@ -29,10 +22,6 @@ some_calls (c ∷ cs) = sym (ap not (ne_eqb (length (c ∷ cs)) 0 (omega arith))
 -- some in a call
 pub some_in : (c : TableCall) → has_calls (call_part c).inner ≡ not (eqb (length (out-TableCall c).calls.items) 0)
 some_in c = ap has_calls (inner-out c) ∙ some_calls (out-TableCall c).calls.items
-
--- what is in a call
-pub inner_is : (c : TableCall) → (call_part c).inner ≡ calls_part (out-TableCall c).calls.items
-inner_is c = inner-out c
 
 -- ---- what stays
 
@@ -64,7 +53,7 @@ pub abstract_emitted : (names : List (List ℕ)) (i : ℕ) (name : List ℕ) (of
     → with_abstract_functions (drop (i + 1) names) st2 ≡ final
 abstract_emitted names i name offset st st1 st2 final there place named entered whole =
     let here =
-    from_here names i name (slice_get_within names i name there) (sym
+    first_left names i name (slice_get_within names i name there) (sym
     (get_or_from_slice_get names i name name there)) in
     ap (with_abstract_functions (drop (i + 1) names))
     (entered ∙ ap (λ (o : ℕ). with_entry (AbstractFunction o) st1) place
@@ -90,7 +79,7 @@ call_emitted size files number names c rest st st1 st2 st3 final children some h
     let after : st3 ≡ with_end_of_children (has_calls (call_part c).inner)
     (with_calls number names (call_part c).inner called) =
     end ∙ ap (with_end_of_children children)
-    (inner ∙ ap (λ cs. with_calls number names cs st1) (sym (inner_is c))
+    (inner ∙ ap (λ cs. with_calls number names cs st1) (sym (inner-out c))
     ∙ ap (with_calls number names (call_part c).inner) head)
     ∙ ap (λ b. with_end_of_children b (with_calls number names (call_part c).inner
     (with_call number names b (call_part c).site st))) some in
@@ -112,7 +101,8 @@ call_named c rest texts texts1 texts2 final first inner all whole =
     let within = call_names (call_part c).inner in
     let later = call_names (calls_part rest) in
     let after : texts2 ≡ with_texts (with_text texts (call_part c).site.name) within =
-    inner ∙ ap (λ cs. with_texts texts1 (call_names cs)) (sym (inner_is c)) ∙ ap (λ ts. with_texts ts within) first in (
+    inner ∙ ap (λ cs. with_texts texts1 (call_names cs)) (sym (inner-out c))
+    ∙ ap (λ ts. with_texts ts within) first in (
       all.2,
       ap (λ ts. with_texts ts later) after
           ∙ sym (with_texts-append (with_text texts (call_part c).site.name) within later) ∙ whole,

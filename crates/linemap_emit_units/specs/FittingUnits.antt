@@ -1,5 +1,5 @@
 -- Units that can be emitted: what is written of each fits.
-use Rattle.std.specs.Prelude.{◌≡◌, ℕ, ◌+◌, ◌≤◌, ◌<◌, ◌^◌, Bool, true, List, [], ◌∷◌, All, length, Ok}
+use Rattle.std.specs.Prelude.{◌≡◌, ℕ, ◌+◌, ◌<◌, ◌^◌, Bool, true, List, [], ◌∷◌, All, length, Ok}
 use Rattle.std.specs.Str.{IsUtf8}
 use Rattle.gimli_lines_write_tables.specs.Encoding.{Encoding}
 use Rattle.linemap_emit_programs.specs.Conditions.{IsSound}

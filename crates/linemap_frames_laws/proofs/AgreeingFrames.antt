@@ -24,8 +24,8 @@ use Rattle.linemap_frames_laws.proofs.AgreeingChains.{chains_meet}
 
 -- ---- lists side by side
 
-one-append : {A B : Type 0} (R : A → B → Type 0) (xs zs : List A) (ys ws : List B) → OneByOne R xs ys → OneByOne R zs ws
-    → OneByOne R (xs ++ zs) (ys ++ ws)
+pub one-append : {A B : Type 0} (R : A → B → Type 0) (xs zs : List A) (ys ws : List B) → OneByOne R xs ys
+    → OneByOne R zs ws → OneByOne R (xs ++ zs) (ys ++ ws)
 one-append R [] zs [] ws h k = k
 one-append R [] zs (y ∷ ys) ws h k = absurd h
 one-append R (x ∷ xs) zs [] ws h k = absurd h

@@ -30,7 +30,7 @@ fn is_memory(error: Error) -> bool
 }
 
 impl AnswerBuffer {
-    // Buffers without room.
+    /// Buffers without room.
     pub fn new(alloc: Global) -> AnswerBuffer {
         AnswerBuffer {
             text: String::new(alloc),
@@ -39,7 +39,7 @@ impl AnswerBuffer {
         }
     }
 
-    // Forgets what was printed, and keeps its room.
+    /// Forgets what was printed, and keeps its room.
     pub fn clear(&mut self)
         ensures text { string_bytes self.new.text ≡ [] }
         ensures errors { string_bytes self.new.errors ≡ [] }
@@ -50,7 +50,7 @@ impl AnswerBuffer {
         self.is_memory_refused = false;
     }
 
-    // Appends the error line of a refusal for an address.
+    /// Appends the error line of a refusal for an address.
     pub fn push_refusal(
         &mut self,
         message: &str,

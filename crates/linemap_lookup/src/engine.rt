@@ -54,7 +54,7 @@ fn push_end(text: &mut String, options: &Options) -> Result<(), AllocError>
 }
 
 impl Engine {
-    // A loaded file, with buffers without room.
+    /// A loaded file, with buffers without room.
     pub fn new(alloc: Global, loader: Loader) -> Engine
         ensures { result.loader ≡ loader }
     {
@@ -140,7 +140,7 @@ impl Engine {
         }
     }
 
-    // Puts the answer of an address into the buffers.
+    /// Puts the answer of an address into the buffers.
     pub fn answer<S: SplitSource>(
         &mut self,
         options: &Options,

@@ -95,7 +95,7 @@ fn without_end(line: &[u8]) -> &[u8]
 }
 
 impl LineBuffer {
-    // A buffer without room.
+    /// A buffer without room.
     pub fn new(alloc: Global) -> LineBuffer
         ensures start { result.is_at_end ≡ false }
         ensures failed { result.has_failed ≡ false }
@@ -195,8 +195,8 @@ impl LineBuffer {
         }
     }
 
-    // The address in the next line, if it can be read. There is no next one at the end of the
-    // input, after a fault, and where a line is no text.
+    /// The address in the next line, if it can be read. There is no next one at the end of the
+    /// input, after a fault, and where a line is no text.
     pub fn next_address<R: BufRead>(
         &mut self,
         reader: &mut R,

@@ -123,8 +123,8 @@ fn write_answer<O: Write, E: Write>(
 }
 
 impl Engine {
-    // Answers an address, writes its answer, and flushes. Error lines go to the error stream,
-    // whose faults are only recorded.
+    /// Answers an address, writes its answer, and flushes. Error lines go to the error stream,
+    /// whose faults are only recorded.
     pub fn write<S: SplitSource, O: Write, E: Write>(
         &mut self,
         question: Question<'_>,
@@ -152,7 +152,7 @@ impl Engine {
         }
     }
 
-    // Answers the addresses of items, one after the other, as `write` does.
+    /// Answers the addresses of items, one after the other, as `write` does.
     pub fn write_addresses<T: ToAddress, S: SplitSource, O: Write, E: Write>(
         &mut self,
         question: Question<'_>,

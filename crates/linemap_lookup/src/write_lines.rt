@@ -35,8 +35,8 @@ fn next_address<R: BufRead, E: Write>(
 }
 
 impl Engine {
-    // Answers the addresses in lines, one after the other, as `write` does: each as soon as its
-    // line is read.
+    /// Answers the addresses in lines, one after the other, as `write` does: each as soon as its
+    /// line is read.
     pub fn write_lines<S: SplitSource, R: BufRead, O: Write, E: Write>(
         &mut self,
         question: Question<'_>,

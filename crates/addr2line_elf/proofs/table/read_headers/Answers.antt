@@ -1,12 +1,12 @@
 use Rattle.std.proofs.Common.{arith}
 use Rattle.gimli_core_readers.proofs.RefusedCalls.{returns_refused}
 use Rattle.addr2line_elf.specs.ElfHeaders.{section_header}
-use Rattle.addr2line_elf.proofs.CountedReads.{counted_push, counted_fault, counted_end}
+use Rattle.gimli_core_readers.proofs.Times.{count_push, count_fault, count_end}
 use Rattle.addr2line_elf.proofs.table.read_headers.Goals as goal
 
 pub loop-index-preserved : goal.loop-index-preserved
 loop-index-preserved c =
-    counted_push
+    count_push
     (section_header c.args.class) c.args.count c.loop-index._index c.loop-index.headers.items _
     c.in_ok-parse.field-0 _ _ _
     (omega arith) c.in_ok-parse.ensures c.in_ok-push.ensures.items c.loop-index.invariant
@@ -14,10 +14,10 @@ loop-index-preserved c =
 pub returns-in_err-parse : goal.returns-in_err-parse
 returns-in_err-parse c =
     returns_refused _ c.from_residual.result _ _ c.from_residual.ensures.1
-    (λ _. counted_fault (section_header c.args.class) c.args.count c.loop-index._index c.loop-index.headers.items _ _ _
+    (λ _. count_fault (section_header c.args.class) c.args.count c.loop-index._index c.loop-index.headers.items _ _ _
     (omega arith) c.in_err-parse.ensures c.loop-index.invariant)
 
 pub returns : goal.returns
 returns c =
-    counted_end (section_header c.args.class) c.args.count c.loop-index._index c.loop-index.headers.items _ _
+    count_end (section_header c.args.class) c.args.count c.loop-index._index c.loop-index.headers.items _ _
     (omega arith) c.loop-index.invariant

@@ -1,7 +1,7 @@
 use Rattle.std.proofs.Common.{arith}
 use Rattle.gimli_units_headers.proofs.RefusedCalls.{returns_refused}
 use Rattle.gimli_lines_header.specs.TableEntries.{entry_format}
-use Rattle.gimli_lines_header.proofs.TableLoops.{count_push, count_fault, count_end}
+use Rattle.gimli_units_headers.proofs.Times.{count_push, count_fault, count_end}
 use Rattle.gimli_lines_header.proofs.formats.parse_counted.Goals as goal
 
 pub loop-field-preserved : goal.loop-field-preserved

@@ -2,7 +2,8 @@ use Rattle.std.proofs.Common.{arith}
 use Rattle.gimli_units_headers.proofs.RefusedCalls.{returns_refused}
 use Rattle.gimli_units_forms.specs.AttributeValues.{raw_value_of}
 use Rattle.gimli_lines_header.specs.TableEntries.{directory_entry}
-use Rattle.gimli_lines_header.proofs.TableLoops.{count_view, count_fault, count_end}
+use Rattle.gimli_units_headers.proofs.Times.{count_fault, count_end}
+use Rattle.gimli_lines_header.proofs.TableLoops.{count_view}
 use Rattle.gimli_lines_header.proofs.tables.parse_counted_directories.Goals as goal
 
 pub loop-directory-preserved : goal.loop-directory-preserved

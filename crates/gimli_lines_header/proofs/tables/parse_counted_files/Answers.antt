@@ -1,7 +1,8 @@
 use Rattle.std.proofs.Common.{arith}
 use Rattle.gimli_units_headers.proofs.RefusedCalls.{returns_refused}
 use Rattle.gimli_lines_header.specs.TableEntries.{file_entry}
-use Rattle.gimli_lines_header.proofs.TableLoops.{count_start, count_push, count_fault, count_end}
+use Rattle.gimli_units_headers.proofs.Times.{count_push, count_fault, count_end}
+use Rattle.gimli_lines_header.proofs.TableLoops.{count_start}
 use Rattle.gimli_lines_header.proofs.tables.parse_counted_files.Goals as goal
 
 pub loop-file-init : goal.loop-file-init

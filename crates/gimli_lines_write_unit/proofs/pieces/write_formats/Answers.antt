@@ -1,5 +1,6 @@
 use Rattle.std.proofs.Common.{◌+◌, drop}
-use Rattle.gimli_lines_write_unit.proofs.WrittenLists.{format_done, next_drop}
+use Rattle.gimli_lines_write_tables.proofs.JoinedWrites.{next_drop}
+use Rattle.gimli_lines_write_unit.proofs.WrittenLists.{format_done}
 use Rattle.gimli_lines_write_unit.proofs.pieces.write_formats.Goals as goal
 
 pub loop-format-preserved : goal.loop-format-preserved

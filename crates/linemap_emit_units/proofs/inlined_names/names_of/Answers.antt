@@ -2,7 +2,7 @@ use Rattle.std.proofs.Common.{drop, map, ap, subst, sym, ◌+◌, ◌∙◌}
 use Rattle.gimli_lines_write_tables.specs.StringSections.{IsText}
 use Rattle.linemap_emit_programs.specs.TableViews.{calls_part, function_part}
 use Rattle.linemap_emit_units.specs.InlinedNames.{call_names, called_names, with_texts, NamesAre, FunctionNamesAre}
-use Rattle.linemap_emit_units.proofs.EmittedCallLemmas.{from_here}
+use Rattle.linemap_emit_programs.proofs.AddedFiles.{first_left}
 use Rattle.linemap_emit_units.proofs.InlinedNameLemmas.{with_texts-append}
 use Rattle.linemap_emit_units.proofs.inlined_names.names_of.Goals as goal
 
@@ -10,7 +10,7 @@ pub add_names-requires : goal.add_names-requires
 add_names-requires c =
     let fs = c.args.functions.now in
     let function = c.function-item.result in
-    let here = from_here fs c.loop-function.function-index function c.loop-function-test.true c.function-item.is in
+    let here = first_left fs c.loop-function.function-index function c.loop-function-test.true c.function-item.is in
     subst (λ l. NamesAre IsText (calls_part l)) (sym c.deref.ensures.value)
     (subst (λ l. FunctionNamesAre IsText (map function_part l)) here c.loop-function.invariant.0).0
 
@@ -19,7 +19,7 @@ loop-function-preserved c =
     let fs = c.args.functions.now in
     let function = c.function-item.result in
     let rest = drop (c.loop-function.function-index + 1) fs in
-    let here = from_here fs c.loop-function.function-index function c.loop-function-test.true c.function-item.is in
+    let here = first_left fs c.loop-function.function-index function c.loop-function-test.true c.function-item.is in
     let own = call_names (calls_part function.calls.items) in
     let later = called_names (map function_part rest) in
     let so_far = c.loop-function.invariant in (

@@ -5,7 +5,8 @@ use Rattle.gimli_lines_write_tables.specs.declared.file.FileInfo.{FileInfo}
 use Rattle.std.proofs.lemmas.Result.{IfOk-weaker}
 use Rattle.gimli_lines_write_tables.specs.FileTables.{ProgramFiles, File, Info, text_of, file_of, info_of, is_same_file, with_file, with_info, no_info}
 use Rattle.gimli_lines_write_tables.specs.StringSections.{item_index}
-use Rattle.gimli_lines_write_tables.proofs.Keys.{equal_is_same_file, any_seen, place_seen, with_new, with_old, position_index, index_of_none}
+use Rattle.gimli_lines_write_tables.proofs.Keys.{equal_is_same_file, any_seen, place_seen, with_new, with_old}
+use Rattle.gimli_lines_write_tables.proofs.TextTableLemmas.{position-index, index-none}
 use Rattle.gimli_lines_write_tables.proofs.file_table.FileTable.add_file.Goals as goal
 
 pub push_file-requires-clause-absent : goal.push_file-requires-clause-absent
@@ -16,7 +17,7 @@ push_file-requires-clause-absent c =
 
 pub returns-in-Some-clause-place : goal.returns-in-Some-clause-place
 returns-in-Some-clause-place c =
-    rw (← c.self.view_is) (position_index _ c.self.inside.files.keys c.in-Some.place (sym c.get_index_of.ensures.index
+    rw (← c.self.view_is) (position-index _ c.self.inside.files.keys c.in-Some.place (sym c.get_index_of.ensures.index
     ∙ c.in-Some.is)
     ∙ place_seen _ file_of is_same_file equal_is_same_file (record { path = c.args.path; directory = c.args.directory })
     c.self.inside.files.keys)
@@ -64,7 +65,7 @@ returns-in-Some-clause-ok c =
     (rw (← c.self.view_is) (sym (any_seen _ file_of is_same_file equal_is_same_file
     (record { path = c.args.path; directory = c.args.directory }) c.self.inside.files.keys)
     ∙ sym c.get_index_of.ensures.found ∙ ap is_some c.in-Some.is))
-    (rw (← c.self.view_is) (position_index _ c.self.inside.files.keys c.in-Some.place (sym c.get_index_of.ensures.index
+    (rw (← c.self.view_is) (position-index _ c.self.inside.files.keys c.in-Some.place (sym c.get_index_of.ensures.index
     ∙ c.in-Some.is)
     ∙ place_seen _ file_of is_same_file equal_is_same_file (record { path = c.args.path; directory = c.args.directory })
     c.self.inside.files.keys))
@@ -72,7 +73,7 @@ returns-in-Some-clause-ok c =
 pub returns-in-None-clause-place : goal.returns-in-None-clause-place
 returns-in-None-clause-place c =
     IfOk-weaker c.push_file.result _ _ (λ x h. h
-    ∙ sym (index_of_none (is_same_file (record { path = text_of c.args.path; directory = c.args.directory.0 }))
+    ∙ sym (index-none (is_same_file (record { path = text_of c.args.path; directory = c.args.directory.0 }))
     c.args.self.now.files
     (rw (← c.self.view_is) (sym (any_seen _ file_of is_same_file equal_is_same_file
     (record { path = c.args.path; directory = c.args.directory }) c.self.inside.files.keys)

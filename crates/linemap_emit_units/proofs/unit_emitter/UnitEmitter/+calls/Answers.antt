@@ -4,7 +4,8 @@ use Rattle.linemap_emit_programs.specs.TableViews.{call_part, calls_part}
 use Rattle.linemap_emit_programs.specs.TableCall.TheViews.{out-TableCall}
 use Rattle.linemap_emit_units.specs.InlinedNames.{NamesAre, IsAmong}
 use Rattle.linemap_emit_units.specs.UnitEmission.{with_call, with_calls, CanEmitCalls}
-use Rattle.linemap_emit_units.proofs.EmittedCallLemmas.{call_emitted, some_in, from_here}
+use Rattle.linemap_emit_programs.proofs.AddedFiles.{first_left}
+use Rattle.linemap_emit_units.proofs.EmittedCallLemmas.{call_emitted, some_in}
 use Rattle.linemap_emit_units.proofs.unit_emitter.UnitEmitter.+calls.Goals as goal
 
 pub loop-call-preserved : goal.loop-call-preserved
@@ -15,7 +16,7 @@ loop-call-preserved n c =
     let number = file_number c.args.version c.args.files.now in
     let call = c.call-item.result in
     let rest = drop (c.loop-call.call-index + 1) cs in
-    let here = from_here cs c.loop-call.call-index call c.loop-call-test.true c.call-item.is in
+    let here = first_left cs c.loop-call.call-index call c.loop-call-test.true c.call-item.is in
     let so_far = c.loop-call.invariant in
     let after_call = c.in_ok-call.ensures.same ∙ so_far.0 in
     let step =

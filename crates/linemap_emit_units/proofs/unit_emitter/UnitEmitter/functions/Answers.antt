@@ -3,14 +3,15 @@ use Rattle.linemap_emit_programs.specs.EmittedFiles.{file_number}
 use Rattle.linemap_emit_programs.specs.TableViews.{calls_part, function_part}
 use Rattle.linemap_emit_units.specs.InlinedNames.{NamesAre, FunctionNamesAre, IsAmong}
 use Rattle.linemap_emit_units.specs.UnitEmission.{with_calls, with_functions, CanEmitFunctions}
-use Rattle.linemap_emit_units.proofs.EmittedCallLemmas.{function_emitted, some_calls, from_here}
+use Rattle.linemap_emit_programs.proofs.AddedFiles.{first_left}
+use Rattle.linemap_emit_units.proofs.EmittedCallLemmas.{function_emitted, some_calls}
 use Rattle.linemap_emit_units.proofs.unit_emitter.UnitEmitter.functions.Goals as goal
 
 pub calls-requires-clause-among : goal.calls-requires-clause-among
 calls-requires-clause-among c =
     let fs = c.args.functions.now in
     let function = c.function-item.result in
-    let here = from_here fs c.loop-function.function-index function c.loop-function-test.true c.function-item.is in
+    let here = first_left fs c.loop-function.function-index function c.loop-function-test.true c.function-item.is in
     let so_far = c.loop-function.invariant in
     subst (λ names. NamesAre (IsAmong names) (calls_part c.deref.result.now)) (sym so_far.0)
     (subst (λ l. NamesAre (IsAmong c.args.names.now) (calls_part l)) (sym c.deref.ensures.value)
@@ -24,7 +25,7 @@ loop-function-preserved c =
     let number = file_number c.args.version c.args.files.now in
     let function = c.function-item.result in
     let rest = drop (c.loop-function.function-index + 1) fs in
-    let here = from_here fs c.loop-function.function-index function c.loop-function-test.true c.function-item.is in
+    let here = first_left fs c.loop-function.function-index function c.loop-function-test.true c.function-item.is in
     let so_far = c.loop-function.invariant in
     let step =
     function_emitted c.args.self.now.encoding.address_size count number names (function_part function)
