@@ -1,5 +1,5 @@
 -- What a cache takes of a table that was read, or refused.
-use Rattle.std.proofs.Common.{◌≡◌, ◌∙◌, refl, ap, sym, ℕ, Bool, true, false, cond, ◌||◌, eqb, List, [], ◌∷◌, ◌++◌, Option, Some, None, option_map, is_some, Result, Err}
+use Rattle.std.proofs.Common.{◌≡◌, ◌∙◌, refl, ap, sym, ℕ, Bool, true, false, cond, ◌||◌, eqb, List, [], ◌∷◌, ◌++◌, Option, Some, None, option_map, is_some, Result}
 use Rattle.std.specs.Ordering.{nat_cmp}
 use Rattle.std.specs.BTreeMap.{is_at}
 use Rattle.std.proofs.Math.Bool.{or-false}
@@ -12,9 +12,6 @@ use Rattle.gimli_core_abbrev.specs.Declarations.{Declaration}
 use Rattle.gimli_core_abbrev.specs.TableCache.{table_view}
 use Rattle.gimli_core_abbrev.proofs.RepeatedOffsets.{among, among-push, same_among}
 use Rattle.gimli_core_abbrev.proofs.DeclarationPlaces.{place_test}
-
-abbrev refusal : Error → Result (List Declaration) Error
-refusal e = Err e
 
 -- ---- the tables at the offsets of a list
 

@@ -197,7 +197,7 @@ fn fault(alloc: Global, file: DebugFile, entry: (usize, usize)) -> Option<Error>
     }
 }
 
-// Linkage names come first; references are followed where no name stands before, sixteen of them
+// Linkage names come first; references are followed where no name comes before, sixteen of them
 // at most, and circles have no name.
 #[test]
 fn names_of_entries(rt: HostRuntime) -> Result<(), Fail> {

@@ -52,7 +52,7 @@ fn files_in_memory(rt: HostRuntime) -> Result<(), Fail> {
     Ok(())
 }
 
-// An absolute name stands alone. Nothing but a regular file is read: no directory, no device.
+// An absolute name is taken alone. Nothing but a regular file is read: no directory, no device.
 #[test]
 fn files_of_the_file_system(rt: HostRuntime) {
     let mut source = FileSource::new(&rt);
