@@ -56,7 +56,7 @@ same_refusal_of_each f g same (x ∷ xs) =
 
 -- ---- ranges
 
-abbrev with_texts : List Sequence → Option Error → Result (List (List ℕ)) Error → Result Lines Error
+abbrev pub with_texts : List Sequence → Option Error → Result (List (List ℕ)) Error → Result Lines Error
 with_texts sequences fault texts =
     unless fault (and_then texts (λ files. Ok (record { sequences = sequences; files = files })))
 
@@ -81,7 +81,7 @@ same_string file b c format base (string_offsets_index i) =
 same_string file b c format base _ = refl
 
 -- the directory of a file isn't the unit's
-not_the_units : {A : Type 0} (is_0 is_4 : Bool) (zeroth other : Option A) (from_1 from_0 : Option A)
+pub not_the_units : {A : Type 0} (is_0 is_4 : Bool) (zeroth other : Option A) (from_1 from_0 : Option A)
     → (if is_0 then None else (if is_4 then (if is_0 then zeroth else from_1) else from_0))
     ≡ (if is_0 then None else (if is_4 then (if is_0 then other else from_1) else from_0))
 not_the_units true is_4 zeroth other from_1 from_0 = refl
@@ -96,10 +96,10 @@ module _ (file : DwarfFile) (a b : UnitFacts) (format : a.bases.encoding.format 
   abbrev w : UnitInFile
   w = in_file file b
 
-  same_text : (v : RawValue) → text_bytes u v ≡ text_bytes w v
+  pub same_text : (v : RawValue) → text_bytes u v ≡ text_bytes w v
   same_text v = ap (λ r. and_then r (λ text. Ok (bytes_of text))) (same_string file a.bases b.bases format base v)
 
-  same_text_if_any : (o : Option RawValue) → text_bytes_if_any u o ≡ text_bytes_if_any w o
+  pub same_text_if_any : (o : Option RawValue) → text_bytes_if_any u o ≡ text_bytes_if_any w o
   same_text_if_any None = refl
   same_text_if_any (Some v) = ap (λ r. some_of r) (same_text v)
 
@@ -155,7 +155,7 @@ module _ (file : DwarfFile) (a b : UnitFacts) (format : a.bases.encoding.format 
         (fault_of_program file.offset_limit h) (texts_of_files u (with_unit offset l defined))
         (texts_of_files w (with_unit offset m defined)) (same_texts defined)
 
-abbrev some_key : ProgramKey → Option ProgramKey
+abbrev pub some_key : ProgramKey → Option ProgramKey
 some_key key = Some key
 
 -- units of a file whose programs depend on the same have the same ranges of their lines

@@ -7,6 +7,7 @@ use Rattle.gimli_lines_rows.specs.HeaderParsing.{header_at}
 use Rattle.gimli_dwarf.specs.DwarfFiles.{DwarfFile}
 use Rattle.gimli_dwarf.specs.Roots.{line_unit}
 use Rattle.gimli_dwarf.specs.UnitFacts.{UnitFacts, UnitInFile, in_file}
+use Rattle.addr2line_index.specs.FileTexts.{bytes_of}
 use Rattle.addr2line_index.specs.UnitLines.{lines_of_unit}
 use Rattle.addr2line_index.specs.UnitRanges.{ranges_of_lines}
 use Rattle.addr2line_units.specs.declared.last_program.ProgramKey.{ProgramKey}
@@ -37,6 +38,13 @@ IsInFile u h =
 -- so is that of a unit, if it has one
 abbrev pub HasHeaderInFile : UnitInFile → Type 0
 HasHeaderInFile u = IfSome u.facts.line_header (IsInFile u)
+
+-- What lines depend on beside that: a unit's directory, with which the texts of its files begin,
+-- and its name, the text of file 0 up to version 4. Two units have the same bytes of each, or none.
+abbrev pub HaveSameTexts : UnitFacts → UnitFacts → Type 0
+HaveSameTexts a b =
+    (option_map bytes_of a.comp_dir ≡ option_map bytes_of b.comp_dir)
+    × (option_map bytes_of a.name ≡ option_map bytes_of b.name)
 
 -- ---- the last program
 
