@@ -1,14 +1,12 @@
 -- The lines of a program are the same for all units of a file that name it under the same circumstances, and whose
 -- directories and names have the same bytes.
-use Rattle.std.proofs.Common.{◌≡◌, ℕ, Bool, true, false, List, [], ◌∷◌, map, Option, Some, None, option_map, Result, Ok, refl, sym, ap, ap₂, subst, ◌∙◌}
-use Rattle.std.specs.Prelude.{IfSome, ◌==◌, ◌-◌, nat_le, slice_get, if◌then◌else◌}
+use Rattle.std.proofs.Common.{◌≡◌, ℕ, Bool, true, false, List, [], ◌∷◌, map, Option, Some, None, option_map, Result, Ok, refl, sym, ap, ap₂, ◌∙◌}
+use Rattle.std.specs.Prelude.{nat_le, slice_get, if◌then◌else◌}
 use Rattle.gimli_lines_rows.specs.Error.{Error}
 use Rattle.gimli_lines_rows.specs.View.{View}
 use Rattle.gimli_lines_rows.specs.Results.{and_then, each}
-use Rattle.gimli_lines_rows.specs.AttributeValues.{string}
 use Rattle.gimli_lines_rows.specs.LineFiles.{FileFacts, file_named}
-use Rattle.gimli_lines_rows.specs.LineHeaders.{LineHeader, file_at}
-use Rattle.gimli_lines_rows.specs.HeaderParsing.{header_at}
+use Rattle.gimli_lines_rows.specs.LineHeaders.{LineHeader}
 use Rattle.gimli_lines_rows.specs.Runs.{shown_rows}
 use Rattle.gimli_dwarf.specs.DwarfFiles.{DwarfFile}
 use Rattle.gimli_dwarf.specs.Roots.{line_unit}
@@ -18,9 +16,9 @@ use Rattle.addr2line_index.specs.Lines.{Lines, sequences_of_rows}
 use Rattle.addr2line_index.specs.FileTexts.{bytes_of, text_bytes, text_bytes_if_any, directory_of, text_of_file, text_of_file_0, files_from_1, texts_of_files}
 use Rattle.addr2line_index.specs.UnitLines.{program_row, run_of_program, fault_of_program, with_defined_files, lines_of_program, lines_if_any, lines_of_unit}
 use Rattle.addr2line_units.specs.declared.last_program.ProgramKey.{ProgramKey}
-use Rattle.addr2line_units.specs.LastPrograms.{key_of_header, program_key, IsInFile, HasHeaderInFile, HaveSameTexts}
-use Rattle.addr2line_units.proofs.HeaderUnits.{with_unit, found, header_with_unit}
-use Rattle.addr2line_units.proofs.SharedPrograms.{not_the_units, same_text, same_text_if_any, with_texts, some_key}
+use Rattle.addr2line_units.specs.LastPrograms.{program_key, HasHeaderInFile, HaveSameTexts}
+use Rattle.addr2line_units.proofs.HeaderUnits.{with_unit}
+use Rattle.addr2line_units.proofs.SharedPrograms.{with_texts, same_text, same_directory, some_key, same_of_units}
 
 -- ---- texts
 
@@ -69,18 +67,11 @@ module _ (file : DwarfFile) (a b : UnitFacts) (format : a.bases.encoding.format 
   abbrev of_b : LineHeader → LineHeader
   of_b h = with_unit offset (line_unit b) h
 
-  same_directory : (h : LineHeader) (f : FileFacts) → directory_of (of_a h) f ≡ directory_of (of_b h) f
-  same_directory h f =
-      not_the_units (f.directory_index == 0) (nat_le h.encoding.version 4) (option_map string a.comp_dir)
-      (option_map string b.comp_dir) (slice_get h.directories (f.directory_index - 1))
-      (slice_get h.directories f.directory_index)
-
   same_file : (h : LineHeader) (f : FileFacts) → text_of_file u (of_a h) f ≡ text_of_file w (of_b h) f
   same_file h f =
       ap (λ (d : Option Text). text_by d (text_bytes_if_any u (directory_of (of_a h) f)) (text_bytes u f.path)) texts.0
       ∙ ap₂ (text_by (option_map bytes_of b.comp_dir))
-      (same_text_if_any file a b format base (directory_of (of_a h) f)
-      ∙ ap (text_bytes_if_any w) (same_directory h f))
+      (same_directory file a b format base offset (line_unit a) (line_unit b) h f)
       (same_text file a b format base f.path)
 
   same_file_0 : (h : LineHeader) (is_4 : Bool)
@@ -112,34 +103,9 @@ module _ (file : DwarfFile) (a b : UnitFacts) (format : a.bases.encoding.format 
 pub same_lines : (file : DwarfFile) (a b : UnitFacts) (key : ProgramKey) → HasHeaderInFile (in_file file a)
     → HasHeaderInFile (in_file file b) → program_key a ≡ some_key key → program_key b ≡ some_key key
     → HaveSameTexts a b → lines_of_unit (in_file file a) ≡ lines_of_unit (in_file file b)
-same_lines file a b key a_in b_in a_key b_key texts = by a.line_header b.line_header a_in b_in a_key b_key
-  where
-    with_headers : (h k : LineHeader) → IsInFile (in_file file a) h → IsInFile (in_file file b) k
-        → key_of_header a h ≡ key_of_header b k
-        → lines_of_program (in_file file a) h ≡ lines_of_program (in_file file b) k
-    with_headers h k h_in k_in same =
-        let limit = file.offset_limit in
-        let section = file.sections.debug_line in
-        let at : k.offset ≡ h.offset = sym (ap (λ (x : ProgramKey). x.offset) same) in
-        let k_at : header_at limit h.offset (line_unit b) section ≡ found k =
-        subst (λ (n : ℕ). header_at limit n (line_unit b) section ≡ found k) at k_in in
-        ap (lines_of_program (in_file file a))
-        (header_with_unit limit h.offset (line_unit a) (line_unit a) refl section h h h_in h_in)
-        ∙ same_lines_of_program file a b (ap (λ (x : ProgramKey). x.format) same)
-        (ap (λ (x : ProgramKey). x.str_offsets_base) same) texts h.offset h
-        ∙ sym (ap (lines_of_program (in_file file b))
-        (header_with_unit limit h.offset (line_unit a) (line_unit b)
-        (sym (ap (λ (x : ProgramKey). x.address_size) same)) section h k h_in k_at))
-
-    by : (o p : Option LineHeader) → IfSome o (IsInFile (in_file file a)) → IfSome p (IsInFile (in_file file b))
-        → option_map (key_of_header a) o ≡ some_key key → option_map (key_of_header b) p ≡ some_key key
-        → lines_if_any (in_file file a) o ≡ lines_if_any (in_file file b) p
-    by None p o_in p_in o_key p_key = absurd cc
-    by (Some h) None o_in p_in o_key p_key = absurd cc
-    by (Some h) (Some k) o_in p_in o_key p_key =
-        let first : key_of_header a h ≡ key = cc in
-        let second : key_of_header b k ≡ key = cc in
-        with_headers h k o_in p_in (first ∙ sym second)
+same_lines file a b key a_in b_in a_key b_key texts =
+    same_of_units file a b (lines_if_any (in_file file a)) (lines_if_any (in_file file b))
+    (λ format base h. same_lines_of_program file a b format base texts h.offset h) key a_in b_in a_key b_key
 
 -- so a unit has the lines of another one
 pub shared_lines : (u : UnitInFile) (other : UnitFacts) (key : ProgramKey) (lines : Result Lines Error)

@@ -81,7 +81,7 @@ same_string file b c format base (string_offsets_index i) =
 same_string file b c format base _ = refl
 
 -- the directory of a file isn't the unit's
-pub not_the_units : {A : Type 0} (is_0 is_4 : Bool) (zeroth other : Option A) (from_1 from_0 : Option A)
+not_the_units : {A : Type 0} (is_0 is_4 : Bool) (zeroth other : Option A) (from_1 from_0 : Option A)
     → (if is_0 then None else (if is_4 then (if is_0 then zeroth else from_1) else from_0))
     ≡ (if is_0 then None else (if is_4 then (if is_0 then other else from_1) else from_0))
 not_the_units true is_4 zeroth other from_1 from_0 = refl
@@ -99,21 +99,26 @@ module _ (file : DwarfFile) (a b : UnitFacts) (format : a.bases.encoding.format 
   pub same_text : (v : RawValue) → text_bytes u v ≡ text_bytes w v
   same_text v = ap (λ r. and_then r (λ text. Ok (bytes_of text))) (same_string file a.bases b.bases format base v)
 
-  pub same_text_if_any : (o : Option RawValue) → text_bytes_if_any u o ≡ text_bytes_if_any w o
+  same_text_if_any : (o : Option RawValue) → text_bytes_if_any u o ≡ text_bytes_if_any w o
   same_text_if_any None = refl
   same_text_if_any (Some v) = ap (λ r. some_of r) (same_text v)
 
   module _ (offset : ℕ) (l m : LineUnit) where
+    pub same_directory : (h : LineHeader) (f : FileFacts)
+        → text_bytes_if_any u (directory_of (with_unit offset l h) f)
+        ≡ text_bytes_if_any w (directory_of (with_unit offset m h) f)
+    same_directory h f =
+        same_text_if_any (directory_of (with_unit offset l h) f)
+        ∙ ap (text_bytes_if_any w) (not_the_units (f.directory_index == 0) (nat_le h.encoding.version 4)
+        (option_map string l.directory) (option_map string m.directory)
+        (slice_get h.directories (f.directory_index - 1)) (slice_get h.directories f.directory_index))
+
     same_file : (h : LineHeader) (f : FileFacts)
         → refusal (text_of_file u (with_unit offset l h) f) ≡ refusal (text_of_file w (with_unit offset m h) f)
     same_file h f =
         same_refusal_of_two (text_bytes_if_any u (directory_of (with_unit offset l h) f))
         (text_bytes_if_any w (directory_of (with_unit offset m h) f)) (text_bytes u f.path) (text_bytes w f.path) _ _
-        (ap refusal (same_text_if_any (directory_of (with_unit offset l h) f)
-        ∙ ap (text_bytes_if_any w) (not_the_units (f.directory_index == 0) (nat_le h.encoding.version 4)
-        (option_map string l.directory) (option_map string m.directory)
-        (slice_get h.directories (f.directory_index - 1)) (slice_get h.directories f.directory_index))))
-        (ap refusal (same_text f.path))
+        (ap refusal (same_directory h f)) (ap refusal (same_text f.path))
 
     -- a unit's name can be read
     name_is_text : (x : UnitInFile) (h : LineHeader) (name : Option View)
@@ -155,41 +160,55 @@ module _ (file : DwarfFile) (a b : UnitFacts) (format : a.bases.encoding.format 
         (fault_of_program file.offset_limit h) (texts_of_files u (with_unit offset l defined))
         (texts_of_files w (with_unit offset m defined)) (same_texts defined)
 
+-- ---- units
+
 abbrev pub some_key : ProgramKey → Option ProgramKey
 some_key key = Some key
+
+-- what is the same of a header as each of two units has it is the same of the units' own headers, if their programs
+-- depend on the same
+module _ {A : Type 0} (file : DwarfFile) (a b : UnitFacts) (f g : Option LineHeader → A)
+    (same : a.bases.encoding.format ≡ b.bases.encoding.format → a.bases.str_offsets_base ≡ b.bases.str_offsets_base
+    → (h : LineHeader)
+    → f (Some (with_unit h.offset (line_unit a) h)) ≡ g (Some (with_unit h.offset (line_unit b) h))) where
+  with_headers : (h k : LineHeader) → IsInFile (in_file file a) h → IsInFile (in_file file b) k
+      → key_of_header a h ≡ key_of_header b k → f (Some h) ≡ g (Some k)
+  with_headers h k h_in k_in keys =
+      let limit = file.offset_limit in
+      let section = file.sections.debug_line in
+      let at : k.offset ≡ h.offset = sym (ap (λ (x : ProgramKey). x.offset) keys) in
+      let k_at : header_at limit h.offset (line_unit b) section ≡ found k =
+      subst (λ (n : ℕ). header_at limit n (line_unit b) section ≡ found k) at k_in in
+      ap (λ (x : LineHeader). f (Some x))
+      (header_with_unit limit h.offset (line_unit a) (line_unit a) refl section h h h_in h_in)
+      ∙ same (ap (λ (x : ProgramKey). x.format) keys) (ap (λ (x : ProgramKey). x.str_offsets_base) keys) h
+      ∙ sym (ap (λ (x : LineHeader). g (Some x))
+      (header_with_unit limit h.offset (line_unit a) (line_unit b)
+      (sym (ap (λ (x : ProgramKey). x.address_size) keys)) section h k h_in k_at))
+
+  if_any : (key : ProgramKey) (o p : Option LineHeader) → IfSome o (IsInFile (in_file file a))
+      → IfSome p (IsInFile (in_file file b)) → option_map (key_of_header a) o ≡ some_key key
+      → option_map (key_of_header b) p ≡ some_key key → f o ≡ g p
+  if_any key None p o_in p_in o_key p_key = absurd cc
+  if_any key (Some h) None o_in p_in o_key p_key = absurd cc
+  if_any key (Some h) (Some k) o_in p_in o_key p_key =
+      let first : key_of_header a h ≡ key = cc in
+      let second : key_of_header b k ≡ key = cc in
+      with_headers h k o_in p_in (first ∙ sym second)
+
+  pub same_of_units : (key : ProgramKey) → HasHeaderInFile (in_file file a) → HasHeaderInFile (in_file file b)
+      → program_key a ≡ some_key key → program_key b ≡ some_key key → f a.line_header ≡ g b.line_header
+  same_of_units key a_in b_in a_key b_key = if_any key a.line_header b.line_header a_in b_in a_key b_key
 
 -- units of a file whose programs depend on the same have the same ranges of their lines
 pub same_ranges : (file : DwarfFile) (a b : UnitFacts) (key : ProgramKey) → HasHeaderInFile (in_file file a)
     → HasHeaderInFile (in_file file b) → program_key a ≡ some_key key → program_key b ≡ some_key key
     → ranges_of_lines (lines_of_unit (in_file file a)) ≡ ranges_of_lines (lines_of_unit (in_file file b))
-same_ranges file a b key a_in b_in a_key b_key = by a.line_header b.line_header a_in b_in a_key b_key
-  where
-    with_headers : (h k : LineHeader) → IsInFile (in_file file a) h → IsInFile (in_file file b) k
-        → key_of_header a h ≡ key_of_header b k
-        → ranges_of_lines (lines_of_program (in_file file a) h) ≡ ranges_of_lines (lines_of_program (in_file file b) k)
-    with_headers h k h_in k_in same =
-        let limit = file.offset_limit in
-        let section = file.sections.debug_line in
-        let at : k.offset ≡ h.offset = sym (ap (λ (x : ProgramKey). x.offset) same) in
-        let k_at : header_at limit h.offset (line_unit b) section ≡ found k =
-        subst (λ (n : ℕ). header_at limit n (line_unit b) section ≡ found k) at k_in in
-        ap (λ (x : LineHeader). ranges_of_lines (lines_of_program (in_file file a) x))
-        (header_with_unit limit h.offset (line_unit a) (line_unit a) refl section h h h_in h_in)
-        ∙ same_ranges_of_program file a b (ap (λ (x : ProgramKey). x.format) same)
-        (ap (λ (x : ProgramKey). x.str_offsets_base) same) h.offset (line_unit a) (line_unit b) h
-        ∙ sym (ap (λ (x : LineHeader). ranges_of_lines (lines_of_program (in_file file b) x))
-        (header_with_unit limit h.offset (line_unit a) (line_unit b)
-        (sym (ap (λ (x : ProgramKey). x.address_size) same)) section h k h_in k_at))
-
-    by : (o p : Option LineHeader) → IfSome o (IsInFile (in_file file a)) → IfSome p (IsInFile (in_file file b))
-        → option_map (key_of_header a) o ≡ some_key key → option_map (key_of_header b) p ≡ some_key key
-        → ranges_of_lines (lines_if_any (in_file file a) o) ≡ ranges_of_lines (lines_if_any (in_file file b) p)
-    by None p o_in p_in o_key p_key = absurd cc
-    by (Some h) None o_in p_in o_key p_key = absurd cc
-    by (Some h) (Some k) o_in p_in o_key p_key =
-        let first : key_of_header a h ≡ key = cc in
-        let second : key_of_header b k ≡ key = cc in
-        with_headers h k o_in p_in (first ∙ sym second)
+same_ranges file a b key a_in b_in a_key b_key =
+    same_of_units file a b (λ h. ranges_of_lines (lines_if_any (in_file file a) h))
+    (λ h. ranges_of_lines (lines_if_any (in_file file b) h))
+    (λ format base h. same_ranges_of_program file a b format base h.offset (line_unit a) (line_unit b) h)
+    key a_in b_in a_key b_key
 
 -- so those of the last program are a unit's whose program depends on the same
 pub shared_ranges : (u : UnitInFile) (last : Option ProgramRanges) (key : ProgramKey) (ranges : List Range)
