@@ -90,7 +90,7 @@ module _ (file : DwarfFile) (a b : UnitFacts) (format : a.bases.encoding.format 
       ap₂ all_texts (same_file_0 h (nat_le h.encoding.version 4))
       (same_each (text_of_file u (of_a h)) (text_of_file w (of_b h)) (same_file h) (files_from_1 h))
 
-  -- what a program's rows are is the header's alone
+  -- rows, and what ends them, depend on the header alone
   same_lines_of_program : (h : LineHeader) → lines_of_program u (of_a h) ≡ lines_of_program w (of_b h)
   same_lines_of_program h =
       ap (with_texts (sequences_of_rows (map program_row (shown_rows (run_of_program file.offset_limit h).items)))
@@ -107,7 +107,7 @@ same_lines file a b key a_in b_in a_key b_key texts =
     same_of_units file a b (lines_if_any (in_file file a)) (lines_if_any (in_file file b))
     (λ format base h. same_lines_of_program file a b format base texts h.offset h) key a_in b_in a_key b_key
 
--- so a unit has the lines of another one
+-- so a unit has those of another one
 pub shared_lines : (u : UnitInFile) (other : UnitFacts) (key : ProgramKey) (lines : Result Lines Error)
     → HasHeaderInFile u → HasHeaderInFile (in_file u.file other) → program_key u.facts ≡ some_key key
     → program_key other ≡ some_key key → HaveSameTexts u.facts other
