@@ -31,8 +31,8 @@ key_of_header u h = record {
 abbrev pub program_key : UnitFacts → Option ProgramKey
 program_key u = option_map (key_of_header u) u.line_header
 
--- the directory and the name of a unit, which its lines depend on beside that: the texts of files
--- begin with the one, and up to version 4 the other is file 0 (DWARF 4, 6.2.4)
+-- What lines depend on beside that: a unit's directory, with which the texts of its files begin,
+-- and its name, the text of file 0 up to version 4.
 pub record UnitTexts : Type 0 where
   pub directory : Option (List ℕ)
   pub name : Option (List ℕ)
