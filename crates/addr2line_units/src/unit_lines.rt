@@ -135,7 +135,9 @@ fn count_run<R: Reader>(unit: &UnitRef<'_, R>, runs: &mut Runs)
 }
 
 // The same lines once more, or the refusal of them. The only refusal of the call is out of memory.
-pub(crate) fn share_lines(lines: &Result<LineIndex, Error>) -> Result<Result<LineIndex, Error>, Error>
+pub(crate) fn share_lines(
+    lines: &Result<LineIndex, Error>,
+) -> Result<Result<LineIndex, Error>, Error>
     ensures { ReturnsOrNoMemory result (Ok lines.now) }
 {
     match lines {
