@@ -22,7 +22,7 @@ pub mod unit_range;
 pub mod unit_ranges;
 mod unit_run;
 
-pub use addr2line_search::{Mark, Probed, Probes, Tally};
+pub use addr2line_search::{Counters, Mark, Probed, Probes, Tally};
 pub use addr2line_spec::{file_text, file_text_of_bytes, is_rooted, join};
 pub use builder::LinesBuilder;
 pub use line_cursor::LineCursor;

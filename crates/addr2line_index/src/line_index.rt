@@ -1,6 +1,7 @@
 //! The lines of a unit, searched by bisections.
 
-ghost use Rattle.std.specs.Prelude.{◌≡◌, slice_get, option_map, IfOk, IfErr};
+ghost use Rattle.std.specs.Prelude.{◌≡◌, slice_get, option_map, Ok, IfOk, IfErr};
+ghost use Rattle.addr2line_spec.specs.Calls.{ReturnsOrNoMemory};
 ghost use Rattle.addr2line_spec.specs.Error.TheVariants.{Memory};
 ghost use Rattle.addr2line_spec.specs.Lines.{row_at, row_location, place_in};
 ghost use Rattle.addr2line_search.specs.Searches.{AtMostProbes};
@@ -15,19 +16,31 @@ use addr2line_search::Probes;
 use addr2line_spec::Error;
 use std::alloc::Global;
 use std::marker::Model;
+use std::rc::Rc;
 
-/// The lines of a unit, as lookups search them.
-pub struct LineIndex {
+// The lines of a unit, and what finds their rows.
+struct IndexedLines {
     lines: Lines,
     places: PlaceIndex,
 }
 
-impl Drop for LineIndex {
+impl Drop for IndexedLines {
     fn drop(self) {
-        let LineIndex {
+        let IndexedLines {
             lines: _,
             places: _,
         } = self;
+    }
+}
+
+/// The lines of a unit, as lookups search them. Units with the same lines may share them.
+pub struct LineIndex {
+    indexed: Rc<IndexedLines>,
+}
+
+impl Drop for LineIndex {
+    fn drop(self) {
+        let LineIndex { indexed: _ } = self;
     }
 }
 
@@ -37,9 +50,13 @@ impl Model for LineIndex {
 
     ghost Value = { CountedLines };
 
-    ghost view = { λ i. record { lines = i.lines; counter = i.places.counter } };
+    ghost view = { λ i. record {
+      lines = i.indexed.value.lines;
+      counter = i.indexed.value.places.counter;
+    } };
 
-    ghost invariant = { λ i. i.places.sequences ≡ i.lines.sequences };
+    ghost invariant = { λ i.
+        i.indexed.value.places.sequences ≡ i.indexed.value.lines.sequences };
 }
 
 impl LineIndex {
@@ -51,21 +68,32 @@ impl LineIndex {
         ensures refusal { IfErr result (λ e. e ≡ Memory) }
     {
         let places = PlaceIndex::new(alloc, lines.sequences(), probes)?;
-        Ok(LineIndex { lines, places })
+        let indexed = Rc::new(alloc, IndexedLines { lines, places })?;
+        Ok(LineIndex { indexed })
+    }
+
+    /// The same lines once more. Nothing is copied; the only refusal is out of memory.
+    pub fn share(&self) -> Result<Self, Error>
+        ensures { ReturnsOrNoMemory result (Ok self.now) }
+    {
+        Ok(LineIndex {
+            indexed: self.indexed.clone()?,
+        })
     }
 
     /// The lines.
     pub fn lines(&self) -> &Lines
         ensures { result.now ≡ self.now.lines }
     {
-        &self.lines
+        let indexed = self.indexed.as_ref();
+        &indexed.lines
     }
 
     /// The text of a file by its number.
     pub fn file(&self, index: u64) -> Option<&str>
         ensures { option_map (λ t. t.now) result ≡ slice_get self.now.lines.files index }
     {
-        self.lines.file(index)
+        self.lines().file(index)
     }
 
     /// The row of an address in the sequence that holds it. It is found by one search among the
@@ -75,15 +103,16 @@ impl LineIndex {
         ensures row { result ≡ row_at self.now.lines probe }
         ensures cost { AtMostProbes (place_probes self.now.lines probe) probes.old probes.new }
     {
-        let place = self.places.find(probe, probes)?;
-        self.lines.row_at(place)
+        let indexed = self.indexed.as_ref();
+        let place = indexed.places.find(probe, probes)?;
+        indexed.lines.row_at(place)
     }
 
     /// The place that a row stands for. It is no search.
     pub fn location_of_row(&self, row: &LineRow) -> Location<'_>
         ensures { location_value result ≡ row_location self.now.lines.files row.now }
     {
-        self.lines.row_location(row)
+        self.lines().row_location(row)
     }
 
     /// The place of an address: that of its row.

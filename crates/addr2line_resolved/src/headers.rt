@@ -51,7 +51,7 @@ pub(crate) fn push_context_unit<R: Reader>(
     alloc: Global,
     sections: &Rc<Dwarf<R>>,
     aranges: &ArangeIndex,
-    last: &mut LastRanges,
+    last: &mut LastRanges<R>,
     header: UnitHeader<R>,
     entry: &mut DebuggingInformationEntry<R>,
     units: &mut Vec<ResUnit<R>>,
@@ -76,7 +76,7 @@ pub(crate) fn push_context_unit<R: Reader>(
 fn push_unit<R: Reader>(
     alloc: Global,
     aranges: &ArangeIndex,
-    last: &mut LastRanges,
+    last: &mut LastRanges<R>,
     main: OwnedUnit<R>,
     entry: &DebuggingInformationEntry<R>,
     units: &mut Vec<ResUnit<R>>,

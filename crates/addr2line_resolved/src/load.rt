@@ -6,6 +6,7 @@ ghost use Rattle.addr2line_functions.specs.FirstAnswers.{split_path, load_of_id,
 
 use crate::owned_unit::OwnedUnit;
 use addr2line_functions::{Dwarf, DwoId, Error, Reader, UnitRef};
+use addr2line_units::copy_of;
 use std::alloc::Global;
 use std::marker::Model;
 use std::rc::Rc;
@@ -46,16 +47,6 @@ fn split_path<R: Reader>(alloc: Global, unit: &UnitRef<'_, R>) -> Result<Option<
     let facts = unit.unit;
     match facts.dwo_name(alloc)? {
         Some(name) => Ok(Some(unit.attr_string(name)?)),
-        None => Ok(None),
-    }
-}
-
-// A copy of a reader, if there is one.
-pub(crate) fn copy_of<R: Reader>(reader: &Option<R>) -> Result<Option<R>, Error>
-    ensures { ReturnsAsOrNoMemory (option_map R.view) result (Ok (option_map R.view reader.now)) }
-{
-    match reader {
-        Some(reader) => Ok(Some(reader.copy()?)),
         None => Ok(None),
     }
 }

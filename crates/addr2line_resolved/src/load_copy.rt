@@ -3,8 +3,9 @@
 ghost use Rattle.std.specs.Prelude.{Ok};
 ghost use Rattle.addr2line_functions.specs.Calls.{ReturnsOrNoMemory};
 
-use crate::load::{SplitDwarfLoad, copy_of, share};
+use crate::load::{SplitDwarfLoad, share};
 use addr2line_functions::{Error, Reader};
+use addr2line_units::copy_of;
 
 impl<R: Reader> SplitDwarfLoad<R> {
     /// The same load, over the same bytes. Refused only when out of memory.

@@ -98,25 +98,6 @@ impl<R: Reader> Model for ResUnit<R> {
         KeepsParses u.main u.load u.first u.lines u.runs u.functions u.probes.name };
 }
 
-// The lines of a run, as lookups search them, or the refusal of them; this counter counts looks at
-// them. Refused only when out of memory.
-fn index_of_run(
-    alloc: Global,
-    lines: Option<Result<UnitLines, Error>>,
-    probes: &Probes,
-) -> Result<Kept<LineIndex>, Error>
-    ensures ok { IfOk result
-        (λ kept. kept ≡ option_map (counted_lines probes.now.name) lines) }
-    ensures refusal { IfErr result (λ e. e ≡ Memory) }
-{
-    let index = match lines {
-        Some(Ok(lines)) => Some(Ok(LineIndex::new(alloc, lines.into_lines(), probes)?)),
-        Some(Err(error)) => Some(Err(error)),
-        None => None,
-    };
-    Kept::of(index)
-}
-
 // The row of an address in lines, or the refusal of them; none where they aren't kept.
 fn row_in_kept(
     lines: &Kept<LineIndex>,
@@ -177,14 +158,15 @@ fn unit_under<'a, R: Reader>(
 
 impl<R: Reader> ResUnit<R> {
     /// The unit, with what its root says. Its line number program is run only where its ranges are
-    /// those of its lines, which are then kept. Refused by its root or its ranges. A range list or a
-    /// program that is the last one of the file isn't read or run again.
+    /// those of its lines, which are then kept. Refused by its root or its ranges. A range list or
+    /// a program that is the last one of the file isn't read or run again, and the lines of such a
+    /// program are shared where the unit's are the same.
     pub fn read(
         alloc: Global,
         main: OwnedUnit<R>,
         entry: &DebuggingInformationEntry<R>,
         aranges: &ArangeIndex,
-        last: &mut LastRanges,
+        last: &mut LastRanges<R>,
     ) -> Result<Self, Error>
         requires index { IsIndexOf main.file aranges.now }
         requires last { AreLastFor main last.old }
@@ -195,13 +177,21 @@ impl<R: Reader> ResUnit<R> {
         ensures last { HasHeaderInFile main → AreLastOf main.file last.new }
     {
         let mut runs = Runs::new();
-        let root = UnitRoot::read(alloc, &main.unit_ref(), entry, aranges, last, &mut runs)?;
-        ResUnit::of_root(alloc, main, root, runs)
+        let probes = last.counter();
+        let unit = main.unit_ref();
+        let root = UnitRoot::read(alloc, &unit, entry, aranges, last, &mut runs, &probes)?;
+        ResUnit::of_root(alloc, main, root, runs, probes)
     }
 
-    // The unit with what its root says, and what was run for that.
-    fn of_root(alloc: Global, main: OwnedUnit<R>, root: UnitRoot, runs: Runs) -> Result<Self, Error>
-        requires { RunsForRanges main root.ranges root.lines 0 runs }
+    // The unit with what its root says, what was run for that, and the counter of looks at it.
+    fn of_root(
+        alloc: Global,
+        main: OwnedUnit<R>,
+        root: UnitRoot,
+        runs: Runs,
+        probes: Probes,
+    ) -> Result<Self, Error>
+        requires { RunsForRanges probes.name main root.ranges root.lines 0 runs }
         ensures unit { ReturnsAsOrNoMemory (λ u. u.value) result
             (Ok (without_answer main.file (unit_with main root))) }
         ensures lines { IfOk result RunsForRangesAlone }
@@ -213,8 +203,7 @@ impl<R: Reader> ResUnit<R> {
             language,
             lines,
         } = root;
-        let probes = Probes::new();
-        let lines = index_of_run(alloc, lines, &probes)?;
+        let lines = Kept::of(lines)?;
         Ok(ResUnit {
             main,
             ranges,

@@ -14,8 +14,9 @@ use std::rc::Rc;
 
 /// A context's units of a file. Refused by the first refusal of such a unit's ranges, or by a
 /// header that can't be read, which ends the units. The lines of a unit are read only where its
-/// ranges are those of its lines, and no functions are. A range list that units in a row name is read
-/// once, and a line number program that they take their ranges from is run once.
+/// ranges are those of its lines, and no functions are. A range list that units in a row name is
+/// read once, and a line number program that they take their ranges from is run once; units with
+/// one directory and name share its lines, too.
 pub fn units_of_file<R: Reader>(
     alloc: Global,
     sections: &Rc<Dwarf<R>>,

@@ -5,6 +5,6 @@ pub mod probed;
 pub mod search;
 pub mod tally;
 
-pub use probed::{Probed, Probes};
+pub use probed::{Counters, Probed, Probes};
 pub use search::{SearchKey, count_up_to, last_up_to};
 pub use tally::{Mark, Tally};

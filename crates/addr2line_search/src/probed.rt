@@ -7,10 +7,12 @@ use crate::tally::{Mark, Tally};
 use std::marker::Model;
 use std::mem::size_of;
 
-// Neither takes a byte.
+// None of them takes a byte.
 const _: () = prove!(size_of::<Probes>() == 0);
 
 const _: () = prove!(size_of::<Mark>() == 0);
+
+const _: () = prove!(size_of::<Counters>() == 0);
 
 /// How many entries of lists were looked at. It takes no bytes and has no greatest value.
 #[derive(Drop)]
@@ -33,6 +35,40 @@ impl Probes {
     {
         Probes {
             tally: Tally::new(),
+        }
+    }
+}
+
+/// A maker of counters that share one name, so that each of them counts looks at the lists of the
+/// others. No list and no counter leads to its maker: whoever searches lists that others made can't
+/// make itself a counter for them.
+#[derive(Drop)]
+pub struct Counters {
+    mark: Mark,
+}
+
+impl Model for Counters {
+    ghost use Rattle.std.specs.Prelude.{ℕ};
+
+    ghost Value = { ℕ };
+
+    ghost view = { λ c. c.mark.name };
+}
+
+impl Counters {
+    /// A maker of counters with a name of their own.
+    pub fn new() -> Self {
+        Counters {
+            mark: Tally::new().mark(),
+        }
+    }
+
+    /// A counter at 0.
+    pub fn counter(&self) -> Probes
+        ensures { result ≡ record { name = self.now; count = 0 } }
+    {
+        Probes {
+            tally: Tally::named(&self.mark),
         }
     }
 }

@@ -37,6 +37,13 @@ impl Tally {
         Tally { seal: () }
     }
 
+    /// A counter at 0 of this name.
+    pub fn named(mark: &Mark) -> Self
+        ensures { (result.name ≡ mark.now.name) × (result.count ≡ 0) }
+    {
+        Tally { seal: () }
+    }
+
     /// Counts one more.
     pub fn raise(&mut self)
         ensures { self.new ≡ record self.old { count = self.old.count + 1 } }

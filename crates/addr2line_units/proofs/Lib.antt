@@ -17,4 +17,5 @@ pub mod ArangeIndexLemmas
 pub mod RootLemmas
 pub mod HeaderUnits
 pub mod SharedPrograms
+pub mod SharedLines
 pub mod HeadersInFiles

@@ -20,8 +20,7 @@ use Rattle.addr2line_index.specs.FileTexts.{bytes_of, text_bytes, text_bytes_if_
 use Rattle.addr2line_index.specs.UnitLines.{program_row, run_of_program, fault_of_program, with_defined_files, lines_of_program, lines_if_any, lines_of_unit}
 use Rattle.addr2line_index.specs.UnitRanges.{ranges_of_lines}
 use Rattle.addr2line_units.specs.declared.last_program.ProgramKey.{ProgramKey}
-use Rattle.addr2line_units.specs.declared.last_program.ProgramRanges.{ProgramRanges}
-use Rattle.addr2line_units.specs.LastPrograms.{key_of_header, program_key, IsInFile, HasHeaderInFile, IsProgramOf, IsRunBy}
+use Rattle.addr2line_units.specs.LastPrograms.{key_of_header, program_key, IsInFile, HasHeaderInFile}
 use Rattle.addr2line_units.proofs.HeaderUnits.{with_unit, found, header_with_unit}
 
 -- ---- refusals
@@ -40,7 +39,8 @@ refusal_of_two (Err e) s f = refl
 
 same_refusal_of_two : {A B C : Type 0} (r r' : Result A Error) (s s' : Result B Error) (f g : A → B → C)
     → refusal r ≡ refusal r' → refusal s ≡ refusal s'
-    → refusal (and_then r (λ x. and_then s (λ y. Ok (f x y)))) ≡ refusal (and_then r' (λ x. and_then s' (λ y. Ok (g x y))))
+    → refusal (and_then r (λ x. and_then s (λ y. Ok (f x y))))
+    ≡ refusal (and_then r' (λ x. and_then s' (λ y. Ok (g x y))))
 same_refusal_of_two r r' s s' f g first second =
     refusal_of_two r s f
     ∙ ap (λ (o : Option Error). option_or o (refusal s)) first
@@ -56,7 +56,7 @@ same_refusal_of_each f g same (x ∷ xs) =
 
 -- ---- ranges
 
-abbrev with_texts : List Sequence → Option Error → Result (List (List ℕ)) Error → Result Lines Error
+abbrev pub with_texts : List Sequence → Option Error → Result (List (List ℕ)) Error → Result Lines Error
 with_texts sequences fault texts =
     unless fault (and_then texts (λ files. Ok (record { sequences = sequences; files = files })))
 
@@ -76,7 +76,8 @@ same_ranges_of_texts sequences None (Err d) (Err e) same = refl
 same_string : (file : DwarfFile) (b c : Bases) → b.encoding.format ≡ c.encoding.format
     → b.str_offsets_base ≡ c.str_offsets_base → (v : RawValue) → attr_string file b v ≡ attr_string file c v
 same_string file b c format base (string_offsets_index i) =
-    ap (λ f. attr_string file (record b { encoding = record b.encoding { format = f } }) (string_offsets_index i)) format
+    ap (λ f. attr_string file (record b { encoding = record b.encoding { format = f } }) (string_offsets_index i))
+    format
     ∙ ap (λ n. attr_string file (record c { str_offsets_base = n }) (string_offsets_index i)) base
 same_string file b c format base _ = refl
 
@@ -96,7 +97,7 @@ module _ (file : DwarfFile) (a b : UnitFacts) (format : a.bases.encoding.format 
   abbrev w : UnitInFile
   w = in_file file b
 
-  same_text : (v : RawValue) → text_bytes u v ≡ text_bytes w v
+  pub same_text : (v : RawValue) → text_bytes u v ≡ text_bytes w v
   same_text v = ap (λ r. and_then r (λ text. Ok (bytes_of text))) (same_string file a.bases b.bases format base v)
 
   same_text_if_any : (o : Option RawValue) → text_bytes_if_any u o ≡ text_bytes_if_any w o
@@ -104,16 +105,21 @@ module _ (file : DwarfFile) (a b : UnitFacts) (format : a.bases.encoding.format 
   same_text_if_any (Some v) = ap (λ r. some_of r) (same_text v)
 
   module _ (offset : ℕ) (l m : LineUnit) where
+    pub same_directory : (h : LineHeader) (f : FileFacts)
+        → text_bytes_if_any u (directory_of (with_unit offset l h) f)
+        ≡ text_bytes_if_any w (directory_of (with_unit offset m h) f)
+    same_directory h f =
+        same_text_if_any (directory_of (with_unit offset l h) f)
+        ∙ ap (text_bytes_if_any w) (not_the_units (f.directory_index == 0) (nat_le h.encoding.version 4)
+        (option_map string l.directory) (option_map string m.directory)
+        (slice_get h.directories (f.directory_index - 1)) (slice_get h.directories f.directory_index))
+
     same_file : (h : LineHeader) (f : FileFacts)
         → refusal (text_of_file u (with_unit offset l h) f) ≡ refusal (text_of_file w (with_unit offset m h) f)
     same_file h f =
         same_refusal_of_two (text_bytes_if_any u (directory_of (with_unit offset l h) f))
         (text_bytes_if_any w (directory_of (with_unit offset m h) f)) (text_bytes u f.path) (text_bytes w f.path) _ _
-        (ap refusal (same_text_if_any (directory_of (with_unit offset l h) f)
-        ∙ ap (text_bytes_if_any w) (not_the_units (f.directory_index == 0) (nat_le h.encoding.version 4)
-        (option_map string l.directory) (option_map string m.directory)
-        (slice_get h.directories (f.directory_index - 1)) (slice_get h.directories f.directory_index))))
-        (ap refusal (same_text f.path))
+        (ap refusal (same_directory h f)) (ap refusal (same_text f.path))
 
     -- a unit's name can be read
     name_is_text : (x : UnitInFile) (h : LineHeader) (name : Option View)
@@ -126,11 +132,13 @@ module _ (file : DwarfFile) (a b : UnitFacts) (format : a.bases.encoding.format 
         (if is_4 then option_map file_named l.name else slice_get h.files 0))
         ≡ refusal (text_of_file_0 w (with_unit offset m h)
         (if is_4 then option_map file_named m.name else slice_get h.files 0))
-    same_file_0 h true = name_is_text u (with_unit offset l h) l.name ∙ sym (name_is_text w (with_unit offset m h) m.name)
+    same_file_0 h true =
+        name_is_text u (with_unit offset l h) l.name ∙ sym (name_is_text w (with_unit offset m h) m.name)
     same_file_0 h false = by (slice_get h.files 0)
       where
         by : (o : Option FileFacts)
-            → refusal (text_of_file_0 u (with_unit offset l h) o) ≡ refusal (text_of_file_0 w (with_unit offset m h) o)
+            → refusal (text_of_file_0 u (with_unit offset l h) o)
+            ≡ refusal (text_of_file_0 w (with_unit offset m h) o)
         by None = refl
         by (Some f) = same_file h f
 
@@ -142,8 +150,8 @@ module _ (file : DwarfFile) (a b : UnitFacts) (format : a.bases.encoding.format 
         (each (text_of_file u (with_unit offset l h)) (files_from_1 h))
         (each (text_of_file w (with_unit offset m h)) (files_from_1 h))
         (λ text texts. text ∷ texts) (λ text texts. text ∷ texts) (same_file_0 h (nat_le h.encoding.version 4))
-        (same_refusal_of_each (text_of_file u (with_unit offset l h)) (text_of_file w (with_unit offset m h)) (same_file h)
-        (files_from_1 h))
+        (same_refusal_of_each (text_of_file u (with_unit offset l h)) (text_of_file w (with_unit offset m h))
+        (same_file h) (files_from_1 h))
 
     same_ranges_of_program : (h : LineHeader)
         → ranges_of_lines (lines_of_program u (with_unit offset l h))
@@ -155,48 +163,47 @@ module _ (file : DwarfFile) (a b : UnitFacts) (format : a.bases.encoding.format 
         (fault_of_program file.offset_limit h) (texts_of_files u (with_unit offset l defined))
         (texts_of_files w (with_unit offset m defined)) (same_texts defined)
 
-abbrev some_key : ProgramKey → Option ProgramKey
-some_key key = Some key
+-- ---- units
+
+-- what is the same of a header as each of two units has it is the same of the units' own headers, if their programs
+-- depend on the same
+module _ {A : Type 0} (file : DwarfFile) (a b : UnitFacts) (f g : Option LineHeader → A) (none : f None ≡ g None)
+    (same : a.bases.encoding.format ≡ b.bases.encoding.format → a.bases.str_offsets_base ≡ b.bases.str_offsets_base
+    → (h : LineHeader)
+    → f (Some (with_unit h.offset (line_unit a) h)) ≡ g (Some (with_unit h.offset (line_unit b) h))) where
+  with_headers : (h k : LineHeader) → IsInFile (in_file file a) h → IsInFile (in_file file b) k
+      → key_of_header a h ≡ key_of_header b k → f (Some h) ≡ g (Some k)
+  with_headers h k h_in k_in keys =
+      let limit = file.offset_limit in
+      let section = file.sections.debug_line in
+      let at : k.offset ≡ h.offset = sym (ap (λ (x : ProgramKey). x.offset) keys) in
+      let k_at : header_at limit h.offset (line_unit b) section ≡ found k =
+      subst (λ (n : ℕ). header_at limit n (line_unit b) section ≡ found k) at k_in in
+      ap (λ (x : LineHeader). f (Some x))
+      (header_with_unit limit h.offset (line_unit a) (line_unit a) refl section h h h_in h_in)
+      ∙ same (ap (λ (x : ProgramKey). x.format) keys) (ap (λ (x : ProgramKey). x.str_offsets_base) keys) h
+      ∙ sym (ap (λ (x : LineHeader). g (Some x))
+      (header_with_unit limit h.offset (line_unit a) (line_unit b)
+      (sym (ap (λ (x : ProgramKey). x.address_size) keys)) section h k h_in k_at))
+
+  if_any : (o p : Option LineHeader) → IfSome o (IsInFile (in_file file a)) → IfSome p (IsInFile (in_file file b))
+      → option_map (key_of_header a) o ≡ option_map (key_of_header b) p → f o ≡ g p
+  if_any None None o_in p_in keys = none
+  if_any None (Some k) o_in p_in keys = absurd cc
+  if_any (Some h) None o_in p_in keys = absurd cc
+  if_any (Some h) (Some k) o_in p_in keys =
+      let key : key_of_header a h ≡ key_of_header b k = cc in with_headers h k o_in p_in key
+
+  pub same_of_units : HasHeaderInFile (in_file file a) → HasHeaderInFile (in_file file b)
+      → program_key a ≡ program_key b → f a.line_header ≡ g b.line_header
+  same_of_units a_in b_in keys = if_any a.line_header b.line_header a_in b_in keys
 
 -- units of a file whose programs depend on the same have the same ranges of their lines
-pub same_ranges : (file : DwarfFile) (a b : UnitFacts) (key : ProgramKey) → HasHeaderInFile (in_file file a)
-    → HasHeaderInFile (in_file file b) → program_key a ≡ some_key key → program_key b ≡ some_key key
+pub same_ranges : (file : DwarfFile) (a b : UnitFacts) → HasHeaderInFile (in_file file a)
+    → HasHeaderInFile (in_file file b) → program_key a ≡ program_key b
     → ranges_of_lines (lines_of_unit (in_file file a)) ≡ ranges_of_lines (lines_of_unit (in_file file b))
-same_ranges file a b key a_in b_in a_key b_key = by a.line_header b.line_header a_in b_in a_key b_key
-  where
-    with_headers : (h k : LineHeader) → IsInFile (in_file file a) h → IsInFile (in_file file b) k
-        → key_of_header a h ≡ key_of_header b k
-        → ranges_of_lines (lines_of_program (in_file file a) h) ≡ ranges_of_lines (lines_of_program (in_file file b) k)
-    with_headers h k h_in k_in same =
-        let limit = file.offset_limit in
-        let section = file.sections.debug_line in
-        let at : k.offset ≡ h.offset = sym (ap (λ (x : ProgramKey). x.offset) same) in
-        let k_at : header_at limit h.offset (line_unit b) section ≡ found k =
-        subst (λ (n : ℕ). header_at limit n (line_unit b) section ≡ found k) at k_in in
-        ap (λ (x : LineHeader). ranges_of_lines (lines_of_program (in_file file a) x))
-        (header_with_unit limit h.offset (line_unit a) (line_unit a) refl section h h h_in h_in)
-        ∙ same_ranges_of_program file a b (ap (λ (x : ProgramKey). x.format) same)
-        (ap (λ (x : ProgramKey). x.str_offsets_base) same) h.offset (line_unit a) (line_unit b) h
-        ∙ sym (ap (λ (x : LineHeader). ranges_of_lines (lines_of_program (in_file file b) x))
-        (header_with_unit limit h.offset (line_unit a) (line_unit b)
-        (sym (ap (λ (x : ProgramKey). x.address_size) same)) section h k h_in k_at))
-
-    by : (o p : Option LineHeader) → IfSome o (IsInFile (in_file file a)) → IfSome p (IsInFile (in_file file b))
-        → option_map (key_of_header a) o ≡ some_key key → option_map (key_of_header b) p ≡ some_key key
-        → ranges_of_lines (lines_if_any (in_file file a) o) ≡ ranges_of_lines (lines_if_any (in_file file b) p)
-    by None p o_in p_in o_key p_key = absurd cc
-    by (Some h) None o_in p_in o_key p_key = absurd cc
-    by (Some h) (Some k) o_in p_in o_key p_key =
-        let first : key_of_header a h ≡ key = cc in
-        let second : key_of_header b k ≡ key = cc in
-        with_headers h k o_in p_in (first ∙ sym second)
-
--- so those of the last program are a unit's whose program depends on the same
-pub shared_ranges : (u : UnitInFile) (last : Option ProgramRanges) (key : ProgramKey) (ranges : List Range)
-    → program_key u.facts ≡ some_key key → IfSome last (IsProgramOf u.file)
-    → (is_some last ≡ true → HasHeaderInFile u) → IsRunBy last key ranges
-    → ranges_of_lines (lines_of_unit u) ≡ ranges
-shared_ranges u None key ranges has_key is header run = absurd run
-shared_ranges u (Some p) key ranges has_key is header run =
-    same_ranges u.file u.facts is.unit key (header refl) is.header_in_file has_key (is.has_key ∙ ap some_key run.0)
-    ∙ is.has_ranges ∙ run.1
+same_ranges file a b a_in b_in keys =
+    same_of_units file a b (λ h. ranges_of_lines (lines_if_any (in_file file a) h))
+    (λ h. ranges_of_lines (lines_if_any (in_file file b) h)) refl
+    (λ format base h. same_ranges_of_program file a b format base h.offset (line_unit a) (line_unit b) h)
+    a_in b_in keys

@@ -1,17 +1,19 @@
 -- The line number program that was run last: the ranges of its lines are those of any unit whose
--- program depends on the same.
-use Rattle.std.specs.Prelude.{◌≡◌, true, List, Option, Some, None, is_some, option_map, Ok, IfSome}
+-- program depends on the same, and its lines those of such a unit with the same texts.
+use Rattle.std.specs.Prelude.{◌≡◌, ℕ, ◌+◌, true, List, Option, Some, None, is_some, option_map, Result, Ok, IfSome}
+use Rattle.gimli_lines_rows.specs.Error.{Error}
 use Rattle.gimli_lines_rows.specs.Range.{Range}
 use Rattle.gimli_lines_rows.specs.LineHeaders.{LineHeader}
 use Rattle.gimli_lines_rows.specs.HeaderParsing.{header_at}
 use Rattle.gimli_dwarf.specs.DwarfFiles.{DwarfFile}
 use Rattle.gimli_dwarf.specs.Roots.{line_unit}
 use Rattle.gimli_dwarf.specs.UnitFacts.{UnitFacts, UnitInFile, in_file}
+use Rattle.addr2line_index.specs.FileTexts.{bytes_of}
+use Rattle.addr2line_index.specs.LineIndexes.{CountedLines, counted_lines}
 use Rattle.addr2line_index.specs.UnitLines.{lines_of_unit}
 use Rattle.addr2line_index.specs.UnitRanges.{ranges_of_lines}
+use Rattle.addr2line_units.specs.CountedRuns.{runs_for_lines}
 use Rattle.addr2line_units.specs.declared.last_program.ProgramKey.{ProgramKey}
-use Rattle.addr2line_units.specs.declared.last_program.ProgramRanges.{ProgramRanges}
-use Rattle.addr2line_units.specs.declared.last_program.LastProgram.{LastProgram}
 
 -- ---- what ranges depend on
 
@@ -29,6 +31,16 @@ key_of_header u h = record {
 abbrev pub program_key : UnitFacts → Option ProgramKey
 program_key u = option_map (key_of_header u) u.line_header
 
+-- What lines depend on beside that: a unit's directory, with which the texts of its files begin,
+-- and its name, the text of file 0 up to version 4.
+pub record UnitTexts : Type 0 where
+  pub directory : Option (List ℕ)
+  pub name : Option (List ℕ)
+
+abbrev pub unit_texts : UnitFacts → UnitTexts
+unit_texts u =
+    record { directory = option_map bytes_of u.comp_dir; name = option_map bytes_of u.name }
+
 -- a header is the one at its offset in the unit's file
 abbrev pub IsInFile : UnitInFile → LineHeader → Type 0
 IsInFile u h =
@@ -40,22 +52,43 @@ HasHeaderInFile u = IfSome u.facts.line_header (IsInFile u)
 
 -- ---- the last program
 
--- a unit of the file whose program depends on the same has these ranges of its lines
-pub record IsProgramOf (file : DwarfFile) (p : ProgramRanges) : Type 0 where
+-- a program that was run for a unit, with the ranges of its lines, and its lines as they are kept
+pub record ProgramRun : Type 0 where
+  pub key : Option ProgramKey
+  pub texts : UnitTexts
+  pub ranges : List Range
+  pub lines : Result CountedLines Error
+
+-- it was run for a unit of the file, with this counter
+pub record IsProgramOf (file : DwarfFile) (counter : ℕ) (p : ProgramRun) : Type 0 where
   pub unit : UnitFacts
   pub header_in_file : HasHeaderInFile (in_file file unit)
-  pub has_key : program_key unit ≡ Some p.key
-  pub has_ranges : ranges_of_lines (lines_of_unit (in_file file unit)) ≡ p.ranges.value.items
+  pub has_key : p.key ≡ program_key unit
+  pub has_texts : p.texts ≡ unit_texts unit
+  pub has_ranges : p.ranges ≡ ranges_of_lines (lines_of_unit (in_file file unit))
+  pub has_lines : p.lines ≡ counted_lines counter (lines_of_unit (in_file file unit))
+
+-- the last one, if there is one, and the name of the counters of looks at lines
+pub record LastProgram : Type 0 where
+  pub counter : ℕ
+  pub program : Option ProgramRun
 
 abbrev pub IsLastProgramOf : DwarfFile → LastProgram → Type 0
-IsLastProgramOf file last = IfSome last.program (IsProgramOf file)
+IsLastProgramOf file last = IfSome last.program (IsProgramOf file last.counter)
 
 -- where there is one, the header of this unit of the file is in the file, too
 abbrev pub IsLastProgramFor : UnitInFile → LastProgram → Type 0
 IsLastProgramFor u last =
     IsLastProgramOf u.file last × (is_some last.program ≡ true → HasHeaderInFile u)
 
--- these are the ranges of the last program, which depends on this
-abbrev pub IsRunBy : Option ProgramRanges → ProgramKey → List Range → Type 0
-IsRunBy None key ranges = ⊥
-IsRunBy (Some p) key ranges = (p.key ≡ key) × (p.ranges.value.items ≡ ranges)
+-- this is the last program, and a unit's depends on the same
+abbrev pub IsRunFor : UnitFacts → Option ProgramRun → ProgramRun → Type 0
+IsRunFor u last p = (last ≡ Some p) × (p.key ≡ program_key u)
+
+-- its lines are shared with a unit that has the same texts, and its run counts as the unit's, too;
+-- else nothing is
+abbrev pub SharesLines : UnitFacts → ProgramRun → Option (Result CountedLines Error) → ℕ → ℕ
+    → Type 0
+SharesLines u p None old new = new ≡ old
+SharesLines u p (Some lines) old new =
+    (lines ≡ p.lines) × (p.texts ≡ unit_texts u) × (new ≡ old + runs_for_lines u)

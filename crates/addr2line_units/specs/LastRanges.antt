@@ -1,9 +1,18 @@
 -- The ranges that were read last, of a range list and of a line number program.
+use Rattle.std.specs.Prelude.{ℕ}
 use Rattle.gimli_dwarf.specs.DwarfFiles.{DwarfFile}
 use Rattle.gimli_dwarf.specs.UnitFacts.{UnitInFile}
-use Rattle.addr2line_units.specs.declared.last_ranges.LastRanges.{LastRanges}
+use Rattle.addr2line_units.specs.declared.last_list.LastList.{LastList}
 use Rattle.addr2line_units.specs.LastLists.{IsLastOf}
-use Rattle.addr2line_units.specs.LastPrograms.{IsLastProgramOf, IsLastProgramFor}
+use Rattle.addr2line_units.specs.LastPrograms.{LastProgram, IsLastProgramOf, IsLastProgramFor}
+
+pub record LastRanges : Type 0 where
+  pub list : LastList
+  pub program : LastProgram
+
+-- the name of the counters of looks at the lines that may be shared
+abbrev pub counter_of : LastRanges → ℕ
+counter_of last = last.program.counter
 
 -- both are of the file
 abbrev pub AreLastOf : DwarfFile → LastRanges → Type 0

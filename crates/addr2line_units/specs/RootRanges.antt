@@ -1,37 +1,46 @@
 -- What a unit's root says of lookups, and the lines that were read for it.
-use Rattle.std.specs.Prelude.{◌≡◌, ℕ, ◌+◌, List, Option, Some, None, Result}
+use Rattle.std.specs.Prelude.{◌≡◌, ℕ, ◌+◌, List, [], Option, Some, None, Result, Ok, Err}
 use Rattle.gimli_lines_rows.specs.Error.{Error}
 use Rattle.gimli_lines_rows.specs.Range.{Range}
 use Rattle.gimli_dwarf.specs.UnitFacts.{UnitInFile}
-use Rattle.addr2line_index.specs.Lines.{Lines}
+use Rattle.addr2line_index.specs.LineIndexes.{CountedLines, counted_lines}
 use Rattle.addr2line_index.specs.UnitLines.{lines_of_unit}
 use Rattle.addr2line_index.specs.UnitRanges.{ranges_of_lines}
 use Rattle.addr2line_index.specs.Contexts.{ContextUnit}
 use Rattle.addr2line_units.specs.CountedRuns.{runs_for_lines}
 
+-- the ranges of lines as they are kept; none where they are refused
+abbrev pub ranges_of_counted : Result CountedLines Error → List Range
+ranges_of_counted (Ok l) = ranges_of_lines (Ok l.lines)
+ranges_of_counted (Err e) = []
+
 -- ranges, and the lines of the unit where its program was run for them
 pub record RootRanges : Type 0 where
   pub ranges : List Range
-  pub lines : Option (Result Lines Error)
+  pub lines : Option (Result CountedLines Error)
 
--- those of the unit's lines
-abbrev pub ranges_by_run : UnitInFile → RootRanges
-ranges_by_run u =
-    record { ranges = ranges_of_lines (lines_of_unit u); lines = Some (lines_of_unit u) }
+-- those of the unit's lines, looks at which this counter counts
+abbrev pub ranges_by_run : ℕ → UnitInFile → RootRanges
+ranges_by_run counter u =
+    record {
+      ranges = ranges_of_lines (lines_of_unit u);
+      lines = Some (counted_lines counter (lines_of_unit u));
+    }
 
--- Lines are the unit's, of one run of its program, if it has one, where the ranges are those of its
--- lines; else nothing was run.
-abbrev pub RunsForRanges : UnitInFile → List Range → Option (Result Lines Error) → ℕ → ℕ → Type 0
-RunsForRanges u ranges None old new = new ≡ old
-RunsForRanges u ranges (Some lines) old new =
-    (lines ≡ lines_of_unit u) × (ranges ≡ ranges_of_lines lines)
+-- Lines are the unit's with this counter, of one run of its program, if it has one, where the
+-- ranges are those of its lines; else nothing was run.
+abbrev pub RunsForRanges : ℕ → UnitInFile → List Range → Option (Result CountedLines Error)
+    → ℕ → ℕ → Type 0
+RunsForRanges counter u ranges None old new = new ≡ old
+RunsForRanges counter u ranges (Some lines) old new =
+    (lines ≡ counted_lines counter (lines_of_unit u)) × (ranges ≡ ranges_of_lines (lines_of_unit u))
     × (new ≡ old + runs_for_lines u.facts)
 
 -- with the unit's language
 pub record RootFacts : Type 0 where
   pub ranges : List Range
   pub language : Option ℕ
-  pub lines : Option (Result Lines Error)
+  pub lines : Option (Result CountedLines Error)
 
 -- what a context keeps of a unit whose root says this
 abbrev pub unit_with : UnitInFile → RootFacts → ContextUnit

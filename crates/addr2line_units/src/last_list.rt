@@ -71,7 +71,8 @@ impl LastList {
 
     // Its ranges, if it was read by the same.
     fn ranges(&self, key: &ListKey) -> Option<&Rc<Vec<Range>>>
-        ensures { MatchOption result (Unit {0}) (λ r. IsReadBy self.now.list key.now r.now.value.items) }
+        ensures { MatchOption result (Unit {0})
+            (λ r. IsReadBy self.now.list key.now r.now.value.items) }
     {
         match &self.list {
             Some(list) if list.key == *key => Some(&list.ranges),

@@ -1,11 +1,18 @@
 //! The line number program that was run last for a unit's ranges. Units in a row may name the same
-//! one: it is run once, and they share the ranges of its lines.
+//! one: it is run once, and they share the ranges of its lines, and the lines themselves where
+//! their directories and names are the same.
 
-ghost use Rattle.std.specs.Prelude.{◌≡◌, None, MatchOption};
-ghost use Rattle.addr2line_units.specs.LastPrograms.{program_key, IsRunBy};
+ghost use Rattle.std.specs.Prelude.{◌≡◌, Ok, Some, None, IfOk, MatchOption};
+ghost use Rattle.gimli_lines_rows.specs.Calls.{ReturnsOrNoMemory};
+ghost use Rattle.addr2line_units.specs.LastPrograms.{program_key, unit_texts, IsRunFor, SharesLines};
 
+use crate::last_list::share;
+use crate::unit_lines::{Runs, share_lines, share_run};
+use crate::unit_texts::UnitTexts;
+use addr2line_index::{Counters, LineIndex, Probes};
 use gimli_dwarf::UnitRef;
-use gimli_lines_rows::{Format, Range, Reader, ReaderOffset};
+use gimli_lines_rows::{Error, Format, Range, Reader, ReaderOffset};
+use std::marker::Model;
 use std::rc::Rc;
 
 /// What the ranges of a program's lines depend on in its file: where its header begins, the size of
@@ -18,21 +25,8 @@ pub struct ProgramKey {
     pub(crate) str_offsets_base: u64,
 }
 
-/// The ranges of the lines of a program that was run; none where they are refused.
-#[derive(Drop)]
-pub struct ProgramRanges {
-    pub(crate) key: ProgramKey,
-    pub(crate) ranges: Rc<Vec<Range>>,
-}
-
-/// The program of a file that was run last for ranges, if one was.
-#[derive(Drop)]
-pub struct LastProgram {
-    pub(crate) program: Option<ProgramRanges>,
-}
-
 // What a unit's program depends on that the unit says, if it has one.
-pub(crate) fn program_key<R: Reader>(unit: &UnitRef<'_, R>) -> Option<ProgramKey>
+fn program_key<R: Reader>(unit: &UnitRef<'_, R>) -> Option<ProgramKey>
     ensures { result ≡ program_key unit.now.facts }
 {
     let unit = unit.unit;
@@ -48,22 +42,126 @@ pub(crate) fn program_key<R: Reader>(unit: &UnitRef<'_, R>) -> Option<ProgramKey
     }
 }
 
-impl LastProgram {
+/// A program that was run for a unit: the ranges of its lines, none where they are refused, and the
+/// lines. A unit without a program has none of both.
+#[derive(Drop)]
+pub struct ProgramRun<R: Reader> {
+    key: Option<ProgramKey>,
+    texts: UnitTexts<R>,
+    ranges: Rc<Vec<Range>>,
+    lines: Result<LineIndex, Error>,
+}
+
+impl<R: Reader> Model for ProgramRun<R> {
+    ghost use Rattle.addr2line_units.specs.LastPrograms.{ProgramRun as Run};
+
+    ghost Value = { Run };
+
+    ghost view = { λ p. record {
+      key = p.key;
+      texts = p.texts;
+      ranges = p.ranges.value.items;
+      lines = p.lines;
+    } };
+}
+
+impl<R: Reader> ProgramRun<R> {
+    /// That of a unit with these ranges and lines, which it shares. The only refusal is out of
+    /// memory.
+    pub(crate) fn new(
+        unit: &UnitRef<'_, R>,
+        ranges: &Rc<Vec<Range>>,
+        lines: &Result<LineIndex, Error>,
+    ) -> Result<Self, Error>
+        ensures { ReturnsOrNoMemory result (Ok (record {
+          key = program_key unit.now.facts;
+          texts = unit_texts unit.now.facts;
+          ranges = ranges.now.value.items;
+          lines = lines.now;
+        })) }
+    {
+        Ok(ProgramRun {
+            key: program_key(unit),
+            texts: UnitTexts::of_unit(unit)?,
+            ranges: share(ranges)?,
+            lines: share_lines(lines)?,
+        })
+    }
+
+    // The ranges of its lines.
+    pub(crate) fn ranges(&self) -> &Rc<Vec<Range>>
+        ensures { result.now.value.items ≡ self.now.ranges }
+    {
+        &self.ranges
+    }
+
+    // Its lines for another unit whose program depends on the same, and their run with them; none
+    // where the unit has another directory or name.
+    pub(crate) fn lines_for(
+        &self,
+        unit: &UnitRef<'_, R>,
+        runs: &mut Runs,
+    ) -> Result<Option<Result<LineIndex, Error>>, Error>
+        ensures { IfOk result
+            (λ lines. SharesLines unit.now.facts self.now lines runs.old runs.new) }
+    {
+        if !self.texts.are_of(unit) {
+            return Ok(None);
+        }
+        Ok(Some(share_run(unit, &self.lines, runs)?))
+    }
+}
+
+/// The program of a file that was run last for ranges, if one was, and the maker of the counters of
+/// looks at lines, since units share these.
+#[derive(Drop)]
+pub struct LastProgram<R: Reader> {
+    counters: Counters,
+    program: Option<ProgramRun<R>>,
+}
+
+impl<R: Reader> Model for LastProgram<R> {
+    ghost use Rattle.addr2line_units.specs.LastPrograms.{LastProgram as Last};
+
+    ghost Value = { Last };
+
+    ghost view = { λ l. record { counter = l.counters; program = l.program } };
+}
+
+impl<R: Reader> LastProgram<R> {
     /// None yet. It takes no memory.
     pub fn new() -> Self
         ensures { result.program ≡ None }
     {
-        LastProgram { program: None }
+        LastProgram {
+            counters: Counters::new(),
+            program: None,
+        }
     }
 
-    // Its ranges, if it depends on the same.
-    pub(crate) fn ranges(&self, key: &ProgramKey) -> Option<&Rc<Vec<Range>>>
-        ensures { MatchOption result (Unit {0})
-            (λ r. IsRunBy self.now.program key.now r.now.value.items) }
+    /// A counter of looks at the lines of a unit.
+    pub fn counter(&self) -> Probes
+        ensures { result ≡ record { name = self.now.counter; count = 0 } }
     {
+        self.counters.counter()
+    }
+
+    // Its run, if the program of a unit depends on the same.
+    pub(crate) fn run_for(&self, unit: &UnitRef<'_, R>) -> Option<&ProgramRun<R>>
+        ensures { MatchOption result (Unit {0})
+            (λ p. IsRunFor unit.now.facts self.now.program p.now) }
+    {
+        let key = program_key(unit);
         match &self.program {
-            Some(program) if program.key == *key => Some(&program.ranges),
+            Some(program) if program.key == key => Some(program),
             _ => None,
         }
+    }
+
+    // Makes this the last one.
+    pub(crate) fn keep(&mut self, program: ProgramRun<R>)
+        ensures { self.new ≡ record self.old { program = Some program } }
+    {
+        self.program = Some(program);
     }
 }

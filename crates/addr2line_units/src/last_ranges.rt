@@ -1,21 +1,33 @@
 //! The ranges that were read last, which units in a row may share.
 
+ghost use Rattle.std.specs.Prelude.{◌≡◌};
 ghost use Rattle.gimli_dwarf.specs.DwarfFiles.{DwarfFile};
 ghost use Rattle.gimli_dwarf.specs.UnitFacts.{UnitInFile};
-ghost use Rattle.addr2line_units.specs.LastRanges.{AreLastOf, AreLastFor};
+ghost use Rattle.addr2line_units.specs.LastRanges.{AreLastOf, AreLastFor, counter_of};
 
 use crate::last_list::LastList;
 use crate::last_program::LastProgram;
+use addr2line_index::Probes;
+use gimli_lines_rows::Reader;
+use std::marker::Model;
 
 /// The ranges of a file that were read last, of a range list and of a line number program. A unit
 /// that names the same shares them.
 #[derive(Drop)]
-pub struct LastRanges {
+pub struct LastRanges<R: Reader> {
     pub(crate) list: LastList,
-    pub(crate) program: LastProgram,
+    pub(crate) program: LastProgram<R>,
 }
 
-impl LastRanges {
+impl<R: Reader> Model for LastRanges<R> {
+    ghost use Rattle.addr2line_units.specs.LastRanges.{LastRanges as Last};
+
+    ghost Value = { Last };
+
+    ghost view = { λ l. record { list = l.list; program = l.program } };
+}
+
+impl<R: Reader> LastRanges<R> {
     /// None yet. It takes no memory.
     pub fn new() -> Self
         ensures files { (file : DwarfFile) → AreLastOf file result }
@@ -25,5 +37,13 @@ impl LastRanges {
             list: LastList::new(),
             program: LastProgram::new(),
         }
+    }
+
+    /// A counter of looks at what is kept of a unit. All units that may share what was read last
+    /// have counters of this name.
+    pub fn counter(&self) -> Probes
+        ensures { result ≡ record { name = counter_of self.now; count = 0 } }
+    {
+        self.program.counter()
     }
 }

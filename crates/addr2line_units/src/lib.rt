@@ -17,6 +17,7 @@ pub mod root;
 mod rows;
 mod unit_arange;
 pub mod unit_lines;
+pub mod unit_texts;
 
 pub use addr2line_index::{
     LineCursor, LineIndex, LineRow, Lines, LinesBuilder, Location, Probes, RangeIndex, Ranged,
@@ -44,3 +45,4 @@ pub use partial::is_partial;
 pub use ranges::{RootRanges, entry_ranges, ranges_of_attributes, ranges_of_entry};
 pub use root::UnitRoot;
 pub use unit_lines::{Runs, UnitLines};
+pub use unit_texts::copy_of;

@@ -1,6 +1,6 @@
 //! The ranges that a unit covers (DWARF 5, 2.17 and 3.1.1).
 
-ghost use Rattle.std.specs.Prelude.{◌≡◌, ◌+◌, Some, Ok, OnOk, IfOk, map};
+ghost use Rattle.std.specs.Prelude.{◌≡◌, ◌+◌, Ok, OnOk, IfOk, map};
 ghost use Rattle.std.specs.Option.{option_to_list};
 ghost use Rattle.gimli_lines_rows.specs.Calls.{ReturnsAsOrNoMemory, ReturnsOrNoMemory};
 ghost use Rattle.gimli_dwarf.specs.EntryViews.{raw_attributes};
@@ -12,19 +12,19 @@ ghost use Rattle.addr2line_units.specs.ArangeIndexes.{IsIndexOf};
 ghost use Rattle.addr2line_units.specs.CountedRuns.{runs_for_lines};
 ghost use Rattle.addr2line_units.specs.LastFacts.{root_range, declared_by, entry_ranges_by};
 ghost use Rattle.addr2line_units.specs.LastLists.{IsLastOf};
-ghost use Rattle.addr2line_units.specs.LastPrograms.{program_key, HasHeaderInFile, IsLastProgramOf, IsLastProgramFor};
-ghost use Rattle.addr2line_units.specs.LastRanges.{AreLastOf, AreLastFor};
-ghost use Rattle.addr2line_units.specs.RootRanges.{ranges_by_run, RunsForRanges};
+ghost use Rattle.addr2line_units.specs.LastPrograms.{HasHeaderInFile, IsLastProgramOf, IsLastProgramFor};
+ghost use Rattle.addr2line_units.specs.LastRanges.{AreLastOf, AreLastFor, counter_of};
+ghost use Rattle.addr2line_units.specs.RootRanges.{ranges_of_counted, ranges_by_run, RunsForRanges};
 
 use crate::arange_index::ArangeIndex;
 use crate::aranges::push_if_any;
 use crate::facts::{LastFacts, facts_of};
 use crate::last_list::{LastList, share, shared_list};
-use crate::last_program::{LastProgram, ProgramKey, ProgramRanges, program_key};
+use crate::last_program::{LastProgram, ProgramRun};
 use crate::last_ranges::LastRanges;
 use crate::lists::listed_ranges;
 use crate::unit_lines::{Runs, UnitLines};
-use addr2line_index::LineSequence;
+use addr2line_index::{LineIndex, LineSequence, Probes};
 use gimli_dwarf::UnitRef;
 use gimli_lines_rows::{Attribute, Error, Range, Reader, ReaderOffset};
 use std::alloc::Global;
@@ -142,8 +142,8 @@ fn ranges_of_sequences(alloc: Global, sequences: &[LineSequence]) -> Result<Vec<
 }
 
 // Those of lines. Refused lines have none.
-fn ranges_of_lines(alloc: Global, lines: &Result<UnitLines, Error>) -> Result<Vec<Range>, Error>
-    ensures { ReturnsAsOrNoMemory (λ v. v.items) result (Ok (ranges_of_lines lines.now)) }
+fn ranges_of_lines(alloc: Global, lines: &Result<LineIndex, Error>) -> Result<Vec<Range>, Error>
+    ensures { ReturnsAsOrNoMemory (λ v. v.items) result (Ok (ranges_of_counted lines.now)) }
 {
     match lines {
         Ok(lines) => ranges_of_sequences(alloc, lines.lines().sequences()),
@@ -152,11 +152,11 @@ fn ranges_of_lines(alloc: Global, lines: &Result<UnitLines, Error>) -> Result<Ve
 }
 
 /// The ranges of a unit, and its lines, or why they can't be read, where its line number program
-/// was run for the ranges.
+/// was run for the ranges, for this unit or for one before it whose lines are the same.
 #[derive(Drop)]
 pub struct RootRanges {
     pub ranges: Rc<Vec<Range>>,
-    pub lines: Option<Result<UnitLines, Error>>,
+    pub lines: Option<Result<LineIndex, Error>>,
 }
 
 impl Model for RootRanges {
@@ -167,91 +167,74 @@ impl Model for RootRanges {
     ghost view = { λ r. record { ranges = r.ranges.value.items; lines = r.lines } };
 }
 
-// The ranges of a unit's lines, with the lines.
+// The ranges of a unit's lines, with the lines. Its program is the last one then.
 fn ranges_by_run<R: Reader>(
     alloc: Global,
     unit: &UnitRef<'_, R>,
+    last: &mut LastProgram<R>,
     runs: &mut Runs,
+    probes: &Probes,
 ) -> Result<RootRanges, Error>
-    ensures value { ReturnsOrNoMemory result (Ok (ranges_by_run unit.now)) }
+    requires counter { probes.now.name ≡ last.old.counter }
+    requires last { IsLastProgramOf unit.now.file last.old }
+    ensures value { ReturnsOrNoMemory result (Ok (ranges_by_run probes.now.name unit.now)) }
     ensures counted { OnOk result (runs.new ≡ runs.old + runs_for_lines unit.now.facts) }
+    ensures last { HasHeaderInFile unit.now → IsLastProgramOf unit.now.file last.new }
 {
-    let lines = UnitLines::run_to_keep(alloc, unit, runs)?;
+    let lines = UnitLines::run_to_index(alloc, unit, runs, probes)?;
     let ranges = Rc::new(alloc, ranges_of_lines(alloc, &lines)?)?;
+    last.keep(ProgramRun::new(unit, &ranges, &lines)?);
     Ok(RootRanges {
         ranges,
         lines: Some(lines),
     })
 }
 
-// Those of a unit whose program depends on this. It isn't run if the last one depends on the same;
-// else this is the last one then.
-fn ranges_by_key<R: Reader>(
-    alloc: Global,
-    unit: &UnitRef<'_, R>,
-    last: &mut LastProgram,
-    runs: &mut Runs,
-    key: ProgramKey,
-) -> Result<RootRanges, Error>
-    requires key { program_key unit.now.facts ≡ Some key }
-    requires last { IsLastProgramFor unit.now last.old }
-    ensures ranges { ReturnsAsOrNoMemory (λ r. r.ranges) result
-        (Ok (ranges_of_lines (lines_of_unit unit.now))) }
-    ensures lines { IfOk result
-        (λ r. RunsForRanges unit.now r.ranges r.lines runs.old runs.new) }
-    ensures last { HasHeaderInFile unit.now → IsLastProgramOf unit.now.file last.new }
-{
-    if let Some(ranges) = last.ranges(&key) {
-        return Ok(RootRanges {
-            ranges: share(ranges)?,
-            lines: None,
-        });
-    }
-    let found = ranges_by_run(alloc, unit, runs)?;
-    last.program = Some(ProgramRanges {
-        key,
-        ranges: share(&found.ranges)?,
-    });
-    Ok(found)
-}
-
-// The ranges of a unit's lines, and the lines where its program was run for them.
+// The ranges of a unit's lines, and the lines where its program was run for them. It isn't run if
+// the last one depends on the same.
 fn ranges_by_program<R: Reader>(
     alloc: Global,
     unit: &UnitRef<'_, R>,
-    last: &mut LastProgram,
+    last: &mut LastProgram<R>,
     runs: &mut Runs,
+    probes: &Probes,
 ) -> Result<RootRanges, Error>
+    requires counter { probes.now.name ≡ last.old.counter }
     requires last { IsLastProgramFor unit.now last.old }
     ensures ranges { ReturnsAsOrNoMemory (λ r. r.ranges) result
         (Ok (ranges_of_lines (lines_of_unit unit.now))) }
     ensures lines { IfOk result
-        (λ r. RunsForRanges unit.now r.ranges r.lines runs.old runs.new) }
+        (λ r. RunsForRanges probes.now.name unit.now r.ranges r.lines runs.old runs.new) }
     ensures last { HasHeaderInFile unit.now → IsLastProgramOf unit.now.file last.new }
 {
-    match program_key(unit) {
-        Some(key) => ranges_by_key(alloc, unit, last, runs, key),
-        None => ranges_by_run(alloc, unit, runs),
+    if let Some(run) = last.run_for(unit) {
+        return Ok(RootRanges {
+            ranges: share(run.ranges())?,
+            lines: run.lines_for(unit, runs)?,
+        });
     }
+    ranges_by_run(alloc, unit, last, runs, probes)
 }
 
 // Those that are declared, or else those of the unit's lines.
 fn or_by_program<R: Reader>(
     alloc: Global,
     unit: &UnitRef<'_, R>,
-    last: &mut LastProgram,
+    last: &mut LastProgram<R>,
     runs: &mut Runs,
+    probes: &Probes,
     declared: Rc<Vec<Range>>,
 ) -> Result<RootRanges, Error>
+    requires counter { probes.now.name ≡ last.old.counter }
     requires last { IsLastProgramFor unit.now last.old }
     ensures ranges { ReturnsAsOrNoMemory (λ r. r.ranges) result
         (Ok (or_else declared.value.items (ranges_of_lines (lines_of_unit unit.now)))) }
     ensures lines { IfOk result
-        (λ r. RunsForRanges unit.now r.ranges r.lines runs.old runs.new) }
+        (λ r. RunsForRanges probes.now.name unit.now r.ranges r.lines runs.old runs.new) }
     ensures last { HasHeaderInFile unit.now → IsLastProgramOf unit.now.file last.new }
 {
     if declared.as_ref().is_empty() {
-        return ranges_by_program(alloc, unit, last, runs);
+        return ranges_by_program(alloc, unit, last, runs, probes);
     }
     Ok(RootRanges {
         ranges: declared,
@@ -263,27 +246,29 @@ fn or_by_program<R: Reader>(
 /// its lines, for which its line number program is run. Declared they are by its range list, or
 /// else by `.debug_aranges`, or else by low_pc and high_pc. Refused is an attribute whose address
 /// or list can't be read, the first of them, and then a range list. A list or a program that is the
-/// last one of the file isn't read or run again.
+/// last one of the file isn't read or run again. The counter counts looks at the lines.
 pub fn ranges_of_attributes<R: Reader>(
     alloc: Global,
     unit: &UnitRef<'_, R>,
     aranges: &ArangeIndex,
-    last: &mut LastRanges,
+    last: &mut LastRanges<R>,
     runs: &mut Runs,
+    probes: &Probes,
     attributes: &[Attribute<R>],
 ) -> Result<RootRanges, Error>
     requires index { IsIndexOf unit.now.file aranges.now }
     requires last { AreLastFor unit.now last.old }
+    requires counter { probes.now.name ≡ counter_of last.old }
     ensures ranges { ReturnsAsOrNoMemory (λ r. r.ranges) result
         (ranges_of_attributes unit.now (lines_of_unit unit.now)
         (raw_attributes R.view R.Offset.count attributes.now)) }
     ensures lines { IfOk result
-        (λ r. RunsForRanges unit.now r.ranges r.lines runs.old runs.new) }
+        (λ r. RunsForRanges probes.now.name unit.now r.ranges r.lines runs.old runs.new) }
     ensures last { HasHeaderInFile unit.now → AreLastOf unit.now.file last.new }
 {
     let facts = facts_of(unit, attributes)?;
     let declared = declared_ranges(alloc, unit, aranges, &mut last.list, &facts)?;
-    or_by_program(alloc, unit, &mut last.program, runs, declared)
+    or_by_program(alloc, unit, &mut last.program, runs, probes, declared)
 }
 
 // A range as a list, if there is one.

@@ -7,7 +7,7 @@ ghost use Rattle.addr2line_index.specs.UnitLines.{lines_of_unit};
 ghost use Rattle.addr2line_index.specs.Contexts.{unit_of_root, unit_of_entry};
 ghost use Rattle.addr2line_units.specs.ArangeIndexes.{IsIndexOf};
 ghost use Rattle.addr2line_units.specs.LastPrograms.{HasHeaderInFile};
-ghost use Rattle.addr2line_units.specs.LastRanges.{AreLastOf, AreLastFor};
+ghost use Rattle.addr2line_units.specs.LastRanges.{AreLastOf, AreLastFor, counter_of};
 ghost use Rattle.addr2line_units.specs.RootRanges.{RunsForRanges, unit_with};
 
 use crate::arange_index::ArangeIndex;
@@ -15,7 +15,8 @@ use crate::language::language_of;
 use crate::last_ranges::LastRanges;
 use crate::partial::is_partial;
 use crate::ranges::{RootRanges, ranges_of_attributes};
-use crate::unit_lines::{Runs, UnitLines};
+use crate::unit_lines::Runs;
+use addr2line_index::{LineIndex, Probes};
 use gimli_dwarf::{DebuggingInformationEntry, UnitRef};
 use gimli_lines_rows::{Attribute, DwLang, Error, Range, Reader};
 use std::alloc::Global;
@@ -23,12 +24,13 @@ use std::marker::Model;
 use std::rc::Rc;
 
 /// The ranges and the language that the root of a unit says, and the unit's lines, or why they
-/// can't be read, where its line number program was run for the ranges.
+/// can't be read, where its line number program was run for the ranges, for this unit or for one
+/// before it whose lines are the same.
 #[derive(Drop)]
 pub struct UnitRoot {
     pub ranges: Rc<Vec<Range>>,
     pub language: Option<DwLang>,
-    pub lines: Option<Result<UnitLines, Error>>,
+    pub lines: Option<Result<LineIndex, Error>>,
 }
 
 impl Model for UnitRoot {
@@ -48,22 +50,24 @@ impl UnitRoot {
     /// What the root of a unit says; nothing of a unit that others import. The unit's line number
     /// program is run only where the root declares no ranges. Refused is an attribute of the root,
     /// or else its range list. A list or a program that is the last one of the file isn't read or
-    /// run again.
+    /// run again. The counter counts looks at the lines.
     pub fn read<R: Reader>(
         alloc: Global,
         unit: &UnitRef<'_, R>,
         root: &DebuggingInformationEntry<R>,
         aranges: &ArangeIndex,
-        last: &mut LastRanges,
+        last: &mut LastRanges<R>,
         runs: &mut Runs,
+        probes: &Probes,
     ) -> Result<Self, Error>
         requires index { IsIndexOf unit.now.file aranges.now }
         requires last { AreLastFor unit.now last.old }
+        requires counter { probes.now.name ≡ counter_of last.old }
         ensures unit { ReturnsAsOrNoMemory (unit_with unit.now) result
             (unit_of_entry unit.now (lines_of_unit unit.now)
             (entry_of R.view R.Offset.count root.now)) }
         ensures lines { IfOk result
-            (λ r. RunsForRanges unit.now r.ranges r.lines runs.old runs.new) }
+            (λ r. RunsForRanges probes.now.name unit.now r.ranges r.lines runs.old runs.new) }
         ensures last { HasHeaderInFile unit.now → AreLastOf unit.now.file last.new }
     {
         let facts = unit.unit;
@@ -74,7 +78,7 @@ impl UnitRoot {
                 lines: None,
             });
         }
-        UnitRoot::of_root(alloc, unit, aranges, last, runs, root.attrs())
+        UnitRoot::of_root(alloc, unit, aranges, last, runs, probes, root.attrs())
     }
 
     // What the attributes of a root say.
@@ -82,20 +86,22 @@ impl UnitRoot {
         alloc: Global,
         unit: &UnitRef<'_, R>,
         aranges: &ArangeIndex,
-        last: &mut LastRanges,
+        last: &mut LastRanges<R>,
         runs: &mut Runs,
+        probes: &Probes,
         attributes: &[Attribute<R>],
     ) -> Result<Self, Error>
         requires index { IsIndexOf unit.now.file aranges.now }
         requires last { AreLastFor unit.now last.old }
+        requires counter { probes.now.name ≡ counter_of last.old }
         ensures unit { ReturnsAsOrNoMemory (unit_with unit.now) result
             (unit_of_root unit.now (lines_of_unit unit.now)
             (raw_attributes R.view R.Offset.count attributes.now)) }
         ensures lines { IfOk result
-            (λ r. RunsForRanges unit.now r.ranges r.lines runs.old runs.new) }
+            (λ r. RunsForRanges probes.now.name unit.now r.ranges r.lines runs.old runs.new) }
         ensures last { HasHeaderInFile unit.now → AreLastOf unit.now.file last.new }
     {
-        let found = ranges_of_attributes(alloc, unit, aranges, last, runs, attributes)?;
+        let found = ranges_of_attributes(alloc, unit, aranges, last, runs, probes, attributes)?;
         let language = language_of(attributes)?;
         let RootRanges { ranges, lines } = found;
         Ok(UnitRoot {

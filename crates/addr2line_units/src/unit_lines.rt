@@ -92,26 +92,9 @@ impl UnitLines {
         Ok(UnitLines { lines: lines? })
     }
 
-    /// The same run, with a refusal to be kept as lines are. The only refusal of the call is out of
-    /// memory.
-    pub fn run_to_keep<R: Reader>(
-        alloc: Global,
-        unit: &UnitRef<'_, R>,
-        runs: &mut Runs,
-    ) -> Result<Result<Self, Error>, Error>
-        ensures lines { ReturnsOrNoMemory result (Ok (lines_of_unit unit.now)) }
-        ensures counted { CountsRunsOrNoMemory (runs_for_lines unit.now.facts) result
-            runs.old runs.new }
-    {
-        match UnitLines::run(alloc, unit, runs) {
-            Ok(lines) => Ok(Ok(lines)),
-            Err(Error::Memory) => Err(Error::Memory),
-            Err(fault) => Ok(Err(fault)),
-        }
-    }
-
-    /// The same run, with its lines indexed for searches; this counter counts looks at them. A run
-    /// whose index is out of memory isn't counted.
+    /// The same run, with a refusal to be kept as lines are, and lines indexed for searches; this
+    /// counter counts looks at them. The only refusal of the call is out of memory. A run whose
+    /// index is out of memory isn't counted.
     pub fn run_to_index<R: Reader>(
         alloc: Global,
         unit: &UnitRef<'_, R>,
@@ -129,13 +112,6 @@ impl UnitLines {
         let index = index_to_keep(alloc, lines, probes)?;
         count_run(unit, runs);
         Ok(index)
-    }
-
-    /// The lines.
-    pub fn lines(&self) -> &Lines
-        ensures { result.now ≡ self.now }
-    {
-        &self.lines
     }
 
     /// The lines, to be indexed for searches.
@@ -156,6 +132,33 @@ fn count_run<R: Reader>(unit: &UnitRef<'_, R>, runs: &mut Runs)
         Some(_) => runs.raise(),
         None => {}
     }
+}
+
+// The same lines once more, or the refusal of them. The only refusal of the call is out of memory.
+pub(crate) fn share_lines(
+    lines: &Result<LineIndex, Error>,
+) -> Result<Result<LineIndex, Error>, Error>
+    ensures { ReturnsOrNoMemory result (Ok lines.now) }
+{
+    match lines {
+        Ok(lines) => Ok(Ok(lines.share()?)),
+        Err(error) => Ok(Err(*error)),
+    }
+}
+
+// The lines of a unit that another has, too: the run of their program is counted for each of both.
+pub(crate) fn share_run<R: Reader>(
+    unit: &UnitRef<'_, R>,
+    lines: &Result<LineIndex, Error>,
+    runs: &mut Runs,
+) -> Result<Result<LineIndex, Error>, Error>
+    ensures lines { ReturnsOrNoMemory result (Ok lines.now) }
+    ensures counted { CountsRunsOrNoMemory (runs_for_lines unit.now.facts) result
+        runs.old runs.new }
+{
+    let lines = share_lines(lines)?;
+    count_run(unit, runs);
+    Ok(lines)
 }
 
 // The index of lines, or the refusal of them. The only refusal of the call is out of memory.

@@ -87,7 +87,8 @@ impl Question for Ranges {
         let mut runs = Runs::new();
         let root = unit.root(alloc)?;
         let mut last = LastRanges::new();
-        let root = UnitRoot::read(alloc, unit, &root, &aranges, &mut last, &mut runs)?;
+        let probes = last.counter();
+        let root = UnitRoot::read(alloc, unit, &root, &aranges, &mut last, &mut runs, &probes)?;
         Ok(root.ranges.as_ref().clone()?)
     }
 }
