@@ -290,8 +290,11 @@ fn push_value<R: Reader>(
 {
     let name = specification.name();
     let value = read_value(place, reader, encoding, specification, form)?;
-    attributes.push(Attribute { name, form, value })?;
-    Ok(())
+    match attributes.push(Attribute { name, form, value }) {
+        Ok(()) => Ok(()),
+        // What `?` calls here is no part of this function, and so kept each result in memory.
+        Err(_attribute) => Err(Error::Memory),
+    }
 }
 
 // A call that takes a form. The commonest forms are constants in it, so that each has code of its
