@@ -5,7 +5,6 @@ use Rattle.addr2line_functions.specs.Error.{Error}
 use Rattle.addr2line_functions.specs.Error.TheVariants.{Memory}
 use Rattle.addr2line_functions.specs.UnitFacts.{UnitInFile}
 use Rattle.addr2line_functions.specs.Range.{Range}
-use Rattle.addr2line_functions.specs.Lines.{Lines}
 use Rattle.addr2line_functions.specs.UnitLines.{lines_of_unit}
 use Rattle.addr2line_functions.specs.UnitRanges.{ranges_of_lines}
 use Rattle.addr2line_units.specs.CountedRuns.{runs_for_lines}
@@ -78,54 +77,43 @@ made load = Ok load
 pub load_made : (load meaning : Result (Option SplitLoad) Error) → made meaning ≡ made load → load ≡ meaning
 load_made load meaning h = cc
 
--- lines with a counter, if there are some
-abbrev pub with_counter_if_any : ℕ → Option (Result Lines Error) → Option (Result CountedLines Error)
-with_counter_if_any counter read = option_map (counted_lines counter) read
-
-is_any : (counter : ℕ) (read : Option (Result Lines Error)) → is_some (with_counter_if_any counter read) ≡ is_some read
-is_any counter None = refl
-is_any counter (Some l) = refl
-
 -- runs that are counted from none on
 from_none : (n m : ℕ) → n ≡ 0 + m → n ≡ m
 from_none n m is = omega arith
 
-module _ (u : UnitInFile) (ranges : List Range) (runs : ℕ) where
-  keeps_root : (load : Result (Option SplitLoad) Error) (read : Option (Result Lines Error)) (k : KeptFunctions)
-      (counter : ℕ) → RunsForRanges u ranges read 0 runs → load ≡ load_of u → k ≡ nothing_kept
-      → KeepsParses u load None (with_counter_if_any counter read) runs k counter
-  keeps_root load None k counter run is none = record {
+module _ (u : UnitInFile) (ranges : List Range) (runs counter : ℕ) where
+  keeps_root : (load : Result (Option SplitLoad) Error) (read : Option (Result CountedLines Error)) (k : KeptFunctions)
+      → RunsForRanges counter u ranges read 0 runs → load ≡ load_of u → k ≡ nothing_kept
+      → KeepsParses u load None read runs k counter
+  keeps_root load None k run is none = record {
     load_is = is;
     lines_are = tt;
     runs_are = run;
     functions_are = keeps_nothing u load None k counter none;
   }
-  keeps_root load (Some l) k counter run is none = record {
+  keeps_root load (Some l) k run is none = record {
     load_is = is;
-    lines_are = ap (counted_lines counter) run.0;
+    lines_are = run.0;
     runs_are = from_none runs (runs_for_lines u.facts) run.2;
     functions_are = keeps_nothing u load None k counter none;
   }
 
-  pub keeps_new : (load : Result (Option SplitLoad) Error) (read : Option (Result Lines Error))
-      (lines : Option (Result CountedLines Error)) (k : KeptFunctions) (counter : ℕ)
-      → lines ≡ with_counter_if_any counter read → RunsForRanges u ranges read 0 runs → load ≡ load_of u
+  pub keeps_new : (load : Result (Option SplitLoad) Error) (read lines : Option (Result CountedLines Error))
+      (k : KeptFunctions) → lines ≡ read → RunsForRanges counter u ranges read 0 runs → load ≡ load_of u
       → k ≡ nothing_kept → KeepsParses u load None lines runs k counter
-  keeps_new load read lines k counter same run is none =
+  keeps_new load read lines k same run is none =
       let P : Option (Result CountedLines Error) → Type 0 = λ l. KeepsParses u load None l runs k counter in
-      subst P (sym same) (keeps_root load read k counter run is none)
+      subst P (sym same) (keeps_root load read k run is none)
 
-  ranges_run : (read : Option (Result Lines Error)) → RunsForRanges u ranges read 0 runs → is_some read ≡ true
-      → ranges ≡ ranges_of_lines (lines_of_unit u)
+  ranges_run : (read : Option (Result CountedLines Error)) → RunsForRanges counter u ranges read 0 runs
+      → is_some read ≡ true → ranges ≡ ranges_of_lines (lines_of_unit u)
   ranges_run None run kept = absurd cc
-  ranges_run (Some l) run kept = run.1 ∙ ap ranges_of_lines run.0
+  ranges_run (Some l) run kept = run.1
 
   -- its ranges are those of its lines where these are kept
-  pub ranges_new : (read : Option (Result Lines Error)) (lines : Option (Result CountedLines Error)) (counter : ℕ)
-      → lines ≡ with_counter_if_any counter read → RunsForRanges u ranges read 0 runs
-      → is_some lines ≡ true → ranges ≡ ranges_of_lines (lines_of_unit u)
-  ranges_new read lines counter same run kept =
-      ranges_run read run (sym (is_any counter read) ∙ sym (ap is_some same) ∙ kept)
+  pub ranges_new : (read lines : Option (Result CountedLines Error)) → lines ≡ read
+      → RunsForRanges counter u ranges read 0 runs → is_some lines ≡ true → ranges ≡ ranges_of_lines (lines_of_unit u)
+  ranges_new read lines same run kept = ranges_run read run (sym (ap is_some same) ∙ kept)
 
 -- ---- lines that were run for just now
 

@@ -24,8 +24,8 @@ impl<R: Reader> Model for UnitTexts<R> {
     ghost Value = { Texts };
 
     ghost view = { λ t. record {
-      directory = option_map (λ d. bytes_of (R.view d)) t.directory;
-      name = option_map (λ n. bytes_of (R.view n)) t.name;
+      directory = option_map bytes_of (option_map R.view t.directory);
+      name = option_map bytes_of (option_map R.view t.name);
     } };
 }
 
@@ -41,8 +41,8 @@ pub fn copy_of<R: Reader>(reader: &Option<R>) -> Result<Option<R>, Error>
 
 // Whether two texts are the same bytes, or both are missing.
 fn are_same<R: Reader>(text: &Option<R>, other: &Option<R>) -> bool
-    ensures { result ≡ true → option_map (λ t. bytes_of (R.view t)) text.now
-        ≡ option_map (λ t. bytes_of (R.view t)) other.now }
+    ensures { result ≡ true → option_map bytes_of (option_map R.view text.now)
+        ≡ option_map bytes_of (option_map R.view other.now) }
 {
     match (text, other) {
         (Some(text), Some(other)) => text.as_bytes() == other.as_bytes(),

@@ -14,15 +14,16 @@ pub invariant_of-result : goal.invariant_of-result
 invariant_of-result g c =
     let u = c.args.main in
     let root = c.root.inside in
-    keeps_new u root.ranges.value.items c.args.runs c.in_ok-load.load root.lines c.in_ok-lines.lines c.not_read.result
-    c.new-probes.result.name c.in_ok-lines.ensures.ok
-    (subst (λ (r : RootFacts). RunsForRanges u r.ranges r.lines 0 c.args.runs) (sym c.root.view_is) c.requires)
+    let counter = c.args.probes.name in
+    keeps_new u root.ranges.value.items c.args.runs counter c.in_ok-load.load root.lines c.in_ok-lines.lines
+    c.not_read.result c.in_ok-lines.ensures.ok
+    (subst (λ (r : RootFacts). RunsForRanges counter u r.ranges r.lines 0 c.args.runs) (sym c.root.view_is) c.requires)
     (load_made c.in_ok-load.load (load_of u) c.in_ok-load.ensures) c.not_read.ensures
 
 pub returns-clause-lines : goal.returns-clause-lines
 returns-clause-lines g c =
     let u = c.args.main in
     let root = c.root.inside in
-    ranges_new u root.ranges.value.items c.args.runs root.lines c.in_ok-lines.lines c.new-probes.result.name
-    c.in_ok-lines.ensures.ok
-    (subst (λ (r : RootFacts). RunsForRanges u r.ranges r.lines 0 c.args.runs) (sym c.root.view_is) c.requires)
+    let counter = c.args.probes.name in
+    ranges_new u root.ranges.value.items c.args.runs counter root.lines c.in_ok-lines.lines c.in_ok-lines.ensures.ok
+    (subst (λ (r : RootFacts). RunsForRanges counter u r.ranges r.lines 0 c.args.runs) (sym c.root.view_is) c.requires)
