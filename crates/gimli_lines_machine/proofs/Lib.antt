@@ -1,3 +1,4 @@
+pub use Rattle.gimli_core_readers.proofs.ByteCountLemmas
 pub use Rattle.gimli_core_readers.proofs.Listings
 pub use Rattle.gimli_core_readers.proofs.NumberReadSizes
 pub use Rattle.gimli_core_readers.proofs.RefusedCalls

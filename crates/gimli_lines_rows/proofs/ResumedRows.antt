@@ -14,7 +14,8 @@ use Rattle.gimli_lines_machine.specs.declared.rules.LineRules.{LineRules}
 use Rattle.gimli_lines_machine.specs.LineInstructions.{InstructionOf, define_file}
 use Rattle.gimli_lines_machine.specs.Machine.{registers_after, next_registers, after_row, gives_row}
 use Rattle.gimli_lines_machine.specs.Decoding.{instruction_with}
-use Rattle.gimli_lines_machine.proofs.CutBytes.{after_after, after_front, after_zero}
+use Rattle.gimli_lines_machine.proofs.ByteCountLemmas.{after_after}
+use Rattle.gimli_lines_machine.proofs.CutBytes.{after_front, after_zero}
 use Rattle.gimli_lines_machine.proofs.CutInstructions.{cut-instruction}
 use Rattle.gimli_lines_rows.specs.ProgramInstructions.{rules_of, instruction_in, next_instruction}
 use Rattle.gimli_lines_rows.specs.ProgramRows.{Row, RemainingRows, TakesNoFile, header_after, header_with, rows_to_come, is_shown_by, state_after, next_step, Path, stays, shows, passes}

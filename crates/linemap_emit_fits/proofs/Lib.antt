@@ -2,7 +2,7 @@ pub use Rattle.linemap_emit_units.proofs.UnitProgramsRead
 pub use Rattle.linemap_emit_units.proofs.BuiltUnits
 pub use Rattle.linemap_emit_units.proofs.PlacedFiles
 pub use Rattle.linemap_emit_units.proofs.EmittedRowsBuilt
-pub use Rattle.linemap_emit_units.proofs.EmittedCallLemmas
+pub use Rattle.linemap_emit_units.proofs.AddedFiles
 mod NumberSizes
 mod StringSectionSizes
 mod InstructionSizes

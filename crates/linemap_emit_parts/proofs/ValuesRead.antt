@@ -12,12 +12,16 @@ use Rattle.gimli_lines_write_bytes.specs.NumberParsers.{fixed, unsigned, offset_
 use Rattle.gimli_lines_write_bytes.specs.Fixed.{number_bytes}
 use Rattle.gimli_lines_write_bytes.specs.Spelling.{unsigned_string}
 use Rattle.gimli_lines_header.specs.FormSpellings.{spelling}
-use Rattle.gimli_lines_header.specs.AttributeReading.{attribute, final_form, value, number_value, from_number, offset_or_fault, data_of_word}
+use Rattle.gimli_lines_header.specs.AttributeReading.{attribute, final_form, form_within, value, number_value, from_number, offset_or_fault, data_of_word}
 use Rattle.gimli_lines_header.specs.AttributeValues.{RawValue, string_reference, section_offset, address, unsigned_data, unit_reference}
 use Rattle.linemap_emit_parts.specs.EmittedEntries.{EmittedValue, strp, sec_offset, addr, udata, ref4, form_of, offset_form, spelled_value, raw_value_of, Fits}
-use Rattle.gimli_units_forms.proofs.FinalFormLemmas.{final_form-other}
 use Rattle.gimli_lines_write_bytes.proofs.FollowedReads.{Again, again_fixed, again_unsigned, offset_is_below}
 use Rattle.gimli_lines_write_bytes.specs.BytesAt.{bytes_at}
+
+-- a form that isn't indirect is the form of its value
+form_is : (form : ℕ) (v : View) → eqb form 0x16 ≡ false → final_form form v ≡ Ok (form, v)
+unfolding final_form form_within
+form_is form v other = rw other refl
 
 -- an attribute whose form spells a number
 number_again : (limit : ℕ) (e : Encoding) (is_big : Bool) (first name form n : ℕ) (number : Parser ℕ) (x : RawValue)
@@ -33,7 +37,7 @@ number_again limit e is_big first name form n number x xs other spells h means =
       let w = bytes_at is_big (first + length xs) rest in
       ap (λ (r : Result (ℕ × View) Error). proceed r
       (λ f. λ u. proceed (value limit e name None f u) (λ y. give (record { name = name; form = f; value = y }))))
-      (final_form-other form v other)
+      (form_is form v other)
       ∙ ap (λ (r : Result (RawValue × View) Error). proceed r
       (λ y. give (record { name = name; form = form; value = y }))) (spells v)
       ∙ ap (λ (r : Result (ℕ × View) Error). proceed (proceed r (λ m. lift (number_value limit e name form m)))

@@ -1,3 +1,4 @@
+pub use Rattle.linemap_emit_programs.proofs.AddedFiles
 pub use Rattle.linemap_emit_programs.proofs.BuiltUnits
 pub use Rattle.linemap_emit_programs.proofs.PlacedFiles
 pub use Rattle.linemap_emit_programs.proofs.SoundFiles
@@ -27,5 +28,5 @@ pub use Rattle.linemap_emit_programs.proofs.TableLocations
 pub use Rattle.linemap_emit_programs.proofs.RowLaws
 mod EmittedTextLemmas
 pub mod InlinedNameLemmas
-pub mod EmittedCallLemmas
+mod EmittedCallLemmas
 mod WorkedEmission

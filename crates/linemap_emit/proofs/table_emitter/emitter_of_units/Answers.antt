@@ -2,7 +2,7 @@ use Rattle.std.proofs.Common.{◌+◌, drop, map, refl, ap, subst, sym, ◌∙�
 use Rattle.std.proofs.lemmas.List.{drop_all}
 use Rattle.linemap_table.specs.TableUnit.{TableUnit}
 use Rattle.linemap_table.specs.TableViews.{unit_part}
-use Rattle.linemap_emit_fits.proofs.EmittedCallLemmas.{from_here}
+use Rattle.linemap_emit_fits.proofs.AddedFiles.{first_left}
 use Rattle.linemap_emit_fits.specs.TableEmission.{EmittedTable, with_emitted_unit, with_emitted_units, no_units}
 use Rattle.linemap_emit_fits.specs.FittingUnits.{AllUnitsFit}
 use Rattle.linemap_table.specs.EmissionTargets.{encoding_of, is_big_of}
@@ -22,7 +22,7 @@ unit-requires c =
     let i = c.loop-unit.unit-index in
     let unit = c.unit-item.result in
     let so_far = c.loop-unit.invariant in
-    let here = from_here us i unit c.loop-unit-test.true c.unit-item.is in
+    let here = first_left us i unit c.loop-unit-test.true c.unit-item.is in
     let fit = subst (λ (l : List TableUnit). AllUnitsFit e is_big (map unit_part l) so_far.0) here so_far.2 in
     can_take e is_big (unit_part unit) so_far.0 c.loop-unit.emitter (target_is_written c.args.target) so_far.1
     (first_fits e is_big (unit_part unit) (map unit_part (drop (i + 1) us)) so_far.0 fit)
@@ -35,7 +35,7 @@ loop-unit-preserved c =
     let i = c.loop-unit.unit-index in
     let unit = c.unit-item.result in
     let so_far = c.loop-unit.invariant in
-    let here = from_here us i unit c.loop-unit-test.true c.unit-item.is in
+    let here = first_left us i unit c.loop-unit-test.true c.unit-item.is in
     let rest = map unit_part (drop (i + 1) us) in
     let fit = subst (λ (l : List TableUnit). AllUnitsFit e is_big (map unit_part l) so_far.0) here so_far.2 in (
       with_emitted_unit e is_big (unit_part unit) so_far.0,
