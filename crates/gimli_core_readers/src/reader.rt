@@ -60,6 +60,13 @@ pub trait Reader: Drop {
         ensures value { ReturnsAsOrNoMemory view result (Ok (view self.now)) }
         ensures free { IsTrue copies_freely → IsOk result };
 
+    /// A second reader of some of the bytes.
+    fn copy_part(&self, begin: usize, count: usize) -> Result<Self, Error>
+        requires { begin + count ≤ length (view self.now).bytes }
+        ensures value { ReturnsAsOrNoMemory view result
+            (Ok (prefix count (after begin (view self.now)))) }
+        ensures free { IsTrue copies_freely → IsOk result };
+
     /// How many bytes are left.
     final fn len(&self) -> Self::Offset
         ensures value { Self.Offset.count result ≡ length (view self.now).bytes }

@@ -111,4 +111,13 @@ impl<E: Endianity> Reader for EndianBytes<E> {
             first: self.first,
         })
     }
+
+    fn copy_part(&self, begin: usize, count: usize) -> Result<Self, Error> {
+        let _count = self.bytes.len();
+        Ok(EndianBytes {
+            bytes: self.bytes.slice(begin..begin + count)?,
+            endian: self.endian,
+            first: self.first + begin as u64,
+        })
+    }
 }

@@ -214,4 +214,12 @@ impl<'a, E: Endianity> Reader for EndianSlice<'a, E> {
             first: self.first,
         })
     }
+
+    /// Takes no memory.
+    fn copy_part(&self, begin: usize, count: usize) -> Result<Self, Error> {
+        let mut part = self.copy()?;
+        part.advance(begin);
+        part.truncate(count)?;
+        Ok(part)
+    }
 }

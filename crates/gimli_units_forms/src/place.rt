@@ -42,11 +42,7 @@ pub(crate) fn cut<R: Reader>(
     if (place.slice().len() as u64) < length {
         return Err(Error::UnexpectedEof(place.offset_id()));
     }
-    let mut bytes = reader.copy()?;
-    bytes.advance(bytes_before(place, reader));
-    // As many bytes as are left have an offset.
-    let _left = bytes.as_bytes();
-    bytes.truncate(R::Offset::from_u64(length)?)?;
+    let bytes = reader.copy_part(bytes_before(place, reader), length as usize)?;
     place.advance(length as usize);
     Ok(bytes)
 }

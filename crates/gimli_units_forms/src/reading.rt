@@ -292,7 +292,7 @@ fn push_value<R: Reader>(
     let value = read_value(place, reader, encoding, specification, form)?;
     match attributes.push(Attribute { name, form, value }) {
         Ok(()) => Ok(()),
-        // What `?` calls here is no part of this function, and so kept each result in memory.
+        // No `?`: what it calls here isn't compiled in, so that each result would be in memory.
         Err(_attribute) => Err(Error::Memory),
     }
 }
