@@ -127,7 +127,28 @@ pub counted_ranges : (counter : ℕ) (lines : Result Lines Error)
 counted_ranges counter (Ok l) = refl
 counted_ranges counter (Err e) = refl
 
--- it is the last program of a file
+-- it is the last program of a file once it was run for a unit of it
+pub program_kept : (u : UnitInFile) (counter : ℕ) (last new : LastProgram) (p : ProgramRun) (ranges : List Range)
+    (lines : Result CountedLines Error) → new ≡ record last { program = Some p } → counter ≡ last.counter
+    → p ≡ record { key = program_key u.facts; texts = unit_texts u.facts; ranges = ranges; lines = lines }
+    → ranges ≡ ranges_of_counted lines → lines ≡ counted_lines counter (lines_of_unit u) → HasHeaderInFile u
+    → IsLastProgramOf u.file new
+program_kept u counter last new p ranges lines is name made ranges_are lines_are header =
+    let lines_of : p.lines ≡ counted_lines counter (lines_of_unit u) =
+    ap (λ (q : ProgramRun). q.lines) made ∙ lines_are in
+    let program : IsProgramOf u.file last.counter p = record {
+      unit = u.facts;
+      header_in_file = header;
+      has_key = ap (λ (q : ProgramRun). q.key) made;
+      has_texts = ap (λ (q : ProgramRun). q.texts) made;
+      has_ranges =
+          ap (λ (q : ProgramRun). q.ranges) made ∙ ranges_are ∙ ap ranges_of_counted lines_are
+          ∙ counted_ranges counter (lines_of_unit u);
+      has_lines = subst (λ (n : ℕ). p.lines ≡ counted_lines n (lines_of_unit u)) name lines_of;
+    } in
+    subst (IsLastProgramOf u.file) (sym is) program
+
+-- so it is what the last program of a file is
 pub last_is : (file : DwarfFile) (last : LastProgram) (p : ProgramRun) → last.program ≡ Some p
     → IsLastProgramOf file last → IsProgramOf file last.counter p
 last_is file last p is of = subst (λ (o : Option ProgramRun). IfSome o (IsProgramOf file last.counter)) is of

@@ -1,10 +1,9 @@
 -- The ranges of a program's lines are the same for all units of a file that name it under the same circumstances.
 use Rattle.std.proofs.Common.{◌≡◌, ℕ, Bool, true, false, List, [], ◌∷◌, map, Option, Some, None, option_map, Result, Ok, Err, refl, sym, ap, subst, ◌∙◌}
-use Rattle.std.specs.Prelude.{IfSome, ◌==◌, ◌-◌, nat_le, is_some, slice_get, if◌then◌else◌}
+use Rattle.std.specs.Prelude.{IfSome, ◌==◌, ◌-◌, nat_le, slice_get, if◌then◌else◌}
 use Rattle.std.specs.Option.{option_or}
 use Rattle.gimli_lines_rows.specs.Error.{Error}
 use Rattle.gimli_lines_rows.specs.View.{View}
-use Rattle.gimli_lines_rows.specs.Range.{Range}
 use Rattle.gimli_lines_rows.specs.Results.{and_then, some_of, unless, each}
 use Rattle.gimli_lines_rows.specs.AttributeValues.{RawValue, string, string_offsets_index}
 use Rattle.gimli_lines_rows.specs.LineFiles.{FileFacts, file_named}

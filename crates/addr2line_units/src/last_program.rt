@@ -2,8 +2,9 @@
 //! one: it is run once, and they share the ranges of its lines, and the lines themselves where
 //! their directories and names are the same.
 
-ghost use Rattle.std.specs.Prelude.{◌≡◌, Ok, Some, None, IfOk, MatchOption};
+ghost use Rattle.std.specs.Prelude.{◌≡◌, Ok, Some, None, IfOk, IfErr, MatchOption};
 ghost use Rattle.gimli_lines_rows.specs.Calls.{ReturnsOrNoMemory};
+ghost use Rattle.gimli_lines_rows.specs.Error.TheVariants.{Memory};
 ghost use Rattle.addr2line_units.specs.LastPrograms.{program_key, unit_texts, IsRunFor, SharesLines};
 
 use crate::last_list::share;
@@ -102,8 +103,9 @@ impl<R: Reader> ProgramRun<R> {
         unit: &UnitRef<'_, R>,
         runs: &mut Runs,
     ) -> Result<Option<Result<LineIndex, Error>>, Error>
-        ensures { IfOk result
+        ensures lines { IfOk result
             (λ lines. SharesLines unit.now.facts self.now lines runs.old runs.new) }
+        ensures refusal { IfErr result (λ e. e ≡ Memory) }
     {
         if !self.texts.are_of(unit) {
             return Ok(None);
