@@ -28,18 +28,18 @@ same_answers (Some first ∷ answers) zero h = absurd cc
 same_answers (first ∷ answers) (suc n) h =
     ap (λ later. option_or first (Some (Ok None)) ∷ later) (same_answers answers n h)
 
-pub none_recorded : (n : ℕ) (load : Result (Option SplitLoad) Error) (r : Option FirstAnswer) (p : PendingLoad)
+pub is_unrecorded : (n : ℕ) (load : Result (Option SplitLoad) Error) (r : Option FirstAnswer) (p : PendingLoad)
     → decision n load r ≡ pending p → r ≡ None
-none_recorded n (Ok None) r p h = absurd cc
-none_recorded n (Err e) r p h = absurd cc
-none_recorded n (Ok (Some l)) (Some x) p h = absurd cc
-none_recorded n (Ok (Some l)) None p h = refl
+is_unrecorded n (Ok None) r p h = absurd cc
+is_unrecorded n (Err e) r p h = absurd cc
+is_unrecorded n (Ok (Some l)) (Some x) p h = absurd cc
+is_unrecorded n (Ok (Some l)) None p h = refl
 
 -- the load of a unit
 module _ (c : AnsweredContext) (p : PendingLoad) (u : ContextUnit) (is : IsLoadOf c p u) where
   pub none_recorded : recorded_answer c.answers p.number ≡ None
   none_recorded =
-      none_recorded p.number (load_of (main_unit_in c.plain u)) (recorded_answer c.answers p.number) p is.1
+      is_unrecorded p.number (load_of (main_unit_in c.plain u)) (recorded_answer c.answers p.number) p is.1
 
   pub none_is_recorded : (answer_load c.plain c.answers p.number None).1 ≡ set c.answers p.number (Some (Ok None))
   none_is_recorded =
