@@ -67,8 +67,8 @@ impl<R: Reader> Model for ProgramRun<R> {
 }
 
 impl<R: Reader> ProgramRun<R> {
-    /// That of a unit with these ranges and lines, which it shares. The only refusal is out of
-    /// memory.
+    // That of a unit with these ranges and lines, which it shares. The only refusal is out of
+    // memory.
     pub(crate) fn new(
         unit: &UnitRef<'_, R>,
         ranges: &Rc<Vec<Range>>,

@@ -9,7 +9,7 @@ use gimli_dwarf::UnitRef;
 use gimli_lines_rows::{Error, Reader};
 use std::marker::Model;
 
-/// The directory and the name of a unit, with which the texts of its files begin (DWARF 5, 6.2.4).
+/// The directory and the name of a unit, which the texts of its files depend on (DWARF 4, 6.2.4).
 #[derive(Drop)]
 pub struct UnitTexts<R: Reader> {
     directory: Option<R>,
@@ -52,7 +52,7 @@ fn are_same<R: Reader>(text: &Option<R>, other: &Option<R>) -> bool
 }
 
 impl<R: Reader> UnitTexts<R> {
-    /// Those of a unit. The only refusal is out of memory.
+    // Those of a unit. The only refusal is out of memory.
     pub(crate) fn of_unit(unit: &UnitRef<'_, R>) -> Result<Self, Error>
         ensures { ReturnsOrNoMemory result (Ok (unit_texts unit.now.facts)) }
     {

@@ -18,5 +18,5 @@ returns-in_err-root-clause-unit g c =
     rw (p.1, p.2) (λ m.
     ap (λ x. and_then x (λ unit. Ok (without_answer c.args.main.file unit)))
     (unit_by_root u r c.requires.root
-    ∙ subst (λ (w : UnitInFile). unit_of_entry w (lines_of_unit w) r ≡ Err c.in_err-root.field-0.0) c.unit_ref.ensures
-    (c.in_err-root.ensures.unit m)))
+    ∙ subst (λ (w : UnitInFile). unit_of_entry w (lines_of_unit w) r ≡ Err c.in_err-root.field-0.0)
+    c.unit_ref-unit.ensures (c.in_err-root.ensures.unit m)))
