@@ -1,11 +1,15 @@
 -- Which units the next step of a walk over stretches asks, one after the other. Their lines are kept.
-use Rattle.std.proofs.Common.{◌≡◌, ◌≢◌, ◌⊎◌, inl, inr, ℕ, List, [], ◌∷◌, ◌++◌, drop, slice_get, map, option_map, Option, Some, None, Result, Ok, Err, refl, sym, ap, ◌∙◌, subst}
+use Rattle.std.proofs.Common.{◌≡◌, ◌≢◌, ◌⊎◌, inl, inr, ℕ, true, eqb, length, List, [], ◌∷◌, ◌++◌, drop, slice_get, map, option_map, Option, Some, None, Result, Ok, Err, refl, sym, ap, ◌∙◌, subst, arith}
+use Rattle.std.specs.Prelude.{max, min}
+use Rattle.std.proofs.lemmas.Bool.{eqb-true}
 use Rattle.std.proofs.lemmas.Option.{slice_get-map}
 use Rattle.addr2line_resolved.specs.Error.{Error}
 use Rattle.addr2line_resolved.specs.Error.TheVariants.{Memory}
 use Rattle.addr2line_resolved.specs.Repetition.{Listing, no_items, prepend}
 use Rattle.addr2line_resolved.specs.Results.{and_then}
-use Rattle.addr2line_resolved.specs.Lines.{Lines, Stretch}
+use Rattle.addr2line_resolved.specs.Lines.{Lines, Stretch, lines_between}
+use Rattle.addr2line_resolved.specs.LineCursor.{LineCursor}
+use Rattle.addr2line_resolved.specs.LineCursors.{lines_left}
 use Rattle.addr2line_resolved.specs.PlaceLookups.{with_stretches}
 use Rattle.addr2line_resolved.specs.Contexts.{ContextUnit}
 use Rattle.addr2line_resolved.specs.UnitRange.{UnitRange}
@@ -15,7 +19,7 @@ use Rattle.addr2line_resolved.specs.RangeIndexLaws.{with_unit_stretches}
 use Rattle.addr2line_resolved.specs.ContextUnits.{unit_places}
 use Rattle.addr2line_resolved.specs.ResolvedUnits.{ResolvedUnit, value_of_unit, plain_unit}
 use Rattle.addr2line_lookups.specs.KeptUnits.{KeepsAt, KeepsMore, KeepsAsked, ReadsAsked, lines_if_unit, lines_at, check_of, check_at}
-use Rattle.addr2line_lookups.specs.RangeWalks.{rows_left, BeginsRange, NextOfRows, IsUnitOfRows, HasNoStretch, AsksAlong, AsksForStretch, AreOfRange}
+use Rattle.addr2line_lookups.specs.RangeWalks.{clipped_left, unit_left, rows_left, BeginsRange, NextOfRows, IsUnitOfRows, HasNoStretch, AsksAlong, AsksForStretch, AreOfRange}
 use Rattle.addr2line_lookups.specs.declared.range_walk.RangeRows.{RangeRows}
 use Rattle.addr2line_lookups.specs.declared.range_walk.RangeWalk.{RangeWalk}
 use Rattle.addr2line_lookups.specs.declared.range_walk.UnitStretch.{UnitStretch}
@@ -50,6 +54,94 @@ module _ (low high : ℕ) (r : UnitRange) (e : Error) (rest : Listing (Unit {0})
       subst (λ o. with_unit_stretches low high r.range o rest ≡ no_items (Err e))
       (sym (slice_get-map unit_places us r.unit))
       (refused_unit (slice_get us r.unit) h)
+
+-- ---- the first rows of a range
+
+pub no_sequences : {A : Type 0} (ss : List A) → eqb (length ss) 0 ≡ true → ss ≡ []
+no_sequences [] h = refl
+no_sequences (s ∷ ss) h =
+    let none : length (s ∷ ss) ≡ 0 = eqb-true (length (s ∷ ss)) 0 h in absurd (omega arith)
+
+-- an answer without the borrow
+pub answer_some : {X : Type 0} (see : X → Lines) (r : Result (Option Lines) Error) (o : Option X) (x : X)
+    → r ≡ Ok (option_map see o) → o ≡ Some x → r ≡ Ok (Some (see x))
+answer_some see r o x h is = h ∙ ap (λ p. Ok (option_map see p)) is
+
+pub answer_none : {X : Type 0} (see : X → Lines) (r : Result (Option Lines) Error) (o : Option X)
+    → r ≡ Ok (option_map see o) → o ≡ None → r ≡ Ok None
+answer_none see r o h is = h ∙ ap (λ p. Ok (option_map see p)) is
+
+module _ (low high : ℕ) (r : UnitRange) (rest : Listing (Unit {0}) Stretch) where
+  module _ (l : Lines) (none : l.sequences ≡ []) where
+    empty_lines : with_stretches low high r.range (Ok l) rest ≡ rest
+    empty_lines = rw none refl
+
+    empty_answer : (x : Result Lines Error) → and_then x (λ (k : Lines). Ok (Some k)) ≡ Ok (Some l)
+        → with_stretches low high r.range x rest ≡ rest
+    empty_answer (Ok k) h =
+        let same : k ≡ l = cc in
+        ap (λ (y : Lines). with_stretches low high r.range (Ok y) rest) same ∙ empty_lines
+    empty_answer (Err d) h = absurd cc
+
+    empty_unit : (o : Option ContextUnit) → lines_if_unit o ≡ Ok (Some l)
+        → with_unit_stretches low high r.range (option_map unit_places o) rest ≡ rest
+    empty_unit None h = absurd cc
+    empty_unit (Some u) h = empty_answer u.lines h
+
+    -- lines without sequences have none
+    pub begins_with_none : (us : List ContextUnit) → lines_at us r.unit ≡ Ok (Some l)
+        → with_unit_stretches low high r.range (slice_get (map unit_places us) r.unit) rest ≡ rest
+    begins_with_none us h =
+        subst (λ o. with_unit_stretches low high r.range o rest ≡ rest) (sym (slice_get-map unit_places us r.unit))
+        (empty_unit (slice_get us r.unit) h)
+
+  module _ (l : Lines) (c : LineCursor) (from : ℕ) (is_low : from ≡ max low r.range.begin)
+      (begins : lines_left l from (min high r.range.end) c ≡ lines_between l from (min high r.range.end)) where
+    same : lines_left l (max low r.range.begin) (min high r.range.end) c
+        ≡ lines_between l (max low r.range.begin) (min high r.range.end)
+    same =
+        subst (λ (n : ℕ). lines_left l n (min high r.range.end) c ≡ lines_between l n (min high r.range.end)) is_low begins
+
+    rows_of_answer : (x : Result Lines Error) → and_then x (λ (k : Lines). Ok (Some k)) ≡ Ok (Some l)
+        → with_stretches low high r.range x rest ≡ prepend (clipped_left low high r.range c x) rest
+    rows_of_answer (Ok k) h =
+        let is : k ≡ l = cc in
+        subst (λ (y : Lines). with_stretches low high r.range (Ok y) rest
+        ≡ prepend (clipped_left low high r.range c (Ok y)) rest) (sym is)
+        (ap (λ (xs : List Stretch). prepend xs rest) (sym same))
+    rows_of_answer (Err d) h = absurd cc
+
+    rows_of_unit : (o : Option ContextUnit) → lines_if_unit o ≡ Ok (Some l)
+        → with_unit_stretches low high r.range (option_map unit_places o) rest
+        ≡ prepend (unit_left low high r.range c (option_map unit_places o)) rest
+    rows_of_unit None h = absurd cc
+    rows_of_unit (Some u) h = rows_of_answer u.lines h
+
+    -- others have those from the cursor on
+    pub begins_with_rows : (us : List ContextUnit) → lines_at us r.unit ≡ Ok (Some l)
+        → with_unit_stretches low high r.range (slice_get (map unit_places us) r.unit) rest
+        ≡ prepend (unit_left low high r.range c (slice_get (map unit_places us) r.unit)) rest
+    begins_with_rows us h =
+        subst (λ o. with_unit_stretches low high r.range o rest
+        ≡ prepend (unit_left low high r.range c o) rest) (sym (slice_get-map unit_places us r.unit))
+        (rows_of_unit (slice_get us r.unit) h)
+
+  none_of_answer : (x : Result Lines Error) → and_then x (λ (k : Lines). Ok (Some k)) ≡ Ok None
+      → with_stretches low high r.range x rest ≡ rest
+  none_of_answer (Ok k) h = absurd cc
+  none_of_answer (Err d) h = absurd cc
+
+  none_of_unit : (o : Option ContextUnit) → lines_if_unit o ≡ Ok None
+      → with_unit_stretches low high r.range (option_map unit_places o) rest ≡ rest
+  none_of_unit None h = refl
+  none_of_unit (Some u) h = none_of_answer u.lines h
+
+  -- a unit that isn't there has none
+  pub begins_without_unit : (us : List ContextUnit) → lines_at us r.unit ≡ Ok None
+      → with_unit_stretches low high r.range (slice_get (map unit_places us) r.unit) rest ≡ rest
+  begins_without_unit us h =
+      subst (λ o. with_unit_stretches low high r.range o rest ≡ rest) (sym (slice_get-map unit_places us r.unit))
+      (none_of_unit (slice_get us r.unit) h)
 
 module _ (e : Error) where
   sound_lines : (x : Result Lines Error) → and_then x (λ lines. checked tt) ≡ checked tt

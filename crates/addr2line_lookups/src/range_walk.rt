@@ -91,7 +91,8 @@ fn lines_at<R: Reader>(units: &[ResUnit<R>], number: usize) -> Result<Option<&Li
     }
 }
 
-// The rows of the unit of a range, if there is one. Its lines are kept, and aren't refused.
+// The rows of the unit of a range, if there is one and it has any. Its lines are kept, and aren't
+// refused.
 fn rows_in<R: Reader>(units: &[ResUnit<R>], range: UnitRange, low: u64) -> Option<RangeRows>
     requires kept { KeepsAt units.now range.unit }
     requires lines { check_at (map plain_unit units.now) range.unit ≡ Ok tt }
@@ -101,6 +102,9 @@ fn rows_in<R: Reader>(units: &[ResUnit<R>], range: UnitRange, low: u64) -> Optio
 {
     match lines_at(units, range.unit) {
         Ok(Some(lines)) => {
+            if lines.sequences().is_empty() {
+                return None;
+            }
             let cursor = lines.cursor_from(low.max(range.range.begin));
             Some(RangeRows { range, cursor })
         }

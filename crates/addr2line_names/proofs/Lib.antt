@@ -3,6 +3,7 @@ pub mod LastUnitBelow
 pub mod NameSteps
 pub mod ReferenceChains
 pub mod NamingSteps
+pub mod PassedSteps
 pub mod FunctionNameLemmas
 pub mod UnitOffsetLemmas
 mod SectionEntries

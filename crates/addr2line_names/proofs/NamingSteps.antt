@@ -1,9 +1,11 @@
 -- The naming of an entry, found by a loop over its attributes.
-use Rattle.std.proofs.Common.{◌≡◌, ℕ, ◌+◌, ◌<◌, ◌≤◌, List, [], ◌∷◌, length, get_or, drop, map, Option, Some, None, Result, Ok, Err, refl, sym, ap, ◌∙◌}
+use Rattle.std.proofs.Common.{◌≡◌, ℕ, ◌-◌, ◌<◌, Bool, true, false, ◌||◌, List, [], ◌∷◌, length, get_or, take, drop, map, Option, Some, None, Result, Ok, Err, refl, sym, ap, subst, ◌∙◌, arith, length-drop}
+use Rattle.std.specs.Prelude.{All}
 use Rattle.std.specs.List.{filter_map, last_or, cons_option}
-use Rattle.std.proofs.lemmas.List.{at_drop_more, at_drop_all}
+use Rattle.std.proofs.lemmas.List.{at_drop_more, take_all}
+use Rattle.std.proofs.lemmas.List.Elements.{All-head, All-tail}
 use Rattle.gimli_dwarf.specs.Error.{Error}
-use Rattle.gimli_dwarf.specs.Repetition.{Listing, fault_of}
+use Rattle.gimli_dwarf.specs.Repetition.{Listing, prepend, fault_of}
 use Rattle.gimli_dwarf.specs.View.{View}
 use Rattle.gimli_dwarf.specs.Declarations.{Attribute}
 use Rattle.gimli_dwarf.specs.EntryWalks.{Walk, value}
@@ -11,11 +13,12 @@ use Rattle.gimli_dwarf.specs.AttributeValues.{RawValue, RawAttribute}
 use Rattle.gimli_dwarf.specs.UnitFacts.{is_name, value_of_kind, any_value}
 use Rattle.addr2line_names.specs.EntryReferences.{HoldingUnit}
 use Rattle.addr2line_names.specs.EntryNamings.{EntryNaming, by_name, by_reference, nameless, is_linkage_name, is_reference, text_of, first_of, attribute_and_rest, attributes_from, name_or_naming, reference_or_nameless, reference_or, linkage_name_or, naming_with}
+use Rattle.addr2line_names.specs.PassedAttributes.{IsNoName, Passes}
 
 -- ---- attributes laid end to end
 
 -- the first can be read
-attributes_first : (limit : ℕ) (s : Attribute) (ss : List Attribute) (w after : Walk) (a : RawAttribute)
+pub attributes_first : (limit : ℕ) (s : Attribute) (ss : List Attribute) (w after : Walk) (a : RawAttribute)
     → value limit s w ≡ Ok (a, after)
     → attributes_from limit (s ∷ ss) w
     ≡ record
@@ -133,75 +136,134 @@ module _ (limit : ℕ) (h : HoldingUnit) where
       ap (λ (o : Option View). linkage_name_or (first_of (cons_option o (filter_map linkage_name l.items))) (fault_of l)
       (naming_and_more found (filter_map plain_name (a ∷ l.items)) (filter_map reference (a ∷ l.items)))) is
 
-  -- ---- from a place of the declaration on
-
   abbrev ok_name : Option View → Result (Option View) Error
   ok_name name = Ok name
 
   abbrev ok_naming : EntryNaming → Result EntryNaming Error
   ok_naming n = Ok n
 
+  -- ---- attributes of which no name is made
+
+  not_naming : (x y z : Bool) → (x || (y || z)) ≡ false → (x ≡ false) × (y ≡ false) × (z ≡ false)
+  not_naming true y z none = absurd cc
+  not_naming false true z none = absurd cc
+  not_naming false false true none = absurd cc
+  not_naming false false false none = (refl, refl, refl)
+
+  found_stays : (found : EntryNaming) (a : RawAttribute) → is_name a.name ≡ false → is_reference a.name ≡ false
+      → naming_with h found a ≡ found
+  found_stays (by_name name) a no_name no_reference = rw no_name refl
+  found_stays (by_reference v) a no_name no_reference = rw (no_name, no_reference) refl
+  found_stays nameless a no_name no_reference = rw (no_name, no_reference) refl
+
+  pub naming_from-passed : (found : EntryNaming) (passed : List RawAttribute) (l : Listing Walk RawAttribute)
+      → All IsNoName passed → naming_from found (prepend passed l) ≡ naming_from found l
+  naming_from-passed found [] l none = refl
+  naming_from-passed found (a ∷ more) l none =
+      let no =
+      not_naming (is_name a.name) (is_reference a.name) (is_linkage_name a.name) (All-head IsNoName a more none) in
+      let no_linkage : linkage_name a ≡ None = rw no.2 refl in
+      not_linkage found a (prepend more l) (linkage_name a) refl no_linkage
+      ∙ ap (λ (n : EntryNaming). naming_from n (prepend more l)) (found_stays found a no.0 no.1)
+      ∙ naming_from-passed found more l (All-tail IsNoName a more none)
+
+  -- the naming of all is that of the others
+  pub passed-naming : (found : EntryNaming) (all others : List Attribute) (w new : Walk)
+      → Passes limit all w others new
+      → naming_from found (attributes_from limit others new) ≡ naming_from found (attributes_from limit all w)
+  passed-naming found all others w new p =
+      sym (ap (naming_from found) p.same
+      ∙ naming_from-passed found p.passed (attributes_from limit others new) p.nameless)
+
+  -- ---- from the first of the others on
+
+  -- after an attribute that is no linkage name, the naming of all is the same
+  naming_from-more :
+      (found next : EntryNaming) (s : Attribute) (ss others : List Attribute) (w after new : Walk) (a : RawAttribute)
+      (o : Option View) (whole : Result EntryNaming Error)
+      → value limit s w ≡ Ok (a, after) → ok_name (linkage_name a) ≡ ok_name o → o ≡ None
+      → ok_naming (naming_with h found a) ≡ ok_naming next → Passes limit ss after others new
+      → naming_from found (attributes_from limit (s ∷ ss) w) ≡ whole
+      → naming_from next (attributes_from limit others new) ≡ whole
+  naming_from-more found next s ss others w after new a o whole reads gives none takes passes before =
+      let no_name : linkage_name a ≡ None = cc in
+      let same : naming_with h found a ≡ next = cc in
+      passed-naming next ss others after new passes
+      ∙ ap (λ (n : EntryNaming). naming_from n (attributes_from limit ss after)) (sym same)
+      ∙ sym (not_linkage found a (attributes_from limit ss after) (linkage_name a) refl no_name)
+      ∙ sym (ap (naming_from found) (attributes_first limit s ss w after a reads))
+      ∙ before
+
+  -- a linkage name is the naming of all
+  naming_from-linkage :
+      (found : EntryNaming) (name : View) (s : Attribute) (ss : List Attribute) (w after : Walk) (a : RawAttribute)
+      (o : Option View) (whole : Result EntryNaming Error)
+      → value limit s w ≡ Ok (a, after) → ok_name (linkage_name a) ≡ ok_name o → o ≡ Some name
+      → naming_from found (attributes_from limit (s ∷ ss) w) ≡ whole → whole ≡ ok_naming (by_name name)
+  naming_from-linkage found name s ss w after a o whole reads gives is before =
+      let linkage : linkage_name a ≡ Some name = cc in
+      sym before ∙ ap (naming_from found) (attributes_first limit s ss w after a reads)
+      ∙ is_linkage found a (attributes_from limit ss after) name linkage
+
+  -- a fault is that of all
+  naming_from-refused :
+      (found : EntryNaming) (s : Attribute) (ss : List Attribute) (w : Walk) (e : Error)
+      (whole : Result EntryNaming Error) → value limit s w ≡ Err e
+      → naming_from found (attributes_from limit (s ∷ ss) w) ≡ whole → whole ≡ Err e
+  naming_from-refused found s ss w e whole refuses before =
+      sym before ∙ ap (naming_from found) (attributes_refused limit s ss w e refuses)
+
+  -- after the last attribute, it is the naming so far
+  naming_from-end : (found : EntryNaming) (w : Walk) (whole : Result EntryNaming Error)
+      → naming_from found (attributes_from limit [] w) ≡ whole → whole ≡ ok_naming found
+  naming_from-end found w whole before =
+      sym before ∙ ap (naming_from found) (attributes_none limit w) ∙ ap ok_naming (naming_and_nothing found)
+
+  -- ---- the same from the first of a list on
+
   module _ {X : Type 0} (view : X → Attribute) where
-    abbrev pub naming_from_place : EntryNaming → List X → ℕ → Walk → Result EntryNaming Error
-    naming_from_place found xs i w = naming_from found (attributes_from limit (map view (drop i xs)) w)
-
-    here_and_rest : (found : EntryNaming) (xs : List X) (i : ℕ) (d : X) (w after : Walk) (a : RawAttribute)
-        → i < length xs
-        → value limit (view (get_or xs i d)) w ≡ Ok (a, after)
-        → naming_from_place found xs i w ≡ naming_from found (record {
-          items = a ∷ (attributes_from limit (map view (drop (i + 1) xs)) after).items;
-          ending = (attributes_from limit (map view (drop (i + 1) xs)) after).ending;
-        })
-    here_and_rest found xs i d w after a below h =
-        at_drop_more (λ (ys : List X). naming_from found (attributes_from limit (map view ys) w)) xs i d below
-        ∙ ap (naming_from found)
-        (attributes_first limit (view (get_or xs i d)) (map view (drop (i + 1) xs)) w after a h)
-
-    -- after an attribute that is no linkage name, the naming of all is the same
-    pub naming_from_place-more :
-        (found next : EntryNaming) (xs : List X) (i : ℕ) (d : X) (w after : Walk) (a : RawAttribute) (o : Option View)
-        (whole : Result EntryNaming Error) → i < length xs
-        → value limit (view (get_or xs i d)) w ≡ Ok (a, after) → ok_name (linkage_name a) ≡ ok_name o → o ≡ None
-        → ok_naming (naming_with h found a) ≡ ok_naming next
-        → naming_from_place found xs i w ≡ whole → naming_from_place next xs (i + 1) after ≡ whole
-    naming_from_place-more found next xs i d w after a o whole below reads gives none takes before =
-        let no_name : linkage_name a ≡ None = cc in
-        let same : naming_with h found a ≡ next = cc in
-        ap (λ (n : EntryNaming). naming_from_place n xs (i + 1) after) (sym same)
-        ∙ sym (not_linkage found a (attributes_from limit (map view (drop (i + 1) xs)) after)
-        (linkage_name a) refl no_name)
-        ∙ sym (here_and_rest found xs i d w after a below reads)
+    with_first : (found : EntryNaming) (xs : List X) (d : X) (w : Walk) (whole : Result EntryNaming Error)
+        → 0 < length xs → naming_from found (attributes_from limit (map view xs) w) ≡ whole
+        → naming_from found (attributes_from limit (view (get_or xs 0 d) ∷ map view (drop 1 xs)) w) ≡ whole
+    with_first found xs d w whole some before =
+        sym (at_drop_more (λ (ys : List X). naming_from found (attributes_from limit (map view ys) w)) xs 0 d some)
         ∙ before
 
-    -- a linkage name is the naming of all
-    pub naming_from_place-linkage :
-        (found : EntryNaming) (name : View) (xs : List X) (i : ℕ) (d : X) (w after : Walk) (a : RawAttribute)
-        (o : Option View) (whole : Result EntryNaming Error) → i < length xs
-        → value limit (view (get_or xs i d)) w ≡ Ok (a, after) → ok_name (linkage_name a) ≡ ok_name o → o ≡ Some name
-        → naming_from_place found xs i w ≡ whole → whole ≡ ok_naming (by_name name)
-    naming_from_place-linkage found name xs i d w after a o whole below reads gives is before =
-        let linkage : linkage_name a ≡ Some name = cc in
-        sym before ∙ here_and_rest found xs i d w after a below reads
-        ∙ is_linkage found a (attributes_from limit (map view (drop (i + 1) xs)) after) name linkage
+    -- what a pattern leaves of a list after its first is all of the rest
+    rest_is : (xs : List X) → take (length xs - 1) (drop 1 xs) ≡ drop 1 xs
+    rest_is xs = take_all (length xs - 1) (drop 1 xs) (omega (arith, length-drop 1 xs))
 
-    -- a fault is that of all
-    pub naming_from_place-refused :
-        (found : EntryNaming) (xs : List X) (i : ℕ) (d : X) (w : Walk) (e : Error) (whole : Result EntryNaming Error)
-        → i < length xs
-        → value limit (view (get_or xs i d)) w ≡ Err e → naming_from_place found xs i w ≡ whole → whole ≡ Err e
-    naming_from_place-refused found xs i d w e whole below refuses before =
-        sym before
-        ∙ at_drop_more (λ (ys : List X). naming_from found (attributes_from limit (map view ys) w)) xs i d below
-        ∙ ap (naming_from found)
-        (attributes_refused limit (view (get_or xs i d)) (map view (drop (i + 1) xs)) w e refuses)
+    pub naming_of_left-more :
+        (found next : EntryNaming) (xs : List X) (d : X) (others : List Attribute) (w after new : Walk)
+        (a : RawAttribute) (o : Option View) (whole : Result EntryNaming Error) → 0 < length xs
+        → value limit (view (get_or xs 0 d)) w ≡ Ok (a, after) → ok_name (linkage_name a) ≡ ok_name o → o ≡ None
+        → ok_naming (naming_with h found a) ≡ ok_naming next
+        → Passes limit (map view (take (length xs - 1) (drop 1 xs))) after others new
+        → naming_from found (attributes_from limit (map view xs) w) ≡ whole
+        → naming_from next (attributes_from limit others new) ≡ whole
+    naming_of_left-more found next xs d others w after new a o whole some reads gives none takes passes before =
+        naming_from-more found next (view (get_or xs 0 d)) (map view (drop 1 xs)) others w after new a o whole reads gives
+        none takes (subst (λ (ys : List X). Passes limit (map view ys) after others new) (rest_is xs) passes)
+        (with_first found xs d w whole some before)
 
-    -- after the last attribute, it is the naming so far
-    pub naming_from_place-end :
-        (found : EntryNaming) (xs : List X) (i : ℕ) (w : Walk) (whole : Result EntryNaming Error)
-        → length xs ≤ i
-        → naming_from_place found xs i w ≡ whole → whole ≡ ok_naming found
-    naming_from_place-end found xs i w whole past before =
-        sym before
-        ∙ at_drop_all (λ (ys : List X). naming_from found (attributes_from limit (map view ys) w)) xs i past
-        ∙ ap (naming_from found) (attributes_none limit w)
-        ∙ ap ok_naming (naming_and_nothing found)
+    pub naming_of_left-linkage :
+        (found : EntryNaming) (name : View) (xs : List X) (d : X) (w after : Walk) (a : RawAttribute)
+        (o : Option View) (whole : Result EntryNaming Error) → 0 < length xs
+        → value limit (view (get_or xs 0 d)) w ≡ Ok (a, after) → ok_name (linkage_name a) ≡ ok_name o → o ≡ Some name
+        → naming_from found (attributes_from limit (map view xs) w) ≡ whole → whole ≡ ok_naming (by_name name)
+    naming_of_left-linkage found name xs d w after a o whole some reads gives is before =
+        naming_from-linkage found name (view (get_or xs 0 d)) (map view (drop 1 xs)) w after a o whole reads gives is
+        (with_first found xs d w whole some before)
+
+    pub naming_of_left-refused :
+        (found : EntryNaming) (xs : List X) (d : X) (w : Walk) (e : Error) (whole : Result EntryNaming Error)
+        → 0 < length xs → value limit (view (get_or xs 0 d)) w ≡ Err e
+        → naming_from found (attributes_from limit (map view xs) w) ≡ whole → whole ≡ Err e
+    naming_of_left-refused found xs d w e whole some refuses before =
+        naming_from-refused found (view (get_or xs 0 d)) (map view (drop 1 xs)) w e whole refuses
+        (with_first found xs d w whole some before)
+
+    pub naming_of_left-end : (found : EntryNaming) (xs : List X) (w : Walk) (whole : Result EntryNaming Error)
+        → length xs < 1 → naming_from found (attributes_from limit (map view xs) w) ≡ whole → whole ≡ ok_naming found
+    naming_of_left-end found [] w whole none before = naming_from-end found w whole before
+    naming_of_left-end found (x ∷ xs) w whole none before = absurd (omega arith)

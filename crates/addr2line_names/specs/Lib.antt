@@ -5,4 +5,5 @@ pub mod OrderedUnits
 pub mod EntryNamings
 pub mod FunctionNames
 pub mod NamingView
+pub mod PassedAttributes
 pub mod FunctionNameLaws

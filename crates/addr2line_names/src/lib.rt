@@ -9,6 +9,7 @@ pub mod holder;
 pub mod laws;
 pub mod names;
 mod naming;
+mod passing;
 mod references;
 
 pub use file::DebugFile;

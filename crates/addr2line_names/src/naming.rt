@@ -11,6 +11,7 @@ ghost use Rattle.addr2line_names.specs.NamingView.{naming_view};
 use crate::attributes::{is_name, is_reference};
 use crate::entry::ReferredEntry;
 use crate::holder::HoldingUnit;
+use crate::passing::pass;
 use gimli_dwarf::{
     Attribute, AttributeSpecification, AttributeValue, EntriesRaw, Error, Reader, ReaderOffset,
 };
@@ -57,7 +58,8 @@ impl<'a, R: Reader> HoldingUnit<'a, R> {
         }
     }
 
-    // The naming by attributes. Nothing is read after a linkage name.
+    // The naming by attributes. Nothing is read after a linkage name, and what can be skipped isn't
+    // read.
     fn naming_in(
         &self,
         mut entries: EntriesRaw<'_, R>,
@@ -69,12 +71,14 @@ impl<'a, R: Reader> HoldingUnit<'a, R> {
             (map attribute_view specifications.now) entries.entry)) }
     {
         let mut found = EntryNaming::Nameless;
-        for specification in specifications {
+        let (mut left, mut skips) = pass(&mut entries, specifications, true);
+        while let [specification, rest @ ..] = left {
             let attribute = entries.read_attribute(*specification)?;
             if let Some(name) = self.linkage_name(&attribute)? {
                 return Ok(EntryNaming::ByName(name));
             }
             found = self.naming_with(found, &attribute)?;
+            (left, skips) = pass(&mut entries, rest, skips);
         }
         Ok(found)
     }

@@ -1,4 +1,4 @@
-use Rattle.std.proofs.Common.{◌<◌, length, refl, arith}
+use Rattle.std.proofs.Common.{◌<◌, length, arith}
 use Rattle.std.proofs.lemmas.Result.{on_ok_weaker}
 use Rattle.addr2line_resolved.specs.ResolvedUnits.{KeepsLines}
 use Rattle.addr2line_lookups.proofs.AskedLines.{reads_set, no_stop_of}
