@@ -81,7 +81,7 @@ fn ask<R: Files + AllocGlobal>(rt: &R, question: &Question<'_>, out: &mut Answer
 fn ask_about<R: Files + AllocGlobal>(rt: &R, text: &[u8], topic: &Topic<'_>, out: &mut Answer) {
     match topic {
         Topic::Image(probe, change) => frames::answer(text, *probe, *change, out),
-        Topic::File(probe) => written::answer(rt, text, *probe, out),
+        Topic::File(probe) => image_file::answer(rt, text, *probe, out),
         Topic::Calls(probe, series) => replays::answer(text, *probe, *series, out),
         Topic::Lookup(words) => lookup::answer(text, words, out),
     }
