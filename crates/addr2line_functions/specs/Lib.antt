@@ -9,6 +9,7 @@ pub use Rattle.addr2line_units.specs.Stretches
 pub use Rattle.addr2line_units.specs.StretchesLeft
 pub use Rattle.addr2line_units.specs.LineCursors
 pub use Rattle.addr2line_units.specs.LineCursor
+pub use Rattle.addr2line_units.specs.RangePlace
 pub use Rattle.addr2line_units.specs.RowStretch
 pub use Rattle.addr2line_units.specs.UnitPlaces
 pub use Rattle.addr2line_units.specs.Location

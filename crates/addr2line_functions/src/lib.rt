@@ -27,10 +27,11 @@ pub use addr2line_units::{
     DebugRngListsIndex, DebugStr, DebugStrOffset, DebugStrOffsets, DebugStrOffsetsIndex, DwLang,
     Dwarf, DwarfFileType, DwoId, EndianBytes, EndianSlice, Error, Format, LastRanges, LineCursor,
     LineIndex, Lines, LinesBuilder, LittleEndian, Location, LocationLists, Probes, Range,
-    RangeLists, RangeListsOffset, RawRangeListsOffset, Reader, ReaderOffsetId, RootRanges,
-    RowStretch, RunTimeEndian, Runs, SectionId, Unit, UnitHeader, UnitLines, UnitOffset, UnitRange,
-    UnitRanges, UnitRangesBuilder, UnitRef, UnitRoot, UnitType, file_text, file_text_of_bytes,
-    is_partial, is_rooted, join, language_of, ranges_of_attributes, ranges_of_entry,
+    RangeLists, RangeListsOffset, RangePlace, RawRangeListsOffset, Reader, ReaderOffsetId,
+    RootRanges, RowStretch, RunTimeEndian, Runs, SectionId, Unit, UnitHeader, UnitLines,
+    UnitOffset, UnitRange, UnitRanges, UnitRangesBuilder, UnitRef, UnitRoot, UnitType, file_text,
+    file_text_of_bytes, is_partial, is_rooted, join, language_of, ranges_of_attributes,
+    ranges_of_entry,
 };
 pub use call::Call;
 pub use calls::{FunctionCalls, calls_of_function};

@@ -1,10 +1,10 @@
 -- Where a search among ranges by their ends starts and stops.
-use Rattle.std.proofs.Common.{◌≡◌, ℕ, zero, suc, ◌+◌, ◌-◌, ◌<◌, ◌≤◌, max, min, Bool, true, false, cond, nat_lt, nat_le, List, [], ◌∷◌, ◌++◌, length, map, drop, take, reverse, filter, get_or, refl, sym, ap, ◌∙◌, subst, arith, append_assoc}
+use Rattle.std.proofs.Common.{◌≡◌, ℕ, zero, suc, ◌+◌, ◌-◌, ◌<◌, ◌≤◌, min, Bool, true, false, cond, nat_lt, nat_le, List, [], ◌∷◌, ◌++◌, length, map, drop, take, reverse, filter, get_or, refl, sym, ap, ◌∙◌, subst, arith, append_assoc}
 use Rattle.std.specs.Prelude.{◌&&◌, ◌||◌, Option, Some, None, MatchOption}
 use Rattle.std.specs.List.{prefix_len}
 use Rattle.std.specs.List.Sorted.{IsNonDecreasingBy, IsPartitionPoint, IsPartitionedBy}
 use Rattle.std.proofs.lemmas.Bool.Decides.{nat_tests}
-use Rattle.std.proofs.lemmas.List.{get_or-map, length-map, length-drop, take_all, drop_all, drop-append-le, reverse-append}
+use Rattle.std.proofs.lemmas.List.{get_or-map, length-map, length-drop, take_all, drop_all, reverse-append}
 use Rattle.std.proofs.lemmas.List.Elements.{filter-append}
 use Rattle.std.proofs.lemmas.List.Sums.{prefix_len_is}
 use Rattle.std.proofs.lemmas.List.Sorted.{IsPartitionedBy-leb}
@@ -15,9 +15,9 @@ use Rattle.addr2line_index.specs.declared.unit_range.UnitRange.{UnitRange}
 use Rattle.addr2line_index.specs.declared.shared_range.SharedRange.{SharedRange}
 use Rattle.addr2line_index.specs.declared.bounded_range.BoundedRange.{BoundedRange}
 use Rattle.addr2line_index.specs.NumberedRanges.{covering_ranges, overlapping_ranges}
-use Rattle.addr2line_index.specs.SharedRanges.{in_units, more_units, pairs_in, pairs_in_all, count_in_all}
+use Rattle.addr2line_index.specs.SharedRanges.{in_units, more_units, pairs_in, count_in_all}
 use Rattle.addr2line_index.proofs.SharedRangeLemmas.{shared_end, filter-units}
-use Rattle.addr2line_index.specs.BoundedRanges.{greatest_begin, least_begin, shared_in, ranges_in, IsBounded, CountsFrom, end_of, ends_by, is_skipped, IsInOrder, IsCounted, index_of, pairs_left, IsBehind, IsNextPair, IsNextOverlap}
+use Rattle.addr2line_index.specs.BoundedRanges.{least_begin, shared_in, ranges_in, IsBounded, CountsFrom, end_of, ends_by, is_skipped, IsInOrder, IsCounted, index_of, pairs_left, IsBehind, IsNextPair, IsNextOverlap}
 
 -- ---- made from the last on
 
@@ -424,6 +424,14 @@ skipped_first from low es is i j d le below h =
     or_kept (ends_by low (get_or es j d)) (nat_le (get_or es j d).after from) (ends_by low (get_or es i d))
     (nat_le (get_or es i d).after from) (IsPartitionedBy-leb end_of es low is.0 i j d le below)
     (IsPartitionedBy-leb (λ (e : BoundedRange). e.after) es from (counts_rise 0 es is.2) i j d le below) h
+
+-- the first that isn't skipped, right after one that is
+pub first_left : (from low n : ℕ) (es : List BoundedRange) (d : BoundedRange) → IsInOrder es → n < length es
+    → is_skipped from low (get_or es n d) ≡ false → is_skipped from low (get_or es (n - 1) d) ≡ true
+    → n ≡ prefix_len (is_skipped from low) es
+first_left from low n es d order within here before =
+    sym (prefix_len_is (is_skipped from low) es n d (omega arith)
+    (λ k below. skipped_first from low es order k (n - 1) d (omega arith) (omega arith) before) (λ _. here))
 
 -- ---- steps of a walk
 

@@ -131,17 +131,6 @@ pub length-sequences_of : (ss : List NumberedSequence) → length (sequences_of 
 length-sequences_of [] = refl
 length-sequences_of (s ∷ ss) = ap suc (length-sequences_of ss)
 
--- one more
-pub numbered-more : (counter : ℕ) (all more : List NumberedSequence) (s : Sequence) (ss : List Sequence)
-    → more ≡ all ++ record { number = length all; sequence = s; counter = counter } ∷ []
-    → more ++ numbered_from counter (length more) ss ≡ all ++ numbered_from counter (length all) (s ∷ ss)
-numbered-more counter all more s ss e =
-    let one : NumberedSequence = record { number = length all; sequence = s; counter = counter } in
-    let many : length more ≡ length all + 1 = ap length e ∙ length-append all (one ∷ []) in
-    ap (λ l. l ++ numbered_from counter (length more) ss) e
-    ∙ ap (λ m. (all ++ one ∷ []) ++ numbered_from counter m ss) many
-    ∙ append_assoc all (one ∷ []) (numbered_from counter (length all + 1) ss)
-
 -- ---- what a reference is to
 
 pub map-now : {A B : Type 0} (g : A → B) (o : Option (Bor A))

@@ -3,16 +3,16 @@ pub use Rattle.addr2line_spec.proofs.EntryLevels
 pub use Rattle.addr2line_spec.proofs.PendingLoads
 pub use Rattle.addr2line_spec.proofs.RangeHolders
 pub mod UnitAnswers
-pub mod PartialLineRows
+mod PartialLineRows
 pub mod StableOrder
-pub mod SharedRangeLemmas
-pub mod NumberedRangeLemmas
+mod SharedRangeLemmas
+mod NumberedRangeLemmas
 pub mod UnitViews
-pub mod StretchLemmas
-pub mod SortedOrder
-pub mod SortedLast
-pub mod RangeLevelLemmas
-pub mod RowIndexLemmas
+mod StretchLemmas
+mod SortedOrder
+mod SortedLast
+mod RangeLevelLemmas
+mod RowIndexLemmas
 pub mod HolderViews
-pub mod BoundedRangeLemmas
-pub mod SequenceOrderLemmas
+mod BoundedRangeLemmas
+mod SequenceOrderLemmas

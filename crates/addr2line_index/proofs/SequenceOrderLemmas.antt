@@ -5,8 +5,6 @@ use Rattle.std.specs.Cmp.{IsStrictWeakOrder}
 use Rattle.std.specs.List.{All, AllZip, prefix_len}
 use Rattle.std.specs.List.Sorted.{IsPermutation, IsSortedBy, IsStableBy, IsNonDecreasingBy, ties}
 use Rattle.std.proofs.lemmas.Bool.Decides.{nat_tests}
-use Rattle.std.proofs.lemmas.List.{at_drop_more}
-use Rattle.std.proofs.lemmas.List.Concat.{flat_map-append}
 use Rattle.std.proofs.lemmas.List.Elements.{All-nil, All-cons, All-head, All-tail, All-filter, filter_passes, filter-append}
 use Rattle.std.proofs.lemmas.List.Sorted.{All-permutation, sum_by-IsPermutation}
 use Rattle.std.proofs.lemmas.List.Sums.{length-filter}
@@ -328,22 +326,6 @@ module _ (all : List Sequence) where
       walk_stops zero (e ∷ es) d within by h =
           ap (flat_map parts) (none_reach e.start (sequences_at all (e ∷ es)) h by.0)
       walk_stops (suc n) (e ∷ es) d within by h = walk_stops n es d (omega arith) by.1.1 h
-
-      -- it skips what ends at or below the low end
-      pub walk_skips : (e : OrderedSequence) → e.end ≤ low → EndBy e.end (sequence_at all e)
-          → found_at (sequence_at all e) ≡ []
-      walk_skips e h by = ap (flat_map parts) (ended e.end (sequence_at all e) h by)
-
-      -- the next sequence comes first
-      pub walk_next : (n : ℕ) (es : List OrderedSequence) (d : OrderedSequence) → n < length es
-          → found_at (sequences_at all (drop n es))
-          ≡ found_at (sequence_at all (get_or es n d)) ++ found_at (sequences_at all (drop (n + 1) es))
-      walk_next n es d within =
-          at_drop_more (λ l. found_at (sequences_at all l)) es n d within
-          ∙ ap (flat_map parts)
-          (filter-append (reaches low high) (sequence_at all (get_or es n d)) (sequences_at all (drop (n + 1) es)))
-          ∙ flat_map-append parts (filter (reaches low high) (sequence_at all (get_or es n d)))
-          (filter (reaches low high) (sequences_at all (drop (n + 1) es)))
 
 in_order_refers : (n : ℕ) (before ss : List Sequence) → n ≡ length before
     → AllZip (RefersTo (before ++ ss)) (in_order after (entries_from n ss)) (in_order starts_after ss)

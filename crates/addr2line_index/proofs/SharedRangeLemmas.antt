@@ -1,5 +1,5 @@
 -- Ranges that several units share, put in order, stand for the pairs in order.
-use Rattle.std.proofs.Common.{◌≡◌, ℕ, zero, suc, ◌+◌, ◌-◌, ◌<◌, ◌≤◌, Bool, true, false, not, cond, nat_lt, nat_eq, rules, tests, List, [], ◌∷◌, ◌++◌, length, get_or, map, take, filter, Option, Some, None, refl, sym, ap, ◌∙◌, inl, inr, subst, arith, append_assoc, append-nil, zero-add}
+use Rattle.std.proofs.Common.{◌≡◌, ℕ, zero, suc, ◌+◌, ◌-◌, ◌<◌, ◌≤◌, Bool, true, false, not, cond, nat_lt, nat_eq, rules, tests, List, [], ◌∷◌, ◌++◌, length, get_or, map, take, filter, refl, sym, ap, ◌∙◌, inl, inr, subst, arith, append_assoc, append-nil}
 use Rattle.std.specs.Ordering.{nat_cmp}
 use Rattle.std.specs.List.{AllAdjacentBelow, IsAllAdjacentAnswer}
 use Rattle.std.specs.List.Sorted.{IsNonDecreasingBy, IsStableByKey}
@@ -16,7 +16,7 @@ use Rattle.addr2line_spec.specs.Orders.{in_order}
 use Rattle.addr2line_index.specs.declared.unit_range.UnitRange.{UnitRange}
 use Rattle.addr2line_index.specs.declared.shared_range.SharedRange.{SharedRange}
 use Rattle.addr2line_index.specs.declared.unit_run.UnitRun.{UnitRun}
-use Rattle.addr2line_index.specs.SharedRanges.{in_units, more_units, pairs_in, pairs_left_in, pairs_in_all, with_unit, with_units, pairs_of_run, pairs_of_runs, shared_of_run, shared_of_runs, EndAbove, EndsRise, IsShareable, AreShareable, GoesOn, LastGoesOn, with_last}
+use Rattle.addr2line_index.specs.SharedRanges.{in_units, more_units, pairs_in, pairs_in_all, with_unit, with_units, pairs_of_run, pairs_of_runs, shared_of_run, shared_of_runs, EndAbove, EndsRise, IsShareable, AreShareable, GoesOn, LastGoesOn, with_last}
 use Rattle.addr2line_index.proofs.StableOrder.{tie, tie-once, NotBelow, Ascends, class, Ascends-from_places, in_order-ascending, by_number}
 
 abbrev pub end_of : UnitRange → ℕ
@@ -220,9 +220,6 @@ sorted_pairs us sorted h up stable =
     (λ a. class-pairs a sorted ∙ ap pairs_in_all (stable (ends_at a)) ∙ class-runs a us h)
 
 -- ---- one unit more
-
-sub_self : (n : ℕ) → n - n ≡ 0
-sub_self n = omega arith
 
 pairs_of_runs-append : (us vs : List UnitRun) → pairs_of_runs (us ++ vs) ≡ pairs_of_runs us ++ pairs_of_runs vs
 pairs_of_runs-append [] vs = refl

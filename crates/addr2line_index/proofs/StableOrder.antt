@@ -162,10 +162,6 @@ module _ {X : Type 0} (n : X → ℕ) where
       same_from_classes sorted (in_order by_number xs) up (Ascends-in_order xs)
       (λ a. same a ∙ sym (in_order-class a xs))
 
-  pub in_order-unique : (xs sorted : List X) → IsNonDecreasingBy n sorted → ((a : ℕ) → class a sorted ≡ class a xs)
-      → sorted ≡ in_order by_number xs
-  in_order-unique xs sorted up same = in_order-ascending xs sorted (Ascends-from_places sorted up) same
-
 -- ---- elements seen through a function
 
 module _ {X Y : Type 0} (view : X → Y) (after_x : X → X → Bool) (after_y : Y → Y → Bool)

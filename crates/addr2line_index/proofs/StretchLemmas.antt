@@ -48,16 +48,6 @@ first_below files end high next rows r rest s whole row address length after bel
     ∙ ap (λ b. cond b (stretch_of_row files s ∷ stretches_below files end high rest) []) below
     ∙ ap (λ l. stretch_of_row files s ∷ stretches_below files end high (drop 1 l)) (sym whole)
 
-pub none_below_end : (files : List (List ℕ)) (end high : ℕ) (rows : List LineRow) (r : LineRow) (rest : List LineRow)
-    → rows ≡ r ∷ rest → nat_lt r.address high ≡ false → stretches_below files end high rows ≡ []
-none_below_end files end high rows r rest whole above =
-    let p : Stretch → Bool = λ t. nat_lt t.address high in
-    let x : Stretch =
-    record { address = r.address; length = next_address rest end - r.address; location = row_location files r } in
-    ap (stretches_below files end high) whole
-    ∙ take_while-cons p x (stretches_of files end rest)
-    ∙ ap (λ b. cond b (x ∷ stretches_below files end high rest) []) above
-
 -- the first row from a number on
 pub first_from : (files : List (List ℕ)) (end high n : ℕ) (rows : List LineRow) (o : Option RowStretch)
     → MatchOption o (stretches_below files end high (take (length rows - n) (drop n rows)) ≡ [])

@@ -1,6 +1,6 @@
 -- Ranges of units by their ends, each with the least begin from it on, by which a search among them
 -- knows where to start and where to stop, and with the number of pairs up to it.
-use Rattle.std.specs.Prelude.{◌≡◌, ℕ, suc, ◌+◌, ◌-◌, ◌^◌, ◌<◌, ◌≤◌, min, nat_le, Bool, ◌||◌, List, [], ◌∷◌, ◌++◌, map, drop}
+use Rattle.std.specs.Prelude.{◌≡◌, ℕ, suc, ◌+◌, ◌-◌, ◌^◌, ◌<◌, ◌≤◌, min, nat_le, Bool, ◌||◌, List, [], ◌∷◌, map, drop}
 use Rattle.std.specs.List.Sorted.{IsNonDecreasingBy}
 use Rattle.addr2line_index.specs.declared.unit_range.UnitRange.{UnitRange}
 use Rattle.addr2line_index.specs.declared.shared_range.SharedRange.{SharedRange}

@@ -1,6 +1,6 @@
 //! The next range from an index on.
 
-ghost use Rattle.std.specs.Prelude.{◌≡◌, ◌≤◌, ◌∷◌, [], drop, length, MatchOption};
+ghost use Rattle.std.specs.Prelude.{◌≡◌, ◌≤◌, ◌∷◌, [], true, drop, length, MatchOption};
 ghost use Rattle.std.specs.List.{prefix_len};
 ghost use Rattle.std.specs.List.Sorted.{IsNonDecreasingBy};
 ghost use Rattle.addr2line_spec.specs.Pairs.{overlaps};
@@ -8,6 +8,7 @@ ghost use Rattle.addr2line_index.specs.NumberedRanges.{overlapping_ranges};
 ghost use Rattle.addr2line_index.specs.BoundedRanges.{ranges_in, end_of, ends_by, is_skipped, pairs_left, IsCounted, IsNextOverlap, IsInOrder};
 
 use crate::bounded_range::BoundedRange;
+use crate::range_place::RangePlace;
 use crate::unit_range::UnitRange;
 use addr2line_spec::Range;
 
@@ -30,16 +31,40 @@ pub(crate) fn count_ending_by(entries: &[BoundedRange], address: u64) -> usize
     )
 }
 
-// How many of them do, or have all their pairs before an index. It is one bisection too.
-fn count_skipped(entries: &[BoundedRange], from: usize, address: u64) -> usize
-    requires { IsInOrder entries.now }
-    ensures count { result ≡ prefix_len (is_skipped from address) entries.now }
-    ensures within { result ≤ length entries.now }
+// Whether a range ends at or below an address, or has all its pairs before an index.
+fn is_skipped(entry: &BoundedRange, from: usize, address: u64) -> bool
+    ensures { result ≡ is_skipped from address entry.now }
 {
+    entry.shared.range.end <= address || entry.after <= from
+}
+
+// Whether a place is that of the first that isn't skipped.
+fn is_first_left(entries: &[BoundedRange], place: usize, from: usize, address: u64) -> bool
+    requires { IsInOrder entries.now }
+    ensures { result ≡ true → place ≡ prefix_len (is_skipped from address) entries.now }
+{
+    if place >= entries.len() || is_skipped(&entries[place], from, address) {
+        return false;
+    }
+    if place == 0 {
+        return true;
+    }
+    is_skipped(&entries[place - 1], from, address)
+}
+
+// How many of them are skipped. It looks at a place first, which costs little, and else is one
+// bisection.
+fn count_skipped(entries: &[BoundedRange], first: usize, from: usize, address: u64) -> usize
+    requires { IsInOrder entries.now }
+    ensures { result ≡ prefix_len (is_skipped from address) entries.now }
+{
+    if is_first_left(entries, first, from, address) {
+        return first;
+    }
     entries.partition_point(
         |entry: &BoundedRange| -> bool
             ensures { result ≡ is_skipped from address entry.now }
-        { entry.shared.range.end <= address || entry.after <= from },
+        { is_skipped(entry, from, address) },
     )
 }
 
@@ -62,28 +87,41 @@ fn pair_between(
     }
 }
 
-// The first pair from an index on whose range overlaps what lies between two ends, and the index
-// after it.
+// An index of a pair of the range at a place, or the one after its last, with where to look next.
+fn place_after(index: usize, place: usize, entry: &BoundedRange) -> RangePlace
+    ensures { result.index ≡ index }
+{
+    let entry = if index < entry.after {
+        place
+    } else {
+        place.saturating_add(1)
+    };
+    RangePlace { index, entry }
+}
+
+// The first pair from an index on whose range overlaps what lies between two ends, and the place
+// after it. It looks at an entry first.
 pub(crate) fn next_overlapping(
     entries: &[BoundedRange],
+    first: usize,
     from: usize,
     low: u64,
     high: u64,
-) -> Option<(UnitRange, usize)>
+) -> Option<(UnitRange, RangePlace)>
     requires { IsInOrder entries.now }
     ensures { MatchOption result
         (overlapping_ranges low high (drop from (ranges_in entries.now)) ≡ [])
         (λ f. overlapping_ranges low high (drop from (ranges_in entries.now))
-        ≡ f.0 ∷ overlapping_ranges low high (drop f.1 (ranges_in entries.now))) }
+        ≡ f.0 ∷ overlapping_ranges low high (drop f.1.index (ranges_in entries.now))) }
 {
-    let mut place = count_skipped(entries, from, low);
+    let mut place = count_skipped(entries, first, from, low);
     while place < entries.len() {
         let entry = &entries[place];
         if high <= entry.least_begin {
             return None;
         }
-        if let Some(found) = pair_between(entry, from, low, high) {
-            return Some(found);
+        if let Some((range, next)) = pair_between(entry, from, low, high) {
+            return Some((range, place_after(next, place, entry)));
         }
         place += 1;
     }

@@ -9,6 +9,7 @@ ghost use Rattle.addr2line_index.specs.BoundedRanges.{ranges_in, shared_in, IsBo
 
 use crate::bounded_range::BoundedRange;
 use crate::next_range::{count_ending_by, next_overlapping};
+use crate::range_place::RangePlace;
 use crate::shared_range::SharedRange;
 use crate::unit_range::UnitRange;
 use crate::unit_run::UnitRun;
@@ -210,14 +211,20 @@ impl UnitRanges {
         }
     }
 
-    /// The first of them from an index on that overlaps what lies between two ends, and the index
-    /// after it. It is a bisection, and then a walk over ranges that end above the low end.
-    pub fn next_overlapping(&self, from: usize, low: u64, high: u64) -> Option<(UnitRange, usize)>
-        ensures { MatchOption result (overlapping_ranges low high (drop from self.now) ≡ [])
-            (λ f. overlapping_ranges low high (drop from self.now)
-            ≡ f.0 ∷ overlapping_ranges low high (drop f.1 self.now)) }
+    /// The first of them from a place on that overlaps what lies between two ends, and the place
+    /// after it. It is a walk over ranges that end above the low end, and before it a bisection,
+    /// unless the place is the one after the range that the search before found.
+    pub fn next_overlapping(
+        &self,
+        from: RangePlace,
+        low: u64,
+        high: u64,
+    ) -> Option<(UnitRange, RangePlace)>
+        ensures { MatchOption result (overlapping_ranges low high (drop from.index self.now) ≡ [])
+            (λ f. overlapping_ranges low high (drop from.index self.now)
+            ≡ f.0 ∷ overlapping_ranges low high (drop f.1.index self.now)) }
     {
-        next_overlapping(self.entries.as_slice(), from, low, high)
+        next_overlapping(self.entries.as_slice(), from.entry, from.index, low, high)
     }
 }
 

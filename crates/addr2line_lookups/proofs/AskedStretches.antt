@@ -13,6 +13,7 @@ use Rattle.addr2line_resolved.specs.LineCursors.{lines_left}
 use Rattle.addr2line_resolved.specs.PlaceLookups.{with_stretches}
 use Rattle.addr2line_resolved.specs.Contexts.{ContextUnit}
 use Rattle.addr2line_resolved.specs.UnitRange.{UnitRange}
+use Rattle.addr2line_resolved.specs.RangePlace.{RangePlace}
 use Rattle.addr2line_resolved.specs.NumberedRanges.{overlapping_ranges}
 use Rattle.addr2line_resolved.specs.UnitPlaces.{UnitPlaces}
 use Rattle.addr2line_resolved.specs.RangeIndexLaws.{with_unit_stretches}
@@ -100,7 +101,8 @@ module _ (low high : ℕ) (r : UnitRange) (rest : Listing (Unit {0}) Stretch) wh
     same : lines_left l (max low r.range.begin) (min high r.range.end) c
         ≡ lines_between l (max low r.range.begin) (min high r.range.end)
     same =
-        subst (λ (n : ℕ). lines_left l n (min high r.range.end) c ≡ lines_between l n (min high r.range.end)) is_low begins
+        let end = min high r.range.end in
+        subst (λ (n : ℕ). lines_left l n end c ≡ lines_between l n end) is_low begins
 
     rows_of_answer : (x : Result Lines Error) → and_then x (λ (k : Lines). Ok (Some k)) ≡ Ok (Some l)
         → with_stretches low high r.range x rest ≡ prepend (clipped_left low high r.range c x) rest
@@ -238,7 +240,7 @@ module _ (old : List ResolvedUnit) (ranges : List UnitRange) (begun : RangeWalk)
 
   -- after the range that it is in
   abbrev pub AsksAfter : RangeWalk → List ResolvedUnit → Type 0
-  AsksAfter w vs = AsksOn asks (along w (overlapping_ranges w.low w.high (drop w.next ranges))) old vs
+  AsksAfter w vs = AsksOn asks (along w (overlapping_ranges w.low w.high (drop w.next.index ranges))) old vs
 
   pub walk_begins : AsksWalk begun old
   walk_begins = asks_all asks old
@@ -251,7 +253,7 @@ module _ (old : List ResolvedUnit) (ranges : List UnitRange) (begun : RangeWalk)
     comes_to = AsksForStretch us ranges w
 
     abbrev later : List UnitRange
-    later = overlapping_ranges w.low w.high (drop w.next ranges)
+    later = overlapping_ranges w.low w.high (drop w.next.index ranges)
 
     in_rows : (n : ℕ) → here n → comes_to n
     in_rows n is = inl is
@@ -297,18 +299,18 @@ module _ (old : List ResolvedUnit) (ranges : List UnitRange) (begun : RangeWalk)
 
   module _ (w : RangeWalk) (vs : List ResolvedUnit) (h : AsksAfter w vs) where
     abbrev next_ones : List UnitRange
-    next_ones = overlapping_ranges w.low w.high (drop w.next ranges)
+    next_ones = overlapping_ranges w.low w.high (drop w.next.index ranges)
 
     -- where there are none
-    pub walk_ends : overlapping_ranges w.low w.high (drop w.next ranges) ≡ [] → KeepsAsked asks vs
+    pub walk_ends : overlapping_ranges w.low w.high (drop w.next.index ranges) ≡ [] → KeepsAsked asks vs
     walk_ends is =
         asks_none asks (along w next_ones) old vs (λ n left. absurd (subst (λ rs. along w rs n) is left)) h
 
-    module _ (r : UnitRange) (next : ℕ)
-        (is : overlapping_ranges w.low w.high (drop w.next ranges)
-        ≡ r ∷ overlapping_ranges w.low w.high (drop next ranges)) where
+    module _ (r : UnitRange) (next : RangePlace)
+        (is : overlapping_ranges w.low w.high (drop w.next.index ranges)
+        ≡ r ∷ overlapping_ranges w.low w.high (drop next.index ranges)) where
       abbrev rest : List UnitRange
-      rest = overlapping_ranges w.low w.high (drop next ranges)
+      rest = overlapping_ranges w.low w.high (drop next.index ranges)
 
       abbrev there : Option RangeRows → RangeWalk
       there rows = record { low = w.low; high = w.high; rows = rows; next = next }

@@ -15,27 +15,27 @@ pub mod RangeSteps
 pub mod UnitProbes
 pub mod UnitRows
 pub mod PendingUnits
-pub mod ListedLoads
+mod ListedLoads
 pub mod AnsweredLoads
 pub mod CallsLeft
-pub mod UnitCalls
-pub mod UnitTurns
+mod UnitCalls
+mod UnitTurns
 pub mod UnitWalks
-pub mod KeptCallsAt
+mod KeptCallsAt
 pub mod ParsedUnits
-pub mod CallsOfUnits
-pub mod FoundFunctions
+mod CallsOfUnits
+mod FoundFunctions
 pub mod FoundFrames
-pub mod LookupProbes
-pub mod SettledUnits
+mod LookupProbes
+mod SettledUnits
 pub mod FirstLoads
 pub mod PassedUnits
 pub mod UnitChanges
 pub mod AskedLines
-pub mod AskedStretches
+mod AskedStretches
 pub mod RangeUnits
-pub mod KeptFunctionLists
-pub mod KeptAhead
+mod KeptFunctionLists
+mod KeptAhead
 pub mod AskedFunctions
-pub mod ReadLines
-pub mod AddressSearches
+mod ReadLines
+mod AddressSearches

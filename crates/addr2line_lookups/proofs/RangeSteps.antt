@@ -11,6 +11,7 @@ use Rattle.addr2line_resolved.specs.Lines.{Lines, row_location}
 use Rattle.addr2line_resolved.specs.Contexts.{ContextUnit, ranges_of, lines_of}
 use Rattle.addr2line_resolved.specs.PlaceLookups.{stretches_between}
 use Rattle.addr2line_resolved.specs.UnitRange.{UnitRange}
+use Rattle.addr2line_resolved.specs.RangePlace.{RangePlace}
 use Rattle.addr2line_resolved.specs.UnitPlaces.{UnitPlaces}
 use Rattle.addr2line_resolved.specs.NumberedRanges.{overlapping_ranges}
 use Rattle.addr2line_resolved.specs.RangeIndexLaws.{stretches_from}
@@ -18,7 +19,8 @@ use Rattle.addr2line_resolved.specs.LineCursor.{LineCursor}
 use Rattle.addr2line_resolved.specs.LineCursors.{lines_left}
 use Rattle.addr2line_resolved.specs.RowStretch.{RowStretch}
 use Rattle.addr2line_resolved.specs.Stretches.{stretch_of_row}
-use Rattle.addr2line_resolved.specs.ContextUnits.{unit_places}
+use Rattle.addr2line_resolved.specs.StretchesLeft.{stretches_from_index}
+use Rattle.addr2line_resolved.specs.ContextUnits.{unit_places, ordered_ranges}
 use Rattle.addr2line_resolved.specs.ResolvedUnits.{location_of_row}
 use Rattle.addr2line_resolved.proofs.UnitViews.{stretches_of_views, stretches_by_numbers}
 use Rattle.addr2line_lookups.specs.KeptUnits.{lines_if_unit, lines_at}
@@ -139,39 +141,42 @@ module _ (low high : ℕ) (r : UnitRange) where
 -- ---- one range after the other
 
 -- before the first range all stretches are left
-pub all_left : (units : List ContextUnit) (low high : ℕ)
-    → stretches_left units (record { low = low; high = high; rows = None; next = 0 })
+pub all_left : (units : List ContextUnit) (low high : ℕ) (first : RangePlace) → first.index ≡ 0
+    → stretches_left units (record { low = low; high = high; rows = None; next = first })
     ≡ stretches_between ranges_of lines_of units low high
-all_left units low high =
-    sym (stretches_by_numbers (map unit_places units) low high) ∙ stretches_of_views unit_places units low high
+all_left units low high first none =
+    let us = map unit_places units in
+    ap (λ n. prepend [] (stretches_from_index us low high (ordered_ranges units) n)) none
+    ∙ sym (stretches_by_numbers us low high)
+    ∙ stretches_of_views unit_places units low high
 
 module _ (us : List UnitPlaces) (ranges : List UnitRange) (w : RangeWalk)
     (none : rows_left us w.low w.high w.rows ≡ []) where
   -- where the walk's range has none left, those of the next ones are
-  left_after : (rs : List UnitRange) → overlapping_ranges w.low w.high (drop w.next ranges) ≡ rs
+  left_after : (rs : List UnitRange) → overlapping_ranges w.low w.high (drop w.next.index ranges) ≡ rs
       → walk_left us ranges w ≡ stretches_from us w.low w.high rs
   left_after rs is =
-      ap (λ ts. prepend ts (stretches_from us w.low w.high (overlapping_ranges w.low w.high (drop w.next ranges)))) none
+      ap (λ ts. prepend ts (stretches_from us w.low w.high (overlapping_ranges w.low w.high (drop w.next.index ranges)))) none
       ∙ ap (stretches_from us w.low w.high) is
 
-  pub next_range : (r : UnitRange) (next : ℕ) (rows : Option RangeRows)
-      → overlapping_ranges w.low w.high (drop w.next ranges)
-      ≡ r ∷ overlapping_ranges w.low w.high (drop next ranges)
+  pub next_range : (r : UnitRange) (next : RangePlace) (rows : Option RangeRows)
+      → overlapping_ranges w.low w.high (drop w.next.index ranges)
+      ≡ r ∷ overlapping_ranges w.low w.high (drop next.index ranges)
       → BeginsRange us w.low w.high r (Ok rows)
       → walk_left us ranges (record { low = w.low; high = w.high; rows = rows; next = next }) ≡ walk_left us ranges w
   next_range r next rows is begins =
-      let rest = overlapping_ranges w.low w.high (drop next ranges) in
+      let rest = overlapping_ranges w.low w.high (drop next.index ranges) in
       sym (left_after (r ∷ rest) is ∙ begins (stretches_from us w.low w.high rest))
 
-  pub refused_range : (r : UnitRange) (next : ℕ) (e : Error)
-      → overlapping_ranges w.low w.high (drop w.next ranges)
-      ≡ r ∷ overlapping_ranges w.low w.high (drop next ranges)
+  pub refused_range : (r : UnitRange) (next : RangePlace) (e : Error)
+      → overlapping_ranges w.low w.high (drop w.next.index ranges)
+      ≡ r ∷ overlapping_ranges w.low w.high (drop next.index ranges)
       → BeginsRange us w.low w.high r (Err e) → e ≢ Memory → walk_left us ranges w ≡ no_items (Err e)
   refused_range r next e is refuses other =
-      let rest = overlapping_ranges w.low w.high (drop next ranges) in
+      let rest = overlapping_ranges w.low w.high (drop next.index ranges) in
       left_after (r ∷ rest) is ∙ refuses other (stretches_from us w.low w.high rest)
 
-  pub no_range : overlapping_ranges w.low w.high (drop w.next ranges) ≡ [] → walk_left us ranges w ≡ no_items (Ok tt)
+  pub no_range : overlapping_ranges w.low w.high (drop w.next.index ranges) ≡ [] → walk_left us ranges w ≡ no_items (Ok tt)
   no_range is = left_after [] is
 
 -- the next stretch of the walk's range is the next of all
@@ -182,7 +187,7 @@ pub first_left : (units : List ContextUnit) (ranges : List UnitRange) (s : UnitS
 first_left units ranges s old new h =
     let us = map unit_places units in
     let moved : RangeWalk = record old { rows = new.rows } in
-    let rest = stretches_from us old.low old.high (overlapping_ranges old.low old.high (drop old.next ranges)) in
+    let rest = stretches_from us old.low old.high (overlapping_ranges old.low old.high (drop old.next.index ranges)) in
     subst (λ (x : RangeWalk). FindsStretch units (Ok (Some s)) (walk_left us ranges old) (walk_left us ranges x))
     (sym h.0) (h.1.0, h.1.1, ap (λ ts. prepend ts rest) h.1.2)
 

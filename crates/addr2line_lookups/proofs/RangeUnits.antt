@@ -3,6 +3,7 @@ use Rattle.std.proofs.Common.{◌≡◌, inl, inr, ℕ, List, [], ◌∷◌, dro
 use Rattle.addr2line_resolved.specs.Error.{Error}
 use Rattle.addr2line_resolved.specs.Contexts.{ContextUnit}
 use Rattle.addr2line_resolved.specs.UnitRange.{UnitRange}
+use Rattle.addr2line_resolved.specs.RangePlace.{RangePlace}
 use Rattle.addr2line_resolved.specs.NumberedRanges.{overlapping_ranges}
 use Rattle.addr2line_resolved.specs.UnitPlaces.{UnitPlaces}
 use Rattle.addr2line_lookups.specs.KeptUnits.{IsUnitOf}
@@ -12,11 +13,12 @@ use Rattle.addr2line_lookups.specs.declared.range_walk.RangeWalk.{RangeWalk}
 use Rattle.addr2line_lookups.specs.declared.range_walk.UnitStretch.{UnitStretch}
 
 -- before the first range it comes to those of all
-pub comes_first : (ranges : List UnitRange) (low high n : ℕ)
-    → ComesTo ranges (record { low = low; high = high; rows = None; next = 0 }) n
+pub comes_first : (ranges : List UnitRange) (low high : ℕ) (first : RangePlace) (n : ℕ) → first.index ≡ 0
+    → ComesTo ranges (record { low = low; high = high; rows = None; next = first }) n
     → IsUnitOf (overlapping_ranges low high ranges) n
-comes_first ranges low high n (inl is) = absurd is
-comes_first ranges low high n (inr later) = later
+comes_first ranges low high first n none (inl is) = absurd is
+comes_first ranges low high first n none (inr later) =
+    subst (λ i. IsUnitOf (overlapping_ranges low high (drop i ranges)) n) none later
 
 -- in the range that it is in
 pub way_of_rows : (units : List ContextUnit) (ranges : List UnitRange) (result : Result (Option UnitStretch) Error)
@@ -24,13 +26,13 @@ pub way_of_rows : (units : List ContextUnit) (ranges : List UnitRange) (result :
     → ((n : ℕ) → IsUnitOfRows new.rows n → IsUnitOfRows old.rows n) → StaysOnItsWay ranges old new
 way_of_rows units ranges (Ok (Some s)) old new h rows n (inl is) = inl (rows n is)
 way_of_rows units ranges (Ok (Some s)) old new h rows n (inr later) =
-    inr (subst (λ (w : RangeWalk). IsUnitOf (overlapping_ranges w.low w.high (drop w.next ranges)) n) h.0 later)
+    inr (subst (λ (w : RangeWalk). IsUnitOf (overlapping_ranges w.low w.high (drop w.next.index ranges)) n) h.0 later)
 way_of_rows units ranges (Ok None) old new h rows n come = subst (λ (w : RangeWalk). ComesTo ranges w n) h.0 come
 way_of_rows units ranges (Err e) old new h rows n come = subst (λ (w : RangeWalk). ComesTo ranges w n) h.0 come
 
-module _ (ranges : List UnitRange) (w : RangeWalk) (r : UnitRange) (next : ℕ)
-    (is : overlapping_ranges w.low w.high (drop w.next ranges)
-    ≡ r ∷ overlapping_ranges w.low w.high (drop next ranges)) where
+module _ (ranges : List UnitRange) (w : RangeWalk) (r : UnitRange) (next : RangePlace)
+    (is : overlapping_ranges w.low w.high (drop w.next.index ranges)
+    ≡ r ∷ overlapping_ranges w.low w.high (drop next.index ranges)) where
   -- in the next range
   pub comes_next : ComesTo ranges w r.unit
   comes_next = inr (subst (λ rs. IsUnitOf rs r.unit) (sym is) (inl refl))
@@ -56,4 +58,4 @@ pub asked_on_way : (us : List UnitPlaces) (ranges : List UnitRange) (w : RangeWa
     → AsksForStretch us ranges w n → ComesTo ranges w n
 asked_on_way us ranges w n (inl is) = inl is
 asked_on_way us ranges w n (inr later) =
-    inr (along_is_unit us w.low w.high (overlapping_ranges w.low w.high (drop w.next ranges)) n later.1)
+    inr (along_is_unit us w.low w.high (overlapping_ranges w.low w.high (drop w.next.index ranges)) n later.1)

@@ -93,7 +93,7 @@ KeepsStretch us _ = Unit {0}
 abbrev pub walk_left : List UnitPlaces → List UnitRange → RangeWalk → Listing (Unit {0}) Stretch
 walk_left us ranges w =
     prepend (rows_left us w.low w.high w.rows)
-    (stretches_from_index us w.low w.high ranges w.next)
+    (stretches_from_index us w.low w.high ranges w.next.index)
 
 -- the same in units
 abbrev pub stretches_left : List ContextUnit → RangeWalk → Listing (Unit {0}) Stretch
@@ -120,7 +120,7 @@ IsUnitOfRows (Some r) number = number ≡ r.range.unit
 abbrev pub ComesTo : List UnitRange → RangeWalk → ℕ → Type 0
 ComesTo ranges w number =
     IsUnitOfRows w.rows number
-    ⊎ IsUnitOf (overlapping_ranges w.low w.high (drop w.next ranges)) number
+    ⊎ IsUnitOf (overlapping_ranges w.low w.high (drop w.next.index ranges)) number
 
 -- nothing of a unit's range is between two ends, and nothing refuses its lines
 abbrev pub HasNoStretch : List UnitPlaces → ℕ → ℕ → UnitRange → Type 0
@@ -141,7 +141,7 @@ abbrev pub AsksForStretch : List UnitPlaces → List UnitRange → RangeWalk →
 AsksForStretch us ranges w number =
     IsUnitOfRows w.rows number
     ⊎ ((rows_left us w.low w.high w.rows ≡ [])
-    × AsksAlong us w.low w.high (overlapping_ranges w.low w.high (drop w.next ranges)) number)
+    × AsksAlong us w.low w.high (overlapping_ranges w.low w.high (drop w.next.index ranges)) number)
 
 -- the same in units
 abbrev pub AsksForNextStretch : List ContextUnit → RangeWalk → ℕ → Type 0

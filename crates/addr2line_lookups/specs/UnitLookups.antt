@@ -52,11 +52,6 @@ Settles finds refuses nothing meaning (Err e) = refuses meaning e
 
 -- ---- frames
 
--- the frames of an address in the unit of a number
-abbrev pub frames_asked : KnownUnits → List AnsweredUnit → ℕ → ℕ
-    → Lookup (Result (List Frame) Error)
-frames_asked known vs a n = ask_at (frames_of_answered known a) (Ok []) vs n
-
 -- in the units of ranges
 abbrev pub frames_among : KnownUnits → List AnsweredUnit → ℕ → List UnitRange
     → Lookup (Result (List Frame) Error)
@@ -95,9 +90,6 @@ unit_with frames (Ok h) = if has_frames frames then Some h.unit else None
 abbrev pub unit_of_answered : KnownUnits → ℕ → AnsweredUnit → Option UnitInFile
 unit_of_answered known a v =
     unit_with (frames_of_answered known a v) (unit_of_functions (main_unit v) (first_answer v))
-
-abbrev pub unit_asked : KnownUnits → List AnsweredUnit → ℕ → ℕ → Lookup (Option UnitInFile)
-unit_asked known vs a n = ask_at (unit_of_answered known a) None vs n
 
 abbrev pub unit_among : KnownUnits → List AnsweredUnit → ℕ → List UnitRange
     → Lookup (Option UnitInFile)

@@ -4,7 +4,7 @@ ghost use Rattle.std.specs.Prelude.{◌≡◌, ◌<◌, [], ◌+◌, ◌^◌, dr
 ghost use Rattle.addr2line_resolved.specs.NumberedRanges.{covering_ranges};
 ghost use Rattle.addr2line_lookups.specs.PassedUnits.{ComesNext};
 
-use addr2line_resolved::UnitRanges;
+use addr2line_resolved::{RangePlace, UnitRanges};
 
 // An end is an address.
 fn check_end(end: u64)
@@ -35,6 +35,6 @@ pub(crate) fn next_covering(ranges: &UnitRanges, from: usize, probe: u64) -> Opt
         check_last(ranges, probe);
         return None;
     };
-    let (range, next) = ranges.next_overlapping(from, probe, above)?;
-    Some((range.unit, next))
+    let (range, next) = ranges.next_overlapping(RangePlace::at(from), probe, above)?;
+    Some((range.unit, next.index()))
 }

@@ -17,7 +17,7 @@ ghost use Rattle.addr2line_lookups.specs.RangeWalks.{BeginsRange, NextInRange, N
 use crate::parsing::check_at;
 use crate::settle::{UnitRow, read_at, unit_at};
 use addr2line_resolved::{
-    Error, LineCursor, Lines, Reader, ResUnit, RowStretch, UnitRange, UnitRanges,
+    Error, LineCursor, Lines, RangePlace, Reader, ResUnit, RowStretch, UnitRange, UnitRanges,
 };
 use std::alloc::Global;
 
@@ -43,8 +43,8 @@ pub struct RangeWalk {
     pub(crate) high: u64,
     /// The rows of the range that it is in, if it is in one.
     pub(crate) rows: Option<RangeRows>,
-    /// The index of the next range among those of all units.
-    pub(crate) next: usize,
+    /// The place of the next range among those of all units.
+    pub(crate) next: RangePlace,
 }
 
 impl RangeWalk {
@@ -59,7 +59,7 @@ impl RangeWalk {
             low,
             high,
             rows: None,
-            next: 0,
+            next: RangePlace::at(0),
         }
     }
 }

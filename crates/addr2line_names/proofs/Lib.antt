@@ -1,9 +1,9 @@
 pub use Rattle.gimli_dwarf.proofs.LastAttributes
-pub mod LastUnitBelow
+mod LastUnitBelow
 pub mod NameSteps
-pub mod ReferenceChains
-pub mod NamingSteps
-pub mod PassedSteps
-pub mod FunctionNameLemmas
-pub mod UnitOffsetLemmas
+mod ReferenceChains
+mod NamingSteps
+mod PassedSteps
+mod FunctionNameLemmas
+mod UnitOffsetLemmas
 mod SectionEntries

@@ -242,8 +242,9 @@ module _ (limit : ℕ) (h : HoldingUnit) where
         → naming_from found (attributes_from limit (map view xs) w) ≡ whole
         → naming_from next (attributes_from limit others new) ≡ whole
     naming_of_left-more found next xs d others w after new a o whole some reads gives none takes passes before =
-        naming_from-more found next (view (get_or xs 0 d)) (map view (drop 1 xs)) others w after new a o whole reads gives
-        none takes (subst (λ (ys : List X). Passes limit (map view ys) after others new) (rest_is xs) passes)
+        let first = view (get_or xs 0 d) in
+        naming_from-more found next first (map view (drop 1 xs)) others w after new a o whole reads gives none takes
+        (subst (λ (ys : List X). Passes limit (map view ys) after others new) (rest_is xs) passes)
         (with_first found xs d w whole some before)
 
     pub naming_of_left-linkage :

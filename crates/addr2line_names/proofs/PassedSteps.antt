@@ -52,15 +52,16 @@ fixed_reads n v there = rw (le-ltb (length v.bytes) n there) refl
 
 -- a form that isn't indirect, by what it spells
 attribute_reads : (limit : ℕ) (e : Encoding) (name form : ℕ) (constant : Option ℤ) (s : Spelling) (x : RawValue)
-    (v w : View) → eqb form 0x16 ≡ false → spelling e form ≡ s → spelled_value limit e name form constant s v ≡ Ok (x, w)
+    (v w : View) → eqb form 0x16 ≡ false → spelling e form ≡ s
+    → spelled_value limit e name form constant s v ≡ Ok (x, w)
     → forms.attribute limit e (declared name constant form) v ≡ Ok (raw_attribute name form x, w)
 unfolding forms.attribute forms.value
 attribute_reads limit e name form constant s x v w direct spells reads =
+    let made = λ (r : Result (RawValue × View) Error). proceed r (λ y. give (raw_attribute name form y)) in
     ap (λ (r : Result (ℕ × View) Error). proceed r (λ f. attribute_in_form limit e (declared name constant form) f))
     (final_form-other form v direct)
-    ∙ ap (λ (t : Spelling). proceed (spelled_value limit e name form constant t v) (λ y. give (raw_attribute name form y)))
-    spells
-    ∙ ap (λ (r : Result (RawValue × View) Error). proceed r (λ y. give (raw_attribute name form y))) reads
+    ∙ ap (λ (t : Spelling). made (spelled_value limit e name form constant t v)) spells
+    ∙ ap made reads
 
 way_is : (e : Encoding) (form : ℕ) (s : Spelling) → eqb form 0x16 ≡ false → spelling e form ≡ s
     → way_of e form ≡ plain_way e form s
@@ -141,13 +142,17 @@ with_constant e name (Some c) form h = by_test (eqb form 0x21) refl h
   where
     by_test : (t : Bool) → eqb form 0x21 ≡ t → (t && true) ≡ true → IsPlain e name (Some c) form
     by_test true is k =
-        subst (λ (f : ℕ). IsPlain e name (Some c) f) (sym (eqb-true form 0x21 is)) (constant_form e name 0x21 c refl refl)
+        subst (IsPlain e name (Some c)) (sym (eqb-true form 0x21 is)) (constant_form e name 0x21 c refl refl)
     by_test false is k = absurd cc
 with_constant e name None form h = by_test (eqb form 0x21) h
   where
     by_test : (t : Bool) → (t && false) ≡ true → IsPlain e name None form
     by_test true k = absurd cc
     by_test false k = absurd cc
+
+-- the flag of a byte
+abbrev flag_of : ℕ → RawValue
+flag_of n = flag (not (eqb n 0))
 
 plain_form : (e : Encoding) (name : ℕ) (constant : Option ℤ) (form : ℕ) → is_plain form (is_some constant) ≡ true
     → IsPlain e name constant form
@@ -156,7 +161,7 @@ plain_form e name constant form h =
     one_of e name constant form 0x19 _ h
     (fixed_form e name 0x19 0 constant (λ n. flag true) refl refl (no_word_of 0x19 refl refl) (λ limit n. refl)) (λ h1.
     one_of e name constant form 0x0c _ h1
-    (fixed_form e name 0x0c 1 constant (λ n. flag (not (eqb n 0))) refl refl (no_word_of 0x0c refl refl) (λ limit n. refl)) (λ h2.
+    (fixed_form e name 0x0c 1 constant flag_of refl refl (no_word_of 0x0c refl refl) (λ limit n. refl)) (λ h2.
     one_of e name constant form 0x0b _ h2
     (fixed_form e name 0x0b 1 constant data_1 refl refl (no_word_of 0x0b refl refl) (λ limit n. refl)) (λ h3.
     one_of e name constant form 0x05 _ h3
@@ -181,7 +186,8 @@ is_false false h = refl
 run_is_there : (m : ℕ) (ways : List Way) (u x : View) → skip_ways m ways u ≡ leaves x → m ≤ bytes_left u
 unfolding skip_ways
 run_is_there m [] u x h = (Runs-from_run m u x h).there
-run_is_there m (by_width w ∷ ways) u x h = let more : m + w ≤ bytes_left u = run_is_there (m + w) ways u x h in omega arith
+run_is_there m (by_width w ∷ ways) u x h =
+    let more : m + w ≤ bytes_left u = run_is_there (m + w) ways u x h in omega arith
 run_is_there m (by_look look ∷ ways) u x h =
     let b = begins (run m u) (λ _ t. proceed (look t) (λ more. skip_ways more ways)) tt x h in
     (Runs-from_run m u b.1 b.2).there
@@ -252,7 +258,8 @@ unfolding entries.skip_values skips.skip_values
 skipped_are_passed limit ss rest whole w new all whole_is h =
     let r = rest_of w (skip_ways 0 (map (λ s. way_of w.encoding s.form) ss) w.rest) new h in
     let p = passes_run limit w ss rest 0 w.rest r.0 all r.1 in
-    let from : walk_with_rest (after 0 w.rest) w ≡ w = ap (λ (v : View). walk_with_rest v w) (sym (after_none w.rest)) in
+    let from : walk_with_rest (after 0 w.rest) w ≡ w =
+    ap (λ (v : View). walk_with_rest v w) (sym (after_none w.rest)) in
     subst (λ (ds : List Attribute). Passes limit ds w rest new) whole_is
     (subst (λ (t : Walk). Passes limit (ss ++ rest) w rest t) r.2
     (subst (λ (t : Walk). Passes limit (ss ++ rest) t rest (walk_with_rest r.0 w)) from p))

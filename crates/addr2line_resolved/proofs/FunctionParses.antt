@@ -1,7 +1,7 @@
 -- What is kept of a unit's functions and calls is what the definitions say.
-use Rattle.std.proofs.Common.{◌≡◌, ◌≢◌, ℕ, zero, suc, ◌<◌, Bool, true, false, cond, List, [], ◌∷◌, ◌++◌, length, map, set, slice_get, Option, Some, None, is_some, option_map, Result, Ok, Err, IfOk, IfSome, OnOk, OnErr, ◌≤◌, ◌+◌, refl, sym, ap, ◌∙◌, subst, arith}
+use Rattle.std.proofs.Common.{◌≡◌, ◌≢◌, ℕ, zero, suc, ◌<◌, Bool, true, false, cond, List, [], ◌∷◌, length, map, set, slice_get, Option, Some, None, is_some, option_map, Result, Ok, Err, IfOk, IfSome, OnOk, OnErr, ◌≤◌, refl, sym, ap, ◌∙◌, subst, arith}
 use Rattle.std.specs.Prelude.{option_and_then}
-use Rattle.std.proofs.lemmas.List.{length-replicate, replicate-append-replicate, length-set, map-set}
+use Rattle.std.proofs.lemmas.List.{length-replicate, length-set, map-set}
 use Rattle.std.proofs.lemmas.Option.{slice_get-map, slice_get_within}
 use Rattle.addr2line_functions.specs.Error.{Error}
 use Rattle.addr2line_functions.specs.Error.TheVariants.{Memory}
@@ -13,13 +13,12 @@ use Rattle.addr2line_functions.specs.Functions.{Function, functions_of_unit, ran
 use Rattle.addr2line_functions.specs.InlinedCalls.{FunctionCalls, Naming, calls_of_function}
 use Rattle.addr2line_functions.specs.EntryReferences.{HoldingUnit}
 use Rattle.addr2line_functions.specs.FirstAnswers.{SplitLoad, FirstAnswer, load_of}
-use Rattle.addr2line_functions.specs.Lookups.{split_or_itself}
 use Rattle.addr2line_functions.specs.CountedFunctions.{CountedFunctions, CountedCalls}
 use Rattle.addr2line_functions.proofs.RangeNumbers.{function_of_number}
 use Rattle.addr2line_units.specs.ProbedLists.{ProbeCount}
 use Rattle.addr2line_units.specs.Searches.{AtMostProbes}
 use Rattle.addr2line_resolved.specs.KeptFunctions.{KeptFunctions, nothing_kept, IfKept, kept_at, function_in, number_in, number_probes, kept_number, kept_number_probes, kept_function_in, plain_functions, plain_calls, count_of_functions, function_count, calls_of_none, functions_read, calls_read, function_with, kept_function, function_at_number}
-use Rattle.addr2line_resolved.specs.ResolvedUnits.{undecided, decided, functions_under, calls_of, calls_of_number, functions_of, with_functions, with_calls, IsKeptOf, if_kept, AreFunctionsOf, KeepsFunctions, KeepsCallsOf, ResolvedUnit, KeepsNoFunctions, KeepNoFunctions}
+use Rattle.addr2line_resolved.specs.ResolvedUnits.{undecided, decided, functions_under, calls_of, calls_of_number, functions_of, with_functions, with_calls, IsKeptOf, if_kept, AreFunctionsOf, KeepsFunctions, KeepsCallsOf, ResolvedUnit}
 
 -- ---- by numbers
 
@@ -146,16 +145,6 @@ module _ (u : UnitInFile) (load : Result (Option SplitLoad) Error) where
         are_counted = record { functions = tt; calls = λ n. tt };
       })
 
-  -- after an answer to its load
-  pub keeps_answer : (first : Option FirstAnswer) (later : FirstAnswer) (k : KeptFunctions) (counter : ℕ)
-      → is_some (undecided load first) ≡ true → KeepsFunctions u load first k counter
-      → KeepsFunctions u load (Some later) k counter
-  keeps_answer first later k counter waits before = record {
-    functions_are = after_answer u load first later (option_map plain_functions k.functions) waits before.functions_are;
-    count_is = before.count_is;
-    are_counted = before.are_counted;
-  }
-
   -- before it nothing is kept
   pub nothing_pending : (first : Option FirstAnswer) (k : KeptFunctions) (counter : ℕ)
       → is_some (undecided load first) ≡ true → KeepsFunctions u load first k counter
@@ -238,13 +227,6 @@ module _ (u : UnitInFile) (load : Result (Option SplitLoad) Error) where
       let P : Result (Option SplitLoad) Error → Type 0 =
       λ l. IsKeptOf (functions_under u (decided l first)) (option_map plain_functions k.functions) in
       subst P is (functions_kept u load first (option_map plain_functions k.functions) keeps.functions_are)
-
--- the functions under a first answer, by the unit that has them
-pub functions_by_unit : (u : UnitInFile) (first : FirstAnswer)
-    → functions_under u first
-    ≡ and_then (and_then first (λ split. Ok (split_or_itself u split))) (λ f. functions_of_unit f.unit)
-functions_by_unit u (Ok split) = refl
-functions_by_unit u (Err e) = refl
 
 -- ---- what is found in it
 
@@ -387,17 +369,6 @@ pub plain_calls_of_none : (n : ℕ) → map (option_map plain_calls) (calls_of_n
 plain_calls_of_none zero = refl
 plain_calls_of_none (suc n) = ap (λ l. None ∷ l) (plain_calls_of_none n)
 
--- one unit more of which no functions are kept
-pub none_more : (us : List ResolvedUnit) (u : ResolvedUnit) → KeepNoFunctions us → KeepsNoFunctions u
-    → KeepNoFunctions (us ++ u ∷ [])
-none_more [] u h k = (k, tt)
-none_more (v ∷ us) u h k = (h.0, none_more us u h.1 k)
-
--- one more that isn't read
-pub none_read_more : {A : Type 0} (xs ys : List (Option A)) (n : ℕ) → xs ≡ calls_of_none n → ys ≡ xs ++ None ∷ []
-    → ys ≡ calls_of_none (n + 1)
-none_read_more xs ys n is more = more ∙ ap (λ l. l ++ None ∷ []) is ∙ replicate-append-replicate n 1 None
-
 -- all of them
 pub none_read_all : {A : Type 0} (xs : List (Option A)) (n m : ℕ) → xs ≡ calls_of_none n → n ≤ m → m ≤ n
     → xs ≡ calls_of_none m
@@ -414,12 +385,6 @@ function_is_any k meaning (Some n) is count = function_is k meaning n is count
 -- ---- calls that are kept with names found so
 
 module _ (naming : Naming) where
-  -- of a unit of which no functions are
-  pub calls_of_new : (u : ResolvedUnit) → KeepsNoFunctions u → KeepsCallsOf naming u
-  calls_of_new u none n =
-      let P : Option (Result FunctionCalls Error) → Type 0 = IsKeptOf (calls_of_number u.value naming n) in
-      subst P (sym (ap (λ cs. kept_at cs n) none.1)) tt
-
   -- after functions were read
   pub calls_with_functions : (u : ResolvedUnit) → KeepsCallsOf naming u → KeepsCallsOf naming (with_functions u)
   calls_with_functions u keeps = by u.keeps_functions

@@ -1,5 +1,5 @@
 -- What is kept of a unit is what the definitions say.
-use Rattle.std.proofs.Common.{◌≡◌, ◌≢◌, ℕ, ◌+◌, List, true, false, Option, Some, None, is_some, option_map, Result, Ok, Err, refl, sym, ap, subst, ◌∙◌, arith}
+use Rattle.std.proofs.Common.{◌≡◌, ◌≢◌, ℕ, ◌+◌, List, true, false, Option, Some, None, is_some, Result, Ok, Err, refl, sym, ap, subst, ◌∙◌, arith}
 use Rattle.std.specs.Prelude.{OnOk, OnErr}
 use Rattle.addr2line_functions.specs.Error.{Error}
 use Rattle.addr2line_functions.specs.Error.TheVariants.{Memory}
@@ -12,8 +12,8 @@ use Rattle.addr2line_units.specs.LineIndexes.{CountedLines, counted_lines}
 use Rattle.addr2line_units.specs.RootRanges.{RunsForRanges}
 use Rattle.addr2line_functions.specs.FirstAnswers.{SplitLoad, FirstAnswer, load_of}
 use Rattle.addr2line_resolved.specs.KeptFunctions.{KeptFunctions, nothing_kept}
-use Rattle.addr2line_resolved.specs.ResolvedUnits.{ResolvedUnit, main_unit, decided, first_answer, unit_of_functions, IsKeptOf, if_kept, runs_if_kept, undecided, KeepsFunctions, KeepsParses}
-use Rattle.addr2line_resolved.proofs.FunctionParses.{keeps_nothing, keeps_answer}
+use Rattle.addr2line_resolved.specs.ResolvedUnits.{ResolvedUnit, main_unit, decided, first_answer, unit_of_functions, IsKeptOf, if_kept, runs_if_kept, KeepsFunctions, KeepsParses}
+use Rattle.addr2line_resolved.proofs.FunctionParses.{keeps_nothing}
 
 -- what is kept is there, or isn't
 pub kept_is : {A : Type 0} (x : A) (k : Option A) → IsKeptOf x k → k ≡ if_kept (is_some k) x
@@ -29,13 +29,6 @@ pub unit_by_load : (v : ResolvedUnit) (u : UnitInFile) (load : Result (Option Sp
 unit_by_load v u load first d view is h =
     sym view ∙ ap (λ l. unit_of_functions u (decided l first)) (sym is) ∙ ap (unit_of_functions u) h
 
--- another count of the same counter
-pub keeps_counter : (u : UnitInFile) (load : Result (Option SplitLoad) Error) (first : Option FirstAnswer)
-    (lines : Option (Result CountedLines Error)) (runs : ℕ) (k : KeptFunctions) (old new : ℕ) → new ≡ old
-    → KeepsParses u load first lines runs k old → KeepsParses u load first lines runs k new
-keeps_counter u load first lines runs k old new is keeps =
-    let P : ℕ → Type 0 = λ n. KeepsParses u load first lines runs k n in subst P (sym is) keeps
-
 -- other functions
 pub keeps_functions : (u : UnitInFile) (load : Result (Option SplitLoad) Error) (first : Option FirstAnswer)
     (lines : Option (Result CountedLines Error)) (runs : ℕ) (old new : KeptFunctions) (counter : ℕ)
@@ -47,26 +40,6 @@ keeps_functions u load first lines runs old new counter keeps functions = record
   runs_are = keeps.runs_are;
   functions_are = functions;
 }
-
--- an answer to the load
-pub keeps_first : (u : UnitInFile) (load : Result (Option SplitLoad) Error) (old new : Option FirstAnswer)
-    (lines : Option (Result CountedLines Error)) (runs : ℕ) (k : KeptFunctions) (counter : ℕ) (later : FirstAnswer)
-    → new ≡ Some later → is_some (undecided load old) ≡ true → KeepsParses u load old lines runs k counter
-    → KeepsParses u load new lines runs k counter
-keeps_first u load old new lines runs k counter later is waits keeps =
-    let P : Option FirstAnswer → Type 0 = λ x. KeepsParses u load x lines runs k counter in
-    subst P (sym is) (record {
-      load_is = keeps.load_is;
-      lines_are = keeps.lines_are;
-      runs_are = keeps.runs_are;
-      functions_are = keeps_answer u load old later k counter waits keeps.functions_are;
-    })
-
--- the load is pending where it is shown
-pub is_pending : {A B : Type 0} (see : A → B) (o : Option A) (p q : Option B) → option_map see o ≡ p → p ≡ q
-    → is_some o ≡ true → is_some q ≡ true
-is_pending see None p q h k there = absurd cc
-is_pending see (Some x) p q h k there = sym (ap is_some (h ∙ k))
 
 -- ---- a unit that was made just now
 

@@ -13,6 +13,7 @@ pub use Rattle.addr2line_functions.specs.Stretches
 pub use Rattle.addr2line_functions.specs.StretchesLeft
 pub use Rattle.addr2line_functions.specs.LineCursors
 pub use Rattle.addr2line_functions.specs.LineCursor
+pub use Rattle.addr2line_functions.specs.RangePlace
 pub use Rattle.addr2line_functions.specs.RowStretch
 pub use Rattle.addr2line_functions.specs.UnitPlaces
 pub use Rattle.addr2line_functions.specs.Location

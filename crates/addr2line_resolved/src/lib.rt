@@ -22,11 +22,11 @@ pub use addr2line_functions::{
     Dwarf, DwarfFileType, DwoId, EndianBytes, EndianSlice, Error, Format, Frame, FrameIter,
     Function, FunctionCalls, FunctionName, Functions, HasUnit, HoldingUnit, KnownUnits, LineCursor,
     LineIndex, Lines, LinesBuilder, LittleEndian, Location, LocationLists, Names, Probes, Range,
-    RangeLists, RangeListsOffset, RawRangeListsOffset, Reader, ReaderOffsetId, RootRanges,
-    RowStretch, RunTimeEndian, Runs, SectionId, Unit, UnitHeader, UnitLines, UnitNames, UnitOffset,
-    UnitRange, UnitRanges, UnitRangesBuilder, UnitRef, UnitRoot, UnitType, calls_of_function,
-    file_text, file_text_of_bytes, frame_without_function, functions_of_unit, is_partial,
-    is_rooted, join, language_of, ranges_of_attributes, ranges_of_entry,
+    RangeLists, RangeListsOffset, RangePlace, RawRangeListsOffset, Reader, ReaderOffsetId,
+    RootRanges, RowStretch, RunTimeEndian, Runs, SectionId, Unit, UnitHeader, UnitLines, UnitNames,
+    UnitOffset, UnitRange, UnitRanges, UnitRangesBuilder, UnitRef, UnitRoot, UnitType,
+    calls_of_function, file_text, file_text_of_bytes, frame_without_function, functions_of_unit,
+    is_partial, is_rooted, join, language_of, ranges_of_attributes, ranges_of_entry,
 };
 pub use addr2line_units::LineRow;
 pub use first_answer::answer_of;

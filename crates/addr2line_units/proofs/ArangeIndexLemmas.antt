@@ -1,5 +1,5 @@
 -- The ranges of a unit among all ranges of `.debug_aranges`, in the order of the section and in that of the units.
-use Rattle.std.proofs.Common.{◌≡◌, ℕ, suc, ◌+◌, ◌-◌, ◌<◌, ◌≤◌, Bool, true, false, cond, nat_lt, List, [], ◌∷◌, ◌++◌, length, map, filter, flat_map, drop, take, get_or, Option, Some, None, option_map, Result, refl, sym, ap, ◌∙◌, subst, inl, inr, arith, rules, tests}
+use Rattle.std.proofs.Common.{◌≡◌, ℕ, suc, ◌+◌, ◌-◌, ◌<◌, ◌≤◌, Bool, true, false, cond, nat_lt, List, [], ◌∷◌, ◌++◌, length, map, filter, flat_map, drop, take, get_or, Option, Some, None, option_map, Result, refl, sym, ap, ◌∙◌, inl, inr, arith, rules, tests}
 use Rattle.std.specs.Prelude.{◌==◌}
 use Rattle.std.specs.List.{filter_map, cons_option, prefix_len}
 use Rattle.std.specs.List.Sorted.{IsNonDecreasingBy, IsPartitionPoint, IsStableByKey}
@@ -207,8 +207,3 @@ stop_ranges offset (e ∷ es) d some up other =
       | inl above ↦ none_from_above offset e.offset (e ∷ es) above (omega arith, up.1)
       | inr under ↦ let level : e.offset ≡ offset = omega (arith, up.0) in absurd (other level)
     ]
-
-pub ascends_rest : (offset : ℕ) (es : List UnitArange) (d : UnitArange) → AscendsFrom offset es
-    → (get_or es 0 d).offset ≡ offset → AscendsFrom offset (drop 1 es)
-ascends_rest offset [] d up same = tt
-ascends_rest offset (e ∷ es) d up same = subst (λ n. AscendsFrom n es) same up.1

@@ -83,12 +83,6 @@ texts_fault {A} f (Err e) files i x now old new d h lt is text same = λ ne.
     ∙ same)
     ∙ ap refusal (sym h)
 
--- no memory for a text
-pub no_memory_for_text : {B : Type 0} (result : Result B Error) (old new : List Text) (meant : Result (List Text) Error)
-    (d : Error) → IsErrAnd result (λ e. e ≡ d) → d ≡ Memory → AddsTexts result old new meant
-no_memory_for_text (Ok y) old new meant d h none = absurd h
-no_memory_for_text (Err e) old new meant d h none = λ ne. absurd (ne (h ∙ none))
-
 -- all texts are appended
 pub texts_all : {A B : Type 0} (f : A → Result Text Error) (y : B) (files : List A) (i : ℕ) (old new : List Text)
     → length files ≤ i → append_texts new (each f (drop i files)) ≡ append_texts old (each f files)

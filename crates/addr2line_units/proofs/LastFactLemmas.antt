@@ -33,10 +33,6 @@ add_first_fact : (f : RangeFact) (found : LastFacts) (facts : Result (List Range
 add_first_fact f found (Ok fs) = ap Ok (add_one_fact f found fs)
 add_first_fact f found (Err e) = refl
 
--- a fact answered
-abbrev pub ok_fact : RangeFact → Result RangeFact Error
-ok_fact f = Ok f
-
 module _ {X Y : Type 0} (view : X → Y) (F : Y → Result RangeFact Error) where
   -- what was found, and what the elements from a place on say
   abbrev pub from_list : LastFacts → List X → Result LastFacts Error

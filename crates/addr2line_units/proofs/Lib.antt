@@ -5,17 +5,17 @@ pub use Rattle.addr2line_index.proofs.EntryLevels
 pub use Rattle.addr2line_index.proofs.PendingLoads
 pub use Rattle.addr2line_index.proofs.HolderViews
 pub use Rattle.addr2line_index.proofs.RangeHolders
-pub mod ProgramHeaders
-pub mod LinesOfPrograms
-pub mod LineProgramRows
-pub mod BuilderRows
-pub mod FileTextLemmas
+mod ProgramHeaders
+mod LinesOfPrograms
+mod LineProgramRows
+mod BuilderRows
+mod FileTextLemmas
 pub mod UnitRangeLemmas
-pub mod LastFactLemmas
+mod LastFactLemmas
 pub mod LastValueStep
-pub mod ArangeIndexLemmas
+mod ArangeIndexLemmas
 pub mod RootLemmas
-pub mod HeaderUnits
-pub mod SharedPrograms
-pub mod SharedLines
+mod HeaderUnits
+mod SharedPrograms
+mod SharedLines
 pub mod HeadersInFiles

@@ -9,6 +9,7 @@ pub use Rattle.addr2line_index.specs.Stretches
 pub use Rattle.addr2line_index.specs.StretchesLeft
 pub use Rattle.addr2line_index.specs.LineCursors
 pub use Rattle.addr2line_index.specs.declared.line_cursor.LineCursor
+pub use Rattle.addr2line_index.specs.declared.range_place.RangePlace
 pub use Rattle.addr2line_index.specs.declared.stretches.RowStretch
 pub use Rattle.addr2line_index.specs.UnitPlaces
 pub use Rattle.addr2line_index.specs.declared.location.Location

@@ -20,9 +20,9 @@ pub mod unit_lines;
 pub mod unit_texts;
 
 pub use addr2line_index::{
-    LineCursor, LineIndex, LineRow, Lines, LinesBuilder, Location, Probes, RangeIndex, Ranged,
-    RowStretch, UnitRange, UnitRanges, UnitRangesBuilder, file_text, file_text_of_bytes, is_rooted,
-    join,
+    LineCursor, LineIndex, LineRow, Lines, LinesBuilder, Location, Probes, RangeIndex, RangePlace,
+    Ranged, RowStretch, UnitRange, UnitRanges, UnitRangesBuilder, file_text, file_text_of_bytes,
+    is_rooted, join,
 };
 pub use arange_index::ArangeIndex;
 pub use fact::{Fact, fact_of};

@@ -4,8 +4,8 @@ use Rattle.addr2line_index.specs.BoundedRanges.{is_skipped}
 use Rattle.addr2line_index.proofs.BoundedRangeLemmas.{count_from_point, skipped_first}
 use Rattle.addr2line_index.proofs.next_range.count_skipped.Goals as goal
 
-pub returns-clause-count : goal.returns-clause-count
-returns-clause-count c =
+pub returns : goal.returns
+returns c =
     let entries = c.args.entries.now in
     let p = is_skipped c.args.from c.args.address in
     count_from_point p entries c.partition_point.result c.partition_point.ensures.bound

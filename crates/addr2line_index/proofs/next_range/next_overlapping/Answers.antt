@@ -1,13 +1,14 @@
-use Rattle.std.proofs.Common.{◌∙◌, sym, ap, drop}
+use Rattle.std.proofs.Common.{◌∙◌, ◌∷◌, sym, ap, drop}
 use Rattle.addr2line_index.specs.NumberedRanges.{overlapping_ranges}
-use Rattle.addr2line_index.proofs.BoundedRangeLemmas.{all_left, left_is, counted_here, overlapping_start, overlapping_found, overlapping_skipped, stop_overlapping}
+use Rattle.addr2line_index.specs.BoundedRanges.{ranges_in}
+use Rattle.addr2line_index.proofs.BoundedRangeLemmas.{all_left, left_is, counted_here, overlapping_start, overlapping_found, stop_overlapping}
 use Rattle.addr2line_index.proofs.next_range.next_overlapping.Goals as goal
 
 pub loop-place-init : goal.loop-place-init
 loop-place-init c =
     let a = c.args in
     let entries = a.entries.now in
-    ap (λ n. overlapping_ranges a.low a.high (all_left a.from (drop n entries))) c.count_skipped-place.ensures.count
+    ap (λ n. overlapping_ranges a.low a.high (all_left a.from (drop n entries))) c.count_skipped-place.ensures
     ∙ overlapping_start a.low a.high a.from 0 entries c.requires.2
     ∙ ap (overlapping_ranges a.low a.high) (sym (left_is a.from entries c.requires.2))
 
@@ -26,5 +27,7 @@ pub returns-in-Some : goal.returns-in-Some
 returns-in-Some c =
     let a = c.args in
     sym c.loop-place.invariant
-    ∙ overlapping_found a.low a.high c.loop-place.place a.from a.entries.now _ c.in-Some.found c.loop-place-test.true
-    c.requires.2 c.in-Some.ensures
+    ∙ overlapping_found a.low a.high c.loop-place.place a.from a.entries.now _ (c.in-Some.range, c.in-Some.next)
+    c.loop-place-test.true c.requires.2 c.in-Some.ensures
+    ∙ ap (λ n. c.in-Some.range ∷ overlapping_ranges a.low a.high (drop n (ranges_in a.entries.now)))
+    (sym c.place_after.ensures)

@@ -1,4 +1,4 @@
-use Rattle.std.proofs.Common.{◌≡◌, sym, ◌∙◌}
+use Rattle.std.proofs.Common.{sym, ◌∙◌}
 use Rattle.addr2line_index.proofs.BoundedRangeLemmas.{if_found, none_left, left_overlaps, left_overlaps_not, next_overlap}
 use Rattle.addr2line_index.proofs.next_range.pair_between.Goals as goal
 

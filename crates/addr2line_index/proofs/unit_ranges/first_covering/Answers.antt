@@ -1,4 +1,4 @@
-use Rattle.std.proofs.Common.{◌≡◌, ◌∙◌, sym, false, get_or}
+use Rattle.std.proofs.Common.{◌∙◌, sym}
 use Rattle.addr2line_index.proofs.BoundedRangeLemmas.{stop_covering, is_held, is_below, is_above, first_holds, first_holds_not, bounded_after_first}
 use Rattle.addr2line_index.proofs.unit_ranges.first_covering.Goals as goal
 use Rattle.addr2line_index.proofs.unit_ranges.first_covering.Goals.{else-range-probe-via-then-range-probe+else-probe-range, else-range-probe-via-else-range-probe}

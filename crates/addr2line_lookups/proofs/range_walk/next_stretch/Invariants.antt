@@ -19,4 +19,4 @@ invariant-range g l =
     }
 
 abbrev pub decreases-range : goal.decreases-range
-decreases-range g l = length (overlapping_ranges l.walk.low l.walk.high (drop l.walk.next l.ranges))
+decreases-range g l = length (overlapping_ranges l.walk.low l.walk.high (drop l.walk.next.index l.ranges))

@@ -3,7 +3,7 @@ use Rattle.addr2line_lookups.proofs.RangeUnits.{comes_first}
 use Rattle.addr2line_lookups.proofs.range_walk.RangeWalk.new.Goals as goal
 
 pub returns-clause-stretches : goal.returns-clause-stretches
-returns-clause-stretches c units = all_left units c.args.low c.args.high
+returns-clause-stretches c units = all_left units c.args.low c.args.high c.at.result c.at.ensures
 
 pub returns-clause-units : goal.returns-clause-units
-returns-clause-units c ranges n come = comes_first ranges c.args.low c.args.high n come
+returns-clause-units c ranges n come = comes_first ranges c.args.low c.args.high c.at.result n c.at.ensures come
