@@ -156,7 +156,8 @@ module _ (us : List UnitPlaces) (ranges : List UnitRange) (w : RangeWalk)
   left_after : (rs : List UnitRange) → overlapping_ranges w.low w.high (drop w.next.index ranges) ≡ rs
       → walk_left us ranges w ≡ stretches_from us w.low w.high rs
   left_after rs is =
-      ap (λ ts. prepend ts (stretches_from us w.low w.high (overlapping_ranges w.low w.high (drop w.next.index ranges)))) none
+      let later = stretches_from us w.low w.high (overlapping_ranges w.low w.high (drop w.next.index ranges)) in
+      ap (λ ts. prepend ts later) none
       ∙ ap (stretches_from us w.low w.high) is
 
   pub next_range : (r : UnitRange) (next : RangePlace) (rows : Option RangeRows)
@@ -176,7 +177,8 @@ module _ (us : List UnitPlaces) (ranges : List UnitRange) (w : RangeWalk)
       let rest = overlapping_ranges w.low w.high (drop next.index ranges) in
       left_after (r ∷ rest) is ∙ refuses other (stretches_from us w.low w.high rest)
 
-  pub no_range : overlapping_ranges w.low w.high (drop w.next.index ranges) ≡ [] → walk_left us ranges w ≡ no_items (Ok tt)
+  pub no_range : overlapping_ranges w.low w.high (drop w.next.index ranges) ≡ []
+      → walk_left us ranges w ≡ no_items (Ok tt)
   no_range is = left_after [] is
 
 -- the next stretch of the walk's range is the next of all
