@@ -1,5 +1,5 @@
 #!/usr/bin/env bash
-# Measures lookups in an ELF image's debug information, through `Context` with both readers (`crates/addr2line_bench`),
+# Measures lookups in an ELF image's debug information, through `Context` with both readers (`crates/linemap_bench`),
 # beside another program that prints the same answers: the frames of one address, places and frames of 10,000 addresses
 # of .text, and the places of all addresses at which rows begin. Then the same over images that are made to be slow to
 # read (`bench/hostile.py`): 16,000 units whose functions have their names in the next one; a unit of 8,000 functions,
@@ -7,14 +7,14 @@
 # units beside those that import them. Prints the processor time, the least of ROUNDS, and the peak memory of whole
 # processes, and ours as multiples of the other's; the answers are compared.
 # Usage: bench/context.sh IMAGE ROUNDS PEER.., where PEER.. takes `-e IMAGE`, then `-f -i` for frames or `--all` for all
-# addresses, and else reads addresses from its input, as addr2line does. PROGRAM is another than that of addr2line_bench,
+# addresses, and else reads addresses from its input, as addr2line does. PROGRAM is another than that of linemap_bench,
 # and CASES are some of the cases.
 set -euo pipefail
 . "$(dirname "$(readlink -f "$0")")/processes.bash"
 image="$(readlink -f "$1")" rounds="$2"
 shift 2
 peer=("$@")
-program="${PROGRAM:-$(built_program addr2line_bench)}"
+program="${PROGRAM:-$(built_program linemap_bench)}"
 ulimit -s unlimited
 
 # Prints addresses at equal steps.
@@ -34,7 +34,7 @@ measure_case() { # CASE IMAGE WHAT ADDRESSES
     esac
     add peer "$addresses" "$work/peer.out" "${peer[@]}" -e "$image" "${options[@]}"
     for reader in slice bytes; do
-        add "$reader" /dev/null "$work/$reader.out" "$program" "$image" "$reader" "$what" "${list[@]}"
+        add "$reader" /dev/null "$work/$reader.out" "$program" image "$image" "$reader" "$what" "${list[@]}"
     done
     measure "$case" "$rounds" 600
     for reader in slice bytes; do

@@ -11,7 +11,7 @@ turn, until the time is up:
   constructors; what it answers must be what tests/model.py computes.
 - images: the same for images in memory, through a loader. Where the image is whole and its sections alone are damaged,
   the answers must be the model's.
-- lookup: `linemap lookup` reads the image of a file, and its answers must be the model's too. `addr2line_bench` reads the
+- lookup: `linemap lookup` reads the image of a file, and its answers must be the model's too. `linemap_bench` reads the
   same image, once through each reader, and both must answer alike.
 - beside: `linemap lookup` reads an image that is whole, and a split file or a supplement of it that isn't. What a split
   file says may change no place.
@@ -49,7 +49,7 @@ from model import LIMIT, Model, Refused
 
 CASES = os.environ.get("CASES", f"{TOP}/crates/addr2line_cases/out/addr2line_cases")
 LINEMAP = os.environ.get("LINEMAP", f"{TOP}/crates/linemap_program/out/linemap_program")
-BENCH = os.environ.get("BENCH", f"{TOP}/crates/addr2line_bench/out/addr2line_bench")
+BENCH = os.environ.get("BENCH", f"{TOP}/crates/linemap_bench/out/linemap_bench")
 FINDS = os.environ.get("FINDS", "finds")
 # Files in one process.
 CHUNK = 500
@@ -424,7 +424,7 @@ class Fuzzer:
         """Whether the image isn't answered as it should be through each of the readers, or not alike."""
         with open(f"{self.folder}/asked", "w", encoding="utf-8") as file:
             file.writelines(f"{it:x}\n" for it in asked)
-        runs = [Process([BENCH, "image", reader, "frames", "asked"], b"", SECONDS, most, self.folder) for reader in ("slice", "bytes")]
+        runs = [Process([BENCH, "image", "image", reader, "frames", "asked"], b"", SECONDS, most, self.folder) for reader in ("slice", "bytes")]
         faults = [it.fault((0, 1)) for it in runs]
         first, second = ((it.status, it.out) for it in runs)
         return faults[0] or faults[1] or (None if first == second else f"one reader answered\n{first}\nand the other\n{second}")

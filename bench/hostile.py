@@ -8,13 +8,13 @@ usage: bench/hostile.py list
 Each kind is made at half its count and at its whole one (COUNT, or that of the list), so that the growth shows: twice the count
 should take about twice the time and the memory. What is run on an image is `linemap lookup -e IMAGE -f -i` with addresses,
 `--all`, and, where it has many sections, `--section` with the last one (`section`: `get_section_range`); where PEER names a
-program with the same words, such as one over Rust's addr2line, it is run too. Then `addr2line_bench` asks a context for the
+program with the same words, such as one over Rust's addr2line, it is run too. Then `linemap_bench` asks a context for the
 places of the addresses (`places`: `find_location`), for their loads (`loads`: `preload_units`, and `answer_load` for each), for
 their units (`unit`: `find_dwarf_and_unit`), and for the lines, the functions and the calls of all units (`lines`: `parse_lines`,
 `functions`: `parse_functions`, `calls`: `parse_inlined_functions`). On a table it is `linemap ask` with addresses, and `linemap
 emit`.
 LINEMAP and BENCH name other words than those of the built programs, ASK names some of what is asked, and READER is the reader
-of addr2line_bench (`slice`, or `bytes`). SCALE makes all counts larger or smaller, LIMIT bounds the processor seconds of a run
+of linemap_bench (`slice`, or `bytes`). SCALE makes all counts larger or smaller, LIMIT bounds the processor seconds of a run
 (60), MEMORY its megabytes (4,000), beyond which each allocation is refused.
 """
 import json
@@ -718,7 +718,7 @@ def questions_about(kind):
     return "frames", "all", *(["section"] if kind == section_names else []), *OF_UNITS
 
 
-# What addr2line_bench asks of a context: of each address, and of all units.
+# What linemap_bench asks of a context: of each address, and of all units.
 OF_ADDRESSES = "places", "loads", "unit"
 OF_UNITS = *OF_ADDRESSES, "lines", "functions", "calls"
 
@@ -730,7 +730,7 @@ def measure(counts):
     limits = {resource.RLIMIT_CPU: int(os.environ.get("LIMIT", 60)), resource.RLIMIT_AS: int(os.environ.get("MEMORY", 4000)) << 20}
     programs = {"own": own, **({"peer": peer} if peer else {})}
     table_programs = {"own": own[:-1]}
-    unit_programs = {"own": os.environ.get("BENCH", f"{TOP}/crates/addr2line_bench/out/addr2line_bench").split()}
+    unit_programs = {"own": os.environ.get("BENCH", f"{TOP}/crates/linemap_bench/out/linemap_bench image").split()}
     wanted = os.environ.get("ASK", "").split()
     print(f"{'kind':24} {'KB':>6} {'asked':9} " + " ".join(f"{it + ': seconds, memory, growth':36}" for it in programs))
     with tempfile.TemporaryDirectory() as folder:

@@ -4,7 +4,7 @@
 usage: bench/memory.py [CASE..]      all cases where none is named:
        ask emit emit-5 lookup lookup-lines lookup-all lookup-symbols lookup-split    of ./linemap
        cases programs reading tables    of addr2line_cases, gimli_cases and linemap_cases
-       places places-bytes    of addr2line_bench
+       places places-bytes    of linemap_bench
        warm warm-frames warm-words    of ./linemap
 
 The programs that the cases need are proved and built first, as by `tools/build NAME`, unless what is there is current; LINEMAP,
@@ -34,7 +34,7 @@ import cases
 
 # The crates of the programs, each with the variable that names another program.
 CRATES = {"linemap_program": "LINEMAP", "addr2line_cases": "CASES", "gimli_cases": "GIMLI_CASES", "linemap_cases": "LINEMAP_CASES",
-          "addr2line_bench": "BENCH"}
+          "linemap_bench": "BENCH"}
 PROGRAMS = [os.environ.get(variable) or f"{TOP}/crates/{crate}/out/{crate}" for crate, variable in CRATES.items()]
 LINEMAP, CASES, GIMLI_CASES, LINEMAP_CASES, BENCH = PROGRAMS
 DATA = f"{cases.CRATE}/data"
@@ -103,8 +103,8 @@ RUNS = {
     "programs": ([GIMLI_CASES], lambda: lines_of("gimli_cases", "line_program ")),
     "reading": ([GIMLI_CASES], lambda: lines_of("gimli_cases", "entries ", "abbreviations ", "line_rows ", "line_sequences ", "line_files ")),
     "tables": ([LINEMAP_CASES], lambda: lines_of("linemap_cases", *TABLES)),
-    "places": ([BENCH, "given.elf", "slice", "places", "addresses"], ""),
-    "places-bytes": ([BENCH, "given.elf", "bytes", "places", "addresses"], ""),
+    "places": ([BENCH, "image", "given.elf", "slice", "places", "addresses"], ""),
+    "places-bytes": ([BENCH, "image", "given.elf", "bytes", "places", "addresses"], ""),
     "warm": ([LINEMAP, "lookup", "-e", "given.elf", "-a"], "\n".join(WARM)),
     "warm-frames": ([LINEMAP, "lookup", "-e", "given.elf", "-a", "-p", "-f", "-i"], "\n".join(WARM)),
     "warm-words": ([LINEMAP, "lookup", "-e", "given.elf", "--llvm", "-s", *WARM], ""),

@@ -73,6 +73,13 @@ impl Answer {
         }
     }
 
+    /// A byte by its two hexadecimal digits.
+    pub fn byte(&mut self, byte: u8) {
+        if write!(self.text, "{byte:02x}").is_err() {
+            self.refuse_memory();
+        }
+    }
+
     /// A number, `?` for none.
     pub fn number(&mut self, number: Option<u32>) {
         match number {

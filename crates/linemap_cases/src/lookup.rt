@@ -2,14 +2,14 @@
 
 use crate::answer::Answer;
 use crate::emission::image_of;
+use crate::ending::{add_end, add_stream};
 use crate::question::{Change, change_of, target_of};
-use crate::streams::{CutReader, CutWriter, Fault};
+use crate::streams::{CutReader, CutWriter, Fault, cut_of};
 use bytes::Bytes;
 use linemap_image::{Format, Target};
-use linemap_lookup::{Ended, MapSource, Options, run};
+use linemap_lookup::{MapSource, Options, run};
 use std::alloc::{AllocError, Global};
 use std::io::{BufReader, ErrorKind};
-use std::str;
 
 // What is asked: the options with their words, the streams, and what is changed in the image.
 #[derive(Drop)]
@@ -143,21 +143,6 @@ fn set(options: &mut Options, letter: u8) {
     }
 }
 
-// How many bytes or flushes there are before a fault, and which it is.
-fn cut_of(value: &str) -> (usize, Fault) {
-    let (count, fault) = value.split_once(':').unwrap_or((value, ""));
-    (count.parse().unwrap_or(0), fault_of(fault))
-}
-
-fn fault_of(name: &str) -> Fault {
-    match name {
-        "nothing" => Fault::Nothing,
-        "pipe" => Fault::Kind(ErrorKind::BrokenPipe),
-        "interrupted" => Fault::Kind(ErrorKind::Interrupted),
-        _ => Fault::Kind(ErrorKind::Other),
-    }
-}
-
 // The target of VERSION:BITS:SIZE:ORDER.
 fn target_in(value: &str) -> Option<Target> {
     let (version, rest) = value.split_once(':')?;
@@ -201,38 +186,6 @@ fn answer_image(image: Vec<u8>, request: Request, out: &mut Answer) {
         &mut err,
     );
     add_end(ended, out);
-    add_text("; out ", &output.text, out);
-    add_text("; err ", &err.text, out);
-}
-
-fn add_end(ended: Ended, out: &mut Answer) {
-    out.text("status ");
-    out.value(&ended.status);
-    for (flag, name) in [
-        (ended.memory, " memory"),
-        (ended.read, " read"),
-        (ended.write, " write"),
-    ] {
-        if flag {
-            out.text(name);
-        }
-    }
-}
-
-// A name and a text in quotes, on one line.
-fn add_text(name: &str, text: &[u8], out: &mut Answer) {
-    out.text(name);
-    out.text("\"");
-    match str::from_utf8(text) {
-        Ok(text) => {
-            for letter in text.chars() {
-                match letter {
-                    '\n' => out.text("\\n"),
-                    other => out.value(&other),
-                }
-            }
-        }
-        Err(_) => out.text("no text"),
-    }
-    out.text("\"");
+    add_stream("; out ", &output.text, out);
+    add_stream("; err ", &err.text, out);
 }

@@ -1,5 +1,5 @@
-//! Emits tables as debugging information, and answers addresses from that. Each line of the input
-//! is a question, and is repeated with its answer; an empty line, and one that begins with `#`, is
+//! Emits tables as debugging information, and answers addresses from that and from the tables
+//! themselves. Each line of the input is a question, and is repeated with its answer; an empty line, and one that begins with `#`, is
 //! only repeated.
 //!
 //! - `TABLE VERSION BITS SIZE ORDER ADDRESS` asks for the frames of an address in the image of a
@@ -15,6 +15,7 @@
 //!   more.
 //! - `lines TABLE VERSION BITS SIZE ORDER ADDRESS` makes those of such calls that need lines: the
 //!   place of an address, its frames, all stretches and all lines.
+//! - `sections TABLE VERSION BITS SIZE ORDER` asks for the bytes of the sections that a table has.
 //! - `lookup TABLE WORD..` asks what `lookup` prints of the image of a table, and how it ends. A
 //!   word is an address; options, as `-fi`, `--all`, `--llvm` and `--statements`; `section=NAME`;
 //!   `target=VERSION:BITS:SIZE:ORDER` for another one than 4:32:8:little; `in=TEXT`, what is read
@@ -23,6 +24,12 @@
 //!   interrupted before; `out=BYTES`, `flush=COUNT` and `err=BYTES`, after how many bytes or
 //!   flushes the output or the error stream fails, with `:pipe`, `:nothing` or `:interrupted` for
 //!   another fault; or `byte=OFFSET:BYTE`, which replaces a byte of the image.
+//! - `ask TABLE WORD..` asks what `ask` prints of a table, and how it ends. A word is an address, in
+//!   which a tilde is a space; `edit=OLD=>NEW`, which replaces a part of the table's text; `out=`,
+//!   `flush=` and `err=` as above; or `waits=COUNT`, how often the output is interrupted before each
+//!   call that succeeds.
+//! - `words WORD..` asks what the words of a command line ask for, or how their refusal is
+//!   explained. `out=` and `flush=` say as above where the output fails.
 //!
 //! VERSION, BITS and SIZE are decimal, the other numbers are hexadecimal. Where memory is refused
 //! for an answer, it is asked for again, and what follows begins with `E1, then`: the next frame of
@@ -31,13 +38,17 @@
 #![tactic(auto)]
 
 mod answer;
+mod ask;
+mod command_line;
 mod emission;
+mod ending;
 mod frames;
 mod image_file;
 mod lookup;
 mod places;
 mod question;
 mod replays;
+mod sections;
 mod streams;
 
 use answer::Answer;
@@ -64,25 +75,30 @@ fn main(rt: HostRuntime) -> Result<(), io::Error> {
 // Adds the answer to a question. Where memory was refused for it, it is asked again.
 fn add_answer<R: Files + AllocGlobal>(rt: &R, question: &Question<'_>, out: &mut Answer) {
     let mut first = Answer::new(out.alloc);
-    ask(rt, question, &mut first);
+    reply(rt, question, &mut first);
     if !out.add_first(first) {
-        ask(rt, question, out);
+        reply(rt, question, out);
     }
 }
 
-fn ask<R: Files + AllocGlobal>(rt: &R, question: &Question<'_>, out: &mut Answer) {
-    match fs::read(rt, question.table) {
-        Ok(text) => ask_about(rt, &text, &question.topic, out),
-        Err(error) => out.refuse_file(error, "no such table"),
+fn reply<R: Files + AllocGlobal>(rt: &R, question: &Question<'_>, out: &mut Answer) {
+    match question {
+        Question::Table(table, topic) => match fs::read(rt, table) {
+            Ok(text) => reply_about(rt, &text, topic, out),
+            Err(error) => out.refuse_file(error, "no such table"),
+        },
+        Question::CommandLine(words) => command_line::answer(words, out),
     }
 }
 
 // Adds what is asked about the table in a text.
-fn ask_about<R: Files + AllocGlobal>(rt: &R, text: &[u8], topic: &Topic<'_>, out: &mut Answer) {
+fn reply_about<R: Files + AllocGlobal>(rt: &R, text: &[u8], topic: &Topic<'_>, out: &mut Answer) {
     match topic {
         Topic::Image(probe, change) => frames::answer(text, *probe, *change, out),
         Topic::File(probe) => image_file::answer(rt, text, *probe, out),
         Topic::Calls(probe, series) => replays::answer(text, *probe, *series, out),
+        Topic::Sections(target) => sections::answer(text, *target, out),
         Topic::Lookup(words) => lookup::answer(text, words, out),
+        Topic::Ask(words) => ask::answer(text, words, out),
     }
 }

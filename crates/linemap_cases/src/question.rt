@@ -3,12 +3,13 @@
 use linemap_image::{Format, Target, read_address};
 use std::str::SplitWhitespace;
 
-/// A question about a table.
+/// A question.
 #[derive(Drop)]
-pub struct Question<'a> {
-    /// The path of the table's file.
-    pub table: &'a str,
-    pub topic: Topic<'a>,
+pub enum Question<'a> {
+    /// About the table in the file of a path.
+    Table(&'a str, Topic<'a>),
+    /// About these words of a command line.
+    CommandLine(&'a str),
 }
 
 /// What is asked about a table.
@@ -20,8 +21,12 @@ pub enum Topic<'a> {
     File(Probe),
     /// Calls about an address on one context.
     Calls(Probe, Series),
-    /// What `lookup` prints, for these words.
+    /// The bytes of its sections.
+    Sections(Target),
+    /// What `lookup` prints of its image, for these words.
     Lookup(&'a str),
+    /// What `ask` prints, for these words.
+    Ask(&'a str),
 }
 
 /// Which calls are made.
@@ -54,18 +59,28 @@ pub fn question_in(line: &str) -> Option<Question<'_>> {
     }
     let (word, rest) = line.split_once(' ')?;
     match word {
-        "lookup" => Some(lookup_question_in(rest)),
+        "words" => Some(Question::CommandLine(rest)),
+        "ask" | "lookup" => Some(text_question_in(word, rest)),
+        "sections" => sections_question_in(rest),
         "file" | "replay" | "lines" => probe_question_in(word, rest),
         _ => probe_question_in("", line),
     }
 }
 
-fn lookup_question_in(text: &str) -> Question<'_> {
+// A question about the text that one of the two prints.
+fn text_question_in<'a>(kind: &str, text: &'a str) -> Question<'a> {
     let (table, words) = text.split_once(' ').unwrap_or((text, ""));
-    Question {
-        table,
-        topic: Topic::Lookup(words),
+    match kind {
+        "ask" => Question::Table(table, Topic::Ask(words)),
+        _ => Question::Table(table, Topic::Lookup(words)),
     }
+}
+
+fn sections_question_in(text: &str) -> Option<Question<'_>> {
+    let mut words = text.split_whitespace();
+    let table = words.next()?;
+    let target = target_in(&mut words)?;
+    Some(Question::Table(table, Topic::Sections(target)))
 }
 
 // A question about an address, of a kind that a word names.
@@ -79,7 +94,7 @@ fn probe_question_in<'a>(kind: &str, text: &'a str) -> Option<Question<'a>> {
         "lines" => Topic::Calls(probe, Series::Lines),
         _ => Topic::Image(probe, change_in(&mut words)),
     };
-    Some(Question { table, topic })
+    Some(Question::Table(table, topic))
 }
 
 fn probe_in(words: &mut SplitWhitespace<'_>) -> Option<Probe> {

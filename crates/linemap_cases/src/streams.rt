@@ -75,6 +75,10 @@ pub struct CutWriter {
     pub room: usize,
     /// How many more flushes succeed.
     pub flushes: usize,
+    /// How often it is interrupted before each call that succeeds.
+    pub waits: u32,
+    /// How often it was interrupted since the last such call.
+    waited: u32,
     pub fault: Fault,
 }
 
@@ -85,13 +89,27 @@ impl CutWriter {
             text: Vec::new(alloc),
             room: usize::MAX,
             flushes: usize::MAX,
+            waits: 0,
+            waited: 0,
             fault: Fault::Kind(ErrorKind::Other),
         }
+    }
+
+    fn is_interrupted(&mut self) -> bool {
+        if self.waited < self.waits {
+            self.waited = self.waited.saturating_add(1);
+            return true;
+        }
+        self.waited = 0;
+        false
     }
 }
 
 impl Write for CutWriter {
     fn write(&mut self, buf: &[u8]) -> io::Result<usize> {
+        if self.is_interrupted() {
+            return Err(ErrorKind::Interrupted.into());
+        }
         let count = buf.len().min(self.room);
         if count == 0 {
             return self.fault.ending();
@@ -102,6 +120,9 @@ impl Write for CutWriter {
     }
 
     fn flush(&mut self) -> io::Result<()> {
+        if self.is_interrupted() {
+            return Err(ErrorKind::Interrupted.into());
+        }
         if self.flushes == 0 {
             return match self.fault {
                 Fault::Kind(kind) => Err(kind.into()),
@@ -110,5 +131,20 @@ impl Write for CutWriter {
         }
         self.flushes -= 1;
         Ok(())
+    }
+}
+
+/// How many bytes or flushes there are before a fault, and which it is: `COUNT`, or `COUNT:FAULT`.
+pub fn cut_of(value: &str) -> (usize, Fault) {
+    let (count, fault) = value.split_once(':').unwrap_or((value, ""));
+    (count.parse().unwrap_or(0), fault_of(fault))
+}
+
+fn fault_of(name: &str) -> Fault {
+    match name {
+        "nothing" => Fault::Nothing,
+        "pipe" => Fault::Kind(ErrorKind::BrokenPipe),
+        "interrupted" => Fault::Kind(ErrorKind::Interrupted),
+        _ => Fault::Kind(ErrorKind::Other),
     }
 }

@@ -1,4 +1,4 @@
-//! Tests of tables, of the sections and answers made of them, and of the words of a command line.
+//! Tests of tables as values, and of calls on one context over a file by hand.
 #![tactic(auto)]
 
 #[cfg(test)]

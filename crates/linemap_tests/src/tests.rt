@@ -1,11 +1,4 @@
-//! Programs over writers in memory, and over writers that fail.
-mod answers;
-mod fake;
-mod faults;
-mod places;
-mod refusals;
+//! Tables as values, and calls on one context.
 mod replays;
 mod rules;
-mod sections;
 mod tables;
-mod words;

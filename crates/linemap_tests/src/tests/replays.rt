@@ -1,13 +1,8 @@
-//! Calls on one context, one after the other: over a table's sections, and over a small file by
-//! hand with a split unit.
-use super::tables::table_c;
+//! Calls on one context, one after the other, over a small file by hand with a split unit.
 use linemap_replay::{
     Answer, Call, DwarfFileType, DwoId, OwnedFrame, OwnedLocation, OwnedStretch, OwnedUnit, replay,
 };
-use linemap_text::{
-    Context, Dwarf, EndianSlice, Error, Format, RunTimeEndian, SectionId, Sections, Table, Target,
-    dwarf_of, emit_sections,
-};
+use linemap_text::{Context, Dwarf, EndianSlice, Error, RunTimeEndian, SectionId};
 use std::alloc::{AllocError, Global};
 use std::test::Fail;
 
@@ -164,80 +159,5 @@ fn each_call_is_answered(rt: HostRuntime) -> Result<(), Fail> {
     let mut context = context_of_file(alloc)?;
     let answers = answers_to(alloc, &mut context, calls.as_slice())?;
     assert!(rt; answers.as_slice() == wanted.as_slice());
-    Ok(())
-}
-
-// The sections of a table as text, as version 4.
-fn sections_of(alloc: Global, text: &str, target: Target) -> Result<Sections, &'static str> {
-    match Table::read(alloc, text.as_bytes()) {
-        Ok(table) if !table.fits(&target) => Err("the table doesn't fit"),
-        Ok(table) => emit_sections(alloc, &table, target).map_err(|e| e.code()),
-        Err(e) => Err(e.code()),
-    }
-}
-
-// Appends the name and the place of a frame. Where its entry is differs between encodings.
-fn push_frame(alloc: Global, text: &mut String, frame: &OwnedFrame) -> Result<(), AllocError> {
-    if let Some(function) = &frame.function {
-        if let Ok(name) = str::from_utf8(function.name.as_slice()) {
-            text.push_str(name)?;
-        }
-    }
-    if let Some(place) = &frame.location {
-        let file = place.file.as_deref().unwrap_or("??");
-        let (line, column) = (place.line.unwrap_or(0), place.column.unwrap_or(0));
-        text.push_str(&format!(in alloc; " at {file}:{line}:{column}")?)?;
-    }
-    text.push('\n')
-}
-
-// Answers as text.
-fn text_of(alloc: Global, answers: &[Answer]) -> Result<String, AllocError> {
-    let mut text = String::new(alloc);
-    for answer in answers {
-        match answer {
-            Answer::Frames(frames) => {
-                for frame in frames {
-                    push_frame(alloc, &mut text, frame)?;
-                }
-            }
-            Answer::Location(None) => text.push_str("no place\n")?,
-            Answer::NoToken => text.push_str("no token\n")?,
-            _ => text.push_str("another answer\n")?,
-        }
-    }
-    Ok(text)
-}
-
-// The calls: frames, a place, a token and frames again.
-fn calls_on_c(alloc: Global, there: u64, outside: u64) -> Result<Vec<Call>, AllocError> {
-    let mut calls = Vec::new(alloc);
-    calls.push(Call::Frames(there, Vec::new(alloc)))?;
-    calls.push(Call::Location(outside))?;
-    calls.push(Call::Answer(0, 0))?;
-    calls.push(Call::Frames(there, Vec::new(alloc)))?;
-    Ok(calls)
-}
-
-fn answers_on(alloc: Global, sections: &Sections, calls: &[Call]) -> Result<Vec<Answer>, Error> {
-    let dwarf = dwarf_of(alloc, sections, RunTimeEndian::Little);
-    let mut context = Context::from_dwarf(alloc, dwarf)?;
-    replay(alloc, &mut context, calls, &[])
-}
-
-#[test]
-fn calls_on_a_table_are_answered(rt: HostRuntime) -> Result<(), Fail> {
-    let alloc = rt.alloc();
-    let Some(target) = Target::new(4, Format::Dwarf32, 8, false) else {
-        return Err("no such target".into());
-    };
-    let text = table_c(alloc)?;
-    let sections = sections_of(alloc, &text, target)?;
-    let calls = calls_on_c(alloc, 0x1018, 0xfff)?;
-    let answers = answers_on(alloc, &sections, calls.as_slice())?;
-    let printed = text_of(alloc, answers.as_slice())?;
-    let frames = "f at /w/src/a.c:20:2\nmain at /w/src/a.c:6:3\n";
-    let wanted = format!(in alloc; "{frames}no place\nno token\n{frames}")?;
-    assert_eq!(rt; printed.as_str(), wanted.as_str());
     Ok(())
 }

@@ -19,15 +19,6 @@ pub fn table_c(alloc: Global) -> Result<String, AllocError> {
     with_calls(alloc, TABLE_A, 1)
 }
 
-/// Table A, whose second row is not a statement and has a discriminator.
-pub fn table_with_discriminator(alloc: Global) -> Result<String, AllocError> {
-    TABLE_A.replace(
-        alloc,
-        "\"column\":2",
-        "\"column\":2,\"statement\":false,\"discriminator\":3",
-    )
-}
-
 /// The table with this many calls in its function, each inside the one before.
 pub fn with_calls(alloc: Global, table: &str, depth: usize) -> Result<String, AllocError> {
     let mut text = String::from_str(alloc, table)?;
@@ -35,35 +26,5 @@ pub fn with_calls(alloc: Global, table: &str, depth: usize) -> Result<String, Al
         let call = format!(in alloc; "\"calls\":[{CALL}]")?;
         text = text.replace(alloc, NO_CALLS, &call)?;
     }
-    Ok(text)
-}
-
-/// A table of one unit with a range, in one file, with one sequence.
-pub fn small_table(
-    alloc: Global,
-    range: &str,
-    directories: [&str; 2],
-    name: &str,
-    rows: &[(u64, u32)],
-    end: u64,
-) -> Result<String, AllocError> {
-    let [unit, file] = directories;
-    let mut text = format!(in alloc;
-        "{{\"units\":[{{\"directory\":\"{unit}\",\"name\":\"x\",\"ranges\":[{range}],\
-        \"files\":[{{\"directory\":\"{file}\",\"name\":\"{name}\"}}],\"functions\":[],\
-        \"sequences\":[{{\"rows\":["
-    )?;
-    for (index, row) in rows.iter().enumerate() {
-        let (address, line) = *row;
-        if index > 0 {
-            text.push(',')?;
-        }
-        let row = format!(in alloc;
-            "{{\"address\":{address},\"file\":0,\"line\":{line},\"column\":1}}"
-        )?;
-        text.push_str(&row)?;
-    }
-    let tail = format!(in alloc; "],\"end\":{end}}}]}}]}}")?;
-    text.push_str(&tail)?;
     Ok(text)
 }

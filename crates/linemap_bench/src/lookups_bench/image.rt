@@ -1,6 +1,6 @@
 //! The sections of an ELF image, for both readers.
 
-use crate::fault::Fault;
+use crate::lookups_bench::fault::Fault;
 use addr2line_context::{Dwarf, EndianBytes, EndianSlice, Error, Reader, RunTimeEndian, SectionId};
 use addr2line_elf::Elf;
 use bytes::Bytes;

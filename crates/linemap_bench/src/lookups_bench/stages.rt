@@ -1,8 +1,8 @@
 //! The parts of a run, each timed.
 
-use crate::answers::Answers;
-use crate::fault::Fault;
-use crate::request::{Part, Question, Task};
+use crate::lookups_bench::answers::Answers;
+use crate::lookups_bench::fault::Fault;
+use crate::lookups_bench::request::{Part, Question, Task};
 use addr2line_context::{Context, Error, LocationRangeIter, Reader};
 use std::alloc::{AllocError, Global};
 use std::io;

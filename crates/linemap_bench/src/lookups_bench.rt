@@ -1,56 +1,30 @@
-//! Answers addresses from an ELF image's debug information through a `Context`, as text, and prints
-//! to standard error how long each part of that took, for `bench/context.sh` and
-//! `bench/hostile.py`:
-//!
-//! - `IMAGE READER places FILE`: the places of a file's addresses, one a line in hexadecimal;
-//! - `IMAGE READER frames FILE`: their frames, each with the function's name before its place;
-//! - `IMAGE READER loads FILE`: the files that lookups of each address wait for, each with the
-//!   identifier of the split unit, and its frames once each of these is answered by no file;
-//! - `IMAGE READER unit FILE`: the names of their units;
-//! - `IMAGE READER all`: the places of all addresses at which a row of the image's lines begins;
-//! - `IMAGE READER lines`, `functions` or `calls`: nothing, once the lines of all units are read,
-//!   their functions, or these with the calls that are inlined into them.
-//!
-//! The reader is `slice`, of borrowed bytes, or `bytes`, of shared ones.
-#![tactic(auto)]
+//! Answers addresses from an ELF image's debug information through a `Context`, as text, and times
+//! each part of that.
 
-mod answers;
-mod fault;
-mod image;
-mod request;
-mod stages;
+pub mod answers;
+pub mod fault;
+pub mod image;
+pub mod request;
+pub mod stages;
 
-use crate::fault::Fault;
-use crate::image::Image;
-use crate::request::{ReaderKind, Request, Task, request_of};
-use crate::stages::{now, perform, report};
+use crate::lookups_bench::fault::Fault;
+use crate::lookups_bench::image::Image;
+use crate::lookups_bench::request::{LookupRequest, ReaderKind, Task};
+use crate::lookups_bench::stages::{now, perform, report};
 use addr2line_context::{Context, EndianBytes, EndianSlice, Error, RunTimeEndian};
 use std::alloc::Global;
-use std::process::ExitCode;
-use std::rt::{Env, Runtime};
-use std::{env, fs, io};
+use std::fs;
+use std::rt::Runtime;
 
-fn main(rt: HostRuntime) -> ExitCode {
-    match run(&rt) {
-        Ok(()) => ExitCode::from(0),
+/// Does what is asked, and returns the exit status.
+pub fn obey<R: Runtime + AllocGlobal>(rt: &R, request: &LookupRequest<'_>) -> u8 {
+    match answer(rt, request) {
+        Ok(()) => 0,
         Err(fault) => {
-            let _ = eprintln!(rt; "addr2line_bench: {fault}");
-            ExitCode::from(1)
+            let _ = eprintln!(rt; "linemap_bench: {fault}");
+            1
         }
     }
-}
-
-fn run<R: Runtime + AllocGlobal>(rt: &R) -> Result<(), Fault> {
-    let words = words_of(rt)?;
-    match request_of(&words) {
-        Some(request) => obey(rt, &request),
-        None => Err(Fault::Usage),
-    }
-}
-
-fn words_of<R: Env + AllocGlobal>(rt: &R) -> io::Result<Vec<String>> {
-    let words = env::args(rt)?.collect(rt.alloc())?;
-    Ok(words)
 }
 
 // The sections of an image's file.
@@ -73,7 +47,7 @@ fn addresses_text<R: Runtime + AllocGlobal>(rt: &R, task: Task<'_>) -> Result<St
 }
 
 // Loads the image, and does what is asked of it.
-fn obey<R: Runtime + AllocGlobal>(rt: &R, request: &Request<'_>) -> Result<(), Fault> {
+fn answer<R: Runtime + AllocGlobal>(rt: &R, request: &LookupRequest<'_>) -> Result<(), Fault> {
     let start = now(rt)?;
     let image = image_of(rt, request.image)?;
     report(rt, "image", start)?;
@@ -85,7 +59,7 @@ fn obey<R: Runtime + AllocGlobal>(rt: &R, request: &Request<'_>) -> Result<(), F
 fn perform_through<R: Runtime + AllocGlobal>(
     rt: &R,
     image: &Image,
-    request: &Request<'_>,
+    request: &LookupRequest<'_>,
     text: &str,
 ) -> Result<(), Fault> {
     let start = now(rt)?;

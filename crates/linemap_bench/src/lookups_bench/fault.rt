@@ -8,8 +8,6 @@ use std::{fmt, io};
 /// Why there is no answer.
 #[derive(Clone, Copy, Debug, PartialEq, Eq)]
 pub enum Fault {
-    /// The command line asks for nothing.
-    Usage,
     /// A file can't be read, or the answers can't be written.
     Stream,
     /// The image is refused, or a lookup in it.
@@ -49,10 +47,6 @@ impl<T: Drop> From<AllocFailed<T>> for Fault {
 impl fmt::Display for Fault {
     fn fmt<W: fmt::Write>(&self, f: &mut fmt::Formatter<W>) -> fmt::Result {
         match self {
-            Fault::Usage => f.write_str(
-                "usage: addr2line_bench IMAGE slice|bytes places|frames|loads|unit FILE, or the \
-                 same with all|lines|functions|calls in place of the last two words",
-            ),
             Fault::Stream => f.write_str("a file can't be read, or the answers can't be written"),
             Fault::Load(error) => write!(f, "{error}"),
         }

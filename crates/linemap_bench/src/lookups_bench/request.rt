@@ -1,4 +1,4 @@
-//! What the command line asks for.
+//! What the command line asks of an image.
 
 /// The readers that lookups go through.
 #[derive(Clone, Copy, Debug, PartialEq, Eq)]
@@ -39,19 +39,19 @@ pub enum Task<'a> {
 
 /// An image, the readers, and what is asked.
 #[derive(Drop)]
-pub struct Request<'a> {
+pub struct LookupRequest<'a> {
     pub image: &'a str,
     pub reader: ReaderKind,
     pub task: Task<'a>,
 }
 
-/// The request of a command line.
-pub fn request_of(words: &[String]) -> Option<Request<'_>> {
-    let (image, rest) = words.get(1..)?.split_first()?;
+/// The request of a command line's words after `image`.
+pub fn lookup_request_of(words: &[String]) -> Option<LookupRequest<'_>> {
+    let (image, rest) = words.split_first()?;
     let (reader, rest) = rest.split_first()?;
     let reader = reader_of(reader)?;
     let task = task_of(rest)?;
-    Some(Request {
+    Some(LookupRequest {
         image,
         reader,
         task,

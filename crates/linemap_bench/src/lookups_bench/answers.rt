@@ -1,7 +1,7 @@
 //! Answers as text, as programs of this kind print them: of a function its name on a line of its
 //! own, of a place the file, a colon and the line.
 
-use crate::fault::Fault;
+use crate::lookups_bench::fault::Fault;
 use addr2line_context::{Context, Frame, Location, Reader, SplitDwarfLoad, UnitRef};
 use itoa::Buffer;
 use std::alloc::{AllocError, Global};
