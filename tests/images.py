@@ -1,5 +1,6 @@
 """ELF images of debug information, taken apart and put together."""
 import struct
+import sys
 
 from cases import NAMES
 
@@ -23,17 +24,46 @@ def sections_of(image):
 
 def image_of(sections, wide, big):
     """An image of debug sections."""
+    return image_with([(f".debug_{name}".encode(), 1, 0, content, 0) for name, content in sections.items()], wide, big)
+
+
+def image_with(parts, wide, big):
+    """An image of sections: of each the name, the type, the address, the bytes and the link; their names come after them."""
     order = ">" if big else "<"
-    parts = [(f".debug_{name}".encode(), 1, content) for name, content in sections.items()]
-    strings = b"\0" + b"".join(name + b"\0" for name, _, _ in parts) + b".shstrtab\0"
-    parts.append((b".shstrtab", 3, strings))
+    strings = b"\0" + b"".join(name + b"\0" for name, *_ in parts) + b".shstrtab\0"
     size, header = (64, 64) if wide else (52, 40)
     body, headers = b"", [(0,) * 10]
-    for name, kind, content in parts:
-        headers.append((strings.index(b"\0" + name + b"\0") + 1, kind, 0, 0, size + len(body), len(content), 0, 0, 1, 0))
+    for name, kind, address, content, link in [*parts, (b".shstrtab", 3, 0, strings, 0)]:
+        headers.append((strings.index(b"\0" + name + b"\0") + 1, kind, 0, address, size + len(body), len(content), link, 0, 1, 0))
         body += content
     body += b"\0" * (-(size + len(body)) % 8)
     table = b"".join(struct.pack(order + ("IIQQQQIIQQ" if wide else "10I"), *it) for it in headers)
     ident = b"\x7fELF" + bytes([2 if wide else 1, 2 if big else 1, 1]) + b"\0" * 9
     fields = 2, 0, 1, 0, 0, size + len(body), 0, size, 0, 0, header, len(headers), len(headers) - 1
     return ident + struct.pack(order + ("HHIQQQIHHHHHH" if wide else "HHIIIIIHHHHHH"), *fields) + body + table
+
+
+def image_of_symbols(wide, big):
+    """An image of two bytes of `.text` at 0x1000 and its symbols: a of 16 bytes and b of 32 there, c of none at 0x1008; and, none of
+    which counts, at 0x1006 a section's own one, one that no section defines, one without a name, and one whose name is no text."""
+    order = ">" if big else "<"
+    kinds = (1, 0x1000, 0x10, 2, 1), (3, 0x1000, 0x20, 1, 1), (5, 0x1008, 0, 0, 1), (1, 0x1006, 0, 3, 1), (1, 0x1006, 0, 2, 0), (0, 0x1006, 0, 2, 1), (7, 0x1006, 0, 2, 1)
+    symbols = b"".join(
+        struct.pack(order + "IBBHQQ", name, info, 0, section, value, size) if wide
+        else struct.pack(order + "IIIBBH", name, value, size, info, 0, section)
+        for name, value, size, info, section in kinds)
+    parts = [(b".text", 1, 0x1000, b"EL", 0), (b".symtab", 2, 0, symbols, 3), (b".strtab", 3, 0, b"\0a\0b\0c\0\xff\0", 0)]
+    return image_with(parts, wide, big)
+
+
+def main():
+    """Writes the images of symbols that are cases of addr2line_cases, but for `symbols.elf`, into a folder."""
+    if len(sys.argv) != 2:
+        sys.exit("usage: tests/images.py FOLDER")
+    for wide, big, name in (False, False, "symbols_32"), (False, True, "symbols_32_big"), (True, True, "symbols_64_big"):
+        with open(f"{sys.argv[1]}/{name}.elf", "wb") as file:
+            file.write(image_of_symbols(wide, big))
+
+
+if __name__ == "__main__":
+    main()

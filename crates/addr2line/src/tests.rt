@@ -3,7 +3,6 @@
 //! carry no facts from call to call, and they take bytes and numbers as parameters, so that the
 //! checker doesn't compute the contracts on them.
 
-mod elf;
 mod files;
 mod functions;
 mod lines;
