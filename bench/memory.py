@@ -3,7 +3,7 @@
 
 usage: bench/memory.py [CASE..]      all cases where none is named:
        ask emit emit-5 lookup lookup-lines lookup-all lookup-symbols lookup-split    of ./linemap
-       cases programs reading tables    of addr2line_cases, gimli_cases and linemap_cases
+       cases programs reading tables asking    of addr2line_cases, gimli_cases and linemap_cases
        places places-bytes    of linemap_bench
        warm warm-frames warm-words    of ./linemap
 
@@ -85,6 +85,10 @@ def case_inputs():
 # Addresses of one unit, the one with the longest answer first: what `lookup` needs for them it has before its first output.
 WARM = [f"{0x1000 + (it + 0x18) % 0x40:x}" for it in range(10_000)]
 
+# What is asked of linemap_cases of tables themselves and of command lines.
+ASKED = ("ask a.json 1000 0x1030 zz", 'ask c.json edit="column":2=>"column":0 ', "sections two_units.json 5", "words linemap lookup -e a.out -f",
+         "words linemap ask a.json -1", "words linemap emit --help")
+
 # What is asked of linemap_cases: calls on one context, and frames in an image in a file and in two in memory.
 TABLES = "replay ", "file c.json 4 32 8 little 0x1018", "units.json 4 32 8 little 0x1010", "units.json 5 64 4 big 0x1010"
 
@@ -103,6 +107,7 @@ RUNS = {
     "programs": ([GIMLI_CASES], lambda: lines_of("gimli_cases", "line_program ")),
     "reading": ([GIMLI_CASES], lambda: lines_of("gimli_cases", "entries ", "abbreviations ", "line_rows ", "line_sequences ", "line_files ")),
     "tables": ([LINEMAP_CASES], lambda: lines_of("linemap_cases", *TABLES)),
+    "asking": ([LINEMAP_CASES], lambda: lines_of("linemap_cases", *ASKED)),
     "places": ([BENCH, "image", "given.elf", "slice", "places", "addresses"], ""),
     "places-bytes": ([BENCH, "image", "given.elf", "bytes", "places", "addresses"], ""),
     "warm": ([LINEMAP, "lookup", "-e", "given.elf", "-a"], "\n".join(WARM)),

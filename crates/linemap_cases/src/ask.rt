@@ -33,6 +33,9 @@ fn answer_request(request: &mut Request, out: &mut Answer) {
         &mut request.out,
         &mut request.err,
     );
+    if ended.memory || request.out.lacks_memory || request.err.lacks_memory {
+        return out.refuse_memory();
+    }
     add_end(ended, out);
     add_stream("; out ", &request.out.text, out);
     add_stream("; err ", &request.err.text, out);

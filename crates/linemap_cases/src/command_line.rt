@@ -114,7 +114,7 @@ fn add_options(options: &Options, out: &mut Answer) {
 fn explain_to(error: &WordsError, output: &mut CutWriter, out: &mut Answer) {
     let mut err = CutWriter::new(out.alloc);
     let ended = explain(out.alloc, error, output, &mut err);
-    if ended.memory {
+    if ended.memory || output.lacks_memory || err.lacks_memory {
         return out.refuse_memory();
     }
     add_end(ended, out);

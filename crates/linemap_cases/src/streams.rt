@@ -80,6 +80,8 @@ pub struct CutWriter {
     /// How often it was interrupted since the last such call.
     waited: u32,
     pub fault: Fault,
+    /// Whether memory was refused for what it keeps.
+    pub lacks_memory: bool,
 }
 
 impl CutWriter {
@@ -92,6 +94,7 @@ impl CutWriter {
             waits: 0,
             waited: 0,
             fault: Fault::Kind(ErrorKind::Other),
+            lacks_memory: false,
         }
     }
 
@@ -114,7 +117,10 @@ impl Write for CutWriter {
         if count == 0 {
             return self.fault.ending();
         }
-        self.text.extend_from_slice(&buf[..count])?;
+        if self.text.extend_from_slice(&buf[..count]).is_err() {
+            self.lacks_memory = true;
+            return Err(ErrorKind::OutOfMemory.into());
+        }
         self.room -= count;
         Ok(count)
     }
