@@ -6,9 +6,9 @@ use crate::streams::{CutWriter, cut_of};
 use linemap_words::{Options, Request, WordsError, explain, read_words};
 use std::alloc::{AllocError, Global};
 
-/// Adds the request of words, or how their refusal is explained: which of the streams has text then,
-/// and all that an error line of the program has. `out=BYTES` and `flush=COUNT` are no words of
-/// them, but say after how many bytes or flushes the output fails.
+/// Adds the request of words, or how their refusal is explained: which of the streams has text
+/// then, and all that an error line of the program has. `out=BYTES` and `flush=COUNT` are no words
+/// of them, but say after how many bytes or flushes the output fails.
 pub fn answer(text: &str, out: &mut Answer) {
     let mut output = CutWriter::new(out.alloc);
     match words_in(out.alloc, text, &mut output) {

@@ -1,6 +1,6 @@
 //! Emits tables as debugging information, and answers addresses from that and from the tables
-//! themselves. Each line of the input is a question, and is repeated with its answer; an empty line, and one that begins with `#`, is
-//! only repeated.
+//! themselves. Each line of the input is a question, and is repeated with its answer; an empty
+//! line, and one that begins with `#`, is only repeated.
 //!
 //! - `TABLE VERSION BITS SIZE ORDER ADDRESS` asks for the frames of an address in the image of a
 //!   table.
@@ -24,10 +24,10 @@
 //!   interrupted before; `out=BYTES`, `flush=COUNT` and `err=BYTES`, after how many bytes or
 //!   flushes the output or the error stream fails, with `:pipe`, `:nothing` or `:interrupted` for
 //!   another fault; or `byte=OFFSET:BYTE`, which replaces a byte of the image.
-//! - `ask TABLE WORD..` asks what `ask` prints of a table, and how it ends. A word is an address, in
-//!   which a tilde is a space; `edit=OLD=>NEW`, which replaces a part of the table's text; `out=`,
-//!   `flush=` and `err=` as above; or `waits=COUNT`, how often the output is interrupted before each
-//!   call that succeeds.
+//! - `ask TABLE WORD..` asks what `ask` prints of a table, and how it ends. A word is an address,
+//!   in which a tilde is a space; `edit=OLD=>NEW`, which replaces a part of the table's text;
+//!   `out=`, `flush=` and `err=` as above; or `waits=COUNT`, how often the output is interrupted
+//!   before each call that succeeds.
 //! - `words WORD..` asks what the words of a command line ask for, or how their refusal is
 //!   explained. `out=` and `flush=` say as above where the output fails.
 //!
