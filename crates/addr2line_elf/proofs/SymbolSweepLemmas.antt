@@ -7,7 +7,7 @@ use Rattle.std.proofs.lemmas.List.{reverse-append, append_assoc}
 use Rattle.addr2line_elf.specs.declared.symbol_entries.SymbolEntry.{SymbolEntry}
 use Rattle.addr2line_elf.specs.declared.stretch.SymbolStretch.{SymbolStretch}
 use Rattle.addr2line_elf.specs.ElfSymbols.{covers}
-use Rattle.addr2line_elf.specs.SymbolStretches.{greatest_address, last_covered, last_of, entry_at}
+use Rattle.addr2line_elf.specs.SymbolStretches.{greatest_symbol_address, last_covered, last_of, entry_at}
 use Rattle.addr2line_elf.specs.SymbolSweeps.{entry_covers, first_value, Falls, AnswersFor, first_active, active_at, still_active, EndsAbove, EndBelow, Rises, ends, IsSwept, IsSweptTo, IsFilledTo}
 
 -- ---- the stretch of an address
@@ -26,10 +26,10 @@ skip_ended a low (s ∷ ss) r h le =
 
 -- ---- which addresses an entry covers
 
-covers_to : (v s a : ℕ) → v ≤ a → a ≤ greatest_address
-    → covers v s a ≡ leb a (cond (eqb s 0) greatest_address (min (v + (s - 1)) greatest_address))
+covers_to : (v s a : ℕ) → v ≤ a → a ≤ greatest_symbol_address
+    → covers v s a ≡ leb a (cond (eqb s 0) greatest_symbol_address (min (v + (s - 1)) greatest_symbol_address))
 covers_to v zero a le fits =
-    ap (λ b. b && true) (le-leb v a le) ∙ sym (le-leb a greatest_address fits)
+    ap (λ b. b && true) (le-leb v a le) ∙ sym (le-leb a greatest_symbol_address fits)
 covers_to v (suc n) a le fits =
     let some : eqb (suc n) 0 ≡ false = ne_eqb (suc n) 0 (λ e. absurd (omega arith)) in
     ap (λ b. b && (eqb (suc n) 0 || ltb (a - v) (suc n))) (le-leb v a le)
@@ -37,21 +37,21 @@ covers_to v (suc n) a le fits =
     ∙ elim (cases_lt a (v + suc n)) [
       | inl below ↦
           lt-ltb (a - v) (suc n) (omega arith)
-          ∙ sym (le-leb a (min (v + (suc n - 1)) greatest_address) (omega arith))
+          ∙ sym (le-leb a (min (v + (suc n - 1)) greatest_symbol_address) (omega arith))
       | inr over ↦
           le-ltb (a - v) (suc n) (omega arith)
-          ∙ sym (lt-leb a (min (v + (suc n - 1)) greatest_address) (omega arith))
+          ∙ sym (lt-leb a (min (v + (suc n - 1)) greatest_symbol_address) (omega arith))
     ]
-    ∙ sym (ap (λ b. leb a (cond b greatest_address (min (v + (suc n - 1)) greatest_address))) some)
+    ∙ sym (ap (λ b. leb a (cond b greatest_symbol_address (min (v + (suc n - 1)) greatest_symbol_address))) some)
 
 covers_below : (v s a : ℕ) → a < v → covers v s a ≡ false
 covers_below v s a h = ap (λ b. b && (eqb s 0 || ltb (a - v) s)) (lt-leb v a h)
 
 -- the last address is no less than the first
-pub value-le-last : (v s : ℕ) → v ≤ greatest_address
-    → v ≤ cond (eqb s 0) greatest_address (min (v + (s - 1)) greatest_address)
+pub value-le-last : (v s : ℕ) → v ≤ greatest_symbol_address
+    → v ≤ cond (eqb s 0) greatest_symbol_address (min (v + (s - 1)) greatest_symbol_address)
 value-le-last v s fits =
-    elim (eqb s 0) as (λ b. v ≤ cond b greatest_address (min (v + (s - 1)) greatest_address)) [
+    elim (eqb s 0) as (λ b. v ≤ cond b greatest_symbol_address (min (v + (s - 1)) greatest_symbol_address)) [
       | true ↦ fits
       | false ↦ omega arith
     ]
@@ -201,7 +201,7 @@ filled_at last (suc n) (x ∷ xs) s found is a first other lt =
 
 -- a further entry begins where the sweep is, and hides those that end no later
 pub swept_covered : (e : SymbolEntry) (ss : List SymbolStretch) (active entries : List SymbolEntry)
-    → e.value ≤ greatest_address → IsFilledTo e.value ss → IsSweptTo e.value ss active entries
+    → e.value ≤ greatest_symbol_address → IsFilledTo e.value ss → IsSweptTo e.value ss active entries
     → IsSweptTo e.value ss (e ∷ still_active (last_covered e) active) (e ∷ entries)
 swept_covered e ss active entries value_fits filled h =
     let last = last_covered e in
@@ -293,7 +293,7 @@ to_closed_last low ss made active rest entries e last popped lt is pushed h =
 pub covered_last : (e : SymbolEntry) (last : ℕ) (ss : List SymbolStretch)
     (active rest pushed entries : List SymbolEntry)
     → last ≡ last_covered e → reverse rest ≡ still_active last (reverse active) → pushed ≡ rest ++ e ∷ []
-    → e.value ≤ greatest_address → IsFilledTo e.value ss → IsSweptTo e.value ss (reverse active) entries
+    → e.value ≤ greatest_symbol_address → IsFilledTo e.value ss → IsSweptTo e.value ss (reverse active) entries
     → IsSweptTo e.value ss (reverse pushed) (e ∷ entries)
 covered_last e last ss active rest pushed entries is left now fits filled h =
     subst (λ es. IsSweptTo e.value ss es (e ∷ entries))

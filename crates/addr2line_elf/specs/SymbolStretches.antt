@@ -7,13 +7,14 @@ use Rattle.addr2line_elf.specs.declared.symbol_entries.SymbolEntry.{SymbolEntry}
 use Rattle.addr2line_elf.specs.declared.stretch.SymbolStretch.{SymbolStretch}
 use Rattle.addr2line_elf.specs.ElfSymbols.{symbol_of, symbol_at}
 
-abbrev pub greatest_address : ℕ
-greatest_address = 2 ^ 64 - 1
+abbrev pub greatest_symbol_address : ℕ
+greatest_symbol_address = 2 ^ 64 - 1
 
 -- the last address that an entry covers; the greatest that there is, if its size isn't known
 abbrev pub last_covered : SymbolEntry → ℕ
 last_covered e =
-    if e.size == 0 then greatest_address else min (e.value + (e.size - 1)) greatest_address
+    if e.size == 0 then greatest_symbol_address
+    else min (e.value + (e.size - 1)) greatest_symbol_address
 
 -- where a stretch ends
 abbrev pub last_of : SymbolStretch → ℕ
@@ -39,6 +40,6 @@ AreNamed texts (e ∷ es) = (is_named texts e ≡ true) × AreNamed texts es
 pub record IsDivided (texts : List ℕ) (entries : List SymbolEntry)
     (stretches : List SymbolStretch) : Type 0 where
   pub order : IsNonDecreasingBy last_of stretches
-  pub answers : (a : ℕ) → a ≤ greatest_address
+  pub answers : (a : ℕ) → a ≤ greatest_symbol_address
       → option_and_then (symbol_of texts) (entry_at a stretches None)
       ≡ symbol_at a (filter_map (symbol_of texts) entries)

@@ -6,7 +6,7 @@ use Rattle.addr2line_elf.specs.declared.symbol_entries.SymbolEntry.{SymbolEntry}
 use Rattle.addr2line_elf.specs.declared.stretch.SymbolStretch.{SymbolStretch}
 use Rattle.addr2line_elf.specs.declared.sweep.Sweep.{Sweep}
 use Rattle.addr2line_elf.specs.ElfSymbols.{covers}
-use Rattle.addr2line_elf.specs.SymbolStretches.{greatest_address, last_covered, last_of, entry_at}
+use Rattle.addr2line_elf.specs.SymbolStretches.{greatest_symbol_address, last_covered, last_of, entry_at}
 
 abbrev pub entry_covers : ℕ → SymbolEntry → Bool
 entry_covers a e = covers e.value e.size a
@@ -26,7 +26,7 @@ Falls (e ∷ es) = (first_value es ≤ e.value) × Falls es
 pub record AnswersFor (entries : List SymbolEntry) (stretches : List SymbolStretch)
     : Type 0 where
   pub order : IsNonDecreasingBy last_of stretches
-  pub answers : (a : ℕ) → a ≤ greatest_address
+  pub answers : (a : ℕ) → a ≤ greatest_symbol_address
       → entry_at a stretches None ≡ find (entry_covers a) entries
 
 -- ---- entries that cover the addresses from one on, by their ends
@@ -68,7 +68,7 @@ ends stretches active = map last_of stretches ++ map last_covered active
 pub record IsSwept (stretches : List SymbolStretch) (active entries : List SymbolEntry)
     : Type 0 where
   pub order : Rises 0 (ends stretches active)
-  pub answers : (a : ℕ) → a ≤ greatest_address
+  pub answers : (a : ℕ) → a ≤ greatest_symbol_address
       → entry_at a stretches (active_at a active) ≡ find (entry_covers a) entries
 
 -- and all stretches end below an address

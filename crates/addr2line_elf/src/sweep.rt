@@ -5,7 +5,7 @@ ghost use Rattle.std.specs.Ordering.{is_lt};
 ghost use Rattle.std.specs.List.{find};
 ghost use Rattle.std.specs.List.Sorted.{IsNonDecreasingBy};
 ghost use Rattle.addr2line_elf.specs.declared.error.LoadError.TheVariants.{Memory};
-ghost use Rattle.addr2line_elf.specs.SymbolStretches.{greatest_address, last_covered, last_of, entry_at, AreNamed, IsDivided};
+ghost use Rattle.addr2line_elf.specs.SymbolStretches.{greatest_symbol_address, last_covered, last_of, entry_at, AreNamed, IsDivided};
 ghost use Rattle.addr2line_elf.specs.SymbolSweeps.{entry_covers, first_active, still_active, EndsAbove, IsFilledTo, IsSweptTo, Falls, AnswersFor, stretch_count};
 
 use crate::error::LoadError;

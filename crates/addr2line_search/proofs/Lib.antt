@@ -1,2 +1,2 @@
-pub mod SearchLemmas
+mod SearchLemmas
 mod Seal

@@ -1,4 +1,5 @@
 pub use Rattle.gimli_core_readers.proofs.NumberReadSizes
+pub use Rattle.gimli_core_readers.proofs.PlaceLemmas
 pub use Rattle.gimli_core_readers.proofs.StepParts
 pub use Rattle.gimli_core_readers.proofs.StepSizes
 pub use Rattle.gimli_core_readers.proofs.ViewCuts

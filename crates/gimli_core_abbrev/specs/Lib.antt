@@ -20,6 +20,7 @@ pub use Rattle.gimli_core_readers.specs.AddressSets
 pub use Rattle.gimli_core_readers.specs.DefaultBases
 pub use Rattle.gimli_core_readers.specs.Iterators
 pub use Rattle.gimli_core_readers.specs.Tiling
+pub use Rattle.gimli_core_readers.specs.Places
 pub use Rattle.gimli_core_readers.specs.Readers
 pub use Rattle.gimli_core_readers.specs.SectionReads
 pub mod Declarations

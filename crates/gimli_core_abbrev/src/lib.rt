@@ -27,7 +27,7 @@ pub use gimli_core_readers::{
     DebugLineStrOffset, DebugLocListsBase, DebugLocListsIndex, DebugRngListsBase,
     DebugRngListsIndex, DebugStr, DebugStrOffset, DebugStrOffsetsBase, DebugStrOffsetsIndex,
     DebugTypeSignature, DwAt, DwForm, DwLang, DwoId, Encoding, EndianSlice, Error, Expression,
-    Format, RawRangeListsOffset, Reader, ReaderOffset, UnitOffset,
+    Format, RawRangeListsOffset, Reader, ReaderOffset, UnitOffset, borrowed, bytes_before, cut,
 };
 pub use section::DebugAbbrev;
 pub use table::Abbreviations;

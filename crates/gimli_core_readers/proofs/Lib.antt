@@ -8,10 +8,11 @@ pub use Rattle.gimli_core_base.proofs.StepSizes
 pub use Rattle.gimli_core_base.proofs.Times
 pub mod LebStringFits
 pub mod ViewCuts
-pub mod Utf8Texts
-pub mod EqualReaders
+pub mod PlaceLemmas
+mod Utf8Texts
+mod EqualReaders
 pub mod ByteCountLemmas
 pub mod TilingLemmas
-pub mod AddressSetLemmas
+mod AddressSetLemmas
 pub mod MemoryLemmas
 pub mod Wrapping

@@ -8,7 +8,7 @@ use Rattle.gimli_core_base.specs.Parsers.{part, find_byte, null_terminated, text
 use Rattle.gimli_core_base.proofs.StepParts.{value_is, state_is}
 
 -- a view by its parts
-abbrev at_place : Bool → List ℕ → ℕ → View
+abbrev pub at_place : Bool → List ℕ → ℕ → View
 at_place is_big bytes first = record { bytes = bytes; is_big = is_big; first = first }
 
 -- behind some bytes, and then behind more

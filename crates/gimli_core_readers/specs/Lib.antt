@@ -25,6 +25,7 @@ pub use Rattle.gimli_core_base.specs.contracts.error.Error as ErrorContract
 pub use Rattle.gimli_core_base.specs.declared.leb128.Fault
 pub use Rattle.gimli_core_base.specs.declared.order.RunTimeEndian
 pub mod Readers
+pub mod Places
 pub mod SectionReads
 pub mod Iterators
 pub mod Tiling

@@ -4,7 +4,7 @@ ghost use Rattle.std.specs.Prelude.{◌≡◌};
 ghost use Rattle.gimli_core_base.specs.Calls.{ReturnsAs};
 ghost use Rattle.gimli_core_readers.specs.SectionReads.{skip_to_index, table_offset_at};
 
-use crate::{EndianSlice, Reader};
+use crate::{EndianSlice, Reader, borrowed};
 use gimli_core_base::error::Error;
 use gimli_core_base::{Format, ReaderOffset};
 
@@ -24,8 +24,7 @@ pub(crate) fn reader_at_index<'a, R: Reader>(
         .checked_mul(u64::from(width))
         .and_then(|distance| distance.checked_add(base.into_u64()))
         .ok_or(Error::OffsetSumOverflow)?;
-    let bytes = section.as_bytes();
-    let mut input = EndianSlice::with_first_id(bytes, section.endian(), section.offset_id());
+    let mut input = borrowed(section);
     input.skip(place as usize)?;
     Ok(input)
 }

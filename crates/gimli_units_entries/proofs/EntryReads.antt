@@ -11,7 +11,7 @@ use Rattle.gimli_units_forms.specs.Declarations.{Attribute}
 use Rattle.gimli_units_forms.specs.AttributeValues.{RawAttribute}
 use Rattle.gimli_units_forms.specs.AttributeReading as forms
 use Rattle.gimli_units_forms.specs.Places.{IsAfter}
-use Rattle.gimli_units_forms.proofs.AfterLemmas.{after-zero}
+use Rattle.gimli_units_forms.proofs.PlaceLemmas.{after-zero}
 use Rattle.gimli_units_entries.specs.EntryWalks.{Walk, walk_with_rest, values, read_in_walk}
 
 -- attributes that are read from the walk's place on

@@ -4,13 +4,13 @@ pub use Rattle.gimli_core_base.proofs.StepParts
 pub use Rattle.gimli_core_base.proofs.StepSizes
 pub use Rattle.gimli_units_headers.proofs.TilingLemmas
 pub use Rattle.gimli_units_headers.proofs.UnitHeaderLemmas
-pub mod WalkLemmas
-pub mod AttributeListLemmas
-pub mod EntryLemmas
+mod WalkLemmas
+mod AttributeListLemmas
+mod EntryLemmas
 pub mod RowParts
 pub mod RowLaws
-pub mod OffsetLookupLemmas
-pub mod ChoiceLemmas
+mod OffsetLookupLemmas
+mod ChoiceLemmas
 pub mod RowSteps
-pub mod AttributePushLemmas
+mod AttributePushLemmas
 mod EntryReads

@@ -17,7 +17,7 @@ use Rattle.gimli_core_base.proofs.NumberReadSizes.{FitsIn, judged_fits_in}
 use Rattle.gimli_units_forms.specs.Declarations.{Declaration}
 use Rattle.gimli_units_forms.specs.AttributeValues.{RawAttribute}
 use Rattle.gimli_units_forms.specs.Places.{IsAfter}
-use Rattle.gimli_units_forms.proofs.AfterLemmas.{IsAfter-self, IsAfter-IsAfter, IsAfter-fewer}
+use Rattle.gimli_units_forms.proofs.PlaceLemmas.{IsAfter-self, IsAfter-IsAfter, IsAfter-fewer}
 use Rattle.gimli_units_forms.proofs.FormSizes.{attributes-after}
 use Rattle.gimli_units_headers.specs.UnitHeaders.{DebugUnit, IsWellFormed, length_including_self, header_size}
 use Rattle.gimli_units_headers.specs.UnitOffsets.{is_in_bounds, if_in_bounds, bytes_from}

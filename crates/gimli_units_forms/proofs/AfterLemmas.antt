@@ -1,110 +1,43 @@
 -- Skipping bytes leaves what comes after some of them.
-use Rattle.std.proofs.Common.{◌≡◌, ℕ, zero, suc, ◌+◌, ◌-◌, ◌^◌, ◌≤◌, Bool, true, false, cond, eqb, ltb, List, [], ◌∷◌, length, Option, Some, None, Result, Ok, Err, refl, sym, ap, subst, ◌∙◌, arith, length-drop}
+use Rattle.std.proofs.Common.{◌≡◌, ℕ, zero, suc, ◌+◌, ◌^◌, Bool, true, false, cond, eqb, List, [], ◌∷◌, length, Option, Some, None, Result, Ok, Err, refl, sym, ◌∙◌, arith}
 use Rattle.std.specs.Prelude.{map}
 use Rattle.gimli_core_abbrev.specs.Error.{Error}
-use Rattle.gimli_core_abbrev.specs.Error.TheVariants.{BadUnsignedLeb128}
-use Rattle.gimli_core_abbrev.specs.View.{View, after, prefix, bytes_left}
-use Rattle.gimli_core_abbrev.specs.Parsers.{Parser, branch, give, fail, null_terminated, find_byte, text_to, ◌>>=◌}
-use Rattle.gimli_core_abbrev.proofs.StepParts.{begins, state_is, read}
+use Rattle.gimli_core_abbrev.specs.View.{View, after, prefix}
+use Rattle.gimli_core_abbrev.specs.Parsers.{branch, give, null_terminated, find_byte, text_to, ◌>>=◌}
+use Rattle.gimli_core_abbrev.proofs.StepParts.{state_is, read}
 use Rattle.gimli_core_abbrev.specs.Encoding.{Encoding}
 use Rattle.gimli_core_abbrev.specs.Declarations.{Attribute}
-use Rattle.gimli_core_abbrev.specs.Fault.{Fault}
-use Rattle.gimli_core_abbrev.specs.Fault.TheVariants.{Bad}
-use Rattle.gimli_core_abbrev.specs.Leb128.{leb_string, unsigned_number, bounded_string, unsigned_of}
-use Rattle.gimli_core_abbrev.specs.NumberParsers.{fixed, unsigned, unsigned_16, skip_leb, number_and_rest, rest_after_string}
+use Rattle.gimli_core_abbrev.specs.Leb128.{leb_string, bounded_string}
+use Rattle.gimli_core_abbrev.specs.NumberParsers.{unsigned_16, skip_leb, rest_after_string}
 use Rattle.gimli_units_forms.specs.declared.spelling.Spelling.{Spelling}
 use Rattle.gimli_units_forms.specs.declared.spelling.Spelling.TheVariants.{Address, Fixed, Sixteen, Block, LongBlock, Unsigned, Signed, Text, Indirect, Constant, Unknown}
 use Rattle.gimli_units_forms.specs.FormSpellings.{spelling}
-use Rattle.gimli_units_forms.specs.Places.{IsAfter}
+use Rattle.gimli_core_abbrev.specs.Places.{IsAfter}
 use Rattle.gimli_units_forms.specs.AttributeReading.{form_within, final_form}
 use Rattle.gimli_units_forms.specs.AttributeSkipping.{Way, by_width, by_look, look_of, plain_way, look_at_value, way_of, run, skip_ways, skip_values, skip_text}
-use Rattle.gimli_core_abbrev.proofs.NumberReadSizes.{string_fits_in, judged_fits_in}
+use Rattle.gimli_core_abbrev.proofs.NumberReadSizes.{string_fits_in}
+use Rattle.gimli_core_abbrev.proofs.PlaceLemmas.{Goes, Goes-onward, Goes-give, Goes-fail, Goes-fixed, Goes-unsigned, string_goes}
 use Rattle.gimli_units_forms.specs.AttributeReading.{attributes}
 use Rattle.gimli_units_forms.specs.AttributeValues.{RawAttribute}
 use Rattle.gimli_units_forms.proofs.SkipAgreementLemmas.{skip_values-attributes}
-use Rattle.gimli_units_forms.proofs.RunLemmas.{at_place, Runs-from_run, leaves, run-Ok, run-run, run-zero, fixed-run, found-within}
-
--- what comes after bytes that are there
-pub IsAfter-after : (n : ℕ) (v : View) → n ≤ bytes_left v → IsAfter v (after n v)
-IsAfter-after n v h = record { count = n; within = h; rest = refl }
-
--- after no bytes all are left
-pub after-zero : (v : View) → after 0 v ≡ v
-after-zero v =
-    let first : v.first + 0 ≡ v.first = omega arith in ap (λ (k : ℕ). at_place v.is_big v.bytes k) first
+use Rattle.gimli_units_forms.proofs.RunLemmas.{Runs-from_run, leaves, found-within}
 
 -- a run leads to what comes after some bytes
 pub IsAfter-run : (n : ℕ) (v w : View) → run n v ≡ leaves w → IsAfter v w
 IsAfter-run n v w h =
     let r = Runs-from_run n v w h in record { count = n; within = r.there; rest = r.after_it }
 
-pub IsAfter-self : (v : View) → IsAfter v v
-IsAfter-self v = IsAfter-run 0 v v (run-zero v)
-
--- and what comes after some bytes is where a run leads
-pub leads : (v w : View) (a : IsAfter v w) → run a.count v ≡ leaves w
-leads v w a = run-Ok a.count v a.within ∙ ap leaves a.rest
-
-pub IsAfter-IsAfter : (u v w : View) → IsAfter u v → IsAfter v w → IsAfter u w
-IsAfter-IsAfter u v w a b =
-    IsAfter-run (a.count + b.count) u w (run-run a.count b.count u v w (leads u v a) (leads v w b))
-
--- the bytes before a place are those that it lacks
-pub bytes_before-count : (v w : View) (a : IsAfter v w) → bytes_left v - bytes_left w ≡ a.count
-bytes_before-count v w a =
-    let left = ap bytes_left (sym a.rest) in omega (arith, a.within, left, length-drop a.count v.bytes)
-
-pub bytes_before-rest : (v w : View) (n : ℕ) → IsAfter v w → n ≡ bytes_left v - bytes_left w → after n v ≡ w
-bytes_before-rest v w n a e = ap (λ k. after k v) (e ∙ bytes_before-count v w a) ∙ a.rest
-
--- a step leaves what comes after some bytes
-pub record Goes {A : Type 0} (p : Parser A) : Type 0 where
-  pub goes : (v : View) (x : A) (w : View) → p v ≡ Ok (x, w) → IsAfter v w
-
-Goes-onward : {A B : Type 0} (p : Parser A) (f : A → Parser B) → Goes p → ((x : A) → Goes (f x)) → Goes (p >>= f)
-Goes-onward p f a b =
-    record {
-      goes = λ v y w e. let s = begins (p v) f y w e in
-          IsAfter-IsAfter v s.1 w (a.goes v s.0 s.1 s.2) ((b s.0).goes s.1 y w s.3);
-    }
-
-Goes-give : {A : Type 0} (x : A) → Goes (give x)
-Goes-give x = record { goes = λ v y w e. subst (λ (u : View). IsAfter v u) (state_is x y v w e) (IsAfter-self v) }
-
-Goes-fail : {A : Type 0} (e : Error) → Goes {A = A} (fail e)
-Goes-fail e = record { goes = λ v y w k. absurd cc }
-
-pub Goes-fixed : (n : ℕ) → Goes (fixed n)
-Goes-fixed n = record { goes = λ v x w e. IsAfter-run n v w (fixed-run n x v w e) }
-
 -- ---- strings
-
-after_string : (v w : View) (s : List ℕ) → length s ≤ bytes_left v → after (length s) v ≡ w → IsAfter v w
-after_string v w s h e = record { count = length s; within = h; rest = e }
-
-goes_after : (limit bound : ℕ) (r : Result (List ℕ) Fault) (v : View) (x : ℕ) (w : View)
-    → bounded_string limit v.bytes ≡ r → number_and_rest BadUnsignedLeb128 v (unsigned_of bound r) ≡ read x w
-    → IsAfter v w
-goes_after limit bound (Err fault) v x w j e = absurd cc
-goes_after limit bound (Ok s) v x w j e = by_test (ltb (unsigned_number s) bound) e
-  where
-    by_test : (t : Bool) → number_and_rest BadUnsignedLeb128 v (cond t (Ok (unsigned_number s, length s)) (Err Bad))
-        ≡ read x w → IsAfter v w
-    by_test true k = after_string v w s (judged_fits_in limit v.bytes s j).fits (state_is (unsigned_number s) x _ _ k)
-    by_test false k = absurd cc
 
 Goes-unsigned_16 : Goes unsigned_16
 unfolding unsigned_16
-Goes-unsigned_16 = record { goes = λ v x w e. goes_after 3 (2 ^ 16) (bounded_string 3 v.bytes) v x w refl e }
-
-pub Goes-unsigned : Goes unsigned
-unfolding unsigned
-Goes-unsigned = record { goes = λ v x w e. goes_after 10 (2 ^ 64) (bounded_string 10 v.bytes) v x w refl e }
+Goes-unsigned_16 = record { goes = λ v x w e. string_goes 3 (2 ^ 16) (bounded_string 3 v.bytes) v x w refl e }
 
 goes_skip : (o : Option (List ℕ)) (v : View) (x : Unit {0}) (w : View) → leb_string v.bytes ≡ o
     → rest_after_string v o ≡ read x w → IsAfter v w
 goes_skip None v x w f e = absurd cc
-goes_skip (Some s) v x w f e = after_string v w s (string_fits_in v.bytes s f).fits (state_is tt x _ _ e)
+goes_skip (Some s) v x w f e =
+    record { count = length s; within = (string_fits_in v.bytes s f).fits; rest = state_is tt x _ _ e }
 
 Goes-skip : Goes skip_leb
 unfolding skip_leb
@@ -192,26 +125,6 @@ pub skip_values-after : (e : Encoding) (ss : List Attribute) (v w : View) → sk
 unfolding skip_values
 skip_values-after e ss v w h = (Goes-skip_ways e ss 0).goes v tt w h
 
--- ---- what a call that skips attributes leaves
-
--- no more bytes than there were
-pub IsAfter-fewer : (v w : View) → IsAfter v w → bytes_left w ≤ bytes_left v
-IsAfter-fewer v w b =
-    let left = ap bytes_left (sym b.rest) in omega (arith, left, length-drop b.count v.bytes)
-
-pub skip_values-fewer : (e : Encoding) (ss : List Attribute) (v w : View) → skip_values e ss v ≡ leaves w
-    → bytes_left w ≤ bytes_left v
-skip_values-fewer e ss v w h = IsAfter-fewer v w (skip_values-after e ss v w h)
-
--- the bytes that are no longer there were skipped
-pub skip_values-count : (e : Encoding) (ss : List Attribute) (v w : View) (n : ℕ) → skip_values e ss v ≡ leaves w
-    → n ≡ bytes_left v - bytes_left w → after n v ≡ w
-skip_values-count e ss v w n h k = bytes_before-rest v w n (skip_values-after e ss v w h) k
-
--- a place in a reader stays in it
-pub Goes-on : {A : Type 0} (p : Parser A) (u v w : View) (x : A) → Goes p → IsAfter u v → p v ≡ Ok (x, w) → IsAfter u w
-Goes-on p u v w x goes a h = IsAfter-IsAfter u v w a (goes.goes v x w h)
-
 -- what can be read isn't refused when skipped
 pub read_values_are_skipped : (limit : ℕ) (e : Encoding) (ss : List Attribute) (all : List RawAttribute) (v rest : View)
     (fault : Error)
@@ -223,10 +136,3 @@ pub skip_leaves_as_read : (limit : ℕ) (e : Encoding) (ss : List Attribute) (al
     → attributes limit e ss v ≡ Ok (all, rest) → skip_values e ss v ≡ leaves w → w ≡ rest
 skip_leaves_as_read limit e ss all v w rest h k =
     state_is tt tt w rest (sym k ∙ skip_values-attributes limit e ss v rest all h)
-
--- a view is what its parts make
-pub view_is : (v : View) (bytes : List ℕ) (is_big : Bool) (first : ℕ) → bytes ≡ v.bytes → is_big ≡ v.is_big
-    → first ≡ v.first → at_place is_big bytes first ≡ v
-view_is v bytes is_big first b o f =
-    ap (λ xs. at_place is_big xs first) b ∙ ap (λ x. at_place x v.bytes first) o
-    ∙ ap (λ n. at_place v.is_big v.bytes n) f

@@ -12,12 +12,9 @@ use Rattle.gimli_units_forms.specs.AttributeReading.{value, attribute, attribute
 use Rattle.gimli_units_forms.specs.AttributeSkipping.{skip_values, way_of, plain_way}
 use Rattle.gimli_units_forms.specs.FormSpellings.{spelling}
 use Rattle.gimli_units_forms.proofs.SkipAgreementLemmas.{attribute-leads, look-leads, spelled_value-leads, skip_values-attributes}
-use Rattle.gimli_units_forms.specs.Places.{IsAfter}
-use Rattle.gimli_units_forms.proofs.AfterLemmas.{IsAfter-run, IsAfter-IsAfter, IsAfter-fewer, Goes-plain_way, Goes-way_of, skip_values-after}
-
--- equal views have the same places
-pub IsAfter-same : (u v w : View) → v ≡ u → IsAfter v w → IsAfter u w
-IsAfter-same u v w e a = subst (λ (x : View). IsAfter x w) e a
+use Rattle.gimli_core_abbrev.specs.Places.{IsAfter}
+use Rattle.gimli_core_abbrev.proofs.PlaceLemmas.{IsAfter-IsAfter, IsAfter-fewer}
+use Rattle.gimli_units_forms.proofs.AfterLemmas.{IsAfter-run, Goes-plain_way, Goes-way_of, skip_values-after}
 
 -- what is left after an attribute comes after some of the bytes
 pub attribute-after : (limit : ℕ) (e : Encoding) (s : Attribute) (v w : View) (a : RawAttribute)

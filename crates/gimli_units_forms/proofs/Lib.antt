@@ -1,8 +1,9 @@
+pub use Rattle.gimli_core_abbrev.proofs.PlaceLemmas
 pub mod FinalFormLemmas
-pub mod SkippingLemmas
+mod SkippingLemmas
 pub mod RunLemmas
 pub mod SkipAgreementLemmas
 pub mod AfterLemmas
 pub mod FormSizes
-pub mod SpellingWidths
+mod SpellingWidths
 mod SkippingRuns

@@ -9,6 +9,7 @@ use Rattle.gimli_core_abbrev.specs.View.{View, after, prefix, bytes_left, unexpe
 use Rattle.gimli_core_abbrev.specs.Parsers.{proceed, give, part, skip, text_to, find_byte, index_or_end}
 use Rattle.gimli_core_abbrev.proofs.StepParts.{state_is, read}
 use Rattle.gimli_core_abbrev.proofs.ViewCuts.{after-after}
+use Rattle.gimli_core_abbrev.proofs.PlaceLemmas.{after-zero}
 use Rattle.gimli_core_abbrev.specs.Fixed.{number}
 use Rattle.gimli_core_abbrev.specs.NumberParsers.{fixed, address, is_address_size}
 use Rattle.gimli_units_forms.specs.AttributeSkipping.{run_fault, run, skip_text}
@@ -36,10 +37,6 @@ Runs-from_run n v w h = by_test (leb n (length v.bytes)) refl h
     by_test true e k = record { there = leb-true _ _ e; after_it = state_is tt tt _ _ k }
     by_test false e k = absurd cc
 
--- a view by its parts
-abbrev pub at_place : Bool → List ℕ → ℕ → View
-at_place is_big bytes first = record { bytes = bytes; is_big = is_big; first = first }
-
 -- one run after another is a run
 pub run-run : (n m : ℕ) (u v w : View) → run n u ≡ leaves v → run m v ≡ leaves w → run (n + m) u ≡ leaves w
 run-run n m u v w h k =
@@ -50,9 +47,7 @@ run-run n m u v w h k =
     run-Ok (n + m) u (omega (arith, a.there, b.there, left, length-drop n u.bytes)) ∙ ap leaves rest
 
 pub run-zero : (v : View) → run 0 v ≡ leaves v
-run-zero v =
-    let first : v.first + 0 ≡ v.first = omega arith in
-    run-Ok 0 v (omega arith) ∙ ap (λ (k : ℕ). leaves (at_place v.is_big v.bytes k)) first
+run-zero v = run-Ok 0 v (omega arith) ∙ ap leaves (after-zero v)
 
 -- ---- texts
 

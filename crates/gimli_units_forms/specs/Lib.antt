@@ -1,10 +1,10 @@
 pub use Rattle.gimli_core_abbrev.specs.AbbreviationViews
 pub use Rattle.gimli_core_abbrev.specs.Declarations
+pub use Rattle.gimli_core_abbrev.specs.Places
 pub use Rattle.gimli_core_abbrev.specs.TableCache
 pub use Rattle.gimli_core_abbrev.specs.TableParsing
 pub use Rattle.gimli_core_abbrev.specs.declared.abbreviation.AttributeSpecification
 pub use Rattle.gimli_core_abbrev.specs.declared.cache.AbbreviationsCache
-pub mod Places
 pub mod FormSpellings
 pub mod AttributeValues
 pub mod AttributeMeanings

@@ -2,7 +2,6 @@
 #![tactic(auto)]
 
 pub mod attribute;
-pub mod place;
 pub mod reading;
 pub mod skipping;
 pub mod spelling;
@@ -10,9 +9,8 @@ pub mod value;
 
 pub use gimli_core_abbrev::{
     Abbreviation, Abbreviations, AbbreviationsCache, AbbreviationsCacheStrategy,
-    AttributeSpecification, DebugAbbrev, EndianSlice,
+    AttributeSpecification, DebugAbbrev, EndianSlice, borrowed, bytes_before,
 };
-pub use place::{borrowed, bytes_before};
 pub use reading::{parse_attribute, parse_attribute_inline, push_attribute};
 pub use skipping::skip_attributes;
 pub use spelling::{Spelling, spelling_of};

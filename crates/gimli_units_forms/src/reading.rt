@@ -5,10 +5,9 @@ ghost use Rattle.gimli_core_abbrev.specs.NumberParsers.{fixed, unsigned};
 ghost use Rattle.gimli_core_abbrev.specs.AbbreviationViews.{attribute_view};
 ghost use Rattle.gimli_units_forms.specs.AttributeReading.{number_value, is_offset_data, meaning_in, offset_meanings, FitsSpelling, FitsWidth, final_form, bytes_value, bytes_by_length, value_in_form, attribute_in_form, attribute};
 ghost use Rattle.gimli_units_forms.specs.FormSpellings.{spelling};
-ghost use Rattle.gimli_units_forms.specs.Places.{IsAfter};
+ghost use Rattle.gimli_core_abbrev.specs.Places.{IsAfter};
 ghost use Rattle.gimli_units_forms.specs.AttributeValues.{raw_value_of, raw_attribute_of};
 
-use crate::place::{borrowed, bytes_before, cut};
 use crate::spelling::{Spelling, spelling_of};
 use crate::value::{Attribute, AttributeValue};
 use gimli_core_abbrev::{
@@ -23,7 +22,7 @@ use gimli_core_abbrev::{
     DW_FORM_strx1, DW_FORM_strx2, DW_FORM_strx3, DW_FORM_strx4, DW_FORM_udata, DebugAddrIndex,
     DebugInfoOffset, DebugLineStrOffset, DebugLocListsIndex, DebugRngListsIndex, DebugStrOffset,
     DebugStrOffsetsIndex, DebugTypeSignature, DwAt, DwForm, Encoding, EndianSlice, Error,
-    Expression, Format, Reader, ReaderOffset, UnitOffset,
+    Expression, Format, Reader, ReaderOffset, UnitOffset, borrowed, bytes_before, cut,
 };
 
 // Whether data of a form stands for an offset: data of an offset's width, under `DW_AT_stmt_list`

@@ -10,10 +10,11 @@ ghost use Rattle.gimli_core_abbrev.specs.Results.{and_then};
 ghost use Rattle.gimli_units_forms.specs.SkippingLaws.{SkipsByRuns, BeginsWithLook, skip_bytes_and_values};
 ghost use Rattle.gimli_units_forms.specs.AttributeSkipping.{skip_text, way_of, width_of, look_at_value, run as run_of, Way, skip_ways, skip_values};
 
-use crate::place::{borrowed, bytes_before};
 use crate::reading::{read_fixed, read_form};
 use crate::spelling::{Spelling, spelling_of};
-use gimli_core_abbrev::{AttributeSpecification, DwForm, Encoding, Error, Reader};
+use gimli_core_abbrev::{
+    AttributeSpecification, DwForm, Encoding, Error, Reader, borrowed, bytes_before,
+};
 
 // The width of a form's value, where it doesn't depend on the bytes.
 #[inline(always)]

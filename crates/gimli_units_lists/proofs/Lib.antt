@@ -10,7 +10,6 @@ mod ListTableMemoryLemmas
 mod ListSteps
 pub mod RangeSteps
 mod LocationEntrySizes
-mod PlaceLemmas
 mod LocationEntryPlaces
 mod ListCounts
 mod ListRefusals

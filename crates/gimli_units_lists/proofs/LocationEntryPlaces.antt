@@ -8,8 +8,8 @@ use Rattle.gimli_units_lists.specs.ListEntries.{RawEntry, address_or_offset_pair
 use Rattle.gimli_units_lists.specs.ListEntryFields.{both, index, indexes, offsets, addresses, address_and_length}
 use Rattle.gimli_units_lists.specs.RangeEntries.{pair_entry}
 use Rattle.gimli_units_lists.specs.LocationEntries.{RawLocation, base, bounded_location, default_location, base_of_field, bounded_location_of_fields, expression_length, indexed_length, expression, index_and_length, pair_location, location_pair, location_kind, location_entry}
-use Rattle.gimli_units_lists.specs.Places.{IsAfter}
-use Rattle.gimli_units_lists.proofs.PlaceLemmas.{Goes, Goes-on, Goes-onward, Goes-give, Goes-fail, Goes-branch, Goes-lift, Goes-fixed, Goes-part, Goes-unsigned, Goes-address}
+use Rattle.gimli_core_readers.specs.Places.{IsAfter}
+use Rattle.gimli_core_readers.proofs.PlaceLemmas.{Goes, Goes-on, Goes-onward, Goes-give, Goes-fail, Goes-branch, Goes-lift, Goes-fixed, Goes-part, Goes-unsigned, Goes-address}
 
 -- ---- fields
 

@@ -5,7 +5,6 @@ pub use Rattle.gimli_core_readers.specs.declared.range.Range
 pub mod ListEntries
 pub mod ListResolutions
 pub mod ListEntryFields
-pub mod Places
 pub mod Lists
 pub mod RangeEntries
 pub mod LocationEntries

@@ -10,7 +10,6 @@ pub mod location_entry;
 pub mod location_lists;
 pub mod location_sections;
 pub mod locations;
-mod place;
 pub mod range_entry;
 pub mod range_lists;
 pub mod range_sections;

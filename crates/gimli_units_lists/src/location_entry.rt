@@ -3,17 +3,16 @@ ghost use Rattle.gimli_core_readers.specs.Calls.{ReturnsAs, ReturnsAsOrNoMemory}
 ghost use Rattle.gimli_core_readers.specs.Error.TheVariants.{Memory};
 ghost use Rattle.gimli_units_lists.specs.LocationEntries.{location_pair, location_kind, location_entry, expression_length, expression, index_and_length};
 ghost use Rattle.gimli_units_lists.specs.ListEntryViews.{raw_location, raw_parts};
-ghost use Rattle.gimli_units_lists.specs.Places.{IsAfter};
+ghost use Rattle.gimli_core_readers.specs.Places.{IsAfter};
 
 use crate::entry_list::ListEntry;
 use crate::fields::{
     read_address_and_length, read_addresses, read_index, read_indexes, read_offsets,
 };
-use crate::place::{borrowed, bytes_before, cut};
 use crate::range_entry::RawRngListEntry;
 use gimli_core_readers::{
     DebugAddrIndex, DwLle, Encoding, EndianSlice, Error, Expression, Reader, ReaderOffset,
-    greatest_address,
+    borrowed, bytes_before, cut, greatest_address,
 };
 
 /// An entry of a location list, as its list has it.
@@ -270,8 +269,8 @@ fn parse_expression<R: Reader>(
         → ReturnsAs (λ x. (R.view x.0, place.new)) result
         (expression R.Offset.limit encoding place.old) }
 {
-    let length = read_expression_length(place, encoding)?;
-    Ok(Expression(cut(place, reader, length)?))
+    let length: R::Offset = read_expression_length(place, encoding)?;
+    Ok(Expression(cut(place, reader, length.into_u64())?))
 }
 
 // An entry by what is resolved of it.

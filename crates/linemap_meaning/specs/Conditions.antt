@@ -107,14 +107,15 @@ abbrev pub has_empty_range : UnitPart → Bool
 has_empty_range u = any_ranges (list_any is_empty_range) u
 
 -- the addresses that a table may name; the two above them mark code that was removed
-abbrev pub least_address : ℕ
-least_address = 1
+abbrev pub least_table_address : ℕ
+least_table_address = 1
 
-abbrev pub greatest_address : ℕ
-greatest_address = 2 ^ 64 - 3
+abbrev pub greatest_table_address : ℕ
+greatest_table_address = 2 ^ 64 - 3
 
 abbrev pub is_out_of_bounds : ℕ → Bool
-is_out_of_bounds address = nat_lt address least_address || nat_lt greatest_address address
+is_out_of_bounds address =
+    nat_lt address least_table_address || nat_lt greatest_table_address address
 
 abbrev pub range_out_of_bounds : RangePart → Bool
 range_out_of_bounds r = is_out_of_bounds r.begin || is_out_of_bounds r.end

@@ -1,6 +1,6 @@
 use Rattle.std.proofs.Common.{arith, length, ◌<◌, ◌≤◌}
 use Rattle.gimli_core_base.proofs.RefusedCalls.{returns_refused}
-use Rattle.gimli_units_forms.proofs.AfterLemmas.{IsAfter-IsAfter}
+use Rattle.gimli_units_forms.proofs.PlaceLemmas.{IsAfter-IsAfter}
 use Rattle.gimli_units_forms.proofs.FormSizes.{made-after}
 use Rattle.gimli_units_entries.proofs.AttributeListLemmas.{attributes_all}
 use Rattle.gimli_units_entries.proofs.AttributePushLemmas.{attributes_push, attributes_push_fault}

@@ -1,5 +1,5 @@
 use Rattle.gimli_units_forms.specs.AttributeReading.{attributes}
-use Rattle.gimli_units_forms.proofs.AfterLemmas.{IsAfter-IsAfter, IsAfter-fewer}
+use Rattle.gimli_units_forms.proofs.PlaceLemmas.{IsAfter-IsAfter, IsAfter-fewer}
 use Rattle.gimli_units_forms.proofs.FormSizes.{attributes-after}
 use Rattle.gimli_units_entries.proofs.EntryReads.{moves_after, no_less, read_at, refused_at}
 use Rattle.gimli_units_entries.proofs.attributes.read_each.Goals as goal

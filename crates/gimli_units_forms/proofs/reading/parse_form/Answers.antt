@@ -1,5 +1,6 @@
-use Rattle.gimli_units_forms.proofs.AfterLemmas.{IsAfter-self, IsAfter-IsAfter, Goes-on, Goes-final_form}
-use Rattle.gimli_units_forms.proofs.FormSizes.{IsAfter-same, value-after}
+use Rattle.gimli_core_abbrev.proofs.PlaceLemmas.{IsAfter-self, IsAfter-IsAfter, IsAfter-same, Goes-on}
+use Rattle.gimli_units_forms.proofs.AfterLemmas.{Goes-final_form}
+use Rattle.gimli_units_forms.proofs.FormSizes.{value-after}
 use Rattle.gimli_units_forms.proofs.reading.parse_form.Goals as goal
 
 pub read_value-requires : goal.read_value-requires

@@ -1,4 +1,4 @@
-use Rattle.gimli_units_forms.proofs.AfterLemmas.{Goes-on, Goes-unsigned}
+use Rattle.gimli_core_abbrev.proofs.PlaceLemmas.{Goes-on, Goes-unsigned}
 use Rattle.gimli_units_forms.proofs.reading.read_long_block.Goals as goal
 
 pub cut-requires : goal.cut-requires

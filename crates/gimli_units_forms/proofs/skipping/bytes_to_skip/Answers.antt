@@ -1,5 +1,5 @@
 use Rattle.gimli_units_forms.proofs.AfterLemmas.{skip_values-after}
-use Rattle.gimli_units_forms.proofs.FormSizes.{IsAfter-same}
+use Rattle.gimli_core_abbrev.proofs.PlaceLemmas.{IsAfter-same}
 use Rattle.gimli_units_forms.proofs.skipping.bytes_to_skip.Goals as goal
 
 pub bytes_before-requires : goal.bytes_before-requires

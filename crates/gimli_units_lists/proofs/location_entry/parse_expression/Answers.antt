@@ -1,4 +1,4 @@
-use Rattle.gimli_units_lists.proofs.PlaceLemmas.{Goes-on}
+use Rattle.gimli_core_readers.proofs.PlaceLemmas.{Goes-on}
 use Rattle.gimli_units_lists.proofs.LocationEntryPlaces.{Goes-expression_length}
 use Rattle.gimli_units_lists.proofs.location_entry.parse_expression.Goals as goal
 

@@ -1,5 +1,5 @@
 -- An expression comes after the kind and the fields.
-use Rattle.gimli_units_lists.proofs.PlaceLemmas.{Goes-on, Goes-fixed}
+use Rattle.gimli_core_readers.proofs.PlaceLemmas.{Goes-on, Goes-fixed}
 use Rattle.gimli_units_lists.proofs.LocationEntryPlaces.{after_fields, Goes-indexes, Goes-index_and_length, Goes-offsets, Goes-addresses, Goes-address_and_length}
 use Rattle.gimli_units_lists.proofs.location_entry.parse_kind.Goals as goal
 

@@ -1,5 +1,5 @@
 -- Addresses were read, so their size is one that addresses have.
-use Rattle.gimli_units_lists.proofs.PlaceLemmas.{Goes-on}
+use Rattle.gimli_core_readers.proofs.PlaceLemmas.{Goes-on}
 use Rattle.gimli_units_lists.proofs.LocationEntryPlaces.{Goes-addresses}
 use Rattle.gimli_units_lists.proofs.RangeEntrySizes.{addresses_have_size}
 use Rattle.gimli_units_lists.proofs.location_entry.parse_pair.Goals as goal

@@ -1,5 +1,5 @@
 -- Each entry takes a byte, and leaves what comes after some bytes.
-use Rattle.gimli_units_lists.proofs.PlaceLemmas.{IsAfter-same}
+use Rattle.gimli_core_readers.proofs.PlaceLemmas.{IsAfter-same}
 use Rattle.gimli_units_lists.proofs.LocationEntryPlaces.{Goes-location_entry}
 use Rattle.gimli_units_lists.proofs.LocationEntrySizes.{location_entry_takes}
 use Rattle.gimli_units_lists.proofs.RawListSteps.{takes_bytes}

@@ -1,23 +1,18 @@
--- What is read leaves what comes after some bytes.
-use Rattle.std.proofs.Common.{◌≡◌, ℕ, ◌+◌, ◌-◌, ◌≤◌, Bool, true, false, cond, length, drop, Result, Ok, Err, refl, sym, ap, subst, ◌∙◌, inl, inr, arith, length-drop}
-use Rattle.std.specs.Prelude.{◌^◌, nat_lt, List}
+-- Places in the bytes of a view: what is read leaves what comes after some bytes.
+use Rattle.std.proofs.Common.{◌≡◌, ℕ, ◌+◌, ◌^◌, ◌≤◌, Bool, true, false, cond, ltb, List, length, Result, Ok, Err, refl, sym, ap, subst, ◌∙◌, inl, inr, arith, length-drop}
 use Rattle.std.proofs.lemmas.Bool.{cases_lt, lt-ltb, le-ltb}
-use Rattle.gimli_core_readers.specs.Error.{Error}
-use Rattle.gimli_core_readers.specs.Error.TheVariants.{BadUnsignedLeb128, UnsupportedAddressSize}
-use Rattle.gimli_core_readers.specs.Fault.{Fault}
-use Rattle.gimli_core_readers.specs.Fault.TheVariants.{Bad}
-use Rattle.gimli_core_readers.specs.Leb128.{unsigned_number, bounded_string, unsigned_of}
-use Rattle.gimli_core_readers.specs.View.{View, after, bytes_left}
-use Rattle.gimli_core_readers.specs.Parsers.{Parser, ◌>>=◌, give, fail, branch, lift, part}
-use Rattle.gimli_core_readers.specs.NumberParsers.{fixed, unsigned, address, is_address_size, number_and_rest}
-use Rattle.gimli_core_readers.proofs.StepParts.{begins, state_is, read, lift-Ok}
-use Rattle.gimli_core_readers.proofs.NumberReadSizes.{judged_fits_in}
-use Rattle.gimli_core_readers.proofs.ViewCuts.{after-after, part-Ok}
-use Rattle.gimli_units_lists.specs.Places.{IsAfter}
-
--- a view by its parts
-abbrev at_place : Bool → List ℕ → ℕ → View
-at_place is_big bytes first = record { bytes = bytes; is_big = is_big; first = first }
+use Rattle.gimli_core_base.specs.declared.error.Error.{Error}
+use Rattle.gimli_core_base.specs.declared.error.Error.TheVariants.{BadUnsignedLeb128, UnsupportedAddressSize}
+use Rattle.gimli_core_base.specs.declared.leb128.Fault.{Fault}
+use Rattle.gimli_core_base.specs.declared.leb128.Fault.TheVariants.{Bad}
+use Rattle.gimli_core_base.specs.Leb128.{unsigned_number, bounded_string, unsigned_of}
+use Rattle.gimli_core_base.specs.View.{View, after, bytes_left}
+use Rattle.gimli_core_base.specs.Parsers.{Parser, ◌>>=◌, give, fail, branch, lift, part}
+use Rattle.gimli_core_base.specs.NumberParsers.{fixed, unsigned, address, is_address_size, number_and_rest}
+use Rattle.gimli_core_base.proofs.StepParts.{begins, state_is, read, lift-Ok}
+use Rattle.gimli_core_base.proofs.NumberReadSizes.{judged_fits_in}
+use Rattle.gimli_core_readers.proofs.ViewCuts.{at_place, after-after, part-Ok}
+use Rattle.gimli_core_readers.specs.Places.{IsAfter}
 
 -- a view is what its parts make
 pub view_is : (v : View) (bytes : List ℕ) (is_big : Bool) (first : ℕ) → bytes ≡ v.bytes → is_big ≡ v.is_big
@@ -26,29 +21,33 @@ view_is v bytes is_big first b o f =
     ap (λ xs. at_place is_big xs first) b ∙ ap (λ x. at_place x v.bytes first) o
     ∙ ap (λ n. at_place v.is_big v.bytes n) f
 
+-- ---- places
+
 -- no more bytes than there were
 pub IsAfter-fewer : (v w : View) → IsAfter v w → bytes_left w ≤ bytes_left v
-IsAfter-fewer v w a =
-    let left = ap bytes_left (sym a) in omega (arith, left, length-drop (bytes_left v - bytes_left w) v.bytes)
+IsAfter-fewer v w b =
+    let left = ap bytes_left (sym b.rest) in omega (arith, left, length-drop b.count v.bytes)
 
 -- what comes after bytes that are there
 pub IsAfter-after : (n : ℕ) (v : View) → n ≤ bytes_left v → IsAfter v (after n v)
-IsAfter-after n v h =
-    let count : bytes_left v - length (drop n v.bytes) ≡ n = omega (arith, h, length-drop n v.bytes) in
-    ap (λ k. after k v) count
+IsAfter-after n v h = record { count = n; within = h; rest = refl }
+
+-- after no bytes all are left
+pub after-zero : (v : View) → after 0 v ≡ v
+after-zero v =
+    let first : v.first + 0 ≡ v.first = omega arith in ap (λ (k : ℕ). at_place v.is_big v.bytes k) first
 
 pub IsAfter-self : (v : View) → IsAfter v v
-IsAfter-self v =
-    let none : bytes_left v - bytes_left v ≡ 0 = omega arith in
-    let first : v.first + 0 ≡ v.first = omega arith in
-    ap (λ k. after k v) none ∙ ap (λ k. at_place v.is_big v.bytes k) first
+IsAfter-self v = record { count = 0; within = omega arith; rest = after-zero v }
 
 pub IsAfter-IsAfter : (u v w : View) → IsAfter u v → IsAfter v w → IsAfter u w
 IsAfter-IsAfter u v w a b =
-    let count : bytes_left u - bytes_left w ≡ (bytes_left u - bytes_left v) + (bytes_left v - bytes_left w) =
-    omega (arith, IsAfter-fewer u v a, IsAfter-fewer v w b) in
-    ap (λ k. after k u) count ∙ sym (after-after (bytes_left v - bytes_left w) (bytes_left u - bytes_left v) u)
-    ∙ ap (λ x. after (bytes_left v - bytes_left w) x) a ∙ b
+    let left : bytes_left v ≡ bytes_left (after a.count u) = ap bytes_left (sym a.rest) in
+    record {
+      count = a.count + b.count;
+      within = omega (arith, a.within, b.within, left, length-drop a.count u.bytes);
+      rest = sym (after-after b.count a.count u) ∙ ap (after b.count) a.rest ∙ b.rest;
+    }
 
 -- equal views have the same places
 pub IsAfter-same : (u v w : View) → v ≡ u → IsAfter v w → IsAfter u w
@@ -105,21 +104,26 @@ Goes-part n = record {
       subst (λ (u : View). IsAfter v u) (sym cut.rest_is) (IsAfter-after n v cut.there);
 }
 
-goes_string : (bound : ℕ) (r : Result (List ℕ) Fault) (v : View) (x : ℕ) (w : View) → bounded_string 10 v.bytes ≡ r
-    → number_and_rest BadUnsignedLeb128 v (unsigned_of bound r) ≡ read x w → IsAfter v w
-goes_string bound (Err fault) v x w j e = absurd cc
-goes_string bound (Ok s) v x w j e = by_test (nat_lt (unsigned_number s) bound) e
+-- a number, whose string of bytes is judged
+pub string_goes : (limit bound : ℕ) (r : Result (List ℕ) Fault) (v : View) (x : ℕ) (w : View)
+    → bounded_string limit v.bytes ≡ r → number_and_rest BadUnsignedLeb128 v (unsigned_of bound r) ≡ read x w
+    → IsAfter v w
+string_goes limit bound (Err fault) v x w j e = absurd cc
+string_goes limit bound (Ok s) v x w j e = by_test (ltb (unsigned_number s) bound) e
   where
     by_test : (t : Bool) → number_and_rest BadUnsignedLeb128 v (cond t (Ok (unsigned_number s, length s)) (Err Bad))
         ≡ read x w → IsAfter v w
     by_test true k =
-        subst (λ (u : View). IsAfter v u) (state_is (unsigned_number s) x (after (length s) v) w k)
-        (IsAfter-after (length s) v (judged_fits_in 10 v.bytes s j).fits)
+        record {
+          count = length s;
+          within = (judged_fits_in limit v.bytes s j).fits;
+          rest = state_is (unsigned_number s) x (after (length s) v) w k;
+        }
     by_test false k = absurd cc
 
 pub Goes-unsigned : Goes unsigned
 unfolding unsigned
-Goes-unsigned = record { goes = λ v x w e. goes_string (2 ^ 64) (bounded_string 10 v.bytes) v x w refl e }
+Goes-unsigned = record { goes = λ v x w e. string_goes 10 (2 ^ 64) (bounded_string 10 v.bytes) v x w refl e }
 
 pub Goes-address : (size : ℕ) → Goes (address size)
 unfolding address

@@ -1,12 +1,13 @@
-//! Places in a reader's bytes, which are borrowed: reading there copies no reader.
+//! A reader's bytes, borrowed: reading at a place in them copies no reader.
 
 ghost use Rattle.std.specs.Prelude.{◌≡◌, ◌≤◌, length, IsTrue};
-ghost use Rattle.gimli_core_abbrev.specs.Calls.{ReturnsAs, ReturnsAsOrNoMemory};
-ghost use Rattle.gimli_core_abbrev.specs.Parsers.{part};
-ghost use Rattle.gimli_core_abbrev.specs.View.{after};
-ghost use Rattle.gimli_units_forms.specs.Places.{IsAfter};
+ghost use Rattle.gimli_core_base.specs.Calls.{ReturnsAs, ReturnsAsOrNoMemory};
+ghost use Rattle.gimli_core_base.specs.Parsers.{part};
+ghost use Rattle.gimli_core_base.specs.View.{after};
+ghost use Rattle.gimli_core_readers.specs.Places.{IsAfter};
 
-use gimli_core_abbrev::{EndianSlice, Error, Reader, ReaderOffset};
+use crate::{EndianSlice, Reader};
+use gimli_core_base::error::Error;
 
 /// The bytes of a reader, borrowed.
 #[inline(always)]
@@ -26,9 +27,10 @@ pub fn bytes_before<R: Reader>(place: &EndianSlice<'_, R::Endian>, reader: &R) -
     reader.as_bytes().len() - place.slice().len()
 }
 
-// The next bytes of a place, as a reader of their own.
+/// The next bytes of a place in a reader, as a reader of their own. Takes memory only where a copy
+/// of the reader does.
 #[inline(always)]
-pub(crate) fn cut<R: Reader>(
+pub fn cut<R: Reader>(
     place: &mut EndianSlice<'_, R::Endian>,
     reader: &R,
     length: u64,
