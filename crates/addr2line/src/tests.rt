@@ -4,10 +4,6 @@
 //! checker doesn't compute the contracts on them.
 
 mod files;
-mod functions;
-mod lines;
-mod names;
-mod ranges;
 mod sections;
 mod sources;
 mod texts;

@@ -1,5 +1,6 @@
 //! What is emitted of the table in a text.
 
+use crate::answer::Answer;
 use crate::question::Change;
 use linemap_image::{EmitError, Table, TableError, Target, emit};
 use linemap_text::{Sections, emit_sections};
@@ -42,6 +43,14 @@ pub fn sections_of(alloc: Global, text: &[u8], target: Target) -> Result<Section
             Err(error) => Err(refusal_to_emit(error)),
         },
         Err(error) => Err(refusal_to_read(error)),
+    }
+}
+
+/// Adds what the table in a text weighs.
+pub fn add_weight(text: &[u8], out: &mut Answer) {
+    match Table::read(out.alloc, text) {
+        Ok(table) => out.value(&table.weight()),
+        Err(error) => out.refuse_table(refusal_to_read(error)),
     }
 }
 

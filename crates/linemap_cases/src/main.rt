@@ -15,7 +15,13 @@
 //!   more.
 //! - `lines TABLE VERSION BITS SIZE ORDER ADDRESS` makes those of such calls that need lines: the
 //!   place of an address, its frames, all stretches and all lines.
+//! - `split ADDRESS` makes calls about an address on one context over a small file whose unit has a
+//!   split file, which isn't there.
 //! - `sections TABLE VERSION BITS SIZE ORDER` asks for the bytes of the sections that a table has.
+//! - `weight TABLE` asks what a table weighs.
+//! - `large COUNT ORDER` asks how many units a table has that is made of one with so many ranges,
+//!   functions and sequences: `ascending`, `descending`, or `overlapping` where a range is there
+//!   twice.
 //! - `lookup TABLE WORD..` asks what `lookup` prints of the image of a table, and how it ends. A
 //!   word is an address; options, as `-fi`, `--all`, `--llvm` and `--statements`; `section=NAME`;
 //!   `target=VERSION:BITS:SIZE:ORDER` for another one than 4:32:8:little; `in=TEXT`, what is read
@@ -44,11 +50,13 @@ mod emission;
 mod ending;
 mod frames;
 mod image_file;
+mod large_tables;
 mod lookup;
 mod places;
 mod question;
 mod replays;
 mod sections;
+mod split_unit;
 mod streams;
 
 use answer::Answer;
@@ -88,6 +96,8 @@ fn reply<R: Files + AllocGlobal>(rt: &R, question: &Question<'_>, out: &mut Answ
             Err(error) => out.refuse_file(error, "no such table"),
         },
         Question::CommandLine(words) => command_line::answer(words, out),
+        Question::LargeTable(count, order) => large_tables::answer(*count, *order, out),
+        Question::SplitUnit(address) => split_unit::answer(*address, out),
     }
 }
 
@@ -98,6 +108,7 @@ fn reply_about<R: Files + AllocGlobal>(rt: &R, text: &[u8], topic: &Topic<'_>, o
         Topic::File(probe) => image_file::answer(rt, text, *probe, out),
         Topic::Calls(probe, series) => replays::answer(text, *probe, *series, out),
         Topic::Sections(target) => sections::answer(text, *target, out),
+        Topic::Weight => emission::add_weight(text, out),
         Topic::Lookup(words) => lookup::answer(text, words, out),
         Topic::Ask(words) => ask::answer(text, words, out),
     }

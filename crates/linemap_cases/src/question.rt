@@ -1,5 +1,6 @@
 //! Questions, as lines.
 
+use crate::large_tables::Order;
 use linemap_image::{Format, Target, read_address};
 use std::str::SplitWhitespace;
 
@@ -10,6 +11,10 @@ pub enum Question<'a> {
     Table(&'a str, Topic<'a>),
     /// About these words of a command line.
     CommandLine(&'a str),
+    /// About a table with so many parts.
+    LargeTable(u32, Order),
+    /// Calls about an address, over a file whose unit has a split file.
+    SplitUnit(u64),
 }
 
 /// What is asked about a table.
@@ -23,6 +28,8 @@ pub enum Topic<'a> {
     Calls(Probe, Series),
     /// The bytes of its sections.
     Sections(Target),
+    /// What it weighs.
+    Weight,
     /// What `lookup` prints of its image, for these words.
     Lookup(&'a str),
     /// What `ask` prints, for these words.
@@ -60,6 +67,9 @@ pub fn question_in(line: &str) -> Option<Question<'_>> {
     let (word, rest) = line.split_once(' ')?;
     match word {
         "words" => Some(Question::CommandLine(rest)),
+        "large" => large_question_in(rest),
+        "split" => Some(Question::SplitUnit(read_address(rest)?)),
+        "weight" => Some(Question::Table(rest, Topic::Weight)),
         "ask" | "lookup" => Some(text_question_in(word, rest)),
         "sections" => sections_question_in(rest),
         "file" | "replay" | "lines" => probe_question_in(word, rest),
@@ -74,6 +84,17 @@ fn text_question_in<'a>(kind: &str, text: &'a str) -> Question<'a> {
         "ask" => Question::Table(table, Topic::Ask(words)),
         _ => Question::Table(table, Topic::Lookup(words)),
     }
+}
+
+fn large_question_in<'a>(text: &str) -> Option<Question<'a>> {
+    let (count, order) = text.split_once(' ')?;
+    let order = match order {
+        "ascending" => Order::Ascending,
+        "descending" => Order::Descending,
+        "overlapping" => Order::Overlapping,
+        _ => return None,
+    };
+    Some(Question::LargeTable(count.parse().ok()?, order))
 }
 
 fn sections_question_in(text: &str) -> Option<Question<'_>> {

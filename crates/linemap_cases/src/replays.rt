@@ -85,8 +85,8 @@ fn all_calls_about(alloc: Global, address: u64) -> Result<Vec<Call>, AllocError>
     Ok(calls)
 }
 
-// Adds the answers. Where memory was refused for them, the same context is asked again.
-fn answer_calls(context: &mut Context<Slice<'_>>, calls: &[Call], out: &mut Answer) {
+/// Adds the answers to calls. Where memory was refused for them, the same context is asked again.
+pub fn answer_calls(context: &mut Context<Slice<'_>>, calls: &[Call], out: &mut Answer) {
     let mut first = Answer::new(out.alloc);
     ask(context, calls, &mut first);
     if !out.add_first(first) {
@@ -136,6 +136,10 @@ fn add_state(answer: &CallAnswer, out: &mut Answer) {
         CallAnswer::Preload(loads) => {
             out.value(&loads.len());
             out.text(" loads");
+            for id in loads {
+                out.text(" ");
+                out.hex(id.0);
+            }
         }
         CallAnswer::Done => out.text("done"),
         CallAnswer::NoToken => out.text("no token"),

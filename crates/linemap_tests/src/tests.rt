@@ -1,4 +1,0 @@
-//! Tables as values, and calls on one context.
-mod replays;
-mod rules;
-mod tables;
