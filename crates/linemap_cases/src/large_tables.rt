@@ -17,7 +17,8 @@ pub enum Order {
     Overlapping,
 }
 
-/// Adds how many units a table has, of one with so many ranges, functions and sequences.
+/// Adds the number of units of a table, which is made of one with `count` ranges, functions and
+/// sequences; or why it is refused.
 pub fn answer(count: u32, order: Order, out: &mut Answer) {
     match unit_of(out.alloc, count, order) {
         Ok(unit) => check(unit, out),

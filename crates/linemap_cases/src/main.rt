@@ -19,7 +19,7 @@
 //!   split file, which isn't there.
 //! - `sections TABLE VERSION BITS SIZE ORDER` asks for the bytes of the sections that a table has.
 //! - `weight TABLE` asks what a table weighs.
-//! - `large COUNT ORDER` asks how many units a table has that is made of one with so many ranges,
+//! - `large COUNT ORDER` asks how many units a table has that is made of one with COUNT ranges,
 //!   functions and sequences: `ascending`, `descending`, or `overlapping` where a range is there
 //!   twice.
 //! - `lookup TABLE WORD..` asks what `lookup` prints of the image of a table, and how it ends. A

@@ -11,7 +11,7 @@ pub enum Question<'a> {
     Table(&'a str, Topic<'a>),
     /// About these words of a command line.
     CommandLine(&'a str),
-    /// About a table with so many parts.
+    /// About a table of one unit, by the number of its ranges and how its parts follow each other.
     LargeTable(u32, Order),
     /// Calls about an address, over a file whose unit has a split file.
     SplitUnit(u64),
