@@ -14,7 +14,7 @@ pub mod UnitRangeLemmas
 mod LastFactLemmas
 pub mod LastValueStep
 mod ArangeIndexLemmas
-pub mod RootLemmas
+mod RootLemmas
 mod HeaderUnits
 mod SharedPrograms
 mod SharedLines

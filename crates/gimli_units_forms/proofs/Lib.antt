@@ -3,7 +3,7 @@ pub mod FinalFormLemmas
 mod SkippingLemmas
 pub mod RunLemmas
 pub mod SkipAgreementLemmas
-pub mod AfterLemmas
+mod AfterLemmas
 pub mod FormSizes
 mod SpellingWidths
 mod SkippingRuns
