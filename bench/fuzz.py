@@ -3,11 +3,11 @@
 
 usage: bench/fuzz.py MINUTES [FOLDER]
 
-The seeds are what is emitted of tables, in each of the 28 targets, the files of addr2line_cases, and the images of FOLDER. They are mutated: bits are
+The seeds are what is emitted of tables, in each of the 28 targets, the files that linemap_cases is asked about, and the images of FOLDER. They are mutated: bits are
 flipped, bytes cut out, put in and copied from other seeds, numbers set to extremes. Four things are done with them, in
 turn, until the time is up:
 
-- sections: thousands of files go through one process of `addr2line_cases`, each through both readers and all three
+- sections: thousands of files go through one process of `linemap_cases`, each through both readers and all three
   constructors; what it answers must be what tests/model.py computes.
 - images: the same for images in memory, through a loader. Where the image is whole and its sections alone are damaged,
   the answers must be the model's.
@@ -47,7 +47,7 @@ from cases import NAMES
 from images import image_of, sections_of
 from model import LIMIT, Model, Refused
 
-CASES = os.environ.get("CASES", f"{TOP}/crates/addr2line_cases/out/addr2line_cases")
+CASES = os.environ.get("CASES", f"{TOP}/crates/linemap_cases/out/linemap_cases")
 LINEMAP = os.environ.get("LINEMAP", f"{TOP}/crates/linemap_program/out/linemap_program")
 BENCH = os.environ.get("BENCH", f"{TOP}/crates/linemap_bench/out/linemap_bench")
 FINDS = os.environ.get("FINDS", "finds")
@@ -103,7 +103,7 @@ def emitted(random, folder):
 
 
 def of_cases():
-    """The files that addr2line_cases is asked about, as images: what no table has, such as references between units."""
+    """The files that linemap_cases is asked about, as images: what no table has, such as references between units."""
     for sections in cases.asked():
         yield image_of(sections, True, False)
     yield from files_below(f"{cases.CRATE}/data")

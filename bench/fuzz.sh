@@ -5,8 +5,8 @@
 # distribution. The programs are proved and built first, unless what is there is current.
 set -euo pipefail
 top="$(dirname "$(dirname "$(readlink -f "$0")")")"
-for name in ${CASES-addr2line_cases} ${LINEMAP-linemap_program} ${BENCH-linemap_bench}; do
+for name in ${CASES-linemap_cases} ${LINEMAP-linemap_program} ${BENCH-linemap_bench}; do
     [ ! -d "$top/crates/$name" ] || "$top/tools/build" "$name"
 done
-export SECTIONS="${SECTIONS:-$top/crates/addr2line_cases/data}"
+export SECTIONS="${SECTIONS:-$top/crates/linemap_cases/data}"
 exec nice python3 "$top/bench/fuzz.py" "$@"

@@ -3,12 +3,12 @@
 
 usage: bench/memory.py [CASE..]      all cases where none is named:
        ask emit emit-5 lookup lookup-lines lookup-all lookup-symbols lookup-split    of ./linemap
-       cases programs reading tables asking    of addr2line_cases, gimli_cases and linemap_cases
+       cases programs reading tables asking    of linemap_cases and gimli_cases
        places places-bytes    of linemap_bench
        warm warm-frames warm-words    of ./linemap
 
 The programs that the cases need are proved and built first, as by `tools/build NAME`, unless what is there is current; LINEMAP,
-CASES, GIMLI_CASES, LINEMAP_CASES and BENCH name other programs, which are taken as they are. A C compiler is needed, for refuse.c.
+CASES, GIMLI_CASES and BENCH name other programs, which are taken as they are. A C compiler is needed, for refuse.c.
 
 Each run must end as it does with ample memory, or say why not on the error stream: with status 1 and the beginning of that
 output, or, where `lookup` goes on, with a line for each address that is refused. With status 1 the program's line names what
@@ -33,10 +33,9 @@ import cases
 
 
 # The crates of the programs, each with the variable that names another program.
-CRATES = {"linemap_program": "LINEMAP", "addr2line_cases": "CASES", "gimli_cases": "GIMLI_CASES", "linemap_cases": "LINEMAP_CASES",
-          "linemap_bench": "BENCH"}
+CRATES = {"linemap_program": "LINEMAP", "linemap_cases": "CASES", "gimli_cases": "GIMLI_CASES", "linemap_bench": "BENCH"}
 PROGRAMS = [os.environ.get(variable) or f"{TOP}/crates/{crate}/out/{crate}" for crate, variable in CRATES.items()]
-LINEMAP, CASES, GIMLI_CASES, LINEMAP_CASES, BENCH = PROGRAMS
+LINEMAP, CASES, GIMLI_CASES, BENCH = PROGRAMS
 DATA = f"{cases.CRATE}/data"
 # What comes before an answer to what is asked again.
 AGAIN = b"E1, then "
@@ -61,13 +60,18 @@ def lines_of(name, *beginnings):
     return ["".join(chosen)]
 
 
+def lines_about_tables(*beginnings):
+    """The questions about tables of linemap_cases that begin so, as one input."""
+    return [f"tables:\n{it}" for it in lines_of("linemap_cases", *beginnings)]
+
+
 # What is no case here: where the source of split files answers in turn, or loads that are left are counted, a call that is
 # made again is answered otherwise; and two cases take thousands of allocations.
 LEFT_OUT = re.compile(r"^(turn |waits |prefixes|frames_of_each )", re.MULTILINE)
 
 
 def case_inputs():
-    """The cases of addr2line_cases one by one, each after the files that it is about, but for those that are made."""
+    """The paragraphs of linemap_cases one by one, each after the files that it is about, but for those that are made."""
     every = cases.paragraphs()
     every = every[:next(place for place, it in enumerate(every) if it.startswith(cases.MADE))]
     for case in every:
@@ -106,8 +110,8 @@ RUNS = {
     "cases": ([CASES], case_inputs),
     "programs": ([GIMLI_CASES], lambda: lines_of("gimli_cases", "line_program ")),
     "reading": ([GIMLI_CASES], lambda: lines_of("gimli_cases", "entries ", "abbreviations ", "line_rows ", "line_sequences ", "line_files ")),
-    "tables": ([LINEMAP_CASES], lambda: lines_of("linemap_cases", *TABLES)),
-    "asking": ([LINEMAP_CASES], lambda: lines_of("linemap_cases", *ASKED)),
+    "tables": ([CASES], lambda: lines_about_tables(*TABLES)),
+    "asking": ([CASES], lambda: lines_about_tables(*ASKED)),
     "places": ([BENCH, "image", "given.elf", "slice", "places", "addresses"], ""),
     "places-bytes": ([BENCH, "image", "given.elf", "bytes", "places", "addresses"], ""),
     "warm": ([LINEMAP, "lookup", "-e", "given.elf", "-a"], "\n".join(WARM)),
@@ -243,8 +247,6 @@ def main():
         os.mkdir(f"{folder}/run")
         for name in os.listdir(DATA):
             os.symlink(f"{DATA}/{name}", f"{folder}/run/{name}")
-        for name in os.listdir(f"{TOP}/crates/linemap_cases/data"):
-            os.symlink(f"{TOP}/crates/linemap_cases/data/{name}", f"{folder}/run/{name}")
         if needs_image(names):
             subprocess.run([LINEMAP, "emit", f"{TOP}/examples/c.json", f"{folder}/run/given.elf"], check=True)
         with open(f"{folder}/run/addresses", "w", encoding="utf-8") as file:

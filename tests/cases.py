@@ -1,18 +1,20 @@
-"""The cases of crates/addr2line_cases, as its stdin has them."""
+"""The paragraphs of crates/linemap_cases about the addresses of small files, as its stdin has them."""
 import os
 import re
 
 TOP = os.path.dirname(os.path.dirname(os.path.abspath(__file__)))
-CRATE = f"{TOP}/crates/addr2line_cases"
+CRATE = f"{TOP}/crates/linemap_cases"
 # The sections that lookups read, by the names that the cases have for them.
 NAMES = "abbrev", "addr", "aranges", "info", "line", "line_str", "ranges", "rnglists", "str", "str_offsets"
+# The line after which the paragraphs come in stdin, and the answers to them in stdout, to the end of both.
+BEFORE = "contexts:\n"
 # The first line of the cases that damaged.py makes.
 MADE = "# Sections cut at every length: the cases and answers from here on are made by tests/damaged.py"
 
 
 def paragraphs():
     with open(f"{CRATE}/stdin", encoding="utf-8") as file:
-        return file.read().split("\n\n")
+        return file.read().partition(BEFORE)[2].split("\n\n")
 
 
 def bytes_of(words):

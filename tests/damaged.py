@@ -2,7 +2,7 @@
 """The sections that are emitted of examples/c.json, in version 4 and in version 5, cut at every length.
 
 Of .debug_info and .debug_line, whose contents begin with their length, there are also the cuts at which that length is
-set to what is left, so that the cut is met further on. The cases are the end of crates/addr2line_cases/stdin, after the
+set to what is left, so that the cut is met further on. The cases are the end of crates/linemap_cases/stdin, after the
 files c_of_4 and c_of_5, which hold the sections; the answers are the end of its stdout. They are computed by model.py,
 and never taken from the program.
 
@@ -94,7 +94,7 @@ def other_cases():
     known = cases.files()
     asked = [it for it in cases.paragraphs() if not re.search("^file ", it, re.MULTILINE)]
     with open(f"{CRATE}/stdout", encoding="utf-8") as file:
-        answered = file.read().split("\n\n")
+        answered = file.read().partition(cases.BEFORE)[2].split("\n\n")
     for case, found in zip(asked, answered):
         if case.startswith(MADE):
             return

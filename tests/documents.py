@@ -13,7 +13,7 @@ import sys
 
 TOP = os.path.dirname(os.path.dirname(os.path.abspath(__file__)))
 DOCUMENTS = [f"{TOP}/README.md", *sorted(glob.glob(f"{TOP}/docs/*.md"))]
-PROGRAMS = "gimli_cases", "addr2line_cases", "linemap_cases"
+PROGRAMS = "gimli_cases", "linemap_cases"
 
 
 def read(path):

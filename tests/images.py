@@ -57,7 +57,7 @@ def image_of_symbols(wide, big):
 
 
 def main():
-    """Writes the images of symbols that are cases of addr2line_cases, but for `symbols.elf`, into a folder."""
+    """Writes the images of symbols that are cases of linemap_cases, but for `symbols.elf`, into a folder."""
     if len(sys.argv) != 2:
         sys.exit("usage: tests/images.py FOLDER")
     for wide, big, name in (False, False, "symbols_32"), (False, True, "symbols_32_big"), (True, True, "symbols_64_big"):

@@ -7,7 +7,7 @@ units aren't modelled: each load is answered by no file.
 
     model = Model(sections, big_endian=False)      sections: from names such as "info" or "line_str" to bytes (places: from
                                                    the same names to where each begins in a file, from which E2 counts)
-    model.place(0x1018), model.frames(0x1018), ..  the lines that the program `addr2line_cases` prints
+    model.place(0x1018), model.frames(0x1018), ..  the lines that the program `linemap_cases` prints
 """
 import functools
 
@@ -835,7 +835,7 @@ class Model:
                 return found
         return []
 
-    # ---- answers as `addr2line_cases` prints them
+    # ---- answers as `linemap_cases` prints them
 
     def place(self, address):
         return answer(lambda: printed_place(self.find_place(address)))

@@ -17,8 +17,8 @@ use Rattle.addr2line_lookups.specs.KeptCalls.{known_among, HoldCalls}
 use Rattle.addr2line_lookups.specs.LookupCosts.{AtMostLooks, probes_among, frame_probes_at}
 use Rattle.addr2line_lookups.specs.UnitLookups.{frames_among, SettlesFrames, unit_among, SettlesUnit}
 use Rattle.addr2line_lookups.specs.PassedUnits.{PassedAreKept, AsksFramesAmong, AsksUnitAmong, KeepsAskedFunctions}
-use Rattle.addr2line_lookups.specs.declared.frame_place.FramePlace.{FramePlace}
-use Rattle.addr2line_lookups.specs.declared.settled.Settled.{Settled}
+use Rattle.addr2line_lookups.specs.FramePlace.{FramePlace}
+use Rattle.addr2line_lookups.specs.Settled.{Settled}
 use Rattle.addr2line_lookups.proofs.CallsLeft.{known_same}
 use Rattle.addr2line_lookups.proofs.PassedUnits.{kept_still}
 use Rattle.addr2line_context.specs.Progresses.{IsIndexFor, PassFramesIn, PassUnitsIn, PassedAreKeptIn}

@@ -13,8 +13,8 @@ use Rattle.gimli_units_entries.specs.EntryRows.{Row, row_choosing}
 use Rattle.gimli_units_entries.proofs.RowParts.{row-parts, row-takes}
 use Rattle.gimli_units_entries.specs.Results.{and_then, unless, each}
 use Rattle.addr2line_names.specs.UnitFacts.{UnitInFile}
-use Rattle.addr2line_units.specs.InlinedCalls.{FunctionWalk, NestedEntry, Naming, Call, enclosing_rows, is_inlined, is_nested, is_call_in, is_call, calls_above, entry_of_row, entry_below, entries_below, entries_of, call_at, call_of, calls_among}
-use Rattle.addr2line_units.proofs.EntryLevels.{leads, lt_from, not_lt_from, lt_is, not_lt_is}
+use Rattle.addr2line_ranges.specs.InlinedCalls.{FunctionWalk, NestedEntry, Naming, Call, enclosing_rows, is_inlined, is_nested, is_call_in, is_call, calls_above, entry_of_row, entry_below, entries_below, entries_of, call_at, call_of, calls_among}
+use Rattle.addr2line_ranges.proofs.EntryLevels.{leads, lt_from, not_lt_from, lt_is, not_lt_is}
 use Rattle.addr2line_functions.specs.CallNesting.{Nesting, CallWalk, leave, inside_of, enter, is_call_where, call_depth, call_if, call_and_walk, next_call_in, next_call, calls_from}
 use Rattle.addr2line_functions.proofs.NestingLemmas.{Matches, matches_after, opens, none_nested, count_calls}
 

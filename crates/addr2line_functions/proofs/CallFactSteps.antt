@@ -10,11 +10,11 @@ use Rattle.gimli_units_entries.specs.AttributeValues.{RawAttribute}
 use Rattle.gimli_units_entries.specs.EntryRows.{Row}
 use Rattle.gimli_units_entries.specs.Results.{and_then}
 use Rattle.addr2line_names.specs.UnitFacts.{UnitInFile}
-use Rattle.addr2line_units.specs.EntryRanges.{ranges_of_facts}
-use Rattle.addr2line_units.specs.UnitRanges.{RangeFact, begins_at, ends_at, has_size, has_list, no_fact, fact_of, begin_in, end_in, size_in, list_in, last_of}
-use Rattle.addr2line_units.specs.LastFacts.{LastFacts, no_facts, with_fact, last_facts, entry_ranges_by}
-use Rattle.addr2line_units.specs.InlinedCalls.{Naming, Call, CallFacts, no_call_facts, call_facts, call_at, call_file, is_call_line, is_call_column, number_or_0}
-use Rattle.addr2line_units.proofs.UnitRangeLemmas.{entry_by_list}
+use Rattle.addr2line_ranges.specs.EntryRanges.{ranges_of_facts}
+use Rattle.addr2line_ranges.specs.UnitRanges.{RangeFact, begins_at, ends_at, has_size, has_list, no_fact, fact_of, begin_in, end_in, size_in, list_in, last_of}
+use Rattle.addr2line_ranges.specs.LastFacts.{LastFacts, no_facts, with_fact, last_facts, entry_ranges_by}
+use Rattle.addr2line_ranges.specs.InlinedCalls.{Naming, Call, CallFacts, no_call_facts, call_facts, call_at, call_file, is_call_line, is_call_column, number_or_0}
+use Rattle.addr2line_ranges.proofs.UnitRangeLemmas.{entry_by_list}
 use Rattle.addr2line_functions.specs.LastCallFacts.{LastCallFacts, last_of_call, last_call_facts}
 
 -- ---- one fact more

@@ -1,8 +1,8 @@
 -- How many looks at entries the calls of an address take.
 use Rattle.std.proofs.Common.{◌≡◌, ℕ, ◌+◌, ◌*◌, ◌≤◌, List, length, ap, ◌∙◌, arith}
 use Rattle.std.proofs.lemmas.List.{length-map}
-use Rattle.addr2line_units.specs.Pairs.{pairs_from}
-use Rattle.addr2line_units.specs.InlinedCalls.{Call, ranges_of_call}
+use Rattle.addr2line_ranges.specs.Pairs.{pairs_from}
+use Rattle.addr2line_ranges.specs.InlinedCalls.{Call, ranges_of_call}
 use Rattle.addr2line_functions.specs.CountedFunctions.{depth_of_call, search_probes, call_probes}
 use Rattle.addr2line_functions.specs.RangesByNumber.{numbered_range, numbered_ranges}
 use Rattle.addr2line_functions.specs.declared.numbered_range.NumberedRange.{NumberedRange}

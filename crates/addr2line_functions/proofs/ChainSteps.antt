@@ -3,10 +3,10 @@ use Rattle.std.proofs.Common.{◌≡◌, ℕ, ◌+◌, ◌==◌, List, [], ◌�
 use Rattle.std.specs.List.{cons_option}
 use Rattle.std.proofs.lemmas.List.{map-append, length-map}
 use Rattle.std.proofs.lemmas.List.Elements.{filter_map-append}
-use Rattle.addr2line_units.specs.Choice.{holder}
-use Rattle.addr2line_units.specs.Pairs.{Pair}
-use Rattle.addr2line_units.specs.InlinedCalls.{Call, ranges_of_call, call_ranges, call_at_depth, chain_from, chain_at}
-use Rattle.addr2line_units.proofs.CallChains.{chain_step}
+use Rattle.addr2line_ranges.specs.Choice.{holder}
+use Rattle.addr2line_ranges.specs.Pairs.{Pair}
+use Rattle.addr2line_ranges.specs.InlinedCalls.{Call, ranges_of_call, call_ranges, call_at_depth, chain_from, chain_at}
+use Rattle.addr2line_ranges.proofs.CallChains.{chain_step}
 use Rattle.addr2line_functions.specs.CallNumbers.{calls_of_numbers}
 use Rattle.addr2line_functions.specs.CountedFunctions.{depth_of_call}
 use Rattle.addr2line_functions.specs.RangesByNumber.{numbered_ranges, number_at}

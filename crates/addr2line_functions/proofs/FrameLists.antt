@@ -5,9 +5,9 @@ use Rattle.gimli_units_entries.specs.Error.{Error}
 use Rattle.gimli_units_entries.specs.Error.TheVariants.{Memory, UnexpectedEof, BadUnsignedLeb128, BadSignedLeb128, UnknownReservedLength, UnsupportedOffset, UnsupportedAddressSize, AbbreviationTagZero, AttributeNameZero, AttributeFormZero, InvalidAbbreviationChildren, DuplicateAbbreviationCode, InvalidAbbreviationCode, UnknownForm, InvalidImplicitConst, UnknownVersion, UnsupportedUnitType, UnsupportedSegmentSize, OffsetOutOfBounds, NoEntryAtGivenOffset, MissingUnitDie, AddressOverflow, UnknownRangeListsEntry, UnknownLocListsEntry, MinimumInstructionLengthZero, MaximumOperationsPerInstructionZero, LineRangeZero, OpcodeBaseZero, MissingFileEntryFormatPath, ExpectedStringAttributeValue, BadUtf8, OffsetSumOverflow, NoSuchUnit}
 use Rattle.gimli_units_entries.specs.Calls.{ReturnsOrNoMemory}
 use Rattle.gimli_units_entries.specs.View.{View}
-use Rattle.addr2line_units.specs.Lines.{Location}
-use Rattle.addr2line_units.specs.InlinedCalls.{Call}
-use Rattle.addr2line_units.specs.Frames.{Frame, FunctionAt, call_site, frame, frames_in}
+use Rattle.addr2line_ranges.specs.Lines.{Location}
+use Rattle.addr2line_ranges.specs.InlinedCalls.{Call}
+use Rattle.addr2line_ranges.specs.Frames.{Frame, FunctionAt, call_site, frame, frames_in}
 use Rattle.addr2line_functions.specs.BorrowedFrames.{frames_at_place}
 use Rattle.addr2line_functions.specs.CallNumbers.{calls_of_numbers}
 use Rattle.addr2line_functions.specs.NextFrames.{NextOf}

@@ -14,7 +14,7 @@ use Rattle.gimli_units_entries.proofs.RowParts.{row-parts, row-takes}
 use Rattle.gimli_units_entries.proofs.RowSteps.{rows-next, rows-fault, rows-end}
 use Rattle.gimli_units_entries.specs.Results.{and_then, unless, each}
 use Rattle.addr2line_names.specs.UnitFacts.{UnitInFile}
-use Rattle.addr2line_units.specs.Functions.{Function, is_subprogram, has_range, function_of, functions_of_rows, functions_of_unit}
+use Rattle.addr2line_ranges.specs.Functions.{Function, is_subprogram, has_range, function_of, functions_of_rows, functions_of_unit}
 use Rattle.addr2line_functions.specs.NextFunctions.{if_has_range, function_of_row, next_function, functions_from}
 
 -- some functions, and then further ones

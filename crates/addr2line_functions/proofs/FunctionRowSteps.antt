@@ -11,7 +11,7 @@ use Rattle.gimli_units_entries.specs.EntryRows.{Row, row, present_row}
 use Rattle.gimli_units_entries.specs.UnitEntries.{walk_from}
 use Rattle.gimli_units_entries.specs.Results.{and_then}
 use Rattle.addr2line_names.specs.UnitFacts.{UnitInFile}
-use Rattle.addr2line_units.specs.InlinedCalls.{Naming, name_by, Call, FunctionCalls, calls_among, entries_of, function_calls, calls_of_row, calls_of_function}
+use Rattle.addr2line_ranges.specs.InlinedCalls.{Naming, name_by, Call, FunctionCalls, calls_among, entries_of, function_calls, calls_of_row, calls_of_function}
 
 module _ (limit : ℕ) (u : UnitInFile) (same_limit : u.file.offset_limit ≡ limit) (naming : Naming) where
   -- a function of a name

@@ -1,9 +1,9 @@
 pub use Rattle.gimli_units_entries.proofs.TilingLemmas
 pub use Rattle.gimli_units_entries.proofs.UnitHeaderLemmas
-pub use Rattle.addr2line_units.proofs.UnitAnswers
-pub use Rattle.addr2line_units.proofs.UnitViews
-pub use Rattle.addr2line_units.proofs.EntryLevels
-pub use Rattle.addr2line_units.proofs.PendingLoads
+pub use Rattle.addr2line_ranges.proofs.UnitAnswers
+pub use Rattle.addr2line_ranges.proofs.UnitViews
+pub use Rattle.addr2line_ranges.proofs.EntryLevels
+pub use Rattle.addr2line_ranges.proofs.PendingLoads
 pub mod RangeNumbers
 mod PairNumbers
 mod FunctionEntrySteps

@@ -5,7 +5,7 @@ use Rattle.gimli_units_entries.specs.Error.{Error}
 use Rattle.gimli_units_entries.specs.View.{View}
 use Rattle.gimli_units_entries.specs.AttributeValues.{RawAttribute}
 use Rattle.gimli_units_entries.specs.Results.{and_then}
-use Rattle.addr2line_units.specs.InlinedCalls.{Naming, name_by}
+use Rattle.addr2line_ranges.specs.InlinedCalls.{Naming, name_by}
 
 module _ (naming : Naming) {X : Type 0} (view : X → RawAttribute) where
   -- the name so far, with the attributes from a place on

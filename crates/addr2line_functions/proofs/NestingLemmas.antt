@@ -3,9 +3,9 @@ use Rattle.std.proofs.Common.{◌≡◌, ℕ, suc, ℤ, ◌≤ℤ◌, ◌<ℤ◌
 use Rattle.std.proofs.lemmas.Int.{ints}
 use Rattle.gimli_units_entries.specs.EntryWalks.{Walk}
 use Rattle.gimli_units_entries.specs.EntryRows.{Row}
-use Rattle.addr2line_units.specs.Functions.{is_subprogram}
-use Rattle.addr2line_units.specs.InlinedCalls.{enclosing_rows, is_nested, is_inlined, calls_above}
-use Rattle.addr2line_units.proofs.EntryLevels.{Leads, lt_from, not_lt_from, lt_is, not_lt_is, enclosing_rows-same, enclosing_rows-more}
+use Rattle.addr2line_ranges.specs.Functions.{is_subprogram}
+use Rattle.addr2line_ranges.specs.InlinedCalls.{enclosing_rows, is_nested, is_inlined, calls_above}
+use Rattle.addr2line_ranges.proofs.EntryLevels.{Leads, lt_from, not_lt_from, lt_is, not_lt_is, enclosing_rows-same, enclosing_rows-more}
 use Rattle.addr2line_functions.specs.CallNesting.{Nesting, no_nesting, shallower, if_shallower, leave, inside_of}
 
 -- ---- leaving twice

@@ -1,7 +1,7 @@
 -- The calls of numbers each of which is that of a call.
 use Rattle.std.proofs.Common.{◌≡◌, ℕ, List, [], ◌∷◌, map, slice_get, Some, refl, ap, ◌∙◌}
 use Rattle.std.specs.List.{cons_option}
-use Rattle.addr2line_units.specs.InlinedCalls.{Call}
+use Rattle.addr2line_ranges.specs.InlinedCalls.{Call}
 use Rattle.addr2line_functions.specs.CallNumbers.{calls_of_numbers}
 
 module _ (cs : List Call) where

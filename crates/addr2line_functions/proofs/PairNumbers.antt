@@ -2,9 +2,9 @@
 use Rattle.std.proofs.Common.{◌≡◌, ℕ, ◌+◌, Bool, List, [], ◌∷◌, ◌++◌, length, map, filter, slice_get, Option, Some, None, option_map, refl, sym, ap, subst, ◌∙◌, arith, append_assoc, length-append}
 use Rattle.std.specs.List.{AllByRecursion}
 use Rattle.gimli_units_entries.specs.Range.{Range}
-use Rattle.addr2line_units.specs.Choice.{holder}
-use Rattle.addr2line_units.specs.Pairs.{Pair, pairs_of, pairs_from}
-use Rattle.addr2line_units.proofs.RangeHolders.{holder_is, all_of_filter}
+use Rattle.addr2line_ranges.specs.Choice.{holder}
+use Rattle.addr2line_ranges.specs.Pairs.{Pair, pairs_of, pairs_from}
+use Rattle.addr2line_ranges.proofs.RangeHolders.{holder_is, all_of_filter}
 
 module _ {U : Type 0} (ranges : U → List Range) where
   -- the item of a pair is at its number

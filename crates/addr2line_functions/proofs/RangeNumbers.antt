@@ -4,10 +4,10 @@ use Rattle.std.proofs.lemmas.List.{take_more, map-append, length-take}
 use Rattle.std.proofs.lemmas.Simd.{map-map}
 use Rattle.gimli_units_entries.specs.Error.{Error}
 use Rattle.gimli_units_entries.specs.Range.{Range}
-use Rattle.addr2line_units.specs.Choice.{holder}
-use Rattle.addr2line_units.specs.Pairs.{Pair, pairs_of, pairs_from}
-use Rattle.addr2line_units.specs.Functions.{Function, ranges_of_function, function_ranges, function_number, function_at}
-use Rattle.addr2line_units.proofs.HolderViews.{filter-view, holder-view}
+use Rattle.addr2line_ranges.specs.Choice.{holder}
+use Rattle.addr2line_ranges.specs.Pairs.{Pair, pairs_of, pairs_from}
+use Rattle.addr2line_ranges.specs.Functions.{Function, ranges_of_function, function_ranges, function_number, function_at}
+use Rattle.addr2line_ranges.proofs.HolderViews.{filter-view, holder-view}
 use Rattle.addr2line_functions.specs.CountedFunctions.{no_depth}
 use Rattle.addr2line_functions.specs.declared.numbered_range.NumberedRange.{NumberedRange}
 use Rattle.addr2line_functions.specs.RangesByNumber.{depth_of, range_of, number_of, of_number, numbered_range, numbered_ranges, number_at}

@@ -1,8 +1,8 @@
 -- Functions and frames that borrow from what is kept of a unit, as contracts see them.
 use Rattle.std.specs.Prelude.{ℕ, List, Option, Some, None, option_map}
-use Rattle.addr2line_units.specs.BorrowedLocations.{location_value}
-use Rattle.addr2line_units.specs.Lines.{Location}
-use Rattle.addr2line_units.specs.Frames.{Frame, FunctionAt as FunctionPart, frames_in, frame_without_function}
+use Rattle.addr2line_ranges.specs.BorrowedLocations.{location_value}
+use Rattle.addr2line_ranges.specs.Lines.{Location}
+use Rattle.addr2line_ranges.specs.Frames.{Frame, FunctionAt as FunctionPart, frames_in, frame_without_function}
 use Rattle.addr2line_functions.specs.BorrowedLines.{files_in}
 use Rattle.addr2line_functions.specs.CallNumbers.{calls_of_numbers}
 use Rattle.addr2line_functions.specs.declared.function_at.FunctionAt.{FunctionAt}

@@ -7,8 +7,8 @@ use Rattle.gimli_units_entries.specs.EntryWalks.{Walk}
 use Rattle.gimli_units_entries.specs.EntryRows.{Row, row_choosing}
 use Rattle.gimli_units_entries.specs.Results.{and_then}
 use Rattle.addr2line_names.specs.UnitFacts.{UnitInFile}
-use Rattle.addr2line_units.specs.Functions.{is_subprogram}
-use Rattle.addr2line_units.specs.InlinedCalls.{Naming, Call, FunctionWalk, is_inlined, call_at, calls_among, entries_below}
+use Rattle.addr2line_ranges.specs.Functions.{is_subprogram}
+use Rattle.addr2line_ranges.specs.InlinedCalls.{Naming, Call, FunctionWalk, is_inlined, call_at, calls_among, entries_below}
 
 -- The depths of the calls that an entry is in, the nearest first, and of the nested function that
 -- it is in, if it is in one.

@@ -1,7 +1,7 @@
 -- The calls of a function by their numbers.
 use Rattle.std.specs.Prelude.{◌≡◌, ℕ, List, [], ◌∷◌, ◌++◌, slice_get, Option, Some, None}
 use Rattle.std.specs.List.{filter_map}
-use Rattle.addr2line_units.specs.InlinedCalls.{Call}
+use Rattle.addr2line_ranges.specs.InlinedCalls.{Call}
 
 -- the calls of these numbers; a call's number is its index among all
 abbrev pub calls_of_numbers : List Call → List ℕ → List Call

@@ -1,7 +1,7 @@
 -- The names of functions and calls in the units of a context (DWARF 5, 7.5.5 and 7.3.6).
 use Rattle.std.specs.Prelude.{map, if◌then◌else◌}
-use Rattle.addr2line_units.specs.Contexts.{FileContext}
-use Rattle.addr2line_units.specs.Lookups.{FunctionsUnit, Namings}
+use Rattle.addr2line_ranges.specs.Contexts.{FileContext}
+use Rattle.addr2line_ranges.specs.Lookups.{FunctionsUnit, Namings}
 use Rattle.addr2line_names.specs.EntryReferences.{KnownUnits, HoldingUnit}
 use Rattle.addr2line_names.specs.FunctionNames.{name_with, name_by_reference, most_references}
 use Rattle.addr2line_names.specs.declared.file.DebugFile.TheVariants.{Primary, Dwo}

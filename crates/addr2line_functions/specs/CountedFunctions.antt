@@ -1,9 +1,9 @@
 -- Functions and calls as lookups search them, and how many looks at entries that takes.
 use Rattle.std.specs.Prelude.{ℕ, ◌+◌, ◌*◌, List, length}
-use Rattle.addr2line_units.specs.Pairs.{pairs_from}
-use Rattle.addr2line_units.specs.Functions.{Function, function_ranges}
-use Rattle.addr2line_units.specs.InlinedCalls.{Call, FunctionCalls, ranges_of_call, chain_at}
-use Rattle.addr2line_units.specs.Searches.{digit_count}
+use Rattle.addr2line_ranges.specs.Pairs.{pairs_from}
+use Rattle.addr2line_ranges.specs.Functions.{Function, function_ranges}
+use Rattle.addr2line_ranges.specs.InlinedCalls.{Call, FunctionCalls, ranges_of_call, chain_at}
+use Rattle.addr2line_ranges.specs.Searches.{digit_count}
 
 -- functions, and the name of the counter of their ranges
 pub record CountedFunctions : Type 0 where

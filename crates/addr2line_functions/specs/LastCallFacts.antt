@@ -5,8 +5,8 @@ use Rattle.gimli_units_entries.specs.View.{View}
 use Rattle.gimli_units_entries.specs.AttributeValues.{RawAttribute}
 use Rattle.gimli_units_entries.specs.Results.{and_then}
 use Rattle.addr2line_names.specs.UnitFacts.{UnitInFile}
-use Rattle.addr2line_units.specs.LastFacts.{LastFacts, last_facts}
-use Rattle.addr2line_units.specs.InlinedCalls.{Naming, CallFacts, no_call_facts, call_facts}
+use Rattle.addr2line_ranges.specs.LastFacts.{LastFacts, last_facts}
+use Rattle.addr2line_ranges.specs.InlinedCalls.{Naming, CallFacts, no_call_facts, call_facts}
 
 -- the name, and the last fact of each kind
 pub record LastCallFacts : Type 0 where

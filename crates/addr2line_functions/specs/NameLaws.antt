@@ -1,9 +1,9 @@
 -- Laws of names that are found attribute by attribute.
 use Rattle.std.specs.Prelude.{◌≡◌, List, None}
 use Rattle.gimli_units_entries.specs.AttributeValues.{RawAttribute}
-use Rattle.addr2line_units.specs.Contexts.{FileContext}
-use Rattle.addr2line_units.specs.InlinedCalls.{name_by}
-use Rattle.addr2line_units.specs.Lookups.{FunctionsUnit}
+use Rattle.addr2line_ranges.specs.Contexts.{FileContext}
+use Rattle.addr2line_ranges.specs.InlinedCalls.{name_by}
+use Rattle.addr2line_ranges.specs.Lookups.{FunctionsUnit}
 use Rattle.addr2line_names.specs.FunctionNames.{name_of}
 use Rattle.addr2line_functions.specs.ContextNames.{known_units, holding_unit, naming_in}
 

@@ -2,7 +2,7 @@
 use Rattle.std.specs.Prelude.{◌≡◌, List, [], ◌∷◌, Option, Some, None, Result, Ok, Err}
 use Rattle.gimli_units_entries.specs.Error.{Error}
 use Rattle.gimli_units_entries.specs.Error.TheVariants.{Memory}
-use Rattle.addr2line_units.specs.Frames.{Frame}
+use Rattle.addr2line_ranges.specs.Frames.{Frame}
 
 -- The remaining frames were the one that is returned and then those that remain; none is returned
 -- where none remained. The only error is out of memory, and then the same frames remain.

@@ -6,7 +6,7 @@ use Rattle.gimli_units_entries.specs.EntryWalks.{Walk}
 use Rattle.gimli_units_entries.specs.EntryRows.{Row, row_choosing, rows}
 use Rattle.gimli_units_entries.specs.Results.{and_then}
 use Rattle.addr2line_names.specs.UnitFacts.{UnitInFile}
-use Rattle.addr2line_units.specs.Functions.{Function, is_subprogram, has_range, function_of, functions_of_rows}
+use Rattle.addr2line_ranges.specs.Functions.{Function, is_subprogram, has_range, function_of, functions_of_rows}
 
 -- a function that has a range
 abbrev pub if_has_range : Function → Option Function

@@ -1,9 +1,9 @@
 -- Ranges of functions or of calls, each with the number of what it belongs to.
 use Rattle.std.specs.Prelude.{ℕ, List, map, Option, option_map}
 use Rattle.gimli_units_entries.specs.Range.{Range}
-use Rattle.addr2line_units.specs.Choice.{holder}
-use Rattle.addr2line_units.specs.Pairs.{Pair, pairs_from}
-use Rattle.addr2line_units.specs.RangeLevels.{at_level}
+use Rattle.addr2line_ranges.specs.Choice.{holder}
+use Rattle.addr2line_ranges.specs.Pairs.{Pair, pairs_from}
+use Rattle.addr2line_ranges.specs.RangeLevels.{at_level}
 use Rattle.addr2line_functions.specs.declared.numbered_range.NumberedRange.{NumberedRange}
 
 abbrev pub depth_of : NumberedRange → ℕ

@@ -1,7 +1,7 @@
 //! A call that is inlined into a function.
 
 ghost use Rattle.std.specs.Prelude.{◌≡◌, option_map};
-ghost use Rattle.addr2line_units.specs.InlinedCalls.{ranges_of_call};
+ghost use Rattle.addr2line_ranges.specs.InlinedCalls.{ranges_of_call};
 ghost use Rattle.addr2line_functions.specs.CountedFunctions.{depth_of_call};
 
 use crate::numbered_range::HasRanges;
@@ -35,7 +35,7 @@ impl<R: Reader> Drop for Call<R> {
 
 impl<R: Reader> Model for Call<R> {
     ghost use Rattle.std.specs.Prelude.{option_map};
-    ghost use Rattle.addr2line_units.specs.InlinedCalls.{Call as CallPart};
+    ghost use Rattle.addr2line_ranges.specs.InlinedCalls.{Call as CallPart};
 
     ghost Value = { CallPart };
 

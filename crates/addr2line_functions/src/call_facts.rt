@@ -5,7 +5,7 @@ ghost use Rattle.gimli_units_entries.specs.EntryViews.{raw_attributes};
 ghost use Rattle.addr2line_functions.specs.LastCallFacts.{last_call_facts};
 
 use crate::naming::Names;
-use addr2line_units::{LastFacts, UnitRef, fact_of};
+use addr2line_ranges::{LastFacts, UnitRef, fact_of};
 use gimli_units_entries::{Attribute, Error, Reader};
 use std::marker::Model;
 

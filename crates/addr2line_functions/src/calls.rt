@@ -3,15 +3,15 @@
 ghost use Rattle.std.specs.Prelude.{◌≡◌, ◌≤◌, map, length, slice_get, vec_capacity, Some, option_map, Ok, IsOk, IfOk};
 ghost use Rattle.gimli_units_entries.specs.Calls.{ReturnsAsOrNoMemory, ReturnsOrNoMemory};
 ghost use Rattle.gimli_units_entries.specs.EntryViews.{entry_of};
-ghost use Rattle.addr2line_units.specs.InlinedCalls.{calls_of_function, function_calls, chain_at};
-ghost use Rattle.addr2line_units.specs.Searches.{AtMostProbes};
+ghost use Rattle.addr2line_ranges.specs.InlinedCalls.{calls_of_function, function_calls, chain_at};
+ghost use Rattle.addr2line_ranges.specs.Searches.{AtMostProbes};
 ghost use Rattle.addr2line_functions.specs.CountedFunctions.{chain_probes};
 
 use crate::call::Call;
 use crate::naming::{Names, name_by};
 use crate::numbered_range::{NumberedRange, number_at, range_index};
 use crate::walk::calls_below;
-use addr2line_units::{Probes, RangeIndex, UnitRef};
+use addr2line_ranges::{Probes, RangeIndex, UnitRef};
 use gimli_units_entries::{
     DebuggingInformationEntry, EntriesRaw, Error, Reader, ReaderOffset, UnitOffset,
 };
@@ -38,7 +38,7 @@ impl<R: Reader> Drop for FunctionCalls<R> {
 
 impl<R: Reader> Model for FunctionCalls<R> {
     ghost use Rattle.std.specs.Prelude.{◌≡◌, option_map};
-    ghost use Rattle.addr2line_units.specs.InlinedCalls.{ranges_of_call};
+    ghost use Rattle.addr2line_ranges.specs.InlinedCalls.{ranges_of_call};
     ghost use Rattle.addr2line_functions.specs.CountedFunctions.{CountedCalls, depth_of_call};
     ghost use Rattle.addr2line_functions.specs.RangesByNumber.{numbered_ranges};
 

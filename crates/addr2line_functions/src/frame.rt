@@ -7,7 +7,7 @@ ghost use Rattle.gimli_units_entries.specs.Calls.{ReturnsAsOrNoMemory};
 ghost use Rattle.addr2line_demangle.specs.LegacyNames.{demangle_or_name};
 
 use addr2line_demangle::demangle_auto;
-use addr2line_units::Location;
+use addr2line_ranges::Location;
 use gimli_units_entries::{DwLang, Error, Reader, ReaderOffset, UnitOffset};
 use std::alloc::Global;
 use std::borrow::CowStr;
@@ -24,7 +24,7 @@ pub struct FunctionName<R: Reader> {
 
 impl<R: Reader> Model for FunctionName<R> {
     ghost use Rattle.std.specs.Prelude.{option_map};
-    ghost use Rattle.addr2line_units.specs.Frames.{FunctionName as Name};
+    ghost use Rattle.addr2line_ranges.specs.Frames.{FunctionName as Name};
 
     ghost Value = { Name };
 
@@ -70,8 +70,8 @@ pub struct Frame<'ctx, R: Reader> {
 
 impl<'ctx, R: Reader> Model for Frame<'ctx, R> {
     ghost use Rattle.std.specs.Prelude.{option_map};
-    ghost use Rattle.addr2line_units.specs.BorrowedLocations.{location_value};
-    ghost use Rattle.addr2line_units.specs.Frames.{Frame as FramePart};
+    ghost use Rattle.addr2line_ranges.specs.BorrowedLocations.{location_value};
+    ghost use Rattle.addr2line_ranges.specs.Frames.{Frame as FramePart};
 
     ghost Value = { FramePart };
 

@@ -2,8 +2,8 @@
 
 ghost use Rattle.std.specs.Prelude.{◌≡◌, [], Ok, Some, None, IsOk, IsTrue, OnOk, OnErr, option_map, option_to_list, slice_get};
 ghost use Rattle.gimli_units_entries.specs.Calls.{ReturnsOrNoMemory};
-ghost use Rattle.addr2line_units.specs.BorrowedLocations.{location_value};
-ghost use Rattle.addr2line_units.specs.Frames.{call_site, function_name, frame, frame_without_function};
+ghost use Rattle.addr2line_ranges.specs.BorrowedLocations.{location_value};
+ghost use Rattle.addr2line_ranges.specs.Frames.{call_site, function_name, frame, frame_without_function};
 ghost use Rattle.addr2line_functions.specs.CallNumbers.{IsLastCall};
 ghost use Rattle.addr2line_functions.specs.BorrowedLines.{files_in};
 ghost use Rattle.addr2line_functions.specs.BorrowedFrames.{function_value, frames_of_calls, frames_at_place, frames_left};
@@ -15,7 +15,7 @@ use crate::frame::{Frame, FunctionName};
 use crate::function::Function;
 use crate::function_at::FunctionAt;
 use crate::site::call_site;
-use addr2line_units::{LineIndex, Location};
+use addr2line_ranges::{LineIndex, Location};
 use gimli_units_entries::{DwLang, Error, Reader, UnitOffset};
 
 /// The remaining frames of an address, the innermost call first, each made when it is asked for. It

@@ -1,7 +1,7 @@
 //! A function of a unit.
 
 ghost use Rattle.std.specs.Prelude.{◌≡◌};
-ghost use Rattle.addr2line_units.specs.Functions.{ranges_of_function};
+ghost use Rattle.addr2line_ranges.specs.Functions.{ranges_of_function};
 ghost use Rattle.addr2line_functions.specs.CountedFunctions.{no_depth};
 
 use crate::numbered_range::HasRanges;
@@ -16,7 +16,7 @@ pub struct Function<O: ReaderOffset> {
 }
 
 impl<O: ReaderOffset> Model for Function<O> {
-    ghost use Rattle.addr2line_units.specs.Functions.{Function as FunctionPart};
+    ghost use Rattle.addr2line_ranges.specs.Functions.{Function as FunctionPart};
 
     ghost Value = { FunctionPart };
 

@@ -2,8 +2,8 @@
 
 ghost use Rattle.std.specs.Prelude.{◌≡◌, ◌++◌, [], option_map, option_to_list, slice_get, Ok, IfOk};
 ghost use Rattle.gimli_units_entries.specs.Calls.{ReturnsAsOrNoMemory, ReturnsOrNoMemory};
-ghost use Rattle.addr2line_units.specs.Functions.{functions_of_unit, function_at, function_number};
-ghost use Rattle.addr2line_units.specs.Searches.{AtMostProbes};
+ghost use Rattle.addr2line_ranges.specs.Functions.{functions_of_unit, function_at, function_number};
+ghost use Rattle.addr2line_ranges.specs.Searches.{AtMostProbes};
 ghost use Rattle.addr2line_functions.specs.CountedFunctions.{function_probes};
 ghost use Rattle.addr2line_functions.specs.EntryRowViews.{row_view};
 ghost use Rattle.addr2line_functions.specs.NextFunctions.{if_has_range, function_of_row, next_function, functions_from};
@@ -11,7 +11,7 @@ ghost use Rattle.addr2line_functions.specs.NextFunctions.{if_has_range, function
 use crate::function::Function;
 use crate::numbered_range::{NumberedRange, number_at, range_index};
 use crate::row::{EntryRow, next_row};
-use addr2line_units::{Probes, RangeIndex, UnitRef, ranges_of_entry};
+use addr2line_ranges::{Probes, RangeIndex, UnitRef, ranges_of_entry};
 use gimli_units_entries::{
     Attribute, DW_TAG_subprogram, EntriesRaw, Error, Range, Reader, ReaderOffset, UnitOffset,
 };
@@ -36,7 +36,7 @@ impl<O: ReaderOffset> Drop for Functions<O> {
 
 impl<O: ReaderOffset> Model for Functions<O> {
     ghost use Rattle.std.specs.Prelude.{◌≡◌};
-    ghost use Rattle.addr2line_units.specs.Functions.{ranges_of_function};
+    ghost use Rattle.addr2line_ranges.specs.Functions.{ranges_of_function};
     ghost use Rattle.addr2line_functions.specs.CountedFunctions.{CountedFunctions, no_depth};
     ghost use Rattle.addr2line_functions.specs.RangesByNumber.{numbered_ranges};
 

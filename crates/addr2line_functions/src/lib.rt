@@ -20,18 +20,16 @@ pub mod unit_names;
 mod walk;
 
 pub use addr2line_names::{DebugFile, HasUnit, HoldingUnit, KnownUnits};
-pub use addr2line_units::{
-    AbbreviationsCache, AbbreviationsCacheStrategy, ArangeIndex, Attribute, AttributeValue,
-    DW_LANG_Rust, DebugAbbrev, DebugAbbrevOffset, DebugAddr, DebugAddrIndex, DebugAranges,
-    DebugInfo, DebugLine, DebugLineStr, DebugLineStrOffset, DebugRanges, DebugRngLists,
-    DebugRngListsIndex, DebugStr, DebugStrOffset, DebugStrOffsets, DebugStrOffsetsIndex, DwLang,
-    Dwarf, DwarfFileType, DwoId, EndianBytes, EndianSlice, Error, Format, LastRanges, LineCursor,
-    LineIndex, Lines, LinesBuilder, LittleEndian, Location, LocationLists, Probes, Range,
-    RangeLists, RangeListsOffset, RangePlace, RawRangeListsOffset, Reader, ReaderOffsetId,
-    RootRanges, RowStretch, RunTimeEndian, Runs, SectionId, Unit, UnitHeader, UnitLines,
-    UnitOffset, UnitRange, UnitRanges, UnitRangesBuilder, UnitRef, UnitRoot, UnitType, file_text,
-    file_text_of_bytes, is_partial, is_rooted, join, language_of, ranges_of_attributes,
-    ranges_of_entry,
+pub use addr2line_ranges::{
+    AbbreviationsCache, AbbreviationsCacheStrategy, Attribute, AttributeValue, DW_LANG_Rust,
+    DebugAbbrev, DebugAbbrevOffset, DebugAddr, DebugAddrIndex, DebugAranges, DebugInfo, DebugLine,
+    DebugLineStr, DebugLineStrOffset, DebugRanges, DebugRngLists, DebugRngListsIndex, DebugStr,
+    DebugStrOffset, DebugStrOffsets, DebugStrOffsetsIndex, DwLang, Dwarf, DwarfFileType, DwoId,
+    EndianBytes, EndianSlice, Error, Format, LineCursor, LineIndex, Lines, LinesBuilder,
+    LittleEndian, Location, LocationLists, Probes, Range, RangeLists, RangeListsOffset, RangePlace,
+    RawRangeListsOffset, Reader, ReaderOffsetId, RowStretch, RunTimeEndian, SectionId, Unit,
+    UnitHeader, UnitOffset, UnitRange, UnitRanges, UnitRangesBuilder, UnitRef, UnitType, file_text,
+    file_text_of_bytes, is_rooted, join, ranges_of_entry,
 };
 pub use call::Call;
 pub use calls::{FunctionCalls, calls_of_function};

@@ -4,7 +4,7 @@ ghost use Rattle.std.specs.Prelude.{None, option_map};
 ghost use Rattle.gimli_units_entries.specs.Calls.{ReturnsAsOrNoMemory};
 ghost use Rattle.gimli_units_entries.specs.AttributeValues.{raw_attribute_of};
 ghost use Rattle.gimli_units_entries.specs.EntryViews.{raw_attributes};
-ghost use Rattle.addr2line_units.specs.InlinedCalls.{Naming, name_by};
+ghost use Rattle.addr2line_ranges.specs.InlinedCalls.{Naming, name_by};
 
 use gimli_units_entries::{Attribute, Error, Reader};
 

@@ -3,11 +3,11 @@
 ghost use Rattle.std.specs.Prelude.{◌≡◌, ◌++◌, ℕ, List, length, Ok};
 ghost use Rattle.gimli_units_entries.specs.Calls.{ReturnsAsOrNoMemory, ReturnsOrNoMemory};
 ghost use Rattle.gimli_units_entries.specs.Range.{Range as RangePart};
-ghost use Rattle.addr2line_units.specs.Searches.{AtMostProbes};
+ghost use Rattle.addr2line_ranges.specs.Searches.{AtMostProbes};
 ghost use Rattle.addr2line_functions.specs.RangesByNumber.{depth_of, range_of, of_number, numbered_ranges, number_at};
 ghost use Rattle.addr2line_functions.specs.CountedFunctions.{search_probes};
 
-use addr2line_units::{Probes, RangeIndex, Ranged};
+use addr2line_ranges::{Probes, RangeIndex, Ranged};
 use gimli_units_entries::{Error, Range};
 use std::alloc::Global;
 

@@ -3,7 +3,7 @@
 ghost use Rattle.std.specs.Prelude.{◌≡◌, ◌==◌};
 ghost use Rattle.gimli_units_entries.specs.EntryViews.{raw_attributes};
 ghost use Rattle.gimli_units_entries.specs.AttributeValues.{raw_attribute_of};
-ghost use Rattle.addr2line_units.specs.InlinedCalls.{unsigned_in, last_unsigned, call_file, number_or_0};
+ghost use Rattle.addr2line_ranges.specs.InlinedCalls.{unsigned_in, last_unsigned, call_file, number_or_0};
 
 use gimli_units_entries::{Attribute, DW_AT_call_file, DwAt, Reader};
 

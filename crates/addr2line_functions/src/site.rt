@@ -1,12 +1,12 @@
 //! The places that call.
 
 ghost use Rattle.std.specs.Prelude.{◌≡◌, option_map, option_and_then, slice_get};
-ghost use Rattle.addr2line_units.specs.BorrowedLocations.{location_value};
-ghost use Rattle.addr2line_units.specs.Frames.{nonzero, call_site};
+ghost use Rattle.addr2line_ranges.specs.BorrowedLocations.{location_value};
+ghost use Rattle.addr2line_ranges.specs.Frames.{nonzero, call_site};
 ghost use Rattle.addr2line_functions.specs.BorrowedLines.{files_in};
 
 use crate::Call;
-use addr2line_units::{LineIndex, Location};
+use addr2line_ranges::{LineIndex, Location};
 use gimli_units_entries::Reader;
 
 // A line or a column, if it is known; 0 is not.

@@ -3,7 +3,7 @@
 ghost use Rattle.std.specs.Prelude.{◌≡◌, ◌++◌, option_to_list, Ok};
 ghost use Rattle.gimli_units_entries.specs.Calls.{ReturnsAsOrNoMemory, ReturnsOrNoMemory};
 ghost use Rattle.addr2line_functions.specs.EntryRowViews.{row_view};
-ghost use Rattle.addr2line_units.specs.InlinedCalls.{call_at, calls_among, entries_of};
+ghost use Rattle.addr2line_ranges.specs.InlinedCalls.{call_at, calls_among, entries_of};
 ghost use Rattle.addr2line_functions.specs.CallNesting.{call_if, next_call};
 
 use crate::call::Call;
@@ -12,7 +12,7 @@ use crate::naming::Names;
 use crate::nesting::Nesting;
 use crate::place::{call_file, number_or_0};
 use crate::{EntryRow, next_row};
-use addr2line_units::{UnitRef, entry_ranges};
+use addr2line_ranges::{UnitRef, entry_ranges};
 use gimli_units_entries::{
     Attribute, DW_AT_call_column, DW_AT_call_line, EntriesRaw, Error, Reader,
 };

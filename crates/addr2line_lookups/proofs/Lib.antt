@@ -1,34 +1,24 @@
-pub use Rattle.addr2line_resolved.proofs.NewUnits
-pub use Rattle.addr2line_resolved.proofs.UnitsInOrder
-pub use Rattle.addr2line_resolved.proofs.UnitAnswers
-pub use Rattle.addr2line_resolved.proofs.PendingLoads
-pub mod ContextOfUnits
-pub mod KeptLines
+pub use Rattle.addr2line_unit_lookups.proofs.NewUnits
+pub use Rattle.addr2line_unit_lookups.proofs.UnitsInOrder
+pub use Rattle.addr2line_unit_lookups.proofs.UnitAnswers
+pub use Rattle.addr2line_unit_lookups.proofs.PendingLoads
+pub use Rattle.addr2line_unit_lookups.proofs.AnsweredLoads
+pub use Rattle.addr2line_unit_lookups.proofs.AskedFunctions
+pub use Rattle.addr2line_unit_lookups.proofs.AskedLines
+pub use Rattle.addr2line_unit_lookups.proofs.CallsLeft
+pub use Rattle.addr2line_unit_lookups.proofs.ContextOfUnits
+pub use Rattle.addr2line_unit_lookups.proofs.KeptLines
+pub use Rattle.addr2line_unit_lookups.proofs.PassedUnits
+pub use Rattle.addr2line_unit_lookups.proofs.PendingUnits
+pub use Rattle.addr2line_unit_lookups.proofs.UnitChanges
+pub use Rattle.addr2line_unit_lookups.proofs.UnitProbes
+pub use Rattle.addr2line_unit_lookups.proofs.UnitRows
 mod RangeSteps
-pub mod UnitProbes
-pub mod UnitRows
-pub mod PendingUnits
 mod ListedLoads
-pub mod AnsweredLoads
-pub mod CallsLeft
 mod UnitCalls
-mod UnitTurns
 pub mod UnitWalks
 mod KeptCallsAt
 pub mod ParsedUnits
-mod CallsOfUnits
-mod FoundFunctions
-mod FoundFrames
-mod LookupProbes
-mod SettledUnits
-mod FirstLoads
-pub mod PassedUnits
-pub mod UnitChanges
-pub mod AskedLines
 mod AskedStretches
 pub mod RangeUnits
-mod KeptFunctionLists
 mod KeptAhead
-pub mod AskedFunctions
-mod ReadLines
-mod AddressSearches

@@ -3,27 +3,27 @@ use Rattle.std.proofs.Common.{◌≡◌, ℕ, max, min, List, [], ◌∷◌, dro
 use Rattle.std.specs.Prelude.{◌≢◌, option_and_then}
 use Rattle.std.specs.Borrow.{Bor}
 use Rattle.std.proofs.lemmas.Option.{slice_get-map}
-use Rattle.addr2line_resolved.specs.Error.{Error}
-use Rattle.addr2line_resolved.specs.Error.TheVariants.{Memory}
-use Rattle.addr2line_resolved.specs.Repetition.{no_items, prepend}
-use Rattle.addr2line_resolved.specs.Results.{and_then}
-use Rattle.addr2line_resolved.specs.Lines.{Lines, row_location}
-use Rattle.addr2line_resolved.specs.Contexts.{ContextUnit, ranges_of, lines_of}
-use Rattle.addr2line_resolved.specs.PlaceLookups.{stretches_between}
-use Rattle.addr2line_resolved.specs.UnitRange.{UnitRange}
-use Rattle.addr2line_resolved.specs.RangePlace.{RangePlace}
-use Rattle.addr2line_resolved.specs.UnitPlaces.{UnitPlaces}
-use Rattle.addr2line_resolved.specs.NumberedRanges.{overlapping_ranges}
-use Rattle.addr2line_resolved.specs.RangeIndexLaws.{stretches_from}
-use Rattle.addr2line_resolved.specs.LineCursor.{LineCursor}
-use Rattle.addr2line_resolved.specs.LineCursors.{lines_left}
-use Rattle.addr2line_resolved.specs.RowStretch.{RowStretch}
-use Rattle.addr2line_resolved.specs.Stretches.{stretch_of_row}
-use Rattle.addr2line_resolved.specs.StretchesLeft.{stretches_from_index}
-use Rattle.addr2line_resolved.specs.ContextUnits.{unit_places, ordered_ranges}
-use Rattle.addr2line_resolved.specs.ResolvedUnits.{location_of_row}
-use Rattle.addr2line_resolved.proofs.UnitViews.{stretches_of_views, stretches_by_numbers}
-use Rattle.addr2line_lookups.specs.KeptUnits.{lines_if_unit, lines_at}
+use Rattle.addr2line_unit_lookups.specs.Error.{Error}
+use Rattle.addr2line_unit_lookups.specs.Error.TheVariants.{Memory}
+use Rattle.addr2line_unit_lookups.specs.Repetition.{no_items, prepend}
+use Rattle.addr2line_unit_lookups.specs.Results.{and_then}
+use Rattle.addr2line_unit_lookups.specs.Lines.{Lines, row_location}
+use Rattle.addr2line_unit_lookups.specs.Contexts.{ContextUnit, ranges_of, lines_of}
+use Rattle.addr2line_unit_lookups.specs.PlaceLookups.{stretches_between}
+use Rattle.addr2line_unit_lookups.specs.UnitRange.{UnitRange}
+use Rattle.addr2line_unit_lookups.specs.RangePlace.{RangePlace}
+use Rattle.addr2line_unit_lookups.specs.UnitPlaces.{UnitPlaces}
+use Rattle.addr2line_unit_lookups.specs.NumberedRanges.{overlapping_ranges}
+use Rattle.addr2line_unit_lookups.specs.RangeIndexLaws.{stretches_from}
+use Rattle.addr2line_unit_lookups.specs.LineCursor.{LineCursor}
+use Rattle.addr2line_unit_lookups.specs.LineCursors.{lines_left}
+use Rattle.addr2line_unit_lookups.specs.RowStretch.{RowStretch}
+use Rattle.addr2line_unit_lookups.specs.Stretches.{stretch_of_row}
+use Rattle.addr2line_unit_lookups.specs.StretchesLeft.{stretches_from_index}
+use Rattle.addr2line_unit_lookups.specs.ContextUnits.{unit_places, ordered_ranges}
+use Rattle.addr2line_unit_lookups.specs.ResolvedUnits.{location_of_row}
+use Rattle.addr2line_unit_lookups.proofs.UnitViews.{stretches_of_views, stretches_by_numbers}
+use Rattle.addr2line_unit_lookups.specs.KeptUnits.{lines_if_unit, lines_at}
 use Rattle.addr2line_lookups.specs.RangeWalks.{clipped_left, unit_left, rows_left, BeginsRange, FirstStretch, NextInRange, NextOfRows, walk_left, stretches_left, FindsStretch}
 use Rattle.addr2line_lookups.specs.declared.range_walk.RangeRows.{RangeRows}
 use Rattle.addr2line_lookups.specs.declared.range_walk.RangeWalk.{RangeWalk}

@@ -1,43 +1,40 @@
 //! The units of a context with their ranges, in the order in which lookups ask them.
 
 ghost use Rattle.std.specs.Prelude.{◌≡◌, ◌≢◌, [], None, Ok, Err, map, option_map, IfOk, OnOk, IfErr};
-ghost use Rattle.addr2line_resolved.specs.Calls.{ReturnsAsOrNoMemory, ReturnsOrNoMemory};
-ghost use Rattle.addr2line_resolved.specs.Error.TheVariants.{Memory};
-ghost use Rattle.addr2line_resolved.specs.Contexts.{all_lines_or_refusal};
-ghost use Rattle.addr2line_resolved.specs.BorrowedLocations.{location_value};
-ghost use Rattle.addr2line_resolved.specs.Lookups.{one_each};
-ghost use Rattle.addr2line_resolved.specs.NumberedRanges.{covering_ranges};
-ghost use Rattle.addr2line_resolved.specs.ContextUnits.{ordered_ranges};
-ghost use Rattle.addr2line_resolved.specs.ResolvedUnits.{plain_unit, value_of_unit};
-ghost use Rattle.addr2line_lookups.specs.KeptCalls.{LeavesCalls, HoldCalls, known_among};
-ghost use Rattle.addr2line_lookups.specs.LoadAnswers.{AnswersOrNoMemory, answer_at};
-ghost use Rattle.addr2line_lookups.specs.Preloads.{load_at, loads_at, load_of_item, first_number, first_load};
-ghost use Rattle.addr2line_lookups.specs.FramePlaces.{LendsFrames};
-ghost use Rattle.addr2line_lookups.specs.PassedUnits.{Pass, PassFrames, PassUnits, PassLoads, PassedAreKept, AsksFramesAmong, AsksUnitAmong, KeepsAskedFunctions};
-ghost use Rattle.addr2line_lookups.specs.UnitLookups.{frames_among, SettlesFrames, unit_among, SettlesUnit, unit_at_number};
-ghost use Rattle.addr2line_lookups.specs.AddressSearches.{SettlesAmong};
-ghost use Rattle.addr2line_resolved.specs.BorrowedFrames.{frames_left};
-ghost use Rattle.addr2line_lookups.specs.KeptUnits.{KeepsAt, KeepsFound, KeepsAsked, ReadsAsked, ReadsNoLines, ReadsAskedFunctions, ReadsNoFunctions, AsksForRow, AsksForLines, FindsRow, location_of_unit_row};
+ghost use Rattle.addr2line_unit_lookups.specs.Calls.{ReturnsAsOrNoMemory, ReturnsOrNoMemory};
+ghost use Rattle.addr2line_unit_lookups.specs.Error.TheVariants.{Memory};
+ghost use Rattle.addr2line_unit_lookups.specs.Contexts.{all_lines_or_refusal};
+ghost use Rattle.addr2line_unit_lookups.specs.BorrowedLocations.{location_value};
+ghost use Rattle.addr2line_unit_lookups.specs.Lookups.{one_each};
+ghost use Rattle.addr2line_unit_lookups.specs.NumberedRanges.{covering_ranges};
+ghost use Rattle.addr2line_unit_lookups.specs.ContextUnits.{ordered_ranges};
+ghost use Rattle.addr2line_unit_lookups.specs.ResolvedUnits.{plain_unit, value_of_unit};
+ghost use Rattle.addr2line_unit_lookups.specs.KeptCalls.{LeavesCalls, HoldCalls, known_among};
+ghost use Rattle.addr2line_unit_lookups.specs.LoadAnswers.{AnswersOrNoMemory, answer_at};
+ghost use Rattle.addr2line_unit_lookups.specs.Preloads.{load_at, loads_at, load_of_item, first_number, first_load};
+ghost use Rattle.addr2line_unit_lookups.specs.FramePlaces.{LendsFrames};
+ghost use Rattle.addr2line_unit_lookups.specs.PassedUnits.{Pass, PassFrames, PassUnits, PassLoads, PassedAreKept, AsksFramesAmong, AsksUnitAmong, KeepsAskedFunctions};
+ghost use Rattle.addr2line_unit_lookups.specs.UnitLookups.{frames_among, SettlesFrames, unit_among, SettlesUnit, unit_at_number};
+ghost use Rattle.addr2line_unit_lookups.specs.AddressSearches.{SettlesAmong};
+ghost use Rattle.addr2line_unit_lookups.specs.BorrowedFrames.{frames_left};
+ghost use Rattle.addr2line_unit_lookups.specs.KeptUnits.{KeepsAt, KeepsFound, KeepsAsked, ReadsAsked, ReadsNoLines, ReadsAskedFunctions, ReadsNoFunctions, AsksForRow, AsksForLines, FindsRow, location_of_unit_row};
 ghost use Rattle.addr2line_lookups.specs.RangeWalks.{FindsStretch, KeepsStretch, stretches_left, AsksForNextStretch, StaysOnItsWay};
-ghost use Rattle.addr2line_lookups.specs.LookupCosts.{AtMostLooks, row_probes_at, frame_probes_at, probes_among};
-ghost use Rattle.addr2line_lookups.specs.UnitParses.{WalksOrNoMemory, KeepsParsed, KeepAllCalls, check_functions_of, check_calls_of};
+ghost use Rattle.addr2line_unit_lookups.specs.LookupCosts.{AtMostLooks, row_probes_at, frame_probes_at, probes_among};
+ghost use Rattle.addr2line_unit_lookups.specs.UnitParses.{WalksOrNoMemory, KeepsParsed, KeepAllCalls, check_functions_of, check_calls_of};
 
 use crate::address_search::{AddressSearch, FrameSearch, UnitSearch};
-use crate::frame_place::{FramePlace, frames_at_place};
-use crate::load_answers::answer_at;
 use crate::lookups::{functions_unit_at, settle};
 use crate::parsing::check_lines;
 use crate::parsing_calls::check_calls;
 use crate::parsing_functions::check_functions;
 use crate::preload::pending_loads;
 use crate::range_walk::{RangeWalk, UnitStretch, next_stretch};
-use crate::settle::{UnitRow, find_row, place_in};
-use crate::settled::Settled;
 use crate::token::UnitToken;
 use crate::waiting::{copy_load_at, first_waiting};
-use addr2line_resolved::{
-    Dwarf, Error, FrameIter, Location, Reader, ResUnit, SplitDwarfLoad, Unit, UnitRanges, UnitRef,
-    frame_without_function, ordered_ranges,
+use addr2line_unit_lookups::{
+    Dwarf, Error, FrameIter, FramePlace, Location, Reader, ResUnit, Settled, SplitDwarfLoad, Unit,
+    UnitRanges, UnitRef, UnitRow, answer_at, find_row, frame_without_function, frames_at_place,
+    ordered_ranges, place_in,
 };
 use std::alloc::Global;
 use std::marker::Model;
@@ -61,8 +58,8 @@ impl<R: Reader> Drop for Units<R> {
 
 impl<R: Reader> Model for Units<R> {
     ghost use Rattle.std.specs.Prelude.{◌≡◌, List, map};
-    ghost use Rattle.addr2line_resolved.specs.ContextUnits.{ordered_ranges};
-    ghost use Rattle.addr2line_resolved.specs.ResolvedUnits.{ResolvedUnit, plain_unit};
+    ghost use Rattle.addr2line_unit_lookups.specs.ContextUnits.{ordered_ranges};
+    ghost use Rattle.addr2line_unit_lookups.specs.ResolvedUnits.{ResolvedUnit, plain_unit};
 
     ghost Value = { List ResolvedUnit };
 

@@ -3,21 +3,21 @@ use Rattle.std.proofs.Common.{◌≡◌, ◌≢◌, ℕ, zero, suc, ◌<◌, Boo
 use Rattle.std.specs.Prelude.{option_and_then}
 use Rattle.std.proofs.lemmas.List.{length-replicate, length-set, map-set}
 use Rattle.std.proofs.lemmas.Option.{slice_get-map, slice_get_within}
-use Rattle.addr2line_functions.specs.Error.{Error}
-use Rattle.addr2line_functions.specs.Error.TheVariants.{Memory}
-use Rattle.addr2line_functions.specs.Calls.{Returns, ReturnsAsOrNoMemory}
-use Rattle.addr2line_functions.specs.Results.{and_then}
-use Rattle.addr2line_functions.specs.UnitFacts.{UnitInFile}
-use Rattle.addr2line_functions.specs.Pairs.{Pair}
-use Rattle.addr2line_functions.specs.Functions.{Function, functions_of_unit, range_at, function_number}
-use Rattle.addr2line_functions.specs.InlinedCalls.{FunctionCalls, Naming, calls_of_function}
-use Rattle.addr2line_functions.specs.EntryReferences.{HoldingUnit}
-use Rattle.addr2line_functions.specs.FirstAnswers.{SplitLoad, FirstAnswer, load_of}
-use Rattle.addr2line_functions.specs.CountedFunctions.{CountedFunctions, CountedCalls}
-use Rattle.addr2line_functions.proofs.RangeNumbers.{function_of_number}
-use Rattle.addr2line_units.specs.ProbedLists.{ProbeCount}
-use Rattle.addr2line_units.specs.Searches.{AtMostProbes}
-use Rattle.addr2line_resolved.specs.KeptFunctions.{KeptFunctions, nothing_kept, IfKept, kept_at, function_in, number_in, number_probes, kept_number, kept_number_probes, kept_function_in, plain_functions, plain_calls, count_of_functions, function_count, calls_of_none, functions_read, calls_read, function_with, kept_function, function_at_number}
+use Rattle.addr2line_kept.specs.Error.{Error}
+use Rattle.addr2line_kept.specs.Error.TheVariants.{Memory}
+use Rattle.addr2line_kept.specs.Calls.{Returns, ReturnsAsOrNoMemory}
+use Rattle.addr2line_kept.specs.Results.{and_then}
+use Rattle.addr2line_kept.specs.UnitFacts.{UnitInFile}
+use Rattle.addr2line_kept.specs.Pairs.{Pair}
+use Rattle.addr2line_kept.specs.Functions.{Function, functions_of_unit, range_at, function_number}
+use Rattle.addr2line_kept.specs.InlinedCalls.{FunctionCalls, Naming, calls_of_function}
+use Rattle.addr2line_kept.specs.EntryReferences.{HoldingUnit}
+use Rattle.addr2line_kept.specs.FirstAnswers.{SplitLoad, FirstAnswer, load_of}
+use Rattle.addr2line_kept.specs.CountedFunctions.{CountedFunctions, CountedCalls}
+use Rattle.addr2line_kept.proofs.RangeNumbers.{function_of_number}
+use Rattle.addr2line_kept.specs.ProbedLists.{ProbeCount}
+use Rattle.addr2line_kept.specs.Searches.{AtMostProbes}
+use Rattle.addr2line_kept.specs.KeptFunctions.{KeptFunctions, nothing_kept, IfKept, kept_at, function_in, number_in, number_probes, kept_number, kept_number_probes, kept_function_in, plain_functions, plain_calls, count_of_functions, function_count, calls_of_none, functions_read, calls_read, function_with, kept_function, function_at_number}
 use Rattle.addr2line_resolved.specs.ResolvedUnits.{undecided, decided, functions_under, calls_of, calls_of_number, functions_of, with_functions, with_calls, IsKeptOf, if_kept, AreFunctionsOf, KeepsFunctions, KeepsCallsOf, ResolvedUnit}
 
 -- ---- by numbers
@@ -368,11 +368,6 @@ plain_calls_read k number read = map-set (option_map plain_calls) k.calls number
 pub plain_calls_of_none : (n : ℕ) → map (option_map plain_calls) (calls_of_none n) ≡ calls_of_none n
 plain_calls_of_none zero = refl
 plain_calls_of_none (suc n) = ap (λ l. None ∷ l) (plain_calls_of_none n)
-
--- all of them
-pub none_read_all : {A : Type 0} (xs : List (Option A)) (n m : ℕ) → xs ≡ calls_of_none n → n ≤ m → m ≤ n
-    → xs ≡ calls_of_none m
-none_read_all xs n m is most least = let same : n ≡ m = omega arith in is ∙ ap (λ k. calls_of_none k) same
 
 -- the function of a number, if there is one
 pub function_is_any : (k : KeptFunctions) (meaning : Result (List Function) Error) (n : Option ℕ)

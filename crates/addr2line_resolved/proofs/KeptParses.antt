@@ -1,17 +1,17 @@
 -- What is kept of a unit is what the definitions say.
 use Rattle.std.proofs.Common.{◌≡◌, ◌≢◌, ℕ, ◌+◌, List, true, false, Option, Some, None, is_some, Result, Ok, Err, refl, sym, ap, subst, ◌∙◌, arith}
 use Rattle.std.specs.Prelude.{OnOk, OnErr}
-use Rattle.addr2line_functions.specs.Error.{Error}
-use Rattle.addr2line_functions.specs.Error.TheVariants.{Memory}
-use Rattle.addr2line_functions.specs.UnitFacts.{UnitInFile}
-use Rattle.addr2line_functions.specs.Range.{Range}
-use Rattle.addr2line_functions.specs.UnitLines.{lines_of_unit}
-use Rattle.addr2line_functions.specs.UnitRanges.{ranges_of_lines}
-use Rattle.addr2line_units.specs.CountedRuns.{runs_for_lines}
-use Rattle.addr2line_units.specs.LineIndexes.{CountedLines, counted_lines}
-use Rattle.addr2line_units.specs.RootRanges.{RunsForRanges}
-use Rattle.addr2line_functions.specs.FirstAnswers.{SplitLoad, FirstAnswer, load_of}
-use Rattle.addr2line_resolved.specs.KeptFunctions.{KeptFunctions, nothing_kept}
+use Rattle.addr2line_kept.specs.Error.{Error}
+use Rattle.addr2line_kept.specs.Error.TheVariants.{Memory}
+use Rattle.addr2line_kept.specs.UnitFacts.{UnitInFile}
+use Rattle.addr2line_kept.specs.Range.{Range}
+use Rattle.addr2line_kept.specs.UnitLines.{lines_of_unit}
+use Rattle.addr2line_kept.specs.UnitRanges.{ranges_of_lines}
+use Rattle.addr2line_kept.specs.CountedRuns.{runs_for_lines}
+use Rattle.addr2line_kept.specs.LineIndexes.{CountedLines, counted_lines}
+use Rattle.addr2line_kept.specs.RootRanges.{RunsForRanges}
+use Rattle.addr2line_kept.specs.FirstAnswers.{SplitLoad, FirstAnswer, load_of}
+use Rattle.addr2line_kept.specs.KeptFunctions.{KeptFunctions, nothing_kept}
 use Rattle.addr2line_resolved.specs.ResolvedUnits.{ResolvedUnit, main_unit, decided, first_answer, unit_of_functions, IsKeptOf, if_kept, runs_if_kept, KeepsFunctions, KeepsParses}
 use Rattle.addr2line_resolved.proofs.FunctionParses.{keeps_nothing}
 

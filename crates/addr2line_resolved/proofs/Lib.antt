@@ -4,9 +4,9 @@ pub mod NewUnits
 pub mod UnitOrder
 pub mod UnitReading
 pub mod UnitsInOrder
-pub use Rattle.addr2line_functions.proofs.UnitAnswers
-pub use Rattle.addr2line_functions.proofs.UnitViews
-pub use Rattle.addr2line_functions.proofs.PendingLoads
+pub use Rattle.addr2line_kept.proofs.UnitAnswers
+pub use Rattle.addr2line_kept.proofs.UnitViews
+pub use Rattle.addr2line_kept.proofs.PendingLoads
 pub mod ResolvedViews
-pub use Rattle.addr2line_functions.proofs.RangeNumbers
-pub use Rattle.addr2line_functions.proofs.NumberedCalls
+pub use Rattle.addr2line_kept.proofs.RangeNumbers
+pub use Rattle.addr2line_kept.proofs.NumberedCalls

@@ -1,14 +1,14 @@
 -- The units that are made for a context are the definition's.
 use Rattle.std.proofs.Common.{◌≡◌, List, [], ◌∷◌, map, Option, None, Some, Result, Ok, Err, refl, ap, ◌∙◌}
 use Rattle.std.specs.List.{filter_map}
-use Rattle.addr2line_functions.specs.Error.{Error}
-use Rattle.addr2line_functions.specs.Repetition.{fault_of}
-use Rattle.addr2line_functions.specs.Results.{and_then, unless, each}
-use Rattle.addr2line_functions.specs.DwarfFiles.{DwarfFile}
-use Rattle.addr2line_functions.specs.EntryRows.{Row}
-use Rattle.addr2line_functions.specs.UnitFacts.{UnitFacts, UnitInFile, in_file}
-use Rattle.addr2line_functions.specs.UnitLines.{lines_of_unit}
-use Rattle.addr2line_functions.specs.Contexts.{ContextUnit, context_unit, unit_of_entry, facts_of_code_unit, headers_of, units_of_file}
+use Rattle.addr2line_kept.specs.Error.{Error}
+use Rattle.addr2line_kept.specs.Repetition.{fault_of}
+use Rattle.addr2line_kept.specs.Results.{and_then, unless, each}
+use Rattle.addr2line_kept.specs.DwarfFiles.{DwarfFile}
+use Rattle.addr2line_kept.specs.EntryRows.{Row}
+use Rattle.addr2line_kept.specs.UnitFacts.{UnitFacts, UnitInFile, in_file}
+use Rattle.addr2line_kept.specs.UnitLines.{lines_of_unit}
+use Rattle.addr2line_kept.specs.Contexts.{ContextUnit, context_unit, unit_of_entry, facts_of_code_unit, headers_of, units_of_file}
 use Rattle.addr2line_resolved.specs.ResolvedUnits.{AnsweredUnit, HasRoot, without_answer, new_unit, new_units}
 
 -- a unit of a context, by its root

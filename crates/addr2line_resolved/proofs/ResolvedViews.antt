@@ -1,13 +1,13 @@
 -- A unit as contracts see it, after functions or calls were kept.
 use Rattle.std.proofs.Common.{◌≡◌, ◌≢◌, ℕ, ◌<◌, Bool, true, false, cond, List, length, map, Option, Some, None, is_some, option_map, Result, Ok, Err, IfOk, IfSome, OnOk, sym, ap, ◌∙◌, arith}
 use Rattle.std.proofs.lemmas.List.{length-map}
-use Rattle.addr2line_functions.specs.Error.{Error}
-use Rattle.addr2line_functions.specs.Error.TheVariants.{Memory}
-use Rattle.addr2line_functions.specs.Calls.{ReturnsAsOrNoMemory}
-use Rattle.addr2line_functions.specs.InlinedCalls.{FunctionCalls}
-use Rattle.addr2line_functions.specs.CountedFunctions.{CountedFunctions, CountedCalls}
-use Rattle.addr2line_units.specs.ProbedLists.{ProbeCount}
-use Rattle.addr2line_resolved.specs.KeptFunctions.{KeptFunctions, plain_functions, plain_calls, count_of_functions, function_count, calls_of_none, functions_read, calls_read}
+use Rattle.addr2line_kept.specs.Error.{Error}
+use Rattle.addr2line_kept.specs.Error.TheVariants.{Memory}
+use Rattle.addr2line_kept.specs.Calls.{ReturnsAsOrNoMemory}
+use Rattle.addr2line_kept.specs.InlinedCalls.{FunctionCalls}
+use Rattle.addr2line_kept.specs.CountedFunctions.{CountedFunctions, CountedCalls}
+use Rattle.addr2line_kept.specs.ProbedLists.{ProbeCount}
+use Rattle.addr2line_kept.specs.KeptFunctions.{KeptFunctions, plain_functions, plain_calls, count_of_functions, function_count, calls_of_none, functions_read, calls_read}
 use Rattle.addr2line_resolved.specs.ResolvedUnits.{AnsweredUnit, ResolvedUnit, functions_of, with_functions, with_calls}
 use Rattle.addr2line_resolved.proofs.FunctionParses.{functions_are_read, plain_calls_read, plain_calls_of_none}
 

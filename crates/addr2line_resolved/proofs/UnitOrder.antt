@@ -3,9 +3,9 @@ use Rattle.std.proofs.Common.{◌≡◌, ℕ, ◌+◌, ◌<◌, ◌≤◌, List,
 use Rattle.std.proofs.lemmas.List.{map-append, length-map, length-take-le, take_all}
 use Rattle.std.proofs.lemmas.Simd.{map-map}
 use Rattle.std.proofs.Math.Seq.{take-suc}
-use Rattle.addr2line_functions.specs.Range.{Range}
-use Rattle.addr2line_functions.specs.Contexts.{ContextUnit, ranges_of}
-use Rattle.addr2line_functions.specs.NumberedRanges.{unit_ranges}
+use Rattle.addr2line_kept.specs.Range.{Range}
+use Rattle.addr2line_kept.specs.Contexts.{ContextUnit, ranges_of}
+use Rattle.addr2line_kept.specs.NumberedRanges.{unit_ranges}
 use Rattle.addr2line_resolved.specs.ContextUnits.{unit_places, ordered_ranges}
 use Rattle.addr2line_resolved.specs.ResolvedUnits.{ResolvedUnit, plain_unit}
 

@@ -3,13 +3,13 @@ use Rattle.std.proofs.Common.{◌≡◌, ◌≢◌, List, [], ◌∷◌, ◌++�
 use Rattle.std.proofs.lemmas.List.{append-nil}
 use Rattle.std.specs.List.{filter_map, cons_option}
 use Rattle.std.specs.Option.{option_to_list}
-use Rattle.addr2line_functions.specs.Error.{Error}
-use Rattle.addr2line_functions.specs.Error.TheVariants.{Memory}
-use Rattle.addr2line_functions.specs.Repetition.{Listing, prepend, fault_of}
-use Rattle.addr2line_functions.specs.View.{View}
-use Rattle.addr2line_functions.specs.Iterators.{ComesNext}
-use Rattle.addr2line_functions.specs.Results.{and_then, some_of, unless, each}
-use Rattle.addr2line_functions.specs.OptionalValues.{if_any}
+use Rattle.addr2line_kept.specs.Error.{Error}
+use Rattle.addr2line_kept.specs.Error.TheVariants.{Memory}
+use Rattle.addr2line_kept.specs.Repetition.{Listing, prepend, fault_of}
+use Rattle.addr2line_kept.specs.View.{View}
+use Rattle.addr2line_kept.specs.Iterators.{ComesNext}
+use Rattle.addr2line_kept.specs.Results.{and_then, some_of, unless, each}
+use Rattle.addr2line_kept.specs.OptionalValues.{if_any}
 
 -- what comes after a list
 abbrev pub append_to : {C : Type 0} → List C → Result (List C) Error → Result (List C) Error

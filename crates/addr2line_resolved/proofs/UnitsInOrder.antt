@@ -2,23 +2,23 @@
 -- lie end to end.
 use Rattle.std.proofs.Common.{◌≡◌, ℕ, zero, suc, ◌+◌, ◌<◌, ◌≤◌, Bool, true, false, cond, List, [], ◌∷◌, length, get_or, map, Option, Some, None, Result, Ok, Err, refl, sym, ap, ◌∙◌, subst, arith}
 use Rattle.std.specs.List.{filter_map, cons_option}
-use Rattle.addr2line_functions.proofs.TilingLemmas.{parts_tile}
-use Rattle.addr2line_functions.proofs.UnitHeaderLemmas.{units_are_parts}
-use Rattle.addr2line_functions.specs.TableParsing.{table_at}
-use Rattle.addr2line_functions.specs.Declarations.{Declaration}
-use Rattle.addr2line_functions.specs.Error.{Error}
-use Rattle.addr2line_functions.specs.View.{View}
-use Rattle.addr2line_functions.specs.Repetition.{fault_of}
-use Rattle.addr2line_functions.specs.Results.{and_then, unless, each}
-use Rattle.addr2line_functions.specs.Tiling.{Tile}
-use Rattle.addr2line_functions.specs.UnitHeaders.{DebugUnit, unit, length_including_self}
-use Rattle.addr2line_functions.specs.AttributeValues.{RawAttribute}
-use Rattle.addr2line_functions.specs.DwarfFiles.{DwarfFile}
-use Rattle.addr2line_functions.specs.UnitFacts.{UnitFacts, UnitInFile, in_file, unit_facts, facts_of as facts_of_unit, root, bases_of, readable_text, last_value, last_value_of_kind, line_reference_of, line_header_of, address_or_0, is_name, is_comp_dir, is_stmt_list, is_low_pc}
-use Rattle.addr2line_functions.specs.Contexts.{ContextUnit, context_unit, partial_unit, is_of_types, readable_facts, facts_of_code_unit, headers_of, units_of_file, units_of_supplement}
-use Rattle.addr2line_functions.specs.UnitLines.{lines_of_unit}
-use Rattle.addr2line_functions.specs.UnitRanges.{is_partial, ranges_of_attributes}
-use Rattle.addr2line_functions.specs.OrderedUnits.{unit_offset, AreInOrder}
+use Rattle.addr2line_kept.proofs.TilingLemmas.{parts_tile}
+use Rattle.addr2line_kept.proofs.UnitHeaderLemmas.{units_are_parts}
+use Rattle.addr2line_kept.specs.TableParsing.{table_at}
+use Rattle.addr2line_kept.specs.Declarations.{Declaration}
+use Rattle.addr2line_kept.specs.Error.{Error}
+use Rattle.addr2line_kept.specs.View.{View}
+use Rattle.addr2line_kept.specs.Repetition.{fault_of}
+use Rattle.addr2line_kept.specs.Results.{and_then, unless, each}
+use Rattle.addr2line_kept.specs.Tiling.{Tile}
+use Rattle.addr2line_kept.specs.UnitHeaders.{DebugUnit, unit, length_including_self}
+use Rattle.addr2line_kept.specs.AttributeValues.{RawAttribute}
+use Rattle.addr2line_kept.specs.DwarfFiles.{DwarfFile}
+use Rattle.addr2line_kept.specs.UnitFacts.{UnitFacts, UnitInFile, in_file, unit_facts, facts_of as facts_of_unit, root, bases_of, readable_text, last_value, last_value_of_kind, line_reference_of, line_header_of, address_or_0, is_name, is_comp_dir, is_stmt_list, is_low_pc}
+use Rattle.addr2line_kept.specs.Contexts.{ContextUnit, context_unit, partial_unit, is_of_types, readable_facts, facts_of_code_unit, headers_of, units_of_file, units_of_supplement}
+use Rattle.addr2line_kept.specs.UnitLines.{lines_of_unit}
+use Rattle.addr2line_kept.specs.UnitRanges.{is_partial, ranges_of_attributes}
+use Rattle.addr2line_kept.specs.OrderedUnits.{unit_offset, AreInOrder}
 
 -- ---- units from an offset on
 

@@ -1,14 +1,14 @@
 -- The units of a context, and what lookups use of them.
 use Rattle.std.specs.Prelude.{List, map, Result, Ok}
 use Rattle.std.specs.List.{filter_map}
-use Rattle.addr2line_functions.specs.Error.{Error}
-use Rattle.addr2line_functions.specs.Repetition.{fault_of}
-use Rattle.addr2line_functions.specs.Results.{unless}
-use Rattle.addr2line_functions.specs.DwarfFiles.{DwarfFile}
-use Rattle.addr2line_functions.specs.UnitFacts.{UnitFacts, unit_facts}
-use Rattle.addr2line_functions.specs.Contexts.{ContextUnit, readable_facts, headers_of}
-use Rattle.addr2line_functions.specs.UnitRange.{UnitRange}
-use Rattle.addr2line_functions.specs.UnitPlaces.{UnitPlaces, ranges_in_order}
+use Rattle.addr2line_kept.specs.Error.{Error}
+use Rattle.addr2line_kept.specs.Repetition.{fault_of}
+use Rattle.addr2line_kept.specs.Results.{unless}
+use Rattle.addr2line_kept.specs.DwarfFiles.{DwarfFile}
+use Rattle.addr2line_kept.specs.UnitFacts.{UnitFacts, unit_facts}
+use Rattle.addr2line_kept.specs.Contexts.{ContextUnit, readable_facts, headers_of}
+use Rattle.addr2line_kept.specs.UnitRange.{UnitRange}
+use Rattle.addr2line_kept.specs.UnitPlaces.{UnitPlaces, ranges_in_order}
 
 -- ---- reading
 

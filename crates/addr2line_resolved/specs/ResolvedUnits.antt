@@ -2,29 +2,29 @@
 use Rattle.std.specs.Prelude.{◌≡◌, ℕ, Bool, true, false, List, [], ◌∷◌, ◌++◌, length, set, slice_get, Option, Some, None, is_some, option_map, Result, Ok, Err, if◌then◌else◌}
 use Rattle.std.specs.List.{filter_map, AllByRecursion}
 use Rattle.std.specs.Option.{option_to_list}
-use Rattle.addr2line_functions.specs.Error.{Error}
-use Rattle.addr2line_functions.specs.Error.TheVariants.{NoSuchUnit}
-use Rattle.addr2line_functions.specs.Repetition.{fault_of}
-use Rattle.addr2line_functions.specs.Results.{and_then, unless, each, ◌>>=◌}
-use Rattle.addr2line_functions.specs.OptionalValues.{if_any}
-use Rattle.addr2line_functions.specs.UnitHeaders.{DebugUnit}
-use Rattle.addr2line_functions.specs.DwarfFiles.{DwarfFile}
-use Rattle.addr2line_functions.specs.EntryRows.{Row}
-use Rattle.addr2line_functions.specs.UnitFacts.{UnitFacts, UnitInFile, in_file, root}
-use Rattle.addr2line_functions.specs.Lines.{Lines, LineRow, Location, row_at, row_location}
-use Rattle.addr2line_functions.specs.UnitLines.{lines_of_unit}
-use Rattle.addr2line_functions.specs.UnitRanges.{ranges_of_lines}
-use Rattle.addr2line_functions.specs.Functions.{Function, functions_of_unit}
-use Rattle.addr2line_functions.specs.InlinedCalls.{FunctionCalls, Naming, calls_of_function}
-use Rattle.addr2line_functions.specs.FirstAnswers.{SplitLoad, FirstAnswer, load_of}
-use Rattle.addr2line_functions.specs.Contexts.{ContextUnit, context_unit, facts_of_code_unit, headers_of}
-use Rattle.addr2line_functions.specs.Lookups.{split_or_itself}
-use Rattle.addr2line_functions.specs.EntryReferences.{HoldingUnit}
-use Rattle.addr2line_functions.specs.ContextNames.{holding_unit}
-use Rattle.addr2line_units.specs.CountedRuns.{runs_for_lines}
-use Rattle.addr2line_units.specs.LineIndexes.{CountedLines, counted_lines, place_probes}
-use Rattle.addr2line_units.specs.ProbedLists.{ProbeCount}
-use Rattle.addr2line_resolved.specs.KeptFunctions.{KeptFunctions, AreCountedBy, plain_functions, function_count, count_of_functions, calls_of_none, kept_at}
+use Rattle.addr2line_kept.specs.Error.{Error}
+use Rattle.addr2line_kept.specs.Error.TheVariants.{NoSuchUnit}
+use Rattle.addr2line_kept.specs.Repetition.{fault_of}
+use Rattle.addr2line_kept.specs.Results.{and_then, unless, each, ◌>>=◌}
+use Rattle.addr2line_kept.specs.OptionalValues.{if_any}
+use Rattle.addr2line_kept.specs.UnitHeaders.{DebugUnit}
+use Rattle.addr2line_kept.specs.DwarfFiles.{DwarfFile}
+use Rattle.addr2line_kept.specs.EntryRows.{Row}
+use Rattle.addr2line_kept.specs.UnitFacts.{UnitFacts, UnitInFile, in_file, root}
+use Rattle.addr2line_kept.specs.Lines.{Lines, LineRow, Location, row_at, row_location}
+use Rattle.addr2line_kept.specs.UnitLines.{lines_of_unit}
+use Rattle.addr2line_kept.specs.UnitRanges.{ranges_of_lines}
+use Rattle.addr2line_kept.specs.Functions.{Function, functions_of_unit}
+use Rattle.addr2line_kept.specs.InlinedCalls.{FunctionCalls, Naming, calls_of_function}
+use Rattle.addr2line_kept.specs.FirstAnswers.{SplitLoad, FirstAnswer, load_of}
+use Rattle.addr2line_kept.specs.Contexts.{ContextUnit, context_unit, facts_of_code_unit, headers_of}
+use Rattle.addr2line_kept.specs.Lookups.{split_or_itself}
+use Rattle.addr2line_kept.specs.EntryReferences.{HoldingUnit}
+use Rattle.addr2line_kept.specs.ContextNames.{holding_unit}
+use Rattle.addr2line_kept.specs.CountedRuns.{runs_for_lines}
+use Rattle.addr2line_kept.specs.LineIndexes.{CountedLines, counted_lines, place_probes}
+use Rattle.addr2line_kept.specs.ProbedLists.{ProbeCount}
+use Rattle.addr2line_kept.specs.KeptFunctions.{KeptFunctions, AreCountedBy, plain_functions, function_count, count_of_functions, calls_of_none, kept_at}
 
 -- ---- values
 

@@ -1,22 +1,20 @@
 //! The units of a context, by their headers.
 
 ghost use Rattle.std.specs.Prelude.{◌≡◌, Ok, IfOk, IfSome, OnOk, map, option_map};
-ghost use Rattle.addr2line_functions.specs.Calls.{ReturnsAsOrNoMemory, ReturnsOrNoMemory};
-ghost use Rattle.addr2line_functions.specs.EntryViews.{entry_of};
-ghost use Rattle.addr2line_functions.specs.UnitFacts.{in_file};
-ghost use Rattle.addr2line_functions.specs.Contexts.{is_of_types, facts_of_code_unit};
-ghost use Rattle.addr2line_units.specs.ArangeIndexes.{IsIndexOf};
-ghost use Rattle.addr2line_units.specs.LastPrograms.{HasHeaderInFile};
-ghost use Rattle.addr2line_units.specs.LastRanges.{AreLastOf};
+ghost use Rattle.addr2line_kept.specs.Calls.{ReturnsAsOrNoMemory, ReturnsOrNoMemory};
+ghost use Rattle.addr2line_kept.specs.EntryViews.{entry_of};
+ghost use Rattle.addr2line_kept.specs.UnitFacts.{in_file};
+ghost use Rattle.addr2line_kept.specs.Contexts.{is_of_types, facts_of_code_unit};
+ghost use Rattle.addr2line_kept.specs.ArangeIndexes.{IsIndexOf};
+ghost use Rattle.addr2line_kept.specs.LastPrograms.{HasHeaderInFile};
+ghost use Rattle.addr2line_kept.specs.LastRanges.{AreLastOf};
 ghost use Rattle.addr2line_resolved.specs.ResolvedUnits.{HasRoot, value_of_unit, with_new_unit, with_unit_of_header, KeepNoFunctions, RunForRangesAlone};
 
-use crate::load::share;
-use crate::owned_unit::OwnedUnit;
 use crate::unit::ResUnit;
-use addr2line_functions::{
-    ArangeIndex, DebuggingInformationEntry, Dwarf, Error, Reader, UnitHeader, UnitType,
+use addr2line_kept::{
+    ArangeIndex, DebuggingInformationEntry, Dwarf, Error, LastRanges, OwnedUnit, Reader,
+    UnitHeader, UnitType, share,
 };
-use addr2line_units::LastRanges;
 use std::alloc::Global;
 use std::rc::Rc;
 

@@ -1,12 +1,12 @@
 //! The ranges of a context's units, in the order in which lookups ask the units.
 
 ghost use Rattle.std.specs.Prelude.{◌≡◌, IfOk, IfErr, map};
-ghost use Rattle.addr2line_functions.specs.Error.TheVariants.{Memory};
+ghost use Rattle.addr2line_kept.specs.Error.TheVariants.{Memory};
 ghost use Rattle.addr2line_resolved.specs.ContextUnits.{ordered_ranges};
 ghost use Rattle.addr2line_resolved.specs.ResolvedUnits.{plain_unit};
 
 use crate::unit::ResUnit;
-use addr2line_functions::{Error, Reader, UnitRanges, UnitRangesBuilder};
+use addr2line_kept::{Error, Reader, UnitRanges, UnitRangesBuilder};
 use std::alloc::Global;
 
 /// The ranges of units, in the order in which lookups ask them. The only refusal is out of memory.

@@ -2,14 +2,14 @@
 
 ghost use Rattle.std.specs.Prelude.{◌≡◌, ◌++◌, Ok, OnOk, IfErr};
 ghost use Rattle.std.specs.Option.{option_to_list};
-ghost use Rattle.addr2line_functions.specs.Calls.{ReturnsAsOrNoMemory, ReturnsOrNoMemory};
-ghost use Rattle.addr2line_functions.specs.Error.TheVariants.{Memory};
-ghost use Rattle.addr2line_functions.specs.DwarfFiles.{supplement};
-ghost use Rattle.addr2line_functions.specs.UnitFacts.{unit_facts};
-ghost use Rattle.addr2line_functions.specs.Contexts.{readable_facts, units_of_supplement};
+ghost use Rattle.addr2line_kept.specs.Calls.{ReturnsAsOrNoMemory, ReturnsOrNoMemory};
+ghost use Rattle.addr2line_kept.specs.Error.TheVariants.{Memory};
+ghost use Rattle.addr2line_kept.specs.DwarfFiles.{supplement};
+ghost use Rattle.addr2line_kept.specs.UnitFacts.{unit_facts};
+ghost use Rattle.addr2line_kept.specs.Contexts.{readable_facts, units_of_supplement};
 ghost use Rattle.addr2line_resolved.specs.ContextUnits.{readable_units};
 
-use addr2line_functions::{Dwarf, Error, Reader, Unit, UnitHeader};
+use addr2line_kept::{Dwarf, Error, Reader, Unit, UnitHeader};
 use std::alloc::Global;
 
 // The unit of a header, if it isn't refused. The only refusal is out of memory.

@@ -1,31 +1,27 @@
 //! A unit of a context, and what was read of it.
 
 ghost use Rattle.std.specs.Prelude.{◌≡◌, ◌≢◌, ◌<◌, true, length, Some, None, Ok, Err, IfSome, IfOk, OnOk, OnErr, IfErr, option_map, option_and_then, is_some};
-ghost use Rattle.addr2line_functions.specs.Calls.{Returns, ReturnsAs, ReturnsAsOrNoMemory, ReturnsOrNoMemory};
-ghost use Rattle.addr2line_functions.specs.Error.TheVariants.{Memory};
-ghost use Rattle.addr2line_functions.specs.Results.{and_then};
-ghost use Rattle.addr2line_functions.specs.EntryViews.{entry_of};
-ghost use Rattle.addr2line_functions.specs.BorrowedFrames.{frames_left};
-ghost use Rattle.addr2line_functions.specs.BorrowedLocations.{location_value};
-ghost use Rattle.addr2line_units.specs.ArangeIndexes.{IsIndexOf};
-ghost use Rattle.addr2line_units.specs.LastPrograms.{HasHeaderInFile};
-ghost use Rattle.addr2line_units.specs.LastRanges.{AreLastOf, AreLastFor};
-ghost use Rattle.addr2line_units.specs.LineIndexes.{counted_lines};
-ghost use Rattle.addr2line_units.specs.RootRanges.{RunsForRanges, unit_with};
-ghost use Rattle.addr2line_units.specs.Searches.{AtMostProbes};
-ghost use Rattle.addr2line_resolved.specs.KeptFunctions.{kept_at, plain_functions, plain_calls, count_of_functions, number_in, number_probes, function_at_number, FindsChain, kept_chain_probes, frames_by_numbers};
+ghost use Rattle.addr2line_kept.specs.Calls.{Returns, ReturnsAs, ReturnsAsOrNoMemory, ReturnsOrNoMemory};
+ghost use Rattle.addr2line_kept.specs.Error.TheVariants.{Memory};
+ghost use Rattle.addr2line_kept.specs.Results.{and_then};
+ghost use Rattle.addr2line_kept.specs.EntryViews.{entry_of};
+ghost use Rattle.addr2line_kept.specs.BorrowedFrames.{frames_left};
+ghost use Rattle.addr2line_kept.specs.BorrowedLocations.{location_value};
+ghost use Rattle.addr2line_kept.specs.ArangeIndexes.{IsIndexOf};
+ghost use Rattle.addr2line_kept.specs.LastPrograms.{HasHeaderInFile};
+ghost use Rattle.addr2line_kept.specs.LastRanges.{AreLastOf, AreLastFor};
+ghost use Rattle.addr2line_kept.specs.LineIndexes.{counted_lines};
+ghost use Rattle.addr2line_kept.specs.RootRanges.{RunsForRanges, unit_with};
+ghost use Rattle.addr2line_kept.specs.Searches.{AtMostProbes};
+ghost use Rattle.addr2line_kept.specs.KeptFunctions.{kept_at, plain_functions, plain_calls, count_of_functions, number_in, number_probes, function_at_number, FindsChain, kept_chain_probes, frames_by_numbers};
 ghost use Rattle.addr2line_resolved.specs.ResolvedUnits.{HasRoot, main_unit, pending_load, decided, first_answer, answer_or_none, unit_of_functions, functions_of, calls_of_number, if_kept, runs_if_kept, row_or_refusal, row_in_kept, lines_probes, kept_probes, location_of_row, with_functions, with_calls, with_probes, with_chain, with_unit_answer, without_answer, new_unit, KeepsLines, KeepsNoFunctions, RunsForRangesAlone};
 
-use crate::kept::Kept;
-use crate::load::{KeptLoad, SplitDwarfLoad};
-use crate::owned_unit::OwnedUnit;
-use crate::unit_functions::UnitFunctions;
-use addr2line_functions::{
+use addr2line_kept::{
     ArangeIndex, DebugFile, DebuggingInformationEntry, DwLang, Error, FrameIter, FunctionCalls,
-    Functions, HasUnit, HoldingUnit, LineIndex, Location, Names, Probes, Range, Reader, Runs, Unit,
-    UnitLines, UnitRoot, calls_of_function, functions_of_unit,
+    Functions, HasUnit, HoldingUnit, Kept, KeptLoad, LastRanges, LineIndex, LineRow, Location,
+    Names, OwnedUnit, Probes, Range, Reader, Runs, SplitDwarfLoad, Unit, UnitFunctions, UnitLines,
+    UnitRoot, calls_of_function, functions_of_unit,
 };
-use addr2line_units::{LastRanges, LineRow};
 use std::alloc::Global;
 use std::marker::Model;
 use std::rc::Rc;
@@ -70,8 +66,8 @@ impl<R: Reader> Drop for ResUnit<R> {
 
 impl<R: Reader> Model for ResUnit<R> {
     ghost use Rattle.std.specs.Prelude.{map, option_map, is_some};
-    ghost use Rattle.addr2line_functions.specs.UnitLines.{lines_of_unit};
-    ghost use Rattle.addr2line_resolved.specs.KeptFunctions.{plain_calls};
+    ghost use Rattle.addr2line_kept.specs.UnitLines.{lines_of_unit};
+    ghost use Rattle.addr2line_kept.specs.KeptFunctions.{plain_calls};
     ghost use Rattle.addr2line_resolved.specs.ResolvedUnits.{ResolvedUnit, KeepsParses};
 
     ghost Value = { ResolvedUnit };

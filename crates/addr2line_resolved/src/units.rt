@@ -1,14 +1,13 @@
 //! The units of a context, read one after the other.
 
 ghost use Rattle.std.specs.Prelude.{IfOk, map};
-ghost use Rattle.addr2line_functions.specs.Calls.{ReturnsAsOrNoMemory};
-ghost use Rattle.addr2line_units.specs.ArangeIndexes.{IsIndexOf};
+ghost use Rattle.addr2line_kept.specs.Calls.{ReturnsAsOrNoMemory};
+ghost use Rattle.addr2line_kept.specs.ArangeIndexes.{IsIndexOf};
 ghost use Rattle.addr2line_resolved.specs.ResolvedUnits.{value_of_unit, new_units, KeepNoFunctions, RunForRangesAlone};
 
 use crate::headers::push_context_unit;
 use crate::unit::ResUnit;
-use addr2line_functions::{ArangeIndex, DebuggingInformationEntry, Dwarf, Error, Reader};
-use addr2line_units::LastRanges;
+use addr2line_kept::{ArangeIndex, DebuggingInformationEntry, Dwarf, Error, LastRanges, Reader};
 use std::alloc::Global;
 use std::rc::Rc;
 

@@ -1,14 +1,14 @@
 -- What a load gets from what a source answers (DWARF 5, 7.3.2).
 use Rattle.std.specs.Prelude.{◌≡◌, ℕ, ◌==◌, Bool, false, List, [], Option, Some, None, Result, Ok, Err, if◌then◌else◌}
-use Rattle.addr2line_resolved.specs.Error.{Error}
-use Rattle.addr2line_resolved.specs.View.{View}
-use Rattle.addr2line_resolved.specs.Results.{and_then, ◌>>=◌}
-use Rattle.addr2line_resolved.specs.Tiling.{whole_section}
-use Rattle.addr2line_resolved.specs.UnitHeaders.{DebugUnit, next_unit}
-use Rattle.addr2line_resolved.specs.DwarfFiles.{DwarfFile}
+use Rattle.addr2line_kept.specs.Error.{Error}
+use Rattle.addr2line_kept.specs.View.{View}
+use Rattle.addr2line_kept.specs.Results.{and_then, ◌>>=◌}
+use Rattle.addr2line_kept.specs.Tiling.{whole_section}
+use Rattle.addr2line_kept.specs.UnitHeaders.{DebugUnit, next_unit}
+use Rattle.addr2line_kept.specs.DwarfFiles.{DwarfFile}
 use Rattle.gimli_dwarf_spec.specs.Splitting.{split_from}
-use Rattle.addr2line_resolved.specs.UnitFacts.{unit_facts}
-use Rattle.addr2line_resolved.specs.FirstAnswers.{SplitLoad}
+use Rattle.addr2line_kept.specs.UnitFacts.{unit_facts}
+use Rattle.addr2line_kept.specs.FirstAnswers.{SplitLoad}
 use Rattle.addr2line_elf.specs.declared.error.LoadError.{LoadError}
 use Rattle.addr2line_elf.specs.ElfImages.{image_of}
 use Rattle.addr2line_split.specs.ImageFiles.{dwo_file}

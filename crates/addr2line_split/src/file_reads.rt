@@ -5,7 +5,7 @@ ghost use Rattle.std.specs.IoError.{error_kind};
 ghost use Rattle.addr2line_split.specs.FileReads.{IsRead, read_refusal, if_readable};
 
 use addr2line_elf::LoadError;
-use addr2line_resolved::Error;
+use addr2line_kept::Error;
 use bytes::Bytes;
 use std::fs::{self, File, OpenFile};
 use std::io;

@@ -6,7 +6,7 @@ ghost use Rattle.addr2line_split.specs.FileReads.{as_text, path_in};
 
 use crate::file_reads::{if_readable, read_regular_file};
 use crate::source::SplitSource;
-use addr2line_resolved::Error;
+use addr2line_kept::Error;
 use bytes::Bytes;
 use std::alloc::{AllocError, Global};
 use std::path::{Path, PathBuf};
@@ -30,7 +30,7 @@ impl<R: Files + AllocGlobal> FileSource<R> {
 
 impl<R: Files + AllocGlobal> SplitSource for FileSource<R> {
     ghost use Rattle.std.specs.Prelude.{◌≡◌, Ok, None};
-    ghost use Rattle.addr2line_resolved.specs.Calls.{ReturnsOrNoMemory};
+    ghost use Rattle.addr2line_kept.specs.Calls.{ReturnsOrNoMemory};
     ghost use Rattle.addr2line_split.specs.FileReads.{path_in};
 
     ghost answers = { λ old directory name result new.

@@ -1,13 +1,13 @@
 //! What a load gets of the bytes of a split file.
 
 ghost use Rattle.std.specs.Prelude.{◌≡◌, ◌≢◌, Result, Option, Ok, Err, Some, None, IfOk, IfErr, option_map};
-ghost use Rattle.addr2line_resolved.specs.Calls.{ReturnsAsOrNoMemory, ReturnsOrNoMemory};
-ghost use Rattle.addr2line_resolved.specs.Error.{Error};
-ghost use Rattle.addr2line_resolved.specs.Error.TheVariants.{Memory};
-ghost use Rattle.addr2line_resolved.specs.DwarfFiles.{DwarfFile};
-ghost use Rattle.addr2line_resolved.specs.Tiling.{whole_section};
-ghost use Rattle.addr2line_resolved.specs.UnitHeaders.{next_unit};
-ghost use Rattle.addr2line_resolved.specs.Results.{and_then};
+ghost use Rattle.addr2line_kept.specs.Calls.{ReturnsAsOrNoMemory, ReturnsOrNoMemory};
+ghost use Rattle.addr2line_kept.specs.Error.{Error};
+ghost use Rattle.addr2line_kept.specs.Error.TheVariants.{Memory};
+ghost use Rattle.addr2line_kept.specs.DwarfFiles.{DwarfFile};
+ghost use Rattle.addr2line_kept.specs.Tiling.{whole_section};
+ghost use Rattle.addr2line_kept.specs.UnitHeaders.{next_unit};
+ghost use Rattle.addr2line_kept.specs.Results.{and_then};
 ghost use Rattle.gimli_dwarf_spec.specs.Splitting.{split_from};
 ghost use Rattle.addr2line_elf.specs.ImageLoading.{LoadsAsOrNoMemory};
 ghost use Rattle.addr2line_split.specs.FileReads.{if_readable};
@@ -18,7 +18,7 @@ use crate::file_reads::if_readable;
 use crate::sections::dwo_sections;
 use crate::source::SplitSource;
 use addr2line_elf::{Elf, LoadError};
-use addr2line_resolved::{Dwarf, DwoId, Error, Reader, SplitDwarfLoad, UnitHeader};
+use addr2line_kept::{Dwarf, DwoId, Error, Reader, SplitDwarfLoad, UnitHeader};
 use bytes::Bytes;
 use std::alloc::Global;
 use std::rc::Rc;

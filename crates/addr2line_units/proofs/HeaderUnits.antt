@@ -1,12 +1,12 @@
 -- What the header of a line number program takes of the unit that names it: its directory and its name alone.
 use Rattle.std.proofs.Common.{◌≡◌, ℕ, option_map, Result, Ok, sym, ◌∙◌, arith}
-use Rattle.gimli_lines_rows.specs.Error.{Error}
-use Rattle.gimli_lines_rows.specs.View.{View}
-use Rattle.gimli_lines_rows.specs.Results.{and_then}
-use Rattle.gimli_lines_rows.specs.AttributeValues.{string}
-use Rattle.gimli_lines_rows.specs.LineFiles.{file_named}
-use Rattle.gimli_lines_rows.specs.LineHeaders.{LineHeader}
-use Rattle.gimli_lines_rows.specs.HeaderParsing.{LineUnit, Bounds, header_fields, header_in, line_header, header_at}
+use Rattle.addr2line_ranges.specs.Error.{Error}
+use Rattle.addr2line_ranges.specs.View.{View}
+use Rattle.addr2line_ranges.specs.Results.{and_then}
+use Rattle.addr2line_ranges.specs.AttributeValues.{string}
+use Rattle.addr2line_ranges.specs.LineFiles.{file_named}
+use Rattle.addr2line_ranges.specs.LineHeaders.{LineHeader}
+use Rattle.addr2line_ranges.specs.HeaderParsing.{LineUnit, Bounds, header_fields, header_in, line_header, header_at}
 
 -- a header at an offset as another unit has it
 abbrev pub with_unit : ℕ → LineUnit → LineHeader → LineHeader

@@ -1,19 +1,19 @@
 -- A unit that is read from a file has the header of its line number program in the file.
 use Rattle.std.proofs.Common.{◌≡◌, ℕ, List, Option, Some, None, Result, Ok, Err, refl, sym, ap, subst}
 use Rattle.std.specs.Prelude.{IfSome}
-use Rattle.gimli_lines_rows.specs.Error.{Error}
-use Rattle.gimli_lines_rows.specs.View.{View}
-use Rattle.gimli_lines_rows.specs.Results.{and_then}
-use Rattle.gimli_lines_rows.specs.AttributeValues.{RawAttribute}
-use Rattle.gimli_lines_rows.specs.LineHeaders.{LineHeader}
-use Rattle.gimli_lines_rows.specs.HeaderParsing.{LineUnit, header_at}
-use Rattle.gimli_lines_rows.specs.UnitHeaders.{DebugUnit}
-use Rattle.gimli_dwarf.specs.Attributes.{Bases}
-use Rattle.gimli_dwarf.specs.Declarations.{Declaration}
-use Rattle.gimli_dwarf.specs.DwarfFiles.{DwarfFile}
-use Rattle.gimli_dwarf.specs.EntryRows.{Row}
-use Rattle.gimli_dwarf.specs.TableParsing.{table_at}
-use Rattle.gimli_dwarf.specs.UnitFacts.{UnitFacts, in_file, unit_facts, root, facts_of, bases_of, line_header_of, with_low_pc}
+use Rattle.addr2line_ranges.specs.Error.{Error}
+use Rattle.addr2line_ranges.specs.View.{View}
+use Rattle.addr2line_ranges.specs.Results.{and_then}
+use Rattle.addr2line_ranges.specs.AttributeValues.{RawAttribute}
+use Rattle.addr2line_ranges.specs.LineHeaders.{LineHeader}
+use Rattle.addr2line_ranges.specs.HeaderParsing.{LineUnit, header_at}
+use Rattle.addr2line_ranges.specs.UnitHeaders.{DebugUnit}
+use Rattle.addr2line_ranges.specs.Attributes.{Bases}
+use Rattle.addr2line_ranges.specs.Declarations.{Declaration}
+use Rattle.addr2line_ranges.specs.DwarfFiles.{DwarfFile}
+use Rattle.addr2line_ranges.specs.EntryRows.{Row}
+use Rattle.addr2line_ranges.specs.TableParsing.{table_at}
+use Rattle.addr2line_ranges.specs.UnitFacts.{UnitFacts, in_file, unit_facts, root, facts_of, bases_of, line_header_of, with_low_pc}
 use Rattle.addr2line_units.specs.LastPrograms.{HasHeaderInFile}
 use Rattle.addr2line_units.proofs.HeaderUnits.{found, header_with_unit}
 

@@ -1,19 +1,12 @@
-pub use Rattle.addr2line_index.proofs.UnitAnswers
-pub use Rattle.addr2line_index.proofs.UnitViews
-pub use Rattle.addr2line_index.proofs.CallChains
-pub use Rattle.addr2line_index.proofs.EntryLevels
-pub use Rattle.addr2line_index.proofs.PendingLoads
-pub use Rattle.addr2line_index.proofs.HolderViews
-pub use Rattle.addr2line_index.proofs.RangeHolders
-mod ProgramHeaders
-mod LinesOfPrograms
-mod LineProgramRows
-mod BuilderRows
-mod FileTextLemmas
-pub mod UnitRangeLemmas
-mod LastFactLemmas
-pub mod LastValueStep
-mod ArangeIndexLemmas
+pub use Rattle.addr2line_ranges.proofs.UnitAnswers
+pub use Rattle.addr2line_ranges.proofs.UnitViews
+pub use Rattle.addr2line_ranges.proofs.CallChains
+pub use Rattle.addr2line_ranges.proofs.EntryLevels
+pub use Rattle.addr2line_ranges.proofs.PendingLoads
+pub use Rattle.addr2line_ranges.proofs.HolderViews
+pub use Rattle.addr2line_ranges.proofs.RangeHolders
+pub use Rattle.addr2line_ranges.proofs.LastValueStep
+pub use Rattle.addr2line_ranges.proofs.UnitRangeLemmas
 mod RootLemmas
 mod HeaderUnits
 mod SharedPrograms

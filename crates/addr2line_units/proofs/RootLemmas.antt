@@ -1,11 +1,11 @@
 -- A unit of a context from what its root says.
 use Rattle.std.proofs.Common.{◌≡◌, Bool, false, Result, Ok, sym, ap, ◌∙◌, if◌then◌else◌}
-use Rattle.gimli_lines_rows.specs.Error.{Error}
-use Rattle.gimli_dwarf.specs.EntryRows.{Row}
-use Rattle.gimli_dwarf.specs.UnitFacts.{UnitInFile}
-use Rattle.addr2line_index.specs.Lines.{Lines}
-use Rattle.addr2line_index.specs.UnitRanges.{is_partial}
-use Rattle.addr2line_index.specs.Contexts.{unit_of_root, partial_unit, unit_of_entry}
+use Rattle.addr2line_ranges.specs.Error.{Error}
+use Rattle.addr2line_ranges.specs.EntryRows.{Row}
+use Rattle.addr2line_ranges.specs.UnitFacts.{UnitInFile}
+use Rattle.addr2line_ranges.specs.Lines.{Lines}
+use Rattle.addr2line_ranges.specs.UnitRanges.{is_partial}
+use Rattle.addr2line_ranges.specs.Contexts.{unit_of_root, partial_unit, unit_of_entry}
 
 -- one that isn't partial
 pub not_partial : (u : UnitInFile) (lines : Result Lines Error) (r : Row) (b : Bool)

@@ -2,22 +2,22 @@
 -- directories and names have the same bytes.
 use Rattle.std.proofs.Common.{◌≡◌, ℕ, Bool, true, false, List, [], ◌∷◌, map, Option, Some, None, is_some, option_map, Result, Ok, Err, refl, sym, ap, ap₂, subst, ◌∙◌}
 use Rattle.std.specs.Prelude.{IfSome, nat_le, slice_get, if◌then◌else◌}
-use Rattle.gimli_lines_rows.specs.Error.{Error}
-use Rattle.gimli_lines_rows.specs.Range.{Range}
-use Rattle.gimli_lines_rows.specs.View.{View}
-use Rattle.gimli_lines_rows.specs.Results.{and_then, each}
-use Rattle.gimli_lines_rows.specs.LineFiles.{FileFacts, file_named}
-use Rattle.gimli_lines_rows.specs.LineHeaders.{LineHeader}
-use Rattle.gimli_lines_rows.specs.Runs.{shown_rows}
-use Rattle.gimli_dwarf.specs.DwarfFiles.{DwarfFile}
-use Rattle.gimli_dwarf.specs.Roots.{line_unit}
-use Rattle.gimli_dwarf.specs.UnitFacts.{UnitFacts, UnitInFile, in_file}
-use Rattle.addr2line_index.specs.FilePaths.{file_text_of_bytes}
-use Rattle.addr2line_index.specs.LineIndexes.{CountedLines, counted_lines}
-use Rattle.addr2line_index.specs.Lines.{Lines, sequences_of_rows}
-use Rattle.addr2line_index.specs.FileTexts.{bytes_of, text_bytes, text_bytes_if_any, directory_of, text_of_file, text_of_file_0, files_from_1, texts_of_files}
-use Rattle.addr2line_index.specs.UnitLines.{program_row, run_of_program, fault_of_program, with_defined_files, lines_of_program, lines_if_any, lines_of_unit}
-use Rattle.addr2line_index.specs.UnitRanges.{ranges_of_lines}
+use Rattle.addr2line_ranges.specs.Error.{Error}
+use Rattle.addr2line_ranges.specs.Range.{Range}
+use Rattle.addr2line_ranges.specs.View.{View}
+use Rattle.addr2line_ranges.specs.Results.{and_then, each}
+use Rattle.addr2line_ranges.specs.LineFiles.{FileFacts, file_named}
+use Rattle.addr2line_ranges.specs.LineHeaders.{LineHeader}
+use Rattle.addr2line_ranges.specs.Runs.{shown_rows}
+use Rattle.addr2line_ranges.specs.DwarfFiles.{DwarfFile}
+use Rattle.addr2line_ranges.specs.Roots.{line_unit}
+use Rattle.addr2line_ranges.specs.UnitFacts.{UnitFacts, UnitInFile, in_file}
+use Rattle.addr2line_ranges.specs.FilePaths.{file_text_of_bytes}
+use Rattle.addr2line_ranges.specs.LineIndexes.{CountedLines, counted_lines}
+use Rattle.addr2line_ranges.specs.Lines.{Lines, sequences_of_rows}
+use Rattle.addr2line_ranges.specs.FileTexts.{bytes_of, text_bytes, text_bytes_if_any, directory_of, text_of_file, text_of_file_0, files_from_1, texts_of_files}
+use Rattle.addr2line_ranges.specs.UnitLines.{program_row, run_of_program, fault_of_program, with_defined_files, lines_of_program, lines_if_any, lines_of_unit}
+use Rattle.addr2line_ranges.specs.UnitRanges.{ranges_of_lines}
 use Rattle.addr2line_units.specs.LastPrograms.{UnitTexts, ProgramRun, LastProgram, program_key, unit_texts, HasHeaderInFile, IsProgramOf, IsLastProgramOf, IsLastProgramFor, SharesLines}
 use Rattle.addr2line_units.specs.RootRanges.{RunsForRanges, ranges_of_counted}
 use Rattle.addr2line_units.proofs.HeaderUnits.{with_unit}

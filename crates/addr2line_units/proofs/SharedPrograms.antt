@@ -2,22 +2,22 @@
 use Rattle.std.proofs.Common.{◌≡◌, ℕ, Bool, true, false, List, [], ◌∷◌, map, Option, Some, None, option_map, Result, Ok, Err, refl, sym, ap, subst, ◌∙◌}
 use Rattle.std.specs.Prelude.{IfSome, ◌==◌, ◌-◌, nat_le, slice_get, if◌then◌else◌}
 use Rattle.std.specs.Option.{option_or}
-use Rattle.gimli_lines_rows.specs.Error.{Error}
-use Rattle.gimli_lines_rows.specs.View.{View}
-use Rattle.gimli_lines_rows.specs.Results.{and_then, some_of, unless, each}
-use Rattle.gimli_lines_rows.specs.AttributeValues.{RawValue, string, string_offsets_index}
-use Rattle.gimli_lines_rows.specs.LineFiles.{FileFacts, file_named}
-use Rattle.gimli_lines_rows.specs.LineHeaders.{LineHeader, file_at}
-use Rattle.gimli_lines_rows.specs.HeaderParsing.{LineUnit, header_at}
-use Rattle.gimli_lines_rows.specs.Runs.{shown_rows}
-use Rattle.gimli_dwarf.specs.Attributes.{Bases, attr_string}
-use Rattle.gimli_dwarf.specs.DwarfFiles.{DwarfFile}
-use Rattle.gimli_dwarf.specs.Roots.{line_unit}
-use Rattle.gimli_dwarf.specs.UnitFacts.{UnitFacts, UnitInFile, in_file}
-use Rattle.addr2line_index.specs.Lines.{Sequence, Lines, sequences_of_rows}
-use Rattle.addr2line_index.specs.FileTexts.{bytes_of, text_bytes, text_bytes_if_any, directory_of, text_of_file, text_of_file_0, files_from_1, texts_of_files}
-use Rattle.addr2line_index.specs.UnitLines.{program_row, run_of_program, fault_of_program, with_defined_files, lines_of_program, lines_if_any, lines_of_unit}
-use Rattle.addr2line_index.specs.UnitRanges.{ranges_of_lines}
+use Rattle.addr2line_ranges.specs.Error.{Error}
+use Rattle.addr2line_ranges.specs.View.{View}
+use Rattle.addr2line_ranges.specs.Results.{and_then, some_of, unless, each}
+use Rattle.addr2line_ranges.specs.AttributeValues.{RawValue, string, string_offsets_index}
+use Rattle.addr2line_ranges.specs.LineFiles.{FileFacts, file_named}
+use Rattle.addr2line_ranges.specs.LineHeaders.{LineHeader, file_at}
+use Rattle.addr2line_ranges.specs.HeaderParsing.{LineUnit, header_at}
+use Rattle.addr2line_ranges.specs.Runs.{shown_rows}
+use Rattle.addr2line_ranges.specs.Attributes.{Bases, attr_string}
+use Rattle.addr2line_ranges.specs.DwarfFiles.{DwarfFile}
+use Rattle.addr2line_ranges.specs.Roots.{line_unit}
+use Rattle.addr2line_ranges.specs.UnitFacts.{UnitFacts, UnitInFile, in_file}
+use Rattle.addr2line_ranges.specs.Lines.{Sequence, Lines, sequences_of_rows}
+use Rattle.addr2line_ranges.specs.FileTexts.{bytes_of, text_bytes, text_bytes_if_any, directory_of, text_of_file, text_of_file_0, files_from_1, texts_of_files}
+use Rattle.addr2line_ranges.specs.UnitLines.{program_row, run_of_program, fault_of_program, with_defined_files, lines_of_program, lines_if_any, lines_of_unit}
+use Rattle.addr2line_ranges.specs.UnitRanges.{ranges_of_lines}
 use Rattle.addr2line_units.specs.declared.last_program.ProgramKey.{ProgramKey}
 use Rattle.addr2line_units.specs.LastPrograms.{key_of_header, program_key, IsInFile, HasHeaderInFile}
 use Rattle.addr2line_units.proofs.HeaderUnits.{with_unit, found, header_with_unit}

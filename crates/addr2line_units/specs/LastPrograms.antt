@@ -1,18 +1,18 @@
 -- The line number program that was run last: the ranges of its lines are those of any unit whose
 -- program depends on the same, and its lines those of such a unit with the same texts.
 use Rattle.std.specs.Prelude.{◌≡◌, ℕ, ◌+◌, true, List, Option, Some, None, is_some, option_map, Result, Ok, IfSome}
-use Rattle.gimli_lines_rows.specs.Error.{Error}
-use Rattle.gimli_lines_rows.specs.Range.{Range}
-use Rattle.gimli_lines_rows.specs.LineHeaders.{LineHeader}
-use Rattle.gimli_lines_rows.specs.HeaderParsing.{header_at}
-use Rattle.gimli_dwarf.specs.DwarfFiles.{DwarfFile}
-use Rattle.gimli_dwarf.specs.Roots.{line_unit}
-use Rattle.gimli_dwarf.specs.UnitFacts.{UnitFacts, UnitInFile, in_file}
-use Rattle.addr2line_index.specs.FileTexts.{bytes_of}
-use Rattle.addr2line_index.specs.LineIndexes.{CountedLines, counted_lines}
-use Rattle.addr2line_index.specs.UnitLines.{lines_of_unit}
-use Rattle.addr2line_index.specs.UnitRanges.{ranges_of_lines}
-use Rattle.addr2line_units.specs.CountedRuns.{runs_for_lines}
+use Rattle.addr2line_ranges.specs.Error.{Error}
+use Rattle.addr2line_ranges.specs.Range.{Range}
+use Rattle.addr2line_ranges.specs.LineHeaders.{LineHeader}
+use Rattle.addr2line_ranges.specs.HeaderParsing.{header_at}
+use Rattle.addr2line_ranges.specs.DwarfFiles.{DwarfFile}
+use Rattle.addr2line_ranges.specs.Roots.{line_unit}
+use Rattle.addr2line_ranges.specs.UnitFacts.{UnitFacts, UnitInFile, in_file}
+use Rattle.addr2line_ranges.specs.FileTexts.{bytes_of}
+use Rattle.addr2line_ranges.specs.LineIndexes.{CountedLines, counted_lines}
+use Rattle.addr2line_ranges.specs.UnitLines.{lines_of_unit}
+use Rattle.addr2line_ranges.specs.UnitRanges.{ranges_of_lines}
+use Rattle.addr2line_lines.specs.CountedRuns.{runs_for_lines}
 use Rattle.addr2line_units.specs.declared.last_program.ProgramKey.{ProgramKey}
 
 -- ---- what ranges depend on

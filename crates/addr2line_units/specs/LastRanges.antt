@@ -1,9 +1,9 @@
 -- The ranges that were read last, of a range list and of a line number program.
 use Rattle.std.specs.Prelude.{ℕ}
-use Rattle.gimli_dwarf.specs.DwarfFiles.{DwarfFile}
-use Rattle.gimli_dwarf.specs.UnitFacts.{UnitInFile}
-use Rattle.addr2line_units.specs.declared.last_list.LastList.{LastList}
-use Rattle.addr2line_units.specs.LastLists.{IsLastOf}
+use Rattle.addr2line_ranges.specs.DwarfFiles.{DwarfFile}
+use Rattle.addr2line_ranges.specs.UnitFacts.{UnitInFile}
+use Rattle.addr2line_ranges.specs.declared.last_list.LastList.{LastList}
+use Rattle.addr2line_ranges.specs.LastLists.{IsLastOf}
 use Rattle.addr2line_units.specs.LastPrograms.{LastProgram, IsLastProgramOf, IsLastProgramFor}
 
 pub record LastRanges : Type 0 where

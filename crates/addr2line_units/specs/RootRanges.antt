@@ -1,13 +1,13 @@
 -- What a unit's root says of lookups, and the lines that were read for it.
 use Rattle.std.specs.Prelude.{◌≡◌, ℕ, ◌+◌, List, [], Option, Some, None, Result, Ok, Err}
-use Rattle.gimli_lines_rows.specs.Error.{Error}
-use Rattle.gimli_lines_rows.specs.Range.{Range}
-use Rattle.gimli_dwarf.specs.UnitFacts.{UnitInFile}
-use Rattle.addr2line_index.specs.LineIndexes.{CountedLines, counted_lines}
-use Rattle.addr2line_index.specs.UnitLines.{lines_of_unit}
-use Rattle.addr2line_index.specs.UnitRanges.{ranges_of_lines}
-use Rattle.addr2line_index.specs.Contexts.{ContextUnit}
-use Rattle.addr2line_units.specs.CountedRuns.{runs_for_lines}
+use Rattle.addr2line_ranges.specs.Error.{Error}
+use Rattle.addr2line_ranges.specs.Range.{Range}
+use Rattle.addr2line_ranges.specs.UnitFacts.{UnitInFile}
+use Rattle.addr2line_ranges.specs.LineIndexes.{CountedLines, counted_lines}
+use Rattle.addr2line_ranges.specs.UnitLines.{lines_of_unit}
+use Rattle.addr2line_ranges.specs.UnitRanges.{ranges_of_lines}
+use Rattle.addr2line_ranges.specs.Contexts.{ContextUnit}
+use Rattle.addr2line_lines.specs.CountedRuns.{runs_for_lines}
 
 -- the ranges of lines as they are kept; none where they are refused
 abbrev pub ranges_of_counted : Result CountedLines Error → List Range

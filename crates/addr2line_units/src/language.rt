@@ -1,13 +1,13 @@
 //! The language of a unit (DWARF 5, 3.1.1).
 
 ghost use Rattle.std.specs.Prelude.{◌≡◌, Ok, option_map};
-ghost use Rattle.gimli_lines_rows.specs.Calls.{ReturnsAsOrNoMemory};
-ghost use Rattle.gimli_lines_rows.specs.AttributeValues.{raw_value_of, raw_attribute_of};
-ghost use Rattle.gimli_dwarf.specs.EntryViews.{raw_attributes};
-ghost use Rattle.gimli_dwarf.specs.UnitFacts.{value_of_kind};
-ghost use Rattle.addr2line_index.specs.UnitRanges.{language_of, is_language, language_in};
+ghost use Rattle.addr2line_ranges.specs.Calls.{ReturnsAsOrNoMemory};
+ghost use Rattle.addr2line_ranges.specs.AttributeValues.{raw_value_of, raw_attribute_of};
+ghost use Rattle.addr2line_ranges.specs.EntryViews.{raw_attributes};
+ghost use Rattle.addr2line_ranges.specs.UnitFacts.{value_of_kind};
+ghost use Rattle.addr2line_ranges.specs.UnitRanges.{language_of, is_language, language_in};
 
-use gimli_lines_rows::{Attribute, AttributeValue, DW_AT_language, DwLang, Error, Reader};
+use addr2line_ranges::{Attribute, AttributeValue, DW_AT_language, DwLang, Error, Reader};
 
 // The language that a value is.
 fn language_in_value<R: Reader>(value: &AttributeValue<R>) -> Option<DwLang>

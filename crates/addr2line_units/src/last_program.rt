@@ -3,16 +3,15 @@
 //! their directories and names are the same.
 
 ghost use Rattle.std.specs.Prelude.{◌≡◌, Ok, Some, None, IfOk, IfErr, MatchOption};
-ghost use Rattle.gimli_lines_rows.specs.Calls.{ReturnsOrNoMemory};
-ghost use Rattle.gimli_lines_rows.specs.Error.TheVariants.{Memory};
+ghost use Rattle.addr2line_ranges.specs.Calls.{ReturnsOrNoMemory};
+ghost use Rattle.addr2line_ranges.specs.Error.TheVariants.{Memory};
 ghost use Rattle.addr2line_units.specs.LastPrograms.{program_key, unit_texts, IsRunFor, SharesLines};
 
-use crate::last_list::share;
-use crate::unit_lines::{Runs, share_lines, share_run};
 use crate::unit_texts::UnitTexts;
-use addr2line_index::{Counters, LineIndex, Probes};
-use gimli_dwarf::UnitRef;
-use gimli_lines_rows::{Error, Format, Range, Reader, ReaderOffset};
+use addr2line_lines::{Runs, share_lines, share_run};
+use addr2line_ranges::{
+    Counters, Error, Format, LineIndex, Probes, Range, Reader, ReaderOffset, UnitRef, share,
+};
 use std::marker::Model;
 use std::rc::Rc;
 
@@ -45,12 +44,22 @@ fn program_key<R: Reader>(unit: &UnitRef<'_, R>) -> Option<ProgramKey>
 
 /// A program that was run for a unit: the ranges of its lines, none where they are refused, and the
 /// lines. A unit without a program has none of both.
-#[derive(Drop)]
 pub struct ProgramRun<R: Reader> {
     key: Option<ProgramKey>,
     texts: UnitTexts<R>,
     ranges: Rc<Vec<Range>>,
     lines: Result<LineIndex, Error>,
+}
+
+impl<R: Reader> Drop for ProgramRun<R> {
+    fn drop(self) {
+        let ProgramRun {
+            key: _,
+            texts: _,
+            ranges: _,
+            lines: _,
+        } = self;
+    }
 }
 
 impl<R: Reader> Model for ProgramRun<R> {
@@ -116,10 +125,18 @@ impl<R: Reader> ProgramRun<R> {
 
 /// The program of a file that was run last for ranges, if one was, and the maker of the counters of
 /// looks at lines, since units share these.
-#[derive(Drop)]
 pub struct LastProgram<R: Reader> {
     counters: Counters,
     program: Option<ProgramRun<R>>,
+}
+
+impl<R: Reader> Drop for LastProgram<R> {
+    fn drop(self) {
+        let LastProgram {
+            counters: _,
+            program: _,
+        } = self;
+    }
 }
 
 impl<R: Reader> Model for LastProgram<R> {

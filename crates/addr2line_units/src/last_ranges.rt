@@ -1,22 +1,28 @@
 //! The ranges that were read last, which units in a row may share.
 
 ghost use Rattle.std.specs.Prelude.{◌≡◌};
-ghost use Rattle.gimli_dwarf.specs.DwarfFiles.{DwarfFile};
-ghost use Rattle.gimli_dwarf.specs.UnitFacts.{UnitInFile};
+ghost use Rattle.addr2line_ranges.specs.DwarfFiles.{DwarfFile};
+ghost use Rattle.addr2line_ranges.specs.UnitFacts.{UnitInFile};
 ghost use Rattle.addr2line_units.specs.LastRanges.{AreLastOf, AreLastFor, counter_of};
 
-use crate::last_list::LastList;
 use crate::last_program::LastProgram;
-use addr2line_index::Probes;
-use gimli_lines_rows::Reader;
+use addr2line_ranges::{LastList, Probes, Reader};
 use std::marker::Model;
 
 /// The ranges of a file that were read last, of a range list and of a line number program. A unit
 /// that names the same shares them.
-#[derive(Drop)]
 pub struct LastRanges<R: Reader> {
     pub(crate) list: LastList,
     pub(crate) program: LastProgram<R>,
+}
+
+impl<R: Reader> Drop for LastRanges<R> {
+    fn drop(self) {
+        let LastRanges {
+            list: _,
+            program: _,
+        } = self;
+    }
 }
 
 impl<R: Reader> Model for LastRanges<R> {

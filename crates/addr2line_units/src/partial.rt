@@ -1,11 +1,12 @@
 //! Units that others import (DWARF 5, 3.1.1).
 
 ghost use Rattle.std.specs.Prelude.{◌≡◌};
-ghost use Rattle.gimli_dwarf.specs.EntryViews.{entry_of};
-ghost use Rattle.addr2line_index.specs.UnitRanges.{is_partial};
+ghost use Rattle.addr2line_ranges.specs.EntryViews.{entry_of};
+ghost use Rattle.addr2line_ranges.specs.UnitRanges.{is_partial};
 
-use gimli_dwarf::{DW_TAG_partial_unit, DebuggingInformationEntry};
-use gimli_lines_rows::{Reader, UnitHeader, UnitType};
+use addr2line_ranges::{
+    DW_TAG_partial_unit, DebuggingInformationEntry, Reader, UnitHeader, UnitType,
+};
 
 /// Whether a unit is one that others import: by its header, or by its root's tag, which alone says
 /// so before version 5.

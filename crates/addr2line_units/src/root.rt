@@ -1,24 +1,24 @@
 //! What a unit's root says of lookups (DWARF 5, 3.1.1).
 
 ghost use Rattle.std.specs.Prelude.{◌≡◌, IfOk};
-ghost use Rattle.gimli_lines_rows.specs.Calls.{ReturnsAsOrNoMemory};
-ghost use Rattle.gimli_dwarf.specs.EntryViews.{entry_of, raw_attributes};
-ghost use Rattle.addr2line_index.specs.UnitLines.{lines_of_unit};
-ghost use Rattle.addr2line_index.specs.Contexts.{unit_of_root, unit_of_entry};
-ghost use Rattle.addr2line_units.specs.ArangeIndexes.{IsIndexOf};
+ghost use Rattle.addr2line_ranges.specs.Calls.{ReturnsAsOrNoMemory};
+ghost use Rattle.addr2line_ranges.specs.EntryViews.{entry_of, raw_attributes};
+ghost use Rattle.addr2line_ranges.specs.UnitLines.{lines_of_unit};
+ghost use Rattle.addr2line_ranges.specs.Contexts.{unit_of_root, unit_of_entry};
+ghost use Rattle.addr2line_ranges.specs.ArangeIndexes.{IsIndexOf};
 ghost use Rattle.addr2line_units.specs.LastPrograms.{HasHeaderInFile};
 ghost use Rattle.addr2line_units.specs.LastRanges.{AreLastOf, AreLastFor, counter_of};
 ghost use Rattle.addr2line_units.specs.RootRanges.{RunsForRanges, unit_with};
 
-use crate::arange_index::ArangeIndex;
 use crate::language::language_of;
 use crate::last_ranges::LastRanges;
 use crate::partial::is_partial;
 use crate::ranges::{RootRanges, ranges_of_attributes};
-use crate::unit_lines::Runs;
-use addr2line_index::{LineIndex, Probes};
-use gimli_dwarf::{DebuggingInformationEntry, UnitRef};
-use gimli_lines_rows::{Attribute, DwLang, Error, Range, Reader};
+use addr2line_lines::Runs;
+use addr2line_ranges::{
+    ArangeIndex, Attribute, DebuggingInformationEntry, DwLang, Error, LineIndex, Probes, Range,
+    Reader, UnitRef,
+};
 use std::alloc::Global;
 use std::marker::Model;
 use std::rc::Rc;

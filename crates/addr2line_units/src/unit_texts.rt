@@ -1,12 +1,11 @@
 //! The texts that a unit says of itself: its directory and its name.
 
 ghost use Rattle.std.specs.Prelude.{◌≡◌, true, Ok, option_map};
-ghost use Rattle.gimli_lines_rows.specs.Calls.{ReturnsAsOrNoMemory, ReturnsOrNoMemory};
-ghost use Rattle.addr2line_index.specs.FileTexts.{bytes_of};
+ghost use Rattle.addr2line_ranges.specs.Calls.{ReturnsAsOrNoMemory, ReturnsOrNoMemory};
+ghost use Rattle.addr2line_ranges.specs.FileTexts.{bytes_of};
 ghost use Rattle.addr2line_units.specs.LastPrograms.{unit_texts};
 
-use gimli_dwarf::UnitRef;
-use gimli_lines_rows::{Error, Reader};
+use addr2line_ranges::{Error, Reader, UnitRef};
 use std::marker::Model;
 
 /// The directory and the name of a unit, which the texts of its files depend on (DWARF 4, 6.2.4).
@@ -18,7 +17,7 @@ pub struct UnitTexts<R: Reader> {
 
 impl<R: Reader> Model for UnitTexts<R> {
     ghost use Rattle.std.specs.Prelude.{option_map};
-    ghost use Rattle.addr2line_index.specs.FileTexts.{bytes_of};
+    ghost use Rattle.addr2line_ranges.specs.FileTexts.{bytes_of};
     ghost use Rattle.addr2line_units.specs.LastPrograms.{UnitTexts as Texts};
 
     ghost Value = { Texts };

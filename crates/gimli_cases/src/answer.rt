@@ -146,6 +146,15 @@ impl Answer {
         }
     }
 
+    /// Bytes in hexadecimal, `-` for none.
+    pub fn digits_or_none(&mut self, bytes: &[u8]) {
+        if bytes.is_empty() {
+            self.text("-");
+        } else {
+            self.digits(bytes);
+        }
+    }
+
     /// The bytes left, in hexadecimal, `-` for none.
     pub fn bytes<R: Reader>(&mut self, reader: &R) {
         if reader.is_empty() {

@@ -56,7 +56,8 @@ fn attributes<R: Reader>(case: &Case, reader: &mut R, out: &mut Answer) {
     out.bytes(reader);
 }
 
-fn value_of<R: Reader>(found: &Result<AttributeValue<R>, Error>, out: &mut Answer) {
+/// A value, or why there is none.
+pub fn value_of<R: Reader>(found: &Result<AttributeValue<R>, Error>, out: &mut Answer) {
     match found {
         Ok(found) => value(found, out),
         Err(error) => out.refuse(*error),

@@ -8,6 +8,7 @@ use crate::programs;
 use gimli_core::{Encoding, Endianity, LineEncoding};
 use gimli_lines::write::{
     EndianVec, Error, FileId, FileInfo, LineProgram, LineString, LineStringId, LineStringTable,
+    StringTable,
 };
 use std::alloc::Global;
 
@@ -55,8 +56,11 @@ fn write_case<E: Endianity>(
 ) -> Result<Vec<u8>, Error> {
     let (source, header) = files(alloc, texts, out)?;
     let mut program = program(alloc, case, source, out)?;
-    add_files_and_rows(&mut program, case.value, source, header, out)?;
-    programs::unit(alloc, &program, texts, order, out)
+    if !case.program.is_bare {
+        add_files_and_rows(&mut program, case, source, header, out)?;
+    }
+    let mut strings = StringTable::new(alloc);
+    programs::unit(alloc, case, &program, &mut strings, texts, order, out)
 }
 
 // ---- texts
@@ -103,7 +107,7 @@ fn text(
 
 // ---- programs
 
-// A program of a source file and its directory, which records the texts of files.
+// A program of a source file and its directory.
 fn new_program(alloc: Global, case: &Case, source: FileTexts) -> Result<LineProgram, Error> {
     let encoding = Encoding {
         address_size: if case.address_size == 4 { 4 } else { 8 },
@@ -113,7 +117,7 @@ fn new_program(alloc: Global, case: &Case, source: FileTexts) -> Result<LineProg
     let path = LineString::LineStringRef(source.path);
     match LineProgram::new(alloc, encoding, LineEncoding::default(), directory, path) {
         Ok(mut program) => {
-            program.file_has_source = true;
+            programs::record_details(case, &mut program);
             Ok(program)
         }
         Err(error) => Err(error),
@@ -137,14 +141,14 @@ fn program(
 
 fn add_files_and_rows(
     program: &mut LineProgram,
-    address: u64,
+    case: &Case,
     source: FileTexts,
     header: FileTexts,
     out: &mut Answer,
 ) -> Result<(), Error> {
     let source = file(program, source, out)?;
     let header = file(program, header, out)?;
-    programs::add_rows(program, address, source, header, out)
+    programs::add_rows(program, case, source, header, out)
 }
 
 fn add_file(program: &mut LineProgram, file: FileTexts) -> Result<FileId, Error> {

@@ -49,6 +49,41 @@ impl From<FromHexError> for Mistake {
     }
 }
 
+/// The words of a question about the program of a unit.
+#[derive(Default, Drop)]
+pub struct ProgramWords {
+    /// `by_reference`: its texts are in a table.
+    pub is_by_reference: bool,
+    /// `bare`: it has no files but that of the unit, and no rows.
+    pub is_bare: bool,
+    /// `strp`: it has a directory whose text is in `.debug_str`.
+    pub has_reference: bool,
+    /// `back`: its second row is after the address 0.
+    pub goes_back: bool,
+    /// `timestamps`, `sizes`, `digests` and `sources`: what it records of files in version 5.
+    pub has_timestamps: bool,
+    pub has_sizes: bool,
+    pub has_digests: bool,
+    pub has_sources: bool,
+}
+
+impl ProgramWords {
+    fn add(&mut self, word: &str) -> Result<(), Mistake> {
+        match word {
+            "by_reference" => self.is_by_reference = true,
+            "bare" => self.is_bare = true,
+            "strp" => self.has_reference = true,
+            "back" => self.goes_back = true,
+            "timestamps" => self.has_timestamps = true,
+            "sizes" => self.has_sizes = true,
+            "digests" => self.has_digests = true,
+            "sources" => self.has_sources = true,
+            _ => return Err(Mistake::Word),
+        }
+        Ok(())
+    }
+}
+
 /// A question: an operation, its numbers and its sections. A number that isn't given is 0.
 #[derive(Drop)]
 pub struct Case {
@@ -56,15 +91,13 @@ pub struct Case {
     pub is_big: bool,
     /// The word `dwo`: the question is about a split file.
     pub is_split: bool,
-    /// The word `by_reference`: the texts of a program are in a table.
-    pub is_by_reference: bool,
+    /// What the program of the question has.
+    pub program: ProgramWords,
     pub format: Format,
     pub version: u16,
     pub address_size: u8,
-    /// The bytes of a number.
+    /// The bytes of a number; also a byte that is looked for, and the operations of an instruction.
     pub size: u8,
-    /// The identifier of the first byte of each section.
-    pub first: u32,
     pub offset: u64,
     pub base: u64,
     pub index: u64,
@@ -72,7 +105,9 @@ pub struct Case {
     pub signed: i64,
     pub name: DwAt,
     pub forms: Vec<DwForm>,
-    sections: Vec<Vec<u8>>,
+    pub sections: Vec<Vec<u8>>,
+    // The identifiers of the first bytes of sections.
+    firsts: Vec<u32>,
 }
 
 impl Case {
@@ -82,12 +117,11 @@ impl Case {
             operation,
             is_big: false,
             is_split: false,
-            is_by_reference: false,
+            program: ProgramWords::default(),
             format: Format::Dwarf32,
             version: 0,
             address_size: 4,
             size: 0,
-            first: 0,
             offset: 0,
             base: 0,
             index: 0,
@@ -96,6 +130,7 @@ impl Case {
             name: DwAt(0),
             forms: Vec::new(alloc),
             sections: Vec::new(alloc),
+            firsts: Vec::new(alloc),
         }
     }
 
@@ -125,9 +160,8 @@ impl Case {
         match word {
             "big" => self.is_big = true,
             "dwo" => self.is_split = true,
-            "by_reference" => self.is_by_reference = true,
             "dwarf64" => self.format = Format::Dwarf64,
-            _ => return Err(Mistake::Word),
+            _ => return self.program.add(word),
         }
         Ok(())
     }
@@ -137,7 +171,9 @@ impl Case {
             "version" => self.version = number.parse().map_err(|_| Mistake::Word)?,
             "address_size" => self.address_size = number.parse().map_err(|_| Mistake::Word)?,
             "size" => self.size = number.parse().map_err(|_| Mistake::Word)?,
-            "first" => self.first = number.parse().map_err(|_| Mistake::Word)?,
+            "first" => self
+                .firsts
+                .push(number.parse().map_err(|_| Mistake::Word)?)?,
             "signed" => self.signed = number.parse().map_err(|_| Mistake::Word)?,
             "name" => self.name = DwAt(number.parse().map_err(|_| Mistake::Word)?),
             "form" => self
@@ -157,6 +193,14 @@ impl Case {
             _ => return Err(Mistake::Word),
         }
         Ok(())
+    }
+
+    /// The identifier of the first byte of a section, 0 where it isn't given.
+    pub fn first(&self, number: usize) -> u32 {
+        match self.firsts.get(number) {
+            Some(first) => *first,
+            None => 0,
+        }
     }
 
     /// The bytes of a section, none where it isn't given.

@@ -5,23 +5,32 @@
 pub enum Facility {
     Refusals,
     Numbers,
+    Parts,
+    SliceParts,
     Widths,
     Bases,
     SectionNames,
     Sections,
+    Borrowed,
+    Caches,
     Units,
+    UnitParts,
     Entries,
     Attributes,
     Ranges,
     Locations,
     ListsHeader,
+    RangePlaces,
     Lines,
+    Steps,
     Writing,
     Programs,
+    ProgramParts,
+    Tables,
     Unknown,
 }
 
-const OPERATIONS: [(Facility, &[&str]); 15] = [
+const OPERATIONS: [(Facility, &[&str]); 24] = [
     (Facility::Refusals, &["refusals"]),
     (
         Facility::Numbers,
@@ -50,6 +59,8 @@ const OPERATIONS: [(Facility, &[&str]); 15] = [
             "initial_length",
         ],
     ),
+    (Facility::Parts, &["parts"]),
+    (Facility::SliceParts, &["slice_parts"]),
     (Facility::Widths, &["width_of_forms"]),
     (Facility::Bases, &["default_bases"]),
     (Facility::SectionNames, &["section_names"]),
@@ -66,6 +77,18 @@ const OPERATIONS: [(Facility, &[&str]); 15] = [
         ],
     ),
     (
+        Facility::Borrowed,
+        &[
+            "borrowed_sections",
+            "borrowed_line_string",
+            "borrowed_units",
+        ],
+    ),
+    (
+        Facility::Caches,
+        &["cache_of_all", "cache_of_duplicates", "cache_of_one"],
+    ),
+    (
         Facility::Units,
         &[
             "units",
@@ -77,9 +100,16 @@ const OPERATIONS: [(Facility, &[&str]); 15] = [
             "aranges_by_one",
         ],
     ),
+    (Facility::UnitParts, &["unit_parts"]),
     (
         Facility::Entries,
-        &["entries", "entries_skipped", "entry", "attribute_of_entry"],
+        &[
+            "entries",
+            "entries_skipped",
+            "attributes_from",
+            "entry",
+            "attribute_of_entry",
+        ],
     ),
     (
         Facility::Attributes,
@@ -106,6 +136,7 @@ const OPERATIONS: [(Facility, &[&str]); 15] = [
         ],
     ),
     (Facility::ListsHeader, &["lists_header"]),
+    (Facility::RangePlaces, &["place_in_ranges"]),
     (
         Facility::Lines,
         &[
@@ -119,6 +150,7 @@ const OPERATIONS: [(Facility, &[&str]); 15] = [
             "line_sequences",
         ],
     ),
+    (Facility::Steps, &["line_steps", "line_copy"]),
     (
         Facility::Writing,
         &[
@@ -137,7 +169,9 @@ const OPERATIONS: [(Facility, &[&str]); 15] = [
             "write_bytes",
         ],
     ),
-    (Facility::Programs, &["line_program"]),
+    (Facility::Programs, &["line_program", "line_unit"]),
+    (Facility::ProgramParts, &["program_parts", "no_program"]),
+    (Facility::Tables, &["string_tables", "header_text"]),
 ];
 
 /// What an operation is about.

@@ -3,7 +3,6 @@
 use crate::answer::Answer;
 use crate::attributes;
 use crate::case::Case;
-use crate::sections::Sections;
 use gimli_core::{DebugLineOffset, Error, Reader};
 use gimli_lines::{
     BorrowedLineProgram, ColumnType, CompleteLineProgram, DebugLine, FileEntry,
@@ -12,10 +11,16 @@ use gimli_lines::{
 };
 use std::alloc::Global;
 
-/// Answers a question about line number programs. The second and third sections are the unit's
-/// directory and name.
-pub fn answer<R: Reader>(alloc: Global, case: &Case, sections: Sections<R>, out: &mut Answer) {
-    match header(alloc, case, sections) {
+/// Answers a question about a line number program of a unit.
+pub fn answer<R: Reader>(
+    alloc: Global,
+    case: &Case,
+    section: &DebugLine<R>,
+    directory: R,
+    name: R,
+    out: &mut Answer,
+) {
+    match header(alloc, case, section, Some(directory), Some(name)) {
         Ok(header) => match case.operation.as_str() {
             "line_header" => line_header(&header, out),
             "line_parameters" => parameters(&header, out),
@@ -31,18 +36,18 @@ pub fn answer<R: Reader>(alloc: Global, case: &Case, sections: Sections<R>, out:
     }
 }
 
-fn header<R: Reader>(
+/// The header at the offset.
+pub fn header<R: Reader>(
     alloc: Global,
     case: &Case,
-    sections: Sections<R>,
+    section: &DebugLine<R>,
+    directory: Option<R>,
+    name: Option<R>,
 ) -> Result<LineProgramHeader<R>, Error> {
-    let (directory, name) = (sections.second, sections.third);
-    let section = DebugLine::from(sections.first);
     let size = case.address_size;
     match (case.offset(), size) {
         (Ok(offset), 1 | 2 | 4 | 8) => {
-            let offset = DebugLineOffset(offset);
-            section.header(alloc, offset, size, Some(directory), Some(name))
+            section.header(alloc, DebugLineOffset(offset), size, directory, name)
         }
         (Ok(_), _) => Err(Error::UnsupportedAddressSize(size)),
         (Err(error), _) => Err(error),
@@ -190,15 +195,15 @@ fn row(row: &LineRow, out: &mut Answer) {
     out.text("]");
 }
 
-// The line of a row, 0 for none.
-fn line_of(row: &LineRow) -> u64 {
+/// The line of a row, 0 for none.
+pub fn line_of(row: &LineRow) -> u64 {
     match row.line() {
         Some(line) => line.get(),
         None => 0,
     }
 }
 
-// The instructions, with a refusal in its place.
+// The instructions, with a refusal in its place. A copy of what read one reads the next.
 fn instructions<R: Reader>(header: &LineProgramHeader<R>, out: &mut Answer) {
     match header.instructions() {
         Ok(mut instructions) => {
@@ -208,13 +213,17 @@ fn instructions<R: Reader>(header: &LineProgramHeader<R>, out: &mut Answer) {
                     Ok(None) => break,
                     Err(error) => out.refuse(error),
                 }
+                if let Ok(copy) = instructions.copy() {
+                    instructions = copy;
+                }
             }
         }
         Err(error) => out.refuse(error),
     }
 }
 
-fn instruction<R: Reader>(found: &LineInstruction<R>, out: &mut Answer) {
+/// An instruction: its kind, and its operand.
+pub fn instruction<R: Reader>(found: &LineInstruction<R>, out: &mut Answer) {
     let (kind, operand) = match found {
         LineInstruction::Special(opcode) => ("Special", u64::from(*opcode)),
         LineInstruction::AdvancePc(operations) => ("AdvancePc", *operations),

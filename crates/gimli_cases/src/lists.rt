@@ -6,6 +6,7 @@ use crate::sections::Sections;
 use gimli_core::{
     DebugAddr, DebugAddrBase, DebugLocListsBase, DebugLocListsIndex, DebugRngListsBase,
     DebugRngListsIndex, Error, LocationListsOffset, RangeListsOffset, Reader, ReaderOffset,
+    ReaderOffsetId,
 };
 use gimli_units::{
     DebugLoc, DebugLocLists, DebugRanges, DebugRngLists, ListsHeader, LocListIter,
@@ -42,6 +43,14 @@ fn range_lists<R: Reader>(case: &Case, lists: R, none: R) -> RangeLists<R> {
     } else {
         RangeLists::new(DebugRanges::from(none), DebugRngLists::from(lists))
     }
+}
+
+/// The section that the identifier of the index is in, and the place in it. The first section is
+/// that of units up to version 4, and the second that of later ones.
+pub fn place_in_ranges<R: Reader>(case: &Case, sections: Sections<R>, out: &mut Answer) {
+    let ranges = DebugRanges::from(sections.first);
+    let lists = RangeLists::new(ranges, DebugRngLists::from(sections.second));
+    out.code(&lists.lookup_offset_id(ReaderOffsetId(case.index)));
 }
 
 fn ranges_of<R: Reader>(

@@ -7,15 +7,22 @@
 
 mod answer;
 mod attributes;
+mod borrowed;
 mod by_reference;
+mod caches;
 mod case;
 mod facility;
 mod lines;
 mod lists;
 mod numbers;
+mod parts;
+mod program_parts;
 mod programs;
 mod refusals;
 mod sections;
+mod steps;
+mod tables;
+mod unit_parts;
 mod units;
 mod writing;
 
@@ -27,6 +34,7 @@ use gimli_core::{
     BigEndian, EndianBytes, EndianSlice, Endianity, LittleEndian, Reader, ReaderOffsetId,
     RunTimeEndian,
 };
+use gimli_lines::DebugLine;
 use sections::Sections;
 use std::alloc::{AllocError, Global};
 use std::io::{BufRead, BufReader};
@@ -105,7 +113,7 @@ fn borrowed_sections<E: Endianity>(case: &Case, order: E) -> Sections<EndianSlic
 }
 
 fn borrowed_reader<E: Endianity>(case: &Case, number: usize, order: E) -> EndianSlice<'_, E> {
-    let first = ReaderOffsetId(u64::from(case.first));
+    let first = ReaderOffsetId(u64::from(case.first(number)));
     EndianSlice::with_first_id(case.section(number), order, first)
 }
 
@@ -125,8 +133,13 @@ fn shared_reader(
     number: usize,
 ) -> Result<EndianBytes<RunTimeEndian>, AllocError> {
     let bytes = Bytes::copy_from_slice(alloc, case.section(number))?;
-    let first = ReaderOffsetId(u64::from(case.first));
-    Ok(EndianBytes::with_first_id(bytes, case.order(), first))
+    match case.first(number) {
+        0 => Ok(EndianBytes::new(bytes, case.order())),
+        first => {
+            let first = ReaderOffsetId(u64::from(first));
+            Ok(EndianBytes::with_first_id(bytes, case.order(), first))
+        }
+    }
 }
 
 fn answer_with<R: Reader>(
@@ -143,20 +156,32 @@ fn answer_with<R: Reader>(
 fn dispatch<R: Reader>(alloc: Global, case: &Case, sections: Sections<R>, out: &mut Answer) {
     match facility_of(&case.operation) {
         Facility::Refusals => refusals::answer(out),
-        Facility::Numbers => numbers::answer(case, sections.first, out),
+        Facility::Numbers => numbers::answer(alloc, case, sections.first, out),
+        Facility::Parts => parts::answer(case, sections.first, out),
+        Facility::SliceParts => parts::answer_about_slices(case, out),
         Facility::Widths => sections::widths(case, out),
         Facility::Bases => sections::default_bases(case, out),
         Facility::SectionNames => sections::names::<R>(out),
         Facility::Sections => sections::answer(alloc, case, sections, out),
+        Facility::Borrowed => borrowed::answer(alloc, case, out),
+        Facility::Caches => caches::answer(alloc, case, sections, out),
         Facility::Units => units::answer(case, sections.first, out),
+        Facility::UnitParts => unit_parts::answer(case, sections.first, out),
         Facility::Entries => units::answer_about_entries(alloc, case, sections, out),
         Facility::Attributes => attributes::answer(alloc, case, sections, out),
         Facility::Ranges => lists::answer(case, sections, out),
         Facility::Locations => lists::answer_about_locations(case, sections, out),
         Facility::ListsHeader => lists::lists_header(sections.first, out),
-        Facility::Lines => lines::answer(alloc, case, sections, out),
+        Facility::RangePlaces => lists::place_in_ranges(case, sections, out),
+        Facility::Lines => {
+            let section = DebugLine::from(sections.first);
+            lines::answer(alloc, case, &section, sections.second, sections.third, out);
+        }
+        Facility::Steps => steps::answer(alloc, case, sections, out),
         Facility::Writing => writing::answer(alloc, case, sections.first.endian(), out),
         Facility::Programs => programs::answer(alloc, case, sections.first.endian(), out),
+        Facility::ProgramParts => program_parts::answer(alloc, case, out),
+        Facility::Tables => tables::answer(alloc, case, out),
         Facility::Unknown => out.text("no such operation"),
     }
 }

@@ -3,11 +3,13 @@
 use crate::answer::Answer;
 use crate::case::Case;
 use gimli_core::{Error, Format, Leb128, LineEncoding, Reader, ReaderOffset, leb128};
+use std::alloc::Global;
+use std::borrow::CowStr;
 
 /// Answers a question about numbers and texts.
-pub fn answer<R: Reader>(case: &Case, mut reader: R, out: &mut Answer) {
+pub fn answer<R: Reader>(alloc: Global, case: &Case, mut reader: R, out: &mut Answer) {
     match case.operation.as_str() {
-        "text" => texts(&reader, out),
+        "text" => texts(alloc, &reader, out),
         "uleb128_of" => string_of(Leb128::unsigned(case.value), out),
         "sleb128_of" => string_of(Leb128::signed(case.signed), out),
         "usual_line_encoding" => out.code(&LineEncoding::default()),
@@ -115,12 +117,17 @@ fn initial_length<R: Reader>(reader: &mut R, out: &mut Answer) -> bool {
     }
 }
 
-// The text with its faults replaced, and the text if it has none.
-fn texts<R: Reader>(reader: &R, out: &mut Answer) {
+// The text with its faults replaced, the text if it has none, and whether the first is lent.
+fn texts<R: Reader>(alloc: Global, reader: &R, out: &mut Answer) {
     out.lossy(reader);
     out.text(" ");
     match reader.to_string() {
         Ok(text) => out.text(text.as_str()),
+        Err(error) => out.refuse(error),
+    }
+    match reader.to_string_lossy(alloc) {
+        Ok(CowStr::Borrowed(_)) => out.text(", lent"),
+        Ok(_) => {}
         Err(error) => out.refuse(error),
     }
 }

@@ -24,10 +24,10 @@ pub fn answer<R: Reader>(alloc: Global, case: &Case, sections: Sections<R>, out:
     match case.operation.as_str() {
         "abbreviations" => abbreviations(table(alloc, section, case.offset()), out),
         "same_abbreviation" => same_abbreviation(alloc, section, sections.second, out),
-        "string" => string(case, section, out),
-        "line_string" => line_string(case, section, out),
-        "string_offset" => string_offset(case, section, out),
-        "address_at" => address_at(case, section, out),
+        "string" => string(case, &DebugStr::from(section), out),
+        "line_string" => line_string(case, &DebugLineStr::from(section), out),
+        "string_offset" => string_offset(case, &DebugStrOffsets::from(section), out),
+        "address_at" => address_at(case, &DebugAddr::from(section), out),
         _ => address_sets(section, out),
     }
 }
@@ -44,17 +44,20 @@ pub fn table<R: Reader>(
     }
 }
 
-// The declarations of the first codes.
-fn abbreviations(table: Result<Abbreviations, Error>, out: &mut Answer) {
+/// The declarations of a table, or its refusal.
+pub fn abbreviations(table: Result<Abbreviations, Error>, out: &mut Answer) {
     match table {
-        Ok(table) => {
-            for code in 0..8 {
-                if let Some(found) = table.get(code) {
-                    declaration(found, out);
-                }
-            }
-        }
+        Ok(table) => declarations(&table, out),
         Err(error) => out.refuse(error),
+    }
+}
+
+/// The declarations of the first codes.
+pub fn declarations(table: &Abbreviations, out: &mut Answer) {
+    for code in 0..8 {
+        if let Some(found) = table.get(code) {
+            declaration(found, out);
+        }
     }
 }
 
@@ -107,25 +110,28 @@ pub fn widths(case: &Case, out: &mut Answer) {
     }
 }
 
-fn string<R: Reader>(case: &Case, section: R, out: &mut Answer) {
+/// The string at the offset.
+pub fn string<R: Reader>(case: &Case, section: &DebugStr<R>, out: &mut Answer) {
     match case.offset() {
-        Ok(offset) => out.text_of(DebugStr::from(section).get_str(DebugStrOffset(offset))),
+        Ok(offset) => out.text_of(section.get_str(DebugStrOffset(offset))),
         Err(error) => out.refuse(error),
     }
 }
 
-fn line_string<R: Reader>(case: &Case, section: R, out: &mut Answer) {
+/// The same in the other section of strings.
+pub fn line_string<R: Reader>(case: &Case, section: &DebugLineStr<R>, out: &mut Answer) {
     match case.offset() {
-        Ok(offset) => out.text_of(DebugLineStr::from(section).get_str(DebugLineStrOffset(offset))),
+        Ok(offset) => out.text_of(section.get_str(DebugLineStrOffset(offset))),
         Err(error) => out.refuse(error),
     }
 }
 
-fn string_offset<R: Reader>(case: &Case, section: R, out: &mut Answer) {
+/// The offset of a string, after the base and by the index.
+pub fn string_offset<R: Reader>(case: &Case, section: &DebugStrOffsets<R>, out: &mut Answer) {
     match case.base_and_index() {
         Ok((base, index)) => {
             let (base, index) = (DebugStrOffsetsBase(base), DebugStrOffsetsIndex(index));
-            match DebugStrOffsets::from(section).get_str_offset(case.format, base, index) {
+            match section.get_str_offset(case.format, base, index) {
                 Ok(offset) => out.value(&offset.0.into_u64()),
                 Err(error) => out.refuse(error),
             }
@@ -134,11 +140,12 @@ fn string_offset<R: Reader>(case: &Case, section: R, out: &mut Answer) {
     }
 }
 
-fn address_at<R: Reader>(case: &Case, section: R, out: &mut Answer) {
+/// An address, after the base and by the index.
+pub fn address_at<R: Reader>(case: &Case, section: &DebugAddr<R>, out: &mut Answer) {
     match case.base_and_index() {
         Ok((base, index)) => {
             let (base, index) = (DebugAddrBase(base), DebugAddrIndex(index));
-            match DebugAddr::from(section).get_address(case.address_size, base, index) {
+            match section.get_address(case.address_size, base, index) {
                 Ok(address) => out.hex(address),
                 Err(error) => out.refuse(error),
             }

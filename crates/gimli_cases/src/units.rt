@@ -6,8 +6,9 @@ use crate::case::Case;
 use crate::sections::{Sections, table};
 use gimli_core::{Abbreviations, DebugAbbrev, DebugArangesOffset, Error, Reader, ReaderOffset};
 use gimli_units::{
-    ArangeEntry, ArangeEntryIter, ArangeHeader, DebugAranges, DebugInfo, DebugInfoOffset,
-    DebuggingInformationEntry, EntriesRaw, UnitEntries, UnitHeader, UnitOffset, entries_raw,
+    ArangeEntry, ArangeEntryIter, ArangeHeader, Attribute, DebugAranges, DebugInfo,
+    DebugInfoOffset, DebuggingInformationEntry, EntriesRaw, UnitEntries, UnitHeader, UnitOffset,
+    entries_raw,
 };
 use std::alloc::Global;
 
@@ -15,9 +16,9 @@ use std::alloc::Global;
 pub fn answer<R: Reader>(case: &Case, section: R, out: &mut Answer) {
     match case.operation.as_str() {
         "units" => units(section, out),
-        "unit" => one_unit(&unit(case, section), out),
-        "size_of_header" => size_of_header(&unit(case, section), out),
-        "tombstone" => tombstone(case, &unit(case, section), out),
+        "unit" => one_unit(&unit(case, &DebugInfo::from(section)), out),
+        "size_of_header" => size_of_header(&unit(case, &DebugInfo::from(section)), out),
+        "tombstone" => tombstone(case, &unit(case, &DebugInfo::from(section)), out),
         "arange_sets" => arange_sets(section, out),
         "aranges" => aranges(pairs(case, section), out),
         _ => aranges_by_one(pairs(case, section), out),
@@ -34,14 +35,16 @@ pub fn answer_about_entries<R: Reader>(
     match case.operation.as_str() {
         "entries" => entries(alloc, first_unit(alloc, sections), out),
         "entries_skipped" => entries_skipped(first_unit(alloc, sections), out),
+        "attributes_from" => attributes_from(alloc, case, first_unit(alloc, sections), out),
         "entry" => one_entry(&entry(alloc, case, sections), out),
         _ => attribute_of_entry(case, entry(alloc, case, sections), out),
     }
 }
 
-fn unit<R: Reader>(case: &Case, section: R) -> Result<UnitHeader<R>, Error> {
+/// The unit at the offset.
+pub fn unit<R: Reader>(case: &Case, section: &DebugInfo<R>) -> Result<UnitHeader<R>, Error> {
     match case.offset() {
-        Ok(offset) => DebugInfo::from(section).header_from_offset(DebugInfoOffset(offset)),
+        Ok(offset) => section.header_from_offset(DebugInfoOffset(offset)),
         Err(error) => Err(error),
     }
 }
@@ -62,7 +65,8 @@ fn units<R: Reader>(section: R, out: &mut Answer) {
     }
 }
 
-fn one_unit<R: Reader>(unit: &Result<UnitHeader<R>, Error>, out: &mut Answer) {
+/// A unit, or why it can't be read.
+pub fn one_unit<R: Reader>(unit: &Result<UnitHeader<R>, Error>, out: &mut Answer) {
     match unit {
         Ok(unit) => header(unit, out),
         Err(error) => out.refuse(*error),
@@ -305,6 +309,81 @@ fn skip_entry<R: Reader>(entries: &mut EntriesRaw<'_, R>, out: &mut Answer) -> b
             out.refuse(error);
             false
         }
+    }
+}
+
+// The attributes of the entry at the offset, and then its first attribute twice.
+fn attributes_from<R: Reader>(
+    alloc: Global,
+    case: &Case,
+    unit: Result<(UnitHeader<R>, Abbreviations), Error>,
+    out: &mut Answer,
+) {
+    match (unit, case.offset()) {
+        (Ok((unit, table)), Ok(offset)) => {
+            let offset = UnitOffset(offset);
+            match entries_raw(&unit, &table, Some(offset)) {
+                Ok(mut entries) => read_attributes(alloc, &mut entries, out),
+                Err(error) => out.refuse(error),
+            }
+            match entries_raw(&unit, &table, Some(offset)) {
+                Ok(mut entries) => read_twice(&mut entries, out),
+                Err(error) => out.refuse(error),
+            }
+        }
+        (Err(error), _) => out.refuse(error),
+        (_, Err(error)) => out.refuse(error),
+    }
+}
+
+// The attributes, each with its form, and the depth after them.
+fn read_attributes<R: Reader>(alloc: Global, entries: &mut EntriesRaw<'_, R>, out: &mut Answer) {
+    let mut found = Vec::new(alloc);
+    let outcome = match entries.read_abbreviation() {
+        Ok(Some(declared)) => entries.read_attributes(declared.attributes(), &mut found),
+        Ok(None) => Ok(()),
+        Err(error) => Err(error),
+    };
+    for attribute in found.iter() {
+        out.code(&attribute.form());
+        attributes::value_of(&attribute.raw_value(), out);
+    }
+    match outcome {
+        Ok(()) => {
+            out.text(" depth ");
+            out.value(&entries.next_depth());
+        }
+        Err(error) => out.refuse(error),
+    }
+}
+
+// The first attribute, and what its form makes of the bytes after it.
+fn read_twice<R: Reader>(entries: &mut EntriesRaw<'_, R>, out: &mut Answer) {
+    match entries.read_abbreviation() {
+        Ok(Some(declared)) => {
+            if let Some(first) = declared.attributes().first() {
+                copy_of(entries.read_attribute(*first), out);
+                copy_of(entries.read_attribute_inline(*first), out);
+            }
+        }
+        Ok(None) => out.text("null"),
+        Err(error) => out.refuse(error),
+    }
+}
+
+// The number of a copy of an attribute's value.
+fn copy_of<R: Reader>(attribute: Result<Attribute<R>, Error>, out: &mut Answer) {
+    out.text(", ");
+    let value = match attribute {
+        Ok(attribute) => attribute.raw_value(),
+        Err(error) => Err(error),
+    };
+    match value {
+        Ok(value) => match value.copy() {
+            Ok(copy) => out.code(&copy.udata_value()),
+            Err(error) => out.refuse(error),
+        },
+        Err(error) => out.refuse(error),
     }
 }
 

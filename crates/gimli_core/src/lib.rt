@@ -193,6 +193,3 @@ pub mod laws {
     pub use gimli_core_base::number_laws as numbers;
     pub use gimli_core_readers::laws as readers;
 }
-
-#[cfg(test)]
-mod tests;

@@ -24,6 +24,3 @@ pub mod laws {
         unit_laws as units_written,
     };
 }
-
-#[cfg(test)]
-mod tests;

@@ -30,7 +30,6 @@ use std::alloc::Global;
 use std::marker::Model;
 
 /// A line number program: directories, files and sequences of rows. A refused call changes nothing.
-#[derive(Drop)]
 pub struct LineProgram {
     is_none: bool,
     tables: FileTable,
@@ -43,6 +42,20 @@ pub struct LineProgram {
     pub file_has_md5: bool,
     /// Whether texts are recorded of files, in version 5.
     pub file_has_source: bool,
+}
+
+impl Drop for LineProgram {
+    fn drop(self) {
+        let LineProgram {
+            is_none: _,
+            tables: _,
+            rows: _,
+            file_has_timestamp: _,
+            file_has_size: _,
+            file_has_md5: _,
+            file_has_source: _,
+        } = self;
+    }
 }
 
 impl Model for LineProgram {

@@ -20,6 +20,3 @@ pub mod laws {
         bytes_are_small_numbers, entry_laws as entries, skipping_follows_reading, skips_by_runs,
     };
 }
-
-#[cfg(test)]
-mod tests;

@@ -1,13 +1,16 @@
 //! Answers as they are written.
 
-use crate::emission::Refusal;
-use addr2line_context::Error;
+use crate::tables::Refusal;
+use addr2line_context::{Error, Reader};
 use linemap_lookup::LoadError;
 use std::alloc::{AllocError, Global};
 use std::io::ErrorKind;
 use std::{fmt, io};
 
-/// The text of an answer. Its calls never fail, so that the code that writes has one way through
+// What an answer begins with that is the second one, after memory was refused for the first.
+const AGAIN: &str = "E1, then ";
+
+/// The text of answers. Its calls never fail, so that the code that writes has one way through
 /// it; where memory is short, `finish` says so.
 #[derive(Drop)]
 pub struct Answer {
@@ -50,7 +53,7 @@ impl Answer {
 
     /// What comes before an answer to what is asked again.
     pub fn again(&mut self) {
-        self.text("E1, then ");
+        self.text(AGAIN);
     }
 
     pub fn text(&mut self, text: &str) {
@@ -62,6 +65,13 @@ impl Answer {
     /// A value for readers.
     pub fn value<T: fmt::Display>(&mut self, value: &T) {
         if write!(self.text, "{value}").is_err() {
+            self.refuse_memory();
+        }
+    }
+
+    /// A value as it is written in code.
+    pub fn code<T: fmt::Debug>(&mut self, value: &T) {
+        if write!(self.text, "{value:?}").is_err() {
             self.refuse_memory();
         }
     }
@@ -88,6 +98,22 @@ impl Answer {
         }
     }
 
+    /// The bytes left as a text.
+    pub fn lossy<R: Reader>(&mut self, reader: &R) {
+        match reader.to_string_lossy(self.alloc) {
+            Ok(text) => self.text(text.as_str()),
+            Err(error) => self.refuse_named(error),
+        }
+    }
+
+    /// The same, `-` for none.
+    pub fn lossy_if_any<R: Reader>(&mut self, reader: &Option<R>) {
+        match reader {
+            Some(reader) => self.lossy(reader),
+            None => self.text("-"),
+        }
+    }
+
     // ---- refusals
 
     /// Records that memory was refused.
@@ -100,6 +126,26 @@ impl Answer {
         match error {
             Error::Memory => self.refuse_memory(),
             other => self.value(&other),
+        }
+    }
+
+    /// The same by its number and what it names.
+    pub fn refuse_named(&mut self, error: Error) {
+        match error {
+            Error::Memory => self.refuse_memory(),
+            other => {
+                self.value(&other);
+                self.text(" ");
+                self.code(&other);
+            }
+        }
+    }
+
+    /// That something was done, or a refusal.
+    pub fn outcome(&mut self, outcome: Result<(), Error>) {
+        match outcome {
+            Ok(()) => self.text("done"),
+            Err(error) => self.refuse_named(error),
         }
     }
 
@@ -127,4 +173,9 @@ impl Answer {
             _ => self.text(words),
         }
     }
+}
+
+/// Answers as they are where memory isn't refused.
+pub fn without_refusals(alloc: Global, answers: &str) -> Result<String, AllocError> {
+    answers.replace(alloc, AGAIN, "")
 }

@@ -27,13 +27,24 @@ use std::alloc::Global;
 
 /// What is emitted so far: line number programs, units, and the texts and range lists that their
 /// entries name.
-#[derive(Drop)]
 pub struct TableEmitter {
     encoding: Encoding,
     lines: EndianVec<RunTimeEndian>,
     line_strings: LineStringTable,
     info: EndianVec<RunTimeEndian>,
     emitter: UnitEmitter,
+}
+
+impl Drop for TableEmitter {
+    fn drop(self) {
+        let TableEmitter {
+            encoding: _,
+            lines: _,
+            line_strings: _,
+            info: _,
+            emitter: _,
+        } = self;
+    }
 }
 
 // Writes the entries of a unit whose line number program is at an offset.
@@ -158,13 +169,18 @@ impl TableEmitter {
             texts.items) }
         ensures refusal { IfErr result (λ e. e ≡ Memory) }
     {
-        let encoding = self.encoding;
-        let lists = self.emitter.into_ranges();
-        let (ranges, rnglists) = list_sections(alloc, encoding, lists)?;
+        let TableEmitter {
+            encoding,
+            lines,
+            line_strings: _,
+            info,
+            emitter,
+        } = self;
+        let (ranges, rnglists) = list_sections(alloc, encoding, emitter.into_ranges())?;
         Ok(Sections::new(
             declarations,
-            self.info.into_vec(),
-            self.lines.into_vec(),
+            info.into_vec(),
+            lines.into_vec(),
             line_texts,
             ranges,
             rnglists,

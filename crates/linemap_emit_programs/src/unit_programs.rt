@@ -23,10 +23,18 @@ use linemap_emit_rows::{RunTimeEndian, TableFile, TableUnit};
 use std::alloc::Global;
 
 /// The line number program of a unit, and the ids of the unit's files in it.
-#[derive(Drop)]
 pub struct UnitProgram {
     pub program: LineProgram,
     pub files: Vec<FileId>,
+}
+
+impl Drop for UnitProgram {
+    fn drop(self) {
+        let UnitProgram {
+            program: _,
+            files: _,
+        } = self;
+    }
 }
 
 // A text as the headers of a version have it.

@@ -26,12 +26,22 @@ use std::marker::Model;
 
 /// What is emitted so far: the texts and range lists of all units, and the entries of the current
 /// unit.
-#[derive(Drop)]
 pub struct UnitEmitter {
     encoding: Encoding,
     strings: StringTable,
     ranges: EndianVec<RunTimeEndian>,
     entries: Vec<Entry>,
+}
+
+impl Drop for UnitEmitter {
+    fn drop(self) {
+        let UnitEmitter {
+            encoding: _,
+            strings: _,
+            ranges: _,
+            entries: _,
+        } = self;
+    }
 }
 
 impl Model for UnitEmitter {
@@ -306,7 +316,13 @@ impl UnitEmitter {
     pub fn into_ranges(self) -> EndianVec<RunTimeEndian>
         ensures { result ≡ self.ranges }
     {
-        self.ranges
+        let UnitEmitter {
+            encoding: _,
+            strings: _,
+            ranges,
+            entries: _,
+        } = self;
+        ranges
     }
 }
 

@@ -2,7 +2,7 @@ use Rattle.std.proofs.Common.{◌∙◌, ap, option_map, None}
 use Rattle.gimli_units_entries.proofs.RefusedCalls.{returns_refused}
 use Rattle.gimli_units_entries.specs.AttributeValues.{raw_attribute_of}
 use Rattle.gimli_units_entries.specs.EntryViews.{raw_attributes}
-use Rattle.addr2line_units.specs.LastFacts.{range_fact}
+use Rattle.addr2line_ranges.specs.LastFacts.{range_fact}
 use Rattle.addr2line_functions.proofs.CallFactSteps.{last_from, from_start, last_from_place-more, name-refused, fact-refused, last_from_place-end}
 use Rattle.addr2line_functions.proofs.call_facts.call_facts.Goals as goal
 

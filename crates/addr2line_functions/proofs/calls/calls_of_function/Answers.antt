@@ -2,7 +2,7 @@ use Rattle.std.proofs.Common.{sym, subst, Result}
 use Rattle.gimli_units_entries.specs.Error.{Error}
 use Rattle.gimli_units_entries.specs.Calls.{ReturnsAsOrNoMemory}
 use Rattle.gimli_units_entries.proofs.RefusedCalls.{returns_refused}
-use Rattle.addr2line_units.specs.InlinedCalls.{FunctionCalls}
+use Rattle.addr2line_ranges.specs.InlinedCalls.{FunctionCalls}
 use Rattle.addr2line_functions.specs.CountedFunctions.{CountedCalls}
 use Rattle.addr2line_functions.proofs.FunctionRowSteps.{entry_refused, entry_null, entry_is_there}
 use Rattle.addr2line_functions.proofs.calls.calls_of_function.Goals as goal

@@ -1,7 +1,7 @@
 -- The functions so far with those to come are all.
 use Rattle.std.proofs.Common.{◌≡◌}
 use Rattle.gimli_units_entries.specs.View.{bytes_left}
-use Rattle.addr2line_units.specs.Functions.{functions_of_unit}
+use Rattle.addr2line_ranges.specs.Functions.{functions_of_unit}
 use Rattle.addr2line_functions.specs.NextFunctions.{functions_from}
 use Rattle.addr2line_functions.proofs.FunctionEntrySteps.{functions_then}
 use Rattle.addr2line_functions.proofs.functions.read_functions.Given as goal

@@ -3,7 +3,7 @@ use Rattle.gimli_units_entries.specs.Error.{Error}
 use Rattle.gimli_units_entries.specs.View.{View}
 use Rattle.gimli_units_entries.specs.AttributeValues.{RawValue, RawAttribute}
 use Rattle.gimli_units_entries.specs.Results.{and_then}
-use Rattle.addr2line_units.specs.InlinedCalls.{name_by}
+use Rattle.addr2line_ranges.specs.InlinedCalls.{name_by}
 use Rattle.addr2line_names.specs.EntryReferences.{HoldingUnit}
 use Rattle.addr2line_names.specs.FunctionNames.{name_with, name_by_reference, most_references}
 use Rattle.addr2line_names.proofs.NameSteps.{name_from, name_from-first}

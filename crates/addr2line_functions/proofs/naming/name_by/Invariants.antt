@@ -2,7 +2,7 @@
 use Rattle.std.proofs.Common.{◌≡◌, None, option_map}
 use Rattle.gimli_units_entries.specs.AttributeValues.{raw_attribute_of}
 use Rattle.gimli_units_entries.specs.EntryViews.{raw_attributes}
-use Rattle.addr2line_units.specs.InlinedCalls.{name_by}
+use Rattle.addr2line_ranges.specs.InlinedCalls.{name_by}
 use Rattle.addr2line_functions.proofs.NameFolds.{name_from_place}
 use Rattle.addr2line_functions.proofs.naming.name_by.Given as goal
 

@@ -1,7 +1,7 @@
 use Rattle.std.proofs.Common.{◌==◌}
 use Rattle.gimli_units_entries.specs.AttributeValues.{raw_attribute_of}
-use Rattle.addr2line_units.specs.InlinedCalls.{unsigned_in}
-use Rattle.addr2line_units.proofs.LastValueStep.{from_index-more}
+use Rattle.addr2line_ranges.specs.InlinedCalls.{unsigned_in}
+use Rattle.addr2line_ranges.proofs.LastValueStep.{from_index-more}
 use Rattle.addr2line_functions.proofs.UnsignedValues.{number, ok_number}
 use Rattle.addr2line_functions.proofs.place.last_unsigned.Goals as goal
 

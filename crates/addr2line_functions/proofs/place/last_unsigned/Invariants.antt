@@ -2,7 +2,7 @@
 use Rattle.std.proofs.Common.{◌≡◌, ◌==◌}
 use Rattle.gimli_units_entries.specs.AttributeValues.{raw_attribute_of}
 use Rattle.gimli_units_entries.specs.EntryViews.{raw_attributes}
-use Rattle.addr2line_units.specs.InlinedCalls.{unsigned_in, last_unsigned}
+use Rattle.addr2line_ranges.specs.InlinedCalls.{unsigned_in, last_unsigned}
 use Rattle.addr2line_names.proofs.LastAttributes.{from_index}
 use Rattle.addr2line_functions.proofs.place.last_unsigned.Given as goal
 

@@ -2,7 +2,7 @@ use Rattle.std.proofs.Common.{◌∙◌, ap, sym, option_map, Result, Ok}
 use Rattle.gimli_units_entries.proofs.RefusedCalls.{returns_refused}
 use Rattle.gimli_units_entries.specs.Error.{Error}
 use Rattle.gimli_units_entries.specs.EntryViews.{raw_attributes}
-use Rattle.addr2line_units.specs.InlinedCalls.{call_file}
+use Rattle.addr2line_ranges.specs.InlinedCalls.{call_file}
 use Rattle.addr2line_functions.specs.EntryRowViews.{row_view}
 use Rattle.addr2line_functions.specs.LastCallFacts.{LastCallFacts}
 use Rattle.addr2line_functions.proofs.CallFactSteps.{facts_refused, ranges_refused, call_read}

@@ -2,7 +2,7 @@
 use Rattle.std.proofs.Common.{◌≡◌, List}
 use Rattle.gimli_units_entries.specs.View.{bytes_left}
 use Rattle.gimli_units_entries.specs.EntryRows.{Row}
-use Rattle.addr2line_units.specs.InlinedCalls.{calls_among, entries_of}
+use Rattle.addr2line_ranges.specs.InlinedCalls.{calls_among, entries_of}
 use Rattle.addr2line_functions.specs.CallNesting.{calls_from}
 use Rattle.addr2line_functions.proofs.NestingLemmas.{Matches}
 use Rattle.addr2line_functions.proofs.CallEntrySteps.{calls_then}

@@ -6,7 +6,7 @@ use Rattle.gimli_units_entries.specs.Calls.{ReturnsAsOrNoMemory}
 use Rattle.gimli_units_entries.specs.Attribute.{Attribute}
 use Rattle.gimli_units_entries.specs.EntryWalks.{Walk}
 use Rattle.gimli_units_entries.specs.EntryRows.{Row}
-use Rattle.addr2line_units.specs.InlinedCalls.{Call}
+use Rattle.addr2line_ranges.specs.InlinedCalls.{Call}
 use Rattle.addr2line_functions.specs.EntryRowViews.{row_view, is_chosen}
 use Rattle.addr2line_functions.specs.CallNesting.{CallWalk, leave, enter, call_if, next_call}
 use Rattle.addr2line_functions.proofs.CallEntrySteps.{call_of_entry, entry_of_call, returns_with}

@@ -1,7 +1,7 @@
 use Rattle.std.proofs.Common.{length, drop}
-use Rattle.addr2line_resolved.specs.NumberedRanges.{covering_ranges}
-use Rattle.addr2line_lookups.specs.KeptCalls.{known_among}
-use Rattle.addr2line_lookups.proofs.AddressSearches.{Searched}
+use Rattle.addr2line_unit_lookups.specs.NumberedRanges.{covering_ranges}
+use Rattle.addr2line_unit_lookups.specs.KeptCalls.{known_among}
+use Rattle.addr2line_unit_lookups.proofs.AddressSearches.{Searched}
 use Rattle.addr2line_lookups.proofs.lookups.settle.Given as goal
 
 abbrev pub invariant-loop-unit : goal.invariant-loop-unit

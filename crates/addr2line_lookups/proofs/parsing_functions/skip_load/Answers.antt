@@ -1,9 +1,9 @@
 use Rattle.std.proofs.Common.{Ok, None, ap}
-use Rattle.addr2line_resolved.specs.ResolvedUnits.{ResolvedUnit}
-use Rattle.addr2line_lookups.proofs.CallsLeft.{leaves_answer}
+use Rattle.addr2line_unit_lookups.specs.ResolvedUnits.{ResolvedUnit}
+use Rattle.addr2line_unit_lookups.proofs.CallsLeft.{leaves_answer}
 use Rattle.addr2line_lookups.proofs.UnitCalls.{decided_after_answer}
-use Rattle.addr2line_lookups.proofs.KeptFunctionLists.{functions_same}
-use Rattle.addr2line_lookups.proofs.UnitProbes.{looks_nowhere}
+use Rattle.addr2line_unit_lookups.proofs.KeptFunctionLists.{functions_same}
+use Rattle.addr2line_unit_lookups.proofs.UnitProbes.{looks_nowhere}
 use Rattle.addr2line_lookups.proofs.parsing_functions.skip_load.Goals as goal
 
 pub returns : goal.returns

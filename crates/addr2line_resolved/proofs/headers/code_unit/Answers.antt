@@ -1,9 +1,9 @@
 use Rattle.std.proofs.Common.{◌≡◌, Ok, subst}
 use Rattle.std.proofs.lemmas.Result.{err_from_is_err_and}
-use Rattle.addr2line_functions.specs.DwarfFiles.{DwarfFile}
-use Rattle.addr2line_functions.specs.UnitFacts.{UnitFacts, UnitInFile, in_file, unit_facts}
-use Rattle.addr2line_units.specs.LastPrograms.{HasHeaderInFile}
-use Rattle.addr2line_units.proofs.HeadersInFiles.{header_in_file}
+use Rattle.addr2line_kept.specs.DwarfFiles.{DwarfFile}
+use Rattle.addr2line_kept.specs.UnitFacts.{UnitFacts, UnitInFile, in_file, unit_facts}
+use Rattle.addr2line_kept.specs.LastPrograms.{HasHeaderInFile}
+use Rattle.addr2line_kept.proofs.HeadersInFiles.{header_in_file}
 use Rattle.addr2line_resolved.proofs.headers.code_unit.Goals as goal
 
 pub returns-in_err-share-in-Ok-clause-unit : goal.returns-in_err-share-in-Ok-clause-unit

@@ -1,11 +1,11 @@
 use Rattle.std.proofs.Common.{◌≡◌, subst, sym, ap, ◌∙◌, List, Option, Some, None, option_map, map, Result}
 use Rattle.std.proofs.lemmas.Result.{err_from_is_err_and}
-use Rattle.addr2line_functions.specs.Error.{Error}
-use Rattle.addr2line_functions.specs.Calls.{ReturnsAsOrNoMemory}
-use Rattle.addr2line_functions.specs.Contexts.{facts_of_code_unit}
-use Rattle.addr2line_functions.specs.UnitFacts.{UnitFacts, UnitInFile, in_file}
-use Rattle.addr2line_functions.specs.DwarfFiles.{DwarfFile}
-use Rattle.addr2line_units.specs.LastRanges.{AreLastOf}
+use Rattle.addr2line_kept.specs.Error.{Error}
+use Rattle.addr2line_kept.specs.Calls.{ReturnsAsOrNoMemory}
+use Rattle.addr2line_kept.specs.Contexts.{facts_of_code_unit}
+use Rattle.addr2line_kept.specs.UnitFacts.{UnitFacts, UnitInFile, in_file}
+use Rattle.addr2line_kept.specs.DwarfFiles.{DwarfFile}
+use Rattle.addr2line_kept.specs.LastRanges.{AreLastOf}
 use Rattle.addr2line_resolved.specs.ResolvedUnits.{AnsweredUnit, value_of_unit, new_unit}
 use Rattle.addr2line_resolved.proofs.UnitReading.{ok_of, append_some, append_none}
 use Rattle.addr2line_resolved.proofs.headers.push_context_unit.Goals as goal

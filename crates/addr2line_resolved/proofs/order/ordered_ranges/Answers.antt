@@ -1,6 +1,6 @@
 use Rattle.std.proofs.Common.{◌≡◌, ◌∷◌, [], ◌++◌, sym, ap, ◌∙◌, length, map}
 use Rattle.std.proofs.lemmas.Result.{IfOk-weaker}
-use Rattle.addr2line_functions.specs.NumberedRanges.{ranges_of_units}
+use Rattle.addr2line_kept.specs.NumberedRanges.{ranges_of_units}
 use Rattle.addr2line_resolved.specs.ContextUnits.{ordered_ranges}
 use Rattle.addr2line_resolved.specs.ResolvedUnits.{plain_unit}
 use Rattle.addr2line_resolved.proofs.UnitOrder.{ranges_to, at_most, ranges_to-more, ranges_to-length, ranges_to-all}

@@ -1,6 +1,6 @@
 -- The ranges of the units so far.
 use Rattle.std.proofs.Common.{◌≡◌}
-use Rattle.addr2line_functions.specs.NumberedRanges.{ranges_of_units}
+use Rattle.addr2line_kept.specs.NumberedRanges.{ranges_of_units}
 use Rattle.addr2line_resolved.proofs.UnitOrder.{ranges_to}
 use Rattle.addr2line_resolved.proofs.order.ordered_ranges.Given as goal
 

@@ -1,8 +1,8 @@
 use Rattle.std.proofs.Common.{◌≡◌, sym, ap, ◌∙◌}
-use Rattle.addr2line_functions.specs.Tiling.{whole_section}
-use Rattle.addr2line_functions.specs.UnitHeaders.{DebugUnit, units_to_come}
-use Rattle.addr2line_functions.specs.UnitFacts.{unit_facts}
-use Rattle.addr2line_functions.specs.Contexts.{readable_facts, headers_of}
+use Rattle.addr2line_kept.specs.Tiling.{whole_section}
+use Rattle.addr2line_kept.specs.UnitHeaders.{DebugUnit, units_to_come}
+use Rattle.addr2line_kept.specs.UnitFacts.{unit_facts}
+use Rattle.addr2line_kept.specs.Contexts.{readable_facts, headers_of}
 use Rattle.addr2line_resolved.specs.ContextUnits.{readable_units}
 use Rattle.addr2line_resolved.proofs.UnitReading.{read_start, read_more, ok_of, if_any_ok, read_ok}
 use Rattle.addr2line_resolved.proofs.supplement.readable_units.Goals as goal

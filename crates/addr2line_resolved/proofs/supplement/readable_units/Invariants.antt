@@ -1,8 +1,8 @@
 -- What was read, and what the headers that are left give, is what all give.
 use Rattle.std.proofs.Common.{◌≡◌, length}
-use Rattle.addr2line_functions.specs.UnitHeaders.{units_to_come}
-use Rattle.addr2line_functions.specs.UnitFacts.{unit_facts}
-use Rattle.addr2line_functions.specs.Contexts.{readable_facts}
+use Rattle.addr2line_kept.specs.UnitHeaders.{units_to_come}
+use Rattle.addr2line_kept.specs.UnitFacts.{unit_facts}
+use Rattle.addr2line_kept.specs.Contexts.{readable_facts}
 use Rattle.addr2line_resolved.specs.ContextUnits.{readable_units}
 use Rattle.addr2line_resolved.proofs.UnitReading.{append_to, read_all, ok_of}
 use Rattle.addr2line_resolved.proofs.supplement.readable_units.Given as goal

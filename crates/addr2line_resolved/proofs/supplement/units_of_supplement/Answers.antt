@@ -1,7 +1,7 @@
 use Rattle.std.proofs.Common.{Option, option_map, subst, sym, ap, ◌∙◌}
-use Rattle.addr2line_functions.specs.Calls.{ReturnsAsOrNoMemory}
-use Rattle.addr2line_functions.specs.DwarfFiles.{DwarfFile}
-use Rattle.addr2line_functions.specs.Contexts.{units_of_supplement}
+use Rattle.addr2line_kept.specs.Calls.{ReturnsAsOrNoMemory}
+use Rattle.addr2line_kept.specs.DwarfFiles.{DwarfFile}
+use Rattle.addr2line_kept.specs.Contexts.{units_of_supplement}
 use Rattle.addr2line_resolved.proofs.supplement.units_of_supplement.Goals as goal
 
 pub returns-in-Some : goal.returns-in-Some

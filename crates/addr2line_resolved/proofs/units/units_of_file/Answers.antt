@@ -1,11 +1,11 @@
 use Rattle.std.proofs.Common.{◌≡◌, sym, ap, subst, ◌∙◌, map}
 use Rattle.std.proofs.lemmas.Result.{err_from_is_err_and}
-use Rattle.addr2line_functions.specs.Tiling.{whole_section}
-use Rattle.addr2line_functions.specs.UnitHeaders.{units_to_come}
-use Rattle.addr2line_functions.specs.UnitFacts.{in_file}
-use Rattle.addr2line_units.specs.CachedFiles.{CachedFile}
-use Rattle.addr2line_functions.specs.DwarfFiles.{DwarfFile}
-use Rattle.addr2line_functions.specs.Contexts.{facts_of_code_unit, headers_of}
+use Rattle.addr2line_kept.specs.Tiling.{whole_section}
+use Rattle.addr2line_kept.specs.UnitHeaders.{units_to_come}
+use Rattle.addr2line_kept.specs.UnitFacts.{in_file}
+use Rattle.addr2line_kept.specs.CachedFiles.{CachedFile}
+use Rattle.addr2line_kept.specs.DwarfFiles.{DwarfFile}
+use Rattle.addr2line_kept.specs.Contexts.{facts_of_code_unit, headers_of}
 use Rattle.addr2line_resolved.specs.ResolvedUnits.{value_of_unit, new_unit, new_units, KeepNoFunctions, RunForRangesAlone}
 use Rattle.addr2line_resolved.proofs.UnitReading.{read_start, read_ended, append_more, append_refused}
 use Rattle.addr2line_resolved.proofs.units.units_of_file.Goals as goal

@@ -1,10 +1,10 @@
 -- What was read, and what the headers that are left give, is what all give. Lines are kept only where the ranges are
 -- those of the lines, and no functions are. The last ranges are some of the file.
 use Rattle.std.proofs.Common.{◌≡◌, length, map}
-use Rattle.addr2line_functions.specs.UnitHeaders.{units_to_come}
-use Rattle.addr2line_functions.specs.UnitFacts.{in_file}
-use Rattle.addr2line_functions.specs.Contexts.{facts_of_code_unit}
-use Rattle.addr2line_units.specs.LastRanges.{AreLastOf}
+use Rattle.addr2line_kept.specs.UnitHeaders.{units_to_come}
+use Rattle.addr2line_kept.specs.UnitFacts.{in_file}
+use Rattle.addr2line_kept.specs.Contexts.{facts_of_code_unit}
+use Rattle.addr2line_kept.specs.LastRanges.{AreLastOf}
 use Rattle.addr2line_resolved.specs.ResolvedUnits.{value_of_unit, new_unit, new_units, KeepNoFunctions, RunForRangesAlone}
 use Rattle.addr2line_resolved.proofs.UnitReading.{append_to, read_all}
 use Rattle.addr2line_resolved.proofs.units.units_of_file.Given as goal

@@ -1,9 +1,9 @@
-use Rattle.gimli_lines_rows.specs.DwLang.{DwLang}
+use Rattle.addr2line_ranges.specs.DwLang.{DwLang}
 use Rattle.std.proofs.Common.{ℕ}
-use Rattle.gimli_lines_rows.specs.AttributeValues.{raw_attribute_of}
-use Rattle.gimli_dwarf.specs.UnitFacts.{value_of_kind}
-use Rattle.addr2line_index.specs.UnitRanges.{language_of, is_language}
-use Rattle.addr2line_units.proofs.LastValueStep.{from_index-more}
+use Rattle.addr2line_ranges.specs.AttributeValues.{raw_attribute_of}
+use Rattle.addr2line_ranges.specs.UnitFacts.{value_of_kind}
+use Rattle.addr2line_ranges.specs.UnitRanges.{language_of, is_language}
+use Rattle.addr2line_ranges.proofs.LastValueStep.{from_index-more}
 use Rattle.addr2line_units.proofs.language.language_of.Goals as goal
 
 -- the number of a language

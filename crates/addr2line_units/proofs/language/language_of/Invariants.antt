@@ -1,10 +1,10 @@
 -- What was found, or else what the attributes that are left give, is what all give.
 use Rattle.std.proofs.Common.{◌≡◌}
-use Rattle.gimli_lines_rows.specs.AttributeValues.{raw_attribute_of}
-use Rattle.gimli_dwarf.specs.EntryViews.{raw_attributes}
-use Rattle.gimli_dwarf.specs.UnitFacts.{value_of_kind}
-use Rattle.addr2line_index.specs.UnitRanges.{language_of, is_language, language_in}
-use Rattle.gimli_dwarf.proofs.LastAttributes.{from_index}
+use Rattle.addr2line_ranges.specs.AttributeValues.{raw_attribute_of}
+use Rattle.addr2line_ranges.specs.EntryViews.{raw_attributes}
+use Rattle.addr2line_ranges.specs.UnitFacts.{value_of_kind}
+use Rattle.addr2line_ranges.specs.UnitRanges.{language_of, is_language, language_in}
+use Rattle.addr2line_ranges.proofs.LastAttributes.{from_index}
 use Rattle.addr2line_units.proofs.language.language_of.Given as goal
 
 abbrev pub invariant-loop-attribute : goal.invariant-loop-attribute

@@ -1,6 +1,6 @@
 use Rattle.std.proofs.Common.{◌≡◌, ℕ, sym, ap, subst, ◌∙◌}
 use Rattle.addr2line_units.specs.RootRanges.{RunsForRanges}
-use Rattle.addr2line_units.proofs.UnitRangeLemmas.{ok_ranges}
+use Rattle.addr2line_ranges.proofs.UnitRangeLemmas.{ok_ranges}
 use Rattle.addr2line_units.proofs.SharedLines.{last_is, header_of_sharing, shared_ranges, runs_shared}
 use Rattle.addr2line_units.proofs.ranges.ranges_by_program.Goals as goal
 

@@ -1,6 +1,6 @@
 use Rattle.std.proofs.Common.{◌≡◌}
-use Rattle.addr2line_index.specs.LineIndexes.{counted_lines}
-use Rattle.addr2line_index.specs.UnitLines.{lines_of_unit}
+use Rattle.addr2line_ranges.specs.LineIndexes.{counted_lines}
+use Rattle.addr2line_ranges.specs.UnitLines.{lines_of_unit}
 use Rattle.addr2line_units.specs.LastPrograms.{program_key, unit_texts}
 use Rattle.addr2line_units.specs.RootRanges.{ranges_of_counted}
 use Rattle.addr2line_units.proofs.SharedLines.{program_kept}

@@ -1,12 +1,12 @@
 use Rattle.std.proofs.Common.{subst, sym, List, Result}
 use Rattle.std.proofs.lemmas.Result.{err_from_is_err_and}
-use Rattle.gimli_lines_rows.specs.Error.{Error}
-use Rattle.gimli_lines_rows.specs.Calls.{ReturnsAsOrNoMemory}
-use Rattle.gimli_lines_rows.specs.Range.{Range}
-use Rattle.gimli_dwarf.specs.EntryViews.{raw_attributes}
-use Rattle.addr2line_index.specs.UnitLines.{lines_of_unit}
+use Rattle.addr2line_ranges.specs.Error.{Error}
+use Rattle.addr2line_ranges.specs.Calls.{ReturnsAsOrNoMemory}
+use Rattle.addr2line_ranges.specs.Range.{Range}
+use Rattle.addr2line_ranges.specs.EntryViews.{raw_attributes}
+use Rattle.addr2line_ranges.specs.UnitLines.{lines_of_unit}
 use Rattle.addr2line_units.specs.RootRanges.{RootRanges}
-use Rattle.addr2line_units.proofs.UnitRangeLemmas.{ranges-found, ranges-refused}
+use Rattle.addr2line_ranges.proofs.UnitRangeLemmas.{ranges-found, ranges-refused}
 use Rattle.addr2line_units.proofs.ranges.ranges_of_attributes.Goals as goal
 
 pub returns-clause-ranges : goal.returns-clause-ranges

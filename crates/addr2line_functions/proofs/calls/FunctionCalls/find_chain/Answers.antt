@@ -1,5 +1,5 @@
 use Rattle.std.proofs.Common.{◌≡◌, ◌+◌, ◌*◌, length, vec_len, Some, None, Ok, refl, sym, ap, ◌∙◌, arith}
-use Rattle.addr2line_units.specs.InlinedCalls.{ranges_of_call, chain_from}
+use Rattle.addr2line_ranges.specs.InlinedCalls.{ranges_of_call, chain_from}
 use Rattle.addr2line_functions.specs.CountedFunctions.{CountedCalls, depth_of_call, search_probes, call_probes}
 use Rattle.addr2line_functions.specs.RangesByNumber.{numbered_ranges, number_at}
 use Rattle.addr2line_functions.proofs.ChainSteps.{found_at, chain_with, chain_more, chain_whole, left_more, chain_length}

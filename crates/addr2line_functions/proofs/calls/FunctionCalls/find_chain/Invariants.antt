@@ -1,7 +1,7 @@
 -- The calls of the numbers so far, with those that are left, are the chain, the buffer has no less room
 -- than at the start, and the looks so far leave enough for the rest.
 use Rattle.std.proofs.Common.{◌≡◌, ◌+◌, ◌*◌, ◌≤◌, length, map, vec_capacity, Some}
-use Rattle.addr2line_units.specs.InlinedCalls.{chain_at, chain_from}
+use Rattle.addr2line_ranges.specs.InlinedCalls.{chain_at, chain_from}
 use Rattle.addr2line_functions.specs.CountedFunctions.{call_probes, chain_probes}
 use Rattle.addr2line_functions.proofs.ChainSteps.{chain_with}
 use Rattle.addr2line_functions.proofs.calls.FunctionCalls.find_chain.Given as goal

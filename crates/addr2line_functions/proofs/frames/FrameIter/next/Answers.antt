@@ -1,6 +1,6 @@
 use Rattle.std.proofs.Common.{◌≡◌, ◌++◌, ◌∷◌, [], List, ap, subst, option_map}
-use Rattle.addr2line_units.specs.BorrowedLocations.{location_value}
-use Rattle.addr2line_units.specs.InlinedCalls.{Call}
+use Rattle.addr2line_ranges.specs.BorrowedLocations.{location_value}
+use Rattle.addr2line_ranges.specs.InlinedCalls.{Call}
 use Rattle.addr2line_functions.specs.BorrowedLines.{files_in}
 use Rattle.addr2line_functions.specs.BorrowedFrames.{function_value, frames_left}
 use Rattle.addr2line_functions.specs.CallNumbers.{calls_of_numbers}

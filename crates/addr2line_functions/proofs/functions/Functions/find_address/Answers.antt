@@ -1,7 +1,7 @@
 use Rattle.std.proofs.Common.{◌≡◌, ◌∙◌, ap, length, arith}
 use Rattle.std.proofs.lemmas.List.{length-map}
-use Rattle.addr2line_units.specs.Functions.{function_number, function_ranges}
-use Rattle.addr2line_units.specs.Searches.{digit_count}
+use Rattle.addr2line_ranges.specs.Functions.{function_number, function_ranges}
+use Rattle.addr2line_ranges.specs.Searches.{digit_count}
 use Rattle.addr2line_functions.specs.CountedFunctions.{no_depth}
 use Rattle.addr2line_functions.specs.RangesByNumber.{numbered_range, number_at}
 use Rattle.addr2line_functions.proofs.RangeNumbers.{number_at-function}

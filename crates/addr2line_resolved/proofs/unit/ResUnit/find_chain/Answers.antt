@@ -1,9 +1,9 @@
 use Rattle.std.proofs.Common.{Option, Result, sym, subst, ap, ◌∙◌}
-use Rattle.addr2line_functions.specs.Error.{Error}
-use Rattle.addr2line_functions.specs.InlinedCalls.{FunctionCalls}
-use Rattle.addr2line_units.specs.ProbedLists.{ProbeCount}
-use Rattle.addr2line_units.specs.Searches.{AtMostProbes}
-use Rattle.addr2line_resolved.specs.KeptFunctions.{kept_at, kept_chain_probes, plain_calls}
+use Rattle.addr2line_kept.specs.Error.{Error}
+use Rattle.addr2line_kept.specs.InlinedCalls.{FunctionCalls}
+use Rattle.addr2line_kept.specs.ProbedLists.{ProbeCount}
+use Rattle.addr2line_kept.specs.Searches.{AtMostProbes}
+use Rattle.addr2line_kept.specs.KeptFunctions.{kept_at, kept_chain_probes, plain_calls}
 use Rattle.addr2line_resolved.specs.ResolvedUnits.{ResolvedUnit}
 use Rattle.addr2line_resolved.proofs.FunctionParses.{kept_at-map}
 use Rattle.addr2line_resolved.proofs.unit.ResUnit.find_chain.Goals as goal

@@ -1,8 +1,8 @@
 use Rattle.std.proofs.Common.{ℕ, Option, Result, ap, ◌∙◌, subst}
-use Rattle.addr2line_functions.specs.Error.{Error}
-use Rattle.addr2line_functions.specs.Calls.{Returns}
-use Rattle.addr2line_units.specs.Searches.{AtMostProbes}
-use Rattle.addr2line_resolved.specs.KeptFunctions.{number_in, number_probes}
+use Rattle.addr2line_kept.specs.Error.{Error}
+use Rattle.addr2line_kept.specs.Calls.{Returns}
+use Rattle.addr2line_kept.specs.Searches.{AtMostProbes}
+use Rattle.addr2line_kept.specs.KeptFunctions.{number_in, number_probes}
 use Rattle.addr2line_resolved.specs.ResolvedUnits.{ResolvedUnit, functions_of}
 use Rattle.addr2line_resolved.proofs.FunctionParses.{kept_are, number_is, number_looks, number_below}
 use Rattle.addr2line_resolved.proofs.ResolvedViews.{below_calls}

@@ -1,11 +1,11 @@
 use Rattle.std.proofs.Common.{ℕ, List, Result, option_map, subst, ap, ◌∙◌}
 use Rattle.std.specs.Prelude.{option_and_then}
-use Rattle.addr2line_functions.specs.Error.{Error}
-use Rattle.addr2line_functions.specs.Calls.{ReturnsAs}
-use Rattle.addr2line_functions.specs.BorrowedFrames.{frames_left}
-use Rattle.addr2line_functions.specs.BorrowedLocations.{location_value}
-use Rattle.addr2line_functions.specs.Frames.{Frame}
-use Rattle.addr2line_resolved.specs.KeptFunctions.{function_at_number, frames_by_numbers}
+use Rattle.addr2line_kept.specs.Error.{Error}
+use Rattle.addr2line_kept.specs.Calls.{ReturnsAs}
+use Rattle.addr2line_kept.specs.BorrowedFrames.{frames_left}
+use Rattle.addr2line_kept.specs.BorrowedLocations.{location_value}
+use Rattle.addr2line_kept.specs.Frames.{Frame}
+use Rattle.addr2line_kept.specs.KeptFunctions.{function_at_number, frames_by_numbers}
 use Rattle.addr2line_resolved.specs.ResolvedUnits.{ResolvedUnit, functions_of}
 use Rattle.addr2line_resolved.proofs.FunctionParses.{kept_are, function_is_any}
 use Rattle.addr2line_resolved.proofs.unit.ResUnit.frames.Goals as goal

@@ -1,5 +1,5 @@
 use Rattle.std.proofs.Common.{ap, ◌∙◌}
-use Rattle.addr2line_resolved.specs.KeptFunctions.{count_of_functions}
+use Rattle.addr2line_kept.specs.KeptFunctions.{count_of_functions}
 use Rattle.addr2line_resolved.specs.ResolvedUnits.{ResolvedUnit, functions_of}
 use Rattle.addr2line_resolved.proofs.FunctionParses.{kept_are, count_is}
 use Rattle.addr2line_resolved.proofs.unit.ResUnit.function_count.Goals as goal

@@ -1,7 +1,7 @@
 use Rattle.std.proofs.Common.{ap, subst, sym, Err, Result}
-use Rattle.addr2line_functions.specs.Error.{Error}
-use Rattle.addr2line_functions.specs.Calls.{Returns}
-use Rattle.addr2line_functions.specs.EntryReferences.{HoldingUnit}
+use Rattle.addr2line_kept.specs.Error.{Error}
+use Rattle.addr2line_kept.specs.Calls.{Returns}
+use Rattle.addr2line_kept.specs.EntryReferences.{HoldingUnit}
 use Rattle.addr2line_resolved.specs.ResolvedUnits.{ResolvedUnit, main_unit, decided, first_answer, unit_of_functions}
 use Rattle.addr2line_resolved.proofs.KeptParses.{unit_by_load}
 use Rattle.addr2line_resolved.proofs.unit.ResUnit.functions_unit.Goals as goal

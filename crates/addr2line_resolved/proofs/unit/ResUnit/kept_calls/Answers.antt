@@ -1,6 +1,6 @@
 use Rattle.std.proofs.Common.{◌∙◌, ap, sym, option_map}
-use Rattle.addr2line_units.proofs.HolderViews.{map-now}
-use Rattle.addr2line_resolved.specs.KeptFunctions.{kept_at, plain_calls}
+use Rattle.addr2line_kept.proofs.HolderViews.{map-now}
+use Rattle.addr2line_kept.specs.KeptFunctions.{kept_at, plain_calls}
 use Rattle.addr2line_resolved.specs.ResolvedUnits.{ResolvedUnit}
 use Rattle.addr2line_resolved.proofs.FunctionParses.{kept_at-map}
 use Rattle.addr2line_resolved.proofs.unit.ResUnit.kept_calls.Goals as goal

@@ -1,6 +1,6 @@
 use Rattle.std.proofs.Common.{◌∙◌, ap, option_map}
-use Rattle.addr2line_units.proofs.HolderViews.{map-now}
-use Rattle.addr2line_resolved.specs.KeptFunctions.{plain_functions}
+use Rattle.addr2line_kept.proofs.HolderViews.{map-now}
+use Rattle.addr2line_kept.specs.KeptFunctions.{plain_functions}
 use Rattle.addr2line_resolved.specs.ResolvedUnits.{ResolvedUnit, functions_of, if_kept}
 use Rattle.addr2line_resolved.proofs.FunctionParses.{kept_are, kept_functions_are}
 use Rattle.addr2line_resolved.proofs.unit.ResUnit.kept_functions.Goals as goal

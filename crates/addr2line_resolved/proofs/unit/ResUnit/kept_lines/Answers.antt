@@ -1,6 +1,6 @@
 use Rattle.std.proofs.Common.{◌∙◌, ap}
-use Rattle.addr2line_functions.specs.UnitLines.{lines_of_unit}
-use Rattle.addr2line_units.specs.LineIndexes.{counted_lines}
+use Rattle.addr2line_kept.specs.UnitLines.{lines_of_unit}
+use Rattle.addr2line_kept.specs.LineIndexes.{counted_lines}
 use Rattle.addr2line_resolved.specs.ResolvedUnits.{ResolvedUnit, if_kept}
 use Rattle.addr2line_resolved.proofs.KeptParses.{kept_is}
 use Rattle.addr2line_resolved.proofs.unit.ResUnit.kept_lines.Goals as goal

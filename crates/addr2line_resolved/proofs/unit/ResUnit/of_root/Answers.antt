@@ -1,7 +1,7 @@
 use Rattle.std.proofs.Common.{sym, subst}
 use Rattle.std.proofs.lemmas.Result.{err_from_is_err_and}
-use Rattle.addr2line_functions.specs.FirstAnswers.{load_of}
-use Rattle.addr2line_units.specs.RootRanges.{RootFacts, RunsForRanges}
+use Rattle.addr2line_kept.specs.FirstAnswers.{load_of}
+use Rattle.addr2line_kept.specs.RootRanges.{RootFacts, RunsForRanges}
 use Rattle.addr2line_resolved.proofs.KeptParses.{load_made, keeps_new, ranges_new}
 use Rattle.addr2line_resolved.proofs.unit.ResUnit.of_root.Goals as goal
 

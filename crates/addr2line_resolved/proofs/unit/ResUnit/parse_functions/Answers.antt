@@ -1,10 +1,10 @@
 use Rattle.std.proofs.Common.{◌≡◌, ℕ, List, IfOk, Result, sym, ap, ◌∙◌, subst}
-use Rattle.addr2line_functions.specs.Error.{Error}
-use Rattle.addr2line_functions.specs.Calls.{ReturnsAsOrNoMemory}
-use Rattle.addr2line_functions.specs.Results.{and_then}
-use Rattle.addr2line_functions.specs.EntryReferences.{HoldingUnit}
-use Rattle.addr2line_functions.specs.Functions.{Function, functions_of_unit}
-use Rattle.addr2line_functions.specs.CountedFunctions.{CountedFunctions}
+use Rattle.addr2line_kept.specs.Error.{Error}
+use Rattle.addr2line_kept.specs.Calls.{ReturnsAsOrNoMemory}
+use Rattle.addr2line_kept.specs.Results.{and_then}
+use Rattle.addr2line_kept.specs.EntryReferences.{HoldingUnit}
+use Rattle.addr2line_kept.specs.Functions.{Function, functions_of_unit}
+use Rattle.addr2line_kept.specs.CountedFunctions.{CountedFunctions}
 use Rattle.addr2line_resolved.specs.ResolvedUnits.{ResolvedUnit}
 use Rattle.addr2line_resolved.proofs.unit.ResUnit.parse_functions.Goals as goal
 

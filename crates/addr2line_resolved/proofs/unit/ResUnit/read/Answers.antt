@@ -1,11 +1,11 @@
 use Rattle.std.proofs.Common.{◌≡◌, ◌∙◌, ap, subst, Ok, Err}
 use Rattle.std.proofs.lemmas.Result.{err_from_is_err_and}
-use Rattle.addr2line_functions.specs.Results.{and_then}
-use Rattle.addr2line_functions.specs.EntryRows.{Row}
-use Rattle.addr2line_functions.specs.EntryViews.{entry_of}
-use Rattle.addr2line_functions.specs.UnitFacts.{UnitInFile}
-use Rattle.addr2line_functions.specs.UnitLines.{lines_of_unit}
-use Rattle.addr2line_functions.specs.Contexts.{unit_of_entry}
+use Rattle.addr2line_kept.specs.Results.{and_then}
+use Rattle.addr2line_kept.specs.EntryRows.{Row}
+use Rattle.addr2line_kept.specs.EntryViews.{entry_of}
+use Rattle.addr2line_kept.specs.UnitFacts.{UnitInFile}
+use Rattle.addr2line_kept.specs.UnitLines.{lines_of_unit}
+use Rattle.addr2line_kept.specs.Contexts.{unit_of_entry}
 use Rattle.addr2line_resolved.specs.ResolvedUnits.{without_answer}
 use Rattle.addr2line_resolved.proofs.NewUnits.{unit_by_root}
 use Rattle.addr2line_resolved.proofs.unit.ResUnit.read.Goals as goal

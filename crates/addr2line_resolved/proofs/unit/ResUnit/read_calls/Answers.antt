@@ -1,12 +1,12 @@
 use Rattle.std.proofs.Common.{◌≡◌, ℕ, ◌<◌, IfOk, List, length, Result, option_map, sym, ap, ◌∙◌, subst, arith}
 use Rattle.std.proofs.lemmas.List.{length-map}
-use Rattle.addr2line_functions.specs.Error.{Error}
-use Rattle.addr2line_functions.specs.Calls.{ReturnsAsOrNoMemory}
-use Rattle.addr2line_functions.specs.Functions.{Function}
-use Rattle.addr2line_functions.specs.InlinedCalls.{FunctionCalls, calls_of_function}
-use Rattle.addr2line_functions.specs.EntryReferences.{HoldingUnit}
-use Rattle.addr2line_functions.specs.CountedFunctions.{CountedCalls}
-use Rattle.addr2line_resolved.specs.KeptFunctions.{plain_calls, plain_functions, kept_function_in}
+use Rattle.addr2line_kept.specs.Error.{Error}
+use Rattle.addr2line_kept.specs.Calls.{ReturnsAsOrNoMemory}
+use Rattle.addr2line_kept.specs.Functions.{Function}
+use Rattle.addr2line_kept.specs.InlinedCalls.{FunctionCalls, calls_of_function}
+use Rattle.addr2line_kept.specs.EntryReferences.{HoldingUnit}
+use Rattle.addr2line_kept.specs.CountedFunctions.{CountedCalls}
+use Rattle.addr2line_kept.specs.KeptFunctions.{plain_calls, plain_functions, kept_function_in}
 use Rattle.addr2line_resolved.specs.ResolvedUnits.{ResolvedUnit, main_unit, first_answer, unit_of_functions, functions_of, IsKeptOf}
 use Rattle.addr2line_resolved.proofs.FunctionParses.{kept_are, calls_are, calls_at_offset}
 use Rattle.addr2line_resolved.proofs.unit.ResUnit.read_calls.Goals as goal

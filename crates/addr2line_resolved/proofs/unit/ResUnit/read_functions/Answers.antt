@@ -1,8 +1,8 @@
 use Rattle.std.proofs.Common.{◌≡◌, ℕ, List, None, Result, IfOk, sym, ap, ◌∙◌, subst}
-use Rattle.addr2line_functions.specs.Error.{Error}
-use Rattle.addr2line_functions.specs.Calls.{ReturnsAsOrNoMemory}
-use Rattle.addr2line_functions.specs.Functions.{Function}
-use Rattle.addr2line_functions.specs.CountedFunctions.{CountedFunctions}
+use Rattle.addr2line_kept.specs.Error.{Error}
+use Rattle.addr2line_kept.specs.Calls.{ReturnsAsOrNoMemory}
+use Rattle.addr2line_kept.specs.Functions.{Function}
+use Rattle.addr2line_kept.specs.CountedFunctions.{CountedFunctions}
 use Rattle.addr2line_resolved.specs.ResolvedUnits.{ResolvedUnit, undecided, pending_load, decided, functions_under, functions_of}
 use Rattle.addr2line_resolved.proofs.FunctionParses.{keeps_read_after}
 use Rattle.addr2line_resolved.proofs.KeptParses.{keeps_functions}

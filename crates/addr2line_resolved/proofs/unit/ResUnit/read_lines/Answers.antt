@@ -1,8 +1,8 @@
 use Rattle.std.proofs.Common.{◌≡◌, ◌∙◌, ◌+◌, sym, subst}
-use Rattle.addr2line_functions.specs.UnitFacts.{UnitInFile}
-use Rattle.addr2line_functions.specs.UnitLines.{lines_of_unit}
-use Rattle.addr2line_units.specs.CountedRuns.{runs_for_lines}
-use Rattle.addr2line_units.specs.LineIndexes.{counted_lines}
+use Rattle.addr2line_kept.specs.UnitFacts.{UnitInFile}
+use Rattle.addr2line_kept.specs.UnitLines.{lines_of_unit}
+use Rattle.addr2line_kept.specs.CountedRuns.{runs_for_lines}
+use Rattle.addr2line_kept.specs.LineIndexes.{counted_lines}
 use Rattle.addr2line_resolved.proofs.KeptParses.{keeps_run, ok_lines}
 use Rattle.addr2line_resolved.proofs.unit.ResUnit.read_lines.Goals as goal
 

@@ -1,12 +1,12 @@
 use Rattle.std.proofs.Common.{◌∙◌, subst, List, Result, ap}
-use Rattle.gimli_lines_rows.specs.Error.{Error}
-use Rattle.gimli_lines_rows.specs.Calls.{ReturnsAsOrNoMemory}
-use Rattle.gimli_lines_rows.specs.AttributeValues.{RawAttribute}
-use Rattle.gimli_dwarf.specs.EntryViews.{entry_of}
-use Rattle.gimli_dwarf.specs.UnitFacts.{UnitFacts, UnitInFile}
-use Rattle.addr2line_index.specs.UnitLines.{lines_of_unit}
-use Rattle.addr2line_index.specs.UnitRanges.{is_partial}
-use Rattle.addr2line_index.specs.Contexts.{ContextUnit, unit_of_root}
+use Rattle.addr2line_ranges.specs.Error.{Error}
+use Rattle.addr2line_ranges.specs.Calls.{ReturnsAsOrNoMemory}
+use Rattle.addr2line_ranges.specs.AttributeValues.{RawAttribute}
+use Rattle.addr2line_ranges.specs.EntryViews.{entry_of}
+use Rattle.addr2line_ranges.specs.UnitFacts.{UnitFacts, UnitInFile}
+use Rattle.addr2line_ranges.specs.UnitLines.{lines_of_unit}
+use Rattle.addr2line_ranges.specs.UnitRanges.{is_partial}
+use Rattle.addr2line_ranges.specs.Contexts.{ContextUnit, unit_of_root}
 use Rattle.addr2line_units.specs.RootRanges.{unit_with}
 use Rattle.addr2line_units.proofs.RootLemmas.{not_partial}
 use Rattle.addr2line_units.proofs.root.UnitRoot.read.Goals as goal

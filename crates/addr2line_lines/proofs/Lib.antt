@@ -1,0 +1,5 @@
+mod ProgramHeaders
+mod LinesOfPrograms
+mod LineProgramRows
+mod BuilderRows
+mod FileTextLemmas

@@ -1,0 +1,3 @@
+pub mod LineProgramRuns
+pub mod FileTextLists
+pub mod CountedRuns

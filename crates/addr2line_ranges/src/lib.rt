@@ -1,0 +1,35 @@
+//! The ranges that units and entries declare, read from their sections.
+#![tactic(auto)]
+
+pub mod arange_index;
+mod aranges;
+mod declarations;
+pub mod fact;
+pub mod facts;
+pub mod last_list;
+mod lists;
+mod unit_arange;
+
+pub use addr2line_index::{
+    Counters, LineCursor, LineIndex, LineRow, LineSequence, Lines, LinesBuilder, Location, Probes,
+    RangeIndex, RangePlace, Ranged, RowStretch, UnitRange, UnitRanges, UnitRangesBuilder,
+    file_text, file_text_of_bytes, is_rooted, join,
+};
+pub use arange_index::ArangeIndex;
+pub use declarations::{declared_ranges, entry_ranges, ranges_of_entry};
+pub use fact::{Fact, fact_of};
+pub use facts::{LastFacts, facts_of};
+pub use gimli_dwarf::{
+    DW_TAG_partial_unit, DebugRanges, DebugRngLists, DebuggingInformationEntry, Dwarf,
+    LocationLists, RangeLists, Unit, UnitRef,
+};
+pub use gimli_lines_rows::{
+    AbbreviationsCache, AbbreviationsCacheStrategy, Attribute, AttributeValue, DW_AT_language,
+    DW_LANG_Rust, DebugAbbrev, DebugAbbrevOffset, DebugAddr, DebugAddrIndex, DebugAranges,
+    DebugInfo, DebugLine, DebugLineStr, DebugLineStrOffset, DebugRngListsIndex, DebugStr,
+    DebugStrOffset, DebugStrOffsets, DebugStrOffsetsIndex, DwLang, DwarfFileType, DwoId,
+    EndianBytes, EndianSlice, Error, Format, LittleEndian, Range, RangeListsOffset,
+    RawRangeListsOffset, Reader, ReaderOffset, ReaderOffsetId, RunTimeEndian, SectionId,
+    UnitHeader, UnitOffset, UnitType,
+};
+pub use last_list::{LastList, share};

@@ -1,0 +1,29 @@
+//! The parts of lookups: the units of an address, and in the unit of a number the row, the function
+//! and the frames of an address; the lines that are read for that; answers to the loads of units.
+#![tactic(auto)]
+
+mod covering;
+pub mod frame_place;
+mod function_place;
+mod load_answers;
+pub mod settle;
+pub mod settled;
+
+pub use addr2line_resolved::{
+    AbbreviationsCache, AbbreviationsCacheStrategy, ArangeIndex, AttributeValue, DW_LANG_Rust,
+    DebugAbbrev, DebugAbbrevOffset, DebugAddr, DebugAddrIndex, DebugAranges, DebugInfo, DebugLine,
+    DebugLineStr, DebugLineStrOffset, DebugRanges, DebugRngLists, DebugRngListsIndex, DebugStr,
+    DebugStrOffset, DebugStrOffsets, DebugStrOffsetsIndex, DwLang, Dwarf, DwarfFileType, DwoId,
+    EndianBytes, EndianSlice, Error, Format, Frame, FrameIter, FunctionName, LineCursor, Lines,
+    LinesBuilder, LittleEndian, Location, LocationLists, Range, RangeLists, RangeListsOffset,
+    RangePlace, RawRangeListsOffset, Reader, ReaderOffsetId, ResUnit, RowStretch, RunTimeEndian,
+    Runs, SectionId, SplitDwarfLoad, Unit, UnitLines, UnitOffset, UnitRange, UnitRanges, UnitRef,
+    UnitRoot, file_text, file_text_of_bytes, frame_without_function, is_rooted, join, language_of,
+    ordered_ranges, ranges_of_attributes, units_of_file, units_of_supplement,
+};
+pub use covering::next_covering;
+pub use frame_place::{FramePlace, find_frames_at, frames_at_place};
+pub use function_place::keep_calls;
+pub use load_answers::answer_at;
+pub use settle::{UnitRow, find_row, place_in, read_at, unit_at};
+pub use settled::Settled;
