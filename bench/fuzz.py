@@ -3,9 +3,9 @@
 
 usage: bench/fuzz.py MINUTES [FOLDER]
 
-The seeds are what is emitted of tables, in each of the 28 targets, the files that linemap_cases is asked about, and the images of FOLDER. They are mutated: bits are
-flipped, bytes cut out, put in and copied from other seeds, numbers set to extremes. Four things are done with them, in
-turn, until the time is up:
+The seeds are what is emitted of tables, in each of the 28 targets, the files that linemap_cases is asked about, and the
+images of FOLDER. They are mutated: bits are flipped, bytes cut out, put in and copied from other seeds, numbers set to
+extremes. Four things are done with them, in turn, until the time is up:
 
 - sections: thousands of files go through one process of `linemap_cases`, each through both readers and all three
   constructors; what it answers must be what tests/model.py computes.

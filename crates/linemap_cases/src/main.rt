@@ -1,7 +1,8 @@
 //! Answers questions about lookups. A line `contexts:` or `tables:`, which is repeated, says what
-//! comes after it: paragraphs about the addresses of small files, as at the beginning, or a question
-//! about a table in each line. `paragraphs.rt` and `tables.rt` say how they are written. Where memory
-//! is refused for an answer, it is asked for again, and what follows begins with `E1, then`.
+//! comes after it: paragraphs about the addresses of small files, as at the beginning, or a
+//! question about a table in each line. `paragraphs.rt` and `tables.rt` say how they are written.
+//! Where memory is refused for an answer, it is asked for again, and what follows begins with
+//! `E1, then`.
 #![tactic(auto)]
 
 mod answer;

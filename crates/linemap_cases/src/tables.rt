@@ -1,5 +1,5 @@
-//! Answers to questions about tables: each is a line, and is repeated with its answer; an empty line,
-//! and one that begins with `#`, is only repeated.
+//! Answers to questions about tables: each is a line, and is repeated with its answer; an empty
+//! line, and one that begins with `#`, is only repeated.
 //!
 //! - `TABLE VERSION BITS SIZE ORDER ADDRESS` asks for the frames of an address in the image of a
 //!   table.
