@@ -10,3 +10,4 @@ pub mod NameParts
 pub mod SymbolStretches
 pub mod SymbolSweeps
 pub mod ElfDebugSections
+pub mod StandardNumbers

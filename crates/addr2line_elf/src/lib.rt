@@ -11,6 +11,7 @@ pub mod headers;
 mod identification;
 mod names;
 mod reading;
+pub mod standard_numbers;
 mod stretch;
 mod sweep;
 pub mod symbol_entries;

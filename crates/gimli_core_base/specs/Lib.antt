@@ -12,3 +12,4 @@ pub mod Fixed
 pub mod Leb128
 pub mod NumberParsers
 pub mod Spelling
+pub mod StandardNumbers

@@ -10,6 +10,7 @@ pub mod leb128;
 pub mod number_laws;
 pub mod offset;
 pub mod order;
+pub mod standard_numbers;
 
 pub use common::{
     DebugAbbrevOffset, DebugAddrBase, DebugAddrIndex, DebugAddrOffset, DebugArangesOffset,

@@ -56,7 +56,7 @@ sets_are_parts limit =
 
 -- ---- pairs
 
-pair_took : (size : ℕ) (v : View) → Yields (λ p w. Took (size + size) v w) (pair size v)
+pub pair_took : (size : ℕ) (v : View) → Yields (λ p w. Took (size + size) v w) (pair size v)
 unfolding pair
 pair_took size v =
     yields-proceed (fixed_took size v) (λ address s h.

@@ -1,16 +1,18 @@
 -- Pairs that a call skips, and the pair that it answers about.
-use Rattle.std.proofs.Common.{◌≡◌, ℕ, List, [], ◌∷◌, ◌++◌, Option, Some, None, Result, Ok, Err, refl, sym, ◌∙◌, ap, append_assoc}
+use Rattle.std.proofs.Common.{◌≡◌, ℕ, zero, suc, ◌+◌, ◌*◌, Bool, true, false, cond, ltb, List, [], ◌∷◌, ◌++◌, length, Option, Some, None, Result, Ok, Err, refl, sym, ◌∙◌, ap, subst, arith, append_assoc}
 use Rattle.std.specs.Prelude.{IsTrue}
 use Rattle.std.specs.Result.{IsErrAnd}
 use Rattle.std.proofs.lemmas.List.Elements.{All-append, All-nil, All-cons}
 use Rattle.gimli_core_base.specs.declared.error.Error.{Error}
-use Rattle.gimli_core_base.specs.View.{View, bytes_left}
+use Rattle.gimli_core_base.specs.View.{View, after, bytes_left}
+use Rattle.gimli_core_base.specs.Parsers.{proceed, give}
+use Rattle.gimli_core_base.proofs.StepParts.{begins, value_is, state_is}
 use Rattle.gimli_core_base.specs.Repetition.{Listing, listing_in}
 use Rattle.gimli_core_base.proofs.Listings.{listing_end, listing_item}
 use Rattle.gimli_core_base.specs.NumberParsers.{is_address_size}
-use Rattle.gimli_units_headers.specs.ArangeSets.{ArangePair, RemainingPairs, next_pair, arange_of, pairs_to_come, SkipsPairs, Consumes}
-use Rattle.gimli_core_readers.proofs.ByteCountLemmas.{some_size}
-use Rattle.gimli_units_headers.proofs.ArangeSetLemmas.{pairs_shrink, none_moves}
+use Rattle.gimli_units_headers.specs.ArangeSets.{ArangePair, RemainingPairs, pair, next_pair, arange_of, pairs_to_come, SkipsPairs, Consumes, TakesPairs}
+use Rattle.gimli_core_readers.proofs.ByteCountLemmas.{Took, after_after, some_size}
+use Rattle.gimli_units_headers.proofs.ArangeSetLemmas.{pair_took, pairs_shrink, none_moves}
 
 -- the pairs of a listing
 items_of : Listing View ArangePair → List ArangePair
@@ -93,3 +95,74 @@ pair_step begun old new p r so_far began h same e resolved = record {
       (first_pair old new p h same e);
   stands_for = ap (λ (n : ℕ). arange_of n p) (sym began) ∙ sym resolved;
 }
+
+-- ---- the bytes that are taken
+
+-- a pair takes its bytes
+pair_takes : (size : ℕ) (v : View) (p : ArangePair) (w : View) → next_pair size v ≡ Ok (Some p, w)
+    → Took (size + size) v w
+unfolding next_pair
+pair_takes size v p w e = at (ltb (bytes_left v) (2 * size)) e
+  where
+    none : Option ArangePair
+    none = None
+
+    at : (b : Bool) → cond b (Ok (None, v)) (proceed (pair size v) (λ q. give (Some q))) ≡ Ok (Some p, w)
+        → Took (size + size) v w
+    at true k = let is : none ≡ Some p = value_is none (Some p) v w k in absurd cc
+    at false k =
+        let b = begins (pair size v) (λ q. give (Some q)) (Some p) w k in
+        subst (λ (u : View). Took (size + size) v u) (state_is (Some b.0) (Some p) b.1 w b.3)
+        ((pair_took size v).hold b.0 b.1 b.2)
+
+-- a view of the same bytes at another place
+abbrev placed : View → ℕ → View
+placed v n = record { bytes = v.bytes; is_big = v.is_big; first = n }
+
+-- none yet
+after_none : (v : View) → after 0 v ≡ v
+after_none v = let place : v.first + 0 ≡ v.first = omega arith in ap (placed v) place
+
+pub takes_none : (s : RemainingPairs) → TakesPairs s s
+takes_none s = record {
+  count = 0;
+  pairs = omega arith;
+  rest =
+      let no_bytes : 0 * (2 * s.address_size) ≡ 0 = omega arith in
+      sym (ap (λ (n : ℕ). after n s.rest) no_bytes ∙ after_none s.rest);
+}
+
+-- one more pair
+pub takes_one : (begun old new : RemainingPairs) (p : ArangePair) → TakesPairs begun old
+    → old.address_size ≡ begun.address_size → IsTrue (is_address_size old.address_size)
+    → new.address_size ≡ old.address_size → next_pair old.address_size old.rest ≡ Ok (Some p, new.rest)
+    → TakesPairs begun new
+takes_one begun old new p h began some same e =
+    let size = old.address_size in
+    let first : length (pairs_to_come old) ≡ suc (length (pairs_to_come new)) =
+    ap length (first_pair old new p some same e) in
+    let before = h.pairs in
+    let took = pair_takes size old.rest p new.rest e in
+    let bytes : h.count * (2 * begun.address_size) + (size + size) ≡ suc h.count * (2 * begun.address_size) =
+    omega (arith, began) in
+    record {
+      count = suc h.count;
+      pairs = omega arith;
+      rest =
+          took.rest
+          ∙ ap (after (size + size)) h.rest
+          ∙ after_after (h.count * (2 * begun.address_size)) (size + size) begun.rest
+          ∙ ap (λ (n : ℕ). after n begun.rest) bytes;
+    }
+
+-- no further pair
+pub takes_no_more : (begun old new : RemainingPairs) → TakesPairs begun old → IsTrue (is_address_size old.address_size)
+    → new.address_size ≡ old.address_size → next_pair old.address_size old.rest ≡ Ok (None, new.rest)
+    → TakesPairs begun new
+takes_no_more begun old new h some same e =
+    let ends = no_pairs old new some same e in
+    record {
+      count = h.count;
+      pairs = h.pairs ∙ ap (λ (ps : List ArangePair). h.count + length ps) (ends.0 ∙ sym ends.1);
+      rest = none_moves old.address_size old.rest new.rest e ∙ h.rest;
+    }

@@ -1,10 +1,10 @@
 -- Address ranges (DWARF 5, 6.1.2 and 7.21): sets end to end, each a header and pairs of an address
 -- and a length.
-use Rattle.std.specs.Prelude.{◌≡◌, ℕ, ◌+◌, ◌-◌, ◌*◌, ◌^◌, ◌%◌, ◌==◌, ◌&&◌, ◌||◌, nat_lt, List, [], ◌∷◌, ◌++◌, Option, Some, None, Result, Ok, Err, if◌then◌else◌}
+use Rattle.std.specs.Prelude.{◌≡◌, ℕ, ◌+◌, ◌-◌, ◌*◌, ◌^◌, ◌%◌, ◌==◌, ◌&&◌, ◌||◌, nat_lt, List, [], ◌∷◌, ◌++◌, length, Option, Some, None, Result, Ok, Err, if◌then◌else◌}
 use Rattle.std.specs.List.{All, filter_map}
 use Rattle.gimli_core_base.specs.declared.error.Error.{Error}
 use Rattle.gimli_core_base.specs.declared.error.Error.TheVariants.{UnknownVersion, UnsupportedSegmentSize, AddressOverflow}
-use Rattle.gimli_core_base.specs.View.{View, bytes_left}
+use Rattle.gimli_core_base.specs.View.{View, after, bytes_left}
 use Rattle.gimli_core_base.specs.Parsers.{Parser, ◌>>=◌, give, demand, here, skip, proceed}
 use Rattle.gimli_core_base.specs.Repetition.{Listing, listing_in}
 use Rattle.gimli_core_base.specs.declared.common.Format.{Format}
@@ -163,6 +163,13 @@ Consumes size (Ok (Some x)) old new =
     (p : ArangePair) × SkipsPairs size old (p ∷ new) × (arange_of size p ≡ Ok (Some x))
 Consumes size (Err e) old new =
     (p : ArangePair) × SkipsPairs size old (p ∷ new) × (arange_of size p ≡ Err e)
+
+-- The bytes that are gone are those of the pairs that are gone, and no others: a rest that is
+-- shorter than a pair stays.
+pub record TakesPairs (old new : RemainingPairs) : Type 0 where
+  pub count : ℕ
+  pub pairs : length (pairs_to_come old) ≡ count + length (pairs_to_come new)
+  pub rest : new.rest ≡ after (count * (2 * old.address_size)) old.rest
 
 -- the end of a pair's addresses, modulo 2 ^ 64: exact where it fits the address size
 abbrev pub pair_end : ArangePair → ℕ

@@ -5,7 +5,7 @@ ghost use Rattle.gimli_core_base.specs.Calls.{ReturnsAsOrNoMemory, ReturnsOrNoMe
 ghost use Rattle.gimli_core_base.specs.declared.error.Error.TheVariants.{Memory};
 ghost use Rattle.gimli_core_base.specs.NumberParsers.{is_address_size};
 ghost use Rattle.gimli_core_readers.specs.Iterators.{ReturnsNext};
-ghost use Rattle.gimli_units_headers.specs.ArangeSets.{next_pair, arange_of, aranges_to_come, pairs_to_come, remaining_pairs, pair_end, Consumes};
+ghost use Rattle.gimli_units_headers.specs.ArangeSets.{next_pair, arange_of, aranges_to_come, pairs_to_come, remaining_pairs, pair_end, Consumes, TakesPairs};
 
 use gimli_core_base::error::Error;
 use gimli_core_readers::{Range, Reader, greatest_address, least_tombstone};
@@ -97,6 +97,8 @@ impl<R: Reader> ArangeEntryIter<R> {
         // No pair after the one that is answered is touched, so that `next_raw` may go on.
         ensures pairs { Consumes self.old.address_size result (pairs_to_come self.old)
             (pairs_to_come self.new) }
+        // The bytes of the pairs are taken, and a rest that is shorter than a pair stays.
+        ensures rest { TakesPairs self.old self.new }
         ensures size { self.new.address_size ≡ self.old.address_size }
     {
         while let Some(raw) = self.next_raw()? {

@@ -14,5 +14,6 @@ mod LocationEntryPlaces
 mod ListCounts
 mod ListRefusals
 mod ProgressLemmas
+mod EntryReads
 mod Tombstones
 mod ListExamples

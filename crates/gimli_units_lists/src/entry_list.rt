@@ -8,7 +8,7 @@ ghost use Rattle.gimli_core_readers.specs.Parsers.{Parser};
 ghost use Rattle.gimli_core_readers.specs.declared.range.Range.{Range};
 ghost use Rattle.gimli_units_lists.specs.ListEntries.{IsValidRange};
 ghost use Rattle.gimli_units_lists.specs.ListProgress.{TakesEntries};
-ghost use Rattle.gimli_units_lists.specs.Lists.{ListKind, RemainingList, TakesBytes, entries_from, entries_of, answers_to_come};
+ghost use Rattle.gimli_units_lists.specs.Lists.{ListKind, RemainingList, TakesBytes, entries_from, entries_of, answers_to_come, ReadsEntry, LeavesBytes};
 
 use gimli_core_readers::{Error, Reader};
 
@@ -44,6 +44,7 @@ pub(crate) fn next_entry<R: Reader, E: ListEntry<R>>(
     ensures next { ReturnsNextOrNoMemory E.see result
         (entries_from (E.entry how) (R.view input.old))
         (entries_from (E.entry how) (R.view input.new)) }
+    ensures rest { ReadsEntry E.see (E.entry how) result (R.view input.old) (R.view input.new) }
     ensures free { E.reads_freely → result ≢ Err Memory }
 {
     if input.is_empty() {
@@ -98,6 +99,8 @@ pub(crate) trait EntryList: Drop {
         ensures next { ReturnsNextOrNoMemory see_entry result
             (entries_of kind limit (remaining self.old))
             (entries_of kind limit (remaining self.new)) }
+        ensures rest { ReadsEntry see_entry (kind.entry limit (remaining self.old).how) result
+            (remaining self.old).rest (remaining self.new).rest }
         ensures how { (remaining self.new).how ≡ (remaining self.old).how }
         ensures against { (remaining self.new).against ≡ (remaining self.old).against }
         ensures free { reads_freely → result ≢ Err Memory };
@@ -126,6 +129,8 @@ pub(crate) fn next_answer<L: EntryList>(list: &mut L) -> Result<Option<L::Answer
         (answers_to_come L.kind L.limit (L.remaining list.new)) }
     ensures progress { TakesEntries L.kind L.see L.limit result (L.remaining list.old)
         (L.remaining list.new) }
+    ensures rest { LeavesBytes (L.kind.entry L.limit (L.remaining list.old).how) result
+        (L.remaining list.old).rest (L.remaining list.new).rest }
     ensures valid { IfOk result (λ found. IfSome found
         (λ x. IsValidRange (L.remaining list.old).against.setting.address_size (L.range_in x))) }
     ensures how { (L.remaining list.new).how ≡ (L.remaining list.old).how }

@@ -11,8 +11,10 @@ use crate::fields::{
 };
 use crate::range_entry::RawRngListEntry;
 use gimli_core_readers::{
-    DebugAddrIndex, DwLle, Encoding, EndianSlice, Error, Expression, Reader, ReaderOffset,
-    borrowed, bytes_before, cut, greatest_address,
+    DW_LLE_base_address, DW_LLE_base_addressx, DW_LLE_default_location, DW_LLE_end_of_list,
+    DW_LLE_offset_pair, DW_LLE_start_end, DW_LLE_start_length, DW_LLE_startx_endx,
+    DW_LLE_startx_length, DebugAddrIndex, DwLle, Encoding, EndianSlice, Error, Expression, Reader,
+    ReaderOffset, borrowed, bytes_before, cut, greatest_address,
 };
 
 /// An entry of a location list, as its list has it.
@@ -162,12 +164,12 @@ fn parse_kind<R: Reader>(
         result (location_kind R.Offset.limit encoding place.old) }
 {
     let kind = place.read_u8()?;
-    Ok(Some(match kind {
-        0 => return Ok(None),
-        1 => RawLocListEntry::BaseAddressx {
+    Ok(Some(match DwLle(kind) {
+        DW_LLE_end_of_list => return Ok(None),
+        DW_LLE_base_addressx => RawLocListEntry::BaseAddressx {
             addr: read_index(place)?,
         },
-        2 => {
+        DW_LLE_startx_endx => {
             let (begin, end) = read_indexes(place)?;
             let expression = parse_expression(place, reader, encoding)?;
             RawLocListEntry::StartxEndx {
@@ -176,7 +178,7 @@ fn parse_kind<R: Reader>(
                 expression,
             }
         }
-        3 => {
+        DW_LLE_startx_length => {
             let (begin, length) = read_index_and_length(place, encoding)?;
             let expression = parse_expression(place, reader, encoding)?;
             RawLocListEntry::StartxLength {
@@ -185,7 +187,7 @@ fn parse_kind<R: Reader>(
                 expression,
             }
         }
-        4 => {
+        DW_LLE_offset_pair => {
             let (begin, end) = read_offsets(place)?;
             let expression = parse_expression(place, reader, encoding)?;
             RawLocListEntry::OffsetPair {
@@ -194,13 +196,13 @@ fn parse_kind<R: Reader>(
                 expression,
             }
         }
-        5 => RawLocListEntry::DefaultLocation {
+        DW_LLE_default_location => RawLocListEntry::DefaultLocation {
             expression: parse_expression(place, reader, encoding)?,
         },
-        6 => RawLocListEntry::BaseAddress {
+        DW_LLE_base_address => RawLocListEntry::BaseAddress {
             addr: place.read_address(encoding.address_size)?,
         },
-        7 => {
+        DW_LLE_start_end => {
             let (begin, end) = read_addresses(place, encoding.address_size)?;
             let expression = parse_expression(place, reader, encoding)?;
             RawLocListEntry::StartEnd {
@@ -209,7 +211,7 @@ fn parse_kind<R: Reader>(
                 expression,
             }
         }
-        8 => {
+        DW_LLE_start_length => {
             let (begin, length) = read_address_and_length(place, encoding.address_size)?;
             let expression = parse_expression(place, reader, encoding)?;
             RawLocListEntry::StartLength {

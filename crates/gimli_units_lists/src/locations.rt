@@ -5,7 +5,8 @@ ghost use Rattle.gimli_core_readers.specs.Iterators.{ReturnsNextOrNoMemory};
 ghost use Rattle.gimli_units_lists.specs.ListEntries.{IsValidRange};
 ghost use Rattle.gimli_units_lists.specs.ListSections.{locations_to_come};
 ghost use Rattle.gimli_units_lists.specs.ListProgress.{TakesLocation};
-ghost use Rattle.gimli_units_lists.specs.LocationEntries.{raw_locations_to_come, location_base_in, location_of};
+ghost use Rattle.gimli_units_lists.specs.LocationEntries.{location_entry, raw_locations_to_come, location_base_in, location_of};
+ghost use Rattle.gimli_units_lists.specs.Lists.{ReadsEntry, LeavesBytes};
 ghost use Rattle.gimli_units_lists.specs.ListEntryViews.{raw_location, location};
 
 use crate::entry_list::{EntryList, next_answer};
@@ -54,6 +55,9 @@ impl<R: Reader> LocListIter<R> {
             (locations_to_come R.Offset.limit self.new) }
         // The entries up to the one that stands for the answer are taken.
         ensures progress { TakesLocation (location R.view) R.Offset.limit result self.old self.new }
+        ensures rest { LeavesBytes
+            (location_entry R.Offset.limit self.old.raw.encoding self.old.raw.by_kind) result
+            self.old.raw.rest self.new.raw.rest }
         ensures valid { IfOk result
             (λ found. IfSome found
             (λ l. IsValidRange self.old.against.setting.address_size l.range)) }
@@ -70,6 +74,9 @@ impl<R: Reader> LocListIter<R> {
         ensures next { ReturnsNextOrNoMemory (raw_location R.view R.Offset.count) result
             (raw_locations_to_come R.Offset.limit self.old.raw)
             (raw_locations_to_come R.Offset.limit self.new.raw) }
+        ensures rest { ReadsEntry (raw_location R.view R.Offset.count)
+            (location_entry R.Offset.limit self.old.raw.encoding self.old.raw.by_kind) result
+            self.old.raw.rest self.new.raw.rest }
         ensures encoding { self.new.raw.encoding ≡ self.old.raw.encoding }
         ensures by_kind { self.new.raw.by_kind ≡ self.old.raw.by_kind }
         ensures against { self.new.against ≡ self.old.against }

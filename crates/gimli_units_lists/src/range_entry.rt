@@ -7,7 +7,11 @@ use crate::entry_list::ListEntry;
 use crate::fields::{
     read_address_and_length, read_addresses, read_index, read_indexes, read_offsets,
 };
-use gimli_core_readers::{DebugAddrIndex, DwRle, Encoding, Error, Reader, greatest_address};
+use gimli_core_readers::{
+    DW_RLE_base_address, DW_RLE_base_addressx, DW_RLE_end_of_list, DW_RLE_offset_pair,
+    DW_RLE_start_end, DW_RLE_start_length, DW_RLE_startx_endx, DW_RLE_startx_length,
+    DebugAddrIndex, DwRle, Encoding, Error, Reader, greatest_address,
+};
 
 /// An entry of a range list, as its list has it.
 #[derive(Clone, Copy, Debug, PartialEq, Eq)]
@@ -120,31 +124,31 @@ fn parse_kind<R: Reader>(
         (range_kind R.Offset.limit address_size (R.view input.old)) }
 {
     let kind = input.read_u8()?;
-    Ok(Some(match kind {
-        0 => return Ok(None),
-        1 => RawRngListEntry::BaseAddressx {
+    Ok(Some(match DwRle(kind) {
+        DW_RLE_end_of_list => return Ok(None),
+        DW_RLE_base_addressx => RawRngListEntry::BaseAddressx {
             addr: read_index(input)?,
         },
-        2 => {
+        DW_RLE_startx_endx => {
             let (begin, end) = read_indexes(input)?;
             RawRngListEntry::StartxEndx { begin, end }
         }
-        3 => RawRngListEntry::StartxLength {
+        DW_RLE_startx_length => RawRngListEntry::StartxLength {
             begin: read_index(input)?,
             length: input.read_uleb128()?,
         },
-        4 => {
+        DW_RLE_offset_pair => {
             let (begin, end) = read_offsets(input)?;
             RawRngListEntry::OffsetPair { begin, end }
         }
-        5 => RawRngListEntry::BaseAddress {
+        DW_RLE_base_address => RawRngListEntry::BaseAddress {
             addr: input.read_address(address_size)?,
         },
-        6 => {
+        DW_RLE_start_end => {
             let (begin, end) = read_addresses(input, address_size)?;
             RawRngListEntry::StartEnd { begin, end }
         }
-        7 => {
+        DW_RLE_start_length => {
             let (begin, length) = read_address_and_length(input, address_size)?;
             RawRngListEntry::StartLength { begin, length }
         }

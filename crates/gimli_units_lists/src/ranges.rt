@@ -5,7 +5,8 @@ ghost use Rattle.gimli_core_readers.specs.Iterators.{ReturnsNext};
 ghost use Rattle.gimli_units_lists.specs.ListEntries.{base_in, range_of, IsValidRange};
 ghost use Rattle.gimli_units_lists.specs.ListSections.{ranges_to_come};
 ghost use Rattle.gimli_units_lists.specs.ListProgress.{TakesRange};
-ghost use Rattle.gimli_units_lists.specs.RangeEntries.{raw_ranges_to_come};
+ghost use Rattle.gimli_units_lists.specs.RangeEntries.{range_entry, raw_ranges_to_come};
+ghost use Rattle.gimli_units_lists.specs.Lists.{ReadsEntry, LeavesBytes};
 ghost use Rattle.gimli_units_lists.specs.ListEntryViews.{raw_entry};
 
 use crate::entry_list::{EntryList, next_answer};
@@ -45,6 +46,8 @@ impl<R: Reader> RngListIter<R> {
             (ranges_to_come R.Offset.limit self.old) (ranges_to_come R.Offset.limit self.new) }
         // The entries up to the one that stands for the answer are taken.
         ensures progress { TakesRange R.Offset.limit result self.old self.new }
+        ensures rest { LeavesBytes (range_entry R.Offset.limit self.old.raw.encoding) result
+            self.old.raw.rest self.new.raw.rest }
         ensures valid { IfOk result
             (λ range. IfSome range (IsValidRange self.old.against.setting.address_size)) }
         ensures encoding { self.new.raw.encoding ≡ self.old.raw.encoding }
@@ -59,6 +62,9 @@ impl<R: Reader> RngListIter<R> {
         ensures next { ReturnsNext (raw_entry R.Offset.count) result
             (raw_ranges_to_come R.Offset.limit self.old.raw)
             (raw_ranges_to_come R.Offset.limit self.new.raw) }
+        ensures rest { ReadsEntry (raw_entry R.Offset.count)
+            (range_entry R.Offset.limit self.old.raw.encoding) result self.old.raw.rest
+            self.new.raw.rest }
         ensures encoding { self.new.raw.encoding ≡ self.old.raw.encoding }
         ensures against { self.new.against ≡ self.old.against }
         ensures free { result ≢ Err Memory }

@@ -1,7 +1,8 @@
 ghost use Rattle.std.specs.Prelude.{◌≡◌, ◌≢◌, IsTrue, Err};
 ghost use Rattle.gimli_core_readers.specs.Error.TheVariants.{Memory};
 ghost use Rattle.gimli_core_readers.specs.Iterators.{ReturnsNextOrNoMemory};
-ghost use Rattle.gimli_units_lists.specs.LocationEntries.{raw_locations_to_come};
+ghost use Rattle.gimli_units_lists.specs.LocationEntries.{location_entry, raw_locations_to_come};
+ghost use Rattle.gimli_units_lists.specs.Lists.{ReadsEntry};
 ghost use Rattle.gimli_units_lists.specs.ListEntryViews.{raw_location};
 
 use crate::entry_list::next_entry;
@@ -48,6 +49,9 @@ impl<R: Reader> RawLocListIter<R> {
         ensures next { ReturnsNextOrNoMemory (raw_location R.view R.Offset.count) result
             (raw_locations_to_come R.Offset.limit self.old)
             (raw_locations_to_come R.Offset.limit self.new) }
+        ensures rest { ReadsEntry (raw_location R.view R.Offset.count)
+            (location_entry R.Offset.limit self.old.encoding self.old.by_kind) result self.old.rest
+            self.new.rest }
         ensures encoding { self.new.encoding ≡ self.old.encoding }
         ensures by_kind { self.new.by_kind ≡ self.old.by_kind }
         ensures free { IsTrue R.copies_freely → result ≢ Err Memory }

@@ -1,7 +1,8 @@
 ghost use Rattle.std.specs.Prelude.{◌≡◌, ◌≢◌, Err};
 ghost use Rattle.gimli_core_readers.specs.Error.TheVariants.{Memory};
 ghost use Rattle.gimli_core_readers.specs.Iterators.{ReturnsNext};
-ghost use Rattle.gimli_units_lists.specs.RangeEntries.{raw_ranges_to_come};
+ghost use Rattle.gimli_units_lists.specs.RangeEntries.{range_entry, raw_ranges_to_come};
+ghost use Rattle.gimli_units_lists.specs.Lists.{ReadsEntry};
 ghost use Rattle.gimli_units_lists.specs.ListEntryViews.{raw_entry};
 
 use crate::entry_list::next_entry;
@@ -38,6 +39,8 @@ impl<R: Reader> RawRngListIter<R> {
         ensures next { ReturnsNext (raw_entry R.Offset.count) result
             (raw_ranges_to_come R.Offset.limit self.old)
             (raw_ranges_to_come R.Offset.limit self.new) }
+        ensures rest { ReadsEntry (raw_entry R.Offset.count)
+            (range_entry R.Offset.limit self.old.encoding) result self.old.rest self.new.rest }
         ensures encoding { self.new.encoding ≡ self.old.encoding }
         ensures free { result ≢ Err Memory }
     {

@@ -1,7 +1,9 @@
 -- Each entry that is skipped leaves what is to come as it was.
-use Rattle.std.proofs.Common.{Option, option_map, Result, Ok, Err, Some, None, refl, sym, ◌∙◌, ap}
+use Rattle.std.proofs.Common.{inl, inr, Option, option_map, Result, Ok, Err, Some, None, refl, sym, ◌∙◌, ap, subst}
 use Rattle.gimli_core_readers.specs.Error.{Error}
-use Rattle.gimli_units_lists.specs.Lists.{Resolution}
+use Rattle.gimli_core_readers.specs.View.{View}
+use Rattle.gimli_units_lists.specs.Lists.{Resolution, ReadsSome}
+use Rattle.gimli_units_lists.proofs.EntryReads.{reads_none, refusal_leaves, list_reads, list_ends_at_fault}
 use Rattle.gimli_units_lists.proofs.ListRefusals.{refusal_is_next, refusal_takes, item_is_next}
 use Rattle.gimli_units_lists.proofs.ListSteps.{list_step, list_fault, list_same, same_entries}
 use Rattle.gimli_units_lists.proofs.ProgressLemmas.{passes_none, list_passes, list_stops, list_stops_at_fault, skips_all}
@@ -74,10 +76,13 @@ loop-entry-preserved g c =
       list_passes t.kind t.limit (t.remaining c.args.list.now) before mid new (t.see_entry c.in-Some.entry)
           c.loop-entry.invariant.3 c.loop-entry.invariant.2 entry c.in_ok-entry.ensures.against none same
           c.in_ok-answer.ensures.base,
+      list_reads t.kind t.limit t.see_entry (t.remaining c.args.list.now) before mid new c.in_ok-entry.field-0
+          c.in-Some.entry c.loop-entry.invariant.4 c.loop-entry.invariant.1 c.in-Some.is c.in_ok-entry.ensures.rest
+          c.in_ok-answer.ensures.rest,
     )
 
 pub loop-entry-init : goal.loop-entry-init
-loop-entry-init g c = (refl, refl, refl, passes_none _ _ _ _)
+loop-entry-init g c = (refl, refl, refl, passes_none _ _ _ _, reads_none _ _)
 
 pub returns-in_err-entry-clause-progress : goal.returns-in_err-entry-clause-progress
 returns-in_err-entry-clause-progress g c =
@@ -122,3 +127,38 @@ returns-in-Some-2-clause-progress g c =
     (c.in_ok-answer.ensures.value ∙ ap (answer t.see) c.in-Some-2.is)
     (same_entries t.kind t.limit mid new c.in_ok-answer.ensures.how c.in_ok-answer.ensures.rest)
     c.in_ok-answer.ensures.base
+
+pub returns-in_err-entry-clause-rest : goal.returns-in_err-entry-clause-rest
+returns-in_err-entry-clause-rest g c =
+    let t = g.L.EntryList in
+    let first = t.remaining c.args.list.now in
+    let before = t.remaining c.loop-entry.list in
+    let new = t.remaining c.take_entry.new.self in
+    refusal_leaves (t.kind.entry t.limit first.how) c.from_residual.result first.rest new.rest _
+    c.from_residual.ensures.1
+    (λ ne. inr (list_ends_at_fault t.kind t.limit c.in_err-entry.field-0.0 first before new c.loop-entry.invariant.4
+    c.loop-entry.invariant.1 (c.in_err-entry.ensures.rest.0 ne)))
+    (λ is. subst (λ (v : View). ReadsSome (t.kind.entry t.limit first.how) first.rest v)
+    (sym (c.in_err-entry.ensures.rest.1 is)) c.loop-entry.invariant.4)
+
+pub returns-in_err-answer-clause-rest : goal.returns-in_err-answer-clause-rest
+returns-in_err-answer-clause-rest g c =
+    let t = g.L.EntryList in
+    let first = t.remaining c.args.list.now in
+    let before = t.remaining c.loop-entry.list in
+    let mid = t.remaining c.take_entry.new.self in
+    let new = t.remaining c.resolve.new.self in
+    refusal_leaves (t.kind.entry t.limit first.how) c.from_residual-in_err-answer.result first.rest new.rest _
+    c.from_residual-in_err-answer.ensures.1
+    (λ ne. inl (list_reads t.kind t.limit t.see_entry first before mid new c.in_ok-entry.field-0 c.in-Some.entry
+    c.loop-entry.invariant.4 c.loop-entry.invariant.1 c.in-Some.is c.in_ok-entry.ensures.rest
+    c.in_err-answer.ensures.rest))
+    (λ is. absurd (c.in_err-answer.ensures.free (ap (λ (e : Error). refusal e) is)))
+
+pub returns-in-Some-2-clause-rest : goal.returns-in-Some-2-clause-rest
+returns-in-Some-2-clause-rest g c =
+    let t = g.L.EntryList in
+    list_reads t.kind t.limit t.see_entry (t.remaining c.args.list.now) (t.remaining c.loop-entry.list)
+    (t.remaining c.take_entry.new.self) (t.remaining c.resolve.new.self) c.in_ok-entry.field-0 c.in-Some.entry
+    c.loop-entry.invariant.4 c.loop-entry.invariant.1 c.in-Some.is c.in_ok-entry.ensures.rest
+    c.in_ok-answer.ensures.rest

@@ -1,5 +1,7 @@
 -- Each answer is what was to come.
-use Rattle.std.proofs.Common.{rules}
+use Rattle.std.proofs.Common.{rules, ap, length}
+use Rattle.std.proofs.lemmas.Bool.{eqb-true}
+use Rattle.gimli_core_readers.specs.View.{bytes_left}
 use Rattle.gimli_units_lists.proofs.RawListSteps.{takes, come_item, come_end, come_fault, no_more}
 use Rattle.gimli_units_lists.proofs.entry_list.next_entry.Goals as goal
 
@@ -26,3 +28,13 @@ returns-in-Err-clause-next g c = (
       (g.R.Reader.view c.empty-in-Err.new.self) c.in-Err.fault (search rules) (search (rules, ne)) (search rules)),
   search rules,
 )
+
+pub returns-then-is_empty-clause-rest : goal.returns-then-is_empty-clause-rest
+returns-then-is_empty-clause-rest g c =
+    eqb-true (length (g.R.Reader.view c.args.input.now).bytes) 0 (search rules)
+
+pub returns-in-Ok-None-clause-rest : goal.returns-in-Ok-None-clause-rest
+returns-in-Ok-None-clause-rest g c = ap bytes_left c.empty.ensures
+
+pub returns-in-Err-clause-rest : goal.returns-in-Err-clause-rest
+returns-in-Err-clause-rest g c = ((λ ne. (search (rules, ne), ap bytes_left c.empty-in-Err.ensures)), search rules)

@@ -2,7 +2,7 @@
 use Rattle.std.proofs.Common.{rules, Ok, Err, Some, None, refl, sym, ◌∙◌}
 use Rattle.gimli_units_headers.proofs.ArangeSetLemmas.{pair_next, pair_smaller, no_pair, first_is_refusal}
 use Rattle.gimli_units_headers.specs.ArangeSets.{pairs_to_come}
-use Rattle.gimli_units_headers.proofs.PairSkipLemmas.{pair_step, skips_none, skips_one, consumes_refusal, no_pairs, skips_all}
+use Rattle.gimli_units_headers.proofs.PairSkipLemmas.{pair_step, skips_none, skips_one, consumes_refusal, no_pairs, skips_all, takes_none, takes_one, takes_no_more}
 use Rattle.gimli_units_headers.proofs.arange_entry.ArangeEntryIter.next.Goals as goal
 
 pub returns-in_err-entry-clause-order : goal.returns-in_err-entry-clause-order
@@ -35,6 +35,9 @@ loop-raw-preserved g c = record {
       c.loop-raw.invariant.skips c.loop-raw.invariant.same_size c.in_ok-raw.ensures.address c.in_ok-raw.ensures.size
       (search rules) (search rules) in
       skips_one _ _ c.in-Some.raw _ step.so_far step.stands_for;
+  takes =
+      takes_one c.args.self.now c.loop-raw.self c.next_raw.new.self c.in-Some.raw c.loop-raw.invariant.takes
+      c.loop-raw.invariant.same_size c.in_ok-raw.ensures.address c.in_ok-raw.ensures.size (search rules);
 }
 
 pub loop-raw-init : goal.loop-raw-init
@@ -44,6 +47,7 @@ loop-raw-init g c =
       same_size = refl;
       skips = skips_none c.args.self.now.address_size
           (pairs_to_come c.args.self.now);
+      takes = takes_none c.args.self.now;
     }
 
 pub returns-in_err-entry-clause-pairs : goal.returns-in_err-entry-clause-pairs
@@ -71,3 +75,18 @@ returns-clause-order g c =
     let ends = no_pair c.loop-raw.self c.next_raw.new.self c.in_ok-raw.ensures.address c.in_ok-raw.ensures.size
     (search rules) in
     (sym c.loop-raw.invariant.same_ranges ∙ ends.0, ends.1)
+
+pub returns-in_err-entry-clause-rest : goal.returns-in_err-entry-clause-rest
+returns-in_err-entry-clause-rest g c =
+    takes_one c.args.self.now c.loop-raw.self c.next_raw.new.self c.in-Some.raw c.loop-raw.invariant.takes
+    c.loop-raw.invariant.same_size c.in_ok-raw.ensures.address c.in_ok-raw.ensures.size (search rules)
+
+pub returns-in-Some-2-clause-rest : goal.returns-in-Some-2-clause-rest
+returns-in-Some-2-clause-rest g c =
+    takes_one c.args.self.now c.loop-raw.self c.next_raw.new.self c.in-Some.raw c.loop-raw.invariant.takes
+    c.loop-raw.invariant.same_size c.in_ok-raw.ensures.address c.in_ok-raw.ensures.size (search rules)
+
+pub returns-clause-rest : goal.returns-clause-rest
+returns-clause-rest g c =
+    takes_no_more c.args.self.now c.loop-raw.self c.next_raw.new.self c.loop-raw.invariant.takes
+    c.in_ok-raw.ensures.address c.in_ok-raw.ensures.size (search rules)
