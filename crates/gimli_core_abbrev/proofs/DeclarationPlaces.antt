@@ -7,7 +7,7 @@ use Rattle.std.specs.BTreeMap.{is_at}
 use Rattle.std.specs.List.{slice_get}
 use Rattle.std.proofs.lemmas.List.{length-map, map-append}
 use Rattle.std.proofs.lemmas.Option.{slice_get-map, slice_get-get_or}
-use Rattle.gimli_core_abbrev.specs.declared.abbreviation.Abbreviation.{Abbreviation}
+use Rattle.gimli_core_abbrev.specs.declared.declaration.Abbreviation.{Abbreviation}
 use Rattle.gimli_core_abbrev.specs.AbbreviationViews.{declaration_view}
 use Rattle.std.proofs.Math.Bool.{or-true}
 use Rattle.std.proofs.lemmas.Bool.{cases_lt, cases_order, cases_eq, le-ltb, lt-ltb, eq-eqb, ne_eqb}

@@ -16,3 +16,4 @@ mod SectionEnds
 mod TableEndExamples
 mod CacheMaps
 mod CachedTables
+pub mod WidthSums

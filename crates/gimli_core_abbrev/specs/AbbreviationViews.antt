@@ -1,12 +1,8 @@
 -- What a contract sees of a declaration.
+pub use Rattle.gimli_core_abbrev.specs.AttributeViews.{attribute_view}
 use Rattle.std.specs.Prelude.{map}
-use Rattle.gimli_core_abbrev.specs.declared.abbreviation.AttributeSpecification.{AttributeSpecification}
-use Rattle.gimli_core_abbrev.specs.declared.abbreviation.Abbreviation.{Abbreviation}
-use Rattle.gimli_core_abbrev.specs.Declarations.{Attribute, Declaration}
-
-abbrev pub attribute_view : AttributeSpecification → Attribute
-attribute_view a =
-    record { name = a.name.0; form = a.form.0; implicit_const = a.implicit_const_value }
+use Rattle.gimli_core_abbrev.specs.declared.declaration.Abbreviation.{Abbreviation}
+use Rattle.gimli_core_abbrev.specs.Declarations.{Declaration}
 
 abbrev pub declaration_view : Abbreviation → Declaration
 declaration_view a =

@@ -1,9 +1,11 @@
 -- How many bytes a form's value has, where that depends on the form alone (DWARF 5, 7.5.6).
-use Rattle.std.specs.Prelude.{ℕ, ◌==◌, Bool, Option, Some, None, List, [], ◌∷◌, if◌then◌else◌}
+use Rattle.std.specs.Prelude.{◌≡◌, ℕ, zero, suc, ◌+◌, ◌*◌, ◌==◌, Bool, Option, Some, None, option_map, option_and_then, List, [], ◌∷◌, if◌then◌else◌}
 use Rattle.std.specs.List.{list_any}
 use Rattle.gimli_core_readers.specs.TheConstants.{DW_FORM_flag_present, DW_FORM_implicit_const, DW_FORM_data1, DW_FORM_flag, DW_FORM_ref1, DW_FORM_strx1, DW_FORM_addrx1, DW_FORM_data2, DW_FORM_ref2, DW_FORM_strx2, DW_FORM_addrx2, DW_FORM_strx3, DW_FORM_addrx3, DW_FORM_data4, DW_FORM_ref4, DW_FORM_ref_sup4, DW_FORM_strx4, DW_FORM_addrx4, DW_FORM_data8, DW_FORM_ref8, DW_FORM_ref_sig8, DW_FORM_ref_sup8, DW_FORM_data16, DW_FORM_strp, DW_FORM_sec_offset, DW_FORM_strp_sup, DW_FORM_line_strp, DW_FORM_GNU_ref_alt, DW_FORM_GNU_strp_alt, DW_FORM_addr, DW_FORM_ref_addr}
 use Rattle.gimli_core_readers.specs.Encoding.{Encoding}
 use Rattle.gimli_core_readers.specs.FormatSizes.{word_size}
+use Rattle.gimli_core_abbrev.specs.Declarations.{Attribute}
+use Rattle.gimli_core_abbrev.specs.declared.widths.FixedWidths.{FixedWidths}
 
 abbrev pub is_one_of : List ℕ → ℕ → Bool
 is_one_of forms form = list_any (λ f. f == form) forms
@@ -57,3 +59,28 @@ width_of encoding form =
     else if is_one_of forms_of_8 form then Some 8
     else if is_one_of forms_of_16 form then Some 16
     else None
+
+-- ---- several values
+
+-- the sum of the widths of the first n, none where there are fewer or one has no width
+unfoldable pub sum_of_first : {A : Type 0} → (A → Option ℕ) → ℕ → List A → Option ℕ
+sum_of_first width zero xs = Some 0
+sum_of_first width (suc n) [] = None
+sum_of_first width (suc n) (x ∷ xs) =
+    option_and_then (λ w. option_map (λ rest. w + rest) (sum_of_first width n xs)) (width x)
+
+-- the bytes of plain values, of addresses and of offsets
+abbrev pub total_width : Encoding → FixedWidths → ℕ
+total_width encoding w =
+    w.bytes + w.addresses * encoding.address_size + w.offsets * word_size encoding.format
+
+-- how many attributes have these widths
+abbrev pub count_of_widths : FixedWidths → ℕ
+count_of_widths w = w.attributes
+
+-- the widths are those of the first attributes, whatever the encoding
+abbrev pub AreWidthsOf : List Attribute → FixedWidths → Type 0
+AreWidthsOf attributes w =
+    (encoding : Encoding)
+    → sum_of_first (λ a. width_of encoding a.form) w.attributes attributes
+    ≡ Some (total_width encoding w)

@@ -25,6 +25,7 @@ pub use Rattle.gimli_core_readers.specs.Readers
 pub use Rattle.gimli_core_readers.specs.SectionReads
 pub mod Declarations
 pub mod TableParsing
+pub mod AttributeViews
 pub mod AbbreviationViews
 pub mod TableLayout
 pub mod FormWidths

@@ -6,6 +6,7 @@ ghost use Rattle.gimli_core_abbrev.specs.TableParsing.{implicit_const_form, impl
 ghost use Rattle.gimli_core_abbrev.specs.AbbreviationViews.{declaration_view, attribute_view};
 ghost use Rattle.gimli_core_abbrev.specs.FormWidths.{width_of};
 
+use crate::declaration::Abbreviation;
 use gimli_core_readers::{
     DW_CHILDREN_no, DW_CHILDREN_yes, DW_FORM_GNU_ref_alt, DW_FORM_GNU_strp_alt, DW_FORM_addr,
     DW_FORM_addrx1, DW_FORM_addrx2, DW_FORM_addrx3, DW_FORM_addrx4, DW_FORM_data1, DW_FORM_data2,
@@ -109,56 +110,6 @@ impl AttributeSpecification {
     }
 }
 
-/// What entries of one code have in common. Up to five attributes take no memory of their own.
-#[derive(Debug, PartialEq, Eq)]
-pub struct Abbreviation {
-    code: u64,
-    tag: DwTag,
-    has_children: bool,
-    attributes: SmallVec<AttributeSpecification, 5>,
-}
-
-impl Drop for Abbreviation {
-    fn drop(self) {
-        let Abbreviation {
-            code: _,
-            tag: _,
-            has_children: _,
-            attributes: _,
-        } = self;
-    }
-}
-
-impl Abbreviation {
-    /// The code by which entries name it.
-    pub fn code(&self) -> u64
-        ensures { result ≡ (declaration_view self.now).code }
-    {
-        self.code
-    }
-
-    /// The tag of its entries.
-    pub fn tag(&self) -> DwTag
-        ensures { result.0 ≡ (declaration_view self.now).tag }
-    {
-        self.tag
-    }
-
-    /// Whether entries of this code may have children.
-    pub fn has_children(&self) -> bool
-        ensures { result ≡ (declaration_view self.now).has_children }
-    {
-        self.has_children
-    }
-
-    /// The attributes in the order in which an entry gives their values.
-    pub fn attributes(&self) -> &[AttributeSpecification]
-        ensures { map attribute_view result.now ≡ (declaration_view self.now).attributes }
-    {
-        self.attributes.as_slice()
-    }
-}
-
 // ---- reading
 
 // The value that a declaration itself holds, after an attribute's form.
@@ -241,12 +192,7 @@ fn parse_after_code<R: Reader>(
     }
     let has_children = parse_children(input)?;
     let attributes = parse_attributes(alloc, input)?;
-    Ok(Abbreviation {
-        code,
-        tag,
-        has_children,
-        attributes,
-    })
+    Ok(Abbreviation::new(code, tag, has_children, attributes))
 }
 
 // A declaration, or none where the table ends: at the code 0 and at the end of the bytes.

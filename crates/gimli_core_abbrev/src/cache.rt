@@ -115,16 +115,20 @@ impl AbbreviationsCache {
         put_table(&mut self.tables, offset.0.into_u64(), Ok(abbreviations))
     }
 
-    /// The cached table of an offset, else the section's table there.
+    /// The cached table of an offset, else the section's table there. What is cached is shared, and
+    /// takes no memory.
     pub fn get<R: Reader>(
         &self,
         alloc: Global,
         section: &DebugAbbrev<R>,
         offset: DebugAbbrevOffset<R::Offset>,
     ) -> Result<Rc<Abbreviations>, Error>
-        ensures { ReturnsAsOrNoMemory (λ t. t.value) result
+        ensures value { ReturnsAsOrNoMemory (λ t. t.value) result
             (unwrap_or (finite_map.get self.now (R.Offset.count offset.0))
             (table_at (R.Offset.count offset.0) section.now)) }
+        // A fault that is cached is answered without reading the section again.
+        ensures free { (e : Error) → finite_map.get self.now (R.Offset.count offset.0) ≡ Some (Err e)
+            → result ≡ Err e }
     {
         match self.cached_table(offset.0.into_u64()) {
             Some(table) => copy_of(table),
@@ -143,7 +147,8 @@ impl AbbreviationsCache {
 
 // A cached table once more, or the fault that is cached in its place.
 fn copy_of(table: &CachedTable) -> Result<Rc<Abbreviations>, Error>
-    ensures { ReturnsAsOrNoMemory (λ t. t.value) result (table_view table.now) }
+    ensures value { ReturnsAsOrNoMemory (λ t. t.value) result (table_view table.now) }
+    ensures free { (e : Error) → table_view table.now ≡ Err e → result ≡ Err e }
 {
     match table {
         Ok(abbreviations) => Ok(abbreviations.clone()?),

@@ -4,12 +4,15 @@
 pub mod abbreviation;
 pub mod abbreviation_laws;
 pub mod cache;
+pub mod declaration;
 pub mod section;
 pub mod table;
 mod tails;
+pub mod widths;
 
-pub use abbreviation::{Abbreviation, AttributeSpecification};
+pub use abbreviation::AttributeSpecification;
 pub use cache::{AbbreviationsCache, AbbreviationsCacheStrategy};
+pub use declaration::Abbreviation;
 pub use gimli_core_readers::{
     DW_AT_GNU_addr_base, DW_AT_GNU_dwo_id, DW_AT_GNU_ranges_base, DW_AT_addr_base,
     DW_AT_call_column, DW_AT_call_file, DW_AT_call_line, DW_AT_high_pc, DW_AT_language,
@@ -31,3 +34,4 @@ pub use gimli_core_readers::{
 };
 pub use section::DebugAbbrev;
 pub use table::Abbreviations;
+pub use widths::FixedWidths;

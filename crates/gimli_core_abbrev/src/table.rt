@@ -10,7 +10,8 @@ ghost use Rattle.gimli_core_abbrev.specs.TableParsing.{table};
 ghost use Rattle.gimli_core_abbrev.specs.TableLayout.{declaration_list, at_place};
 ghost use Rattle.gimli_core_abbrev.specs.AbbreviationViews.{declaration_view};
 
-use crate::abbreviation::{self, Abbreviation};
+use crate::abbreviation;
+use crate::declaration::Abbreviation;
 use gimli_core_readers::{Error, Reader};
 use std::alloc::Global;
 use std::collections::BTreeMap;

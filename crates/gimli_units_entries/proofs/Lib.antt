@@ -14,3 +14,4 @@ mod ChoiceLemmas
 pub mod RowSteps
 mod AttributePushLemmas
 mod EntryReads
+pub mod OtherEntryLemmas

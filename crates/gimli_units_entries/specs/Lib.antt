@@ -26,5 +26,6 @@ pub use Rattle.gimli_units_headers.specs.UnitTypes
 pub mod EntryWalks
 pub mod UnitEntries
 pub mod EntryRows
+pub mod OtherEntries
 pub mod EntryLaws
 pub mod EntryViews

@@ -2,8 +2,10 @@
 #![tactic(auto)]
 
 mod attributes;
+mod codes;
 pub mod entry;
 pub mod entry_laws;
+mod others;
 pub mod raw;
 pub mod unit;
 

@@ -3,22 +3,22 @@
 ghost use Rattle.std.specs.Prelude.{◌≡◌, ◌==◌, ◌<◌, ◌≤◌, Ok, IfOk, IsTrue, OnErr, [], map, option_map};
 ghost use Rattle.gimli_core_base.specs.View.{after, bytes_left};
 ghost use Rattle.gimli_core_base.specs.Calls.{ReturnsAs, ReturnsAsOrNoMemory, ReturnsOrNoMemory, StepsAsOrNoMemory, ReadsAs, Reads};
-ghost use Rattle.gimli_core_base.specs.NumberParsers.{unsigned};
 ghost use Rattle.gimli_units_forms.specs.AbbreviationViews.{declaration_view, attribute_view};
 ghost use Rattle.gimli_units_forms.specs.AttributeValues.{raw_attribute_of};
 ghost use Rattle.gimli_units_entries.specs.EntryWalks.{IsWithin, next_offset, walk_after, entry_head, value, values, skip_values};
 ghost use Rattle.gimli_units_entries.specs.EntryRows.{null_at, row, present_row};
+ghost use Rattle.gimli_units_entries.specs.OtherEntries.{is_tag_of, skip_others};
 ghost use Rattle.gimli_units_entries.specs.EntryViews.{entry_of, raw_attributes};
 
 use crate::attributes::read_each;
+use crate::codes::code_at;
 use crate::entry::DebuggingInformationEntry;
-use gimli_core_base::constants::ReaderOffsetId;
+use crate::others::others_after;
 use gimli_core_base::error::Error;
-use gimli_core_base::leb128::{self, Fault};
-use gimli_core_base::{Encoding, ReaderOffset};
+use gimli_core_base::{DwTag, Encoding, ReaderOffset};
 use gimli_units_forms::{
     Abbreviation, Abbreviations, Attribute, AttributeSpecification, parse_attribute_inline,
-    skip_attributes,
+    skip_attributes, skip_entry,
 };
 use gimli_units_headers::{Reader, UnitOffset};
 use std::marker::Model;
@@ -142,6 +142,35 @@ impl<'abbrev, R: Reader> EntriesRaw<'abbrev, R> {
         skip_attributes(&mut self.input, self.encoding, specifications)
     }
 
+    /// Skips the attributes of an entry of a declaration, which has been read, by their widths
+    /// alone. Takes no memory. A refusal leaves the walk as it was.
+    #[inline(always)]
+    #[tactic(auto, unfolding(crate::specs::EntryWalks::skip_values))]
+    pub fn skip_entry(&mut self, abbreviation: &Abbreviation) -> Result<(), Error>
+        ensures { Reads result self.old self.new
+            (skip_values (declaration_view abbreviation.now).attributes self.old) }
+    {
+        skip_entry(&mut self.input, self.encoding, abbreviation)
+    }
+
+    /// Skips entries, with their attributes by their widths alone, as long as the depth of the next
+    /// one is above a bound: up to one of these tags, one that can't be read or skipped, or the
+    /// unit's end. Null entries are skipped too. Takes no memory.
+    pub fn skip_others(&mut self, tags: &[DwTag], bound: isize)
+        ensures { self.new ≡ skip_others (is_tag_of tags.now) bound self.old }
+    {
+        let (count, depth) = others_after(
+            &self.input,
+            self.encoding,
+            self.abbreviations,
+            self.depth,
+            tags,
+            bound,
+        );
+        self.input.advance(count);
+        self.depth = depth;
+    }
+
     /// Reads the attributes that declarations describe in place of those of a list, whose memory
     /// they take. A refusal leaves the walk as it was, and the list empty.
     #[tactic(auto, unfolding(crate::specs::EntryWalks::values))]
@@ -231,39 +260,5 @@ impl<'abbrev, R: Reader> EntriesRaw<'abbrev, R> {
         if abbreviation.has_children() {
             self.depth += 1;
         }
-    }
-}
-
-// The next code, and how many bytes it takes: one in nearly all tables.
-#[inline(always)]
-#[tactic(auto, unfolding(gimli_core_base::specs::NumberParsers::unsigned))]
-fn code_at<R: Reader>(input: &R) -> Result<(u64, usize), Error>
-    ensures value { ReturnsAs (λ p. (p.0, after p.1 (R.view input.now))) result
-        (unsigned (R.view input.now)) }
-    ensures some { IfOk result (λ p. 0 < p.1) }
-    ensures within { IfOk result (λ p. p.1 ≤ bytes_left (R.view input.now)) }
-{
-    match input.as_bytes() {
-        [code, ..] if *code < 128 => Ok((u64::from(*code), 1)),
-        _ => long_code_at(input),
-    }
-}
-
-// The next code, of any number of bytes, and how many it takes.
-#[tactic(auto, unfolding(gimli_core_base::specs::NumberParsers::unsigned))]
-fn long_code_at<R: Reader>(input: &R) -> Result<(u64, usize), Error>
-    ensures value { ReturnsAs (λ p. (p.0, after p.1 (R.view input.now))) result
-        (unsigned (R.view input.now)) }
-    ensures some { IfOk result (λ p. 0 < p.1) }
-    ensures within { IfOk result (λ p. p.1 ≤ bytes_left (R.view input.now)) }
-{
-    let bytes = input.as_bytes();
-    match leb128::unsigned(bytes) {
-        Ok(found) => Ok(found),
-        Err(Fault::Cut) => {
-            let end = input.offset_id().0 + bytes.len() as u64;
-            Err(Error::UnexpectedEof(ReaderOffsetId(end)))
-        }
-        Err(Fault::Bad) => Err(Error::BadUnsignedLeb128),
     }
 }

@@ -3,7 +3,8 @@ pub mod FinalFormLemmas
 mod SkippingLemmas
 pub mod RunLemmas
 pub mod SkipAgreementLemmas
-mod AfterLemmas
+pub mod AfterLemmas
 pub mod FormSizes
 mod SpellingWidths
 mod SkippingRuns
+mod FixedRuns

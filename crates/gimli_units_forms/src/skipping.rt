@@ -1,7 +1,7 @@
 ghost use Rattle.std.specs.Prelude.{◌≡◌, ◌<◌, ◌+◌, ◌^◌, ◌≤◌, ℕ, Result, Ok, IfOk, IfSome, List, ◌∷◌, map, length, Some, None, option_map};
 ghost use Rattle.gimli_core_abbrev.specs.Calls.{ReturnsAs, Reads};
 ghost use Rattle.gimli_core_abbrev.specs.Declarations.{Attribute};
-ghost use Rattle.gimli_core_abbrev.specs.AbbreviationViews.{attribute_view};
+ghost use Rattle.gimli_core_abbrev.specs.AbbreviationViews.{attribute_view, declaration_view};
 ghost use Rattle.gimli_units_forms.specs.AttributeReading.{attributes};
 ghost use Rattle.gimli_core_abbrev.specs.NumberParsers.{unsigned};
 ghost use Rattle.gimli_units_forms.specs.AttributeValues.{RawAttribute};
@@ -13,7 +13,7 @@ ghost use Rattle.gimli_units_forms.specs.AttributeSkipping.{skip_text, way_of, w
 use crate::reading::{read_fixed, read_form};
 use crate::spelling::{Spelling, spelling_of};
 use gimli_core_abbrev::{
-    AttributeSpecification, DwForm, Encoding, Error, Reader, borrowed, bytes_before,
+    Abbreviation, AttributeSpecification, DwForm, Encoding, Error, Reader, borrowed, bytes_before,
 };
 
 // The width of a form's value, where it doesn't depend on the bytes.
@@ -174,20 +174,21 @@ fn run_to_look<'a, R: Reader>(
     Ok((run, left))
 }
 
-// Skips the values that declarations describe, and where it is refused leaves a reader that may
-// have moved. Compiled into its caller, as those are that call it: a call for each entry takes
-// longer.
+// Skips bytes and then the values that declarations describe, and where it is refused leaves a
+// reader that may have moved. Compiled into its caller, as those are that call it: a call for each
+// entry takes longer.
 #[inline(always)]
-#[tactic(auto, unfolding(crate::specs::AttributeSkipping::skip_values))]
-fn skip_all<R: Reader>(
+fn skip_bytes_and_values<R: Reader>(
     place: &mut R,
     encoding: Encoding,
+    count: u64,
     specifications: &[AttributeSpecification],
 ) -> Result<(), Error>
     ensures { ReturnsAs (λ u. (u, R.view place.new)) result
-        (skip_values encoding (map attribute_view specifications.now) (R.view place.old)) }
+        (skip_bytes_and_values count encoding (map attribute_view specifications.now)
+        (R.view place.old)) }
 {
-    let (mut run, mut left) = run_to_look(place, encoding, specifications, 0)?;
+    let (mut run, mut left) = run_to_look(place, encoding, specifications, count)?;
     while let [specification, rest @ ..] = left {
         let more = look_after(place, encoding, specification.form(), run)?;
         (run, left) = run_to_look(place, encoding, rest, more)?;
@@ -195,8 +196,27 @@ fn skip_all<R: Reader>(
     skip_run(place, run)
 }
 
+/// Skips the values of an entry of a declaration, by their widths alone: where their forms say how
+/// many bytes the first have, these are skipped at once. Takes no memory. A refusal leaves a reader
+/// that may have moved.
+#[inline(always)]
+#[tactic(auto, unfolding(crate::specs::AttributeSkipping::skip_values))]
+pub fn skip_declared<R: Reader>(
+    place: &mut R,
+    encoding: Encoding,
+    abbreviation: &Abbreviation,
+) -> Result<(), Error>
+    ensures { ReturnsAs (λ u. (u, R.view place.new)) result
+        (skip_values encoding (declaration_view abbreviation.now).attributes (R.view place.old)) }
+{
+    let widths = abbreviation.fixed_widths();
+    let left = &abbreviation.attributes()[widths.attributes()..];
+    skip_bytes_and_values(place, encoding, widths.bytes(encoding) as u64, left)
+}
+
 // How many bytes the values take that declarations describe.
 #[inline(always)]
+#[tactic(auto, unfolding(crate::specs::AttributeSkipping::skip_values))]
 fn bytes_to_skip<R: Reader>(
     reader: &R,
     encoding: Encoding,
@@ -207,7 +227,7 @@ fn bytes_to_skip<R: Reader>(
         (skip_values encoding (map attribute_view specifications.now) (R.view reader.now)) }
 {
     let mut place = borrowed(reader);
-    skip_all(&mut place, encoding, specifications)?;
+    skip_bytes_and_values(&mut place, encoding, 0, specifications)?;
     Ok(bytes_before(&place, reader))
 }
 
@@ -229,6 +249,25 @@ pub fn skip_attributes<R: Reader>(
         → (result ≡ Ok tt) × (R.view reader.new ≡ rest) }
 {
     let count = bytes_to_skip(reader, encoding, specifications)?;
+    reader.advance(count);
+    Ok(())
+}
+
+/// Skips the values of an entry of a declaration, by their widths alone. Takes no memory. A refusal
+/// leaves the reader as it was.
+#[inline(always)]
+pub fn skip_entry<R: Reader>(
+    reader: &mut R,
+    encoding: Encoding,
+    abbreviation: &Abbreviation,
+) -> Result<(), Error>
+    ensures { Reads result (R.view reader.old) (R.view reader.new)
+        (skip_values encoding (declaration_view abbreviation.now).attributes
+        (R.view reader.old)) }
+{
+    let mut place = borrowed(reader);
+    skip_declared(&mut place, encoding, abbreviation)?;
+    let count = bytes_before(&place, reader);
     reader.advance(count);
     Ok(())
 }

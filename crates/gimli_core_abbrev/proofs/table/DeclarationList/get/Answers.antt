@@ -1,7 +1,7 @@
 use Rattle.std.proofs.Common.{◌∙◌, arith, ap, List, drop, map}
 use Rattle.std.specs.Ordering.{nat_cmp}
 use Rattle.std.specs.BTreeMap.{get}
-use Rattle.gimli_core_abbrev.specs.declared.abbreviation.Abbreviation.{Abbreviation}
+use Rattle.gimli_core_abbrev.specs.declared.declaration.Abbreviation.{Abbreviation}
 use Rattle.gimli_core_abbrev.specs.Declarations.{Declaration, declaration_at, by_code}
 use Rattle.gimli_core_abbrev.specs.TableLayout.{at_place}
 use Rattle.gimli_core_abbrev.specs.AbbreviationViews.{declaration_view}

@@ -4,7 +4,7 @@ use Rattle.std.proofs.lemmas.List.{drop_all}
 use Rattle.gimli_core_abbrev.specs.AbbreviationViews.{attribute_view}
 use Rattle.gimli_units_forms.specs.AttributeSkipping.{way_of}
 use Rattle.gimli_units_forms.proofs.SkippingLemmas.{ReturnsAs-equal, skip_ways-end}
-use Rattle.gimli_units_forms.proofs.skipping.skip_all.Goals as goal
+use Rattle.gimli_units_forms.proofs.skipping.skip_bytes_and_values.Goals as goal
 
 pub returns : goal.returns
 returns g c =
