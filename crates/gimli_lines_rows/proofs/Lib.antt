@@ -4,7 +4,11 @@ mod Operands
 mod NumericSteps
 pub mod LineRowSteps
 pub mod RowPaths
+pub mod ProgramHeaders
 mod ResumedRows
 mod StepsAtOnce
 pub mod SequenceLoops
 mod FileDefinitions
+mod SinkRows
+mod SpecialOpcodes
+mod ShortNumbers

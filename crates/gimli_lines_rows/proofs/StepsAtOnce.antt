@@ -163,6 +163,26 @@ run_fits limit b h r last r1 last1 v w before left before_is left_is run =
     let rest : length left ≡ bytes_left w = ap length left_is in
     omega arith
 
+-- what holds of a run over bytes that were borrowed from a reader of rows holds of the reader
+pub over_reader : (Q : RemainingRows → RemainingRows → Type 0) (s : RemainingRows) (h h1 : LineHeader)
+    (takes_files : Bool) (r last r1 last1 : Registers) (v v1 w w1 : View) (before left : List ℕ)
+    → rows_at h1 takes_files r last v1 ≡ s → h ≡ h1 → v ≡ v1 → before ≡ v.bytes → left ≡ w.bytes
+    → w1 ≡ after (length before - length left) v1 → w ≡ after (bytes_left v - bytes_left w) v
+    → Q (rows_at h takes_files r last v) (rows_at h takes_files r1 last1 w)
+    → Q s (rows_at h1 takes_files r1 last1 w1)
+over_reader Q s h h1 takes_files r last r1 last1 v v1 w w1 before left from same_header same before_is left_is at leaves
+    run =
+    let all : length before ≡ bytes_left v = ap length before_is in
+    let rest : length left ≡ bytes_left w = ap length left_is in
+    let took : length before - length left ≡ bytes_left v - bytes_left w = omega arith in
+    let left_over : w1 ≡ w = at ∙ ap (λ (n : ℕ). after n v1) took
+    ∙ ap (after (bytes_left v - bytes_left w)) (sym same) ∙ sym leaves in
+    subst (λ (x : RemainingRows). Q x (rows_at h1 takes_files r1 last1 w1)) from
+    (subst (λ (x : View). Q (rows_at h1 takes_files r last v1) (rows_at h1 takes_files r1 last1 x)) (sym left_over)
+    (subst (λ (x : View). Q (rows_at h1 takes_files r last x) (rows_at h1 takes_files r1 last1 w)) same
+    (subst (λ (x : LineHeader). Q (rows_at x takes_files r last v) (rows_at x takes_files r1 last1 w)) same_header
+    run)))
+
 -- the run of a reader of rows, over bytes that were borrowed from it
 pub run_over : (limit : ℕ) (b : Bool) (s : RemainingRows) (h h1 : LineHeader) (takes_files : Bool)
     (r last r1 last1 : Registers) (v v1 w w1 : View) (before left : List ℕ) → rows_at h1 takes_files r last v1 ≡ s
@@ -171,17 +191,8 @@ pub run_over : (limit : ℕ) (b : Bool) (s : RemainingRows) (h h1 : LineHeader) 
     → RunsToRow limit b s (rows_at h1 takes_files r1 last1 w1)
 run_over limit b s h h1 takes_files r last r1 last1 v v1 w w1 before left from same_header same before_is left_is at
     run =
-    let all : length before ≡ bytes_left v = ap length before_is in
-    let rest : length left ≡ bytes_left w = ap length left_is in
-    let took : length before - length left ≡ bytes_left v - bytes_left w = omega arith in
-    let left_over : w1 ≡ w = at ∙ ap (λ (n : ℕ). after n v1) took
-    ∙ ap (after (bytes_left v - bytes_left w)) (sym same) ∙ sym (path_leaves (run true).0) in
-    subst (λ (x : RemainingRows). RunsToRow limit b x (rows_at h1 takes_files r1 last1 w1)) from
-    (subst (λ (x : View). RunsToRow limit b (rows_at h1 takes_files r last v1) (rows_at h1 takes_files r1 last1 x))
-    (sym left_over)
-    (subst (λ (x : View). RunsToRow limit b (rows_at h1 takes_files r last x) (rows_at h1 takes_files r1 last1 w)) same
-    (subst (λ (x : LineHeader). RunsToRow limit b (rows_at x takes_files r last v) (rows_at x takes_files r1 last1 w))
-    same_header (run takes_files))))
+    over_reader (RunsToRow limit b) s h h1 takes_files r last r1 last1 v v1 w w1 before left from same_header same
+    before_is left_is at (path_leaves (run true).0) (run takes_files)
 
 -- what a run was that found a row
 pub run_found : (limit : ℕ) (b : Bool) (s t : RemainingRows) → b ≡ true → RunsToRow limit b s t

@@ -27,5 +27,7 @@ pub mod InstructionViews
 pub mod NumericInstructions
 pub mod ProgramRows
 pub mod Columns
+pub mod SpecialOpcodes
+pub mod RowSinks
 pub mod NumericSteps
 pub mod RowSequences

@@ -39,11 +39,10 @@ numeric_effect b after = record { file = None; gives_row = b; registers = after 
 
 -- An instruction that defines no file was executed, and the result says whether it gives a row;
 -- else the registers are as before.
-abbrev pub ExecutesAtOnce : Result (Option Bool) Error → Registers → Registers → View
+abbrev pub ExecutesAtOnce : Option Bool → Registers → Registers → View
     → Result (Effect × View) Error → Type 0
-ExecutesAtOnce (Ok (Some b)) old new rest meaning = meaning ≡ Ok (numeric_effect b new, rest)
-ExecutesAtOnce (Ok None) old new rest meaning = new ≡ old
-ExecutesAtOnce (Err e) old new rest meaning = new ≡ old
+ExecutesAtOnce (Some b) old new rest meaning = meaning ≡ Ok (numeric_effect b new, rest)
+ExecutesAtOnce None old new rest meaning = new ≡ old
 
 -- a reader of rows by its parts
 abbrev pub rows_at : LineHeader → Bool → Registers → Registers → View → RemainingRows

@@ -12,7 +12,8 @@ ghost use Rattle.gimli_lines_rows.specs.NumericInstructions.{numeric_instruction
 
 use crate::instruction::LineInstruction;
 use crate::numeric::{NumericInstruction, line_instruction_of};
-use crate::parsing::{borrow, measure_numeric, parse_instruction};
+use crate::parsing::{measure_numeric, parse_instruction};
+use gimli_core_readers::borrowed;
 use gimli_lines_header::LineProgramHeader;
 use gimli_lines_machine::{Error, Reader};
 use std::marker::Model;
@@ -64,7 +65,7 @@ impl<R: Reader> LineInstructions<R> {
         if self.input.is_empty() {
             return None;
         }
-        measure_numeric(borrow(&self.input), header)
+        measure_numeric(borrowed(&self.input), header)
     }
 
     // Skips an instruction of this length.

@@ -5,12 +5,15 @@
 mod execution;
 pub mod instruction;
 pub mod instructions;
+mod numbers;
 mod numeric;
 mod parsing;
 pub mod program;
+mod program_rules;
 pub mod row;
 pub mod rows;
 pub mod sequence;
+pub mod sink;
 mod steps;
 
 pub use gimli_lines_header::{
@@ -34,3 +37,4 @@ pub use program::{
 pub use row::{ColumnType, LineRow};
 pub use rows::LineRows;
 pub use sequence::LineSequence;
+pub use sink::RowSink;

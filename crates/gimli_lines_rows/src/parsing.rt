@@ -1,4 +1,4 @@
-//! How an instruction is read.
+//! How an instruction is read: all opcodes and their operands.
 
 ghost use Rattle.std.specs.Prelude.{◌≡◌, ◌<◌, ◌-◌, ◌≤◌, slice_index, IfOk, IfSome, IsTrue, Ok};
 ghost use Rattle.gimli_lines_machine.specs.Calls.{ReturnsAs, ReturnsAsOrNoMemory};
@@ -25,13 +25,6 @@ use gimli_lines_machine::{
 };
 
 // ---- instructions whose operands are numbers
-
-// The bytes of a reader, borrowed.
-pub(crate) fn borrow<R: Reader>(input: &R) -> EndianSlice<'_, R::Endian>
-    ensures { result ≡ R.view input.now }
-{
-    EndianSlice::with_first_id(input.as_bytes(), input.endian(), input.offset_id())
-}
 
 // The instruction at the start of borrowed bytes and its length, where it can be read and its
 // operands are numbers; its lengths are offsets as the reader `R` has them.

@@ -4,15 +4,18 @@ ghost use Rattle.std.specs.Prelude.{◌≡◌, ◌≢◌, ◌∷◌, [], IsTrue,
 ghost use Rattle.gimli_lines_machine.specs.Calls.{ReturnsOrNoMemory, ReadsOrNoMemory};
 ghost use Rattle.gimli_lines_machine.specs.Error.TheVariants.{Memory};
 ghost use Rattle.gimli_lines_rows.specs.ProgramRows.{NextRow, ToNextRow, OneStep, LendsRow, TakesNoFile, rows_to_come, next_step};
+ghost use Rattle.gimli_lines_rows.specs.RowSinks.{GivesOnTheWay, GivesRows, RefusedByRows};
 ghost use Rattle.gimli_lines_rows.specs.RowSequences.{rows_under};
 ghost use Rattle.gimli_lines_rows.specs.NumericSteps.{RunsToRow};
 
 use crate::LineInstructions;
 use crate::execution::{execute, rules_of};
-use crate::parsing::borrow;
 use crate::program::LineProgram;
+use crate::program_rules::ProgramRules;
 use crate::row::LineRow;
-use crate::steps::{end_row, run_to_row};
+use crate::sink::RowSink;
+use crate::steps::{end_row, run_into, run_to_row};
+use gimli_core_readers::borrowed;
 use gimli_lines_header::LineProgramHeader;
 use gimli_lines_machine::{Error, Reader, Registers};
 use std::marker::Model;
@@ -21,6 +24,7 @@ use std::marker::Model;
 pub struct LineRows<R: Reader, P: LineProgram<R> + Drop> {
     program: P,
     instructions: LineInstructions<R>,
+    rules: ProgramRules,
     // The registers before the next instruction.
     registers: Registers,
     // The last row.
@@ -32,6 +36,7 @@ impl<R: Reader, P: LineProgram<R> + Drop> Drop for LineRows<R, P> {
         let LineRows {
             program: _,
             instructions: _,
+            rules: _,
             registers: _,
             row: _,
         } = self;
@@ -39,9 +44,13 @@ impl<R: Reader, P: LineProgram<R> + Drop> Drop for LineRows<R, P> {
 }
 
 impl<R: Reader, P: LineProgram<R> + Drop> Model for LineRows<R, P> {
+    ghost use Rattle.std.specs.Prelude.{◌≡◌};
+    ghost use Rattle.gimli_lines_rows.specs.ProgramInstructions.{rules_of};
     ghost use Rattle.gimli_lines_rows.specs.ProgramRows.{RemainingRows};
 
     ghost Value = { RemainingRows };
+
+    ghost invariant = { λ r. r.rules ≡ rules_of (P.header_of r.program) };
 
     ghost view = { λ r. record {
       header = P.header_of r.program;
@@ -73,10 +82,12 @@ impl<R: Reader, P: LineProgram<R> + Drop> LineRows<R, P> {
     pub(crate) fn over(program: P, instructions: LineInstructions<R>) -> Self
         ensures { result ≡ rows_under P.takes_files (P.header_of program) instructions }
     {
-        let registers = Registers::start(rules_of(program.header()));
+        let rules = ProgramRules::of(program.header());
+        let registers = Registers::start(rules.line_rules());
         LineRows {
             program,
             instructions,
+            rules,
             registers,
             row: LineRow::of(registers),
         }
@@ -103,6 +114,7 @@ impl<R: Reader, P: LineProgram<R> + Drop> LineRows<R, P> {
         let LineRows {
             program,
             instructions: _,
+            rules: _,
             registers: _,
             row: _,
         } = self;
@@ -160,16 +172,70 @@ impl<R: Reader, P: LineProgram<R> + Drop> LineRows<R, P> {
         }
     }
 
+    /// Runs the program to its end, and gives a sink all rows to come: faster than one row after
+    /// the other. Refused by a fault, after which there are no rows; or when out of memory, which
+    /// only the sink, a part of the reader or a file that an instruction defines can cause. Then
+    /// the rows that the sink hasn't taken are still to come, but for one that it refused: that is
+    /// the last row.
+    pub fn run_all<S: RowSink>(&mut self, sink: &mut S) -> Result<(), Error>
+        ensures rows { GivesRows R.Offset.limit S.form S.HasTaken result self.old self.new
+            sink.old sink.new }
+        // Where copies take no memory and no file is taken, this takes none but by the sink.
+        ensures free { IsTrue R.copies_freely → TakesNoFile P.takes_files self.old.header
+            → IfErr result (λ e. RefusedByRows R.Offset.limit e self.old self.new) }
+    {
+        loop {
+            self.run_at_once(sink)?;
+            let Some(is_shown) = self.step()? else {
+                return Ok(());
+            };
+            if is_shown {
+                sink.take(&self.row)?;
+            }
+        }
+    }
+
+    // Executes instructions and gives a sink the rows that they show, up to the first whose
+    // operands aren't numbers or that is refused, or to the end of the program.
+    fn run_at_once<S: RowSink>(&mut self, sink: &mut S) -> Result<(), Error>
+        ensures { GivesOnTheWay R.Offset.limit S.form S.HasTaken result self.old self.new
+            sink.old sink.new }
+    {
+        let mut bytes = borrowed(self.instructions.reader());
+        let before = bytes.slice().len();
+        let header = self.program.header();
+        // In a place of their own the registers need no memory.
+        let mut registers = self.registers;
+        let given = run_into(
+            &mut bytes,
+            &mut registers,
+            &mut self.row,
+            header,
+            &self.rules,
+            sink,
+        );
+        let len = before - bytes.slice().len();
+        self.registers = registers;
+        self.instructions.skip(len);
+        given
+    }
+
     // Executes instructions up to the next row that is shown, and says whether there is one; else
     // up to the first whose operands aren't numbers or that is refused, or to the end of the
     // program.
     fn run_to_row(&mut self) -> bool
         ensures { RunsToRow R.Offset.limit result self.old self.new }
     {
-        let mut bytes = borrow(self.instructions.reader());
+        let mut bytes = borrowed(self.instructions.reader());
         let before = bytes.slice().len();
         let header = self.program.header();
-        let found = run_to_row(&mut bytes, &mut self.registers, &mut self.row, header);
+        let found = run_to_row(
+            &mut bytes,
+            &mut self.registers,
+            &mut self.row,
+            header,
+            &self.rules,
+        );
         let len = before - bytes.slice().len();
         self.instructions.skip(len);
         found

@@ -6,7 +6,7 @@ pub overflow_sub-len : goal.overflow_sub-len
 overflow_sub-len g c =
     run_fits g.R.Offset.ReaderOffset.limit c.run_to_row-found.result c.header-header.result.now
     c.self.inside.registers c.self.inside.row c.run_to_row-found.new.registers c.run_to_row-found.new.row
-    c.borrow-bytes.result c.run_to_row-found.new.bytes c.slice-before.result.now c.slice.result.now
+    c.borrowed-bytes.result c.run_to_row-found.new.bytes c.slice-before.result.now c.slice.result.now
     c.slice-before.ensures c.slice.ensures c.run_to_row-found.ensures
 
 pub returns : goal.returns
@@ -14,7 +14,7 @@ returns g c =
     run_over g.R.Offset.ReaderOffset.limit c.run_to_row-found.result c.args.self.now c.header-header.result.now
     (g.P.LineProgram.header_of c.self.inside.program) g.P.LineProgram.takes_files
     c.self.inside.registers c.self.inside.row c.run_to_row-found.new.registers c.run_to_row-found.new.row
-    c.borrow-bytes.result c.self.inside.instructions c.run_to_row-found.new.bytes c.skip.new.self
+    c.borrowed-bytes.result c.self.inside.instructions c.run_to_row-found.new.bytes c.skip.new.self
     c.slice-before.result.now c.slice.result.now c.self.view_is c.header-header.ensures
-    (c.borrow-bytes.ensures ∙ c.reader.ensures) c.slice-before.ensures c.slice.ensures c.skip.ensures
+    (c.borrowed-bytes.ensures ∙ c.reader.ensures) c.slice-before.ensures c.slice.ensures c.skip.ensures
     c.run_to_row-found.ensures
