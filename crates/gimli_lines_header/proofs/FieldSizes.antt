@@ -98,10 +98,10 @@ Below-spelled limit e form Constant v takes h = absurd cc
 Below-spelled limit e form Unknown v takes h = absurd cc
 
 -- a form that isn't indirect is the one that is read
-abbrev form_read : ℕ → View → Result (ℕ × View) Error
+abbrev pub form_read : ℕ → View → Result (ℕ × View) Error
 form_read form v = Ok (form, v)
 
-own_form : (form : ℕ) (v : View) → eqb form 0x16 ≡ false → final_form form v ≡ form_read form v
+pub own_form : (form : ℕ) (v : View) → eqb form 0x16 ≡ false → final_form form v ≡ form_read form v
 unfolding final_form form_within
 own_form form v other = rw other refl
 

@@ -3,9 +3,14 @@ pub use Rattle.gimli_units_headers.proofs.TilingLemmas
 pub use Rattle.gimli_units_headers.proofs.UnitHeaderLemmas
 mod NumberedItems
 mod TableLoops
+mod CheckSteps
+mod TextChecks
+mod EntryChecks
+mod HeaderChecks
 pub mod TextSizes
 mod ParserChains
 mod HeaderCopies
 mod FieldSizes
+mod FieldValues
 mod TableSizes
 mod HeaderPlaces

@@ -12,6 +12,7 @@ pub use Rattle.gimli_units_headers.specs.SectionParts
 pub use Rattle.gimli_units_headers.specs.Tiling
 pub use Rattle.gimli_units_headers.specs.UnitHeaders
 pub use Rattle.gimli_units_headers.specs.UnitOffsets
+pub mod Checks
 pub mod LineFiles
 pub mod LineHeaders
 pub mod TableEntries

@@ -126,6 +126,11 @@ facts_after is_big facts fields = record {
   source = last_in (content_as source_content whole_value) facts.source fields;
 }
 
+-- what a further field says, after those before it
+abbrev pub facts_with : Bool → EntryFacts → ℕ → RawValue → EntryFacts
+facts_with is_big facts content value =
+    facts_after is_big facts (record { content = content; value = value } ∷ [])
+
 -- what an entry says
 unfoldable pub entry : ℕ → Encoding → List FileEntryFormat → Parser EntryFacts
 entry limit e formats = do

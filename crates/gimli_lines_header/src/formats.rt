@@ -18,7 +18,7 @@ pub struct FileEntryFormat {
 
 // A format.
 #[tactic(auto, unfolding(crate::specs::TableEntries::entry_format))]
-fn parse_format<R: Reader>(input: &mut R) -> Result<FileEntryFormat, Error>
+pub(crate) fn parse_format<R: Reader>(input: &mut R) -> Result<FileEntryFormat, Error>
     ensures { ReturnsAs (λ format. (format, R.view input.new)) result
         (entry_format (R.view input.old)) }
 {
@@ -47,7 +47,7 @@ fn parse_counted<R: Reader>(
 }
 
 // Whether exactly one of the fields is the path.
-fn lists_one_path(formats: &[FileEntryFormat]) -> bool
+pub(crate) fn lists_one_path(formats: &[FileEntryFormat]) -> bool
     ensures { result ≡ has_one_path formats.now }
 {
     formats

@@ -1,7 +1,9 @@
 //! The headers of line number programs (DWARF 5, 6.2.4), versions 2 to 5.
 #![tactic(auto)]
 
+mod checks;
 mod copies;
+mod field_values;
 pub mod file;
 pub mod formats;
 pub mod header;

@@ -21,7 +21,7 @@ use std::alloc::Global;
 
 // The version, and the sizes of fields.
 #[tactic(auto, unfolding(crate::specs::HeaderParsing::line_sizes, crate::specs::HeaderParsing::encoding_of_5))]
-fn parse_sizes<R: Reader>(
+pub(crate) fn parse_sizes<R: Reader>(
     input: &mut R,
     format: Format,
     address_size: u8,
@@ -73,7 +73,10 @@ fn parse_operations<R: Reader>(input: &mut R, version: u16) -> Result<u8, Error>
 
 // The parameters of special opcodes.
 #[tactic(auto, unfolding(crate::specs::HeaderParsing::line_parameters))]
-fn parse_parameters<R: Reader>(input: &mut R, version: u16) -> Result<LineEncoding, Error>
+pub(crate) fn parse_parameters<R: Reader>(
+    input: &mut R,
+    version: u16,
+) -> Result<LineEncoding, Error>
     ensures value { ReturnsAs (λ encoding. (encoding, R.view input.new)) result
         (line_parameters version (R.view input.old)) }
     ensures some { IfOk result (λ e. (0 < e.minimum_instruction_length)

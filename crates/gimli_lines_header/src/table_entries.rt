@@ -1,96 +1,21 @@
 //! The entries of directories and files in version 5.
 
-ghost use Rattle.std.specs.Prelude.{◌≡◌, [], ◌∷◌, Ok, option_map};
+ghost use Rattle.std.specs.Prelude.{◌≡◌, Ok, option_map};
 ghost use Rattle.gimli_units_headers.specs.Calls.{ReturnsAsOrNoMemory};
+ghost use Rattle.gimli_units_headers.specs.Parsers.{map_value};
 ghost use Rattle.gimli_units_forms.specs.AttributeValues.{raw_value_of};
-ghost use Rattle.gimli_lines_header.specs.TableEntries.{is_entry_form, entry_value, digest_of, no_facts, facts_after, entry, directory_entry, file_entry};
+ghost use Rattle.gimli_lines_header.specs.TableEntries.{entry_value, no_facts, facts_with, entry, directory_entry, file_entry};
 
+use crate::field_values::{check_value, parse_digest, parse_number, parse_value};
 use crate::file::FileEntry;
 use crate::formats::FileEntryFormat;
-use gimli_units_forms::{AttributeSpecification, AttributeValue, parse_attribute};
+use gimli_units_forms::AttributeValue;
 use gimli_units_headers::{
-    DW_FORM_block, DW_FORM_block1, DW_FORM_block2, DW_FORM_block4, DW_FORM_data1, DW_FORM_data2,
-    DW_FORM_data4, DW_FORM_data8, DW_FORM_data16, DW_FORM_flag, DW_FORM_line_strp, DW_FORM_sdata,
-    DW_FORM_sec_offset, DW_FORM_string, DW_FORM_strp, DW_FORM_strp_sup, DW_FORM_strx,
-    DW_FORM_strx1, DW_FORM_strx2, DW_FORM_strx3, DW_FORM_strx4, DW_FORM_udata, DW_LNCT_LLVM_source,
-    DW_LNCT_MD5, DW_LNCT_directory_index, DW_LNCT_path, DW_LNCT_size, DW_LNCT_timestamp, DwAt,
-    DwForm, DwLnct, Encoding, Endianity, Error, Reader,
+    DW_LNCT_LLVM_source, DW_LNCT_MD5, DW_LNCT_directory_index, DW_LNCT_path, DW_LNCT_size,
+    DW_LNCT_timestamp, Encoding, Error, Reader,
 };
 use std::alloc::Global;
 use std::marker::Model;
-
-// Whether fields may have a form: the value of each such form takes a byte at least.
-fn is_entry_form(form: DwForm) -> bool
-    ensures { result ≡ is_entry_form form.0 }
-{
-    matches!(
-        form,
-        DW_FORM_block1
-            | DW_FORM_block2
-            | DW_FORM_block4
-            | DW_FORM_block
-            | DW_FORM_data1
-            | DW_FORM_data2
-            | DW_FORM_data4
-            | DW_FORM_data8
-            | DW_FORM_data16
-            | DW_FORM_flag
-            | DW_FORM_sdata
-            | DW_FORM_udata
-            | DW_FORM_sec_offset
-            | DW_FORM_string
-            | DW_FORM_strp
-            | DW_FORM_strp_sup
-            | DW_FORM_line_strp
-            | DW_FORM_strx
-            | DW_FORM_strx1
-            | DW_FORM_strx2
-            | DW_FORM_strx3
-            | DW_FORM_strx4
-    )
-}
-
-// The value of a field.
-#[tactic(auto, unfolding(crate::specs::TableEntries::entry_value))]
-fn parse_value<R: Reader>(
-    input: &mut R,
-    encoding: Encoding,
-    form: DwForm,
-) -> Result<AttributeValue<R>, Error>
-    ensures { ReturnsAsOrNoMemory (λ value.
-        (raw_value_of R.view R.Offset.count value, R.view input.new)) result
-        (entry_value R.Offset.limit encoding form.0 (R.view input.old)) }
-{
-    if !is_entry_form(form) {
-        return Err(Error::UnknownForm(form));
-    }
-    let specification = AttributeSpecification::new(DwAt(0), form, None);
-    parse_attribute(input, encoding, specification)?.raw_value()
-}
-
-// The sixteen bytes of a digest.
-fn digest_of<R: Reader>(value: &AttributeValue<R>, endian: R::Endian) -> Option<[u8; 16]>
-    ensures { result ≡ digest_of (R.Endian.is_big endian)
-        (raw_value_of R.view R.Offset.count value.now) }
-{
-    match value {
-        AttributeValue::Data16(number) => Some(if endian.is_big_endian() {
-            number.to_be_bytes()
-        } else {
-            number.to_le_bytes()
-        }),
-        AttributeValue::Block(block) => {
-            let bytes = block.as_bytes();
-            if bytes.len() != 16 {
-                return None;
-            }
-            let mut digest = [0; 16];
-            digest.copy_from_slice(bytes);
-            Some(digest)
-        }
-        _ => None,
-    }
-}
 
 // What the fields of an entry say.
 #[derive(Drop)]
@@ -135,25 +60,43 @@ impl<R: Reader> EntryFields<R> {
         }
     }
 
-    // Takes what a further field says.
-    fn take(&mut self, content_type: DwLnct, value: AttributeValue<R>, endian: R::Endian)
-        ensures { self.new ≡ facts_after (R.Endian.is_big endian) self.old
-            (record { content = content_type.0; value = raw_value_of R.view R.Offset.count value }
-            ∷ []) }
+    // Reads a further field, and takes what it says.
+    #[tactic(auto, using(crate::proofs::CheckSteps::checked_same, crate::proofs::CheckSteps::refused_same))]
+    #[inline(always)]
+    fn read(
+        &mut self,
+        input: &mut R,
+        encoding: Encoding,
+        format: FileEntryFormat,
+        endian: R::Endian,
+    ) -> Result<(), Error>
+        ensures { ReturnsAsOrNoMemory (λ _. (self.new, R.view input.new)) result
+            (map_value (facts_with (R.Endian.is_big endian) self.old format.content_type.0)
+            (entry_value R.Offset.limit encoding format.form.0) (R.view input.old)) }
     {
-        match content_type {
-            DW_LNCT_path => self.path = Some(value),
+        let form = format.form;
+        match format.content_type {
+            DW_LNCT_path => self.path = Some(parse_value(input, encoding, form)?),
             DW_LNCT_directory_index => {
-                self.directory_index = value.udata_value().unwrap_or(self.directory_index);
+                let number = parse_number(input, encoding, form)?;
+                self.directory_index = number.unwrap_or(self.directory_index);
             }
             DW_LNCT_timestamp => {
-                self.timestamp = value.udata_value().unwrap_or(self.timestamp);
+                let number = parse_number(input, encoding, form)?;
+                self.timestamp = number.unwrap_or(self.timestamp);
             }
-            DW_LNCT_size => self.size = value.udata_value().unwrap_or(self.size),
-            DW_LNCT_MD5 => self.md5 = digest_of(&value, endian).unwrap_or(self.md5),
-            DW_LNCT_LLVM_source => self.source = Some(value),
-            _ => {}
+            DW_LNCT_size => {
+                let number = parse_number(input, encoding, form)?;
+                self.size = number.unwrap_or(self.size);
+            }
+            DW_LNCT_MD5 => {
+                let digest = parse_digest(input, encoding, form, endian)?;
+                self.md5 = digest.unwrap_or(self.md5);
+            }
+            DW_LNCT_LLVM_source => self.source = Some(parse_value(input, encoding, form)?),
+            _ => check_value::<R::Offset, R>(input, encoding, form)?,
         }
+        Ok(())
     }
 }
 
@@ -170,8 +113,7 @@ fn parse_fields<R: Reader>(
     let endian = input.endian();
     let mut fields = EntryFields::none();
     for format in formats {
-        let value = parse_value(input, encoding, format.form)?;
-        fields.take(format.content_type, value, endian);
+        fields.read(input, encoding, *format, endian)?;
     }
     Ok(fields)
 }
