@@ -103,7 +103,7 @@ entries-end limit i low =
 abbrev pub calls_then : List Call → Result (List Call) Error → Result (List Call) Error
 calls_then found r = and_then r (λ cs. Ok (found ++ cs))
 
-calls_then-none : (r : Result (List Call) Error) → calls_then [] r ≡ r
+pub calls_then-none : (r : Result (List Call) Error) → calls_then [] r ≡ r
 calls_then-none (Ok cs) = refl
 calls_then-none (Err e) = refl
 

@@ -1,5 +1,5 @@
 -- The functions of a unit by one entry more, and at the end.
-use Rattle.std.proofs.Common.{◌≡◌, ℕ, ◌<◌, Bool, true, false, cond, ◌==◌, List, [], ◌∷◌, ◌++◌, filter, Option, Some, None, option_to_list, Result, Ok, Err, refl, sym, ap, ◌∙◌, append_assoc, append-nil, arith}
+use Rattle.std.proofs.Common.{◌≡◌, ℕ, zero, suc, ◌<◌, ℤ, Bool, true, false, cond, not, ◌||◌, ◌==◌, List, [], ◌∷◌, ◌++◌, filter, Option, Some, None, option_to_list, Result, Ok, Err, refl, sym, ap, ◌∙◌, append_assoc, append-nil, arith}
 use Rattle.std.proofs.lemmas.Bool.{eqb-true}
 use Rattle.std.proofs.lemmas.Bool.Decides.{nat_tests}
 use Rattle.gimli_units_entries.specs.Error.{Error}
@@ -8,6 +8,9 @@ use Rattle.gimli_units_entries.specs.Parsers.{proceed, lift}
 use Rattle.gimli_units_entries.specs.Repetition.{Listing, prepend, fault_of}
 use Rattle.gimli_units_entries.proofs.StepParts.{begins, value_is, state_is}
 use Rattle.gimli_units_entries.specs.EntryWalks.{Walk}
+use Rattle.gimli_units_entries.specs.TheConstants.{DW_TAG_subprogram}
+use Rattle.gimli_units_entries.specs.OtherEntries.{is_tag_of, after_other, skip_others}
+use Rattle.gimli_units_entries.proofs.OtherEntryLemmas.{skip_others-keeps}
 use Rattle.gimli_units_entries.specs.EntryRows.{Row, row_choosing, rows}
 use Rattle.gimli_units_entries.specs.UnitEntries.{walk_before}
 use Rattle.gimli_units_entries.proofs.RowParts.{row-parts, row-takes}
@@ -15,6 +18,7 @@ use Rattle.gimli_units_entries.proofs.RowSteps.{rows-next, rows-fault, rows-end}
 use Rattle.gimli_units_entries.specs.Results.{and_then, unless, each}
 use Rattle.addr2line_names.specs.UnitFacts.{UnitInFile}
 use Rattle.addr2line_ranges.specs.Functions.{Function, is_subprogram, has_range, function_of, functions_of_rows, functions_of_unit}
+use Rattle.addr2line_functions.proofs.OtherEntrySteps.{other_row}
 use Rattle.addr2line_functions.specs.NextFunctions.{if_has_range, function_of_row, next_function, functions_from}
 
 -- some functions, and then further ones
@@ -67,6 +71,19 @@ read-first : (fault : Option Error) (r : Result Function Error) (rest : Result (
 read-first fault (Ok f) rest = function-first fault f rest
 read-first fault (Err e) rest = refl
 
+-- the tag is that of a function, by a list of tags
+abbrev pub is_function : ℕ → Bool
+is_function = is_tag_of (DW_TAG_subprogram ∷ [])
+
+only_first : (b : Bool) → (b || false) ≡ false → b ≡ false
+only_first true h = absurd cc
+only_first false h = refl
+
+not_function : (n : ℕ) → is_function n ≡ false → is_subprogram n ≡ false
+not_function n h =
+    let other : (DW_TAG_subprogram.0 == n) ≡ false = only_first (DW_TAG_subprogram.0 == n) h in
+    grind (arith, nat_tests)
+
 module _ (limit : ℕ) (u : UnitInFile) where
   by_tag : (fault : Option Error) (r : Row) (rs : List Row) (b : Bool)
       → unless_fault_with_range fault (each (function_of u) (cond b (r ∷ rs) rs))
@@ -111,6 +128,23 @@ module _ (limit : ℕ) (u : UnitInFile) where
       ∙ ap (functions_then xs)
       (sym (from-next w b.1 b.0 b.2 ∙ ap (λ r. after_row r (functions_from limit u b.1)) is.0
       ∙ ap (λ v. functions_then (option_to_list o) (functions_from limit u v)) is.1))
+
+  -- the functions to come are the same after an entry that isn't one
+  other-function : (w t : Walk) → after_other is_function w ≡ Some t
+      → functions_from limit u t ≡ functions_from limit u w
+  other-function w t h =
+      let r = other_row limit is_subprogram is_function refl not_function w t h in
+      sym (from-next w t r.row r.read
+      ∙ ap (λ (b : Bool). after_row (cond b (and_then (function_of u r.row) (λ f. Ok (if_has_range f))) (Ok None))
+      (functions_from limit u t)) (not_function r.row.tag r.is_other)
+      ∙ functions_then-none (functions_from limit u t))
+
+  -- the same after all entries that are skipped
+  pub functions-found : (bound : ℤ) (w : Walk)
+      → functions_from limit u (skip_others is_function bound w) ≡ functions_from limit u w
+  functions-found bound w =
+      skip_others-keeps (λ (x : Walk). functions_from limit u x ≡ functions_from limit u w) is_function bound
+      (λ x t above next same. other-function x t next ∙ same) w refl
 
   -- each entry takes bytes
   pub function-takes : (w t : Walk) (o : Option Function) → next_function limit u w ≡ Ok (o, t)
@@ -160,11 +194,16 @@ module _ (limit : ℕ) (u : UnitInFile) where
       ∙ ap (λ n. functions_from n u (walk_before u.facts.header u.facts.table u.facts.header.entries)) (sym same_limit)
 
 -- whether bytes are left
-pub some_left : (n : ℕ) (b : Bool) → b ≡ (n == 0) → b ≡ false → 0 < n
-some_left n b h k = let other : (n == 0) ≡ false = sym h ∙ k in grind (arith, nat_tests)
+pub some_left : (n : ℕ) (b : Bool) → b ≡ not (n == 0) → b ≡ true → 0 < n
+some_left zero b h k = absurd cc
+some_left (suc n) b h k = omega arith
 
-pub none_left : (n : ℕ) (b : Bool) → b ≡ (n == 0) → b ≡ true → n ≡ 0
-none_left n b h k = eqb-true n 0 (sym h ∙ k)
+is_when_not : (b : Bool) → not b ≡ false → b ≡ true
+is_when_not true h = refl
+is_when_not false h = absurd cc
+
+pub none_left : (n : ℕ) (b : Bool) → b ≡ not (n == 0) → b ≡ false → n ≡ 0
+none_left n b h k = eqb-true n 0 (is_when_not (n == 0) (sym h ∙ k))
 
 -- a result that is a value has that value
 pub items_of_ok : (xs ys : List Function) → ok_of xs ≡ Ok ys → xs ≡ ys

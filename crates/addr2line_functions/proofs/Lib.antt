@@ -6,9 +6,11 @@ pub use Rattle.addr2line_ranges.proofs.EntryLevels
 pub use Rattle.addr2line_ranges.proofs.PendingLoads
 pub mod RangeNumbers
 mod PairNumbers
+mod OtherEntrySteps
 mod FunctionEntrySteps
 mod NestingLemmas
 pub mod CallEntrySteps
+mod OtherCallSteps
 mod NameFolds
 mod CallFactSteps
 mod ChainSteps

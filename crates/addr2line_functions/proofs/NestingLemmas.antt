@@ -1,5 +1,5 @@
 -- The nesting of an entry is that of the entries that it is in.
-use Rattle.std.proofs.Common.{◌≡◌, ℕ, suc, ℤ, ◌≤ℤ◌, ◌<ℤ◌, int_lt, Bool, true, false, cond, not, ◌||◌, List, [], ◌∷◌, length, filter, Option, Some, None, is_none, refl, sym, ap, ◌∙◌, arith}
+use Rattle.std.proofs.Common.{◌≡◌, ℕ, suc, ℤ, ◌≤ℤ◌, ◌<ℤ◌, int_lt, Bool, true, false, cond, not, ◌||◌, List, [], ◌∷◌, length, filter, Option, Some, None, is_none, refl, sym, ap, subst, ◌∙◌, arith}
 use Rattle.std.proofs.lemmas.Int.{ints}
 use Rattle.gimli_units_entries.specs.EntryWalks.{Walk}
 use Rattle.gimli_units_entries.specs.EntryRows.{Row}
@@ -63,7 +63,7 @@ nesting_of calls nested = record { calls = calls; nested = nested }
 nesting_of-same : (xs ys : List ℤ) (o p : Option ℤ) → xs ≡ ys → o ≡ p → nesting_of xs o ≡ nesting_of ys p
 nesting_of-same xs ys o p h k = ap (λ l. nesting_of l o) h ∙ ap (nesting_of ys) k
 
-leave-twice : (d e : ℤ) (o : Nesting) → d ≤ℤ e → leave d (leave e o) ≡ leave d o
+pub leave-twice : (d e : ℤ) (o : Nesting) → d ≤ℤ e → leave d (leave e o) ≡ leave d o
 leave-twice d e o le = nesting_of-same _ _ _ _ (shallower-twice d e o.calls le) (if_twice d e o.nested le)
 
 leave-stays : (d e : ℤ) (o : Nesting) → e ≤ℤ d → leave d (leave e o) ≡ leave e o
@@ -147,6 +147,53 @@ matches_after w t r before o h same d high = by (int_lt w.depth d) refl
 
 pub matches_first : (most : ℤ) (o : Nesting) → o ≡ no_nesting → Matches [] most o
 matches_first most o is d le = ap (leave d) is
+
+-- ---- entries so deep that they are in all of it
+
+-- what entries of these depths are in
+pub record IsInAll (o : Nesting) (depth : ℤ) : Type 0 where
+  pub there : (d : ℤ) → depth ≤ℤ d → leave d o ≡ o
+  pub nested : (n d : ℤ) → o.nested ≡ Some n → n <ℤ d → leave d o ≡ o
+
+nested_is : (xs : List ℤ) (e n : ℤ) (b c : Bool)
+    → (cond b (nesting_of xs (Some e)) (cond c (nesting_of (e ∷ xs) None) (nesting_of xs None))).nested ≡ Some n
+    → e ≡ n
+nested_is xs e n true c h = cc
+nested_is xs e n false true h = absurd cc
+nested_is xs e n false false h = absurd cc
+
+in_nested : (tag : ℕ) (e : ℤ) (calls : List ℤ) (nested : Option ℤ) → IsInAll (nesting_of calls nested) e
+    → (n d : ℤ) → (inside_of tag e (nesting_of calls nested)).nested ≡ Some n → n <ℤ d
+    → leave d (inside_of tag e (nesting_of calls nested)) ≡ inside_of tag e (nesting_of calls nested)
+in_nested tag e calls (Some m) s n d is lt = s.nested n d is lt
+in_nested tag e calls None s n d is lt =
+    let same = nested_is calls e n (is_subprogram tag) (is_inlined tag) is in
+    let deep : e <ℤ d = omega (arith, ints, same, lt) in
+    inside_stays d e tag calls None deep (s.there d (omega (arith, ints, deep)))
+
+in_inside : (depth e : ℤ) (tag : ℕ) (o : Nesting) → e <ℤ depth → IsInAll o e → IsInAll (inside_of tag e o) depth
+in_inside depth e tag o lt s = record {
+  there = λ d le.
+      let deep : e <ℤ d = omega (arith, ints, lt, le) in
+      inside_stays d e tag o.calls o.nested deep (s.there d (omega (arith, ints, deep)));
+  nested = in_nested tag e o.calls o.nested s;
+}
+
+pub is_in_all : (depth : ℤ) (before : List Row) → IsInAll (opens (enclosing_rows depth before)) depth
+is_in_all depth [] = record { there = λ d le. refl; nested = λ n d is lt. absurd cc }
+is_in_all depth (r ∷ before) =
+    by (int_lt r.depth depth) refl (is_in_all depth before) (is_in_all r.depth before)
+  where
+    P : List Row → Type 0
+    P l = IsInAll (opens l) depth
+
+    by : (b : Bool) → int_lt r.depth depth ≡ b → P (enclosing_rows depth before)
+        → IsInAll (opens (enclosing_rows r.depth before)) r.depth → P (enclosing_rows depth (r ∷ before))
+    by false e here outer = subst P (sym (enclosing_rows-same depth r before (not_lt_is r.depth depth e))) here
+    by true e here outer =
+        let lt = lt_is r.depth depth e in
+        subst P (sym (enclosing_rows-more depth r before lt))
+        (in_inside depth r.depth r.tag (opens (enclosing_rows r.depth before)) lt outer)
 
 -- ---- what it shows
 

@@ -1,9 +1,12 @@
 -- The entries below a function, one after the other, by the calls and the nested function that each
 -- is in.
-use Rattle.std.specs.Prelude.{ℕ, ℤ, ◌&&◌, int_lt, Bool, List, [], ◌∷◌, length, Option, Some, None, is_none, Result, Ok, if◌then◌else◌}
+use Rattle.std.specs.Prelude.{ℕ, ℤ, pos, ◌&&◌, int_lt, Bool, List, [], ◌∷◌, length, Option, Some, None, is_none, Result, Ok, if◌then◌else◌}
 use Rattle.gimli_units_entries.specs.Error.{Error}
 use Rattle.gimli_units_entries.specs.Parsers.{Step}
+use Rattle.gimli_units_entries.specs.DwTag.{DwTag}
+use Rattle.gimli_units_entries.specs.TheConstants.{DW_TAG_inlined_subroutine, DW_TAG_subprogram}
 use Rattle.gimli_units_entries.specs.EntryWalks.{Walk}
+use Rattle.gimli_units_entries.specs.OtherEntries.{is_tag_of, skip_others}
 use Rattle.gimli_units_entries.specs.EntryRows.{Row, row_choosing}
 use Rattle.gimli_units_entries.specs.Results.{and_then}
 use Rattle.addr2line_names.specs.UnitFacts.{UnitInFile}
@@ -43,6 +46,24 @@ with_entry tag depth o =
 
 abbrev pub inside_of : ℕ → ℤ → Nesting → Nesting
 inside_of tag depth o = if is_none o.nested then with_entry tag depth o else o
+
+-- the tags of calls and of functions
+abbrev pub nesting_tags : List DwTag
+nesting_tags = DW_TAG_inlined_subroutine ∷ DW_TAG_subprogram ∷ []
+
+-- the depth of the nearest call, or else that of the function
+abbrev pub nearest : List ℤ → ℤ
+nearest [] = pos 0
+nearest (x ∷ xs) = x
+
+-- Entries skipped up to one that the entries after it may be in, or, in a nested function, up to
+-- the function's end.
+abbrev pub skip_inside_of : List ℤ → Option ℤ → Walk → Walk
+skip_inside_of calls None w = skip_others (is_tag_of nesting_tags) (nearest calls) w
+skip_inside_of calls (Some depth) w = skip_others (is_tag_of []) depth w
+
+abbrev pub skip_inside : Nesting → Walk → Walk
+skip_inside o w = skip_inside_of o.calls o.nested w
 
 -- the tag is that of a call, and the entry is in no nested function
 abbrev pub is_call_where : Nesting → ℕ → Bool

@@ -1,7 +1,9 @@
 //! The functions of a unit.
 
-ghost use Rattle.std.specs.Prelude.{◌≡◌, ◌++◌, [], option_map, option_to_list, slice_get, Ok, IfOk};
+ghost use Rattle.std.specs.Prelude.{◌≡◌, ◌==◌, ◌≤◌, ◌++◌, [], not, option_map, option_to_list, slice_get, Ok, IfOk};
 ghost use Rattle.gimli_units_entries.specs.Calls.{ReturnsAsOrNoMemory, ReturnsOrNoMemory};
+ghost use Rattle.gimli_units_entries.specs.View.{bytes_left};
+ghost use Rattle.addr2line_names.specs.UnitFacts.{UnitInFile};
 ghost use Rattle.addr2line_ranges.specs.Functions.{functions_of_unit, function_at, function_number};
 ghost use Rattle.addr2line_ranges.specs.Searches.{AtMostProbes};
 ghost use Rattle.addr2line_functions.specs.CountedFunctions.{function_probes};
@@ -140,6 +142,18 @@ fn next_function<R: Reader>(
     function_of_row(alloc, unit, row, attributes)
 }
 
+// Skips entries up to one of a function, or one that can't be read or skipped. Returns whether an
+// entry is left.
+fn find_function<R: Reader>(entries: &mut EntriesRaw<'_, R>) -> bool
+    ensures left { result ≡ not (bytes_left entries.new.rest == 0) }
+    ensures functions { (u : UnitInFile) → functions_from R.Offset.limit u entries.new
+        ≡ functions_from R.Offset.limit u entries.old }
+    ensures within { bytes_left entries.new.rest ≤ bytes_left entries.old.rest }
+{
+    entries.skip_others(&[DW_TAG_subprogram], isize::MIN);
+    !entries.is_empty()
+}
+
 // Appends a function, if there is one.
 fn push_if_any<O: ReaderOffset>(
     functions: &mut Vec<Function<O>>,
@@ -164,7 +178,7 @@ fn read_functions<R: Reader>(
     let mut entries = unit.entries_raw(None)?;
     let mut attributes = Vec::new(alloc);
     let mut functions = Vec::new(alloc);
-    while !entries.is_empty() {
+    while find_function(&mut entries) {
         let next = next_function(alloc, unit, &mut entries, &mut attributes)?;
         push_if_any(&mut functions, next)?;
     }

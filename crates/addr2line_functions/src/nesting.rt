@@ -3,9 +3,11 @@
 ghost use Rattle.std.specs.Prelude.{◌≡◌, reverse};
 ghost use Rattle.gimli_units_entries.specs.Calls.{ReturnsAsOrNoMemory};
 ghost use Rattle.addr2line_functions.specs.EntryRowViews.{is_chosen};
-ghost use Rattle.addr2line_functions.specs.CallNesting.{no_nesting, leave, shallower, if_shallower, enter, is_call_where};
+ghost use Rattle.addr2line_functions.specs.CallNesting.{no_nesting, leave, shallower, if_shallower, nearest, skip_inside, enter, is_call_where};
 
-use gimli_units_entries::{DW_TAG_inlined_subroutine, DW_TAG_subprogram, DwTag, Error};
+use gimli_units_entries::{
+    DW_TAG_inlined_subroutine, DW_TAG_subprogram, DwTag, EntriesRaw, Error, Reader,
+};
 use std::alloc::Global;
 use std::marker::Model;
 
@@ -48,6 +50,16 @@ fn if_shallower(nested: Option<isize>, depth: isize) -> Option<isize>
     }
 }
 
+// The last of these depths, or else 0.
+fn last_or_0(calls: &[isize]) -> isize
+    ensures { result ≡ nearest (reverse calls.now) }
+{
+    match calls {
+        [.., last] => *last,
+        [] => 0,
+    }
+}
+
 impl Nesting {
     // Of an entry that is in neither. It takes no memory.
     pub(crate) fn new(alloc: Global) -> Self
@@ -65,6 +77,20 @@ impl Nesting {
     {
         drop_deeper(&mut self.calls, depth);
         self.nested = if_shallower(self.nested, depth);
+    }
+
+    // Skips entries up to one that the entries after it may be in, or, in a nested function, up to
+    // the function's end.
+    pub(crate) fn skip_inside<R: Reader>(&self, entries: &mut EntriesRaw<'_, R>)
+        ensures { entries.new ≡ skip_inside self.now entries.old }
+    {
+        match self.nested {
+            Some(depth) => entries.skip_others(&[], depth),
+            None => entries.skip_others(
+                &[DW_TAG_inlined_subroutine, DW_TAG_subprogram],
+                last_or_0(&self.calls),
+            ),
+        }
     }
 
     // The tag of the entries that are read here: of calls, unless they are in a nested function.

@@ -1,10 +1,10 @@
 //! The calls of a function, read from the entries below its own.
 
-ghost use Rattle.std.specs.Prelude.{◌≡◌, ◌++◌, option_to_list, Ok};
+ghost use Rattle.std.specs.Prelude.{◌≡◌, pos, int_lt, ◌++◌, option_to_list, Ok};
 ghost use Rattle.gimli_units_entries.specs.Calls.{ReturnsAsOrNoMemory, ReturnsOrNoMemory};
 ghost use Rattle.addr2line_functions.specs.EntryRowViews.{row_view};
 ghost use Rattle.addr2line_ranges.specs.InlinedCalls.{call_at, calls_among, entries_of};
-ghost use Rattle.addr2line_functions.specs.CallNesting.{call_if, next_call};
+ghost use Rattle.addr2line_functions.specs.CallNesting.{leave, skip_inside, call_if, next_call};
 
 use crate::call::Call;
 use crate::call_facts::{CallFacts, call_facts};
@@ -88,6 +88,18 @@ fn next_call<R: Reader, N: Names<R>>(
     call_if(alloc, unit, names, depth, row, attributes)
 }
 
+// Skips entries up to the next call or nested function, or up to the end of what the next entry is
+// in. Returns whether an entry below the function is left.
+fn find_call<R: Reader>(entries: &mut EntriesRaw<'_, R>, nesting: &mut Nesting) -> bool
+    ensures left { result ≡ int_lt (pos 0) entries.new.depth }
+    ensures inside { nesting.new ≡ leave entries.old.depth nesting.old }
+    ensures others { entries.new ≡ skip_inside nesting.new entries.old }
+{
+    nesting.leave(entries.next_depth());
+    nesting.skip_inside(entries);
+    entries.next_depth() > 0
+}
+
 // Appends a call, if there is one.
 fn push_if_any<R: Reader>(calls: &mut Vec<Call<R>>, call: Option<Call<R>>) -> Result<(), Error>
     ensures { ReturnsAsOrNoMemory (λ _. calls.new.items) result
@@ -113,7 +125,7 @@ pub(crate) fn calls_below<R: Reader, N: Names<R>>(
     let mut nesting = Nesting::new(alloc);
     let mut attributes = Vec::new(alloc);
     let mut calls = Vec::new(alloc);
-    while entries.next_depth() > 0 {
+    while find_call(&mut entries, &mut nesting) {
         let next = next_call(
             alloc,
             unit,

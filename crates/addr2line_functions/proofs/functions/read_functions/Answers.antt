@@ -1,4 +1,4 @@
-use Rattle.std.proofs.Common.{◌∙◌, ◌++◌, ap, sym, option_to_list}
+use Rattle.std.proofs.Common.{◌∙◌, ◌++◌, ap, sym, option_to_list, arith}
 use Rattle.std.proofs.lemmas.Result.{err_from_is_err_and}
 use Rattle.gimli_units_entries.specs.View.{bytes_left}
 use Rattle.addr2line_functions.specs.NextFunctions.{functions_from}
@@ -14,18 +14,21 @@ loop-alloc-init g c =
 pub returns-in_err-next : goal.returns-in_err-next
 returns-in_err-next g c =
     let p = err_from_is_err_and c.from_residual-in_err-next.result c.from_residual-in_err-next.ensures.1 in
-    let w = c.loop-alloc.entries in
+    let w = c.find_function.new.entries in
+    let found = c.loop-alloc.functions.items in
     rw (p.1, p.2)
     (λ m. sym c.loop-alloc.invariant
-    ∙ functions-refused g.R.Offset.ReaderOffset.limit c.args.unit.now
-    c.loop-alloc.functions.items w
-    c.in_err-next.field-0.0 (some_left (bytes_left w.rest) c.is_empty.result c.is_empty.ensures c.loop-alloc-test.true)
+    ∙ ap (functions_then found) (sym (c.find_function.ensures.functions c.args.unit.now))
+    ∙ functions-refused g.R.Offset.ReaderOffset.limit c.args.unit.now found w c.in_err-next.field-0.0
+    (some_left (bytes_left w.rest) c.find_function.result c.find_function.ensures.left c.loop-alloc-test.true)
     (c.in_err-next.ensures m))
 
 pub loop-alloc-smaller : goal.loop-alloc-smaller
 loop-alloc-smaller g c =
-    function-takes g.R.Offset.ReaderOffset.limit c.args.unit.now c.loop-alloc.entries
-    c.next_function.new.entries c.in_ok-next.next c.in_ok-next.ensures
+    let takes = function-takes g.R.Offset.ReaderOffset.limit c.args.unit.now c.find_function.new.entries
+    c.next_function.new.entries c.in_ok-next.next c.in_ok-next.ensures in
+    let within = c.find_function.ensures.within in
+    omega (arith, takes, within)
 
 pub loop-alloc-preserved : goal.loop-alloc-preserved
 loop-alloc-preserved g c =
@@ -35,12 +38,15 @@ loop-alloc-preserved g c =
     let next = c.in_ok-next.next in
     ap (λ l. functions_then l (functions_from limit u c.next_function.new.entries))
     (sym (items_of_ok (found ++ option_to_list next) c.push_if_any.new.functions.items c.in_ok-push_if_any.ensures))
-    ∙ functions-more limit u found c.loop-alloc.entries c.next_function.new.entries next c.in_ok-next.ensures
+    ∙ functions-more limit u found c.find_function.new.entries c.next_function.new.entries next c.in_ok-next.ensures
+    ∙ ap (functions_then found) (c.find_function.ensures.functions u)
     ∙ c.loop-alloc.invariant
 
 pub returns : goal.returns
 returns g c =
-    let w = c.loop-alloc.entries in
+    let w = c.find_function.new.entries in
+    let found = c.loop-alloc.functions.items in
     sym c.loop-alloc.invariant
-    ∙ functions-end g.R.Offset.ReaderOffset.limit c.args.unit.now c.loop-alloc.functions.items w
-    (none_left (bytes_left w.rest) c.is_empty.result c.is_empty.ensures c.loop-alloc-test.false)
+    ∙ ap (functions_then found) (sym (c.find_function.ensures.functions c.args.unit.now))
+    ∙ functions-end g.R.Offset.ReaderOffset.limit c.args.unit.now found w
+    (none_left (bytes_left w.rest) c.find_function.result c.find_function.ensures.left c.loop-alloc-test.false)
