@@ -1,13 +1,14 @@
 -- What a loader's lookups of places and stretches leave, and when they aren't out of memory.
 use Rattle.std.proofs.Common.{◌≡◌, ◌≢◌, ℕ, Result, Err, ap, subst}
 use Rattle.addr2line_context.specs.AnsweredContexts.{AnsweredContext}
-use Rattle.addr2line_context.specs.ContextCosts.{location_looks, AsksForPlace, AfterReading}
+use Rattle.addr2line_context.specs.ContextCosts.{location_looks, AsksForPlace, AfterReading, AfterStep}
 use Rattle.addr2line_context.specs.Error.{Error}
 use Rattle.addr2line_context.specs.Error.TheVariants.{Memory}
 use Rattle.addr2line_context.specs.KeptContexts.{ResolvedContext}
 use Rattle.addr2line_context.specs.KeptUnits.{KeepsAsked}
+use Rattle.addr2line_context.specs.RangeWalk.{RangeWalk}
 use Rattle.addr2line_loader.specs.LoadedFiles.{LoadedFile}
-use Rattle.addr2line_loader.specs.ResolvedFiles.{ResolvedFile, AfterPlace, answered_context}
+use Rattle.addr2line_loader.specs.ResolvedFiles.{ResolvedFile, AfterPlace, AfterStretch, answered_context}
 
 -- a file of this kind, over a context
 abbrev pub over : LoadedFile → ResolvedContext → ResolvedFile
@@ -18,6 +19,15 @@ pub after_place : {A : Type 0} (f : LoadedFile) (before after : ResolvedContext)
     → (old : ResolvedFile) → over f before ≡ old → AfterPlace a r old (over f after)
 after_place f before after a r h old is =
     subst (λ (x : ResolvedFile). AfterPlace a r x (over f after)) is (record {
+      file = ap (λ (v : AnsweredContext). record f { context = v.plain; answers = v.answers }) h.value;
+      context = h;
+    })
+
+pub after_stretch : {A : Type 0} (f : LoadedFile) (before after : ResolvedContext) (r : Result A Error)
+    (walk walk_after : RangeWalk) → AfterStep r walk walk_after before after
+    → (old : ResolvedFile) → over f before ≡ old → AfterStretch r walk walk_after old (over f after)
+after_stretch f before after r walk walk_after h old is =
+    subst (λ (x : ResolvedFile). AfterStretch r walk walk_after x (over f after)) is (record {
       file = ap (λ (v : AnsweredContext). record f { context = v.plain; answers = v.answers }) h.value;
       context = h;
     })

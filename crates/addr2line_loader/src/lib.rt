@@ -6,6 +6,7 @@ mod answers;
 mod files;
 mod frames;
 pub mod loader;
+pub mod loads;
 mod parts;
 mod sections;
 pub mod stretches;
