@@ -1,0 +1,20 @@
+mod Examples
+pub mod BitNumbers
+pub mod BufferBits
+pub mod NumberReads
+pub mod RefusedReads
+pub mod WrittenBack
+pub mod Ranks
+pub mod CodeMatches
+pub mod SymbolReads
+pub mod EntrySteps
+pub mod SymbolPlaces
+pub mod SumParts
+pub mod DistanceReads
+pub mod ElementSteps
+pub mod FixedLengths
+pub mod BlockReads
+pub mod DynamicReads
+pub mod StreamReads
+pub mod BlockSteps
+pub mod LengthSteps

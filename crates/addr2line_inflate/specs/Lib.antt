@@ -1,0 +1,12 @@
+pub mod Bits
+pub mod Readings
+pub mod Places
+pub mod Codewords
+pub mod CodeTables
+pub mod Texts
+pub mod BlockCodeTables
+pub mod Dynamic
+pub mod Blocks
+pub mod Sums
+pub mod Streams
+pub mod Answers

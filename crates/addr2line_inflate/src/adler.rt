@@ -1,0 +1,54 @@
+//! The Adler-32 sum (RFC 1950, 2.2).
+
+ghost use Rattle.std.specs.Prelude.{◌≡◌, ◌%◌, ◌<◌, ◌≤◌, length};
+ghost use Rattle.addr2line_inflate.specs.Sums.{adler32, first_sum, second_sum};
+
+const MODULUS: u64 = 65521;
+// How many bytes are added before the sums are reduced.
+const PART: usize = 65536;
+
+// The two sums, modulo 65521.
+#[derive(Clone, Copy, Drop)]
+struct Sums {
+    first: u64,
+    second: u64,
+}
+
+pub fn adler32(text: &[u8]) -> u32
+    ensures { result ≡ adler32 text.now }
+{
+    let mut sums = Sums {
+        first: 1,
+        second: 0,
+    };
+    let mut rest = text;
+    while rest.len() > PART {
+        let (part, others) = rest.split_at(PART);
+        sums = sums.after(part);
+        rest = others;
+    }
+    let sums = sums.after(rest);
+    (sums.second * 65536 + sums.first) as u32
+}
+
+impl Sums {
+    // The sums after more bytes.
+    fn after(self, part: &[u8]) -> Sums
+        requires few { length part.now ≤ PART }
+        requires first { self.first < MODULUS }
+        requires second { self.second < MODULUS }
+        ensures first { result.first ≡ first_sum self.first part.now % MODULUS }
+        ensures second { result.second ≡ second_sum self.first self.second part.now % MODULUS }
+    {
+        let mut first = self.first;
+        let mut second = self.second;
+        for byte in part {
+            first += u64::from(*byte);
+            second += first;
+        }
+        Sums {
+            first: first % MODULUS,
+            second: second % MODULUS,
+        }
+    }
+}
