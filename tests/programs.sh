@@ -130,6 +130,16 @@ cases() {
     case_of 'linemap --help > /dev/full'
     case_of '{ sleep 0.5; linemap ask a.json 0x100f; echo "status $?" >&2; } | true'
     case_of '{ sleep 0.5; linemap lookup -e c.elf 0x1018; echo "status $?" >&2; } | true'
+    # What refusals mean: of each code something that begins with it, and says what to do
+    case_of 'linemap explain L6'
+    case_of 'linemap explain B20'
+    case_of 'linemap explain l6'
+    case_of 'linemap explain E34; linemap explain E0; linemap explain E01; linemap explain B; linemap explain ""'
+    case_of 'for code in E{1..33} W{1..10} B{1..20} M{1..2} L{1..8}; do
+    linemap explain $code > meaning && head -n 1 meaning | grep -q "^$code: " && grep -q "^Usual cause: " meaning \
+        && tail -n 2 meaning | grep -q "^What to do: " || echo "$code isn'"'"'t explained"
+done'
+    case_of 'linemap explain L6 > /dev/full'
     # The command line
     case_of 'linemap lookup -e c.elf --all 0x1018'
     case_of 'linemap emit c.json no.elf --dwarf 65536'
@@ -185,6 +195,8 @@ failed=0
 compare cases programs.txt || failed=1
 if type gcc nm strip objcopy >/dev/null 2>&1; then
     compare compiled_cases programs-gcc.txt || failed=1
+else
+    echo "no gcc, nm, strip or objcopy: the cases in programs-gcc.txt are left out"
 fi
 [ -z "${LARGE:-}" ] || compare large_cases programs-large.txt || failed=1
 exit "$failed"

@@ -17,4 +17,6 @@ pub use linemap_text::{
     TableRange, TableRow, TableSequence, TableUnit, Target, ask, cannot_read, emit_sections,
     out_of_memory, words_not_text,
 };
-pub use linemap_words::{Options, Request, WordsError, explain, read_words};
+pub use linemap_words::{
+    Options, Request, WordsError, explain, explain_refusal, meaning_of, read_words,
+};

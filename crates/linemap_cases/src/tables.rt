@@ -14,9 +14,13 @@
 //!   more.
 //! - `lines TABLE VERSION BITS SIZE ORDER ADDRESS` makes those of such calls that need lines: the
 //!   place of an address, its frames, all stretches and all lines.
+//! - `answered TABLE VERSION BITS SIZE ORDER ADDRESS` makes these: the frames of an address, the
+//!   place of the address 0, an answer to a load that none asked for, and the frames again.
 //! - `split ADDRESS` makes calls about an address on one context over a small file whose unit has a
 //!   split file, which isn't there.
 //! - `sections TABLE VERSION BITS SIZE ORDER` asks for the bytes of the sections that a table has.
+//! - `emission TABLE VERSION BITS SIZE ORDER` asks for the first six bytes of the image that `emit`
+//!   writes, the mark of ELF files, its class and its byte order; or how `emit` ends without one.
 //! - `weight TABLE` asks what a table weighs.
 //! - `large COUNT ORDER` asks how many units a table has that is made of one with COUNT ranges,
 //!   functions and sequences: `ascending`, `descending`, or `overlapping` where a range is there
@@ -44,6 +48,7 @@
 mod ask;
 mod command_line;
 mod emission;
+mod emit;
 mod ending;
 mod frames;
 mod image_file;
@@ -105,5 +110,6 @@ fn reply_about<R: Files + AllocGlobal>(rt: &R, text: &[u8], topic: &Topic<'_>, o
         Topic::Weight => emission::add_weight(text, out),
         Topic::Lookup(words) => lookup::answer(text, words, out),
         Topic::Ask(words) => ask::answer(text, words, out),
+        Topic::Emission(target) => emit::answer(text, *target, out),
     }
 }

@@ -6,7 +6,7 @@ use linemap_commands::{
 };
 use linemap_lookup::{FileSource, LoadError, load_out_of_memory, read_file, run};
 use linemap_text::{Target, ask, cannot_read, out_of_memory, words_not_text};
-use linemap_words::{Options, Request, explain, read_words};
+use linemap_words::{Options, Request, explain, explain_refusal, read_words};
 use std::io::{BufReader, BufWriter, ErrorKind, Lock, Write};
 use std::process::ExitCode;
 use std::rt::{Env, Files};
@@ -62,6 +62,7 @@ fn obey<R: Files + Input + AllocGlobal, O: Write, E: Write>(
             Some(target) => emit_table(rt, &table, &out, target, err),
             None => no_such_target(err).status,
         },
+        Ok(Request::Explain { code }) => explain_refusal(&code, out, err).status,
         Ok(Request::Lookup { exe, sup, options }) => look_up(rt, &exe, sup, &options, out, err),
         Err(error) => explain(rt.alloc(), &error, out, err).status,
     }

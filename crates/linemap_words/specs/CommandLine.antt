@@ -33,6 +33,10 @@ table_rule = word_rule (codes "table")
 abbrev pub out_rule : Rule
 out_rule = word_rule (codes "out")
 
+-- the code of a refusal
+abbrev pub code_rule : Rule
+code_rule = word_rule (codes "code")
+
 -- any addresses
 abbrev pub addresses_rule : Rule
 addresses_rule = record (new_rule (codes "words")) {
@@ -101,6 +105,10 @@ emit_rules = table_rule
 abbrev pub emit_app : App
 emit_app = with_rules (new_app (codes "emit")) emit_rules
 
+-- `explain CODE`
+abbrev pub explain_app : App
+explain_app = with_rules (new_app (codes "explain")) (code_rule ∷ [])
+
 -- `-e FILE [--sup FILE] [-j NAME] [--all]`
 abbrev pub source_rules : List Rule
 source_rules = exe_rule ∷ option_rule (codes "sup") ∷ section_rule ∷ flag_rule (codes "all") ∷ []
@@ -129,4 +137,5 @@ linemap_app =
     let top = on_top (λ s. record s { subcommand_required = true }) (new_app (codes "linemap")) in
     let lookup = with_subcommand top lookup_app.top in
     let ask = with_subcommand lookup ask_app.top in
-    with_subcommand ask emit_app.top
+    let emit = with_subcommand ask emit_app.top in
+    with_subcommand emit explain_app.top

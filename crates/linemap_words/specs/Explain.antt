@@ -1,8 +1,9 @@
--- What is printed for a command line that is no request, and how the program ends.
-use Rattle.std.specs.Prelude.{◌≡◌, ◌⊎◌, ℕ, Bool, true, false, List, Option}
+-- What is printed for a command line that is no request, or for the code of a refusal, and how the
+-- program ends.
+use Rattle.std.specs.Prelude.{◌≡◌, ◌⊎◌, ℕ, Bool, true, false, codes, List, Option}
 use Rattle.std.specs.Io.KnownBytes.{Appends, Keeps}
 use Rattle.linemap_output.specs.WriterBytes.{AppendsPrefix}
-use Rattle.linemap_output.specs.ErrorLine.{EndsAtFault, EndsOutOfMemory}
+use Rattle.linemap_output.specs.ErrorLine.{EndsAtFault, EndsOutOfMemory, error_line}
 use Rattle.linemap_output.specs.declared.ended.Ended.{Ended}
 use Rattle.linemap_output.specs.declared.writing.WriteFault.{WriteFault}
 use Rattle.linemap_words.specs.WordsStatus.{IsHelp}
@@ -46,3 +47,13 @@ Explains (Fault fault) out_old out_new err_old err_new e =
     (EndsOutOfMemory err_old err_new e × Keeps out_old out_new)
     ⊎ ((is_help : Bool) × IsHelp (Fault fault) is_help
     × PrintsText is_help out_old out_new err_old err_new e)
+
+-- some text on the refusal goes to the output; a code that no refusal has is a mistake
+abbrev pub ExplainsRefusal : List ℕ → Bool
+    → Option (List ℕ) → Option (List ℕ) → Option (List ℕ) → Option (List ℕ)
+    → Ended → Type 0
+ExplainsRefusal code true out_old out_new err_old err_new e =
+    (text : List ℕ) × PrintsHelp text out_old out_new err_old err_new e
+ExplainsRefusal code false out_old out_new err_old err_new e =
+    PrintsMistake (error_line (codes "no refusal has the code ") code) err_old err_new e
+    × Keeps out_old out_new

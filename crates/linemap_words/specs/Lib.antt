@@ -1,4 +1,5 @@
 pub mod CommandLine
 pub mod Explain
+pub mod RefusalCodes
 pub mod WordsRequest
 pub mod WordsStatus

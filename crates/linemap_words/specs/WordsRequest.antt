@@ -11,7 +11,7 @@ use Rattle.linemap_output.specs.declared.options.Options.{Options}
 use Rattle.linemap_words.specs.declared.request.Mismatch.{Mismatch}
 use Rattle.linemap_words.specs.declared.request.Mismatch.TheVariants.{NoMemory, Missing, Conflict}
 use Rattle.linemap_words.specs.declared.request.Request.{Request}
-use Rattle.linemap_words.specs.declared.request.Request.TheVariants.{Ask, Emit, Lookup}
+use Rattle.linemap_words.specs.declared.request.Request.TheVariants.{Ask, Emit, Explain, Lookup}
 use Rattle.linemap_words.specs.declared.request.WordsError.{WordsError}
 use Rattle.linemap_words.specs.declared.request.WordsError.TheVariants.{Memory, Fault}
 
@@ -60,6 +60,8 @@ IsRequestOf (Emit table out dwarf bits size big) matches = (matches.0 ≡ codes 
     × (first_of (codes "out") matches.1 ≡ Some (string_bytes out))
     × HasNumber (codes "dwarf") matches.1 dwarf × HasNumber (codes "bits") matches.1 bits
     × HasNumber (codes "size") matches.1 size × (big ≡ is_set (codes "big") matches.1)
+IsRequestOf (Explain code) matches = (matches.0 ≡ codes "explain")
+    × (first_of (codes "code") matches.1 ≡ Some (string_bytes code))
 IsRequestOf (Lookup exe sup options) matches = (matches.0 ≡ codes "lookup")
     × (first_of (codes "exe") matches.1 ≡ Some (string_bytes exe))
     × (first_of (codes "sup") matches.1 ≡ option_map string_bytes sup)
@@ -82,11 +84,16 @@ LacksEmit rows = (first_of (codes "table") rows ≡ None) ⊎ ((first_of (codes 
     ⊎ (LacksNumber (codes "dwarf") rows ⊎ (LacksNumber (codes "bits") rows
     ⊎ LacksNumber (codes "size") rows)))
 
+-- the matches of `explain` lack the code that it requires
+abbrev pub LacksExplain : List Row → Type 0
+LacksExplain rows = first_of (codes "code") rows ≡ None
+
 -- the matches name no subcommand of the program, or lack an argument that it requires
 abbrev pub LacksRequest : Option (Text × List Row) → Type 0
 LacksRequest None = ⊤
 LacksRequest (Some matches) = (matches.0 ≡ codes "ask" → LacksAsk matches.1)
     × (matches.0 ≡ codes "emit" → LacksEmit matches.1)
+    × (matches.0 ≡ codes "explain" → LacksExplain matches.1)
     × (matches.0 ≡ codes "lookup" → first_of (codes "exe") matches.1 ≡ None)
 
 -- all addresses are asked for, and some too

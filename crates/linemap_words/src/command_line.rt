@@ -5,12 +5,14 @@ ghost use Rattle.linemap_words.specs.CommandLine.{addresses_rule, linemap_app, t
 
 mod ask;
 mod emit;
+mod explain;
 mod flags;
 mod lookup;
 
 pub use ask::ask_command;
 use clap::{Arg, ArgAction, Command};
 pub use emit::{BIG, BITS, DWARF, OUT, SIZE, emit_command};
+pub use explain::{CODE, explain_command};
 pub use lookup::{
     ADDRESSES, ALL, BASENAMES, DEMANGLE, EXE, FUNCTIONS, INLINES, LLVM, PRETTY, SECTION,
     STATEMENTS, SUP, lookup_command,
@@ -32,14 +34,16 @@ pub fn linemap_command<'a>(alloc: Global) -> Result<Command<'a>, AllocError>
     let command = command
         .about("Answers which source line an address belongs to")
         .after_help(
-            "Example: the line of an address in a program, and of one in a table\n  \
+            "Example: the line of an address in a program, of one in a table, and what a refusal means\n  \
             linemap lookup -e ./a.out 0x1139\n  \
-            linemap ask table.json 0x100f",
+            linemap ask table.json 0x100f\n  \
+            linemap explain L6",
         )
         .subcommand_required(true);
     let command = with_subcommand(command, lookup_command(alloc))?;
     let command = with_subcommand(command, ask_command(alloc))?;
-    with_subcommand(command, emit_command(alloc))
+    let command = with_subcommand(command, emit_command(alloc))?;
+    with_subcommand(command, explain_command(alloc))
 }
 
 // A command with a subcommand, where memory for that was there.

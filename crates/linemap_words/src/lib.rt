@@ -5,8 +5,11 @@
 mod command_line;
 mod explanation;
 mod matches;
+mod meaning_texts;
+mod meanings;
 mod request;
 
-pub use explanation::explain;
+pub use explanation::{explain, explain_refusal};
 pub use linemap_output::Options;
+pub use meanings::meaning_of;
 pub use request::{Request, WordsError, read_words};

@@ -5,8 +5,8 @@ ghost use Rattle.linemap_words.specs.CommandLine.{linemap_app};
 ghost use Rattle.linemap_words.specs.WordsRequest.{AreOptionsOf, IsFault, IsMismatch, IsRefusal, IsRequestOf, RefusesAfter};
 
 use crate::command_line::{
-    ADDRESSES, ALL, BASENAMES, BIG, BITS, DEMANGLE, DWARF, EXE, FUNCTIONS, INLINES, LLVM, OUT,
-    PRETTY, SECTION, SIZE, STATEMENTS, SUP, TABLE, WORDS, linemap_command, lookup_command,
+    ADDRESSES, ALL, BASENAMES, BIG, BITS, CODE, DEMANGLE, DWARF, EXE, FUNCTIONS, INLINES, LLVM,
+    OUT, PRETTY, SECTION, SIZE, STATEMENTS, SUP, TABLE, WORDS, linemap_command, lookup_command,
 };
 use crate::matches::{is_set, number_at, text_at, texts_at};
 use clap::error::ErrorKind;
@@ -39,6 +39,11 @@ pub enum Request {
         size: u16,
         /// Whether the most significant byte comes first.
         big: bool,
+    },
+    /// Say what a refusal means.
+    Explain {
+        /// The refusal's code.
+        code: String,
     },
     /// Look addresses up in an ELF file with debug information.
     Lookup {
@@ -205,6 +210,7 @@ fn request_in(alloc: Global, matches: &ArgMatches<'_>) -> Result<Request, Mismat
         Some((name, matches)) => match name {
             "ask" => ask_request(alloc, matches),
             "emit" => emit_request(alloc, matches),
+            "explain" => explain_request(alloc, matches),
             "lookup" => lookup_request(alloc, matches),
             _ => Err(Mismatch::Missing),
         },
@@ -239,6 +245,17 @@ fn emit_request(alloc: Global, matches: &ArgMatches<'_>) -> Result<Request, Mism
         size: number_at(matches, SIZE).ok_or(Mismatch::Missing)?,
         big: is_set(matches, BIG),
     })
+}
+
+// The request of the matches of `explain`.
+fn explain_request(alloc: Global, matches: &ArgMatches<'_>) -> Result<Request, Mismatch>
+    ensures request { IfOk result
+        (λ request. IsRequestOf request (codes "explain", rows_of (found_of matches.now))) }
+    ensures refusal { IfErr result
+        (λ why. IsMismatch why (Some (codes "explain", rows_of (found_of matches.now)))) }
+{
+    let code = text_at(alloc, matches, CODE)?.ok_or(Mismatch::Missing)?;
+    Ok(Request::Explain { code })
 }
 
 // The request of the matches of `lookup`.

@@ -65,6 +65,10 @@ fn add_request(request: &Request, out: &mut Answer) {
             }
             out.text(if *big { " big" } else { " little" });
         }
+        Request::Explain { code } => {
+            out.text("explain ");
+            out.text(code);
+        }
         Request::Lookup { exe, sup, options } => {
             out.text("lookup ");
             out.text(exe);

@@ -34,6 +34,8 @@ pub enum Topic<'a> {
     Lookup(&'a str),
     /// What `ask` prints, for these words.
     Ask(&'a str),
+    /// What `emit` makes of it, and how that ends.
+    Emission(Target),
 }
 
 /// Which calls are made.
@@ -43,6 +45,9 @@ pub enum Series {
     AllTwice,
     /// Those that need lines.
     Lines,
+    /// Its frames, the place of the address 0, an answer to a load that none asked for, and its
+    /// frames again.
+    NoPreload,
 }
 
 /// An address, and what the table is emitted for.
@@ -71,8 +76,8 @@ pub fn question_in(line: &str) -> Option<Question<'_>> {
         "split" => Some(Question::SplitUnit(read_address(rest)?)),
         "weight" => Some(Question::Table(rest, Topic::Weight)),
         "ask" | "lookup" => Some(text_question_in(word, rest)),
-        "sections" => sections_question_in(rest),
-        "file" | "replay" | "lines" => probe_question_in(word, rest),
+        "sections" | "emission" => target_question_in(word, rest),
+        "file" | "replay" | "lines" | "answered" => probe_question_in(word, rest),
         _ => probe_question_in("", line),
     }
 }
@@ -97,11 +102,16 @@ fn large_question_in<'a>(text: &str) -> Option<Question<'a>> {
     Some(Question::LargeTable(count.parse().ok()?, order))
 }
 
-fn sections_question_in(text: &str) -> Option<Question<'_>> {
+// A question about a target, of a kind that a word names.
+fn target_question_in<'a>(kind: &str, text: &'a str) -> Option<Question<'a>> {
     let mut words = text.split_whitespace();
     let table = words.next()?;
     let target = target_in(&mut words)?;
-    Some(Question::Table(table, Topic::Sections(target)))
+    let topic = match kind {
+        "emission" => Topic::Emission(target),
+        _ => Topic::Sections(target),
+    };
+    Some(Question::Table(table, topic))
 }
 
 // A question about an address, of a kind that a word names.
@@ -113,6 +123,7 @@ fn probe_question_in<'a>(kind: &str, text: &'a str) -> Option<Question<'a>> {
         "file" => Topic::File(probe),
         "replay" => Topic::Calls(probe, Series::AllTwice),
         "lines" => Topic::Calls(probe, Series::Lines),
+        "answered" => Topic::Calls(probe, Series::NoPreload),
         _ => Topic::Image(probe, change_in(&mut words)),
     };
     Some(Question::Table(table, topic))

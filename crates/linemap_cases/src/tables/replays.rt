@@ -54,6 +54,7 @@ fn calls_about(alloc: Global, address: u64, series: Series) -> Result<Vec<Call>,
     match series {
         Series::AllTwice => all_calls_about(alloc, address),
         Series::Lines => line_calls_about(alloc, address),
+        Series::NoPreload => answered_calls_about(alloc, address),
     }
 }
 
@@ -64,6 +65,16 @@ fn line_calls_about(alloc: Global, address: u64) -> Result<Vec<Call>, AllocError
     calls.push(Call::Frames(address, Vec::new(alloc)))?;
     calls.push(Call::Range(0, u64::MAX))?;
     calls.push(Call::ParseLines)?;
+    Ok(calls)
+}
+
+// The frames of an address, the place of the address 0, an answer to a load, and the frames.
+fn answered_calls_about(alloc: Global, address: u64) -> Result<Vec<Call>, AllocError> {
+    let mut calls = Vec::new(alloc);
+    calls.push(Call::Frames(address, Vec::new(alloc)))?;
+    calls.push(Call::Location(0))?;
+    calls.push(Call::Answer(0, 0))?;
+    calls.push(Call::Frames(address, Vec::new(alloc)))?;
     Ok(calls)
 }
 

@@ -29,8 +29,8 @@ const NOTES: &str = "Example: write the file, and ask it for an address
 
 Version 2 has only the format of 32 bits.
 
-A table that can't be used is refused by a number, B2 to B20, or by M2 where it is too large.
-docs/PROVED.md says what they mean, and how a table is written.";
+A table that can't be used is refused by a number, B1 to B20, or by M2 where it is too large:
+linemap explain B10 says what one means. docs/TABLE.md says how a table is written.";
 
 /// `emit TABLE OUT [--dwarf N] [--bits N] [--size N] [--big]`.
 pub fn emit_command<'a>(alloc: Global) -> Result<Command<'a>, AllocError>

@@ -47,18 +47,22 @@ pub const STATEMENTS: &str = "statements";
 const NOTES: &str = "Example: the functions and lines of two addresses, with inlined calls
   linemap lookup -e ./a.out -fipC 0x1139 0x1150
 
-Without addresses, they are read from the standard input, one a line.
+Without addresses, they are read from the standard input, one a line. A line that isn't UTF-8
+ends the input. llvm-symbolizer's own choice of options is -fiC --llvm.
 
-The program must have been compiled with debug information, as by gcc -g.
-Where it can't be used, one of these is printed:
-  L2  the file can't be read
+The program must have been compiled with debug information, as by gcc -g. Without any, each
+address is answered ??:0, with status 0: readelf -S ./a.out lists .debug_info where there is some.
+Where a file can't be used, one of these is printed; linemap explain L6 says more of one:
+  L1  out of memory
+  L2  it can't be read
   L3  it is no ELF file
   L4  ELF files of its kind are not supported
   L5  it is cut short
   L6  its debug sections are compressed. Decompress them first:
       objcopy --decompress-debug-sections IN OUT
   L7  it isn't linked yet, as an object file (.o): link it, and use the result
-  L8  its debug information can't be read";
+  L8  its debug information can't be read
+The file is the program, or its supplement.";
 
 /// `lookup -e FILE [OPTIONS] [ADDR..]`.
 pub fn lookup_command<'a>(alloc: Global) -> Result<Command<'a>, AllocError>
@@ -136,7 +140,12 @@ fn detail_arguments<'a>(alloc: Global) -> Result<Vec<Arg<'a>>, AllocError>
             's',
             "Print files without their directories"
         ),
-        short_flag(alloc, DEMANGLE, 'C', "Demangle the names of functions"),
+        short_flag(
+            alloc,
+            DEMANGLE,
+            'C',
+            "Demangle Rust's legacy names; other names stay as they are"
+        ),
         flag(alloc, LLVM, "Print as llvm-symbolizer does, with columns"),
         flag(alloc, STATEMENTS, "Mark lines where no statement begins"),
     ]?;

@@ -17,5 +17,6 @@ returns c =
     let lookup = with_command _ c.lookup_command.result _ _ _ c.in_ok-command-2.ensures c.lookup_command.ensures
     start in
     let ask = with_command _ c.ask_command.result _ _ _ c.in_ok-command-3.ensures c.ask_command.ensures lookup in
-    with_last_command _ c.emit_command.result c.with_subcommand-3.result _ _ c.with_subcommand-3.ensures
-    c.emit_command.ensures ask
+    let emit = with_command _ c.emit_command.result _ _ _ c.in_ok-command-4.ensures c.emit_command.ensures ask in
+    with_last_command _ c.explain_command.result c.with_subcommand-4.result _ _ c.with_subcommand-4.ensures
+    c.explain_command.ensures emit
