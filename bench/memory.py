@@ -1,11 +1,13 @@
 #!/usr/bin/env python3
 """Refuses each allocation of a program in turn, until it ends without a refusal.
 
-usage: bench/memory.py [CASE..]      all cases where none is named:
+usage: bench/memory.py [--every N] [CASE..]      all cases where none is named:
        ask emit emit-5 lookup lookup-lines lookup-all lookup-symbols lookup-split    of ./linemap
        cases programs reading tables asking    of linemap_cases and gimli_cases
        places places-bytes    of linemap_bench
        warm warm-frames warm-words    of ./linemap
+
+With `--every N` one of N allocations is refused, always the same ones, and another in each input.
 
 The programs that the cases need are proved and built first, as by `tools/build NAME`, unless what is there is current; LINEMAP,
 CASES, GIMLI_CASES and BENCH name other programs, which are taken as they are. A C compiler is needed, for refuse.c.
@@ -20,6 +22,7 @@ In `places` and `places-bytes`, through one reader and the other, and in `warm`,
 is refused from the program's first output on: then all lines that are asked for are kept, and finding the places of further
 addresses takes no memory; nor does `lookup` for reading addresses and writing their places and frames.
 """
+import itertools
 import os
 import re
 import subprocess
@@ -37,6 +40,8 @@ CRATES = {"linemap_program": "LINEMAP", "linemap_cases": "CASES", "gimli_cases":
 PROGRAMS = [os.environ.get(variable) or f"{TOP}/crates/{crate}/out/{crate}" for crate, variable in CRATES.items()]
 LINEMAP, CASES, GIMLI_CASES, BENCH = PROGRAMS
 DATA = f"{cases.CRATE}/data"
+# More bytes than any program hands over in one output.
+LONG = 1 << 16
 # What comes before an answer to what is asked again.
 AGAIN = b"E1, then "
 # What the error stream says of a refusal.
@@ -186,17 +191,18 @@ def lines_for(words):
 
 
 class Sweep:
-    """Runs, each with one allocation refused: how many there are, how many end as with ample memory, how many after a call
-    that was made again, the error streams with status 1, and what is wrong."""
+    """Runs, each with one of every so many allocations refused: of how many inputs, how many there are, how many end as with ample
+    memory, how many after a call that was made again, the error streams with status 1, and what is wrong."""
 
-    def __init__(self):
+    def __init__(self, every):
+        self.every, self.inputs = every, 0
         self.count, self.alike, self.again, self.lines, self.faults = 0, 0, 0, set(), []
 
     def run(self, words, given, folder):
         ample = run(words, given, folder)
-        number = 0
-        while True:
-            number += 1
+        first = 1 + self.inputs % self.every
+        self.inputs += 1
+        for number in itertools.count(first, self.every):
             ended = run(words, given, folder, number)
             if not ended[3]:
                 return
@@ -210,35 +216,42 @@ class Sweep:
                 self.faults.append(f"allocation {number} of {given[-60:]!r}: {why}")
 
 
-def sweep(name, folder):
-    """Whether all runs with a refused allocation end as they should."""
+def sweep(name, folder, every):
+    """How many runs with a refused allocation, one of every so many, there were, and how many ended otherwise than they should."""
     words, given = RUNS[name]
     if name.startswith(("places", "warm")):
         return refuse_all(name, folder)
-    found = Sweep()
+    found = Sweep(every)
     for it in [given] if isinstance(given, str) else given():
         found.run(words, it, folder)
-    if words[0] == LINEMAP and found.lines != lines_for(words):
-        found.faults.append(f"other lines than for memory: {sorted(found.lines ^ lines_for(words))}")
+    wanted = lines_for(words) if words[0] == LINEMAP else found.lines
+    if found.lines != wanted if every == 1 else found.lines - wanted:
+        found.faults.append(f"other lines than for memory: {sorted(found.lines ^ wanted)}")
     print(f"{name}: {found.count} allocations, each refused once; {found.alike} runs ended as with ample memory, {found.again} after a "
           f"call that was made again, {len(found.faults)} wrongly", flush=True)
     for it in found.faults[:20]:
         print(f"  {it}")
-    return not found.faults
+    return found.count, len(found.faults)
 
 
 def refuse_all(name, folder):
-    """Refuses all allocations from the first output on."""
+    """Refuses all allocations from the first output on, and counts as `sweep` does."""
     words, given = RUNS[name]
     ample, ended = run(words, given, folder), run(words, given, folder, "write")
     is_same = ended[:2] == ample[:2] and not ended[3]
     print(f"{name}: {ample[1][0].count(10)} lines; with each allocation refused from the first output on they are "
           f"{'the same, and none was asked for' if is_same else 'others'}", flush=True)
-    return is_same and len(ample[1][0]) > 1 << 17
+    is_long = len(ample[1][0]) > LONG
+    if not is_long:
+        print("  too few: one output may hold them all")
+    return 1, int(not (is_same and is_long))
 
 
 def main():
-    names = sys.argv[1:] or list(RUNS)
+    words, every = sys.argv[1:], 1
+    if words[:1] == ["--every"] and re.fullmatch("[1-9][0-9]*", "".join(words[1:2])):
+        words, every = words[2:], int(words[1])
+    names = words or list(RUNS)
     if any(it not in RUNS for it in names):
         return __doc__
     build(names)
@@ -251,8 +264,10 @@ def main():
             subprocess.run([LINEMAP, "emit", f"{TOP}/examples/c.json", f"{folder}/run/given.elf"], check=True)
         with open(f"{folder}/run/addresses", "w", encoding="utf-8") as file:
             file.writelines(f"{0xff8 + it % 0x40:x}\n" for it in range(20_000))
-        ended = [sweep(it, folder) for it in names]
-    return 0 if all(ended) else 1
+        ended = [sweep(it, folder, every) for it in names]
+    runs, wrong = map(sum, zip(*ended))
+    print(f"{runs} runs with refused memory, {wrong} ended wrongly")
+    return 1 if wrong else 0
 
 
 if __name__ == "__main__":

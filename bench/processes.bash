@@ -27,8 +27,8 @@ add() { # NAME INPUT OUTPUT WORD..
 }
 
 # Measures what was added, as a case.
-measure() { # CASE ROUNDS SECONDS
-    python3 "$top/bench/took.py" "$2" "$3" < "$work/commands" | sed "s/^/$1\t/" >> "$work/measures"
+measure() { # CASE ROUNDS SECONDS [own]
+    python3 "$top/bench/took.py" "${@:2}" < "$work/commands" | sed "s/^/$1\t/" >> "$work/measures"
     rm "$work/commands"
 }
 

@@ -144,7 +144,7 @@ def faults():
 
 def main():
     wrong = [*faults()]
-    print(*wrong, sep="\n", end="\n" if wrong else "")
+    print(*wrong, f"{len(DOCUMENTS)} documents, {len(wrong)} faults", sep="\n")
     return 1 if wrong else 0
 
 
