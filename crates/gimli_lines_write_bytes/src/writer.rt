@@ -16,7 +16,7 @@ use gimli_core_base::leb128::Leb128;
 use gimli_core_base::{Endianity, FIRST_RESERVED_LENGTH, Format, SectionId};
 
 /// Where the length of a unit or table is, so that it can be written once it is known.
-#[derive(Clone, Copy, Debug, PartialEq, Eq)]
+#[derive(Clone, Copy, Debug, PartialEq, Eq, PartialOrd, Ord, Hash)]
 pub struct InitialLengthOffset(pub usize);
 
 /// Bytes in an order, written at their end or over what is there. A write that is refused changes
