@@ -3,7 +3,7 @@
 
 ghost use Rattle.addr2line_elf.specs.StandardNumbers.{IdentificationNumbers, FileTypeNumbers, SpecialSectionNumbers, SectionTypeNumbers, SectionFlagNumbers, SymbolTypeNumbers};
 
-/// Where a file's identification has its class and its order of bytes, and what stands there.
+/// Where a file's identification has its class and its order of bytes, and their values.
 pub fn identification_numbers()
     ensures { IdentificationNumbers }
 {}

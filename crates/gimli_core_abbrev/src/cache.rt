@@ -115,8 +115,8 @@ impl AbbreviationsCache {
         put_table(&mut self.tables, offset.0.into_u64(), Ok(abbreviations))
     }
 
-    /// The cached table of an offset, else the section's table there. What is cached is shared, and
-    /// takes no memory.
+    /// The cached table of an offset, else the section's table there. What is cached is shared; a
+    /// cached fault takes no memory.
     pub fn get<R: Reader>(
         &self,
         alloc: Global,
