@@ -1,15 +1,14 @@
 -- What holds an address among items seen through a function.
-use Rattle.std.proofs.Common.{◌≡◌, ℕ, ◌+◌, Bool, true, false, cond, nat_lt, nat_le, List, [], ◌∷◌, ◌++◌, suc, length, map, filter, slice_get, Option, Some, None, option_map, refl, ap, sym, subst, ◌∙◌, arith, append_assoc, length-append}
+use Rattle.std.proofs.Common.{◌≡◌, ℕ, Bool, true, false, cond, nat_lt, nat_le, List, [], ◌∷◌, suc, length, map, filter, Option, Some, None, option_map, refl, ap, sym, ◌∙◌}
 use Rattle.std.specs.Prelude.{option_and_then, MatchOption}
 use Rattle.std.specs.Borrow.{Bor}
 use Rattle.std.specs.List.{AllByRecursion}
 use Rattle.addr2line_spec.specs.Range.{Range}
 use Rattle.addr2line_spec.specs.Choice.{is_later, later_of, latest, only_if, holder}
-use Rattle.addr2line_spec.specs.Lines.{Sequence, range_of, rows_to, row_of}
+use Rattle.addr2line_spec.specs.Lines.{Sequence, range_of, row_of}
 use Rattle.addr2line_spec.proofs.RangeHolders.{holder_is}
 use Rattle.addr2line_index.specs.RangeLevels.{at_level}
-use Rattle.addr2line_index.specs.LineIndexes.{NumberedSequence, numbered_from, range_of_numbered, sequences_of, place_of_row, row_at_place}
-use Rattle.addr2line_index.proofs.RowIndexLemmas.{last_place-row, rows_to-within}
+use Rattle.addr2line_index.specs.LineIndexes.{CountedSequence, counted_sequence, range_of_counted, sequences_of}
 
 module _ {X Y : Type 0} (f : X → Y) (range : Y → Range) where
   abbrev inner : X → Range
@@ -56,78 +55,43 @@ all_at_level : {X : Type 0} (xs : List X) → at_level (λ _. 0) 0 xs ≡ xs
 all_at_level [] = refl
 all_at_level (x ∷ xs) = ap (λ l. x ∷ l) (all_at_level xs)
 
--- ---- sequences with their numbers
+-- ---- sequences with one counter
 
--- a sequence has this counter, and is at its number
-abbrev pub IsNumbered : ℕ → List Sequence → NumberedSequence → Type 0
-IsNumbered counter ss s = (s.counter ≡ counter) × (slice_get ss s.number ≡ Some s.sequence)
+module _ (a : ℕ) (all : List CountedSequence) where
+  -- the one that holds an address
+  abbrev pub counted_holder : Option CountedSequence
+  counted_holder = holder range_of_counted a (at_level (λ _. 0) 0 all)
 
-pub at_place : (before : List Sequence) (s : Sequence) (ss : List Sequence)
-    → slice_get (before ++ s ∷ ss) (length before) ≡ Some s
-at_place [] s ss = refl
-at_place (b ∷ before) s ss = at_place before s ss
-
-all_numbered : (counter n : ℕ) (before ss : List Sequence) → n ≡ length before
-    → AllByRecursion (IsNumbered counter (before ++ ss)) (numbered_from counter n ss)
-all_numbered counter n before [] h = tt
-all_numbered counter n before (s ∷ ss) h =
-    let more : n + 1 ≡ length (before ++ s ∷ []) = omega (arith, length-append before (s ∷ [])) in
-    let rest = numbered_from counter (n + 1) ss in
-    let P : List Sequence → Type 0 = λ all. AllByRecursion (IsNumbered counter all) rest in (
-      (refl, ap (slice_get (before ++ s ∷ ss)) h ∙ at_place before s ss),
-      subst P (append_assoc before (s ∷ []) ss) (all_numbered counter (n + 1) (before ++ s ∷ []) ss more),
-    )
-
--- the one that holds an address, of those that one counter counts
-abbrev pub numbered_holder : ℕ → List NumberedSequence → Option NumberedSequence
-numbered_holder a all = holder range_of_numbered a (at_level (λ _. 0) 0 all)
-
-module _ (a n : ℕ) (all : List NumberedSequence) (numbered : all ≡ numbered_from n 0 (sequences_of all)) where
   -- is the sequence that holds it
-  pub sequence_of_holder : option_map (λ (s : NumberedSequence). s.sequence) (numbered_holder a all)
+  pub sequence_of_holder : option_map (λ (s : CountedSequence). s.sequence) counted_holder
       ≡ holder range_of a (sequences_of all)
   sequence_of_holder =
-      ap (λ l. option_map (λ (s : NumberedSequence). s.sequence) (holder range_of_numbered a l)) (all_at_level all)
-      ∙ sym (holder-view (λ (s : NumberedSequence). s.sequence) range_of a all)
+      ap (λ l. option_map (λ (s : CountedSequence). s.sequence) (holder range_of_counted a l)) (all_at_level all)
+      ∙ sym (holder-view (λ (s : CountedSequence). s.sequence) range_of a all)
 
-  -- and has that counter, and its number
-  pub holder_is_numbered : (s : NumberedSequence) → numbered_holder a all ≡ Some s → IsNumbered n (sequences_of all) s
-  holder_is_numbered s e =
-      holder_is range_of_numbered (IsNumbered n (sequences_of all)) a all s
-      (subst (AllByRecursion (IsNumbered n (sequences_of all))) (sym numbered)
-      (all_numbered n 0 [] (sequences_of all) refl))
-      (ap (holder range_of_numbered a) (sym (all_at_level all)) ∙ e)
-
-  -- the same through a reference
-  pub counter_of_found : (name : ℕ) (o : Option (Bor NumberedSequence))
-      → option_map (λ (s : Bor NumberedSequence). s.now) o ≡ numbered_holder a all → name ≡ n
+  -- and has that counter
+  pub counter_of_found : (n name : ℕ) (o : Option (Bor CountedSequence))
+      → AllByRecursion (λ (s : CountedSequence). s.counter ≡ n) all
+      → option_map (λ (s : Bor CountedSequence). s.now) o ≡ counted_holder → name ≡ n
       → MatchOption o (Unit {0}) (λ s. name ≡ s.now.counter)
-  counter_of_found name None same is = tt
-  counter_of_found name (Some s) same is = is ∙ sym (holder_is_numbered s.now (sym same)).0
+  counter_of_found n name None counted same is = tt
+  counter_of_found n name (Some s) counted same is =
+      is
+      ∙ sym (holder_is range_of_counted (λ (s : CountedSequence). s.counter ≡ n) a all s.now counted
+      (ap (holder range_of_counted a) (sym (all_at_level all)) ∙ sym same))
 
-  row_of_numbered : (o : Option NumberedSequence) → numbered_holder a all ≡ o
-      → option_and_then (row_at_place (sequences_of all)) (option_and_then (place_of_row a) o)
-      ≡ option_and_then (λ (s : Sequence). row_of s.rows a) (option_map (λ (s : NumberedSequence). s.sequence) o)
-  row_of_numbered None e = refl
-  row_of_numbered (Some s) e =
-      last_place-row (sequences_of all) s.number s.sequence (rows_to a s.sequence.rows) (holder_is_numbered s e).1
-      (rows_to-within a s.sequence.rows)
+-- the sequences are those that are counted
+pub sequences_of-counted : (counter : ℕ) (ss : List Sequence) → sequences_of (map (counted_sequence counter) ss) ≡ ss
+sequences_of-counted counter [] = refl
+sequences_of-counted counter (s ∷ ss) = ap (λ l. s ∷ l) (sequences_of-counted counter ss)
 
-  -- the row at the place that is found
-  pub row_of_holder : option_and_then (row_at_place (sequences_of all))
-      (option_and_then (place_of_row a) (numbered_holder a all))
-      ≡ option_and_then (λ (s : Sequence). row_of s.rows a) (holder range_of a (sequences_of all))
-  row_of_holder =
-      row_of_numbered (numbered_holder a all) refl
-      ∙ ap (option_and_then (λ (s : Sequence). row_of s.rows a)) sequence_of_holder
-
--- the sequences are those that were numbered
-pub sequences_of-numbered : (counter n : ℕ) (ss : List Sequence) → sequences_of (numbered_from counter n ss) ≡ ss
-sequences_of-numbered counter n [] = refl
-sequences_of-numbered counter n (s ∷ ss) = ap (λ l. s ∷ l) (sequences_of-numbered counter (n + 1) ss)
+pub all_counted : (counter : ℕ) (ss : List Sequence)
+    → AllByRecursion (λ (s : CountedSequence). s.counter ≡ counter) (map (counted_sequence counter) ss)
+all_counted counter [] = tt
+all_counted counter (s ∷ ss) = (refl, all_counted counter ss)
 
 -- as many of them
-pub length-sequences_of : (ss : List NumberedSequence) → length (sequences_of ss) ≡ length ss
+pub length-sequences_of : (ss : List CountedSequence) → length (sequences_of ss) ≡ length ss
 length-sequences_of [] = refl
 length-sequences_of (s ∷ ss) = ap suc (length-sequences_of ss)
 
@@ -138,7 +102,10 @@ pub map-now : {A B : Type 0} (g : A → B) (o : Option (Bor A))
 map-now g None = refl
 map-now g (Some r) = refl
 
-pub then-now : {A B : Type 0} (g : A → Option B) (o : Option (Bor A))
-    → option_and_then (λ (r : Bor A). g r.now) o ≡ option_and_then g (option_map (λ (r : Bor A). r.now) o)
-then-now g None = refl
-then-now g (Some r) = refl
+-- the row of an address in the sequence that a reference is to, if there is one
+pub row-now : (a : ℕ) (o : Option (Bor CountedSequence))
+    → option_and_then (λ (r : Bor CountedSequence). row_of r.now.sequence.rows a) o
+    ≡ option_and_then (λ (s : Sequence). row_of s.rows a)
+    (option_map (λ (s : CountedSequence). s.sequence) (option_map (λ (r : Bor CountedSequence). r.now) o))
+row-now a None = refl
+row-now a (Some r) = refl

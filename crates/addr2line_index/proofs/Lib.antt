@@ -16,3 +16,5 @@ mod RowIndexLemmas
 pub mod HolderViews
 mod BoundedRangeLemmas
 mod SequenceOrderLemmas
+mod SequenceWalks
+mod SequenceViews

@@ -1,13 +1,15 @@
 -- A search by the greatest address up to each row finds the row of an address.
-use Rattle.std.proofs.Common.{◌≡◌, ℕ, zero, suc, ◌+◌, ◌<◌, ◌≤◌, max, true, false, cond, nat_le, List, [], ◌∷◌, length, get_or, take, slice_get, Option, Some, None, refl, ap, sym, ◌∙◌, arith}
-use Rattle.std.specs.Prelude.{option_and_then}
+use Rattle.std.proofs.Common.{◌≡◌, ℕ, zero, suc, ◌+◌, ◌-◌, ◌<◌, ◌≤◌, ◌==◌, max, true, false, cond, nat_le, List, [], ◌∷◌, length, get_or, take, slice_get, Option, Some, None, Result, Ok, Err, refl, ap, sym, subst, ◌∙◌, arith}
+use Rattle.std.specs.Prelude.{OnOk, OnErr}
+use Rattle.addr2line_spec.specs.Error.{Error}
 use Rattle.std.specs.List.{last_or, prefix_len}
 use Rattle.std.specs.List.Sorted.{IsNonDecreasingBy, IsPartitionedBy}
 use Rattle.std.proofs.lemmas.Bool.Decides.{nat_tests}
 use Rattle.std.proofs.lemmas.List.Sorted.{IsPartitionedBy-leb}
-use Rattle.addr2line_spec.specs.Lines.{LineRow, Sequence, rows_to}
+use Rattle.addr2line_spec.specs.Lines.{LineRow, rows_to, row_of}
 use Rattle.addr2line_index.specs.RowIndexes.{greatest_after}
-use Rattle.addr2line_index.specs.LineIndexes.{last_place, row_at_place}
+use Rattle.addr2line_index.specs.PartialLines.{put_row}
+use Rattle.addr2line_index.specs.NarrowRows.{AscendFrom, last_address}
 
 -- ---- the greatest addresses are in order
 
@@ -75,10 +77,68 @@ rows_to-within a (r ∷ rs) =
       | false ↦ omega arith
     ]
 
--- the row at the last place of the first rows of a sequence is the last of these rows
-pub last_place-row : (ss : List Sequence) (number : ℕ) (s : Sequence) (n : ℕ) → slice_get ss number ≡ Some s
-    → n ≤ length s.rows
-    → option_and_then (row_at_place ss) (last_place number n) ≡ last_or None (take n s.rows)
-last_place-row ss number s zero here within = refl
-last_place-row ss number s (suc n) here within =
-    ap (option_and_then (λ t. slice_get t.rows n)) here ∙ sym (last_of_first None s.rows n (omega arith))
+-- the last of the first rows
+pub row_of-none : (a : ℕ) (rs : List LineRow) → rows_to a rs ≡ 0 → row_of rs a ≡ None
+row_of-none a rs none = ap (λ n. last_or None (take n rs)) none
+
+pub row_of-some : (a n : ℕ) (rs : List LineRow) → rows_to a rs ≡ suc n → row_of rs a ≡ slice_get rs n
+row_of-some a n rs some =
+    let within = rows_to-within a rs in
+    ap (λ k. last_or None (take k rs)) some ∙ last_of_first None rs n (omega arith)
+
+-- ---- rows that don't go back
+
+from_first : (a : ℕ) (rs : List LineRow) (j : ℕ) (d : LineRow) → AscendFrom a rs → j < length rs
+    → a ≤ (get_or rs j d).address
+from_first a [] j d up below = absurd (omega arith)
+from_first a (r ∷ rs) zero d up below = up.0
+from_first a (r ∷ rs) (suc j) d up below =
+    let rest = from_first r.address rs j d up.1 (omega arith) in
+    let first : a ≤ r.address = up.0 in
+    omega arith
+
+rows_ascend : (a : ℕ) (rs : List LineRow) → AscendFrom a rs → IsNonDecreasingBy (λ (r : LineRow). r.address) rs
+rows_ascend a [] up i j d le below = absurd (omega arith)
+rows_ascend a (r ∷ rs) up zero zero d le below = omega arith
+rows_ascend a (r ∷ rs) up zero (suc j) d le below = from_first r.address rs j d up.1 (omega arith)
+rows_ascend a (r ∷ rs) up (suc i) zero d le below = absurd (omega arith)
+rows_ascend a (r ∷ rs) up (suc i) (suc j) d le below =
+    rows_ascend r.address rs up.1 i j d (omega arith) (omega arith)
+
+pub ascend_parted : (a : ℕ) (rs : List LineRow) → AscendFrom 0 rs
+    → IsPartitionedBy (λ (r : LineRow). nat_le r.address a) rs
+ascend_parted a rs up = IsPartitionedBy-leb (λ (r : LineRow). r.address) rs a (rows_ascend 0 rs up)
+
+-- one row more, not below the last
+pub ascend-put : (a : ℕ) (rs : List LineRow) (r : LineRow) → AscendFrom a rs → last_address a rs ≤ r.address
+    → AscendFrom a (put_row r rs)
+ascend-put a [] r up le = (le, tt)
+ascend-put a (x ∷ []) r up le =
+    let first : a ≤ x.address = up.0 in
+    let second : x.address ≤ r.address = le in
+    elim (r.address == x.address) as (λ b. AscendFrom a (cond b (r ∷ []) (x ∷ r ∷ []))) [
+      | true ↦ (omega arith, tt)
+      | false ↦ (first, (second, tt))
+    ]
+ascend-put a (x ∷ y ∷ ys) r up le = (up.0, ascend-put x.address (y ∷ ys) r up.1 le)
+
+last_at : (a n : ℕ) (rs : List LineRow) (r : LineRow) → length rs ≡ suc n → slice_get rs n ≡ Some r
+    → last_address a rs ≡ r.address
+last_at a n [] r many is = absurd (omega arith)
+last_at a zero (x ∷ []) r many is = let same : x ≡ r = cc in ap (λ (z : LineRow). z.address) same
+last_at a (suc n) (x ∷ []) r many is = absurd (omega arith)
+last_at a zero (x ∷ y ∷ ys) r many is = absurd (omega arith)
+last_at a (suc n) (x ∷ y ∷ ys) r many is = last_at x.address n (y ∷ ys) r (omega arith) is
+
+pub last_address-at : (a : ℕ) (rs : List LineRow) (r : LineRow) → slice_get rs (length rs - 1) ≡ Some r
+    → last_address a rs ≡ r.address
+last_address-at a [] r is = absurd (cc)
+last_address-at a (x ∷ xs) r is =
+    let last : length xs ≡ length (x ∷ xs) - 1 = omega arith in
+    last_at a (length xs) (x ∷ xs) r refl (ap (slice_get (x ∷ xs)) last ∙ is)
+
+-- whether it was put or not
+pub ascend_after : (result : Result (Unit {0}) Error) (old new : List LineRow) (r : LineRow) → AscendFrom 0 old
+    → last_address 0 old ≤ r.address → OnOk result (new ≡ put_row r old) → OnErr result (new ≡ old) → AscendFrom 0 new
+ascend_after (Ok x) old new r up le ok err = subst (AscendFrom 0) (sym ok) (ascend-put 0 old r up le)
+ascend_after (Err e) old new r up le ok err = subst (AscendFrom 0) (sym err) up

@@ -1,15 +1,13 @@
 -- Rows between two ends: parts of lists, one element on.
-use Rattle.std.proofs.Common.{◌≡◌, ℕ, suc, zero, ◌+◌, ◌-◌, Bool, true, false, cond, nat_lt, List, [], ◌∷◌, length, length-drop, flat_map, take, drop, Option, Some, None, refl, sym, ap, ◌∙◌, arith, append-nil}
-use Rattle.std.specs.Prelude.{◌==◌, ◌&&◌, ◌||◌, MatchOption}
+use Rattle.std.proofs.Common.{◌≡◌, ℕ, suc, zero, ◌+◌, ◌-◌, Bool, true, false, cond, nat_lt, ◌<◌, ◌≤◌, List, [], ◌∷◌, length, drop, slice_get, Some, refl, sym, ap, ◌∙◌, arith}
+use Rattle.std.specs.Prelude.{◌==◌, ◌&&◌, ◌||◌}
 use Rattle.std.specs.Cmp.{IsStrictWeakOrder}
 use Rattle.std.specs.List.{take_while}
 use Rattle.std.proofs.lemmas.Bool.Decides.{nat_tests}
-use Rattle.std.proofs.lemmas.List.{take_all, drop-drop}
 use Rattle.std.proofs.lemmas.List.Sums.{take_while-cons}
-use Rattle.addr2line_spec.specs.Lines.{LineRow, Sequence, Stretch, row_location, rows_to, next_address, stretches_of, sequence_between, reaches, starts_after}
+use Rattle.addr2line_spec.specs.Lines.{LineRow, Sequence, Stretch, row_location, next_address, stretches_of, starts_after}
 use Rattle.addr2line_index.specs.declared.stretches.RowStretch.{RowStretch}
-use Rattle.addr2line_index.specs.Stretches.{stretch_of_row, stretches_below, sequence_from}
-use Rattle.addr2line_index.specs.LineCursors.{stretches_among}
+use Rattle.addr2line_index.specs.Stretches.{stretch_of_row, stretches_below}
 
 -- ---- rows
 
@@ -18,10 +16,6 @@ pub stretches_of-drop : (files : List (List ℕ)) (end k : ℕ) (rows : List Lin
 stretches_of-drop files end zero rows = refl
 stretches_of-drop files end (suc k) [] = refl
 stretches_of-drop files end (suc k) (r ∷ rs) = stretches_of-drop files end k rs
-
--- all that is left of a list
-pub rest_from : {X : Type 0} (n : ℕ) (xs : List X) → take (length xs - n) (drop n xs) ≡ drop n xs
-rest_from n xs = take_all (length xs - n) (drop n xs) (omega (arith, length-drop n xs))
 
 -- a row as a stretch
 stretch_is : (files : List (List ℕ)) (end next : ℕ) (r : LineRow) (rest : List LineRow) (s : RowStretch) → s.row ≡ r
@@ -35,45 +29,64 @@ stretch_is files end next r rest s row address length after =
     sym (ap (λ t. t ∷ stretches_of files end rest)
     (ap (made s.address s.length) row ∙ ap (λ a. made a s.length r) address ∙ ap (λ n. made r.address n r) long))
 
--- the first of rows, if it begins below the high end
-pub first_below : (files : List (List ℕ)) (end high next : ℕ) (rows : List LineRow) (r : LineRow) (rest : List LineRow)
-    (s : RowStretch) → rows ≡ r ∷ rest → s.row ≡ r → s.address ≡ r.address → s.length ≡ next - s.address
-    → next ≡ next_address rest end → nat_lt s.address high ≡ true
-    → stretches_below files end high rows ≡ stretch_of_row files s ∷ stretches_below files end high (drop 1 rows)
-first_below files end high next rows r rest s whole row address length after below =
-    let p : Stretch → Bool = λ t. nat_lt t.address high in
-    ap (stretches_below files end high) whole
-    ∙ ap (take_while p) (stretch_is files end next r rest s row address length after)
-    ∙ take_while-cons p (stretch_of_row files s) (stretches_of files end rest)
-    ∙ ap (λ b. cond b (stretch_of_row files s ∷ stretches_below files end high rest) []) below
-    ∙ ap (λ l. stretch_of_row files s ∷ stretches_below files end high (drop 1 l)) (sym whole)
+-- an element and those after it
+drop_suc : {X : Type 0} (n : ℕ) (xs : List X) (x : X) → slice_get xs n ≡ Some x → drop n xs ≡ x ∷ drop (suc n) xs
+drop_suc n [] x is = absurd (cc)
+drop_suc zero (y ∷ ys) x is = let same : y ≡ x = cc in ap (λ z. z ∷ ys) same
+drop_suc (suc n) (y ∷ ys) x is = drop_suc n ys x is
 
--- the first row from a number on
-pub first_from : (files : List (List ℕ)) (end high n : ℕ) (rows : List LineRow) (o : Option RowStretch)
-    → MatchOption o (stretches_below files end high (take (length rows - n) (drop n rows)) ≡ [])
-    (λ s. stretches_below files end high (take (length rows - n) (drop n rows))
-    ≡ stretch_of_row files s ∷ stretches_below files end high (drop 1 (take (length rows - n) (drop n rows))))
-    → MatchOption o (stretches_below files end high (drop n rows) ≡ [])
-    (λ s. stretches_below files end high (drop n rows)
-    ≡ stretch_of_row files s ∷ stretches_below files end high (drop (n + 1) rows))
-first_from files end high n rows None h = ap (stretches_below files end high) (sym (rest_from n rows)) ∙ h
-first_from files end high n rows (Some s) h =
-    ap (stretches_below files end high) (sym (rest_from n rows))
-    ∙ h
-    ∙ ap (λ l. stretch_of_row files s ∷ stretches_below files end high l)
-    (ap (drop 1) (rest_from n rows) ∙ drop-drop 1 n rows)
+pub drop_at : {X : Type 0} (n : ℕ) (xs : List X) (x : X) → slice_get xs n ≡ Some x → drop n xs ≡ x ∷ drop (n + 1) xs
+drop_at n xs x is =
+    let next : suc n ≡ n + 1 = omega arith in drop_suc n xs x is ∙ ap (λ k. x ∷ drop k xs) next
 
--- of a sequence that reaches between the ends, the stretches from its first row there on
-pub sequence_first : (files : List (List ℕ)) (low high : ℕ) (s : Sequence) (o : Option ℕ)
-    → MatchOption o (reaches low high s ≡ false) (λ n. (reaches low high s ≡ true) × (n ≡ rows_to low s.rows - 1))
-    → MatchOption o (stretches_among files low high (s ∷ []) ≡ [])
-    (λ n. stretches_among files low high (s ∷ []) ≡ sequence_from files high n (Some s))
-sequence_first files low high s None h = ap (λ b. flat_map (sequence_between files low high) (cond b (s ∷ []) [])) h
-sequence_first files low high s (Some n) h =
-    ap (λ b. flat_map (sequence_between files low high) (cond b (s ∷ []) [])) h.0
-    ∙ append-nil (sequence_between files low high s)
-    ∙ ap (take_while (λ t. nat_lt t.address high))
-    (ap (λ k. drop k (stretches_of files s.end s.rows)) (sym h.1) ∙ sym (stretches_of-drop files s.end n s.rows))
+pub drop_past : {X : Type 0} (n : ℕ) (xs : List X) → length xs ≤ n → drop n xs ≡ []
+drop_past zero [] past = refl
+drop_past (suc n) [] past = refl
+drop_past zero (y ∷ ys) past = absurd (omega arith)
+drop_past (suc n) (y ∷ ys) past = drop_past n ys (omega arith)
+
+module _ (files : List (List ℕ)) (end high : ℕ) where
+  -- where no row is left, none is below the high end
+  pub none_left : (n : ℕ) (rows : List LineRow) → length rows ≤ n → stretches_below files end high (drop n rows) ≡ []
+  none_left n rows past = ap (stretches_below files end high) (drop_past n rows past)
+
+  not_below : (a b : ℕ) → b ≤ a → nat_lt a b ≡ false
+  not_below a b h = grind (arith, nat_tests)
+
+  is_below : (a b : ℕ) → a < b → nat_lt a b ≡ true
+  is_below a b h = grind (arith, nat_tests)
+
+  -- nor where the next begins at or above it
+  pub none_below : (n : ℕ) (rows : List LineRow) (r : LineRow) → slice_get rows n ≡ Some r → high ≤ r.address
+      → stretches_below files end high (drop n rows) ≡ []
+  none_below n rows r is above =
+      let p : Stretch → Bool = λ t. nat_lt t.address high in
+      let rest = drop (n + 1) rows in
+      let first : Stretch =
+      record {
+        address = r.address;
+        length = next_address rest end - r.address;
+        location = row_location files r;
+      } in
+      ap (stretches_below files end high) (drop_at n rows r is)
+      ∙ take_while-cons p first (stretches_of files end rest)
+      ∙ ap (λ b. cond b (first ∷ stretches_below files end high rest) []) (not_below r.address high above)
+
+  -- else it is the first of those that are left
+  pub first_below : (n next : ℕ) (rows : List LineRow) (r : LineRow) (s : RowStretch) → slice_get rows n ≡ Some r
+      → r.address < high → next ≡ next_address (drop (n + 1) rows) end
+      → s ≡ record { address = r.address; length = next - r.address; row = r }
+      → stretches_below files end high (drop n rows)
+      ≡ stretch_of_row files s ∷ stretches_below files end high (drop (n + 1) rows)
+  first_below n next rows r s is below after made =
+      let p : Stretch → Bool = λ t. nat_lt t.address high in
+      let rest = drop (n + 1) rows in
+      let stretch : RowStretch = record { address = r.address; length = next - r.address; row = r } in
+      ap (stretches_below files end high) (drop_at n rows r is)
+      ∙ ap (take_while p) (stretch_is files end next r rest stretch refl refl refl after)
+      ∙ take_while-cons p (stretch_of_row files stretch) (stretches_of files end rest)
+      ∙ ap (λ b. cond b (stretch_of_row files stretch ∷ stretches_below files end high rest) []) (is_below r.address high below)
+      ∙ ap (λ (x : RowStretch). stretch_of_row files x ∷ stretches_below files end high rest) (sym made)
 
 -- ---- order
 

@@ -27,6 +27,9 @@ pub mod NumberedRanges
 pub mod Stretches
 pub mod UnitPlaces
 pub mod RangeLevels
+pub mod NarrowRows
+pub mod RowForms
+pub mod SearchedRows
 pub mod RowIndexes
 pub mod LineIndexes
 pub mod LineCursors

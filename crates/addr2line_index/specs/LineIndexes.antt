@@ -1,21 +1,18 @@
 -- The lines of a unit as lookups search them, and how many looks at entries that takes.
-use Rattle.std.specs.Prelude.{ℕ, zero, suc, ◌+◌, List, [], ◌∷◌, length, map, slice_get, Option, Some, None, option_and_then, Result, Ok, Err}
+use Rattle.std.specs.Prelude.{◌≡◌, ℕ, ◌+◌, List, length, map, Option, Some, None, Result, Ok, Err}
+use Rattle.std.specs.List.{AllByRecursion}
 use Rattle.addr2line_spec.specs.Error.{Error}
 use Rattle.addr2line_spec.specs.Range.{Range}
 use Rattle.addr2line_spec.specs.Choice.{holder}
-use Rattle.addr2line_spec.specs.Lines.{Lines, Sequence, LineRow, range_of, rows_to}
+use Rattle.addr2line_spec.specs.Lines.{Lines, Sequence, range_of}
+use Rattle.addr2line_search.specs.ProbedLists.{ProbedList}
 use Rattle.addr2line_search.specs.Searches.{digit_count}
-use Rattle.addr2line_index.specs.declared.row_place.RowPlace.{RowPlace}
+use Rattle.addr2line_index.specs.SequenceOrders.{by_start}
+use Rattle.addr2line_index.specs.declared.sequence_order.OrderedSequence.{OrderedSequence}
 
--- a sequence with its number, and the name of the counter of its rows' addresses
-pub record NumberedSequence : Type 0 where
-  pub number : ℕ
+-- a sequence, and the name of the counter of looks at its rows
+pub record CountedSequence : Type 0 where
   pub sequence : Sequence
-  pub counter : ℕ
-
--- sequences, and the name of the counter of their ranges and their rows' addresses
-pub record CountedSequences : Type 0 where
-  pub sequences : List Sequence
   pub counter : ℕ
 
 -- lines, and the name of the counter of looks at their sequences and rows
@@ -28,39 +25,28 @@ abbrev pub counted_lines : ℕ → Result Lines Error → Result CountedLines Er
 counted_lines counter (Ok l) = Ok (record { lines = l; counter = counter })
 counted_lines counter (Err e) = Err e
 
--- sequences that are numbered from n on, with one counter
-abbrev pub numbered_from : ℕ → ℕ → List Sequence → List NumberedSequence
-numbered_from counter n [] = []
-numbered_from counter n (s ∷ ss) =
-    record { number = n; sequence = s; counter = counter } ∷ numbered_from counter (n + 1) ss
+abbrev pub counted_sequence : ℕ → Sequence → CountedSequence
+counted_sequence counter s = record { sequence = s; counter = counter }
 
-abbrev pub range_of_numbered : NumberedSequence → Range
-range_of_numbered s = range_of s.sequence
+abbrev pub range_of_counted : CountedSequence → Range
+range_of_counted s = range_of s.sequence
 
-abbrev pub sequences_of : List NumberedSequence → List Sequence
+abbrev pub sequences_of : List CountedSequence → List Sequence
 sequences_of ss = map (λ s. s.sequence) ss
 
--- ---- rows by their numbers
-
--- the place of the last of the first rows of a sequence, if there is one
-abbrev pub last_place : ℕ → ℕ → Option RowPlace
-last_place sequence zero = None
-last_place sequence (suc n) = Some (record { sequence = sequence; row = n })
-
--- the place of the row of an address: the one before the first that is above it
-abbrev pub place_of_row : ℕ → NumberedSequence → Option RowPlace
-place_of_row a s = last_place s.number (rows_to a s.sequence.rows)
-
--- the row at a place
-abbrev pub row_at_place : List Sequence → RowPlace → Option LineRow
-row_at_place ss p = option_and_then (λ s. slice_get s.rows p.row) (slice_get ss p.sequence)
+-- one counter counts looks at sequences, at the rows of each, and at their ranges by their starts
+abbrev pub IsIndexed : ProbedList CountedSequence → ProbedList OrderedSequence → Type 0
+IsIndexed sequences order =
+    AllByRecursion (λ s. s.counter ≡ sequences.counter) sequences.entries
+    × (order
+    ≡ record { entries = by_start (sequences_of sequences.entries); counter = sequences.counter })
 
 -- ---- looks at entries
 
--- a search among the rows of a sequence, if there is one
+-- a search among the rows of a sequence, if there is one, and a look at the row that is found
 abbrev pub row_probes : Option Sequence → ℕ
 row_probes None = 0
-row_probes (Some s) = digit_count (length s.rows)
+row_probes (Some s) = digit_count (length s.rows) + 1
 
 -- a search among the sequences, and one among the rows of the sequence that holds the address
 abbrev pub sequence_probes : List Sequence → ℕ → ℕ

@@ -1,58 +1,40 @@
 //! Lines made of the rows of a line number program, one at a time.
 
-ghost use Rattle.std.specs.Prelude.{◌≡◌, ◌-◌, ◌++◌, ◌∷◌, [], List, length, slice_get, OnOk, OnErr, IfErr, map};
+ghost use Rattle.std.specs.Prelude.{◌≡◌, ◌++◌, ◌∷◌, [], List, OnOk, OnErr, IfErr, map};
 ghost use Rattle.std.specs.String.{string_bytes};
 ghost use Rattle.addr2line_spec.specs.Error.TheVariants.{Memory};
 ghost use Rattle.addr2line_spec.specs.Lines.{ProgramRow as Row, line_row, sequences_of_rows};
-ghost use Rattle.addr2line_index.specs.PartialLines.{partial_lines, put_row, is_at, with_end, with_row};
+ghost use Rattle.addr2line_index.specs.PartialLines.{partial_lines, with_end, with_row};
 
 use crate::lines::Lines;
+use crate::row_list::RowList;
 use crate::sequence::{LineRow, LineSequence, ProgramRow};
-use crate::sequence_order::OrderedSequence;
 use addr2line_spec::Error;
 use std::alloc::Global;
 use std::marker::Model;
-use std::mem;
 
 /// What has been made of the first rows of a line number program. A contract says of which rows it
 /// is made.
 pub struct LinesBuilder {
     sequences: Vec<LineSequence>,
-    // The sequences by their numbers, with room for their order.
-    numbered: Vec<OrderedSequence>,
-    rows: Vec<LineRow>,
+    rows: RowList,
 }
 
 impl Drop for LinesBuilder {
     fn drop(self) {
         let LinesBuilder {
             sequences: _,
-            numbered: _,
             rows: _,
         } = self;
     }
 }
 
 impl Model for LinesBuilder {
-    ghost use Rattle.std.specs.Prelude.{◌≡◌};
     ghost use Rattle.addr2line_index.specs.PartialLines.{PartialLines};
-    ghost use Rattle.addr2line_index.specs.SequenceOrders.{entries_from};
 
     ghost Value = { PartialLines };
 
-    ghost view = { λ b. record { sequences = b.sequences.items; rows = b.rows.items } };
-
-    ghost invariant = { λ b. b.numbered.items ≡ entries_from 0 b.sequences.items };
-}
-
-// Whether the last row is at an address.
-fn is_last_at(rows: &[LineRow], address: u64) -> bool
-    ensures { result ≡ is_at address (slice_get rows.now (length rows.now - 1)) }
-{
-    match rows.last() {
-        Some(last) => address == last.address,
-        None => false,
-    }
+    ghost view = { λ b. record { sequences = b.sequences.items; rows = b.rows } };
 }
 
 // A row as lookups use it.
@@ -69,21 +51,6 @@ fn line_row(row: ProgramRow) -> LineRow
     }
 }
 
-// Appends a row, in place of the last one where that is at the same address.
-fn put_row(rows: &mut Vec<LineRow>, row: LineRow) -> Result<(), Error>
-    ensures ok { OnOk result (rows.new.items ≡ put_row row rows.old.items) }
-    ensures err { OnErr result (rows.new.items ≡ rows.old.items) }
-    ensures refusal { IfErr result (λ e. e ≡ Memory) }
-{
-    if is_last_at(rows.as_slice(), row.address) {
-        let last = rows.len() - 1;
-        rows[last] = row;
-    } else {
-        rows.push(row)?;
-    }
-    Ok(())
-}
-
 impl LinesBuilder {
     /// No rows. It takes no memory.
     pub fn new(alloc: Global) -> Self
@@ -91,8 +58,7 @@ impl LinesBuilder {
     {
         LinesBuilder {
             sequences: Vec::new(alloc),
-            numbered: Vec::new(alloc),
-            rows: Vec::new(alloc),
+            rows: RowList::new(alloc),
         }
     }
 
@@ -116,7 +82,7 @@ impl LinesBuilder {
         ensures err { OnErr result (self.new ≡ self.old) }
         ensures refusal { IfErr result (λ e. e ≡ Memory) }
     {
-        put_row(&mut self.rows, row)
+        self.rows.put(row)
     }
 
     // Ends the rows since the last end: a sequence, if the first of them is below their end.
@@ -125,22 +91,16 @@ impl LinesBuilder {
         ensures err { OnErr result (self.new ≡ self.old) }
         ensures refusal { IfErr result (λ e. e ≡ Memory) }
     {
-        let start = match self.rows.as_slice() {
-            [first, ..] if first.address < end => first.address,
+        let alloc = *self.sequences.allocator();
+        let start = match self.rows.first_address() {
+            Some(first) if first < end => first,
             _ => {
-                self.rows.clear();
+                self.rows.take(alloc);
                 return Ok(());
             }
         };
         self.sequences.reserve(1)?;
-        self.numbered.push(OrderedSequence {
-            number: self.sequences.len(),
-            start,
-            end,
-            greatest_end: end,
-        })?;
-        let none = Vec::new(*self.rows.allocator());
-        let rows = mem::replace(&mut self.rows, none);
+        let rows = self.rows.take(alloc);
         self.sequences.push(LineSequence { start, end, rows })?;
         Ok(())
     }
@@ -154,11 +114,7 @@ impl LinesBuilder {
               files = map string_bytes files.items;
             } }
     {
-        let LinesBuilder {
-            sequences,
-            numbered,
-            rows: _,
-        } = self;
-        Lines::from_parts(sequences, numbered, files)
+        let LinesBuilder { sequences, rows: _ } = self;
+        Lines::from_parts(sequences, files)
     }
 }

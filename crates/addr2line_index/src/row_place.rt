@@ -1,7 +1,6 @@
 //! Where a row is among the rows of a unit.
 
-/// The number of a sequence, in the order of the line number program, and the number of a row of
-/// it, each from 0 on.
+/// The index of a sequence among those by their starts, and the index of a row of it.
 #[derive(Clone, Copy, Debug, PartialEq, Eq)]
 pub struct RowPlace {
     pub(crate) sequence: usize,

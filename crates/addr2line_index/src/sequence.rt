@@ -1,8 +1,9 @@
 //! Rows of line number programs, and sequences of them.
 
-ghost use Rattle.std.specs.Prelude.{◌≡◌, ◌≤◌, length, slice_get};
-ghost use Rattle.addr2line_spec.specs.Lines.{range_of, rows_to};
+ghost use Rattle.std.specs.Prelude.{◌≡◌};
+ghost use Rattle.addr2line_spec.specs.Lines.{range_of};
 
+use crate::row_list::RowList;
 use addr2line_spec::Range;
 use std::marker::Model;
 
@@ -92,7 +93,7 @@ impl Model for LineRow {
 pub struct LineSequence {
     pub(crate) start: u64,
     pub(crate) end: u64,
-    pub(crate) rows: Vec<LineRow>,
+    pub(crate) rows: RowList,
 }
 
 impl Drop for LineSequence {
@@ -110,24 +111,7 @@ impl Model for LineSequence {
 
     ghost Value = { Sequence };
 
-    ghost view = { λ s. record { start = s.start; end = s.end; rows = s.rows.items } };
-}
-
-// How many rows come before the first that is above an address.
-pub(crate) fn rows_to(rows: &[LineRow], address: u64) -> usize
-    ensures counted { result ≡ rows_to address rows.now }
-    ensures within { result ≤ length rows.now }
-{
-    let mut left = rows;
-    let mut count = 0;
-    while let [row, rest @ ..] = left {
-        if row.address > address {
-            return count;
-        }
-        count += 1;
-        left = rest;
-    }
-    count
+    ghost view = { λ s. record { start = s.start; end = s.end; rows = s.rows } };
 }
 
 impl LineSequence {
@@ -141,17 +125,15 @@ impl LineSequence {
         }
     }
 
-    /// The rows.
-    pub fn rows(&self) -> &[LineRow]
-        ensures { result.now ≡ self.now.rows }
+    // Its rows.
+    pub(crate) fn into_rows(self) -> RowList
+        ensures { result ≡ self.rows }
     {
-        self.rows.as_slice()
-    }
-
-    // The row of a number, if there is one.
-    pub(crate) fn row_at(&self, number: usize) -> Option<LineRow>
-        ensures { result ≡ slice_get self.now.rows number }
-    {
-        self.rows.get(number).copied()
+        let LineSequence {
+            start: _,
+            end: _,
+            rows,
+        } = self;
+        rows
     }
 }

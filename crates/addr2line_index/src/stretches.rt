@@ -1,10 +1,13 @@
 //! The rows of a sequence between two ends.
 
-ghost use Rattle.std.specs.Prelude.{◌≡◌, ◌-◌, ◌∷◌, ℕ, List, [], true, false, drop, MatchOption};
-ghost use Rattle.addr2line_spec.specs.Lines.{next_address, rows_to, reaches};
+ghost use Rattle.std.specs.Prelude.{◌≡◌, ◌+◌, ◌∷◌, ℕ, List, [], drop, MatchOption};
+ghost use Rattle.addr2line_spec.specs.Lines.{next_address};
+ghost use Rattle.addr2line_search.specs.Searches.{AtMostProbes};
 ghost use Rattle.addr2line_index.specs.Stretches.{stretch_of_row, stretches_below};
 
-use crate::sequence::{LineRow, LineSequence, rows_to};
+use crate::sequence::LineRow;
+use crate::sequence_index::SequenceIndex;
+use addr2line_search::Probes;
 
 /// The addresses that a row stands for, and the row.
 #[derive(Clone, Copy, Debug)]
@@ -17,68 +20,52 @@ pub struct RowStretch {
     pub row: LineRow,
 }
 
-// Where a row ends, from the rows after it.
-fn next_address(rows: &[LineRow], end: u64) -> u64
-    ensures { result ≡ next_address rows.now end }
+// Where the rows before an index end: at the row there, or where there is none at the sequence's
+// end.
+fn next_address(sequence: &SequenceIndex, index: usize, probes: &mut Probes) -> u64
+    requires counter { probes.old.name ≡ sequence.now.counter }
+    ensures address { result
+        ≡ next_address (drop index sequence.now.sequence.rows) sequence.now.sequence.end }
+    ensures cost { AtMostProbes 1 probes.old probes.new }
 {
-    match rows {
-        [next, ..] => next.address,
-        [] => end,
+    if index < sequence.len() {
+        sequence.at(index, probes).address
+    } else {
+        sequence.end()
     }
 }
 
-// The first of rows, if it begins below the high end.
-fn first_stretch(rows: &[LineRow], end: u64, high: u64) -> Option<RowStretch>
-    ensures { (files : List (List ℕ)) → MatchOption result
-        (stretches_below files end high rows.now ≡ [])
-        (λ s. stretches_below files end high rows.now
-        ≡ stretch_of_row files s ∷ stretches_below files end high (drop 1 rows.now)) }
-{
-    let Some((row, rest)) = rows.split_first() else {
-        return None;
-    };
-    if row.address >= high {
-        return None;
-    }
-    Some(RowStretch {
-        address: row.address,
-        length: next_address(rest, end).saturating_sub(row.address),
-        row: *row,
-    })
-}
-
-// The row of a number in a sequence, if it begins below the high end, and the number after it.
+// The row at an index of a sequence, if it begins below the high end, and the index after it.
 pub(crate) fn stretch_at(
-    sequence: &LineSequence,
-    number: usize,
+    sequence: &SequenceIndex,
+    index: usize,
     high: u64,
+    probes: &mut Probes,
 ) -> Option<(RowStretch, usize)>
-    ensures { (files : List (List ℕ)) → MatchOption result
-        (stretches_below files sequence.now.end high (drop number sequence.now.rows) ≡ [])
-        (λ f. stretches_below files sequence.now.end high (drop number sequence.now.rows)
+    requires counter { probes.old.name ≡ sequence.now.counter }
+    ensures stretch { (files : List (List ℕ)) → MatchOption result
+        (stretches_below files sequence.now.sequence.end high
+        (drop index sequence.now.sequence.rows) ≡ [])
+        (λ f. stretches_below files sequence.now.sequence.end high
+        (drop index sequence.now.sequence.rows)
         ≡ stretch_of_row files f.0
-        ∷ stretches_below files sequence.now.end high (drop f.1 sequence.now.rows)) }
+        ∷ stretches_below files sequence.now.sequence.end high
+        (drop f.1 sequence.now.sequence.rows)) }
+    ensures cost { AtMostProbes 2 probes.old probes.new }
 {
-    let rows = sequence.rows();
-    if number >= rows.len() {
+    if index >= sequence.len() {
         return None;
     }
-    match first_stretch(&rows[number..], sequence.end, high) {
-        Some(stretch) => Some((stretch, number + 1)),
-        None => None,
-    }
-}
-
-// The number of the first row of a sequence between two ends, if the sequence has addresses there.
-pub(crate) fn first_row(sequence: &LineSequence, low: u64, high: u64) -> Option<usize>
-    ensures { MatchOption result (reaches low high sequence.now ≡ false)
-        (λ n. (reaches low high sequence.now ≡ true) × (n ≡ rows_to low sequence.now.rows - 1)) }
-{
-    if high <= sequence.start {
+    let row = sequence.at(index, probes);
+    let address = row.address;
+    if address >= high {
         return None;
     }
-    if sequence.end <= low {
-        return None;
-    }
-    Some(rows_to(sequence.rows.as_slice(), low).saturating_sub(1))
+    let next = next_address(sequence, index + 1, probes);
+    let stretch = RowStretch {
+        address,
+        length: next.saturating_sub(address),
+        row,
+    };
+    Some((stretch, index + 1))
 }

@@ -24,7 +24,7 @@ pub use addr2line_functions::{
     ranges_of_entry,
 };
 pub use addr2line_units::{
-    ArangeIndex, LastRanges, LineRow, RootRanges, Runs, UnitLines, UnitRoot, is_partial,
+    ArangeIndex, Counters, LastRanges, LineRow, RootRanges, Runs, UnitLines, UnitRoot, is_partial,
     language_of, ranges_of_attributes,
 };
 pub use first_answer::answer_of;

@@ -5,4 +5,4 @@ mod files;
 mod rows;
 pub mod unit_lines;
 
-pub use unit_lines::{Runs, UnitLines, share_lines, share_run};
+pub use unit_lines::{LinesWithRanges, Runs, UnitLines, share_lines, share_run};

@@ -1,17 +1,19 @@
 //! The lines of a unit. No line number program of a unit is run elsewhere.
 
-ghost use Rattle.std.specs.Prelude.{◌≡◌, ◌≢◌, ◌+◌, Ok, Err, OnOk, IfOk, IfErr};
-ghost use Rattle.gimli_lines_rows.specs.Calls.{ReturnsOrNoMemory};
+ghost use Rattle.std.specs.Prelude.{◌≡◌, ◌≢◌, ◌+◌, Ok, Err, OnOk, IfOk, IfErr, map};
+ghost use Rattle.gimli_lines_rows.specs.Calls.{ReturnsAsOrNoMemory, ReturnsOrNoMemory};
 ghost use Rattle.gimli_lines_rows.specs.Error.TheVariants.{Memory};
 ghost use Rattle.addr2line_index.specs.LineIndexes.{counted_lines};
+ghost use Rattle.addr2line_index.specs.Lines.{range_of};
+ghost use Rattle.addr2line_index.specs.UnitRanges.{ranges_of_lines};
 ghost use Rattle.addr2line_index.specs.UnitLines.{lines_of_program, lines_of_unit};
 ghost use Rattle.addr2line_lines.specs.CountedRuns.{runs_for_lines, CountsRuns, CountsRunsOrNoMemory};
 
 use crate::files::texts_of_files;
 use crate::rows::run_program;
-use addr2line_index::{LineIndex, Lines, LinesBuilder, Probes, Tally};
+use addr2line_index::{LineIndex, LineSequence, Lines, LinesBuilder, Probes, Tally};
 use gimli_dwarf::UnitRef;
-use gimli_lines_rows::{Error, LineProgramHeader, Reader};
+use gimli_lines_rows::{Error, LineProgramHeader, Range, Reader};
 use std::alloc::Global;
 use std::marker::Model;
 use std::mem::size_of;
@@ -114,12 +116,63 @@ impl UnitLines {
         Ok(index)
     }
 
+    /// The same run and index, with the ranges of the lines' sequences, in the order of the program;
+    /// none where the lines are refused.
+    pub fn run_for_ranges<R: Reader>(
+        alloc: Global,
+        unit: &UnitRef<'_, R>,
+        runs: &mut Runs,
+        probes: &Probes,
+    ) -> Result<LinesWithRanges, Error>
+        ensures lines { ReturnsAsOrNoMemory (λ r. r.lines) result
+            (Ok (counted_lines probes.now.name (lines_of_unit unit.now))) }
+        ensures ranges { IfOk result (λ r. r.ranges.items ≡ ranges_of_lines (lines_of_unit unit.now)) }
+        ensures answer { IfOk result (λ r. r.lines ≢ Err Memory) }
+        ensures counted { CountsRunsOrNoMemory (runs_for_lines unit.now.facts) result
+            runs.old runs.new }
+        ensures refusal { IfErr result (λ e. e ≡ Memory) }
+    {
+        let lines = lines_of_unit(alloc, unit);
+        let ranges = ranges_of_lines(alloc, &lines)?;
+        let lines = index_to_keep(alloc, lines, probes)?;
+        count_run(unit, runs);
+        Ok(LinesWithRanges { ranges, lines })
+    }
+
     /// The lines, to be indexed for searches.
     pub fn into_lines(self) -> Lines
         ensures { result ≡ self }
     {
         let UnitLines { lines } = self;
         lines
+    }
+}
+
+/// Lines, or the refusal of them, with the ranges of their sequences.
+#[derive(Drop)]
+pub struct LinesWithRanges {
+    pub ranges: Vec<Range>,
+    pub lines: Result<LineIndex, Error>,
+}
+
+// The ranges of sequences.
+fn ranges_of_sequences(alloc: Global, sequences: &[LineSequence]) -> Result<Vec<Range>, Error>
+    ensures { ReturnsAsOrNoMemory (λ v. v.items) result (Ok (map range_of sequences.now)) }
+{
+    let mut ranges = Vec::new(alloc);
+    for sequence in sequences {
+        ranges.push(sequence.range())?;
+    }
+    Ok(ranges)
+}
+
+// Those of lines. Refused lines have none.
+fn ranges_of_lines(alloc: Global, lines: &Result<Lines, Error>) -> Result<Vec<Range>, Error>
+    ensures { ReturnsAsOrNoMemory (λ v. v.items) result (Ok (ranges_of_lines lines.now)) }
+{
+    match lines {
+        Ok(lines) => ranges_of_sequences(alloc, lines.sequences()),
+        Err(_) => Ok(Vec::new(alloc)),
     }
 }
 

@@ -8,6 +8,7 @@ use Rattle.addr2line_unit_lookups.specs.Error.TheVariants.{Memory}
 use Rattle.addr2line_unit_lookups.specs.Repetition.{no_items, prepend}
 use Rattle.addr2line_unit_lookups.specs.Results.{and_then}
 use Rattle.addr2line_unit_lookups.specs.Lines.{Lines, row_location}
+use Rattle.addr2line_unit_lookups.specs.LineIndexes.{CountedLines}
 use Rattle.addr2line_unit_lookups.specs.Contexts.{ContextUnit, ranges_of, lines_of}
 use Rattle.addr2line_unit_lookups.specs.PlaceLookups.{stretches_between}
 use Rattle.addr2line_unit_lookups.specs.UnitRange.{UnitRange}
@@ -21,7 +22,7 @@ use Rattle.addr2line_unit_lookups.specs.RowStretch.{RowStretch}
 use Rattle.addr2line_unit_lookups.specs.Stretches.{stretch_of_row}
 use Rattle.addr2line_unit_lookups.specs.StretchesLeft.{stretches_from_index}
 use Rattle.addr2line_unit_lookups.specs.ContextUnits.{unit_places, ordered_ranges}
-use Rattle.addr2line_unit_lookups.specs.ResolvedUnits.{location_of_row}
+use Rattle.addr2line_unit_lookups.specs.ResolvedUnits.{ResolvedUnit, location_of_row}
 use Rattle.addr2line_unit_lookups.proofs.UnitViews.{stretches_of_views, stretches_by_numbers}
 use Rattle.addr2line_unit_lookups.specs.KeptUnits.{lines_if_unit, lines_at}
 use Rattle.addr2line_lookups.specs.RangeWalks.{clipped_left, unit_left, rows_left, BeginsRange, FirstStretch, NextInRange, NextOfRows, walk_left, stretches_left, FindsStretch}
@@ -29,9 +30,9 @@ use Rattle.addr2line_lookups.specs.declared.range_walk.RangeRows.{RangeRows}
 use Rattle.addr2line_lookups.specs.declared.range_walk.RangeWalk.{RangeWalk}
 use Rattle.addr2line_lookups.specs.declared.range_walk.UnitStretch.{UnitStretch}
 
--- lines that a reference is to, if there are any
-abbrev pub ok_lines : Option (Bor Lines) → Result (Option Lines) Error
-ok_lines o = Ok (option_map (λ l. l.now) o)
+-- the lines of a unit that is found, if there are any
+abbrev pub ok_lines : Option (Bor ResolvedUnit × Bor CountedLines) → Result (Option Lines) Error
+ok_lines o = Ok (option_map (λ f. f.1.now.lines) o)
 
 -- ---- the unit of a range
 

@@ -16,7 +16,7 @@ ghost use Rattle.addr2line_lookups.specs.RangeWalks.{BeginsRange, NextInRange, N
 
 use crate::parsing::check_at;
 use addr2line_unit_lookups::{
-    Error, LineCursor, Lines, RangePlace, Reader, ResUnit, RowStretch, UnitRange, UnitRanges,
+    Error, LineCursor, LineIndex, RangePlace, Reader, ResUnit, RowStretch, UnitRange, UnitRanges,
     UnitRow, read_at, unit_at,
 };
 use std::alloc::Global;
@@ -65,26 +65,32 @@ impl RangeWalk {
 }
 
 // The lines of a unit, or the refusal of them. They are kept.
-fn lines_of<R: Reader>(unit: &ResUnit<R>) -> Result<&Lines, Error>
+fn lines_of<R: Reader>(unit: &ResUnit<R>) -> Result<&LineIndex, Error>
     requires { KeepsLines unit.now }
-    ensures { ReturnsAs (λ l. l.now) result unit.now.value.unit.lines }
+    ensures lines { ReturnsAs (λ l. l.now.lines) result unit.now.value.unit.lines }
+    ensures counter { IfOk result (λ l. l.now.counter ≡ unit.now.probes.name) }
 {
     match unit.kept_lines() {
-        Some(Ok(lines)) => Ok(lines.lines()),
+        Some(Ok(lines)) => Ok(lines),
         Some(Err(error)) => Err(*error),
         None => unreachable!(),
     }
 }
 
-// Those of the unit of a number, if there is one.
-fn lines_at<R: Reader>(units: &[ResUnit<R>], number: usize) -> Result<Option<&Lines>, Error>
+// The unit of a number with its lines, if there is one.
+fn lines_at<R: Reader>(
+    units: &[ResUnit<R>],
+    number: usize,
+) -> Result<Option<(&ResUnit<R>, &LineIndex)>, Error>
     requires { KeepsAt units.now number }
-    ensures { ReturnsAs (option_map (λ l. l.now)) result
+    ensures lines { ReturnsAs (option_map (λ f. f.1.now.lines)) result
         (lines_at (map plain_unit units.now) number) }
+    ensures counter { IfOk result (λ found. MatchOption found (Unit {0})
+        (λ f. f.1.now.counter ≡ f.0.now.probes.name)) }
 {
     match unit_at(units, number) {
         Some(unit) => match lines_of(unit) {
-            Ok(lines) => Ok(Some(lines)),
+            Ok(lines) => Ok(Some((unit, lines))),
             Err(error) => Err(error),
         },
         None => Ok(None),
@@ -101,11 +107,11 @@ fn rows_in<R: Reader>(units: &[ResUnit<R>], range: UnitRange, low: u64) -> Optio
     ensures range { AreOfRange range result }
 {
     match lines_at(units, range.unit) {
-        Ok(Some(lines)) => {
-            if lines.sequences().is_empty() {
+        Ok(Some((unit, lines))) => {
+            if lines.is_empty() {
                 return None;
             }
-            let cursor = lines.cursor_from(low.max(range.range.begin));
+            let cursor = unit.cursor_from(lines, low.max(range.range.begin));
             Some(RangeRows { range, cursor })
         }
         Ok(None) => None,
@@ -144,10 +150,10 @@ fn next_in<R: Reader>(
 {
     let RangeRows { range, cursor } = rows;
     match lines_at(units, range.unit) {
-        Ok(Some(lines)) => {
+        Ok(Some((unit, lines))) => {
             let low = low.max(range.range.begin);
             let high = high.min(range.range.end);
-            match lines.next_between(cursor, low, high) {
+            match unit.next_between(lines, cursor, low, high) {
                 Some((stretch, cursor)) => {
                     Some((unit_stretch(range, stretch), RangeRows { range, cursor }))
                 }

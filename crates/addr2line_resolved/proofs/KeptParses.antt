@@ -31,14 +31,15 @@ unit_by_load v u load first d view is h =
 
 -- other functions
 pub keeps_functions : (u : UnitInFile) (load : Result (Option SplitLoad) Error) (first : Option FirstAnswer)
-    (lines : Option (Result CountedLines Error)) (runs : ℕ) (old new : KeptFunctions) (counter : ℕ)
-    → KeepsParses u load first lines runs old counter → KeepsFunctions u load first new counter
-    → KeepsParses u load first lines runs new counter
-keeps_functions u load first lines runs old new counter keeps functions = record {
+    (lines : Option (Result CountedLines Error)) (runs : ℕ) (old new : KeptFunctions) (counter walks : ℕ)
+    → KeepsParses u load first lines runs old counter walks → KeepsFunctions u load first new counter
+    → KeepsParses u load first lines runs new counter walks
+keeps_functions u load first lines runs old new counter walks keeps functions = record {
   load_is = keeps.load_is;
   lines_are = keeps.lines_are;
   runs_are = keeps.runs_are;
   functions_are = functions;
+  walks_are = keeps.walks_are;
 }
 
 -- ---- a unit that was made just now
@@ -54,29 +55,31 @@ load_made load meaning h = cc
 from_none : (n m : ℕ) → n ≡ 0 + m → n ≡ m
 from_none n m is = omega arith
 
-module _ (u : UnitInFile) (ranges : List Range) (runs counter : ℕ) where
+module _ (u : UnitInFile) (ranges : List Range) (runs counter walks : ℕ) where
   keeps_root : (load : Result (Option SplitLoad) Error) (read : Option (Result CountedLines Error)) (k : KeptFunctions)
-      → RunsForRanges counter u ranges read 0 runs → load ≡ load_of u → k ≡ nothing_kept
-      → KeepsParses u load None read runs k counter
-  keeps_root load None k run is none = record {
+      → RunsForRanges counter u ranges read 0 runs → load ≡ load_of u → k ≡ nothing_kept → walks ≡ counter
+      → KeepsParses u load None read runs k counter walks
+  keeps_root load None k run is none same = record {
     load_is = is;
     lines_are = tt;
     runs_are = run;
     functions_are = keeps_nothing u load None k counter none;
+    walks_are = same;
   }
-  keeps_root load (Some l) k run is none = record {
+  keeps_root load (Some l) k run is none same = record {
     load_is = is;
     lines_are = run.0;
     runs_are = from_none runs (runs_for_lines u.facts) run.2;
     functions_are = keeps_nothing u load None k counter none;
+    walks_are = same;
   }
 
   pub keeps_new : (load : Result (Option SplitLoad) Error) (read lines : Option (Result CountedLines Error))
       (k : KeptFunctions) → lines ≡ read → RunsForRanges counter u ranges read 0 runs → load ≡ load_of u
-      → k ≡ nothing_kept → KeepsParses u load None lines runs k counter
-  keeps_new load read lines k same run is none =
-      let P : Option (Result CountedLines Error) → Type 0 = λ l. KeepsParses u load None l runs k counter in
-      subst P (sym same) (keeps_root load read k run is none)
+      → k ≡ nothing_kept → walks ≡ counter → KeepsParses u load None lines runs k counter walks
+  keeps_new load read lines k same run is none named =
+      let P : Option (Result CountedLines Error) → Type 0 = λ l. KeepsParses u load None l runs k counter walks in
+      subst P (sym same) (keeps_root load read k run is none named)
 
   ranges_run : (read : Option (Result CountedLines Error)) → RunsForRanges counter u ranges read 0 runs
       → is_some read ≡ true → ranges ≡ ranges_of_lines (lines_of_unit u)
@@ -101,14 +104,14 @@ ok_lines r = Ok r
 
 -- what is kept after a run
 pub keeps_run : (u : UnitInFile) (load : Result (Option SplitLoad) Error) (first : Option FirstAnswer)
-    (old new : Option (Result CountedLines Error)) (runs later : ℕ) (k : KeptFunctions) (counter : ℕ)
+    (old new : Option (Result CountedLines Error)) (runs later : ℕ) (k : KeptFunctions) (counter walks : ℕ)
     (result : Result (Unit {0}) Error) (read : Result CountedLines Error)
-    → KeepsParses u load first old runs k counter → is_some old ≡ false
+    → KeepsParses u load first old runs k counter walks → is_some old ≡ false
     → ok_lines (counted_lines counter (lines_of_unit u)) ≡ ok_lines read
     → later ≡ runs + runs_for_lines u.facts
     → OnOk result (new ≡ Some read) → OnErr result (read ≡ Err Memory) → read ≢ Err Memory
-    → KeepsParses u load first new later k counter
-keeps_run u load first old new runs later k counter result read before nothing found counted ok err not =
+    → KeepsParses u load first new later k counter walks
+keeps_run u load first old new runs later k counter walks result read before nothing found counted ok err not =
     let lines : read ≡ counted_lines counter (lines_of_unit u) = cc in
     let kept : new ≡ Some read = kept_answer result read new ok err not in
     let none : runs ≡ 0 = before.runs_are ∙ ap (runs_if_kept u.facts) nothing in
@@ -119,4 +122,5 @@ keeps_run u load first old new runs later k counter result read before nothing f
           from_none later (runs_for_lines u.facts) (counted ∙ ap (λ n. n + runs_for_lines u.facts) none)
           ∙ sym (ap (λ o. runs_if_kept u.facts (is_some o)) kept);
       functions_are = before.functions_are;
+      walks_are = before.walks_are;
     }

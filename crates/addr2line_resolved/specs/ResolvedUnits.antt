@@ -153,14 +153,15 @@ pub record KeepsFunctions (u : UnitInFile) (load : Result (Option SplitLoad) Err
   pub are_counted : AreCountedBy counter k
 
 -- What is kept of a unit is its load, its lines with this counter, for which its program was run
--- once, and its functions with the same counter.
+-- once, and its functions with the same counter; counters of walks over its lines have that name.
 pub record KeepsParses (u : UnitInFile) (load : Result (Option SplitLoad) Error)
     (first : Option FirstAnswer) (lines : Option (Result CountedLines Error)) (runs : ℕ)
-    (functions : KeptFunctions) (counter : ℕ) : Type 0 where
+    (functions : KeptFunctions) (counter walks : ℕ) : Type 0 where
   pub load_is : load ≡ load_of u
   pub lines_are : IsKeptOf (counted_lines counter (lines_of_unit u)) lines
   pub runs_are : runs ≡ runs_if_kept u.facts (is_some lines)
   pub functions_are : KeepsFunctions u load first functions counter
+  pub walks_are : walks ≡ counter
 
 -- ---- places
 

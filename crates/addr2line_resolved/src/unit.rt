@@ -1,6 +1,6 @@
 //! A unit of a context, and what was read of it.
 
-ghost use Rattle.std.specs.Prelude.{◌≡◌, ◌≢◌, ◌<◌, true, length, Some, None, Ok, Err, IfSome, IfOk, OnOk, OnErr, IfErr, option_map, option_and_then, is_some};
+ghost use Rattle.std.specs.Prelude.{◌≡◌, ◌≢◌, ◌<◌, ◌∷◌, ℕ, [], true, length, Some, None, Ok, Err, IfSome, MatchOption, IfOk, OnOk, OnErr, IfErr, option_map, option_and_then, is_some};
 ghost use Rattle.addr2line_kept.specs.Calls.{Returns, ReturnsAs, ReturnsAsOrNoMemory, ReturnsOrNoMemory};
 ghost use Rattle.addr2line_kept.specs.Error.TheVariants.{Memory};
 ghost use Rattle.addr2line_kept.specs.Results.{and_then};
@@ -11,16 +11,19 @@ ghost use Rattle.addr2line_kept.specs.ArangeIndexes.{IsIndexOf};
 ghost use Rattle.addr2line_kept.specs.LastPrograms.{HasHeaderInFile};
 ghost use Rattle.addr2line_kept.specs.LastRanges.{AreLastOf, AreLastFor};
 ghost use Rattle.addr2line_kept.specs.LineIndexes.{counted_lines};
+ghost use Rattle.addr2line_kept.specs.LineCursors.{lines_left};
+ghost use Rattle.addr2line_kept.specs.Lines.{lines_between};
+ghost use Rattle.addr2line_kept.specs.Stretches.{stretch_of_row};
 ghost use Rattle.addr2line_kept.specs.RootRanges.{RunsForRanges, unit_with};
 ghost use Rattle.addr2line_kept.specs.Searches.{AtMostProbes};
 ghost use Rattle.addr2line_kept.specs.KeptFunctions.{kept_at, plain_functions, plain_calls, count_of_functions, number_in, number_probes, function_at_number, FindsChain, kept_chain_probes, frames_by_numbers};
 ghost use Rattle.addr2line_resolved.specs.ResolvedUnits.{HasRoot, main_unit, pending_load, decided, first_answer, answer_or_none, unit_of_functions, functions_of, calls_of_number, if_kept, runs_if_kept, row_or_refusal, row_in_kept, lines_probes, kept_probes, location_of_row, with_functions, with_calls, with_probes, with_chain, with_unit_answer, without_answer, new_unit, KeepsLines, KeepsNoFunctions, RunsForRangesAlone};
 
 use addr2line_kept::{
-    ArangeIndex, DebugFile, DebuggingInformationEntry, DwLang, Error, FrameIter, FunctionCalls,
-    Functions, HasUnit, HoldingUnit, Kept, KeptLoad, LastRanges, LineIndex, LineRow, Location,
-    Names, OwnedUnit, Probes, Range, Reader, Runs, SplitDwarfLoad, Unit, UnitFunctions, UnitLines,
-    UnitRoot, calls_of_function, functions_of_unit,
+    ArangeIndex, Counters, DebugFile, DebuggingInformationEntry, DwLang, Error, FrameIter,
+    FunctionCalls, Functions, HasUnit, HoldingUnit, Kept, KeptLoad, LastRanges, LineCursor,
+    LineIndex, LineRow, Location, Names, OwnedUnit, Probes, Range, Reader, RowStretch, Runs,
+    SplitDwarfLoad, Unit, UnitFunctions, UnitLines, UnitRoot, calls_of_function, functions_of_unit,
 };
 use std::alloc::Global;
 use std::marker::Model;
@@ -43,6 +46,8 @@ pub struct ResUnit<R: Reader> {
     functions: UnitFunctions<R>,
     /// Looks at what is kept.
     probes: Probes,
+    /// The maker of counters of walks over the lines.
+    walks: Counters,
     /// The numbers of the calls that were found last, the outermost first.
     chain: Vec<usize>,
 }
@@ -59,6 +64,7 @@ impl<R: Reader> Drop for ResUnit<R> {
             runs: _,
             functions: _,
             probes: _,
+            walks: _,
             chain: _,
         } = self;
     }
@@ -91,7 +97,7 @@ impl<R: Reader> Model for ResUnit<R> {
     } };
 
     ghost invariant = { λ u.
-        KeepsParses u.main u.load u.first u.lines u.runs u.functions u.probes.name };
+        KeepsParses u.main u.load u.first u.lines u.runs u.functions u.probes.name u.walks };
 }
 
 // The row of an address in lines, or the refusal of them; none where they aren't kept.
@@ -174,20 +180,24 @@ impl<R: Reader> ResUnit<R> {
     {
         let mut runs = Runs::new();
         let probes = last.counter();
+        let walks = last.counters();
         let unit = main.unit_ref();
         let root = UnitRoot::read(alloc, &unit, entry, aranges, last, &mut runs, &probes)?;
-        ResUnit::of_root(alloc, main, root, runs, probes)
+        ResUnit::of_root(alloc, main, root, runs, probes, walks)
     }
 
-    // The unit with what its root says, what was run for that, and the counter of looks at it.
+    // The unit with what its root says, what was run for that, the counter of looks at it, and the
+    // maker of counters of walks.
     fn of_root(
         alloc: Global,
         main: OwnedUnit<R>,
         root: UnitRoot,
         runs: Runs,
         probes: Probes,
+        walks: Counters,
     ) -> Result<Self, Error>
-        requires { RunsForRanges probes.name main root.ranges root.lines 0 runs }
+        requires runs { RunsForRanges probes.name main root.ranges root.lines 0 runs }
+        requires walks { walks ≡ probes.name }
         ensures unit { ReturnsAsOrNoMemory (λ u. u.value) result
             (Ok (without_answer main.file (unit_with main root))) }
         ensures lines { IfOk result RunsForRangesAlone }
@@ -210,6 +220,7 @@ impl<R: Reader> ResUnit<R> {
             runs,
             functions: UnitFunctions::not_read(alloc),
             probes,
+            walks,
             chain: Vec::new(alloc),
         })
     }
@@ -285,6 +296,35 @@ impl<R: Reader> ResUnit<R> {
     {
         self.read_lines(alloc)?; // a refusal is kept too
         row_in_kept(&self.lines, probe, &mut self.probes)
+    }
+
+    /// Where a walk over the rows of the lines, which are kept, from a low end on begins. It is a
+    /// search, which isn't counted as a look of a lookup.
+    pub fn cursor_from(&self, lines: &LineIndex, low: u64) -> LineCursor
+        requires { lines.now.counter ≡ self.now.probes.name }
+        ensures { (high : ℕ) → lines_left lines.now.lines low high result
+            ≡ lines_between lines.now.lines low high }
+    {
+        let mut walk = self.walks.counter();
+        lines.cursor_from(low, &mut walk)
+    }
+
+    /// The next row of such a walk between two ends, and how far it came with it.
+    pub fn next_between(
+        &self,
+        lines: &LineIndex,
+        cursor: LineCursor,
+        low: u64,
+        high: u64,
+    ) -> Option<(RowStretch, LineCursor)>
+        requires { lines.now.counter ≡ self.now.probes.name }
+        ensures { MatchOption result (lines_left lines.now.lines low high cursor ≡ [])
+            (λ f. lines_left lines.now.lines low high cursor
+            ≡ stretch_of_row lines.now.lines.files f.0
+            ∷ lines_left lines.now.lines low high f.1) }
+    {
+        let mut walk = self.walks.counter();
+        lines.next_between(cursor, low, high, &mut walk)
     }
 
     /// The place of a row in the lines that are kept, unless they are refused. Nothing is searched.

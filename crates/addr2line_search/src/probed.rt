@@ -63,6 +63,15 @@ impl Counters {
         }
     }
 
+    /// The same maker once more.
+    pub fn share(&self) -> Self
+        ensures { result ≡ self.now }
+    {
+        Counters {
+            mark: Tally::named(&self.mark).mark(),
+        }
+    }
+
     /// A counter at 0.
     pub fn counter(&self) -> Probes
         ensures { result ≡ record { name = self.now; count = 0 } }

@@ -14,12 +14,13 @@ pub use addr2line_resolved::{
     DebugAbbrev, DebugAbbrevOffset, DebugAddr, DebugAddrIndex, DebugAranges, DebugInfo, DebugLine,
     DebugLineStr, DebugLineStrOffset, DebugRanges, DebugRngLists, DebugRngListsIndex, DebugStr,
     DebugStrOffset, DebugStrOffsets, DebugStrOffsetsIndex, DwLang, Dwarf, DwarfFileType, DwoId,
-    EndianBytes, EndianSlice, Error, Format, Frame, FrameIter, FunctionName, LineCursor, Lines,
-    LinesBuilder, LittleEndian, Location, LocationLists, Range, RangeLists, RangeListsOffset,
-    RangePlace, RawRangeListsOffset, Reader, ReaderOffsetId, ResUnit, RowStretch, RunTimeEndian,
-    Runs, SectionId, SplitDwarfLoad, Unit, UnitLines, UnitOffset, UnitRange, UnitRanges, UnitRef,
-    UnitRoot, file_text, file_text_of_bytes, frame_without_function, is_rooted, join, language_of,
-    ordered_ranges, ranges_of_attributes, units_of_file, units_of_supplement,
+    EndianBytes, EndianSlice, Error, Format, Frame, FrameIter, FunctionName, LineCursor, LineIndex,
+    Lines, LinesBuilder, LittleEndian, Location, LocationLists, Range, RangeLists,
+    RangeListsOffset, RangePlace, RawRangeListsOffset, Reader, ReaderOffsetId, ResUnit, RowStretch,
+    RunTimeEndian, Runs, SectionId, SplitDwarfLoad, Unit, UnitLines, UnitOffset, UnitRange,
+    UnitRanges, UnitRef, UnitRoot, file_text, file_text_of_bytes, frame_without_function,
+    is_rooted, join, language_of, ordered_ranges, ranges_of_attributes, units_of_file,
+    units_of_supplement,
 };
 pub use covering::next_covering;
 pub use frame_place::{FramePlace, find_frames_at, frames_at_place};

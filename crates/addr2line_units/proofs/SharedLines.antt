@@ -19,7 +19,7 @@ use Rattle.addr2line_ranges.specs.FileTexts.{bytes_of, text_bytes, text_bytes_if
 use Rattle.addr2line_ranges.specs.UnitLines.{program_row, run_of_program, fault_of_program, with_defined_files, lines_of_program, lines_if_any, lines_of_unit}
 use Rattle.addr2line_ranges.specs.UnitRanges.{ranges_of_lines}
 use Rattle.addr2line_units.specs.LastPrograms.{UnitTexts, ProgramRun, LastProgram, program_key, unit_texts, HasHeaderInFile, IsProgramOf, IsLastProgramOf, IsLastProgramFor, SharesLines}
-use Rattle.addr2line_units.specs.RootRanges.{RunsForRanges, ranges_of_counted}
+use Rattle.addr2line_units.specs.RootRanges.{RunsForRanges}
 use Rattle.addr2line_units.proofs.HeaderUnits.{with_unit}
 use Rattle.addr2line_units.proofs.SharedPrograms.{with_texts, same_text, same_directory, same_of_units, same_ranges}
 
@@ -121,17 +121,11 @@ same_lines file a b a_in b_in keys texts =
 
 -- ---- the last program
 
--- the ranges of lines as they are kept are the lines' ranges
-pub counted_ranges : (counter : ℕ) (lines : Result Lines Error)
-    → ranges_of_counted (counted_lines counter lines) ≡ ranges_of_lines lines
-counted_ranges counter (Ok l) = refl
-counted_ranges counter (Err e) = refl
-
 -- it is the last program of a file once it was run for a unit of it
 pub program_kept : (u : UnitInFile) (counter : ℕ) (last new : LastProgram) (p : ProgramRun) (ranges : List Range)
     (lines : Result CountedLines Error) → new ≡ record last { program = Some p } → counter ≡ last.counter
     → p ≡ record { key = program_key u.facts; texts = unit_texts u.facts; ranges = ranges; lines = lines }
-    → ranges ≡ ranges_of_counted lines → lines ≡ counted_lines counter (lines_of_unit u) → HasHeaderInFile u
+    → ranges ≡ ranges_of_lines (lines_of_unit u) → lines ≡ counted_lines counter (lines_of_unit u) → HasHeaderInFile u
     → IsLastProgramOf u.file new
 program_kept u counter last new p ranges lines is name made ranges_are lines_are header =
     let lines_of : p.lines ≡ counted_lines counter (lines_of_unit u) =
@@ -141,9 +135,7 @@ program_kept u counter last new p ranges lines is name made ranges_are lines_are
       header_in_file = header;
       has_key = ap (λ (q : ProgramRun). q.key) made;
       has_texts = ap (λ (q : ProgramRun). q.texts) made;
-      has_ranges =
-          ap (λ (q : ProgramRun). q.ranges) made ∙ ranges_are ∙ ap ranges_of_counted lines_are
-          ∙ counted_ranges counter (lines_of_unit u);
+      has_ranges = ap (λ (q : ProgramRun). q.ranges) made ∙ ranges_are;
       has_lines = subst (λ (n : ℕ). p.lines ≡ counted_lines n (lines_of_unit u)) name lines_of;
     } in
     subst (IsLastProgramOf u.file) (sym is) program

@@ -1,5 +1,5 @@
 -- What a unit's root says of lookups, and the lines that were read for it.
-use Rattle.std.specs.Prelude.{◌≡◌, ℕ, ◌+◌, List, [], Option, Some, None, Result, Ok, Err}
+use Rattle.std.specs.Prelude.{◌≡◌, ℕ, ◌+◌, List, [], Option, Some, None, Result}
 use Rattle.addr2line_ranges.specs.Error.{Error}
 use Rattle.addr2line_ranges.specs.Range.{Range}
 use Rattle.addr2line_ranges.specs.UnitFacts.{UnitInFile}
@@ -8,11 +8,6 @@ use Rattle.addr2line_ranges.specs.UnitLines.{lines_of_unit}
 use Rattle.addr2line_ranges.specs.UnitRanges.{ranges_of_lines}
 use Rattle.addr2line_ranges.specs.Contexts.{ContextUnit}
 use Rattle.addr2line_lines.specs.CountedRuns.{runs_for_lines}
-
--- the ranges of lines as they are kept; none where they are refused
-abbrev pub ranges_of_counted : Result CountedLines Error → List Range
-ranges_of_counted (Ok l) = ranges_of_lines (Ok l.lines)
-ranges_of_counted (Err e) = []
 
 -- ranges, and the lines of the unit where its program was run for them
 pub record RootRanges : Type 0 where

@@ -158,6 +158,13 @@ impl<R: Reader> LastProgram<R> {
         }
     }
 
+    /// The maker of counters of looks at the lines of a unit.
+    pub fn counters(&self) -> Counters
+        ensures { result ≡ self.now.counter }
+    {
+        self.counters.share()
+    }
+
     /// A counter of looks at the lines of a unit.
     pub fn counter(&self) -> Probes
         ensures { result ≡ record { name = self.now.counter; count = 0 } }

@@ -6,7 +6,7 @@ ghost use Rattle.addr2line_ranges.specs.UnitFacts.{UnitInFile};
 ghost use Rattle.addr2line_units.specs.LastRanges.{AreLastOf, AreLastFor, counter_of};
 
 use crate::last_program::LastProgram;
-use addr2line_ranges::{LastList, Probes, Reader};
+use addr2line_ranges::{Counters, LastList, Probes, Reader};
 use std::marker::Model;
 
 /// The ranges of a file that were read last, of a range list and of a line number program. A unit
@@ -43,6 +43,13 @@ impl<R: Reader> LastRanges<R> {
             list: LastList::new(),
             program: LastProgram::new(),
         }
+    }
+
+    /// The maker of counters of walks over the lines of a unit, which have the same name.
+    pub fn counters(&self) -> Counters
+        ensures { result ≡ counter_of self.now }
+    {
+        self.program.counters()
     }
 
     /// A counter of looks at what is kept of a unit. All units that may share what was read last

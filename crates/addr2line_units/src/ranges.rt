@@ -1,48 +1,26 @@
 //! The ranges that a unit covers (DWARF 5, 2.17 and 3.1.1).
 
-ghost use Rattle.std.specs.Prelude.{◌≡◌, ◌+◌, Ok, OnOk, IfOk, map};
+ghost use Rattle.std.specs.Prelude.{◌≡◌, ◌+◌, Ok, OnOk, IfOk};
 ghost use Rattle.addr2line_ranges.specs.Calls.{ReturnsAsOrNoMemory, ReturnsOrNoMemory};
 ghost use Rattle.addr2line_ranges.specs.EntryViews.{raw_attributes};
-ghost use Rattle.addr2line_ranges.specs.Lines.{range_of};
 ghost use Rattle.addr2line_ranges.specs.UnitRanges.{or_else, ranges_of_lines, ranges_of_attributes};
 ghost use Rattle.addr2line_ranges.specs.UnitLines.{lines_of_unit};
 ghost use Rattle.addr2line_ranges.specs.ArangeIndexes.{IsIndexOf};
 ghost use Rattle.addr2line_lines.specs.CountedRuns.{runs_for_lines};
 ghost use Rattle.addr2line_units.specs.LastPrograms.{HasHeaderInFile, IsLastProgramOf, IsLastProgramFor};
 ghost use Rattle.addr2line_units.specs.LastRanges.{AreLastOf, AreLastFor, counter_of};
-ghost use Rattle.addr2line_units.specs.RootRanges.{ranges_of_counted, ranges_by_run, RunsForRanges};
+ghost use Rattle.addr2line_units.specs.RootRanges.{ranges_by_run, RunsForRanges};
 
 use crate::last_program::{LastProgram, ProgramRun};
 use crate::last_ranges::LastRanges;
-use addr2line_lines::{Runs, UnitLines};
+use addr2line_lines::{LinesWithRanges, Runs, UnitLines};
 use addr2line_ranges::{
-    ArangeIndex, Attribute, Error, LineIndex, LineSequence, Probes, Range, Reader, UnitRef,
-    declared_ranges, facts_of, share,
+    ArangeIndex, Attribute, Error, LineIndex, Probes, Range, Reader, UnitRef, declared_ranges,
+    facts_of, share,
 };
 use std::alloc::Global;
 use std::marker::Model;
 use std::rc::Rc;
-
-// The ranges of sequences.
-fn ranges_of_sequences(alloc: Global, sequences: &[LineSequence]) -> Result<Vec<Range>, Error>
-    ensures { ReturnsAsOrNoMemory (λ v. v.items) result (Ok (map range_of sequences.now)) }
-{
-    let mut ranges = Vec::new(alloc);
-    for sequence in sequences {
-        ranges.push(sequence.range())?;
-    }
-    Ok(ranges)
-}
-
-// Those of lines. Refused lines have none.
-fn ranges_of_lines(alloc: Global, lines: &Result<LineIndex, Error>) -> Result<Vec<Range>, Error>
-    ensures { ReturnsAsOrNoMemory (λ v. v.items) result (Ok (ranges_of_counted lines.now)) }
-{
-    match lines {
-        Ok(lines) => ranges_of_sequences(alloc, lines.lines().sequences()),
-        Err(_) => Ok(Vec::new(alloc)),
-    }
-}
 
 /// The ranges of a unit, and its lines, or why they can't be read, where its line number program
 /// was run for the ranges, for this unit or for one before it whose lines are the same.
@@ -74,8 +52,9 @@ fn ranges_by_run<R: Reader>(
     ensures counted { OnOk result (runs.new ≡ runs.old + runs_for_lines unit.now.facts) }
     ensures last { HasHeaderInFile unit.now → IsLastProgramOf unit.now.file last.new }
 {
-    let lines = UnitLines::run_to_index(alloc, unit, runs, probes)?;
-    let ranges = Rc::new(alloc, ranges_of_lines(alloc, &lines)?)?;
+    let indexed = UnitLines::run_for_ranges(alloc, unit, runs, probes)?;
+    let LinesWithRanges { ranges, lines } = indexed;
+    let ranges = Rc::new(alloc, ranges)?;
     last.keep(ProgramRun::new(unit, &ranges, &lines)?);
     Ok(RootRanges {
         ranges,

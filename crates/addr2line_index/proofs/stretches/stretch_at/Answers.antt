@@ -1,18 +1,23 @@
-use Rattle.std.proofs.Common.{◌≡◌, ℕ, ◌+◌, ◌∷◌, List, Some, drop, subst, ap}
-use Rattle.addr2line_spec.specs.Lines.{LineRow, Sequence}
-use Rattle.addr2line_index.specs.Stretches.{stretch_of_row, stretches_below}
-use Rattle.addr2line_index.proofs.StretchLemmas.{first_from}
+use Rattle.std.proofs.Common.{◌<◌, ◌≤◌, ◌-◌, ◌∙◌, ℕ, ap, subst}
+use Rattle.addr2line_spec.specs.Lines.{LineRow}
+use Rattle.addr2line_index.specs.declared.stretches.RowStretch.{RowStretch}
+use Rattle.addr2line_index.proofs.StretchLemmas.{none_below, first_below}
 use Rattle.addr2line_index.proofs.stretches.stretch_at.Goals as goal
 
-pub returns-in-Some : goal.returns-in-Some
-returns-in-Some c files =
-    let high = c.args.high in
-    let n = c.args.number in
-    let s = c.in-Some.stretch in
-    let left = λ (end : ℕ) (rows : List LineRow) (k : ℕ). stretches_below files end high (drop k rows) in
-    let sequence = c.args.sequence.now in
-    subst (λ (end : ℕ). left end sequence.rows n ≡ stretch_of_row files s ∷ left end sequence.rows (n + 1))
-    (ap (λ (x : Sequence). x.end) c.sequence.view_is)
-    (subst (λ (rows : List LineRow). left c.sequence.inside.end rows n
-    ≡ stretch_of_row files s ∷ left c.sequence.inside.end rows (n + 1)) c.rows-rows.ensures
-    (first_from files c.sequence.inside.end high n c.rows-rows.result.now (Some s) (c.in-Some.ensures files)))
+pub returns-then-address-high-clause-stretch : goal.returns-then-address-high-clause-stretch
+returns-then-address-high-clause-stretch c = λ files.
+    let s = c.args.sequence.now.sequence in
+    none_below files s.end c.args.high c.args.index s.rows c.at-row.result c.at-row.ensures.row
+    (subst (λ (r : LineRow). c.args.high ≤ r.address) c.row.view_is c.if-address-high.true)
+
+pub returns-clause-stretch : goal.returns-clause-stretch
+returns-clause-stretch c = λ files.
+    let s = c.args.sequence.now.sequence in
+    let r = c.at-row.result in
+    let next = c.next_address-next.result in
+    let made : ℕ → ℕ → RowStretch = λ a n. record { address = a; length = n; row = r } in
+    first_below files s.end c.args.high c.args.index next s.rows r _ c.at-row.ensures.row
+    (subst (λ (x : LineRow). x.address < c.args.high) c.row.view_is c.if-address-high.false)
+    c.next_address-next.ensures.address
+    (ap (made c.row.inside.address) c.saturating_sub.ensures
+    ∙ ap (λ (x : LineRow). made x.address (next - x.address)) c.row.view_is)

@@ -1,26 +1,8 @@
-use Rattle.std.proofs.Common.{◌≡◌, ◌∙◌, ap, length, nat_le, arith}
-use Rattle.std.specs.List.{prefix_len}
-use Rattle.addr2line_spec.specs.Lines.{rows_to}
-use Rattle.addr2line_search.specs.Searches.{digit_count}
-use Rattle.addr2line_index.proofs.RowIndexLemmas.{greatest_parted, greatest_count, greatest_length}
+use Rattle.std.proofs.Common.{subst}
+use Rattle.addr2line_index.specs.SearchedRows.{IsSearched}
+use Rattle.addr2line_index.proofs.RowIndexLemmas.{ascend_parted}
 use Rattle.addr2line_index.proofs.row_index.RowIndex.count_to.Goals as goal
 
 pub count_up_to-requires-clause-sorted : goal.count_up_to-requires-clause-sorted
 count_up_to-requires-clause-sorted c =
-    greatest_parted c.args.address c.self.inside.greatest.entries c.self.inside.rows.value.items c.self.invariant
-
-pub returns-clause-count : goal.returns-clause-count
-returns-clause-count c =
-    let a = c.args.address in
-    c.count_up_to.ensures.count
-    ∙ ap (prefix_len (λ n. nat_le n a)) c.self.invariant
-    ∙ greatest_count a 0 c.self.inside.rows.value.items (omega arith)
-    ∙ ap (λ l. rows_to a l.entries) c.self.view_is
-
-pub returns-clause-cost : goal.returns-clause-cost
-returns-clause-cost c =
-    let many : length c.self.inside.greatest.entries ≡ length c.args.self.now.entries =
-    ap length c.self.invariant ∙ greatest_length 0 c.self.inside.rows.value.items
-    ∙ ap (λ l. length l.entries) c.self.view_is in
-    let digits = ap digit_count many in
-    (c.count_up_to.ensures.cost.0, omega arith)
+    ascend_parted c.args.address c.in-Ascending.rows.entries (subst IsSearched c.in-Ascending.is c.self.invariant)

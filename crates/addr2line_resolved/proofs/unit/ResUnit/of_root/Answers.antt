@@ -15,15 +15,15 @@ invariant_of-result g c =
     let u = c.args.main in
     let root = c.root.inside in
     let counter = c.args.probes.name in
-    keeps_new u root.ranges.value.items c.args.runs counter c.in_ok-load.load root.lines c.in_ok-lines.lines
+    keeps_new u root.ranges.value.items c.args.runs counter c.args.walks c.in_ok-load.load root.lines c.in_ok-lines.lines
     c.not_read.result c.in_ok-lines.ensures.ok
-    (subst (λ (r : RootFacts). RunsForRanges counter u r.ranges r.lines 0 c.args.runs) (sym c.root.view_is) c.requires)
-    (load_made c.in_ok-load.load (load_of u) c.in_ok-load.ensures) c.not_read.ensures
+    (subst (λ (r : RootFacts). RunsForRanges counter u r.ranges r.lines 0 c.args.runs) (sym c.root.view_is) c.requires.runs)
+    (load_made c.in_ok-load.load (load_of u) c.in_ok-load.ensures) c.not_read.ensures c.requires.walks
 
 pub returns-clause-lines : goal.returns-clause-lines
 returns-clause-lines g c =
     let u = c.args.main in
     let root = c.root.inside in
     let counter = c.args.probes.name in
-    ranges_new u root.ranges.value.items c.args.runs counter root.lines c.in_ok-lines.lines c.in_ok-lines.ensures.ok
-    (subst (λ (r : RootFacts). RunsForRanges counter u r.ranges r.lines 0 c.args.runs) (sym c.root.view_is) c.requires)
+    ranges_new u root.ranges.value.items c.args.runs counter c.args.walks root.lines c.in_ok-lines.lines c.in_ok-lines.ensures.ok
+    (subst (λ (r : RootFacts). RunsForRanges counter u r.ranges r.lines 0 c.args.runs) (sym c.root.view_is) c.requires.runs)

@@ -10,7 +10,7 @@ pub invariant_of-self-2 : goal.invariant_of-self-2
 invariant_of-self-2 g c =
     let counter = c.self.inside.probes.name in
     keeps_run c.self.inside.main c.self.inside.load c.self.inside.first c.self.inside.lines c.keep.new.self
-    c.self.inside.runs c.run_to_index.new.runs c.self.inside.functions counter c.keep.result c.in_ok-lines.lines
+    c.self.inside.runs c.run_to_index.new.runs c.self.inside.functions counter c.self.inside.walks c.keep.result c.in_ok-lines.lines
     c.self.invariant
     (sym c.is_read.ensures ∙ c.if-is_read.false)
     (subst (λ (u : UnitInFile). ok_lines (counted_lines counter (lines_of_unit u)) ≡ ok_lines c.in_ok-lines.lines)
