@@ -1,5 +1,5 @@
 -- Files of the file system: their paths, and what a read of one says.
-use Rattle.std.specs.Prelude.{◌≡◌, ◌⊎◌, ℕ, List, Option, Some, None, option_map, option_and_then, Result, Ok, Err, IfErr, if◌then◌else◌}
+use Rattle.std.specs.Prelude.{◌≡◌, ◌⊎◌, ℕ, Bool, true, false, List, Option, Some, None, option_map, option_and_then, Result, Ok, Err, IfErr, if◌then◌else◌}
 use Rattle.std.specs.Str.{is_utf8}
 use Rattle.std.specs.Path.{path_join}
 use Rattle.std.specs.declared.io.ErrorKind.{ErrorKind}
@@ -23,12 +23,46 @@ abbrev pub read_refusal : ErrorKind → LoadError
 read_refusal OutOfMemory = Memory
 read_refusal kind = Io
 
+-- out of memory, or a file that can't be read
+abbrev pub IsReadRefusal : LoadError → Type 0
+IsReadRefusal e = (e ≡ Memory) ⊎ (e ≡ Io)
+
 -- what reading a file gives: bytes, of which nothing is known here, or one of these refusals
 abbrev pub IsRead : Result (List ℕ) LoadError → Type 0
-IsRead read = IfErr read (λ e. (e ≡ Memory) ⊎ (e ≡ Io))
+IsRead read = IfErr read IsReadRefusal
 
 -- what was read, if it can be read
 abbrev pub if_readable : {A : Type 0} → Result A LoadError → Result (Option A) Error
 if_readable (Ok x) = Ok (Some x)
 if_readable (Err Memory) = Err debug.Memory
 if_readable (Err e) = Ok None
+
+-- ---- files of a file system, by what it answers
+
+module _ (answers_kind : List ℕ → Result Bool LoadError → Type 0)
+    (answers_bytes : List ℕ → Result (List ℕ) LoadError → Type 0) where
+  -- what is read where a path leads to a regular file, to another one, or nowhere
+  abbrev pub ReadsIfRegular : List ℕ → Result Bool LoadError → Result (List ℕ) LoadError → Type 0
+  ReadsIfRegular path (Ok true) read = answers_bytes path read
+  ReadsIfRegular path (Ok false) read = read ≡ Err Io
+  ReadsIfRegular path (Err e) read = read ≡ Err e
+
+  -- A file is read if it is regular; else it can't be read.
+  abbrev pub ReadsRegularFile : List ℕ → Result (List ℕ) LoadError → Type 0
+  ReadsRegularFile path read =
+      (is_regular : Result Bool LoadError)
+      × answers_kind path is_regular
+      × ReadsIfRegular path is_regular read
+
+  -- What a source has for a name that counts from a directory: the file of the path that both make,
+  -- if it is regular and can be read; none where they make no path. Or out of memory.
+  abbrev pub GetsFileOf : Option (List ℕ) → Result (Option (List ℕ)) Error → Type 0
+  GetsFileOf None result = result ≡ Ok None
+  GetsFileOf (Some path) result =
+      (read : Result (List ℕ) LoadError)
+      × ReadsRegularFile path read
+      × (result ≡ if_readable read)
+
+  abbrev pub GetsPath : List ℕ → List ℕ → Result (Option (List ℕ)) Error → Type 0
+  GetsPath directory name result =
+      (result ≡ Err debug.Memory) ⊎ GetsFileOf (path_in directory name) result

@@ -1,5 +1,6 @@
 -- What a load gets from what a source answers (DWARF 5, 7.3.2).
-use Rattle.std.specs.Prelude.{◌≡◌, ℕ, ◌==◌, Bool, false, List, [], Option, Some, None, Result, Ok, Err, if◌then◌else◌}
+use Rattle.std.specs.Prelude.{◌≡◌, ℕ, ◌==◌, Bool, false, List, [], Option, Some, None, option_and_then, Result, Ok, Err, if◌then◌else◌}
+use Rattle.std.specs.Result.{result_ok}
 use Rattle.addr2line_kept.specs.Error.{Error}
 use Rattle.addr2line_kept.specs.View.{View}
 use Rattle.addr2line_kept.specs.Results.{and_then, ◌>>=◌}
@@ -13,14 +14,7 @@ use Rattle.addr2line_elf.specs.declared.error.LoadError.{LoadError}
 use Rattle.addr2line_elf.specs.ElfImages.{image_of}
 use Rattle.addr2line_split.specs.ImageFiles.{dwo_file}
 
--- ---- a split file
-
--- the split file of a main file that some bytes are, which are an ELF file
-abbrev pub split_file : DwarfFile → List ℕ → Result DwarfFile LoadError
-split_file parent bytes = do
-  image ← image_of bytes
-  file ← dwo_file image
-  Ok (split_from parent file)
+-- ---- the first unit of a split file, as the file says it by itself
 
 -- the identifier of a unit that may be there, or the unit's refusal
 abbrev pub dwo_id_of : DwarfFile → Option DebugUnit → Result (Option ℕ) Error
@@ -43,15 +37,20 @@ is_id id (Err e) = false
 
 -- ---- the file of a load
 
--- a file, if it can be read and its first unit has the load's identifier
-abbrev pub if_of_load : SplitLoad → Result DwarfFile LoadError → Option DwarfFile
-if_of_load load (Ok file) = if is_id load.dwo_id (first_dwo_id file) then Some file else None
-if_of_load load (Err e) = None
+-- the sections of a split file that some bytes are, which are an ELF file
+abbrev pub sections_in : List ℕ → Result DwarfFile LoadError
+sections_in bytes = and_then (image_of bytes) dwo_file
+
+-- A file whose first unit has the load's identifier, with what only the main file has. That unit is
+-- read without it: what needs the main file's addresses is refused there.
+abbrev pub if_of_load : SplitLoad → DwarfFile → Option DwarfFile
+if_of_load load file =
+    if is_id load.dwo_id (first_dwo_id file) then Some (split_from load.parent file) else None
 
 -- the file that a source's answer is to a load
 abbrev pub file_for : SplitLoad → Option (List ℕ) → Option DwarfFile
 file_for load None = None
-file_for load (Some bytes) = if_of_load load (split_file load.parent bytes)
+file_for load (Some bytes) = option_and_then (if_of_load load) (result_ok (sections_in bytes))
 
 -- ---- loads, by what a source answers
 

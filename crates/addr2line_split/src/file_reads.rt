@@ -1,8 +1,10 @@
 //! Files, read whole.
 
-ghost use Rattle.std.specs.Prelude.{◌≡◌};
+ghost use Rattle.std.specs.Prelude.{◌≡◌, ℕ, Bool, List, Result, IfErr};
 ghost use Rattle.std.specs.IoError.{error_kind};
-ghost use Rattle.addr2line_split.specs.FileReads.{IsRead, read_refusal, if_readable};
+ghost use Rattle.std.specs.Path.{path_bytes};
+ghost use Rattle.addr2line_elf.specs.declared.error.LoadError.{LoadError};
+ghost use Rattle.addr2line_split.specs.FileReads.{IsRead, IsReadRefusal, ReadsRegularFile, read_refusal, if_readable};
 
 use addr2line_elf::LoadError;
 use addr2line_kept::Error;
@@ -10,7 +12,7 @@ use bytes::Bytes;
 use std::fs::{self, File, OpenFile};
 use std::io;
 use std::io::{ErrorKind, Read};
-use std::path::{AsPath, PathBuf};
+use std::path::{AsPath, Path};
 use std::rt::Files;
 
 /// The bytes of a file, read once into one buffer of its size, which readers then share. Refused is
@@ -24,18 +26,57 @@ pub fn read_file<R: Files + AllocGlobal, P: AsPath>(rt: &R, path: P) -> Result<B
     }
 }
 
-// The same of a file whose name an image gives: nothing but a regular file is read, since a device
-// or a pipe may never end. All else is refused as a file that can't be read.
-pub(crate) fn read_regular_file<R: Files + AllocGlobal>(
-    rt: &R,
-    path: PathBuf,
+/// A file system: what its paths lead to, and the bytes of its files.
+pub trait FileSystem {
+    // What a call may answer, by the file system, the path and the answer.
+    ghost answers_kind: { Self → List ℕ → Result Bool LoadError → Type 0 };
+
+    ghost answers_bytes: { Self → List ℕ → Result (List ℕ) LoadError → Type 0 };
+
+    /// Whether a path leads to a regular file, which has an end; a device or a pipe may have none.
+    /// Refused are out of memory, as `Memory`, and a path that leads nowhere, as `Io`.
+    fn has_regular_file(&self, path: Path<'_>) -> Result<bool, LoadError>
+        ensures answer { answers_kind self.now (path_bytes path.entry) result }
+        ensures refusal { IfErr result IsReadRefusal };
+
+    /// The bytes of the file of a path. Refused are out of memory, as `Memory`, and a file that
+    /// can't be read, as `Io`.
+    fn read_file(&self, path: Path<'_>) -> Result<Bytes, LoadError>
+        ensures answer { answers_bytes self.now (path_bytes path.entry) result }
+        ensures refusal { IfErr result IsReadRefusal };
+}
+
+// The file system of a runtime. The toolchain says nothing of what it answers.
+impl<R: Files + AllocGlobal> FileSystem for R {
+    ghost answers_kind = { λ _ path answer. Unit {0} };
+
+    ghost answers_bytes = { λ _ path answer. Unit {0} };
+
+    fn has_regular_file(&self, path: Path<'_>) -> Result<bool, LoadError> {
+        match fs::metadata(self, path) {
+            Ok(metadata) => Ok(metadata.is_file()),
+            Err(error) => Err(refusal_of(&error)),
+        }
+    }
+
+    fn read_file(&self, path: Path<'_>) -> Result<Bytes, LoadError> {
+        read_file(self, path)
+    }
+}
+
+// The bytes of a file whose name an image gives: nothing but a regular file is read. All else is
+// refused as a file that can't be read.
+pub(crate) fn read_regular_file<F: FileSystem>(
+    files: &F,
+    path: Path<'_>,
 ) -> Result<Bytes, LoadError>
-    ensures { IsRead result }
+    ensures { ReadsRegularFile (F.answers_kind files.now) (F.answers_bytes files.now)
+        (path_bytes path.entry) result }
 {
-    match fs::metadata(rt, path.as_path()) {
-        Ok(metadata) if metadata.is_file() => read_file(rt, path),
-        Ok(_) => Err(LoadError::Io),
-        Err(error) => Err(refusal_of(&error)),
+    if files.has_regular_file(path)? {
+        files.read_file(path)
+    } else {
+        Err(LoadError::Io)
     }
 }
 

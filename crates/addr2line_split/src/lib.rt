@@ -10,7 +10,7 @@ pub mod split_file;
 
 pub use addr2line_elf::{Elf, LoadError, Symbol, Symbols};
 use addr2line_kept::{EndianBytes, RunTimeEndian};
-pub use file_reads::read_file;
+pub use file_reads::{FileSystem, read_file};
 pub use file_source::FileSource;
 pub use map_source::{MapSource, SplitFile};
 pub use sections::dwo_sections;

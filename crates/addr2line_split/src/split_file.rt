@@ -11,7 +11,7 @@ ghost use Rattle.addr2line_kept.specs.Results.{and_then};
 ghost use Rattle.gimli_dwarf_spec.specs.Splitting.{split_from};
 ghost use Rattle.addr2line_elf.specs.ImageLoading.{LoadsAsOrNoMemory};
 ghost use Rattle.addr2line_split.specs.FileReads.{if_readable};
-ghost use Rattle.addr2line_split.specs.SplitLoading.{split_file, dwo_id_of, first_dwo_id, is_id, if_of_load, file_for, directory_bytes, GetsFile};
+ghost use Rattle.addr2line_split.specs.SplitLoading.{sections_in, dwo_id_of, first_dwo_id, is_id, if_of_load, file_for, directory_bytes, GetsFile};
 
 use crate::ImageReader;
 use crate::file_reads::if_readable;
@@ -24,9 +24,10 @@ use std::alloc::Global;
 use std::rc::Rc;
 
 /// The split file that a load asks for, as a source gives it: an ELF file whose first unit has the
-/// load's identifier, with what only the main file has. None where the load has no name, where the
-/// source has no such file, and where its bytes can't be read or are another unit's. The only
-/// refusal is out of memory, also of the source; a load without a name takes none.
+/// load's identifier by what the file itself says, and then with what only the main file has. None
+/// where the load has no name, where the source has no such file, and where its bytes can't be read
+/// or are another unit's. The only refusal is out of memory, also of the source; a load without a
+/// name takes none.
 pub fn load_split<S: SplitSource>(
     alloc: Global,
     load: &SplitDwarfLoad<ImageReader>,
@@ -84,49 +85,48 @@ fn file_for(
         (Ok (file_for load.now (Some bytes))) }
     ensures memory { IfErr result (λ e. e ≡ Memory) }
 {
-    match if_readable(split_file(alloc, load.parent.as_ref(), bytes))? {
+    match if_readable(sections_in(alloc, bytes))? {
         Some(dwarf) => if_of_load(alloc, load, dwarf),
         None => Ok(None),
     }
 }
 
-// The split file of a main file that some bytes are.
-fn split_file(
-    alloc: Global,
-    parent: &Dwarf<ImageReader>,
-    bytes: Bytes,
-) -> Result<Dwarf<ImageReader>, LoadError>
-    ensures { LoadsAsOrNoMemory (λ dwarf. dwarf.file) result (split_file parent.now.file bytes) }
+// The sections of a split file that some bytes are.
+fn sections_in(alloc: Global, bytes: Bytes) -> Result<Dwarf<ImageReader>, LoadError>
+    ensures { LoadsAsOrNoMemory (λ dwarf. dwarf.file) result (sections_in bytes) }
 {
     let elf = Elf::parse(alloc, bytes)?;
-    let dwarf = dwo_sections(alloc, &elf)?;
-    Ok(made_dwo(parent, dwarf)?)
+    dwo_sections(alloc, &elf)
 }
 
-// A file as a split file of a main file.
-fn made_dwo<R: Reader>(parent: &Dwarf<R>, mut dwarf: Dwarf<R>) -> Result<Dwarf<R>, Error>
-    ensures file { IfOk result (λ dwo. dwo.file ≡ split_from parent.now.file dwarf.file) }
-    ensures memory { IfErr result (λ e. e ≡ Memory) }
-{
-    dwarf.make_dwo(parent)?;
-    Ok(dwarf)
-}
-
-// A split file, shared, if its first unit has the load's identifier.
+// A file, shared, with what only the main file has, if its first unit has the load's identifier.
 fn if_of_load<R: Reader>(
     alloc: Global,
     load: &SplitDwarfLoad<R>,
     dwarf: Dwarf<R>,
 ) -> Result<Option<Rc<Dwarf<R>>>, Error>
     ensures file { ReturnsAsOrNoMemory (option_map (λ d. d.value.file)) result
-        (Ok (if_of_load load.now (Ok dwarf.file))) }
+        (Ok (if_of_load load.now dwarf.file)) }
     ensures memory { IfErr result (λ e. e ≡ Memory) }
 {
     if !has_dwo_id(alloc, &dwarf, load.dwo_id)? {
         return Ok(None);
     }
+    Ok(Some(shared_dwo(alloc, load.parent.as_ref(), dwarf)?))
+}
+
+// A file as a split file of a main file, shared.
+fn shared_dwo<R: Reader>(
+    alloc: Global,
+    parent: &Dwarf<R>,
+    mut dwarf: Dwarf<R>,
+) -> Result<Rc<Dwarf<R>>, Error>
+    ensures file { IfOk result (λ dwo. dwo.value.file ≡ split_from parent.now.file dwarf.file) }
+    ensures memory { IfErr result (λ e. e ≡ Memory) }
+{
+    dwarf.make_dwo(parent)?;
     match Rc::new(alloc, dwarf) {
-        Ok(dwarf) => Ok(Some(dwarf)),
+        Ok(dwo) => Ok(dwo),
         Err(_) => Err(Error::Memory),
     }
 }
