@@ -11,6 +11,7 @@ pub mod EntrySteps
 pub mod SymbolPlaces
 pub mod SumParts
 pub mod DistanceReads
+pub mod CopySteps
 pub mod ElementSteps
 pub mod FixedLengths
 pub mod BlockReads

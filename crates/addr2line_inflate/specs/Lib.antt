@@ -10,3 +10,4 @@ pub mod Blocks
 pub mod Sums
 pub mod Streams
 pub mod Answers
+pub mod ErrorText

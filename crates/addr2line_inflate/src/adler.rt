@@ -3,11 +3,12 @@
 ghost use Rattle.std.specs.Prelude.{◌≡◌, ◌%◌, ◌<◌, ◌≤◌, length};
 ghost use Rattle.addr2line_inflate.specs.Sums.{adler32, first_sum, second_sum};
 
-const MODULUS: u64 = 65521;
+use crate::constants::{ADLER_BASE, SECOND_SUM_WEIGHT};
+
 // How many bytes are added before the sums are reduced.
 const PART: usize = 65536;
 
-// The two sums, modulo 65521.
+// The two sums, modulo ADLER_BASE.
 #[derive(Clone, Copy, Drop)]
 struct Sums {
     first: u64,
@@ -28,17 +29,17 @@ pub fn adler32(text: &[u8]) -> u32
         rest = others;
     }
     let sums = sums.after(rest);
-    (sums.second * 65536 + sums.first) as u32
+    (sums.second * SECOND_SUM_WEIGHT + sums.first) as u32
 }
 
 impl Sums {
     // The sums after more bytes.
     fn after(self, part: &[u8]) -> Sums
         requires few { length part.now ≤ PART }
-        requires first { self.first < MODULUS }
-        requires second { self.second < MODULUS }
-        ensures first { result.first ≡ first_sum self.first part.now % MODULUS }
-        ensures second { result.second ≡ second_sum self.first self.second part.now % MODULUS }
+        requires first { self.first < ADLER_BASE }
+        requires second { self.second < ADLER_BASE }
+        ensures first { result.first ≡ first_sum self.first part.now % ADLER_BASE }
+        ensures second { result.second ≡ second_sum self.first self.second part.now % ADLER_BASE }
     {
         let mut first = self.first;
         let mut second = self.second;
@@ -47,8 +48,8 @@ impl Sums {
             second += first;
         }
         Sums {
-            first: first % MODULUS,
-            second: second % MODULUS,
+            first: first % ADLER_BASE,
+            second: second % ADLER_BASE,
         }
     }
 }

@@ -6,6 +6,11 @@
 //! - `lines BYTES`: a line number program.
 //!
 //! It prints a checksum of each measurement to standard output, and its time to standard error.
+//! Over zlib streams:
+//!
+//! - `inflate ROUNDS FILE`: their texts, each decompressed that often. `inflate_bench.rt` says how
+//!   the file has them.
+//!
 //! And through a `Context` over an ELF image's debug information:
 //!
 //! - `image IMAGE READER places FILE`: the places of a file's addresses, one a line in hexadecimal;
@@ -28,6 +33,7 @@
 mod core_bench;
 mod core_bytes;
 mod core_measures;
+mod inflate_bench;
 mod lines_bench;
 mod lines_bytes;
 mod lines_measures;
@@ -45,17 +51,19 @@ use std::process::ExitCode;
 use std::rt::{Env, Runtime};
 use std::{env, io};
 
-const USAGE: &str = "usage: linemap_bench core|units|lines BYTES | image IMAGE slice|bytes \
+const USAGE: &str = "usage: linemap_bench core|units|lines BYTES | inflate ROUNDS FILE | \
+                     image IMAGE slice|bytes \
                      places|frames|loads|unit FILE, or the same with all|lines|functions|calls in \
                      place of the last two words | each BYTES IMAGE ..";
 
 // What the command line asks for: how many bytes each measurement reads, of those that are wanted,
-// and lookups in an image.
+// how often the streams of a file are decompressed, and lookups in an image.
 #[derive(Drop)]
 struct Request<'a> {
     core: Option<usize>,
     units: Option<usize>,
     lines: Option<usize>,
+    streams: Option<(usize, &'a str)>,
     lookups: Option<LookupRequest<'a>>,
 }
 
@@ -83,6 +91,7 @@ fn request_of(words: &[String]) -> Option<Request<'_>> {
             core: None,
             units: None,
             lines: None,
+            streams: None,
             lookups: Some(lookup_request_of(rest)?),
         });
     }
@@ -93,7 +102,12 @@ fn request_of(words: &[String]) -> Option<Request<'_>> {
         ("units", []) => (None, size, None),
         ("lines", []) => (None, None, size),
         ("each", [_, ..]) => (size, size, size),
+        ("inflate", [_]) => (None, None, None),
         _ => return None,
+    };
+    let streams = match (what.as_str(), rest) {
+        ("inflate", [file]) => Some((size?, file.as_str())),
+        _ => None,
     };
     let lookups = if what.as_str() == "each" {
         Some(lookup_request_of(rest)?)
@@ -104,6 +118,7 @@ fn request_of(words: &[String]) -> Option<Request<'_>> {
         core,
         units,
         lines,
+        streams,
         lookups,
     })
 }
@@ -128,6 +143,9 @@ fn time_reading<R: Runtime + AllocGlobal>(rt: &R, request: &Request<'_>) -> io::
     }
     if let Some(size) = request.lines {
         lines_bench::time(rt, size)?;
+    }
+    if let Some((rounds, file)) = request.streams {
+        inflate_bench::time(rt, rounds, file)?;
     }
     Ok(())
 }

@@ -13,7 +13,8 @@ loop-rest-preserved c =
     let first = c.after-sums.ensures.first ∙ ap (λ l. first_sum s.first l % 65521) front in
     let second = c.after-sums.ensures.second ∙ ap (λ l. second_sum s.first s.second l % 65521) front in
     record {
-      first = ap (λ l. first_sum a.first l % 65521) back ∙ first_sum-part s.first a.first 65536 rest first ∙ c.loop-rest.invariant.first;
+      first = ap (λ l. first_sum a.first l % 65521) back ∙ first_sum-part s.first a.first 65536 rest first
+          ∙ c.loop-rest.invariant.first;
       second = ap (λ l. second_sum a.first a.second l % 65521) back
           ∙ second_sum-part s.first s.second a.first a.second 65536 rest first second ∙ c.loop-rest.invariant.second;
       first_fits = omega (arith, first);

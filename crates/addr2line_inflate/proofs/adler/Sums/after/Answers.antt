@@ -14,5 +14,6 @@ loop-byte-preserved c =
       first = omega (arith, first, l.invariant.first, c.from-first.ensures);
       second = omega (arith, second, l.invariant.first, l.invariant.second, c.from-first.ensures);
       first_fits = omega (arith, byte, c.from-first.ensures, l.invariant.first_fits);
-      second_fits = omega (arith, byte, c.from-first.ensures, l.invariant.first_fits, l.invariant.second_fits, c.requires.few);
+      second_fits =
+          omega (arith, byte, c.from-first.ensures, l.invariant.first_fits, l.invariant.second_fits, c.requires.few);
     }
