@@ -1,0 +1,13 @@
+mod Loads
+mod SectionLoops
+mod EntryReads
+mod EntryChanges
+mod TableReads
+mod ContentReads
+mod InflatedSizes
+mod SectionsAfter
+mod TablesAfter
+mod IndexedSections
+mod ImagesAfter
+mod Relations
+mod ReadAgain

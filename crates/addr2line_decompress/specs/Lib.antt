@@ -1,0 +1,9 @@
+pub use Rattle.addr2line_elf.specs.ElfImages
+pub mod DecompressResults
+pub mod DebugSectionNames
+pub mod Compression
+pub mod ImageTables
+pub mod CompressedSections
+pub mod DecompressedBytes
+pub mod WrittenBytes
+pub mod Decompression

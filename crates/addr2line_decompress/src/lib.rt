@@ -1,0 +1,16 @@
+//! ELF images whose compressed sections of debugging information are decompressed.
+#![tactic(auto)]
+
+mod bytes_after;
+pub mod compression;
+mod constants;
+mod decompress;
+pub mod error;
+mod headers;
+pub mod sections;
+mod streams;
+pub mod table;
+
+pub use decompress::{decompressed, decompressed_sections};
+pub use error::DecompressError;
+pub use sections::DebugSections;
