@@ -1,0 +1,4 @@
+mod Crc32Lemmas
+mod DebugFileExamples
+mod FolderLemmas
+mod NoteLemmas
