@@ -17,8 +17,8 @@ import tempfile
 TOP = os.path.dirname(os.path.dirname(os.path.abspath(__file__)))
 # What is refused for its shape, and what isn't JSON.
 SHAPE, NO_JSON = "B3", "B2"
-# A call that is nested this deep is refused.
-GREATEST_DEPTH = 50
+# How deep calls may be nested, and a depth at which no program's stack has room for them.
+GREATEST_DEPTH, MUCH_TOO_DEEP = 50, 1_000_000
 # Texts that the schema can't tell from those with digits alone.
 NO_DIGITS = re.compile(r"[:,\[]\s*(-0|-?\d+(\.\d+|[eE]))")
 
@@ -49,9 +49,8 @@ def refusal_of(program, text):
 
 def with_calls(depth):
     """The table of the examples, with calls nested so deep."""
-    calls = "[]"
-    for _ in range(depth):
-        calls = f'[{{"name":"f","ranges":[[4112,4128]],"file":0,"line":6,"column":3,"calls":{calls}}}]'
+    head = '[{"name":"f","ranges":[[4112,4128]],"file":0,"line":6,"column":3,"calls":'
+    calls = f"{head * depth}[]{'}]' * depth}"
     return re.sub(r'"calls":\[\n.*"calls":\[\]\}\]', lambda _: f'"calls":{calls}', read("examples/c.json"), count=1)
 
 
@@ -75,7 +74,7 @@ def faults_of_rules(program):
             found = refusal_of(program, whole.replace(old, new, 1).encode())
             if found != expected:
                 yield f"{code}: {new} in place of {old}: {found}"
-    for depth, expected in (GREATEST_DEPTH, None), (GREATEST_DEPTH + 1, "B19"):
+    for depth, expected in (GREATEST_DEPTH, None), (GREATEST_DEPTH + 1, "B19"), (MUCH_TOO_DEEP, NO_JSON):
         if (found := refusal_of(program, with_calls(depth).encode())) != expected:
             yield f"calls {depth} deep: {found}"
 

@@ -5,8 +5,8 @@
 pub use gimli_units_entries::{
     ArangeEntry, ArangeEntryIter, ArangeHeader, ArangeHeaderIter, Attribute, AttributeValue,
     DebugAranges, DebugInfo, DebugInfoUnitHeadersIter, DebuggingInformationEntry, EntriesRaw,
-    OffsetInSection, OffsetInUnit, UnitEntries, UnitHeader, UnitType, entries_raw, parse_attribute,
-    skip_attributes,
+    Error, OffsetInSection, OffsetInUnit, Reader, UnitEntries, UnitHeader, UnitType, entries_raw,
+    parse_attribute, skip_attributes,
 };
 pub use gimli_units_lists::{
     DebugInfoOffset, DebugLoc, DebugLocLists, DebugRanges, DebugRngLists, Expression, ListsHeader,

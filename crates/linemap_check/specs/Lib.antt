@@ -14,6 +14,7 @@ pub use Rattle.linemap_meaning.specs.declared.rule.Rule
 pub use Rattle.linemap_meaning.specs.declared.table.TableCall
 pub use Rattle.linemap_meaning.specs.declared.table.TableFile
 pub use Rattle.linemap_meaning.specs.declared.table.TableUnit
+pub mod CallCounts
 pub mod RangePasses
 pub mod UnitRules
 pub mod SaturatedWeight

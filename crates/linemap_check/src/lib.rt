@@ -3,6 +3,7 @@
 #![tactic(auto)]
 
 mod calls;
+pub mod dropping;
 pub mod fits;
 mod functions;
 mod outside;
@@ -16,7 +17,9 @@ mod units;
 pub mod weight;
 
 pub use linemap_meaning::address::read_address;
+pub use linemap_meaning::line_text::{push_discriminator, push_line};
 pub use linemap_meaning::rule::Rule;
 pub use linemap_meaning::table::{
     TableCall, TableFile, TableFunction, TableRange, TableRow, TableSequence, TableUnit,
 };
+pub use linemap_meaning::table_laws;

@@ -1,4 +1,4 @@
-//! The lowest rule that a table's units break.
+//! The first rule that a table's units break.
 
 ghost use Rattle.std.specs.Prelude.{◌≡◌, find, map};
 ghost use Rattle.linemap_check.specs.UnitRules.{unit_breaks};
@@ -14,8 +14,10 @@ use linemap_meaning::is_rooted;
 use linemap_meaning::rule::Rule;
 use linemap_meaning::table::TableUnit;
 
-// The rules, lowest number first.
+// The rules in the order in which they are tried. Nesting is tried first: the tests of the others
+// call themselves for the calls inlined into a call.
 const RULES: [Rule; 17] = [
+    Rule::Nesting,
     Rule::EmptyRange,
     Rule::Bounds,
     Rule::NoRange,
@@ -31,12 +33,12 @@ const RULES: [Rule; 17] = [
     Rule::FileNumber,
     Rule::Text,
     Rule::NotRooted,
-    Rule::Nesting,
     Rule::Discriminator,
 ];
 
-/// The lowest rule that the units break. It takes no memory, and one pass for each rule over units
-/// whose ranges ascend.
+/// The first rule that the units break: `Nesting`, or else the lowest. It takes no memory, and one
+/// pass for each rule over units whose ranges ascend; its stack grows with the depth of calls no
+/// further than that rule allows.
 pub fn first_broken(units: &[TableUnit]) -> Option<Rule>
     ensures { result ≡ first_broken (map unit_part units.now) }
 {

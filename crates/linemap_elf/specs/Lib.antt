@@ -3,3 +3,4 @@ pub use Rattle.addr2line_elf.specs.ElfClasses
 pub mod SpelledImages
 pub mod WrittenImages
 pub mod ImageLaws
+pub mod WrittenNumbers

@@ -9,6 +9,7 @@ pub mod image_laws;
 pub mod section;
 mod sections;
 pub mod writer;
+pub mod written_numbers;
 
 pub use addr2line_elf::class::Class;
 pub use image::write_image;

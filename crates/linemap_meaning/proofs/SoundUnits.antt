@@ -26,22 +26,22 @@ all_fail p (x ∷ xs) h = let parts = fails_first p x (find p xs) (p x) h in (pa
 -- a sound table breaks none of the rules
 pub sound_rule : (us : List UnitPart) (r : Rule) → IsSound us → breaks us r ≡ false
 unfolding AllFalse
-sound_rule us EmptyRange h = (all_fail (breaks us) rules_in_order h).0
-sound_rule us Bounds h = (all_fail (breaks us) rules_in_order h).1.0
-sound_rule us NoRange h = (all_fail (breaks us) rules_in_order h).1.1.0
-sound_rule us UnitsOverlap h = (all_fail (breaks us) rules_in_order h).1.1.1.0
-sound_rule us FunctionOutside h = (all_fail (breaks us) rules_in_order h).1.1.1.1.0
-sound_rule us FunctionsOverlap h = (all_fail (breaks us) rules_in_order h).1.1.1.1.1.0
-sound_rule us CallOutside h = (all_fail (breaks us) rules_in_order h).1.1.1.1.1.1.0
-sound_rule us CallsOverlap h = (all_fail (breaks us) rules_in_order h).1.1.1.1.1.1.1.0
-sound_rule us SequenceOutside h = (all_fail (breaks us) rules_in_order h).1.1.1.1.1.1.1.1.0
-sound_rule us SequencesOverlap h = (all_fail (breaks us) rules_in_order h).1.1.1.1.1.1.1.1.1.0
-sound_rule us Rows h = (all_fail (breaks us) rules_in_order h).1.1.1.1.1.1.1.1.1.1.0
-sound_rule us LineOrColumn h = (all_fail (breaks us) rules_in_order h).1.1.1.1.1.1.1.1.1.1.1.0
-sound_rule us FileNumber h = (all_fail (breaks us) rules_in_order h).1.1.1.1.1.1.1.1.1.1.1.1.0
-sound_rule us Text h = (all_fail (breaks us) rules_in_order h).1.1.1.1.1.1.1.1.1.1.1.1.1.0
-sound_rule us NotRooted h = (all_fail (breaks us) rules_in_order h).1.1.1.1.1.1.1.1.1.1.1.1.1.1.0
-sound_rule us Nesting h = (all_fail (breaks us) rules_in_order h).1.1.1.1.1.1.1.1.1.1.1.1.1.1.1.0
+sound_rule us Nesting h = (all_fail (breaks us) rules_in_order h).0
+sound_rule us EmptyRange h = (all_fail (breaks us) rules_in_order h).1.0
+sound_rule us Bounds h = (all_fail (breaks us) rules_in_order h).1.1.0
+sound_rule us NoRange h = (all_fail (breaks us) rules_in_order h).1.1.1.0
+sound_rule us UnitsOverlap h = (all_fail (breaks us) rules_in_order h).1.1.1.1.0
+sound_rule us FunctionOutside h = (all_fail (breaks us) rules_in_order h).1.1.1.1.1.0
+sound_rule us FunctionsOverlap h = (all_fail (breaks us) rules_in_order h).1.1.1.1.1.1.0
+sound_rule us CallOutside h = (all_fail (breaks us) rules_in_order h).1.1.1.1.1.1.1.0
+sound_rule us CallsOverlap h = (all_fail (breaks us) rules_in_order h).1.1.1.1.1.1.1.1.0
+sound_rule us SequenceOutside h = (all_fail (breaks us) rules_in_order h).1.1.1.1.1.1.1.1.1.0
+sound_rule us SequencesOverlap h = (all_fail (breaks us) rules_in_order h).1.1.1.1.1.1.1.1.1.1.0
+sound_rule us Rows h = (all_fail (breaks us) rules_in_order h).1.1.1.1.1.1.1.1.1.1.1.0
+sound_rule us LineOrColumn h = (all_fail (breaks us) rules_in_order h).1.1.1.1.1.1.1.1.1.1.1.1.0
+sound_rule us FileNumber h = (all_fail (breaks us) rules_in_order h).1.1.1.1.1.1.1.1.1.1.1.1.1.0
+sound_rule us Text h = (all_fail (breaks us) rules_in_order h).1.1.1.1.1.1.1.1.1.1.1.1.1.1.0
+sound_rule us NotRooted h = (all_fail (breaks us) rules_in_order h).1.1.1.1.1.1.1.1.1.1.1.1.1.1.1.0
 sound_rule us Discriminator h = (all_fail (breaks us) rules_in_order h).1.1.1.1.1.1.1.1.1.1.1.1.1.1.1.1.0
 
 -- where no element passes, a single one doesn't either

@@ -227,15 +227,15 @@ breaks us NotRooted = list_any is_not_rooted us
 breaks us Nesting = list_any has_deep_calls us
 breaks us Discriminator = list_any has_bad_discriminator us
 
--- the rules, lowest number first
+-- The rules in the order in which they are tried: how deep calls are nested, and then by their
+-- numbers.
 abbrev pub rules_in_order : List Rule
 rules_in_order =
-    EmptyRange ∷ Bounds ∷ NoRange ∷ UnitsOverlap ∷ FunctionOutside ∷ FunctionsOverlap ∷ CallOutside
-    ∷ CallsOverlap
-    ∷ SequenceOutside ∷ SequencesOverlap ∷ Rows ∷ LineOrColumn ∷ FileNumber ∷ Text ∷ NotRooted
-    ∷ Nesting ∷ Discriminator ∷ []
+    Nesting ∷ EmptyRange ∷ Bounds ∷ NoRange ∷ UnitsOverlap ∷ FunctionOutside ∷ FunctionsOverlap
+    ∷ CallOutside ∷ CallsOverlap ∷ SequenceOutside ∷ SequencesOverlap ∷ Rows ∷ LineOrColumn
+    ∷ FileNumber ∷ Text ∷ NotRooted ∷ Discriminator ∷ []
 
--- the lowest rule that the units break
+-- the first of them that the units break
 abbrev pub first_broken : List UnitPart → Option Rule
 first_broken us = find (breaks us) rules_in_order
 

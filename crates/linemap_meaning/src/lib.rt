@@ -3,6 +3,7 @@
 #![tactic(auto)]
 
 pub mod address;
+pub mod line_text;
 pub mod rule;
 pub mod table;
 pub mod table_laws;

@@ -1,6 +1,7 @@
-//! The conditions that a table's units meet, in the order in which a refusal names them.
+//! The conditions that a table's units meet, in the order of their numbers.
 
-/// A condition that units can break. The lowest of those that are broken is reported.
+/// A condition that units can break. Of several that are broken `Nesting` is reported, or else the
+/// lowest.
 #[derive(Debug, Clone, Copy, PartialEq, Eq)]
 pub enum Rule {
     /// B4: a range ends at or below its begin.

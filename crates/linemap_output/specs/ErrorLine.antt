@@ -10,6 +10,13 @@ use Rattle.linemap_output.specs.declared.writing.WriteFault.TheVariants.{BrokenP
 abbrev pub error_line : List ℕ → List ℕ → List ℕ
 error_line message detail = codes "linemap: " ++ (message ++ (detail ++ codes "\n"))
 
+-- that of a table that is refused by a code, and of one of which nothing is emitted
+abbrev pub table_line : List ℕ → List ℕ
+table_line code = error_line (codes "table refused: ") code
+
+abbrev pub emission_line : List ℕ → List ℕ
+emission_line code = error_line (codes "emit refused: ") code
+
 -- status 1; the line is written, or a prefix of it where the write flag is set
 pub record Fails (line : List ℕ) (old new : Option (List ℕ)) (e : Ended) : Type 0 where
   pub whole : e.write ≡ false → Appends old new line

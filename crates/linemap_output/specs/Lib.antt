@@ -1,3 +1,4 @@
 pub mod ErrorLine
 pub mod Outcome
 pub mod WriterBytes
+pub mod WritingLimits

@@ -4,7 +4,9 @@
 
 mod ended;
 mod error_line;
+pub mod limits;
 pub mod options;
+mod table_refusals;
 mod writing;
 
 pub use ended::Ended;
@@ -12,4 +14,7 @@ pub use error_line::{
     cannot_read, fail, out_of_memory, output_failed, words_not_text, write_error_line,
 };
 pub use options::Options;
-pub use writing::{MAX_INTERRUPTIONS, WriteFault, flush, write_bytes, write_text};
+pub use table_refusals::{
+    emission_out_of_memory, table_out_of_memory, table_refused, table_too_large,
+};
+pub use writing::{MAX_INTERRUPTIONS, WriteFault, flush, write_bytes, write_flushed, write_text};

@@ -46,6 +46,15 @@ pub fn write_bytes<W: Write>(out: &mut W, bytes: &[u8]) -> Result<(), WriteFault
     Ok(())
 }
 
+/// Writes the whole text, and flushes.
+pub fn write_flushed<W: Write>(out: &mut W, text: &str) -> Result<(), WriteFault>
+    ensures whole { OnOk result (Appends (W.contents out.old) (W.contents out.new) text.now) }
+    ensures prefix { AppendsPrefix (W.contents out.old) (W.contents out.new) text.now }
+{
+    write_text(out, text)?;
+    flush(out)
+}
+
 /// Flushes the writer. A flush that was interrupted is tried again.
 pub fn flush<W: Write>(out: &mut W) -> Result<(), WriteFault>
     ensures { Keeps (W.contents out.old) (W.contents out.new) }

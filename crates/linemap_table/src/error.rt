@@ -5,8 +5,8 @@ use linemap_check::Rule;
 use std::error::Error;
 use std::fmt;
 
-/// Why a table is refused. It prints as a letter and a number; of several broken rules the one with
-/// the lowest number is reported.
+/// Why a table is refused. It prints as a letter and a number; of several broken rules B19 is
+/// reported, or else the one with the lowest number.
 #[derive(Debug, Clone, Copy, PartialEq, Eq)]
 pub enum TableError {
     /// B1: out of memory.

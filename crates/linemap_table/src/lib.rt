@@ -23,12 +23,13 @@ pub use crate::error::TableError;
 use crate::fault::Fault;
 use crate::stream::read_units;
 pub use crate::target::Target;
+use linemap_check::dropping::drop_units;
 use linemap_check::fits::are_below;
 use linemap_check::rules::first_broken;
 use linemap_check::weight::weight;
 pub use linemap_check::{
     Rule, TableCall, TableFile, TableFunction, TableRange, TableRow, TableSequence, TableUnit,
-    read_address,
+    push_discriminator, push_line, read_address, table_laws,
 };
 use serde_json::Value;
 use std::alloc::Global;
@@ -57,14 +58,18 @@ impl Table {
         Table::check(units)
     }
 
-    /// Checks units; a refusal drops them. It takes no memory. It makes a pass or two for each rule
-    /// if the ranges of units, of a unit's functions and sequences, and of calls side by side
-    /// ascend or descend, whether they overlap or not; else it may try each pair of them.
+    /// Checks units; a refusal drops them. It takes no memory, and calls may be nested at any depth:
+    /// past 50 the first rule that is tried refuses them. It makes a pass or two for each rule if
+    /// the ranges of units, of a unit's functions and sequences, and of calls side by side ascend or
+    /// descend, whether they overlap or not; else it may try each pair of them.
     pub fn check(units: Vec<TableUnit>) -> Result<Table, TableError>
         ensures { Answers result (checked_units (map unit_part units.items)) }
     {
         match first_broken(&units) {
-            Some(rule) => Err(TableError::from(rule)),
+            Some(rule) => {
+                drop_units(units);
+                Err(TableError::from(rule))
+            }
             None => Ok(Table { units }),
         }
     }
