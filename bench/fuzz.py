@@ -124,7 +124,7 @@ def pairs():
     whole, other = (image_of(found[it], True, False) for it in ("with_supplement", "supplement"))
     yield whole, "other", other, ["--sup", "other"], (0x3f, 0x40, 0x44, 0x5f)
     split = [it for it in files_below(f"{cases.CRATE}/data") if b"split.dwo" in it][0]
-    for name in "split.dwo", "cut.dwo", "other.dwo":
+    for name in "split.dwo", "cut.dwo", "other.dwo", "indexed.dwo":
         with open(f"{cases.CRATE}/data/{name}", "rb") as file:
             yield split, "split.dwo", file.read(), [], (0xfff, 0x1000, 0x1003, 0x1007)
 

@@ -2,7 +2,7 @@
 """Refuses each allocation of a program in turn, until it ends without a refusal.
 
 usage: bench/memory.py [--every N] [CASE..]      all cases where none is named:
-       ask emit emit-5 lookup lookup-lines lookup-all lookup-symbols lookup-split    of ./linemap
+       ask emit emit-5 lookup lookup-lines lookup-all lookup-symbols lookup-split lookup-decompressed lookup-found    of ./linemap
        cases programs reading tables asking    of linemap_cases and gimli_cases
        places places-bytes    of linemap_bench
        warm warm-frames warm-words    of ./linemap
@@ -25,14 +25,17 @@ addresses takes no memory; nor does `lookup` for reading addresses and writing t
 import itertools
 import os
 import re
+import struct
 import subprocess
 import sys
 import tempfile
+import zlib
 
 sys.dont_write_bytecode = True
 TOP = os.path.dirname(os.path.dirname(os.path.abspath(__file__)))
 sys.path.insert(0, f"{TOP}/tests")
 import cases
+import images
 
 
 # The crates of the programs, each with the variable that names another program.
@@ -111,6 +114,8 @@ RUNS = {
     "lookup-lines": ([LINEMAP, "lookup", "-e", "given.elf", "-a", "-p"], "0x1018\nzz\n0x100f\n"),
     "lookup-all": ([LINEMAP, "lookup", "-e", "given.elf", "--all"], ""),
     "lookup-symbols": ([LINEMAP, "lookup", "-e", f"{DATA}/symbols.elf", "-a", "-f", "0x1004", "0x1008"], ""),
+    "lookup-decompressed": ([LINEMAP, "lookup", "-e", "small.elf", "--decompress", "-a", "-f", "-i", "0x1018", "0xfff"], ""),
+    "lookup-found": ([LINEMAP, "lookup", "-e", "stripped.elf", "--find-debug", "-a", "-f", "-i", "0x1018", "0xfff"], ""),
     "lookup-split": ([LINEMAP, "lookup", "-e", f"{DATA}/split.elf", "-a", "-f", "-i", "0x1000", "0x1003"], ""),
     "cases": ([CASES], case_inputs),
     "programs": ([GIMLI_CASES], lambda: lines_of("gimli_cases", "line_program ")),
@@ -123,6 +128,30 @@ RUNS = {
     "warm-frames": ([LINEMAP, "lookup", "-e", "given.elf", "-a", "-p", "-f", "-i"], "\n".join(WARM)),
     "warm-words": ([LINEMAP, "lookup", "-e", "given.elf", "--llvm", "-s", *WARM], ""),
 }
+
+
+def compressed(image):
+    """An image of 64 bits with the debug sections of another, compressed."""
+    big, found = images.sections_of(image)
+    order = ">" if big else "<"
+    parts = {name: struct.pack(f"{order}IIQQ", 1, 0, len(text), 1) + zlib.compress(text) for name, (text, _) in found.items()}
+    made = bytearray(images.image_of(parts, True, big))
+    table, = struct.unpack_from(f"{order}Q", made, 40)
+    for place in range(1, 1 + len(parts)):
+        struct.pack_into(f"{order}Q", made, table + 64 * place + 8, 0x800)
+    return bytes(made)
+
+
+def naming(name, debug_file):
+    """An image that has nothing but a debug link to a file of a name."""
+    text = name.encode() + b"\0"
+    link = text + b"\0" * (-len(text) % 4) + struct.pack("<I", zlib.crc32(debug_file))
+    return images.image_with([(b".gnu_debuglink", 1, 0, link, 0)], True, False)
+
+
+def write(path, data):
+    with open(path, "wb") as file:
+        file.write(data)
 
 
 def needs_image(names):
@@ -262,6 +291,10 @@ def main():
             os.symlink(f"{DATA}/{name}", f"{folder}/run/{name}")
         if needs_image(names):
             subprocess.run([LINEMAP, "emit", f"{TOP}/examples/c.json", f"{folder}/run/given.elf"], check=True)
+            with open(f"{folder}/run/given.elf", "rb") as file:
+                small = compressed(file.read())
+            write(f"{folder}/run/small.elf", small)
+            write(f"{folder}/run/stripped.elf", naming("small.elf", small))
         with open(f"{folder}/run/addresses", "w", encoding="utf-8") as file:
             file.writelines(f"{0xff8 + it % 0x40:x}\n" for it in range(20_000))
         ended = [sweep(it, folder, every) for it in names]

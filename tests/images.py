@@ -2,7 +2,7 @@
 import struct
 import sys
 
-from cases import NAMES
+from cases import CRATE, NAMES
 
 
 def sections_of(image):
@@ -56,10 +56,27 @@ def image_of_symbols(wide, big):
     return image_with(parts, wide, big)
 
 
+def split_file_by_index():
+    """The split file of linemap_cases, but that its root says where it begins, by an index, in place of its language."""
+    with open(f"{CRATE}/data/split.dwo", "rb") as file:
+        image = file.read()
+    # the declaration of the root: producer, language, name, directory; the unit's header ends with its identifier, the root
+    # begins with its code and the producer's index
+    language, low_pc = (b"\x01\x11\x01\x25\x1a" + it + b"\x03\x08\x1b\x08\0\0" for it in (b"\x13\x0b", b"\x11\x29"))
+    identifier = image[image.index(b"\x05\0\x05\x08\0\0\0\0") + 8:][:8]
+    for old, new in (language, low_pc), (identifier + b"\x01\0\x1d", identifier + b"\x01\0\x03"):
+        if image.count(old) != 1:
+            sys.exit("split.dwo isn't what it was")
+        image = image.replace(old, new)
+    return image
+
+
 def main():
-    """Writes the images of symbols that are cases of linemap_cases, but for `symbols.elf`, into a folder."""
+    """Writes the images of symbols that are cases of linemap_cases, but for `symbols.elf`, and `indexed.dwo` into a folder."""
     if len(sys.argv) != 2:
         sys.exit("usage: tests/images.py FOLDER")
+    with open(f"{sys.argv[1]}/indexed.dwo", "wb") as file:
+        file.write(split_file_by_index())
     for wide, big, name in (False, False, "symbols_32"), (False, True, "symbols_32_big"), (True, True, "symbols_64_big"):
         with open(f"{sys.argv[1]}/{name}.elf", "wb") as file:
             file.write(image_of_symbols(wide, big))

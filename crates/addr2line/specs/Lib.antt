@@ -40,4 +40,9 @@ pub use Rattle.addr2line_split.specs.SplitLoading
 pub use Rattle.addr2line_loader.specs.LoadedFiles
 pub use Rattle.addr2line_loader.specs.ResolvedFiles
 pub use Rattle.addr2line_loader.specs.FileLoads
+pub use Rattle.addr2line_loader.specs.FileRanges
 pub use Rattle.addr2line_loader.specs.SourceAnswers
+pub use Rattle.addr2line_loader.specs.DecompressedFiles
+pub use Rattle.addr2line_loader.specs.SymbolFiles
+pub use Rattle.addr2line_debug_files.specs.Candidates
+pub use Rattle.addr2line_debug_files.specs.Searches

@@ -7,11 +7,18 @@ pub use addr2line_context::{
     Context, FindFrames, FindUnit, Frame, FrameIter, FunctionName, Location, LocationRangeIter,
     LookupContinuation, LookupResult, Runs, SplitDwarfLoad, UnitLines, UnitToken,
 };
+pub use addr2line_debug_files::{
+    Candidate, DebugFiles, FilesByPath, Identity, MemoryFiles, NamedFile, SystemFiles,
+    debug_file_names, find_debug_files, supplement_names,
+};
 pub use addr2line_demangle::{demangle, demangle_auto};
 pub use addr2line_elf::{LoadError, Symbol};
 pub use addr2line_index::{Probed, Probes};
-pub use addr2line_loader::Loader;
-pub use addr2line_split::{FileSource, MapSource, SplitFile, SplitSource, load_split};
+pub use addr2line_loader::{
+    DebugSections, DecompressError, DecompressedSource, Loader, LoaderRangeIter, decompressed,
+    decompressed_sections,
+};
+pub use addr2line_split::{FileSource, FileSystem, MapSource, SplitFile, SplitSource, load_split};
 
 /// What holds of the definitions, as contracts.
 pub mod laws {

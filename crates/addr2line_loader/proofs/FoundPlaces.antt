@@ -38,3 +38,20 @@ pub free_of : {A : Type 0} (asks : AnsweredContext → ℕ → Type 0) (f : Load
     → over f before ≡ old → KeepsAsked (asks (answered_context old.file)) old.units → r ≢ Err Memory
 free_of asks f before r free old is =
     subst (λ (x : ResolvedFile). KeepsAsked (asks (answered_context x.file)) x.units → r ≢ Err Memory) is free
+
+-- the same step with another result
+pub stretch_with_result : {A B : Type 0} (r : Result A Error) (result : Result B Error) (walk walk_after : RangeWalk)
+    (old new : ResolvedFile) → AfterStretch r walk walk_after old new → (result ≢ Err Memory → r ≢ Err Memory)
+    → AfterStretch result walk walk_after old new
+stretch_with_result r result walk walk_after old new h refused = record {
+  file = h.file;
+  context =
+      record {
+        value = h.context.value;
+        cost = h.context.cost;
+        asked = λ answered. h.context.asked (refused answered);
+        reads = h.context.reads;
+        functions = h.context.functions;
+        way = h.context.way;
+      };
+}

@@ -5,3 +5,4 @@ mod FoundPlaces
 mod FoundFrames
 mod SupplementSections
 mod FileReadLemmas
+mod DecompressedLoads

@@ -1,6 +1,9 @@
 pub mod LoadedFiles
 pub mod ResolvedFiles
 pub mod FileLoads
+pub mod FileRanges
+pub mod DecompressedFiles
+pub mod SymbolFiles
 pub mod SourceAnswers
 pub use Rattle.addr2line_context.specs.Contexts
 pub use Rattle.addr2line_context.specs.DwarfFiles
@@ -12,3 +15,5 @@ pub use Rattle.addr2line_split.specs.ElfSymbols
 pub use Rattle.addr2line_split.specs.ImageFiles
 pub use Rattle.addr2line_split.specs.LoadError
 pub use Rattle.addr2line_split.specs.SectionLoading
+pub use Rattle.addr2line_decompress.specs.DecompressResults
+pub use Rattle.addr2line_decompress.specs.declared.error.DecompressError

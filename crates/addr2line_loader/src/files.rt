@@ -35,7 +35,7 @@ impl Loader {
 }
 
 // The bytes of a file, if there is one.
-fn read_if_any<R: Files + AllocGlobal, P: AsPath>(
+pub(crate) fn read_if_any<R: Files + AllocGlobal, P: AsPath>(
     rt: &R,
     path: Option<P>,
 ) -> Result<Option<Bytes>, LoadError>

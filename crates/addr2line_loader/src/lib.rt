@@ -3,12 +3,21 @@
 #![tactic(auto)]
 
 mod answers;
+mod decompressed_source;
+mod decompression;
 mod files;
 mod frames;
 pub mod loader;
 pub mod loads;
+pub mod location_range;
 mod parts;
 mod sections;
 pub mod stretches;
+mod symbols;
 
+pub use addr2line_decompress::{
+    DebugSections, DecompressError, decompressed, decompressed_sections,
+};
+pub use decompressed_source::DecompressedSource;
 pub use loader::Loader;
+pub use location_range::LoaderRangeIter;

@@ -7,16 +7,17 @@ ghost use Rattle.addr2line_context.specs.ContextCosts.{AsksBetween, AsksForPlace
 ghost use Rattle.addr2line_context.specs.Contexts.{location, stretches};
 ghost use Rattle.addr2line_context.specs.Error.TheVariants.{Memory};
 ghost use Rattle.addr2line_context.specs.KeptUnits.{KeepsAsked};
-ghost use Rattle.addr2line_context.specs.LocationRanges.{left_in};
 ghost use Rattle.addr2line_context.specs.ResolvedUnits.{RunForRangesAlone};
 ghost use Rattle.addr2line_split.specs.ElfImages.{section_range};
 ghost use Rattle.addr2line_split.specs.ElfSymbols.{symbol_at};
 ghost use Rattle.addr2line_split.specs.ImageLoading.{LoadsAsOrNoMemory};
+ghost use Rattle.addr2line_loader.specs.FileRanges.{left_in};
 ghost use Rattle.addr2line_loader.specs.LoadedFiles.{loaded_file, range_of, symbol_name};
-ghost use Rattle.addr2line_loader.specs.ResolvedFiles.{AfterPlace, answered_context, resolved_context};
+ghost use Rattle.addr2line_loader.specs.ResolvedFiles.{AfterPlace, answered_context};
 
+use crate::location_range::LoaderRangeIter;
 use crate::parts::{Parts, SharedContext, parts_of};
-use addr2line_context::{Context, Dwarf, Error, Location, LocationRangeIter, Range};
+use addr2line_context::{Context, Dwarf, Error, Location, Range, RangeWalk};
 use addr2line_split::{Elf, ImageReader, LoadError, Symbol, Symbols};
 use bytes::Bytes;
 use std::alloc::Global;
@@ -61,7 +62,7 @@ impl Model for Loader {
 }
 
 impl Loader {
-    ghost use Rattle.std.specs.Borrow.{sem};
+    ghost use Rattle.std.specs.Borrow.{RestsIfErr, sem};
     ghost use Rattle.std.specs.Io.BufRead.{Rests};
     ghost use Rattle.addr2line_loader.specs.contracts.loader.Loader.{the_row};
 
@@ -118,19 +119,23 @@ impl Loader {
 
     /// The stretches of addresses between two ends, with their places, as
     /// `Context::find_location_range` finds them. Here nothing is read and no memory is taken, so
-    /// that it is never refused.
+    /// that it is never refused. Once the iterator is let go, the loader is what its calls left.
     pub fn find_location_range(
         &mut self,
         probe_low: u64,
         probe_high: u64,
-    ) -> Result<LocationRangeIter<'_, ImageReader>, Error>
-        ensures stretches { ReturnsAs (λ i. left_in i.context.now i.walk) result
+    ) -> Result<LoaderRangeIter<'_>, Error>
+        ensures stretches { ReturnsAs (λ i. left_in i.loader.now i.walk) result
             (Ok (stretches self.old.file.context.context probe_low probe_high)) }
-        ensures context { IfOk result (λ i. i.context.now ≡ resolved_context self.old) }
+        ensures loader { IfOk result (λ i. i.loader.now ≡ self.old) }
         ensures asks { IfOk result (λ i.
             AsksBetween (answered_context self.old.file) probe_low probe_high i.walk) }
+        ensures same_reference { IfOk result (λ i. i.loader.ghost_name ≡ self.entry.ghost_name) }
+        ensures* after { sem 𝓛 (RestsIfErr the_row self.entry (λ i. i.loader.ghost_name) result
+            (λ left. left ≡ self.old)) }
     {
-        self.context.find_location_range(probe_low, probe_high)
+        let walk = RangeWalk::new(probe_low, probe_high);
+        Ok(LoaderRangeIter { loader: self, walk })
     }
 
     /// The name of the symbol that holds an address. It takes no memory.

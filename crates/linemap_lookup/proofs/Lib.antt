@@ -7,3 +7,4 @@ mod RunSteps
 mod LineRuns
 mod AllAddresses
 mod ProgramSteps
+mod FoundFileSteps

@@ -5,6 +5,7 @@ use Rattle.std.specs.Io.KnownBytes.{Appends}
 use Rattle.std.proofs.lemmas.Simd.{map-map}
 use Rattle.addr2line_context.specs.Error.{Error}
 use Rattle.addr2line_split.specs.Range.{Range}
+use Rattle.addr2line_loader.specs.LoadedFiles.{LoadedFile}
 use Rattle.linemap_meaning.specs.AnswerTexts.{word_address}
 use Rattle.linemap_output.specs.ErrorLine.{EndsAtFault, Fails, error_line}
 use Rattle.linemap_output.specs.declared.ended.Ended.{Ended}
@@ -54,34 +55,39 @@ module _ (old new : Option (List ℕ)) (e : Ended) where
       inr (subst (λ d. Fails (error_line message d) old new e) is fails, memory)
 
 -- a refusal for memory sets the memory flag
+memory_set_for_all : (o : Options) (file : LoadedFile) (old new : Option (List ℕ)) (e : Ended)
+    → LacksMemoryForAll o file old new e → e.memory ≡ true
+memory_set_for_all o file old new e lacks =
+    let reported : LacksMemory all_memory_line old new e = lacks.2 in
+    reported.1
+
 memory_set : (o : Options) (image : List ℕ) (supplement : Option (List ℕ)) (old new : Option (List ℕ)) (e : Ended)
     → LacksMemoryFor o image supplement old new e → e.memory ≡ true
 memory_set o image supplement old new e (inl lacks) = lacks.1
-memory_set o image supplement old new e (inr lacks) =
-    let of_all : LacksMemoryForAll o lacks.0 old new e = lacks.2 in
-    let reported : LacksMemory all_memory_line old new e = of_all.2 in
-    reported.1
+memory_set o image supplement old new e (inr lacks) = memory_set_for_all o lacks.0 old new e lacks.2
 
 module _ {S : Type 0} (answers : S → List ℕ → List ℕ → Result (Option (List ℕ)) Error → S → Type 0)
     (o : Options) (source : S) (input_old input_new : Option (List ℕ)) where
   -- ---- what is printed
 
   -- where no flag is set but that of a read, all is printed
-  pub prints : (image : List ℕ) (supplement : Option (List ℕ)) (q : Result Question (List ℕ)) (old new : Streams)
-      (e : Ended) → Runs answers o source input_old input_new (LacksMemoryFor o image supplement) q old new e
+  prints_by : (lacks : Option (List ℕ) → Option (List ℕ) → Ended → Type 0)
+      (sets : (old new : Option (List ℕ)) (e : Ended) → lacks old new e → e.memory ≡ true)
+      (q : Result Question (List ℕ)) (old new : Streams) (e : Ended)
+      → Runs answers o source input_old input_new lacks q old new e
       → e.memory ≡ false → e.write ≡ false
       → (p : Outcome) × Prints answers o source input_old input_new q e.read p × Appends old.out new.out p.out
       × Appends old.err new.err p.err × (e.status ≡ p.status)
-  prints image supplement q old new e (inl stop) memory write =
-      absurd (true≢false (sym (memory_set o image supplement old.err new.err e stop.0) ∙ memory))
-  prints image supplement (Err line) old new e (inr refused) memory write = (
+  prints_by lacks sets q old new e (inl stop) memory write =
+      absurd (true≢false (sym (sets old.err new.err e stop.0) ∙ memory))
+  prints_by lacks sets (Err line) old new e (inr refused) memory write = (
     record { out = []; err = line; status = 1 },
     refl,
     appends_nothing old.out new.out refused.1,
     refused.0.0.whole write,
     refused.0.0.status,
   )
-  prints image supplement (Ok q) old new e (inr (inl all)) memory write =
+  prints_by lacks sets (Ok q) old new e (inr (inl all)) memory write =
       let writes = all.writes.writes in (
         answers_outcome all.writes.xs,
         record {
@@ -98,8 +104,24 @@ module _ {S : Type 0} (answers : S → List ℕ → List ℕ → Result (Option 
         writes.err (sym (ap (λ (x : Ended). x.write) all.end) ∙ write),
         ap (λ (x : Ended). x.status) all.end ∙ writes.flags.status,
       )
-  prints image supplement (Ok q) old new e (inr (inr some)) memory write =
+  prints_by lacks sets (Ok q) old new e (inr (inr some)) memory write =
       absurd (no_stop some.stops.stops.partial _ new _ e some.stops.stops.stops memory write)
+
+  -- that, of an image and its supplement
+  pub prints : (image : List ℕ) (supplement : Option (List ℕ)) (q : Result Question (List ℕ)) (old new : Streams)
+      (e : Ended) → Runs answers o source input_old input_new (LacksMemoryFor o image supplement) q old new e
+      → e.memory ≡ false → e.write ≡ false
+      → (p : Outcome) × Prints answers o source input_old input_new q e.read p × Appends old.out new.out p.out
+      × Appends old.err new.err p.err × (e.status ≡ p.status)
+  prints image supplement = prints_by (LacksMemoryFor o image supplement) (memory_set o image supplement)
+
+  -- and of a file that is loaded
+  pub prints_loaded : (file : LoadedFile) (q : Result Question (List ℕ)) (old new : Streams)
+      (e : Ended) → Runs answers o source input_old input_new (LacksMemoryForAll o file) q old new e
+      → e.memory ≡ false → e.write ≡ false
+      → (p : Outcome) × Prints answers o source input_old input_new q e.read p × Appends old.out new.out p.out
+      × Appends old.err new.err p.err × (e.status ≡ p.status)
+  prints_loaded file = prints_by (LacksMemoryForAll o file) (memory_set_for_all o file)
 
 -- ---- addresses
 

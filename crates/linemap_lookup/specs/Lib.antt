@@ -29,3 +29,4 @@ pub mod AnswerBuffers
 pub mod LineReads
 pub mod LookupRuns
 pub mod Programs
+pub mod FoundFiles

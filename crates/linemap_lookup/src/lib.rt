@@ -4,9 +4,11 @@
 
 mod all;
 mod answer;
+mod debug_files;
 mod engine;
 mod frames;
 mod lines;
+mod loaded;
 mod lookups;
 mod names;
 mod printer;
@@ -15,6 +17,10 @@ mod write;
 mod write_lines;
 
 pub use addr2line_context::Error;
+pub use addr2line_debug_files::{FilesByPath, NamedFile, SystemFiles};
+pub use addr2line_loader::{DecompressedSource, Loader};
 pub use addr2line_split::{FileSource, LoadError, MapSource, SplitSource, read_file};
+pub use debug_files::{load_decompressed, load_found};
 pub use linemap_output::{Ended, Options};
+pub use loaded::run_loaded;
 pub use program::{load_out_of_memory, run};

@@ -20,6 +20,7 @@ use bytes::Bytes;
 use linemap_output::{Ended, Options, fail};
 use std::alloc::Global;
 use std::io::{BufRead, Write};
+use std::mem;
 
 /// Ends with status 1 and the line for a file for which memory is refused.
 pub fn load_out_of_memory<E: Write>(err: &mut E) -> Ended
@@ -29,7 +30,7 @@ pub fn load_out_of_memory<E: Write>(err: &mut E) -> Ended
 }
 
 // Reports that a file isn't loaded: why, or that memory is refused for saying so.
-fn load_refused<E: Write>(alloc: Global, error: LoadError, err: &mut E) -> Ended
+pub(crate) fn load_refused<E: Write>(alloc: Global, error: LoadError, err: &mut E) -> Ended
     ensures { RefusesOrLacksMemory
         (error_line (codes "failed to load debug info: ") (text_of error)) load_memory_line
         (E.contents err.old) (E.contents err.new) result }
@@ -145,7 +146,7 @@ impl Engine {
     }
 
     // Answers what is asked of a file.
-    fn run<S: SplitSource, R: BufRead, O: Write, E: Write>(
+    pub(crate) fn run<S: SplitSource, R: BufRead, O: Write, E: Write>(
         &mut self,
         options: &Options,
         source: &mut S,
@@ -177,7 +178,8 @@ impl Engine {
     }
 }
 
-// Loads a file, and answers what is asked of it.
+// Loads a file, and answers what is asked of it. Its memory isn't given back, part by part: the
+// process that ends then gives back all of it.
 fn answer_image<S: SplitSource, R: BufRead, O: Write, E: Write>(
     alloc: Global,
     options: &Options,
@@ -195,7 +197,12 @@ fn answer_image<S: SplitSource, R: BufRead, O: Write, E: Write>(
         (record { out = O.contents out.new; err = E.contents err.new }) result }
 {
     match load(alloc, image, supplement, err) {
-        Ok(loader) => Engine::new(alloc, loader).run(options, source, lines, out, err),
+        Ok(loader) => {
+            let mut engine = Engine::new(alloc, loader);
+            let ended = engine.run(options, source, lines, out, err);
+            mem::forget(engine);
+            ended
+        }
         Err(ended) => ended,
     }
 }
@@ -204,7 +211,8 @@ fn answer_image<S: SplitSource, R: BufRead, O: Write, E: Write>(
 /// those of words, or else those of lines, each as soon as its line is read, until the input ends,
 /// a read fails or a line is no text. The output is flushed after each answer. Loads are answered
 /// by the source's split files. Each refusal has an error line; after that of an address the next
-/// one is answered. A fault of the error stream only sets `write` in the result.
+/// one is answered. A fault of the error stream only sets `write` in the result. It is what a
+/// process does last: the memory of what was loaded isn't given back.
 pub fn run<S: SplitSource + Drop, R: BufRead, O: Write, E: Write>(
     alloc: Global,
     options: &Options,

@@ -1,12 +1,12 @@
 //! The program `linemap`: command line, files and streams around what its crates do with values.
 #![tactic(auto)]
 
-use linemap_commands::{
-    cannot_load, cannot_write, emission, no_such_target, table_out_of_memory, target_of,
-};
-use linemap_lookup::{FileSource, LoadError, load_out_of_memory, read_file, run};
+mod lookup;
+
+use linemap_commands::{cannot_write, emission, no_such_target, table_out_of_memory, target_of};
 use linemap_text::{Target, ask, cannot_read, out_of_memory, words_not_text};
-use linemap_words::{Options, Request, explain, explain_refusal, read_words};
+use linemap_words::{Request, explain, explain_refusal, read_words};
+use lookup::look_up;
 use std::io::{BufReader, BufWriter, ErrorKind, Lock, Write};
 use std::process::ExitCode;
 use std::rt::{Env, Files};
@@ -63,7 +63,14 @@ fn obey<R: Files + Input + AllocGlobal, O: Write, E: Write>(
             None => no_such_target(err).status,
         },
         Ok(Request::Explain { code }) => explain_refusal(&code, out, err).status,
-        Ok(Request::Lookup { exe, sup, options }) => look_up(rt, &exe, sup, &options, out, err),
+        Ok(
+            Request::Lookup {
+                exe,
+                sup,
+                sources,
+                options,
+            },
+        ) => look_up(rt, &exe, sup, &sources, &options, out, err),
         Err(error) => explain(rt.alloc(), &error, out, err).status,
     }
 }
@@ -117,51 +124,5 @@ fn emit_table<R: Files + AllocGlobal, E: Write>(
         Ok(()) => 0,
         Err(error) if error.kind() == ErrorKind::OutOfMemory => out_of_memory(err).status,
         Err(_) => cannot_write(err, out).status,
-    }
-}
-
-// Looks addresses up in a file.
-fn look_up<R: Files + Input + AllocGlobal, O: Write, E: Write>(
-    rt: &R,
-    exe: &str,
-    sup: Option<String>,
-    options: &Options,
-    out: &mut O,
-    err: &mut E,
-) -> u8 {
-    let image = match read_file(rt, exe) {
-        Ok(image) => image,
-        Err(error) => return refuse(err, error),
-    };
-    let supplement = match sup {
-        Some(path) => match read_file(rt, path.as_str()) {
-            Ok(bytes) => Some(bytes),
-            Err(error) => return refuse(err, error),
-        },
-        None => None,
-    };
-    let mut lines = match BufReader::new(rt.alloc(), rt.reader()) {
-        Ok(lines) => lines,
-        Err(_) => return out_of_memory(err).status,
-    };
-    let source = FileSource::new(rt);
-    run(
-        rt.alloc(),
-        options,
-        image,
-        supplement,
-        source,
-        &mut lines,
-        out,
-        err,
-    )
-    .status
-}
-
-// Ends after a file that is not read.
-fn refuse<E: Write>(err: &mut E, error: LoadError) -> u8 {
-    match error {
-        LoadError::Memory => load_out_of_memory(err).status,
-        _ => cannot_load(err).status,
     }
 }

@@ -113,6 +113,17 @@ explain_app = with_rules (new_app (codes "explain")) (code_rule ∷ [])
 abbrev pub source_rules : List Rule
 source_rules = exe_rule ∷ option_rule (codes "sup") ∷ section_rule ∷ flag_rule (codes "all") ∷ []
 
+-- `--NAME VALUE`, any number of times
+abbrev pub list_rule : Text → Rule
+list_rule name = record (option_rule name) { action = Some Append }
+
+-- `[--decompress] [--find-debug] [--debug-dir DIR]..`
+abbrev pub debug_rules : List Rule
+debug_rules = flag_rule (codes "decompress")
+    ∷ flag_rule (codes "find-debug")
+    ∷ list_rule (codes "debug-dir")
+    ∷ []
+
 -- `[-f] [-p] [-i] [-a] [-s] [-C] [--llvm] [--statements]`
 abbrev pub detail_rules : List Rule
 detail_rules = short_flag_rule (codes "f") (codes "functions")
@@ -129,7 +140,7 @@ detail_rules = short_flag_rule (codes "f") (codes "functions")
 abbrev pub lookup_app : App
 lookup_app =
     let sources = with_rules (new_app (codes "lookup")) source_rules in
-    with_rule (with_rules sources detail_rules) addresses_rule
+    with_rule (with_rules (with_rules sources debug_rules) detail_rules) addresses_rule
 
 -- the subcommands, of which one is required
 unfoldable pub linemap_app : App

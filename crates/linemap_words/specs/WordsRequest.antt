@@ -1,5 +1,5 @@
 -- How a request relates to the matches that `clap` finds.
-use Rattle.std.specs.Prelude.{◌≡◌, ◌≢◌, ◌⊎◌, ◌<◌, ◌^◌, ℕ, List, [], Bool, false, Option, None, Some, IsSome, IsSomeAnd, IsTrue, ⊤, Vec, String, codes, map, option_map, string_bytes}
+use Rattle.std.specs.Prelude.{◌≡◌, ◌≢◌, ◌⊎◌, ◌<◌, ◌^◌, ℕ, List, [], ◌∷◌, Bool, true, false, ◌||◌, Option, None, Some, IsSome, IsSomeAnd, IsTrue, ⊤, Vec, String, codes, map, option_map, string_bytes}
 use Rattle.std.specs.declared.alloc.Global.{Global}
 use Rattle.std.specs.Option.{option_map_or}
 use Rattle.std.specs.Str.{bytes_eq}
@@ -8,8 +8,9 @@ use Rattle.clap.specs.Words.{IsAmong, Kinds, Row, Text, all_of, first_of, kind_o
 use Rattle.clap.specs.declared.error.ErrorKind.{ErrorKind}
 use Rattle.clap.specs.declared.error.ErrorKind.TheVariants.{ArgumentConflict, MissingRequiredArgument, OutOfMemory}
 use Rattle.linemap_output.specs.declared.options.Options.{Options}
+use Rattle.linemap_words.specs.declared.debug_sources.DebugSources.{DebugSources}
 use Rattle.linemap_words.specs.declared.request.Mismatch.{Mismatch}
-use Rattle.linemap_words.specs.declared.request.Mismatch.TheVariants.{NoMemory, Missing, Conflict}
+use Rattle.linemap_words.specs.declared.request.Mismatch.TheVariants.{NoMemory, Missing, Conflict, UnusedFolder}
 use Rattle.linemap_words.specs.declared.request.Request.{Request}
 use Rattle.linemap_words.specs.declared.request.Request.TheVariants.{Ask, Emit, Explain, Lookup}
 use Rattle.linemap_words.specs.declared.request.WordsError.{WordsError}
@@ -50,6 +51,29 @@ pub record AreOptionsOf (options : Options) (rows : List Row) : Type 0 where
   pub statements : options.statements ≡ is_set (codes "statements") rows
   pub words : all_of (codes "words") rows ≡ option_map texts_of options.words
 
+-- where separate debug files are looked for, if no folder is named
+abbrev pub usual_folders : List Text
+usual_folders = codes "/usr/lib/debug" ∷ []
+
+-- the folders in which debug files are looked for, if they are, of those that are named
+abbrev pub folders_of : Bool → Option (List Text) → Option (List Text)
+folders_of false named = None
+folders_of true None = Some usual_folders
+folders_of true (Some named) = Some named
+
+-- a folder of debug files is named, and they aren't looked for
+abbrev pub NamesUnusedFolder : List Row → Type 0
+NamesUnusedFolder rows =
+    IsSome (all_of (codes "debug-dir") rows) × (is_set (codes "find-debug") rows ≡ false)
+
+-- debug information comes from where the matches say, and each folder that they name is used
+pub record AreSourcesOf (sources : DebugSources) (rows : List Row) : Type 0 where
+  pub decompress : sources.decompress
+      ≡ (is_set (codes "find-debug") rows || is_set (codes "decompress") rows)
+  pub folders : option_map texts_of sources.folders
+      ≡ folders_of (is_set (codes "find-debug") rows) (all_of (codes "debug-dir") rows)
+  pub are_used : NamesUnusedFolder rows → ⊥
+
 -- the request has the subcommand's name and what its matches hold
 abbrev pub IsRequestOf : Request → Text × List Row → Type 0
 IsRequestOf (Ask table words) matches = (matches.0 ≡ codes "ask")
@@ -62,9 +86,10 @@ IsRequestOf (Emit table out dwarf bits size big) matches = (matches.0 ≡ codes 
     × HasNumber (codes "size") matches.1 size × (big ≡ is_set (codes "big") matches.1)
 IsRequestOf (Explain code) matches = (matches.0 ≡ codes "explain")
     × (first_of (codes "code") matches.1 ≡ Some (string_bytes code))
-IsRequestOf (Lookup exe sup options) matches = (matches.0 ≡ codes "lookup")
+IsRequestOf (Lookup exe sup sources options) matches = (matches.0 ≡ codes "lookup")
     × (first_of (codes "exe") matches.1 ≡ Some (string_bytes exe))
     × (first_of (codes "sup") matches.1 ≡ option_map string_bytes sup)
+    × AreSourcesOf sources matches.1
     × AreOptionsOf options matches.1
     -- all addresses are asked for alone
     × (IsTrue options.all → options.words ≡ None)
@@ -101,19 +126,25 @@ abbrev pub HasConflict : Text × List Row → Type 0
 HasConflict matches = (matches.0 ≡ codes "lookup") × IsTrue (is_set (codes "all") matches.1)
     × IsSome (all_of (codes "words") matches.1)
 
+-- a folder of debug files is named, and they aren't looked for
+abbrev pub HasUnusedFolder : Text × List Row → Type 0
+HasUnusedFolder matches = (matches.0 ≡ codes "lookup") × NamesUnusedFolder matches.1
+
 -- why matches are no request
 abbrev pub IsMismatch : Mismatch → Option (Text × List Row) → Type 0
 IsMismatch NoMemory matches = ⊤
 IsMismatch Missing matches = LacksRequest matches
 IsMismatch Conflict matches = IsSomeAnd matches HasConflict
+IsMismatch UnusedFolder matches = IsSomeAnd matches HasUnusedFolder
 
 -- out of memory; or a fault of a kind that the parse has; or the parse has none, and its matches
--- lack a request, or are in conflict
+-- lack a request, are in conflict, or name a folder that isn't used
 abbrev pub IsRefusal : WordsError → Kinds → Option (Text × List Row) → Type 0
 IsRefusal Memory kinds matches = ⊤
 IsRefusal (Fault error) kinds matches = IsAmong (kind_of error) kinds ⊎ ((kinds ≡ [])
     × (((kind_of error ≡ MissingRequiredArgument) × LacksRequest matches)
-    ⊎ ((kind_of error ≡ ArgumentConflict) × IsSomeAnd matches HasConflict)))
+    ⊎ (((kind_of error ≡ ArgumentConflict) × IsSomeAnd matches HasConflict)
+    ⊎ ((kind_of error ≡ MissingRequiredArgument) × IsSomeAnd matches HasUnusedFolder))))
 
 -- the error refuses a command line whose parse has no fault, and whose matches are no request for
 -- this reason

@@ -1,9 +1,15 @@
--- What a refused command line ends with.
-use Rattle.std.specs.Prelude.{◌≡◌, ◌≢◌, ◌⊎◌, ◌↔◌, ℕ, Bool, false, not, IsTrue}
+-- How a refused command line is displayed, and what it ends with.
+use Rattle.std.specs.Prelude.{◌≡◌, ◌≢◌, ◌⊎◌, ◌↔◌, ℕ, Bool, false, not, IsTrue, List, [], Option, None, Some, codes}
 use Rattle.clap.specs.Words.{kind_of}
 use Rattle.clap.specs.declared.error.ErrorKind.TheVariants.{DisplayHelp, DisplayVersion}
+use Rattle.linemap_output.specs.ErrorLine.{error_line}
 use Rattle.linemap_words.specs.declared.request.WordsError.{WordsError}
 use Rattle.linemap_words.specs.declared.request.WordsError.TheVariants.{Memory, Fault}
+
+-- the error line of out of memory; of a fault `clap`'s contracts don't say the text
+abbrev pub displayed : WordsError → Option (List ℕ)
+displayed Memory = Some (error_line (codes "out of memory") [])
+displayed (Fault error) = None
 
 -- the flag says whether the text is help, and not a mistake
 abbrev pub IsHelp : WordsError → Bool → Type 0

@@ -14,8 +14,8 @@ use clap::{Arg, ArgAction, Command};
 pub use emit::{BIG, BITS, DWARF, OUT, SIZE, emit_command};
 pub use explain::{CODE, explain_command};
 pub use lookup::{
-    ADDRESSES, ALL, BASENAMES, DEMANGLE, EXE, FUNCTIONS, INLINES, LLVM, PRETTY, SECTION,
-    STATEMENTS, SUP, lookup_command,
+    ADDRESSES, ALL, BASENAMES, DEBUG_DIR, DECOMPRESS, DEMANGLE, EXE, FIND_DEBUG, FUNCTIONS,
+    INLINES, LLVM, PRETTY, SECTION, STATEMENTS, SUP, lookup_command,
 };
 use std::alloc::{AllocError, Global};
 

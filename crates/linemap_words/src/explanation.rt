@@ -1,16 +1,12 @@
 //! What is printed for a command line that is no request, and for the code of a refusal.
-ghost use Rattle.std.specs.Io.KnownBytes.{Appends};
-ghost use Rattle.std.specs.Prelude.{OnOk, codes};
-ghost use Rattle.linemap_output.specs.WriterBytes.{AppendsPrefix};
+ghost use Rattle.std.specs.Prelude.{codes};
 ghost use Rattle.linemap_output.specs.ErrorLine.{error_line};
 ghost use Rattle.linemap_words.specs.RefusalCodes.{is_refusal_code};
 ghost use Rattle.linemap_words.specs.Explain.{Explains, ExplainsRefusal, PrintsHelp, PrintsMistake};
 
 use crate::meanings::meaning_of;
 use crate::request::WordsError;
-use linemap_output::{
-    Ended, WriteFault, flush, out_of_memory, output_failed, write_error_line, write_text,
-};
+use linemap_output::{Ended, out_of_memory, output_failed, write_error_line, write_flushed};
 use std::alloc::Global;
 use std::io::Write;
 
@@ -80,13 +76,4 @@ fn print_mistake<E: Write>(text: &str, err: &mut E) -> Ended
         Ok(()) => ended,
         Err(_) => ended.with_write_fault(),
     }
-}
-
-// Writes a text, and flushes.
-fn write_flushed<W: Write>(out: &mut W, text: &str) -> Result<(), WriteFault>
-    ensures whole { OnOk result (Appends (W.contents out.old) (W.contents out.new) text.now) }
-    ensures prefix { AppendsPrefix (W.contents out.old) (W.contents out.new) text.now }
-{
-    write_text(out, text)?;
-    flush(out)
 }

@@ -305,7 +305,8 @@ What to do: get the file again.
 ",
     "L6: sections of debug information are compressed.
 Usual cause: a debug package of a distribution, gcc -gz, or Go's linker.
-What to do: objcopy --decompress-debug-sections IN OUT, and look into OUT.
+What to do: add --decompress to linemap lookup; or objcopy --decompress-debug-sections IN OUT, and
+look into OUT.
 ",
     "L7: the file isn't linked yet: its debug information has relocations to be filled in.
 Usual cause: an object file (.o), or a kernel module (.ko).

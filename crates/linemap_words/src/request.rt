@@ -8,12 +8,20 @@ use crate::command_line::{
     ADDRESSES, ALL, BASENAMES, BIG, BITS, CODE, DEMANGLE, DWARF, EXE, FUNCTIONS, INLINES, LLVM,
     OUT, PRETTY, SECTION, SIZE, STATEMENTS, SUP, TABLE, WORDS, linemap_command, lookup_command,
 };
+use crate::debug_sources::{DebugSources, debug_sources_in, unused_folder};
 use crate::matches::{is_set, number_at, text_at, texts_at};
 use clap::error::ErrorKind;
 use clap::{ArgMatches, Command};
 use linemap_output::Options;
 use std::alloc::{AllocError, Global};
-use thiserror::Error;
+use std::error::Error;
+use std::fmt;
+
+// What is said of matches that lack a request.
+const LACKS_REQUEST: &str = "no request";
+
+// What is said of matches of `lookup` that ask for all addresses and for some.
+const ALL_AND_SOME: &str = "the argument '--all' cannot be used with '[ADDR]...'";
 
 /// What the program is asked to do.
 #[derive(Debug, Drop)]
@@ -51,21 +59,36 @@ pub enum Request {
         exe: String,
         /// The path of its supplementary file.
         sup: Option<String>,
+        /// Where debug information comes from, beside the file itself.
+        sources: DebugSources,
         /// What is printed, and for which addresses.
         options: Options,
     },
 }
 
 /// Why the words are no request. It displays as the text to print.
-#[derive(Debug, Drop, Error)]
+#[derive(Debug, Drop)]
 pub enum WordsError {
     /// Out of memory.
-    #[error("linemap: out of memory\n")]
     Memory,
     /// A mistake in the words, or a request for help, in `clap`'s words.
-    #[error("{0}")]
     Fault(clap::Error),
 }
+
+impl fmt::Display for WordsError {
+    ghost use Rattle.linemap_words.specs.WordsStatus.{displayed};
+
+    ghost output = { displayed };
+
+    fn fmt<W: fmt::Write>(&self, f: &mut fmt::Formatter<W>) -> fmt::Result {
+        match self {
+            WordsError::Memory => f.write_str("linemap: out of memory\n"),
+            WordsError::Fault(error) => write!(f, "{error}"),
+        }
+    }
+}
+
+impl Error for WordsError {}
 
 impl From<AllocError> for WordsError {
     ghost use Rattle.linemap_words.specs.declared.request.WordsError.TheVariants.{Memory};
@@ -79,13 +102,15 @@ impl From<AllocError> for WordsError {
 
 // Why matches are no request.
 #[derive(Clone, Copy, Debug)]
-enum Mismatch {
+pub(crate) enum Mismatch {
     // Out of memory.
     NoMemory,
     // No subcommand, or an argument that it requires isn't there.
     Missing,
     // All addresses are asked for, and some too.
     Conflict,
+    // A folder of debug files is named, and they aren't looked for.
+    UnusedFolder,
 }
 
 impl From<AllocError> for Mismatch {
@@ -166,6 +191,7 @@ fn refusal_of(alloc: Global, command: &mut Command<'_>, mismatch: Mismatch) -> W
         Mismatch::NoMemory => return WordsError::Memory,
         Mismatch::Missing => missing(command),
         Mismatch::Conflict => conflict(alloc),
+        Mismatch::UnusedFolder => unused_folder(alloc),
     };
     match error {
         Ok(error) => error_of(error),
@@ -188,7 +214,7 @@ fn error_of(error: clap::Error) -> WordsError
 fn missing(command: &mut Command<'_>) -> Result<clap::Error, AllocError>
     ensures { IfOk result (λ error. kind_of error ≡ ErrorKind.MissingRequiredArgument) }
 {
-    command.error(ErrorKind::MissingRequiredArgument, "no request")
+    command.error(ErrorKind::MissingRequiredArgument, LACKS_REQUEST)
 }
 
 // The error of matches of `lookup` that ask for all addresses and for some.
@@ -196,8 +222,7 @@ fn conflict(alloc: Global) -> Result<clap::Error, AllocError>
     ensures { IfOk result (λ error. kind_of error ≡ ErrorKind.ArgumentConflict) }
 {
     let mut command = lookup_command(alloc)?.bin_name("linemap lookup")?;
-    let message = "the argument '--all' cannot be used with '[ADDR]...'";
-    command.error(ErrorKind::ArgumentConflict, message)
+    command.error(ErrorKind::ArgumentConflict, ALL_AND_SOME)
 }
 
 // The request of the subcommand that was parsed.
@@ -268,10 +293,16 @@ fn lookup_request(alloc: Global, matches: &ArgMatches<'_>) -> Result<Request, Mi
     let options = options_in(alloc, matches)?;
     let exe = text_at(alloc, matches, EXE)?.ok_or(Mismatch::Missing)?;
     let sup = text_at(alloc, matches, SUP)?;
+    let sources = debug_sources_in(alloc, matches)?;
     if options.all && options.words.is_some() {
         return Err(Mismatch::Conflict);
     }
-    Ok(Request::Lookup { exe, sup, options })
+    Ok(Request::Lookup {
+        exe,
+        sup,
+        sources,
+        options,
+    })
 }
 
 // The options of the matches of `lookup`.

@@ -2,6 +2,25 @@
 
 use crate::answer::Answer;
 use addr2line_context::{Error, Location, LocationRangeIter, Reader};
+use addr2line_loader::LoaderRangeIter;
+
+/// Stretches that come one after the other.
+pub trait StretchWalk {
+    /// The next address, how many there are from it on, and their place.
+    fn next(&mut self) -> Result<Option<(u64, u64, Location<'_>)>, Error>;
+}
+
+impl<R: Reader> StretchWalk for LocationRangeIter<'_, R> {
+    fn next(&mut self) -> Result<Option<(u64, u64, Location<'_>)>, Error> {
+        LocationRangeIter::next(self)
+    }
+}
+
+impl StretchWalk for LoaderRangeIter<'_> {
+    fn next(&mut self) -> Result<Option<(u64, u64, Location<'_>)>, Error> {
+        LoaderRangeIter::next(self)
+    }
+}
 
 /// A place: its file, line and column, `?` for each that isn't known, and what else is recorded.
 pub fn place(place: Option<&Location<'_>>, out: &mut Answer) {
@@ -41,7 +60,7 @@ pub fn place_found(found: Result<Option<Location<'_>>, Error>, out: &mut Answer)
 }
 
 /// Stretches, up to ten, and after a refusal the next answer.
-pub fn stretches<R: Reader>(found: &mut LocationRangeIter<'_, R>, out: &mut Answer) {
+pub fn stretches<S: StretchWalk>(found: &mut S, out: &mut Answer) {
     for _ in 0..10 {
         if !next_stretch(found, out) {
             break;
@@ -50,7 +69,7 @@ pub fn stretches<R: Reader>(found: &mut LocationRangeIter<'_, R>, out: &mut Answ
 }
 
 // The next one, and whether there is one.
-fn next_stretch<R: Reader>(found: &mut LocationRangeIter<'_, R>, out: &mut Answer) -> bool {
+fn next_stretch<S: StretchWalk>(found: &mut S, out: &mut Answer) -> bool {
     let next = match stretch(found.next(), out) {
         Err(Error::Memory) => {
             out.again();
@@ -89,7 +108,7 @@ fn stretch(
 }
 
 // The refusal once more.
-fn again<R: Reader>(found: &mut LocationRangeIter<'_, R>, out: &mut Answer) {
+fn again<S: StretchWalk>(found: &mut S, out: &mut Answer) {
     match found.next() {
         Err(error) => {
             out.text(", again ");

@@ -3,7 +3,7 @@
 use super::ending::{add_end, add_stream};
 use super::streams::{CutWriter, cut_of};
 use crate::answer::Answer;
-use linemap_words::{Options, Request, WordsError, explain, read_words};
+use linemap_words::{DebugSources, Options, Request, WordsError, explain, read_words};
 use std::alloc::{AllocError, Global};
 
 /// Adds the request of words, or how their refusal is explained: which of the streams has text
@@ -69,13 +69,19 @@ fn add_request(request: &Request, out: &mut Answer) {
             out.text("explain ");
             out.text(code);
         }
-        Request::Lookup { exe, sup, options } => {
+        Request::Lookup {
+            exe,
+            sup,
+            sources,
+            options,
+        } => {
             out.text("lookup ");
             out.text(exe);
             if let Some(sup) = sup {
                 out.text(" with ");
                 out.text(sup);
             }
+            add_sources(sources, out);
             add_options(options, out);
         }
     }
@@ -85,6 +91,17 @@ fn add_words(words: &[String], out: &mut Answer) {
     for word in words {
         out.text(" ");
         out.text(word);
+    }
+}
+
+fn add_sources(sources: &DebugSources, out: &mut Answer) {
+    if sources.decompress {
+        out.text(" decompressed");
+    }
+    if let Some(folders) = &sources.folders {
+        out.text(" or found in");
+        add_words(folders, out);
+        out.text(" at");
     }
 }
 

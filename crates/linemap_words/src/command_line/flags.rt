@@ -1,7 +1,7 @@
 //! Options that take no value, and options that take one.
 ghost use Rattle.std.specs.Prelude.{◌≡◌, false};
 ghost use Rattle.clap.specs.Words.{rule_of};
-ghost use Rattle.linemap_words.specs.CommandLine.{flag_rule, number_rule, option_rule, with_short};
+ghost use Rattle.linemap_words.specs.CommandLine.{flag_rule, list_rule, number_rule, option_rule, with_short};
 
 use clap::{Arg, ArgAction, value_parser};
 use std::alloc::Global;
@@ -35,6 +35,14 @@ pub fn text_option<'a>(alloc: Global, name: &'a str, value_name: &'a str, help: 
         .value_name(value_name)
         .help(help)
         .action(ArgAction::Set)
+}
+
+/// The option `--name VALUE`, which takes any text, and may be there several times.
+pub fn list_option<'a>(alloc: Global, name: &'a str, value_name: &'a str, help: &'a str) -> Arg<'a>
+    ensures rule { rule_of result ≡ list_rule name.entry.now }
+    ensures local { result.global ≡ false }
+{
+    text_option(alloc, name, value_name, help).action(ArgAction::Append)
 }
 
 /// The option `--name N`, which takes a decimal number of 16 bits, and has a default.

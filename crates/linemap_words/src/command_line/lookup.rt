@@ -1,10 +1,10 @@
 //! The subcommand `lookup`.
 ghost use Rattle.std.specs.Prelude.{◌≡◌, IfOk, false};
 ghost use Rattle.clap.specs.Words.{rule_of};
-ghost use Rattle.linemap_words.specs.CommandLine.{HaveRules, IsLocalApp, detail_rules, exe_rule, lookup_app, section_rule, source_rules};
+ghost use Rattle.linemap_words.specs.CommandLine.{HaveRules, IsLocalApp, debug_rules, detail_rules, exe_rule, lookup_app, section_rule, source_rules};
 
 use super::addresses_argument;
-use super::flags::{flag, short_flag, text_option};
+use super::flags::{flag, list_option, short_flag, text_option};
 use clap::{Arg, Command};
 use std::alloc::{AllocError, Global};
 
@@ -19,6 +19,15 @@ pub const SECTION: &str = "section";
 
 /// The option to ask for all addresses.
 pub const ALL: &str = "all";
+
+/// The option to decompress sections.
+pub const DECOMPRESS: &str = "decompress";
+
+/// The option to look for a separate debug file.
+pub const FIND_DEBUG: &str = "find-debug";
+
+/// The option of a folder in which debug files are looked for.
+pub const DEBUG_DIR: &str = "debug-dir";
 
 /// The option to print functions.
 pub const FUNCTIONS: &str = "functions";
@@ -52,13 +61,19 @@ ends the input. llvm-symbolizer's own choice of options is -fiC --llvm.
 
 The program must have been compiled with debug information, as by gcc -g. Without any, each
 address is answered ??:0, with status 0: readelf -S ./a.out lists .debug_info where there is some.
+An installed program has it in a file of its own, which a debug package brings:
+  linemap lookup -e /usr/bin/valgrind --find-debug -fip 0x2000
+--find-debug looks for that file, if the program has no debug information, by its build identifier,
+at .build-id/xx/rest.debug in each DIR; then, by its debug link, beside the program, in .debug
+there, and under the program's own folder in each DIR; links to the program are followed. It looks
+for the supplement of that file too, and decompresses both. If there is none, it says so.
 Where a file can't be used, one of these is printed; linemap explain L6 says more of one:
   L1  out of memory
   L2  it can't be read
   L3  it is no ELF file
   L4  ELF files of its kind are not supported
   L5  it is cut short
-  L6  its debug sections are compressed. Decompress them first:
+  L6  its debug sections are compressed. Use --decompress, or decompress them first:
       objcopy --decompress-debug-sections IN OUT
   L7  it isn't linked yet, as an object file (.o): link it, and use the result
   L8  its debug information can't be read
@@ -69,11 +84,13 @@ pub fn lookup_command<'a>(alloc: Global) -> Result<Command<'a>, AllocError>
     ensures { IfOk result (λ command. IsLocalApp command lookup_app) }
 {
     let sources = source_arguments(alloc)?;
+    let debug = debug_arguments(alloc)?;
     let details = detail_arguments(alloc)?;
     Command::new(alloc, "lookup")
         .about("Prints the source line of each address of a program")
         .after_help(NOTES)
         .args(sources)?
+        .args(debug)?
         .args(details)?
         .arg(addresses_argument(alloc))
 }
@@ -87,6 +104,27 @@ fn source_arguments<'a>(alloc: Global) -> Result<Vec<Arg<'a>>, AllocError>
         text_option(alloc, SUP, "FILE", "The program's supplementary debug file"),
         section_argument(alloc),
         flag(alloc, ALL, "Look up every address where a line begins"),
+    ]?;
+    Ok(arguments)
+}
+
+// The options of where debug information comes from, beside the file itself.
+fn debug_arguments<'a>(alloc: Global) -> Result<Vec<Arg<'a>>, AllocError>
+    ensures { IfOk result (λ arguments. HaveRules arguments.items debug_rules) }
+{
+    let arguments = vec![in alloc;
+        flag(alloc, DECOMPRESS, "Decompress debug sections"),
+        flag(
+            alloc,
+            FIND_DEBUG,
+            "Look for the debug file of a program without debug information"
+        ),
+        list_option(
+            alloc,
+            DEBUG_DIR,
+            "DIR",
+            "With --find-debug: a folder of debug files [default: /usr/lib/debug]"
+        ),
     ]?;
     Ok(arguments)
 }

@@ -12,6 +12,7 @@ returns c =
       ap (λ f. f.has_globals) c.after_help.ensures ∙ ap (λ f. f.has_globals) c.about.ensures ∙ c.new.ensures.local,
     ) in
     let sources = with_arguments _ _ _ _ _ c.in_ok-args.ensures c.in_ok-sources.ensures start in
-    let details = with_arguments _ _ _ _ _ c.in_ok-args-2.ensures c.in_ok-details.ensures sources in
+    let debug = with_arguments _ _ _ _ _ c.in_ok-args-2.ensures c.in_ok-debug.ensures sources in
+    let details = with_arguments _ _ _ _ _ c.in_ok-args-3.ensures c.in_ok-details.ensures debug in
     with_last_argument _ c.arg.result _ _ _ c.arg.ensures c.addresses_argument.ensures.rule
     c.addresses_argument.ensures.local details
