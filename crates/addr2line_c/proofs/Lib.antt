@@ -1,0 +1,8 @@
+pub mod HandleFields
+pub mod RefusalCodes
+mod KeptAnswers
+mod KeptStretches
+mod LoadNumbers
+mod MemoryNumber
+mod OneFileLoads
+mod WrittenSlices

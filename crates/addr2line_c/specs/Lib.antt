@@ -1,0 +1,10 @@
+pub mod Numbers
+pub mod ShownFrames
+pub mod Copies
+pub mod COutputs
+pub mod Sources
+pub mod Handles
+pub mod Lending
+pub mod OpenHandles
+pub mod Answers
+pub mod RefusalTexts

@@ -1,0 +1,78 @@
+#!/usr/bin/env python3
+"""Folds stacks of addresses for a flame graph, with the calls that are inlined.
+
+usage: fold.py FILE [--base ADDRESS] [--outermost-first] [--exact] < STACKS
+
+Each line of STACKS is a stack: addresses in hexadecimal, the innermost first, unless the option says otherwise. Each line that
+is printed has the names of a stack's functions, the outermost first, with `;` between them, and how many stacks are the same.
+FILE is the ELF file of the program. Addresses count from ADDRESS on, where that file is mapped there. All but the innermost are
+where calls return to, so that the call is before them: with `--exact` they are taken as they are.
+"""
+import argparse
+import collections
+import functools
+import sys
+
+import addr2line
+
+
+def words():
+    parser = argparse.ArgumentParser(description=__doc__.splitlines()[0])
+    parser.add_argument("file")
+    parser.add_argument("--base", type=lambda text: int(text, 16), default=0)
+    parser.add_argument("--outermost-first", action="store_true")
+    parser.add_argument("--exact", action="store_true")
+    return parser.parse_args()
+
+
+class Folder:
+    """Names of functions by address."""
+
+    def __init__(self, image):
+        self.image = image
+        self.names = functools.lru_cache(None)(self.find_names)
+
+    def find_names(self, address):
+        """The names of an address, the outermost first."""
+        try:
+            names = [it.function or "??" for it in self.image.frames(address)]
+        except addr2line.Refused as refused:
+            print(f"0x{address:x}: {refused}", file=sys.stderr)
+            names = []
+        if not names or names == ["??"]:
+            symbol = self.image.symbol(address)
+            names = [symbol.name if symbol else f"0x{address:x}"]
+        return [it.replace(";", ":") for it in reversed(names)]
+
+    def fold(self, addresses):
+        """The names of a stack's addresses, the outermost first."""
+        return ";".join(name for it in addresses for name in self.names(it))
+
+
+def main():
+    options = words()
+    try:
+        fold_lines(options)
+    except (OSError, addr2line.Refused) as error:
+        sys.exit(f"fold.py: {options.file}: {error}")
+
+
+def fold_lines(options):
+    """Folds the stacks of the standard input."""
+    counts = collections.Counter()
+    with addr2line.open(options.file) as image:
+        folder = Folder(image)
+        for line in sys.stdin:
+            addresses = [int(it, 16) - options.base for it in line.replace(";", " ").split()]
+            if options.outermost_first:
+                addresses.reverse()
+            if not options.exact:
+                addresses[1:] = [it - 1 for it in addresses[1:]]
+            if addresses:
+                counts[folder.fold(it % 2**64 for it in reversed(addresses))] += 1
+    for stack, count in sorted(counts.items()):
+        print(stack, count)
+
+
+if __name__ == "__main__":
+    main()

@@ -1,0 +1,472 @@
+/* For c_interface.sh: calls each function of addr2line.h, over the files of crates/linemap_cases/data, and prints the answers.
+ *
+ *     c_interface DATA COUNT      COUNT is how often a file is opened and closed, and how many damaged files there are
+ *
+ * Where memory is refused for a call, it is made again, so that the output is the same. It is C and C++.
+ */
+#include <addr2line.h>
+#include <fcntl.h>
+#include <inttypes.h>
+#include <stdio.h>
+#include <stdlib.h>
+#include <string.h>
+#include <sys/mman.h>
+#include <sys/resource.h>
+#include <sys/stat.h>
+#include <unistd.h>
+
+static const a2l_loader closed = A2L_LOADER_INIT;
+static const a2l_text no_text = A2L_TEXT_INIT;
+static const a2l_location no_location = A2L_LOCATION_INIT;
+static const a2l_frame no_frame = A2L_FRAME_INIT;
+static const a2l_range no_range = A2L_RANGE_INIT;
+static const a2l_symbol no_symbol = A2L_SYMBOL_INIT;
+static const a2l_section no_section = A2L_SECTION_INIT;
+static const a2l_load no_load = A2L_LOAD_INIT;
+static const uint8_t *const nothing = (const uint8_t *)"";
+
+/* Makes a call again where memory was refused for it. */
+static int32_t is_refused(int32_t number) { return number == A2L_E1 || number == A2L_L1; }
+#define AGAIN(call) (is_refused(number = (call)) ? (call) : number)
+
+static int fail(const char *what) {
+    printf("%s\n", what);
+    exit(3);
+}
+
+/* ---- Files */
+
+static const char *data;
+
+static a2l_text file_of(const char *name) {
+    a2l_text image = no_text;
+    char path[4096];
+    struct stat about;
+    snprintf(path, sizeof path, "%s/%s", data, name);
+    int file = open(path, O_RDONLY);
+    if (file < 0 || fstat(file, &about) != 0) fail(path);
+    void *map = mmap(NULL, (size_t)about.st_size, PROT_READ, MAP_PRIVATE, file, 0);
+    if (map == MAP_FAILED) fail(path);
+    close(file);
+    image.ptr = (const uint8_t *)map;
+    image.len = (size_t)about.st_size;
+    return image;
+}
+
+static a2l_loader opened(const char *name) {
+    a2l_loader loader = closed;
+    a2l_text image = file_of(name);
+    int32_t number = 0;
+    number = AGAIN(a2l_open_in_place(image.ptr, image.len, &loader));
+    if (number != A2L_OK || loader.opened != 1) fail(name);
+    return loader;
+}
+
+/* ---- What is printed */
+
+static void print_text(a2l_text text) { printf("%.*s", (int)text.len, (const char *)text.ptr); }
+
+static void print_number(int32_t number) {
+    a2l_text code = no_text;
+    if (a2l_error_code(number, &code) == A2L_OK)
+        print_text(code);
+    else
+        printf(number == A2L_OK ? "ok" : "unknown %" PRId32, number);
+}
+
+static void print_location(const a2l_location *location) {
+    location->has_file ? print_text(location->file) : (void)printf("??");
+    location->has_line ? printf(":%" PRIu32, location->line) : printf(":?");
+    if (location->has_column) printf(":%" PRIu32, location->column);
+    if (location->has_statement) printf(location->statement ? " statement" : " no statement");
+    if (location->has_discriminator) printf(" discriminator %" PRIu64, location->discriminator);
+    if (!location->has_file && location->file.len) fail("a file that isn't there has a text");
+}
+
+static void print_frame(const a2l_frame *frame) {
+    frame->has_function ? print_text(frame->function) : (void)printf("??");
+    printf(" at ");
+    frame->has_location ? print_location(&frame->location) : (void)printf("none");
+    if (frame->has_language) printf(" language %" PRIu16, frame->language);
+    if (frame->has_entry_offset) printf(" entry");
+    printf("\n");
+}
+
+static void ask_location(a2l_loader *loader, uint64_t address) {
+    a2l_location location = no_location;
+    int32_t number = 0;
+    number = AGAIN(a2l_find_location(loader, address, &location));
+    printf("location of 0x%" PRIx64 ": ", address);
+    number == A2L_OK ? print_location(&location) : print_number(number);
+    printf("\n");
+}
+
+static void ask_frames(a2l_loader *loader, uint64_t address, uint32_t names) {
+    a2l_frame frame = no_frame, frames[2] = {no_frame, no_frame};
+    size_t count = 7, written = 7;
+    int32_t number = 0;
+    number = AGAIN(a2l_find_frames(loader, address, names, &count));
+    printf("frames of 0x%" PRIx64 ": ", address);
+    print_number(number);
+    printf(", %zu\n", count);
+    for (size_t place = 0; place < count; place++) {
+        if (a2l_get_frame(loader, place, &frame) != A2L_OK) fail("a frame is missing");
+        printf("  ");
+        print_frame(&frame);
+        if (a2l_get_frames(loader, place, frames, 2, &written) != A2L_OK) fail("frames are missing");
+        if (written != (count - place < 2 ? count - place : 2)) fail("another number of frames");
+        if (frames[0].function.len != frame.function.len) fail("other frames");
+    }
+    if (a2l_get_frame(loader, count, &frame) != A2L_PAST_END) fail("a frame past the last");
+    if (a2l_get_frame(loader, SIZE_MAX, &frame) != A2L_PAST_END) fail("a frame of the last number");
+    written = 7;
+    if (a2l_get_frames(loader, count, frames, 2, &written) != A2L_PAST_END || written != 0) fail("frames past the last");
+}
+
+static void ask_symbol(a2l_loader *loader, uint64_t address, uint32_t names) {
+    a2l_symbol symbol = no_symbol;
+    int32_t number = 0;
+    number = AGAIN(a2l_find_symbol(loader, address, names, &symbol));
+    printf("symbol of 0x%" PRIx64 ": ", address);
+    number == A2L_OK ? print_text(symbol.name) : print_number(number);
+    if (number == A2L_OK) printf(" from 0x%" PRIx64, symbol.address);
+    printf("\n");
+}
+
+static void ask_section(a2l_loader *loader, const char *name) {
+    a2l_section section = no_section;
+    int32_t number = a2l_find_section(loader, (const uint8_t *)name, strlen(name), &section);
+    printf("section '%s': ", name);
+    if (number == A2L_OK)
+        printf("[0x%" PRIx64 ", 0x%" PRIx64 ")", section.begin, section.end);
+    else
+        print_number(number);
+    printf("\n");
+}
+
+/* All ranges between two addresses, some at a time. */
+static void ask_ranges(a2l_loader *loader, uint64_t low, uint64_t high, size_t room) {
+    a2l_range ranges[4] = {no_range, no_range, no_range, no_range};
+    size_t count = 7;
+    int32_t number = a2l_find_ranges(loader, low, high);
+    printf("ranges from 0x%" PRIx64 " to 0x%" PRIx64 ", %zu at a time: ", low, high, room);
+    print_number(number);
+    printf("\n");
+    for (;;) {
+        number = AGAIN(a2l_next_ranges(loader, ranges, room, &count));
+        if (number != A2L_OK) break;
+        if (count == 0 || count > room) fail("another number of ranges");
+        for (size_t place = 0; place < count; place++) {
+            printf("  0x%" PRIx64 " %" PRIu64 " ", ranges[place].address, ranges[place].length);
+            print_location(&ranges[place].location);
+            printf("\n");
+        }
+    }
+    if (count != 0) fail("ranges after the last");
+    printf("  ");
+    print_number(number);
+    printf("\n");
+}
+
+/* ---- Loaders that aren't open */
+
+static void call_all(const char *what, a2l_loader loader) {
+    static const uint8_t name[] = ".text";
+    a2l_location location = no_location;
+    a2l_frame frame = no_frame;
+    a2l_range range = no_range;
+    a2l_symbol symbol = no_symbol;
+    a2l_section section = no_section;
+    a2l_load load = no_load;
+    size_t counts[4] = {7, 7, 7, 7};
+    int32_t numbers[] = {
+        a2l_find_location(&loader, 0x1000, &location), a2l_find_ranges(&loader, 0, UINT64_MAX),
+        a2l_next_ranges(&loader, &range, 1, &counts[0]), a2l_find_frames(&loader, 0x1000, A2L_RAW, &counts[1]),
+        a2l_get_frame(&loader, 0, &frame), a2l_get_frames(&loader, 0, &frame, 1, &counts[2]),
+        a2l_find_symbol(&loader, 0x1000, A2L_RAW, &symbol), a2l_find_section(&loader, name, 5, &section),
+        a2l_find_loads(&loader, 0x1000, &counts[3]), a2l_get_load(&loader, 0, &load),
+        a2l_answer_load(&loader, 0, name, 5), a2l_answer_load_in_place(&loader, 0, name, 5),
+        a2l_skip_load(&loader, 0), a2l_close(&loader),
+    };
+    printf("%s:", what);
+    for (size_t place = 0; place < sizeof numbers / sizeof *numbers; place++) {
+        printf(" ");
+        print_number(numbers[place]);
+    }
+    printf("; counts %zu %zu %zu %zu\n", counts[0], counts[1], counts[2], counts[3]);
+}
+
+static void not_open(void) {
+    a2l_text image = file_of("a.elf");
+    a2l_loader loader = closed, bad = closed;
+    int32_t number = 0;
+    bad.opened = 2;
+    call_all("closed", closed);
+    call_all("bad", bad);
+    printf("opened twice: ");
+    print_number(AGAIN(a2l_open(image.ptr, image.len, &loader)));
+    printf(" ");
+    print_number(a2l_open(image.ptr, image.len, &loader));
+    printf(" ");
+    print_number(a2l_open_in_place(image.ptr, image.len, &loader));
+    printf(" ");
+    print_number(a2l_open_with_sup(image.ptr, image.len, image.ptr, image.len, &loader));
+    printf("\nopened bad: ");
+    print_number(a2l_open_in_place_with_sup(image.ptr, image.len, image.ptr, image.len, &bad));
+    printf("\nclosed twice: ");
+    print_number(a2l_close(&loader));
+    printf(" ");
+    print_number(a2l_close(&loader));
+    printf("\n");
+    call_all("closed again", loader);
+}
+
+/* ---- Files that are refused */
+
+static void refused(void) {
+    static const struct {
+        const char *name, *bytes;
+        size_t len;
+    } files[] = {
+        {"empty", "", 0}, {"three bytes", "\177EL", 3}, {"a magic number", "\177ELF", 4}, {"a text", "{\"units\":[]}", 12}};
+    a2l_text image = file_of("a.elf");
+    for (size_t place = 0; place < sizeof files / sizeof *files; place++) {
+        const uint8_t *bytes = (const uint8_t *)files[place].bytes;
+        a2l_loader loader = closed;
+        int32_t number = 0;
+        printf("%s: ", files[place].name);
+        print_number(AGAIN(a2l_open(bytes, files[place].len, &loader)));
+        printf(" ");
+        print_number(AGAIN(a2l_open_in_place(bytes, files[place].len, &loader)));
+        printf(" as a supplement: ");
+        print_number(AGAIN(a2l_open_with_sup(image.ptr, image.len, bytes, files[place].len, &loader)));
+        printf(" ");
+        if (loader.opened) a2l_close(&loader);
+        print_number(AGAIN(a2l_open_in_place_with_sup(image.ptr, image.len, bytes, files[place].len, &loader)));
+        if (loader.opened) a2l_close(&loader);
+        printf(" opened %" PRIu32 "\n", loader.opened);
+    }
+}
+
+/* Opens a file and asks what there is to ask; each number must be one of the header's. */
+static void ask_all(const uint8_t *bytes, size_t len, size_t *are_open) {
+    a2l_loader loader = closed;
+    a2l_text code = no_text;
+    a2l_location location = no_location;
+    a2l_range range = no_range;
+    a2l_frame frame = no_frame;
+    a2l_symbol symbol = no_symbol;
+    size_t count = 0;
+    int32_t numbers[8] = {a2l_open_in_place(bytes, len, &loader), 0, 0, 0, 0, 0, 0, 0};
+    if (numbers[0] == A2L_OK) {
+        *are_open += 1;
+        numbers[1] = a2l_find_location(&loader, 0x1003, &location);
+        numbers[2] = a2l_find_frames(&loader, 0x1000, A2L_DEMANGLED, &count);
+        for (size_t place = 0; place < count; place++)
+            if (a2l_get_frame(&loader, place, &frame) != A2L_OK) fail("a frame is missing");
+        numbers[3] = a2l_find_symbol(&loader, 0x1003, A2L_DEMANGLED, &symbol);
+        numbers[4] = a2l_find_loads(&loader, 0x1003, &count);
+        numbers[5] = a2l_find_ranges(&loader, 0, UINT64_MAX);
+        for (int turn = 0; turn < 1000 && numbers[6] == A2L_OK; turn++) numbers[6] = a2l_next_ranges(&loader, &range, 1, &count);
+        numbers[7] = a2l_close(&loader);
+    }
+    for (int place = 0; place < 8; place++)
+        if (numbers[place] != A2L_OK && a2l_error_code(numbers[place], &code) != A2L_OK) fail("a number without a code");
+}
+
+static void damaged(size_t most) {
+    a2l_text image = file_of("a.elf");
+    uint8_t *bytes = (uint8_t *)malloc(image.len);
+    uint64_t state = 1;
+    size_t are_open = 0, count = 0;
+    if (bytes == NULL) return;
+    for (size_t len = 0; len < image.len; len += image.len > most ? image.len / most + 1 : 1, count++) {
+        memcpy(bytes, image.ptr, len);
+        ask_all(bytes, len, &are_open);
+    }
+    for (size_t number = 0; number < most; number++) {
+        memcpy(bytes, image.ptr, image.len);
+        for (size_t change = 0; change <= number % 8; change++) {
+            state = state * 6364136223846793005u + 1442695040888963407u;
+            bytes[(state >> 33) % image.len] ^= (uint8_t)(1u << (state >> 20) % 8);
+        }
+        ask_all(bytes, image.len, &are_open);
+    }
+    free(bytes);
+    if (are_open == 0) fail("none of the damaged files is opened");
+    printf("damaged files: each is answered or refused\n");
+}
+
+/* ---- Files that are answered */
+
+static void answers(void) {
+    a2l_loader loader = opened("a.elf"), other = opened("symbols.elf");
+    a2l_range range = no_range;
+    a2l_frame frame = no_frame;
+    size_t count = 7;
+    static const uint64_t addresses[] = {0xfff, 0x1000, 0x1003, 0x1006, 0x1007, 0, UINT64_MAX};
+    printf("before a walk: ");
+    print_number(a2l_next_ranges(&loader, &range, 1, &count));
+    printf(" %zu\n", count);
+    for (size_t place = 0; place < sizeof addresses / sizeof *addresses; place++) {
+        ask_location(&loader, addresses[place]);
+        ask_frames(&loader, addresses[place], place % 2 ? A2L_RAW : A2L_DEMANGLED);
+        /* (the other is asked in between) */
+        ask_symbol(&other, 0x1000 + 4 * place, place % 2 ? A2L_DEMANGLED : 99);
+    }
+    ask_ranges(&loader, 0, UINT64_MAX, 1);
+    ask_ranges(&loader, 0, UINT64_MAX, 4);
+    ask_ranges(&loader, 0x1003, 0x1004, 2);
+    ask_ranges(&loader, 0x1004, 0x1003, 2);
+    ask_ranges(&other, 0, UINT64_MAX, 4);
+    a2l_find_ranges(&loader, 0, UINT64_MAX);
+    printf("no room: ");
+    print_number(a2l_next_ranges(&loader, &range, 0, &count));
+    printf(" %zu ", count);
+    print_number(a2l_get_frames(&loader, 0, &frame, 0, &count));
+    printf(" %zu\n", count);
+    ask_section(&loader, ".text");
+    ask_section(&loader, "");
+    ask_section(&loader, ".text.");
+    a2l_close(&other);
+    ask_location(&loader, 0x1000);
+    a2l_close(&loader);
+}
+
+static void copies(void) {
+    a2l_text image = file_of("a.elf");
+    uint8_t *bytes = (uint8_t *)malloc(image.len);
+    a2l_loader loader = closed;
+    int32_t number = 0;
+    if (bytes == NULL) bytes = (uint8_t *)malloc(image.len);
+    memcpy(bytes, image.ptr, image.len);
+    printf("a copy, of bytes that have gone: ");
+    print_number(AGAIN(a2l_open(bytes, image.len, &loader)));
+    printf("\n");
+    memset(bytes, 0xff, image.len);
+    free(bytes);
+    ask_frames(&loader, 0x1000, A2L_RAW);
+    a2l_close(&loader);
+}
+
+static void supplements(void) {
+    a2l_text image = file_of("refers.elf"), sup = file_of("supplement.elf");
+    a2l_loader loader = closed;
+    int32_t number = 0;
+    for (int way = 0; way < 3; way++) {
+        printf("%s: ", way == 0 ? "without its supplement" : way == 1 ? "with it" : "with it, in place");
+        print_number(way == 0   ? AGAIN(a2l_open(image.ptr, image.len, &loader))
+                     : way == 1 ? AGAIN(a2l_open_with_sup(image.ptr, image.len, sup.ptr, sup.len, &loader))
+                                : AGAIN(a2l_open_in_place_with_sup(image.ptr, image.len, sup.ptr, sup.len, &loader)));
+        printf("\n");
+        if (loader.opened) ask_frames(&loader, 0x40, A2L_RAW);
+        if (loader.opened) a2l_close(&loader);
+    }
+}
+
+static void split_file(const char *brought, int is_in_place) {
+    a2l_loader loader = opened("split.elf");
+    a2l_load load = no_load;
+    size_t count = 7;
+    int32_t number = 0;
+    number = AGAIN(a2l_find_loads(&loader, 0x1000, &count));
+    printf("loads of 0x1000: ");
+    print_number(number);
+    printf(", %zu\n", count);
+    for (size_t place = 0; place < count; place++) {
+        number = a2l_get_load(&loader, place, &load);
+        printf("  ");
+        print_number(number);
+        printf(" '");
+        if (load.has_directory) print_text(load.directory);
+        printf("' '");
+        if (load.has_name) print_text(load.name);
+        printf("' 0x%" PRIx64 "\n", load.id);
+    }
+    printf("  past the last: ");
+    print_number(a2l_get_load(&loader, count, &load));
+    printf(" ");
+    print_number(a2l_skip_load(&loader, count));
+    printf(" ");
+    print_number(a2l_answer_load(&loader, count, nothing, 0));
+    printf("\n  empty: ");
+    print_number(AGAIN(a2l_answer_load_in_place(&loader, 0, nothing, 0)));
+    if (brought) {
+        a2l_text bytes = file_of(brought);
+        printf("\n  %s: ", brought);
+        print_number(is_in_place ? AGAIN(a2l_answer_load_in_place(&loader, 0, bytes.ptr, bytes.len))
+                                 : AGAIN(a2l_answer_load(&loader, 0, bytes.ptr, bytes.len)));
+    } else {
+        printf("\n  skipped: ");
+        print_number(AGAIN(a2l_skip_load(&loader, 0)));
+    }
+    printf("\n");
+    ask_frames(&loader, 0x1000, A2L_RAW);
+    ask_location(&loader, 0x1003);
+    number = AGAIN(a2l_find_loads(&loader, 0x1000, &count));
+    printf("loads after it: %zu\n", count);
+    a2l_close(&loader);
+}
+
+/* Each refusal has a code and a sentence, no other number has. */
+static void refusals(void) {
+    a2l_text code = no_text, sentence = no_text;
+    int last = -1000, count = 0;
+    for (int32_t number = -400; number <= 400; number++) {
+        int has_code = a2l_error_code(number, &code) == A2L_OK;
+        int has_sentence = a2l_error_sentence(number, &sentence) == A2L_OK;
+        if (has_code != has_sentence) fail("a code without a sentence");
+        if (!has_code) continue;
+        if (sentence.len < 8 || sentence.ptr[sentence.len - 1] == '.') fail("no sentence");
+        if (number != last + 1) printf("%" PRId32 " ", number);
+        last = number;
+        count++;
+    }
+    printf("begin the numbers with a sentence, %d in all\n", count);
+    if (a2l_error_code(INT32_MIN, &code) != A2L_NOT_FOUND || a2l_error_sentence(INT32_MAX, &code) != A2L_NOT_FOUND)
+        fail("a text for an extreme number");
+}
+
+static long peak_memory(void) {
+    struct rusage usage;
+    return getrusage(RUSAGE_SELF, &usage) == 0 ? usage.ru_maxrss : 0;
+}
+
+static void many(size_t count) {
+    a2l_text image = file_of("a.elf");
+    a2l_loader loader = closed;
+    size_t frames = 0;
+    int32_t number = 0;
+    long peak = 0;
+    for (size_t turn = 0; turn < count; turn++) {
+        if (turn == count / 10) peak = peak_memory();
+        number = turn % 2 ? AGAIN(a2l_open(image.ptr, image.len, &loader))
+                          : AGAIN(a2l_open_in_place(image.ptr, image.len, &loader));
+        if (number != A2L_OK) fail("not opened");
+        number = AGAIN(a2l_find_frames(&loader, 0x1000, A2L_RAW, &frames));
+        if (number != A2L_OK || frames != 2) fail("other frames");
+        if (a2l_close(&loader) != A2L_OK || loader.opened) fail("not closed");
+    }
+    if (peak_memory() > peak + 8192) fail("memory grows");
+    printf("opened and closed again and again\n");
+}
+
+int main(int argc, char **argv) {
+    if (argc != 3) return 2;
+    data = argv[1];
+    size_t count = strtoul(argv[2], NULL, 10);
+    not_open();
+    refused();
+    answers();
+    copies();
+    supplements();
+    split_file("split.dwo", 0);
+    split_file("split.dwo", 1);
+    split_file("other.dwo", 0);
+    split_file("cut.dwo", 1);
+    split_file(NULL, 0);
+    refusals();
+    if (count > 0) damaged(count / 4 + 1);
+    if (count > 0) many(count);
+    return 0;
+}
