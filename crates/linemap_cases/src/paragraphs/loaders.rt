@@ -141,7 +141,7 @@ fn place(loader: &mut Loader, probe: u64, out: &mut Answer) {
 
 fn stretches(loader: &mut Loader, low: u64, high: u64, out: &mut Answer) {
     match loader.find_location_range(low, high) {
-        Ok(mut found) => places::stretches(&mut found, out),
+        Ok(mut found) => places::loader_stretches(&mut found, out),
         Err(error) => out.refuse_named(error),
     }
 }

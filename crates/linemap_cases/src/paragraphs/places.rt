@@ -10,12 +10,6 @@ pub trait StretchWalk {
     fn next(&mut self) -> Result<Option<(u64, u64, Location<'_>)>, Error>;
 }
 
-impl<R: Reader> StretchWalk for LocationRangeIter<'_, R> {
-    fn next(&mut self) -> Result<Option<(u64, u64, Location<'_>)>, Error> {
-        LocationRangeIter::next(self)
-    }
-}
-
 impl StretchWalk for LoaderRangeIter<'_> {
     fn next(&mut self) -> Result<Option<(u64, u64, Location<'_>)>, Error> {
         LoaderRangeIter::next(self)
@@ -60,7 +54,7 @@ pub fn place_found(found: Result<Option<Location<'_>>, Error>, out: &mut Answer)
 }
 
 /// Stretches, up to ten, and after a refusal the next answer.
-pub fn stretches<S: StretchWalk>(found: &mut S, out: &mut Answer) {
+pub fn stretches<R: Reader>(found: &mut LocationRangeIter<'_, R>, out: &mut Answer) {
     for _ in 0..10 {
         if !next_stretch(found, out) {
             break;
@@ -69,7 +63,7 @@ pub fn stretches<S: StretchWalk>(found: &mut S, out: &mut Answer) {
 }
 
 // The next one, and whether there is one.
-fn next_stretch<S: StretchWalk>(found: &mut S, out: &mut Answer) -> bool {
+fn next_stretch<R: Reader>(found: &mut LocationRangeIter<'_, R>, out: &mut Answer) -> bool {
     let next = match stretch(found.next(), out) {
         Err(Error::Memory) => {
             out.again();
@@ -108,7 +102,48 @@ fn stretch(
 }
 
 // The refusal once more.
-fn again<S: StretchWalk>(found: &mut S, out: &mut Answer) {
+fn again<R: Reader>(found: &mut LocationRangeIter<'_, R>, out: &mut Answer) {
+    match found.next() {
+        Err(error) => {
+            out.text(", again ");
+            out.refuse_named(error);
+        }
+        _ => out.text(", and goes on"),
+    }
+}
+
+// ---- the same of a loader
+
+/// Stretches of a loader, up to ten, and after a refusal the next answer.
+pub fn loader_stretches<S: StretchWalk>(found: &mut S, out: &mut Answer) {
+    for _ in 0..10 {
+        if !next_of_loader(found, out) {
+            break;
+        }
+    }
+}
+
+// The next one, and whether there is one.
+fn next_of_loader<S: StretchWalk>(found: &mut S, out: &mut Answer) -> bool {
+    let next = match stretch(found.next(), out) {
+        Err(Error::Memory) => {
+            out.again();
+            stretch(found.next(), out)
+        }
+        next => next,
+    };
+    match next {
+        Ok(is_there) => is_there,
+        Err(error) => {
+            out.refuse_named(error);
+            loader_again(found, out);
+            false
+        }
+    }
+}
+
+// The refusal once more.
+fn loader_again<S: StretchWalk>(found: &mut S, out: &mut Answer) {
     match found.next() {
         Err(error) => {
             out.text(", again ");
