@@ -13,12 +13,13 @@ use Rattle.addr2line_lookups.specs.ResolvedUnits.{AnsweredUnit, ResolvedUnit, va
 use Rattle.addr2line_lookups.specs.AnsweredUnits.{answers_of, IsOfFile, AreOfFile}
 use Rattle.addr2line_lookups.specs.KeptUnits.{AsksAmong, AsksForRow}
 use Rattle.addr2line_lookups.specs.KeptCalls.{known_among}
-use Rattle.addr2line_lookups.specs.LookupCosts.{probes_among, row_probes_at, frame_probes_at}
+use Rattle.addr2line_lookups.specs.LookupCosts.{row_looks}
+use Rattle.addr2line_lookups.specs.EntryReferences.{KnownUnits}
 use Rattle.addr2line_lookups.specs.ContextNames.{known_units}
 use Rattle.addr2line_lookups.proofs.NewUnits.{unit_of}
 use Rattle.addr2line_lookups.proofs.PendingUnits.{covering_by_numbers}
 use Rattle.addr2line_context.specs.AnsweredContexts.{AnsweredContext}
-use Rattle.addr2line_context.specs.ContextCosts.{answered_unit, units_with_answers, answered_units, ranges_over, location_looks, frame_looks, AsksForPlace}
+use Rattle.addr2line_context.specs.ContextCosts.{answered_unit, units_with_answers, answered_units, ranges_over, location_looks, AsksForPlace}
 use Rattle.addr2line_context.proofs.ContextParts.{context_with}
 use Rattle.addr2line_context.proofs.ContextWalks.{known_in}
 
@@ -63,17 +64,20 @@ module _ (file : DwarfFile) (us : List ResolvedUnit) (s : List UnitFacts)
       ∙ ap (λ (x : AnsweredContext). ranges_over x a) is
 
   -- those for a place
-  pub location_looks_here : probes_among (row_probes_at vs a) covering ≡ location_looks c a
+  pub location_looks_here : row_looks (map plain_unit us) vs a covering ≡ location_looks c a
   location_looks_here =
-      ap (λ ws. probes_among (row_probes_at ws a) covering) (sym answered_here)
-      ∙ ap (probes_among (row_probes_at (answered_units c) a)) ranges_here
+      ap (λ ws. row_looks (map plain_unit us) ws a covering) (sym answered_here)
+      ∙ ap (row_looks (map plain_unit us) (answered_units c) a) ranges_here
+      ∙ ap (λ (x : AnsweredContext). row_looks x.plain.context.units (answered_units c) a (ranges_over c a)) is
 
-  -- those for frames
-  pub frame_looks_here : probes_among (frame_probes_at (known_among us s) vs a) covering ≡ frame_looks c a
-  frame_looks_here =
-      ap (λ known. probes_among (frame_probes_at known vs a) covering) (sym known_here)
-      ∙ ap (λ ws. probes_among (frame_probes_at (known_units c.plain) ws a) covering) (sym answered_here)
-      ∙ ap (probes_among (frame_probes_at (known_units c.plain) (answered_units c) a)) ranges_here
+  -- those of a search
+  pub search_looks_here : (looks : KnownUnits → List AnsweredUnit → ℕ → List UnitRange → ℕ)
+      → looks (known_among us s) vs a covering
+      ≡ looks (known_units c.plain) (answered_units c) a (ranges_over c a)
+  search_looks_here looks =
+      ap (λ known. looks known vs a covering) (sym known_here)
+      ∙ ap (λ ws. looks (known_units c.plain) ws a covering) (sym answered_here)
+      ∙ ap (looks (known_units c.plain) (answered_units c) a) ranges_here
 
   -- the units that are asked for a place
   pub asks_here : (P : (ℕ → Type 0) → Type 0) → P (AsksForRow (map plain_unit us) a) → P (AsksForPlace c a)

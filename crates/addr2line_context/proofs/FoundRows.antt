@@ -9,7 +9,7 @@ use Rattle.addr2line_lookups.specs.ContextUnits.{ordered_ranges}
 use Rattle.addr2line_lookups.specs.ResolvedUnits.{ResolvedUnit, value_of_unit, plain_unit}
 use Rattle.addr2line_lookups.specs.AnsweredUnits.{AreOfFile}
 use Rattle.addr2line_lookups.specs.KeptUnits.{KeepsAsked, ReadsAsked, ReadsNoFunctions, AsksForRow}
-use Rattle.addr2line_lookups.specs.LookupCosts.{AtMostLooks, probes_among, row_probes_at}
+use Rattle.addr2line_lookups.specs.LookupCosts.{AtMostLooks, row_looks}
 use Rattle.addr2line_context.specs.KeptContexts.{ResolvedContext}
 use Rattle.addr2line_context.specs.ContextCosts.{location_looks, AsksForPlace, AfterReading}
 use Rattle.addr2line_context.proofs.ContextParts.{resolved_with, value_is, functions_since, after_lookup}
@@ -20,7 +20,8 @@ module _ (file : DwarfFile) (us : List ResolvedUnit) (s : List UnitFacts)
     (is : resolved_with file us s ≡ c) where
   abbrev looks : ℕ
   looks =
-      probes_among (row_probes_at (map value_of_unit us) a) (covering_ranges a (ordered_ranges (map plain_unit us)))
+      row_looks (map plain_unit us) (map value_of_unit us) a
+      (covering_ranges a (ordered_ranges (map plain_unit us)))
 
   pub after_row : (new : List ResolvedUnit) → map value_of_unit new ≡ map value_of_unit us → AtMostLooks looks us new
       → ReadsAsked (AsksForRow (map plain_unit us) a) us new → ReadsNoFunctions us new

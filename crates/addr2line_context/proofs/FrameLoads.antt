@@ -10,9 +10,9 @@ use Rattle.addr2line_lookups.specs.Contexts.{ContextUnit, ranges_of}
 use Rattle.addr2line_lookups.specs.Frames.{Frame}
 use Rattle.addr2line_lookups.specs.ResolvedUnits.{ResolvedUnit}
 use Rattle.addr2line_lookups.specs.UnitLookups.{IsPending, SettlesFrames}
-use Rattle.addr2line_lookups.specs.FramePlace.{FramePlace}
-use Rattle.addr2line_lookups.specs.Settled.{Settled}
-use Rattle.addr2line_lookups.specs.Settled.TheVariants.{Waits, Nothing, Found}
+use Rattle.addr2line_lookups.specs.declared.frame_place.FramePlace.{FramePlace}
+use Rattle.addr2line_lookups.specs.declared.settled.Settled.{Settled}
+use Rattle.addr2line_lookups.specs.declared.settled.Settled.TheVariants.{Waits, Nothing, Found}
 use Rattle.addr2line_lookups.proofs.PendingLoads.{waits_for_first, first_of_each}
 use Rattle.addr2line_context.specs.AnsweredContexts.{AnsweredContext}
 use Rattle.addr2line_context.specs.FrameLoads.{IsDone, TellsWaiting, TellsIfWaiting}

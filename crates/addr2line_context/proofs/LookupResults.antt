@@ -9,7 +9,7 @@ use Rattle.addr2line_lookups.specs.ResolvedUnits.{AnsweredUnit, ResolvedUnit}
 use Rattle.addr2line_lookups.specs.KeptUnits.{KeepsAt}
 use Rattle.addr2line_lookups.specs.FramePlaces.{LendsFrames, frames_at_place}
 use Rattle.addr2line_lookups.specs.UnitLookups.{IsPending, FoundFrames, FoundUnit, unit_at_number}
-use Rattle.addr2line_lookups.specs.FramePlace.{FramePlace}
+use Rattle.addr2line_lookups.specs.declared.frame_place.FramePlace.{FramePlace}
 
 module _ (us : List ResolvedUnit) (meaning : Lookup (Result (List Frame) Error)) (p : FramePlace) (left : List Frame)
     (lends : LendsFrames us p left) where

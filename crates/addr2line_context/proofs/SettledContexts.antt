@@ -14,20 +14,20 @@ use Rattle.addr2line_lookups.specs.ResolvedUnits.{AnsweredUnit, ResolvedUnit, va
 use Rattle.addr2line_lookups.specs.AnsweredUnits.{AreOfFile}
 use Rattle.addr2line_lookups.specs.KeptUnits.{KeepMoreFunctions, ReadsAsked, ReadsAskedFunctions}
 use Rattle.addr2line_lookups.specs.KeptCalls.{known_among, HoldCalls}
-use Rattle.addr2line_lookups.specs.LookupCosts.{AtMostLooks, probes_among, frame_probes_at}
+use Rattle.addr2line_lookups.specs.LookupCosts.{AtMostLooks, frame_search_looks, unit_search_looks}
 use Rattle.addr2line_lookups.specs.UnitLookups.{frames_among, SettlesFrames, unit_among, SettlesUnit}
 use Rattle.addr2line_lookups.specs.PassedUnits.{PassedAreKept, AsksFramesAmong, AsksUnitAmong, KeepsAskedFunctions}
-use Rattle.addr2line_lookups.specs.FramePlace.{FramePlace}
-use Rattle.addr2line_lookups.specs.Settled.{Settled}
+use Rattle.addr2line_lookups.specs.declared.frame_place.FramePlace.{FramePlace}
+use Rattle.addr2line_lookups.specs.declared.settled.Settled.{Settled}
 use Rattle.addr2line_lookups.proofs.CallsLeft.{known_same}
 use Rattle.addr2line_lookups.proofs.PassedUnits.{kept_still}
 use Rattle.addr2line_context.specs.Progresses.{IsIndexFor, PassFramesIn, PassUnitsIn, PassedAreKeptIn}
 use Rattle.addr2line_context.specs.KeptContexts.{ResolvedContext, HoldsUnits}
 use Rattle.addr2line_context.specs.declared.progress.Progress.{Progress}
-use Rattle.addr2line_context.specs.ContextCosts.{answered_units, ranges_over, frame_looks, AsksForFrames, AsksForUnit, AfterSearch}
+use Rattle.addr2line_context.specs.ContextCosts.{answered_units, ranges_over, frame_search, unit_search, AfterSearch}
 use Rattle.addr2line_context.specs.SettledLookups.{frames_in, unit_in}
 use Rattle.addr2line_context.proofs.ContextParts.{resolved_with, value_is, after_lookup}
-use Rattle.addr2line_context.proofs.ContextLooks.{answered_here, known_here, ranges_here, frame_looks_here}
+use Rattle.addr2line_context.proofs.ContextLooks.{answered_here, known_here, ranges_here, search_looks_here}
 use Rattle.addr2line_context.proofs.KeptUnits.{pass_for, frames_first, units_first, keeps_first, holds_calls}
 use Rattle.addr2line_context.proofs.AskedUnits.{frames_in_context, unit_in_context}
 
@@ -93,9 +93,9 @@ module _ (file : DwarfFile) (us : List ResolvedUnit) (s : List UnitFacts) {frame
         (still_kept more frames.probe frames.index holds.frames_are_kept) kept
 
     module _ (a : ℕ) (c : ResolvedContext) (is : resolved_with file us s ≡ c) where
-      abbrev looks_given : List UnitFacts → ℕ
-      looks_given units =
-          probes_among (frame_probes_at (known_among us units) (map value_of_unit us) a)
+      abbrev looks_given : (KnownUnits → List AnsweredUnit → ℕ → List UnitRange → ℕ) → List UnitFacts → ℕ
+      looks_given looks units =
+          looks (known_among us units) (map value_of_unit us) a
           (covering_ranges a (ordered_ranges (map plain_unit us)))
 
       abbrev covering : List UnitRange
@@ -121,18 +121,23 @@ module _ (file : DwarfFile) (us : List ResolvedUnit) (s : List UnitFacts) {frame
             (subst (λ (units : List UnitFacts). K (known_among us units)) given_is said))))
 
       -- what it leaves
-      after_search : (asks : KnownUnits → List AnsweredUnit → ℕ → List UnitRange → ℕ → Type 0) (has_memory : Type 0)
-          → AtMostLooks (looks_given given) us new
+      after_search : (asks : KnownUnits → List AnsweredUnit → ℕ → List UnitRange → ℕ → Type 0)
+          (looks : KnownUnits → List AnsweredUnit → ℕ → List UnitRange → ℕ) (has_memory : Type 0)
+          → AtMostLooks (looks_given looks given) us new
           → ReadsAsked (asks (known_among us given) (map value_of_unit us) a covering) us new
           → ReadsAskedFunctions (asks (known_among us given) (map value_of_unit us) a covering) us new
           → (has_memory → KeepsAskedFunctions (asks (known_among us given) (map value_of_unit us) a covering) new)
-          → AfterSearch (λ x b. asks (known_units x.plain) (answered_units x) b (ranges_over x b)) has_memory a c
-          (resolved_with file new s)
-      after_search asks has_memory looks reads functions asked =
+          → AfterSearch (record {
+            asks = λ x b. asks (known_units x.plain) (answered_units x) b (ranges_over x b);
+            looks = λ x b. looks (known_units x.plain) (answered_units x) b (ranges_over x b);
+          }) has_memory a c (resolved_with file new s)
+      after_search asks looks has_memory cost reads functions asked =
           let value = value_is file us s c is in
           let after =
-          after_lookup file us s c is (looks_given given) (frame_looks c.value a) new
-          (ap looks_given given_is ∙ frame_looks_here file us s holds.are_of_file a c.value value) same looks in
+          after_lookup file us s c is (looks_given looks given)
+          (looks (known_units c.value.plain) (answered_units c.value) a (ranges_over c.value a)) new
+          (ap (looks_given looks) given_is
+          ∙ search_looks_here file us s holds.are_of_file a c.value value looks) same cost in
           let among : KnownUnits → List AnsweredUnit → List UnitRange → ℕ → Type 0 = λ known vs. asks known vs a in
           record {
             value = after.value;
@@ -142,21 +147,24 @@ module _ (file : DwarfFile) (us : List ResolvedUnit) (s : List UnitFacts) {frame
             asked = λ has. said_here (λ asked_units old. KeepsAskedFunctions asked_units new) among (asked has);
           }
 
-      pub after_frames : (has_memory : Type 0) → AtMostLooks (looks_given given) us new
+      pub after_frames : (has_memory : Type 0) → AtMostLooks (looks_given frame_search_looks given) us new
           → ReadsAsked (AsksFramesAmong (known_among us given) (map value_of_unit us) a covering) us new
           → ReadsAskedFunctions (AsksFramesAmong (known_among us given) (map value_of_unit us) a covering) us new
           → (has_memory
           → KeepsAskedFunctions (AsksFramesAmong (known_among us given) (map value_of_unit us) a covering) new)
-          → AfterSearch AsksForFrames has_memory a c (resolved_with file new s)
-      after_frames = after_search (λ known vs b rs. AsksFramesAmong known vs b rs)
+          → AfterSearch frame_search has_memory a c (resolved_with file new s)
+      after_frames =
+          after_search (λ known vs b rs. AsksFramesAmong known vs b rs)
+          (λ known vs b rs. frame_search_looks known vs b rs)
 
-      pub after_unit : (has_memory : Type 0) → AtMostLooks (looks_given given) us new
+      pub after_unit : (has_memory : Type 0) → AtMostLooks (looks_given unit_search_looks given) us new
           → ReadsAsked (AsksUnitAmong (known_among us given) (map value_of_unit us) a covering) us new
           → ReadsAskedFunctions (AsksUnitAmong (known_among us given) (map value_of_unit us) a covering) us new
           → (has_memory
           → KeepsAskedFunctions (AsksUnitAmong (known_among us given) (map value_of_unit us) a covering) new)
-          → AfterSearch AsksForUnit has_memory a c (resolved_with file new s)
-      after_unit = after_search (λ known vs b rs. AsksUnitAmong known vs b rs)
+          → AfterSearch unit_search has_memory a c (resolved_with file new s)
+      after_unit =
+          after_search (λ known vs b rs. AsksUnitAmong known vs b rs) (λ known vs b rs. unit_search_looks known vs b rs)
 
       -- the frames that it finds
       abbrev frames_given : List UnitFacts → Lookup (Result (List Frame) Error)

@@ -9,8 +9,8 @@ use Rattle.addr2line_lookups.specs.ContextNames.{naming_in}
 use Rattle.addr2line_lookups.specs.Contexts.{ContextUnit, ranges_of}
 use Rattle.addr2line_lookups.specs.ResolvedUnits.{AnsweredUnit}
 use Rattle.addr2line_lookups.specs.UnitLookups.{SettlesUnit, unit_at_number}
-use Rattle.addr2line_lookups.specs.Settled.{Settled}
-use Rattle.addr2line_lookups.specs.Settled.TheVariants.{Waits, Nothing, Found}
+use Rattle.addr2line_lookups.specs.declared.settled.Settled.{Settled}
+use Rattle.addr2line_lookups.specs.declared.settled.Settled.TheVariants.{Waits, Nothing, Found}
 use Rattle.addr2line_lookups.proofs.PendingLoads.{waits_for_first, first_of_each}
 use Rattle.addr2line_context.specs.AnsweredContexts.{AnsweredContext}
 use Rattle.addr2line_context.specs.FrameLoads.{TellsWaiting, TellsIfWaiting}

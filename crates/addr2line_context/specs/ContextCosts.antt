@@ -10,20 +10,14 @@ use Rattle.addr2line_lookups.specs.Contexts.{ContextUnit, ranges_of}
 use Rattle.addr2line_lookups.specs.UnitRange.{UnitRange}
 use Rattle.addr2line_lookups.specs.NumberedRanges.{numbered_range, overlapping_ranges}
 use Rattle.addr2line_lookups.specs.ContextUnits.{unit_places, ordered_ranges}
-use Rattle.addr2line_lookups.specs.ResolvedUnits.{AnsweredUnit, ResolvedUnit, runs_if_kept}
+use Rattle.addr2line_lookups.specs.ResolvedUnits.{AnsweredUnit, ResolvedUnit}
 use Rattle.addr2line_lookups.specs.KeptUnits.{AsksAmong, KeepsAsked, ReadsAsked, ReadsAskedFunctions, ReadsNoFunctions, IsUnitOf}
 use Rattle.addr2line_lookups.specs.RangeWalks.{ComesTo, AsksForStretch}
 use Rattle.addr2line_lookups.specs.declared.range_walk.RangeWalk.{RangeWalk}
-use Rattle.addr2line_lookups.specs.LookupCosts.{AtMostLooks, probes_among, row_probes_at, frame_probes_at}
+use Rattle.addr2line_lookups.specs.LookupCosts.{AtMostLooks, row_looks, frame_search_looks, unit_search_looks}
 use Rattle.addr2line_lookups.specs.PassedUnits.{AsksFramesAmong, AsksUnitAmong, KeepsAskedFunctions}
 use Rattle.addr2line_context.specs.AnsweredContexts.{AnsweredContext}
 use Rattle.addr2line_context.specs.KeptContexts.{ResolvedContext}
-
--- ---- runs
-
--- how often the line number program of a unit was run
-abbrev pub runs_of_unit : ResolvedUnit → ℕ
-runs_of_unit u = runs_if_kept u.value.unit.facts u.keeps_lines
 
 -- ---- looks
 
@@ -45,14 +39,20 @@ answered_units c = units_with_answers c.plain.file c.plain.context.units c.answe
 abbrev pub ranges_over : AnsweredContext → ℕ → List UnitRange
 ranges_over c a = map numbered_range (covering_pairs ranges_of c.plain.context.units a)
 
--- the looks for the place of an address: for each such range, two searches among its unit's lines
+-- The looks for the place of an address: for each range whose unit a lookup asks, two searches
+-- among the unit's lines.
 abbrev pub location_looks : AnsweredContext → ℕ → ℕ
-location_looks c a = probes_among (row_probes_at (answered_units c) a) (ranges_over c a)
+location_looks c a =
+    row_looks c.plain.context.units (answered_units c) a (ranges_over c a)
 
--- those for its frames, or for its unit: among the functions and the calls of one, too
+-- those for its frames: among the functions of each such unit and the calls of one, too
 abbrev pub frame_looks : AnsweredContext → ℕ → ℕ
 frame_looks c a =
-    probes_among (frame_probes_at (known_units c.plain) (answered_units c) a) (ranges_over c a)
+    frame_search_looks (known_units c.plain) (answered_units c) a (ranges_over c a)
+
+-- those for its unit
+abbrev pub unit_looks : AnsweredContext → ℕ → ℕ
+unit_looks c a = unit_search_looks (known_units c.plain) (answered_units c) a (ranges_over c a)
 
 -- ---- what a lookup leaves
 
@@ -70,6 +70,19 @@ AsksForFrames c a = AsksFramesAmong (known_units c.plain) (answered_units c) a (
 -- later than the first that is the unit of the address, or whose load needs an answer.
 abbrev pub AsksForUnit : AnsweredContext → ℕ → ℕ → Type 0
 AsksForUnit c a = AsksUnitAmong (known_units c.plain) (answered_units c) a (ranges_over c a)
+
+-- a search for what an address has: the units that it asks, and the looks at what is kept of them
+pub record Search : Type 1 where
+  pub asks : AnsweredContext → ℕ → ℕ → Type 0
+  pub looks : AnsweredContext → ℕ → ℕ
+
+-- one for frames
+abbrev pub frame_search : Search
+frame_search = record { asks = AsksForFrames; looks = frame_looks }
+
+-- one for a unit
+abbrev pub unit_search : Search
+unit_search = record { asks = AsksForUnit; looks = unit_looks }
 
 -- the unit of a number is one that a walk over stretches may still ask for its lines
 abbrev pub AsksForStretches : AnsweredContext → RangeWalk → ℕ → Type 0
@@ -99,16 +112,15 @@ pub record AfterLookup (n : ℕ) (old new : ResolvedContext) : Type 0 where
   pub value : new.value ≡ old.value
   pub cost : AtMostLooks n old.units new.units
 
--- The same after a lookup of the frames of an address, or of its unit, which asks units. Where it
--- has memory, the functions of these are kept, but of one whose load needs an answer. It reads
--- lines and functions of no others.
-pub record AfterSearch (asks : AnsweredContext → ℕ → ℕ → Type 0) (has_memory : Type 0) (a : ℕ)
+-- The same after a search of an address. Where it has memory, the functions of the units that it
+-- asks are kept, but of one whose load needs an answer. It reads lines and functions of no others.
+pub record AfterSearch (search : Search) (has_memory : Type 0) (a : ℕ)
     (old new : ResolvedContext) : Type 0 where
   pub value : new.value ≡ old.value
-  pub cost : AtMostLooks (frame_looks old.value a) old.units new.units
-  pub reads : ReadsAsked (asks old.value a) old.units new.units
-  pub functions : ReadsAskedFunctions (asks old.value a) old.units new.units
-  pub asked : has_memory → KeepsAskedFunctions (asks old.value a) new.units
+  pub cost : AtMostLooks (search.looks old.value a) old.units new.units
+  pub reads : ReadsAsked (search.asks old.value a) old.units new.units
+  pub functions : ReadsAskedFunctions (search.asks old.value a) old.units new.units
+  pub asked : has_memory → KeepsAskedFunctions (search.asks old.value a) new.units
 
 -- The same after a call with this result that asks units for their lines. Unless it was out of
 -- memory, these are kept; it reads no others, and no functions.

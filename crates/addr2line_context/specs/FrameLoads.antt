@@ -6,8 +6,8 @@ use Rattle.addr2line_lookups.specs.FirstAnswers.{Lookup, output}
 use Rattle.addr2line_lookups.specs.ResolvedUnits.{AnsweredUnit}
 use Rattle.addr2line_lookups.specs.UnitFacts.{UnitInFile}
 use Rattle.addr2line_lookups.specs.UnitLookups.{IsPending, FoundUnit}
-use Rattle.addr2line_lookups.specs.Settled.{Settled}
-use Rattle.addr2line_lookups.specs.Settled.TheVariants.{Waits, Nothing, Found}
+use Rattle.addr2line_lookups.specs.declared.settled.Settled.{Settled}
+use Rattle.addr2line_lookups.specs.declared.settled.Settled.TheVariants.{Waits, Nothing, Found}
 
 -- something is found without a load
 abbrev pub IsDone : {A : Type 0} → Lookup A → Type 0

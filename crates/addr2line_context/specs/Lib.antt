@@ -33,6 +33,7 @@ pub use Rattle.addr2line_lookups.specs.Pairs
 pub use Rattle.addr2line_lookups.specs.PlaceLookups
 pub use Rattle.addr2line_lookups.specs.UnitLines
 pub use Rattle.addr2line_lookups.specs.UnitRanges
+pub use Rattle.addr2line_lookups.specs.UnitRange
 pub use Rattle.addr2line_lookups.specs.Results
 pub use Rattle.addr2line_lookups.specs.Repetition
 pub use Rattle.addr2line_lookups.specs.View

@@ -14,7 +14,7 @@ use Rattle.addr2line_lookups.specs.LookupCosts.{AtMostLooks}
 use Rattle.addr2line_lookups.specs.PassedUnits.{KeepsAskedFunctions}
 use Rattle.addr2line_context.specs.AnsweredContexts.{AnsweredContext}
 use Rattle.addr2line_context.specs.KeptContexts.{ResolvedContext}
-use Rattle.addr2line_context.specs.ContextCosts.{frame_looks, AfterSearch}
+use Rattle.addr2line_context.specs.ContextCosts.{Search, AfterSearch}
 use Rattle.addr2line_context.specs.Suspended.{HasMemory}
 use Rattle.addr2line_context.specs.declared.lookup.LookupResult.{LookupResult}
 use Rattle.addr2line_context.specs.declared.lookup.LookupResult.TheVariants.{Output}
@@ -60,33 +60,35 @@ RecordsAnswer result c a file new =
 -- there with this result. It reads lines and functions of no units but those that it asks after
 -- that answer. Unless it is out of memory, the functions of these are kept, but of one whose load
 -- needs an answer.
-pub record AfterAnswer {L X B W S E F : Type 0} (asks : AnsweredContext → ℕ → ℕ → Type 0)
+pub record AfterAnswer {L X B W S E F : Type 0} (search : Search)
     (result : LookupResult L (Result X Error) B W S E F) (old : ResolvedContext) (a : ℕ)
     (file : Option DwarfFile) (new : ResolvedContext) : Type 0 where
   pub value : RecordsAnswer result old.value a file new.value
-  pub cost : AtMostLooks (frame_looks (after_answer old.value a file) a) old.units new.units
-  pub reads : ReadsAsked (asks (after_answer old.value a file) a) old.units new.units
-  pub functions : ReadsAskedFunctions (asks (after_answer old.value a file) a) old.units new.units
+  pub cost : AtMostLooks (search.looks (after_answer old.value a file) a) old.units new.units
+  pub reads : ReadsAsked (search.asks (after_answer old.value a file) a) old.units new.units
+  pub functions : ReadsAskedFunctions (search.asks (after_answer old.value a file) a)
+      old.units new.units
   pub asked : HasMemory result
-      → KeepsAskedFunctions (asks (after_answer old.value a file) a) new.units
+      → KeepsAskedFunctions (search.asks (after_answer old.value a file) a) new.units
 
 -- ---- lookups that wait
 
 -- a lookup waits in the context that it found, at an address that has a load
-pub record IsFor (asks : AnsweredContext → ℕ → ℕ → Type 0) (old : ResolvedContext) (a : ℕ)
+pub record IsFor (search : Search) (old : ResolvedContext) (a : ℕ)
     (now : ResolvedContext) (probe : ℕ) : Type 0 where
-  pub after : AfterSearch asks (Unit {0}) a old now
+  pub after : AfterSearch search (Unit {0}) a old now
   pub place : probe ≡ a
   pub has_load : 0 < length (loads_in old.value a)
 
 -- one that waits again: at its address, in the context after an answer to the first load
-pub record WaitsAgain (asks : AnsweredContext → ℕ → ℕ → Type 0) (old : ResolvedContext) (a : ℕ)
+pub record WaitsAgain (search : Search) (old : ResolvedContext) (a : ℕ)
     (file : Option DwarfFile) (now : ResolvedContext) (probe : ℕ) : Type 0 where
   pub value : now.value ≡ after_answer old.value a file
-  pub cost : AtMostLooks (frame_looks (after_answer old.value a file) a) old.units now.units
-  pub reads : ReadsAsked (asks (after_answer old.value a file) a) old.units now.units
-  pub functions : ReadsAskedFunctions (asks (after_answer old.value a file) a) old.units now.units
-  pub asked : KeepsAskedFunctions (asks (after_answer old.value a file) a) now.units
+  pub cost : AtMostLooks (search.looks (after_answer old.value a file) a) old.units now.units
+  pub reads : ReadsAsked (search.asks (after_answer old.value a file) a) old.units now.units
+  pub functions : ReadsAskedFunctions (search.asks (after_answer old.value a file) a)
+      old.units now.units
+  pub asked : KeepsAskedFunctions (search.asks (after_answer old.value a file) a) now.units
   pub place : probe ≡ a
 
 -- the first of some loads, or out of memory

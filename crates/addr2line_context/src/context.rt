@@ -7,7 +7,7 @@ ghost use Rattle.addr2line_lookups.specs.Error.TheVariants.{Memory};
 ghost use Rattle.addr2line_lookups.specs.Lookups.{answer_load, map_output};
 ghost use Rattle.addr2line_lookups.specs.BorrowedFrames.{frames_left};
 ghost use Rattle.addr2line_lookups.specs.BorrowedLocations.{location_value};
-ghost use Rattle.addr2line_lookups.specs.ResolvedUnits.{value_of_unit, RunForRangesAlone};
+ghost use Rattle.addr2line_lookups.specs.ResolvedUnits.{value_of_unit, runs_of_unit, RunForRangesAlone};
 ghost use Rattle.addr2line_lookups.specs.KeptUnits.{KeepsAsked, ReadsAsked, ReadsNoLines, ReadsNoFunctions, AsksForLines};
 ghost use Rattle.addr2line_lookups.specs.LookupCosts.{AtMostLooks};
 ghost use Rattle.addr2line_lookups.specs.UnitParses.{KeepsParsed, KeepAllCalls};
@@ -20,7 +20,7 @@ ghost use Rattle.addr2line_lookups.specs.Histories.{functions_or_refusal, calls_
 ghost use Rattle.addr2line_lookups.specs.ContextNames.{naming_in};
 ghost use Rattle.addr2line_lookups.specs.Preloads.{load_at, load_of_item};
 ghost use Rattle.addr2line_context.specs.AnsweredContexts.{HasNoAnswers};
-ghost use Rattle.addr2line_context.specs.ContextCosts.{runs_of_unit, location_looks, AsksForPlace, AsksForFrames, AsksForUnit, AsksForNext, AsksBetween, AfterLookup, AfterSearch, AfterReading, AfterStep};
+ghost use Rattle.addr2line_context.specs.ContextCosts.{location_looks, AsksForPlace, frame_search, unit_search, AsksForNext, AsksBetween, AfterLookup, AfterSearch, AfterReading, AfterStep};
 ghost use Rattle.addr2line_context.specs.ContextParses.{ParsesOrNoMemory};
 ghost use Rattle.addr2line_context.specs.LocationRanges.{left_in};
 ghost use Rattle.addr2line_context.specs.RangeItems.{stretch_of_item};
@@ -164,7 +164,7 @@ impl<R: Reader> Context<R> {
     pub fn line_runs(&self, token: UnitToken) -> Option<&Runs>
         ensures runs { option_map (λ r. r.now) result
             ≡ option_map runs_of_unit (slice_get self.now.units token) }
-        ensures once { IfSome result (λ r. r.now ≤ 1) }
+        ensures once { IfSome result (λ r. r.now.count ≤ 1) }
     {
         runs_at(self.units.as_slice(), token.number())
     }
@@ -358,14 +358,14 @@ impl<R: Reader> Context<R> {
     pub fn find_frames(&mut self, probe: u64) -> LookupResult<FindFrames<'_, R>>
         ensures found { FollowsLookup frames_left result (frames_in self.old.value probe) }
         ensures waits { IfLoad
-            (λ w. IsFor AsksForFrames self.old probe w.context.now w.probe) result }
+            (λ w. IsFor frame_search self.old probe w.context.now w.probe) result }
         ensures skips { IfSkipped
             (λ w found. FindsFrames frames_left w.context.now.value w.probe found) result
             (FindsFrames frames_left self.old.value probe) }
         ensures* after { sem 𝓛 (RestsUnlessWaiting (the_row R.row R.Endian.row R.Offset.row R.Reader
             R.Endian.Endianity R.Offset.ReaderOffset.own R.Offset.Debug) self.entry
             (λ w. w.context.ghost_name) result
-            (AfterSearch AsksForFrames (HasMemory result) probe self.old)) }
+            (AfterSearch frame_search (HasMemory result) probe self.old)) }
     {
         match self.settle_frames(probe) {
             Ok(Settled::Waits) => LookupResult::Load(FindFrames {
@@ -390,13 +390,13 @@ impl<R: Reader> Context<R> {
         ensures found { FollowsLookup (λ u. u) result
             (map_output (λ u. Ok u) (unit_in self.old.value probe)) }
         ensures waits { IfLoad
-            (λ w. IsFor AsksForUnit self.old probe w.context.now w.probe) result }
+            (λ w. IsFor unit_search self.old probe w.context.now w.probe) result }
         ensures skips { IfSkipped (λ w found. FindsUnit w.context.now.value w.probe found) result
             (FindsUnit self.old.value probe) }
         ensures* after { sem 𝓛 (RestsUnlessWaiting (the_row R.row R.Endian.row R.Offset.row R.Reader
             R.Endian.Endianity R.Offset.ReaderOffset.own R.Offset.Debug) self.entry
             (λ w. w.context.ghost_name) result
-            (AfterSearch AsksForUnit (HasMemory result) probe self.old)) }
+            (AfterSearch unit_search (HasMemory result) probe self.old)) }
     {
         match self.settle_unit(probe) {
             Ok(Settled::Waits) => LookupResult::Load(FindUnit {
@@ -414,7 +414,7 @@ impl<R: Reader> Context<R> {
     // Where the frames of an address are, unless a load needs an answer before.
     pub(crate) fn settle_frames(&mut self, probe: u64) -> Result<Settled<FramePlace>, Error>
         ensures found { SettlesFrames self.new.units (frames_in self.old.value probe) result }
-        ensures after { AfterSearch AsksForFrames (result ≢ Err Memory) probe self.old self.new }
+        ensures after { AfterSearch frame_search (result ≢ Err Memory) probe self.old self.new }
     {
         let supplement_units = self.supplement_units.as_slice();
         let mut index = self.frames_progress.index_for(probe);
@@ -429,7 +429,7 @@ impl<R: Reader> Context<R> {
     pub(crate) fn settle_unit(&mut self, probe: u64) -> Result<Settled<usize>, Error>
         ensures found { SettlesUnit (map value_of_unit self.new.units)
             (unit_in self.old.value probe) result }
-        ensures after { AfterSearch AsksForUnit (result ≢ Err Memory) probe self.old self.new }
+        ensures after { AfterSearch unit_search (result ≢ Err Memory) probe self.old self.new }
     {
         let supplement_units = self.supplement_units.as_slice();
         let mut index = self.unit_progress.index_for(probe);

@@ -2,7 +2,7 @@
 
 ghost use Rattle.std.specs.Prelude.{◌≡◌, ◌≤◌, ◌<◌, None, length, option_map};
 ghost use Rattle.addr2line_lookups.specs.BorrowedFrames.{frames_left};
-ghost use Rattle.addr2line_context.specs.ContextCosts.{AsksForFrames};
+ghost use Rattle.addr2line_context.specs.ContextCosts.{frame_search, AsksForFrames};
 ghost use Rattle.addr2line_context.specs.SettledLookups.{frames_in, loads_in, after_answer, LoadOf, AfterAnswer, WaitsAgain};
 ghost use Rattle.addr2line_context.specs.SkippedLoads.{FindsFrames};
 ghost use Rattle.addr2line_context.specs.Suspended.{IfLoad, IfSkipped, FollowsLookup, RestsUnlessWaiting, loads_left};
@@ -24,7 +24,7 @@ impl<'ctx, R: Reader> LookupContinuation for FindFrames<'ctx, R> {
     ghost use Rattle.std.specs.Prelude.{◌≡◌, ◌≤◌, ◌<◌, None, length, option_map};
     ghost use Rattle.addr2line_lookups.specs.BorrowedFrames.{frames_left};
     ghost use Rattle.addr2line_context.specs.contracts.context.Context.{the_row};
-    ghost use Rattle.addr2line_context.specs.ContextCosts.{AsksForFrames};
+    ghost use Rattle.addr2line_context.specs.ContextCosts.{frame_search, AsksForFrames};
     ghost use Rattle.addr2line_context.specs.SettledLookups.{frames_in, loads_in, after_answer, LoadOf, AfterAnswer, WaitsAgain};
     ghost use Rattle.addr2line_context.specs.SkippedLoads.{FindsFrames};
     ghost use Rattle.addr2line_context.specs.Suspended.{IfLoad, IfSkipped, FollowsLookup, RestsUnlessWaiting, loads_left};
@@ -64,7 +64,7 @@ impl<'ctx, R: Reader> LookupContinuation for FindFrames<'ctx, R> {
         ensures found { FollowsLookup frames_left result
             (frames_in (after_answer self.entry.context.now.value self.entry.probe
             (option_map (λ f. f.value.file) input)) self.entry.probe) }
-        ensures again { IfLoad (λ w. WaitsAgain AsksForFrames self.entry.context.now
+        ensures again { IfLoad (λ w. WaitsAgain frame_search self.entry.context.now
             self.entry.probe (option_map (λ f. f.value.file) input) w.context.now w.probe) result }
         ensures skips { input ≡ None → IfSkipped
             (λ w found. FindsFrames frames_left w.context.now.value w.probe found) result
@@ -72,7 +72,7 @@ impl<'ctx, R: Reader> LookupContinuation for FindFrames<'ctx, R> {
         ensures* after { sem 𝓛 (RestsUnlessWaiting (the_row R.row R.Endian.row R.Offset.row R.Reader
             R.Endian.Endianity R.Offset.ReaderOffset.own R.Offset.Debug)
             self.entry.context (λ w. w.context.ghost_name) result
-            (AfterAnswer AsksForFrames result self.entry.context.now self.entry.probe
+            (AfterAnswer frame_search result self.entry.context.now self.entry.probe
             (option_map (λ f. f.value.file) input))) }
     {
         let FindFrames { context, probe } = self;

@@ -2,7 +2,7 @@
 
 ghost use Rattle.std.specs.Prelude.{◌≡◌, ◌≤◌, ◌<◌, Ok, None, length, option_map};
 ghost use Rattle.addr2line_lookups.specs.Lookups.{map_output};
-ghost use Rattle.addr2line_context.specs.ContextCosts.{AsksForUnit};
+ghost use Rattle.addr2line_context.specs.ContextCosts.{unit_search, AsksForUnit};
 ghost use Rattle.addr2line_context.specs.SettledLookups.{unit_in, loads_in, after_answer, LoadOf, AfterAnswer, WaitsAgain};
 ghost use Rattle.addr2line_context.specs.SkippedLoads.{FindsUnit};
 ghost use Rattle.addr2line_context.specs.Suspended.{IfLoad, IfSkipped, FollowsLookup, RestsUnlessWaiting, loads_left};
@@ -24,7 +24,7 @@ impl<'ctx, R: Reader> LookupContinuation for FindUnit<'ctx, R> {
     ghost use Rattle.std.specs.Prelude.{◌≡◌, ◌≤◌, ◌<◌, Ok, None, length, option_map};
     ghost use Rattle.addr2line_context.specs.contracts.context.Context.{the_row};
     ghost use Rattle.addr2line_lookups.specs.Lookups.{map_output};
-    ghost use Rattle.addr2line_context.specs.ContextCosts.{AsksForUnit};
+    ghost use Rattle.addr2line_context.specs.ContextCosts.{unit_search, AsksForUnit};
     ghost use Rattle.addr2line_context.specs.SettledLookups.{unit_in, loads_in, after_answer, LoadOf, AfterAnswer, WaitsAgain};
     ghost use Rattle.addr2line_context.specs.SkippedLoads.{FindsUnit};
     ghost use Rattle.addr2line_context.specs.Suspended.{IfLoad, IfSkipped, FollowsLookup, RestsUnlessWaiting, loads_left};
@@ -64,7 +64,7 @@ impl<'ctx, R: Reader> LookupContinuation for FindUnit<'ctx, R> {
         ensures found { FollowsLookup (λ u. u) result
             (map_output (λ u. Ok u) (unit_in (after_answer self.entry.context.now.value
             self.entry.probe (option_map (λ f. f.value.file) input)) self.entry.probe)) }
-        ensures again { IfLoad (λ w. WaitsAgain AsksForUnit self.entry.context.now
+        ensures again { IfLoad (λ w. WaitsAgain unit_search self.entry.context.now
             self.entry.probe (option_map (λ f. f.value.file) input) w.context.now w.probe) result }
         ensures skips { input ≡ None → IfSkipped
             (λ w found. FindsUnit w.context.now.value w.probe found) result
@@ -72,7 +72,7 @@ impl<'ctx, R: Reader> LookupContinuation for FindUnit<'ctx, R> {
         ensures* after { sem 𝓛 (RestsUnlessWaiting (the_row R.row R.Endian.row R.Offset.row R.Reader
             R.Endian.Endianity R.Offset.ReaderOffset.own R.Offset.Debug)
             self.entry.context (λ w. w.context.ghost_name) result
-            (AfterAnswer AsksForUnit result self.entry.context.now self.entry.probe
+            (AfterAnswer unit_search result self.entry.context.now self.entry.probe
             (option_map (λ f. f.value.file) input))) }
     {
         let FindUnit { context, probe } = self;

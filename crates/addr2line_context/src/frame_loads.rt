@@ -8,7 +8,7 @@ ghost use Rattle.addr2line_lookups.specs.BorrowedFrames.{frames_left};
 ghost use Rattle.addr2line_lookups.specs.Error.TheVariants.{Memory};
 ghost use Rattle.addr2line_lookups.specs.KeptUnits.{ReadsNoLines, ReadsNoFunctions};
 ghost use Rattle.addr2line_lookups.specs.LookupCosts.{AtMostLooks};
-ghost use Rattle.addr2line_context.specs.ContextCosts.{AsksForFrames, AfterSearch};
+ghost use Rattle.addr2line_context.specs.ContextCosts.{frame_search, AfterSearch};
 ghost use Rattle.addr2line_context.specs.FrameLoads.{IsDone, TellsWaiting, TellsIfWaiting, GivesDecided};
 ghost use Rattle.addr2line_context.specs.SettledLookups.{frames_in, loads_in, after_answer, LoadOf};
 ghost use Rattle.addr2line_context.specs.contracts.context.Context.{the_row};
@@ -37,7 +37,7 @@ pub(crate) fn is_waiting<P: Drop>(settled: Result<Settled<P>, Error>) -> Result<
 /// Whether the frames of an address wait for a load. What is read on the way is kept. The only
 /// error is out of memory.
 pub fn frames_wait<R: Reader>(context: &mut Context<R>, probe: u64) -> Result<bool, Error>
-    ensures after { AfterSearch AsksForFrames (result ≢ Err Memory) probe context.old context.new }
+    ensures after { AfterSearch frame_search (result ≢ Err Memory) probe context.old context.new }
     ensures waits { TellsWaiting (frames_in context.old.value probe) result }
 {
     let settled = context.settle_frames(probe);
@@ -85,7 +85,7 @@ pub fn find_decided_frames<R: Reader>(
     ensures found { GivesDecided frames_left result (frames_in context.old.value probe) }
     ensures* after { sem 𝓛 (Rests (the_row R.row R.Endian.row R.Offset.row R.Reader
         R.Endian.Endianity R.Offset.ReaderOffset.own R.Offset.Debug) context.entry
-        (AfterSearch AsksForFrames (result ≢ Err Memory) probe context.old)) }
+        (AfterSearch frame_search (result ≢ Err Memory) probe context.old)) }
 {
     match context.settle_frames(probe) {
         Ok(Settled::Found(place)) => Ok(context.units.frames_at_place(place)),

@@ -1,7 +1,7 @@
 //! How often the line number programs of units were run.
 
 ghost use Rattle.std.specs.Prelude.{◌≡◌, ◌≤◌, IfSome, slice_get, option_map};
-ghost use Rattle.addr2line_context.specs.ContextCosts.{runs_of_unit};
+ghost use Rattle.addr2line_lookups.specs.ResolvedUnits.{runs_of_unit};
 
 use addr2line_lookups::{Reader, ResUnit, Runs};
 
@@ -9,7 +9,7 @@ use addr2line_lookups::{Reader, ResUnit, Runs};
 pub(crate) fn runs_at<R: Reader>(units: &[ResUnit<R>], number: usize) -> Option<&Runs>
     ensures runs { option_map (λ r. r.now) result
         ≡ option_map runs_of_unit (slice_get units.now number) }
-    ensures once { IfSome result (λ r. r.now ≤ 1) }
+    ensures once { IfSome result (λ r. r.now.count ≤ 1) }
 {
     match units.get(number) {
         Some(unit) => Some(unit.runs()),

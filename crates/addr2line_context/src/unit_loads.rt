@@ -6,7 +6,7 @@ ghost use Rattle.std.specs.Prelude.{◌≡◌, ◌≢◌, Err, map};
 ghost use Rattle.addr2line_lookups.specs.Error.TheVariants.{Memory};
 ghost use Rattle.addr2line_lookups.specs.ResolvedUnits.{value_of_unit};
 ghost use Rattle.addr2line_lookups.specs.UnitLookups.{unit_at_number};
-ghost use Rattle.addr2line_context.specs.ContextCosts.{AsksForUnit, AfterSearch};
+ghost use Rattle.addr2line_context.specs.ContextCosts.{unit_search, AfterSearch};
 ghost use Rattle.addr2line_context.specs.FrameLoads.{IsDone, TellsWaiting, FindsUnitAt};
 ghost use Rattle.addr2line_context.specs.SettledLookups.{unit_in};
 
@@ -17,7 +17,7 @@ use addr2line_lookups::{Error, Reader, Settled, UnitRef, UnitToken};
 /// Whether the unit of an address waits for a load. What is read on the way is kept. The only error
 /// is out of memory.
 pub fn unit_waits<R: Reader>(context: &mut Context<R>, probe: u64) -> Result<bool, Error>
-    ensures after { AfterSearch AsksForUnit (result ≢ Err Memory) probe context.old context.new }
+    ensures after { AfterSearch unit_search (result ≢ Err Memory) probe context.old context.new }
     ensures waits { TellsWaiting (unit_in context.old.value probe) result }
 {
     let settled = context.settle_unit(probe);
@@ -31,7 +31,7 @@ pub fn find_decided_unit<R: Reader>(
     probe: u64,
 ) -> Result<Option<UnitToken>, Error>
     requires { IsDone (unit_in context.old.value probe) }
-    ensures after { AfterSearch AsksForUnit (result ≢ Err Memory) probe context.old context.new }
+    ensures after { AfterSearch unit_search (result ≢ Err Memory) probe context.old context.new }
     ensures found { FindsUnitAt (map value_of_unit context.new.units) result
         (unit_in context.old.value probe) }
 {

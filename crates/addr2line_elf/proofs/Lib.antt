@@ -1,5 +1,5 @@
 mod Loads
-mod TextLemmas
+pub mod TextLemmas
 mod NameLemmas
 mod NamePartLemmas
 mod SymbolNames

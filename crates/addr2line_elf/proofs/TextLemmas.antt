@@ -5,7 +5,8 @@ use Rattle.std.proofs.lemmas.Bool.{cases_lt, lt-ltb, le-ltb}
 use Rattle.std.proofs.lemmas.List.{take_min}
 use Rattle.addr2line_elf.specs.ElfTexts.{text_before_zero, is_text}
 
-abbrev before : List ℕ → Option (List ℕ)
+-- the bytes before the first zero byte, from the first on
+abbrev pub before : List ℕ → Option (List ℕ)
 before [] = None
 before (b ∷ bs) = cond (eqb b 0) (Some []) (option_map (λ t. b ∷ t) (before bs))
 
@@ -40,7 +41,7 @@ before_is-step b bs true rest =
 before_is-step b bs false rest =
     up_to-more (position_or_len is_zero bs) b bs ∙ ap (option_map (λ u. b ∷ u)) rest
 
-before_is : (bs : List ℕ) → text_before_zero bs ≡ before bs
+pub before_is : (bs : List ℕ) → text_before_zero bs ≡ before bs
 before_is [] = refl
 before_is (b ∷ bs) = before_is-step b bs (eqb b 0) (before_is bs)
 

@@ -12,9 +12,10 @@ pub enum Class {
 }
 
 impl Class {
-    // The bytes of an address, an offset or a size.
-    pub(crate) fn word_size(self) -> usize
+    /// The bytes of an address, an offset or a size.
+    pub fn word_size(self) -> usize
         ensures value { result ≡ word_size self }
+        ensures some { 4 ≤ result }
         ensures small { result ≤ 8 }
     {
         match self {
@@ -23,8 +24,8 @@ impl Class {
         }
     }
 
-    // The bytes of a section header.
-    pub(crate) fn section_header_size(self) -> u16
+    /// The bytes of a section header.
+    pub fn section_header_size(self) -> u16
         ensures value { result ≡ section_header_size self }
     {
         match self {

@@ -4,22 +4,26 @@ ghost use Rattle.std.specs.Prelude.{◌≡◌, ◌<◌, ◌==◌, ◌+◌, IfSom
 ghost use Rattle.std.specs.List.{slice_get, position, list_any};
 ghost use Rattle.gimli_core_readers.specs.View.{prefix};
 ghost use Rattle.gimli_core_readers.specs.ByteOrders.{is_big_endian};
-ghost use Rattle.addr2line_elf.specs.ImageLoading.{LoadsOrNoMemory};
+ghost use Rattle.addr2line_elf.specs.ImageLoading.{read_in, LoadsOrNoMemory};
+ghost use Rattle.addr2line_elf.specs.ElfHeaders.{file_header, header_at};
 ghost use Rattle.addr2line_elf.specs.ElfTexts.{is_text};
-ghost use Rattle.addr2line_elf.specs.ElfImages.{image_of, image_in, name_of, index_named, changes, waits_for_relocation, plain_contents, debug_contents, section_named, addresses, section_range};
+ghost use Rattle.addr2line_elf.specs.ElfImages.{image_of, image_in, contents, name_of, index_named, changes, waits_for_relocation, plain_contents, debug_contents, section_named, addresses, section_range};
 ghost use Rattle.addr2line_elf.specs.ElfSymbols.{symbols_of};
 
 use crate::class::Class;
 use crate::constants::{ET_REL, SHF_COMPRESSED, SHT_NOBITS, SHT_REL, SHT_RELA};
 use crate::error::LoadError;
-use crate::headers::SectionHeader;
+use crate::headers::{FileHeader, SectionHeader};
 use crate::identification::identify;
 use crate::reading::{in_file, nothing_of};
 use crate::symbols::{Symbols, symbol_table};
-use crate::table::{contents, linked_contents, parse_file_header, parse_sections};
-use crate::texts::is_text_at;
+use crate::table::{
+    borrowed_contents, contents, linked_contents, parse_file_header, parse_header_at,
+    parse_sections,
+};
+use crate::texts::{is_text_at, text_at};
 use bytes::Bytes;
-use gimli_core_readers::{EndianBytes, Reader, RunTimeEndian};
+use gimli_core_readers::{EndianBytes, EndianSlice, Reader, RunTimeEndian};
 use std::alloc::Global;
 use std::marker::Model;
 use std::ops::Range;
@@ -96,6 +100,67 @@ impl Elf {
         self.file.endian()
     }
 
+    /// The class of the file.
+    pub fn class(&self) -> Class
+        ensures { result ≡ self.now.class }
+    {
+        self.class
+    }
+
+    /// The bytes of the file.
+    pub fn as_bytes(&self) -> &[u8]
+        ensures { result.now ≡ self.now.file.bytes }
+    {
+        self.file.as_bytes()
+    }
+
+    /// The header of the file, read again. Takes no memory.
+    pub fn header(&self) -> Result<FileHeader, LoadError>
+        ensures { LoadsOrNoMemory result (read_in self.now.file (file_header self.now.class)) }
+    {
+        parse_file_header(&self.file, self.class)
+    }
+
+    /// The section header at an offset of the file. Takes no memory.
+    pub fn header_at(&self, offset: u64) -> Result<SectionHeader, LoadError>
+        ensures { LoadsOrNoMemory result
+            (read_in self.now.file (header_at self.now.class offset)) }
+    {
+        parse_header_at(&self.file, self.class, offset)
+    }
+
+    /// The section headers, in order.
+    pub fn sections(&self) -> &[SectionHeader]
+        ensures { result.now ≡ self.now.sections }
+    {
+        &self.sections
+    }
+
+    /// The bytes of the section with the sections' names.
+    pub fn names(&self) -> &[u8]
+        ensures { result.now ≡ self.now.names.bytes }
+    {
+        self.names.as_bytes()
+    }
+
+    /// The name of a section, if it ends.
+    pub fn name_of(&self, section: &SectionHeader) -> Option<&[u8]>
+        ensures { option_map (λ name. name.now) result ≡ name_of section.now self.now }
+    {
+        text_at(self.names.as_bytes(), section.name)
+    }
+
+    /// The bytes of a section, whatever it holds; none where it has none in the file. Takes no
+    /// memory.
+    pub fn contents(
+        &self,
+        section: &SectionHeader,
+    ) -> Result<EndianSlice<'_, RunTimeEndian>, LoadError>
+        ensures { LoadsOrNoMemory result (contents section.now self.now.file) }
+    {
+        borrowed_contents(&self.file, section)
+    }
+
     /// The bytes of the debugging section of a name, each with its offset in the file as
     /// identifier: none where no section has the name, or where it has no bytes in the file. Takes
     /// a little memory, and shares the bytes. It looks at each section.
@@ -145,8 +210,9 @@ impl Elf {
         }
     }
 
-    // The index of the first section of a name; the section at index 0 is skipped.
-    fn index_of(&self, name: &[u8]) -> Option<usize>
+    /// The index of the first section of a name; the section at index 0 is skipped. It looks at
+    /// each section.
+    pub fn index_of(&self, name: &[u8]) -> Option<usize>
         ensures value { result ≡ index_named name.now self.now }
         ensures within { IfSome result (λ index. index < length self.now.sections) }
     {

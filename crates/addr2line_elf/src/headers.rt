@@ -1,10 +1,13 @@
 //! The headers of an ELF file: that of the file, and those of its sections (System V ABI, "ELF
 //! Header" and "Sections").
 
+ghost use Rattle.std.specs.Prelude.{◌≡◌};
 ghost use Rattle.gimli_core_readers.specs.Calls.{ReturnsAs};
 ghost use Rattle.addr2line_elf.specs.ElfHeaders.{file_header, section_header};
+ghost use Rattle.addr2line_elf.specs.ElfImages.{section_count, names_index};
 
 use crate::class::Class;
+use crate::constants::SHN_XINDEX;
 use gimli_core_readers::{EndianSlice, Error, Reader, RunTimeEndian};
 
 /// What is read of a file's header, after its identification.
@@ -71,6 +74,29 @@ impl FileHeader {
             count,
             names,
         })
+    }
+
+    // The number of section headers.
+    pub(crate) fn section_count(&self, first: &SectionHeader) -> u64
+        ensures { result ≡ section_count self.now first.now }
+    {
+        if self.count == 0 {
+            first.size
+        } else {
+            u64::from(self.count)
+        }
+    }
+
+    /// The index of the section with the sections' names, which the first section header holds if
+    /// this one has no room for it.
+    pub fn names_index(&self, first: &SectionHeader) -> u32
+        ensures { result ≡ names_index self.now first.now }
+    {
+        if self.names == SHN_XINDEX {
+            first.link
+        } else {
+            u32::from(self.names)
+        }
     }
 }
 

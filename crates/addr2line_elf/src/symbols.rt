@@ -205,8 +205,8 @@ fn read_next(
     Ok(entries)
 }
 
-// The section with the symbols.
-pub(crate) fn symbol_table(sections: &[SectionHeader]) -> Option<&SectionHeader>
+/// The section with the symbols: the first with all of them, or else with those of dynamic linking.
+pub fn symbol_table(sections: &[SectionHeader]) -> Option<&SectionHeader>
     ensures { option_map (λ section. section.now) result ≡ symbol_table sections.now }
 {
     match first_of_type(sections, SHT_SYMTAB) {

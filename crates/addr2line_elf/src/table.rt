@@ -8,11 +8,11 @@ ghost use Rattle.gimli_core_readers.specs.Calls.{Returns, ReturnsAsOrNoMemory};
 ghost use Rattle.gimli_core_readers.specs.ByteOrders.{is_big_endian};
 ghost use Rattle.addr2line_elf.specs.ElfClasses.{section_header_size};
 ghost use Rattle.addr2line_elf.specs.ElfHeaders.{file_header, section_header, header_at, headers_at};
-ghost use Rattle.addr2line_elf.specs.ImageLoading.{read_in, LoadsAsOrNoMemory, LoadsOrNoMemory};
-ghost use Rattle.addr2line_elf.specs.ElfImages.{contents, linked_contents, section_count, names_index, table, sections_of};
+ghost use Rattle.addr2line_elf.specs.ImageLoading.{read_in, bytes_at, LoadsAsOrNoMemory, LoadsOrNoMemory};
+ghost use Rattle.addr2line_elf.specs.ElfImages.{contents, linked_contents, table, sections_of};
 
 use crate::class::Class;
-use crate::constants::{SHN_UNDEF, SHN_XINDEX, SHT_NOBITS};
+use crate::constants::{SHN_UNDEF, SHT_NOBITS};
 use crate::error::LoadError;
 use crate::headers::{FileHeader, SectionHeader};
 use crate::reading::{in_file, input_at, input_of, nothing_of, part_at};
@@ -73,48 +73,26 @@ fn parse_table(
         (λ sections. record { headers = sections.headers.items; names = sections.names }) result
         (table class header.now file.now) }
 {
-    let first = parse_first(file, class, header.table_offset)?;
-    let count = section_count(header, &first);
+    let first = parse_header_at(file, class, header.table_offset)?;
+    let count = header.section_count(&first);
     let headers = parse_all(alloc, file, class, header.table_offset, count)?;
-    let names = linked_contents(file, &headers, names_index(header, &first))?;
+    let names = linked_contents(file, &headers, header.names_index(&first))?;
     Ok(SectionTable { headers, names })
 }
 
-// The number of section headers.
-fn section_count(header: &FileHeader, first: &SectionHeader) -> u64
-    ensures { result ≡ section_count header.now first.now }
-{
-    if header.count == 0 {
-        first.size
-    } else {
-        u64::from(header.count)
-    }
-}
-
-// The index of the section with the sections' names.
-fn names_index(header: &FileHeader, first: &SectionHeader) -> u32
-    ensures { result ≡ names_index header.now first.now }
-{
-    if header.names == SHN_XINDEX {
-        first.link
-    } else {
-        u32::from(header.names)
-    }
-}
-
-// The first section header, which is at an offset.
+// The section header at an offset. Takes no memory.
 #[tactic(auto, using(crate::proofs::Loads::of_returned, crate::proofs::Loads::of_read))]
-fn parse_first(
+pub(crate) fn parse_header_at(
     file: &EndianBytes<RunTimeEndian>,
     class: Class,
     offset: u64,
 ) -> Result<SectionHeader, LoadError>
     ensures { LoadsOrNoMemory result (read_in file.now (header_at class offset)) }
 {
-    in_file(read_first(file, class, offset))
+    in_file(read_header_at(file, class, offset))
 }
 
-fn read_first(
+fn read_header_at(
     file: &EndianBytes<RunTimeEndian>,
     class: Class,
     offset: u64,
@@ -218,6 +196,40 @@ pub(crate) fn contents(
         return Ok(no_bytes(file.endian(), header.offset));
     }
     in_file(part_at(file, header.offset, header.size))
+}
+
+// The bytes of a section, borrowed. Takes no memory.
+#[tactic(auto, using(crate::proofs::Loads::of_returned, crate::proofs::Loads::of_read))]
+pub(crate) fn borrowed_contents<'a>(
+    file: &'a EndianBytes<RunTimeEndian>,
+    header: &SectionHeader,
+) -> Result<EndianSlice<'a, RunTimeEndian>, LoadError>
+    ensures { LoadsOrNoMemory result (contents header.now file.now) }
+{
+    match header.section_type {
+        SHT_NOBITS => Ok(borrowed_nothing(file.endian(), header.offset)),
+        _ => in_file(borrowed_part(file, header.offset, header.size)),
+    }
+}
+
+// A number of bytes from an offset on, borrowed.
+fn borrowed_part(
+    file: &EndianBytes<RunTimeEndian>,
+    offset: u64,
+    size: u64,
+) -> Result<EndianSlice<'_, RunTimeEndian>, Error>
+    ensures { Returns result (value_of (bytes_at offset size file.now)) }
+{
+    let mut part = input_at(file, offset)?;
+    part.truncate(size as usize)?;
+    Ok(part)
+}
+
+// No bytes, borrowed, at an offset of the file.
+fn borrowed_nothing(endian: RunTimeEndian, first: u64) -> EndianSlice<'static, RunTimeEndian>
+    ensures { result ≡ record { bytes = []; is_big = is_big_endian endian; first = first } }
+{
+    EndianSlice::with_first_id(&[], endian, ReaderOffsetId(first))
 }
 
 // No bytes, at an offset of the file.

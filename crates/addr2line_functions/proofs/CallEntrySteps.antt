@@ -339,11 +339,3 @@ some_depth z d fits is h = lt_is (pos 0) d (ap (int_lt (pos 0)) (sym (to_z-of_z 
 
 pub no_depth : (z d : ℤ) → FitsSigned w64 z → z ≡ d → int_lt (pos 0) (to_z w64 (of_z w64 z)) ≡ false → d ≤ℤ pos 0
 no_depth z d fits is h = not_lt_is (pos 0) d (ap (int_lt (pos 0)) (sym (to_z-of_z w64 z fits ∙ is)) ∙ h)
-
--- a value is no error
-pub never : {A P : Type 0} (x : A) (e : Error) → ok_of x ≡ Err e → P
-never x e h = absurd cc
-
--- a result that is a value has that value
-pub items_of_ok : (xs ys : List Call) → ok_of xs ≡ Ok ys → xs ≡ ys
-items_of_ok xs ys h = cc

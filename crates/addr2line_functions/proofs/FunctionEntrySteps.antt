@@ -204,7 +204,3 @@ is_when_not false h = absurd cc
 
 pub none_left : (n : ℕ) (b : Bool) → b ≡ not (n == 0) → b ≡ false → n ≡ 0
 none_left n b h k = eqb-true n 0 (is_when_not (n == 0) (sym h ∙ k))
-
--- a result that is a value has that value
-pub items_of_ok : (xs ys : List Function) → ok_of xs ≡ Ok ys → xs ≡ ys
-items_of_ok xs ys h = cc

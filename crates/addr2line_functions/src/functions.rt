@@ -1,6 +1,6 @@
 //! The functions of a unit.
 
-ghost use Rattle.std.specs.Prelude.{◌≡◌, ◌==◌, ◌≤◌, ◌++◌, [], not, option_map, option_to_list, slice_get, Ok, IfOk};
+ghost use Rattle.std.specs.Prelude.{◌≡◌, ◌==◌, ◌≤◌, [], not, option_map, slice_get, Ok, IfOk};
 ghost use Rattle.gimli_units_entries.specs.Calls.{ReturnsAsOrNoMemory, ReturnsOrNoMemory};
 ghost use Rattle.gimli_units_entries.specs.View.{bytes_left};
 ghost use Rattle.addr2line_names.specs.UnitFacts.{UnitInFile};
@@ -13,7 +13,7 @@ ghost use Rattle.addr2line_functions.specs.NextFunctions.{if_has_range, function
 use crate::function::Function;
 use crate::numbered_range::{NumberedRange, number_at, range_index};
 use crate::row::{EntryRow, next_row};
-use addr2line_ranges::{Probes, RangeIndex, UnitRef, ranges_of_entry};
+use addr2line_ranges::{Probes, RangeIndex, UnitRef, push_if_any, ranges_of_entry};
 use gimli_units_entries::{
     Attribute, DW_TAG_subprogram, EntriesRaw, Error, Range, Reader, ReaderOffset, UnitOffset,
 };
@@ -152,20 +152,6 @@ fn find_function<R: Reader>(entries: &mut EntriesRaw<'_, R>) -> bool
 {
     entries.skip_others(&[DW_TAG_subprogram], isize::MIN);
     !entries.is_empty()
-}
-
-// Appends a function, if there is one.
-fn push_if_any<O: ReaderOffset>(
-    functions: &mut Vec<Function<O>>,
-    function: Option<Function<O>>,
-) -> Result<(), Error>
-    ensures { ReturnsAsOrNoMemory (λ _. functions.new.items) result
-        (Ok (functions.old.items ++ option_to_list function)) }
-{
-    if let Some(function) = function {
-        functions.push(function)?;
-    }
-    Ok(())
 }
 
 // The functions of a unit that have a range, read from its entries.

@@ -1,6 +1,6 @@
 //! The calls of a function, read from the entries below its own.
 
-ghost use Rattle.std.specs.Prelude.{◌≡◌, pos, int_lt, ◌++◌, option_to_list, Ok};
+ghost use Rattle.std.specs.Prelude.{◌≡◌, pos, int_lt};
 ghost use Rattle.gimli_units_entries.specs.Calls.{ReturnsAsOrNoMemory, ReturnsOrNoMemory};
 ghost use Rattle.addr2line_functions.specs.EntryRowViews.{row_view};
 ghost use Rattle.addr2line_ranges.specs.InlinedCalls.{call_at, calls_among, entries_of};
@@ -12,7 +12,7 @@ use crate::naming::Names;
 use crate::nesting::Nesting;
 use crate::place::{call_file, number_or_0};
 use crate::{EntryRow, next_row};
-use addr2line_ranges::{UnitRef, entry_ranges};
+use addr2line_ranges::{UnitRef, entry_ranges, push_if_any};
 use gimli_units_entries::{
     Attribute, DW_AT_call_column, DW_AT_call_line, EntriesRaw, Error, Reader,
 };
@@ -98,17 +98,6 @@ fn find_call<R: Reader>(entries: &mut EntriesRaw<'_, R>, nesting: &mut Nesting) 
     nesting.leave(entries.next_depth());
     nesting.skip_inside(entries);
     entries.next_depth() > 0
-}
-
-// Appends a call, if there is one.
-fn push_if_any<R: Reader>(calls: &mut Vec<Call<R>>, call: Option<Call<R>>) -> Result<(), Error>
-    ensures { ReturnsAsOrNoMemory (λ _. calls.new.items) result
-        (Ok (calls.old.items ++ option_to_list call)) }
-{
-    if let Some(call) = call {
-        calls.push(call)?;
-    }
-    Ok(())
 }
 
 // The calls of a function, from the entries after its own, which is at depth 0.

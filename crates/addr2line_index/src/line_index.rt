@@ -5,7 +5,7 @@ ghost use Rattle.std.specs.Prelude.{◌≡◌, ◌+◌, ◌<◌, ◌==◌, ℕ, 
 ghost use Rattle.std.specs.String.{string_bytes};
 ghost use Rattle.addr2line_spec.specs.Calls.{ReturnsOrNoMemory};
 ghost use Rattle.addr2line_spec.specs.Error.TheVariants.{Memory};
-ghost use Rattle.addr2line_spec.specs.Lines.{range_of, row_at, row_location, place_in, lines_between};
+ghost use Rattle.addr2line_spec.specs.Lines.{range_of, row_at, row_location, lines_between};
 ghost use Rattle.addr2line_search.specs.Searches.{digit_count, AtMostProbes};
 ghost use Rattle.addr2line_index.specs.BorrowedLocations.{location_value};
 ghost use Rattle.addr2line_index.specs.LineCursors.{sequences_by_start, stretches_by_start};
@@ -254,15 +254,5 @@ impl LineIndex {
         ensures { location_value result ≡ row_location self.now.lines.files row.now }
     {
         row_location(self.indexed().files(), row)
-    }
-
-    /// The place of an address: that of its row.
-    pub fn find_location(&self, probe: u64, probes: &mut Probes) -> Option<Location<'_>>
-        requires counter { probes.old.name ≡ self.now.counter }
-        ensures place { option_map location_value result ≡ place_in self.now.lines probe }
-        ensures cost { AtMostProbes (place_probes self.now.lines probe) probes.old probes.new }
-    {
-        let row = self.find_row(probe, probes)?;
-        Some(self.location_of_row(&row))
     }
 }

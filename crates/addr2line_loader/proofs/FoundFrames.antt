@@ -1,7 +1,7 @@
 -- What a loader's lookup of frames leaves.
 use Rattle.std.proofs.Common.{◌≡◌, ◌≢◌, ◌∙◌, ℕ, List, Option, Result, Ok, Err, ap, subst}
 use Rattle.addr2line_context.specs.AnsweredContexts.{AnsweredContext}
-use Rattle.addr2line_context.specs.ContextCosts.{AsksForFrames, AfterSearch}
+use Rattle.addr2line_context.specs.ContextCosts.{frame_search, AfterSearch}
 use Rattle.addr2line_context.specs.Contexts.{FileContext}
 use Rattle.addr2line_context.specs.Error.{Error}
 use Rattle.addr2line_context.specs.Error.TheVariants.{Memory}
@@ -37,9 +37,9 @@ module _ {S F : Type 0} (answers : S → List ℕ → List ℕ → Result (Optio
       (record { answers = answered.value.answers; source = source_after }))
       (reads : ReadsForFrames answered.value a us answered.units)
       (alone : IsDone (frames_in (answered_context inside) a)
-      → AfterSearch AsksForFrames first_has a (record { value = answered_context inside; units = us }) answered)
+      → AfterSearch frame_search first_has a (record { value = answered_context inside; units = us }) answered)
       (left : ResolvedContext) (r : Result F Error)
-      (after : AfterSearch AsksForFrames (r ≢ err_of_type F Memory) a answered left)
+      (after : AfterSearch frame_search (r ≢ err_of_type F Memory) a answered left)
       (found : GivesDecided see r (frames_in answered.value a)) where
     abbrev asked : FirstAnswers → LoadState S
     asked x = record { answers = x; source = source_after }
@@ -76,7 +76,7 @@ module _ {S F : Type 0} (answers : S → List ℕ → List ℕ → Result (Optio
       (record { answers = answered.value.answers; source = source_after }))
       (reads : ReadsForFrames answered.value a us answered.units)
       (alone : IsDone (frames_in (answered_context inside) a)
-      → AfterSearch AsksForFrames first_has a (record { value = answered_context inside; units = us }) answered) where
+      → AfterSearch frame_search first_has a (record { value = answered_context inside; units = us }) answered) where
     pub stops_frames : (old : ResolvedFile) → record { file = inside; units = us } ≡ old
         → AfterFrames answers a see old source (err_of_type F e) (over_context inside answered) source_after
     stops_frames old is =

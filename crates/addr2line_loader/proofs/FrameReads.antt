@@ -1,7 +1,7 @@
 -- What lookups of the frames of an address read, one after the other.
 use Rattle.std.proofs.Common.{arith, ◌≡◌, ◌∙◌, ◌⊎◌, inl, inr, ℕ, ◌*◌, List, Option, refl, sym, ap, subst}
 use Rattle.addr2line_context.specs.AnsweredContexts.{AnsweredContext}
-use Rattle.addr2line_context.specs.ContextCosts.{frame_looks, AsksForFrames, AfterSearch}
+use Rattle.addr2line_context.specs.ContextCosts.{frame_looks, frame_search, AsksForFrames, AfterSearch}
 use Rattle.addr2line_context.specs.Contexts.{FileContext}
 use Rattle.addr2line_context.specs.DwarfFiles.{DwarfFile}
 use Rattle.addr2line_context.specs.FirstAnswers.{FirstAnswers}
@@ -88,7 +88,7 @@ module _ (c : AnsweredContext) (a : ℕ) where
 
 -- a lookup, and calls before it
 pub reads_then_search : {has_memory : Type 0} (a : ℕ) (us : List ResolvedUnit) (mid new : ResolvedContext)
-    → ReadsForFrames mid.value a us mid.units → AfterSearch AsksForFrames has_memory a mid new
+    → ReadsForFrames mid.value a us mid.units → AfterSearch frame_search has_memory a mid new
     → ReadsForFrames new.value a us new.units
 reads_then_search a us mid new h after =
     subst (λ (x : AnsweredContext). ReadsForFrames x a us new.units) (sym after.value)
@@ -103,7 +103,7 @@ reads_then_search a us mid new h after =
 
 -- the functions of the units that it asks are kept
 pub asked_by_search : {has_memory : Type 0} (a : ℕ) (mid new : ResolvedContext)
-    → AfterSearch AsksForFrames has_memory a mid new → has_memory
+    → AfterSearch frame_search has_memory a mid new → has_memory
     → KeepsAskedFunctions (AsksForFrames new.value a) new.units
 asked_by_search a mid new after has =
     subst (λ (x : AnsweredContext). KeepsAskedFunctions (AsksForFrames x a) new.units) (sym after.value)
@@ -138,11 +138,11 @@ waits_somewhere a old mid same done waits =
 
 -- the lookup is the first
 pub search_alone : (has_memory part_has : Type 0) (a : ℕ) (old mid new : ResolvedContext) → mid ≡ old
-    → (has_memory → part_has) → AfterSearch AsksForFrames part_has a mid new
-    → AfterSearch AsksForFrames has_memory a old new
+    → (has_memory → part_has) → AfterSearch frame_search part_has a mid new
+    → AfterSearch frame_search has_memory a old new
 search_alone has_memory part_has a old mid new same part after =
-    subst (λ (x : ResolvedContext). AfterSearch AsksForFrames has_memory a x new) same
-    (with_memory AsksForFrames has_memory part_has a mid new part after)
+    subst (λ (x : ResolvedContext). AfterSearch frame_search has_memory a x new) same
+    (with_memory frame_search has_memory part_has a mid new part after)
 
 -- ---- looks
 
@@ -160,7 +160,7 @@ looks_twice n m us vs ws same first then = record {
 
 -- those of two lookups, one after the other
 pub looks_of_two : {first_has has_memory : Type 0} (a : ℕ) (old mid new : ResolvedContext)
-    → AfterSearch AsksForFrames first_has a old mid → AfterSearch AsksForFrames has_memory a mid new
+    → AfterSearch frame_search first_has a old mid → AfterSearch frame_search has_memory a mid new
     → AtMostLooks (2 * frame_looks old.value a) old.units new.units
 looks_of_two a old mid new first then =
     looks_twice (frame_looks old.value a) (frame_looks mid.value a) old.units mid.units new.units
@@ -168,7 +168,7 @@ looks_of_two a old mid new first then =
 
 -- or of one
 pub looks_of_one : {has_memory : Type 0} (a : ℕ) (old new : ResolvedContext)
-    → AfterSearch AsksForFrames has_memory a old new → AtMostLooks (2 * frame_looks old.value a) old.units new.units
+    → AfterSearch frame_search has_memory a old new → AtMostLooks (2 * frame_looks old.value a) old.units new.units
 looks_of_one a old new first = record {
   counters = first.cost.counters;
   probes = omega (arith, first.cost.probes);

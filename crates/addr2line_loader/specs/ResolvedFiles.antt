@@ -5,7 +5,7 @@ use Rattle.addr2line_context.specs.ContextCosts.{location_looks, AsksForPlace, A
 use Rattle.addr2line_context.specs.Error.{Error}
 use Rattle.addr2line_context.specs.KeptContexts.{ResolvedContext}
 use Rattle.addr2line_context.specs.KeptUnits.{KeepsMore, KeepMoreFunctions, ReadsAsked, ReadsAskedFunctions}
-use Rattle.addr2line_context.specs.LookupCosts.{counter_of}
+use Rattle.addr2line_context.specs.LookupCosts.{counters_of}
 use Rattle.addr2line_context.specs.ResolvedUnits.{ResolvedUnit}
 use Rattle.addr2line_context.specs.RangeWalk.{RangeWalk}
 use Rattle.addr2line_loader.specs.LoadedFiles.{LoadedFile}
@@ -43,10 +43,10 @@ pub record AfterStretch {A : Type 0} (result : Result A Error) (old_walk new_wal
 
 -- Lookups of the frames of an address, which leave a context of this value, read lines and
 -- functions of no units but those that a lookup asks then. Lines, functions and calls that were
--- kept are kept still, so that no line number program is run again. Each unit has the counter that
+-- kept are kept still, so that no line number program is run again. Each unit has the counters that
 -- it had.
 pub record ReadsForFrames (c : AnsweredContext) (a : ℕ) (old new : List ResolvedUnit) : Type 0 where
-  pub counters : map counter_of new ≡ map counter_of old
+  pub counters : map counters_of new ≡ map counters_of old
   pub lines : KeepsMore old new
   pub functions : KeepMoreFunctions old new
   pub reads : ReadsAsked (AsksForFrames c a) old new

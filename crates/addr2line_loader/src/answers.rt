@@ -1,7 +1,7 @@
 //! The loads of a lookup, answered by the split files of a source.
 
 ghost use Rattle.std.specs.Prelude.{◌≡◌, ◌≢◌, ◌<◌, ℕ, length, OnOk, Err};
-ghost use Rattle.addr2line_context.specs.ContextCosts.{AsksForFrames, AfterSearch};
+ghost use Rattle.addr2line_context.specs.ContextCosts.{frame_search, AsksForFrames, AfterSearch};
 ghost use Rattle.addr2line_context.specs.Error.TheVariants.{Memory};
 ghost use Rattle.addr2line_context.specs.FrameLoads.{IsDone};
 ghost use Rattle.addr2line_context.specs.SettledLookups.{frames_in, loads_in};
@@ -28,7 +28,7 @@ pub(crate) fn answer_loads<S: SplitSource>(
         (record { answers = context.new.value.answers; source = source.new }) }
     ensures units { ReadsForFrames context.new.value probe context.old.units context.new.units }
     ensures alone { IsDone (frames_in context.old.value probe)
-        → AfterSearch AsksForFrames (result ≢ Err Memory) probe context.old context.new }
+        → AfterSearch frame_search (result ≢ Err Memory) probe context.old context.new }
 {
     while frames_wait(context, probe)? {
         answer_next(alloc, context, probe, source)?;

@@ -3,29 +3,29 @@ use Rattle.std.proofs.Common.{◌≡◌, ◌≢◌, ◌⊎◌, inl, inr, ℕ, tr
 use Rattle.std.specs.Prelude.{max, min}
 use Rattle.std.proofs.lemmas.Bool.{eqb-true}
 use Rattle.std.proofs.lemmas.Option.{slice_get-map}
-use Rattle.addr2line_unit_lookups.specs.Error.{Error}
-use Rattle.addr2line_unit_lookups.specs.Error.TheVariants.{Memory}
-use Rattle.addr2line_unit_lookups.specs.Repetition.{Listing, no_items, prepend}
-use Rattle.addr2line_unit_lookups.specs.Results.{and_then}
-use Rattle.addr2line_unit_lookups.specs.Lines.{Lines, Stretch, lines_between}
-use Rattle.addr2line_unit_lookups.specs.LineCursor.{LineCursor}
-use Rattle.addr2line_unit_lookups.specs.LineCursors.{lines_left}
-use Rattle.addr2line_unit_lookups.specs.PlaceLookups.{with_stretches}
-use Rattle.addr2line_unit_lookups.specs.Contexts.{ContextUnit}
-use Rattle.addr2line_unit_lookups.specs.UnitRange.{UnitRange}
-use Rattle.addr2line_unit_lookups.specs.RangePlace.{RangePlace}
-use Rattle.addr2line_unit_lookups.specs.NumberedRanges.{overlapping_ranges}
-use Rattle.addr2line_unit_lookups.specs.UnitPlaces.{UnitPlaces}
-use Rattle.addr2line_unit_lookups.specs.RangeIndexLaws.{with_unit_stretches}
-use Rattle.addr2line_unit_lookups.specs.ContextUnits.{unit_places}
-use Rattle.addr2line_unit_lookups.specs.ResolvedUnits.{ResolvedUnit, value_of_unit, plain_unit}
-use Rattle.addr2line_unit_lookups.specs.KeptUnits.{KeepsAt, KeepsMore, KeepsAsked, ReadsAsked, lines_if_unit, lines_at, check_of, check_at}
+use Rattle.addr2line_unit.specs.Error.{Error}
+use Rattle.addr2line_unit.specs.Error.TheVariants.{Memory}
+use Rattle.addr2line_unit.specs.Repetition.{Listing, no_items, prepend}
+use Rattle.addr2line_unit.specs.Results.{and_then}
+use Rattle.addr2line_unit.specs.Lines.{Lines, Stretch, lines_between}
+use Rattle.addr2line_unit.specs.LineCursor.{LineCursor}
+use Rattle.addr2line_unit.specs.LineCursors.{lines_left}
+use Rattle.addr2line_unit.specs.PlaceLookups.{with_stretches}
+use Rattle.addr2line_unit.specs.Contexts.{ContextUnit}
+use Rattle.addr2line_unit.specs.UnitRange.{UnitRange}
+use Rattle.addr2line_unit.specs.RangePlace.{RangePlace}
+use Rattle.addr2line_unit.specs.NumberedRanges.{overlapping_ranges}
+use Rattle.addr2line_unit.specs.UnitPlaces.{UnitPlaces}
+use Rattle.addr2line_unit.specs.RangeIndexLaws.{with_unit_stretches}
+use Rattle.addr2line_unit.specs.ContextUnits.{unit_places}
+use Rattle.addr2line_unit.specs.ResolvedUnits.{ResolvedUnit, value_of_unit, plain_unit}
+use Rattle.addr2line_lookups.specs.KeptUnits.{KeepsAt, KeepsMore, KeepsAsked, ReadsAsked, lines_if_unit, lines_at, check_of, check_at}
 use Rattle.addr2line_lookups.specs.RangeWalks.{clipped_left, unit_left, rows_left, BeginsRange, NextOfRows, IsUnitOfRows, HasNoStretch, AsksAlong, AsksForStretch, AreOfRange}
 use Rattle.addr2line_lookups.specs.declared.range_walk.RangeRows.{RangeRows}
 use Rattle.addr2line_lookups.specs.declared.range_walk.RangeWalk.{RangeWalk}
 use Rattle.addr2line_lookups.specs.declared.range_walk.UnitStretch.{UnitStretch}
-use Rattle.addr2line_unit_lookups.proofs.AskedLines.{AsksOn, asks_all, asks_none, all_kept_already, reads_all_here, asks_more, asks_last_of, kept_already, reads_here, asks_next, asks_last}
-use Rattle.addr2line_unit_lookups.proofs.KeptLines.{same_plain}
+use Rattle.addr2line_lookups.proofs.AskedLines.{AsksOn, asks_all, asks_none, all_kept_already, reads_all_here, asks_more, asks_last_of, kept_already, reads_here, asks_next, asks_last}
+use Rattle.addr2line_lookups.proofs.KeptLines.{same_plain}
 use Rattle.addr2line_lookups.proofs.RangeSteps.{ok_stretch}
 
 -- ---- a refusal of lines

@@ -2,15 +2,15 @@
 use Rattle.std.proofs.Common.{◌≡◌, ◌≢◌, ◌⊎◌, inl, inr, ℕ, zero, suc, ◌+◌, ◌<◌, ◌≤◌, true, List, [], ◌∷◌, length, map, set, get_or, slice_get, Option, Some, None, is_some, IfSome, option_map, Result, Ok, Err, refl, sym, ap, ◌∙◌, subst, arith}
 use Rattle.std.proofs.lemmas.Bool.{cases_lt}
 use Rattle.std.proofs.lemmas.Option.{slice_get-map, slice_get_past}
-use Rattle.addr2line_unit_lookups.specs.Error.{Error}
-use Rattle.addr2line_unit_lookups.specs.Error.TheVariants.{Memory}
-use Rattle.addr2line_unit_lookups.specs.KeptFunctions.{kept_at, count_of_functions}
-use Rattle.addr2line_unit_lookups.specs.ResolvedUnits.{AnsweredUnit, ResolvedUnit, value_of_unit, functions_of}
-use Rattle.addr2line_unit_lookups.specs.KeptUnits.{KeepsFunctionList, KeepsFunctionCalls, KeepMoreFunctions, KeepsFunctionsAt}
-use Rattle.addr2line_unit_lookups.specs.FunctionPlaces.{KeepsCallsAt}
-use Rattle.addr2line_unit_lookups.specs.UnitParses.{without_load, check_functions_of, ChecksOrNoMemory, after_turn_of, after_turn, check_unit_at, KeepAllFunctions, AsksForFunctions, KeepsAllCalls, KeepsAllCallsAt, KeepAllCalls}
-use Rattle.addr2line_unit_lookups.proofs.UnitTurns.{no_functions_past}
-use Rattle.addr2line_unit_lookups.proofs.CallsOfUnits.{value_here}
+use Rattle.addr2line_unit.specs.Error.{Error}
+use Rattle.addr2line_unit.specs.Error.TheVariants.{Memory}
+use Rattle.addr2line_unit.specs.KeptFunctions.{kept_at, count_of_functions}
+use Rattle.addr2line_unit.specs.ResolvedUnits.{AnsweredUnit, ResolvedUnit, value_of_unit, functions_of}
+use Rattle.addr2line_lookups.specs.KeptUnits.{KeepsFunctionList, KeepsFunctionCalls, KeepMoreFunctions, KeepsFunctionsAt}
+use Rattle.addr2line_lookups.specs.FunctionPlaces.{KeepsCallsAt}
+use Rattle.addr2line_lookups.specs.UnitParses.{without_load, check_functions_of, ChecksOrNoMemory, after_turn_of, after_turn, check_unit_at, KeepAllFunctions, AsksForFunctions, KeepsAllCalls, KeepsAllCallsAt, KeepAllCalls}
+use Rattle.addr2line_lookups.proofs.UnitTurns.{no_functions_past}
+use Rattle.addr2line_lookups.proofs.CallsOfUnits.{value_here}
 use Rattle.addr2line_lookups.proofs.KeptCallsAt.{one_further, of_all}
 
 -- ---- functions

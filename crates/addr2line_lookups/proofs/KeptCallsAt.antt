@@ -1,19 +1,19 @@
 -- The calls that are kept of the functions of the unit of a number.
 use Rattle.std.proofs.Common.{◌≡◌, ◌⊎◌, inl, inr, ℕ, ◌<◌, ◌≤◌, ◌+◌, true, List, length, map, get_or, slice_get, Option, Some, None, is_some, IfSome, Result, Ok, Err, sym, ap, ◌∙◌, subst, arith}
 use Rattle.std.proofs.lemmas.Bool.{cases_lt}
-use Rattle.addr2line_unit_lookups.specs.Error.{Error}
-use Rattle.addr2line_unit_lookups.specs.UnitFacts.{UnitFacts}
-use Rattle.addr2line_unit_lookups.specs.InlinedCalls.{FunctionCalls}
-use Rattle.addr2line_unit_lookups.specs.EntryReferences.{KnownUnits}
-use Rattle.addr2line_unit_lookups.specs.KeptFunctions.{kept_at, count_of_functions}
-use Rattle.addr2line_unit_lookups.specs.ResolvedUnits.{AnsweredUnit, ResolvedUnit, value_of_unit, functions_of, IsKeptOf}
-use Rattle.addr2line_unit_lookups.specs.KeptUnits.{KeepsFunctionsAt}
-use Rattle.addr2line_unit_lookups.specs.KeptCalls.{known_among, calls_among, HoldCalls}
-use Rattle.addr2line_unit_lookups.specs.FunctionPlaces.{KeepsCallsAt}
-use Rattle.addr2line_unit_lookups.specs.UnitParses.{refusal_of, ChecksOrNoMemory, check_call_of, check_if_any, check_unit_at, check_functions_of, check_calls_of}
-use Rattle.addr2line_unit_lookups.proofs.CallsLeft.{known_same}
-use Rattle.addr2line_unit_lookups.proofs.CallsOfUnits.{if_here, holds_here}
-use Rattle.addr2line_unit_lookups.proofs.UnitTurns.{check_before}
+use Rattle.addr2line_unit.specs.Error.{Error}
+use Rattle.addr2line_unit.specs.UnitFacts.{UnitFacts}
+use Rattle.addr2line_unit.specs.InlinedCalls.{FunctionCalls}
+use Rattle.addr2line_unit.specs.EntryReferences.{KnownUnits}
+use Rattle.addr2line_unit.specs.KeptFunctions.{kept_at, count_of_functions}
+use Rattle.addr2line_unit.specs.ResolvedUnits.{AnsweredUnit, ResolvedUnit, value_of_unit, functions_of, IsKeptOf}
+use Rattle.addr2line_lookups.specs.KeptUnits.{KeepsFunctionsAt}
+use Rattle.addr2line_lookups.specs.KeptCalls.{known_among, calls_among, HoldCalls}
+use Rattle.addr2line_lookups.specs.FunctionPlaces.{KeepsCallsAt}
+use Rattle.addr2line_lookups.specs.UnitParses.{refusal_of, ChecksOrNoMemory, check_call_of, check_if_any, check_unit_at, check_functions_of, check_calls_of}
+use Rattle.addr2line_lookups.proofs.CallsLeft.{known_same}
+use Rattle.addr2line_lookups.proofs.CallsOfUnits.{if_here, holds_here}
+use Rattle.addr2line_lookups.proofs.UnitTurns.{check_before}
 use Rattle.addr2line_lookups.proofs.UnitCalls.{calls_pass, calls_refuse, functions_refuse_calls}
 
 -- ---- what is kept

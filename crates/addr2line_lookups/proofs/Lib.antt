@@ -1,18 +1,29 @@
-pub use Rattle.addr2line_unit_lookups.proofs.NewUnits
-pub use Rattle.addr2line_unit_lookups.proofs.UnitsInOrder
-pub use Rattle.addr2line_unit_lookups.proofs.UnitAnswers
-pub use Rattle.addr2line_unit_lookups.proofs.PendingLoads
-pub use Rattle.addr2line_unit_lookups.proofs.AnsweredLoads
-pub use Rattle.addr2line_unit_lookups.proofs.AskedFunctions
-pub use Rattle.addr2line_unit_lookups.proofs.AskedLines
-pub use Rattle.addr2line_unit_lookups.proofs.CallsLeft
-pub use Rattle.addr2line_unit_lookups.proofs.ContextOfUnits
-pub use Rattle.addr2line_unit_lookups.proofs.KeptLines
-pub use Rattle.addr2line_unit_lookups.proofs.PassedUnits
-pub use Rattle.addr2line_unit_lookups.proofs.PendingUnits
-pub use Rattle.addr2line_unit_lookups.proofs.UnitChanges
-pub use Rattle.addr2line_unit_lookups.proofs.UnitProbes
-pub use Rattle.addr2line_unit_lookups.proofs.UnitRows
+pub use Rattle.addr2line_unit.proofs.NewUnits
+pub use Rattle.addr2line_unit.proofs.UnitsInOrder
+pub use Rattle.addr2line_unit.proofs.UnitAnswers
+pub use Rattle.addr2line_unit.proofs.UnitViews
+pub use Rattle.addr2line_unit.proofs.PendingLoads
+pub mod AddressSearches
+pub mod AnsweredLoads
+pub mod AskedFunctions
+pub mod AskedLines
+pub mod CallsLeft
+pub mod CallsOfUnits
+pub mod ContextOfUnits
+pub mod FirstLoads
+pub mod FoundFrames
+mod FoundFunctions
+pub mod KeptFunctionLists
+pub mod KeptLines
+pub mod LookupProbes
+pub mod PassedUnits
+pub mod PendingUnits
+pub mod ReadLines
+pub mod SettledUnits
+pub mod UnitChanges
+pub mod UnitProbes
+pub mod UnitRows
+pub mod UnitTurns
 mod RangeSteps
 mod ListedLoads
 mod UnitCalls

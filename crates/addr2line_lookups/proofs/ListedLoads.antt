@@ -10,12 +10,12 @@ use Rattle.std.proofs.lemmas.Bool.{cases_order, eqb-true, eq-eqb, ne_eqb}
 use Rattle.std.proofs.lemmas.List.{append-nil}
 use Rattle.std.proofs.lemmas.List.Elements.{filter_agree}
 use Rattle.std.proofs.lemmas.List.Folds.{list_any-append}
-use Rattle.addr2line_unit_lookups.specs.Error.{Error}
-use Rattle.addr2line_unit_lookups.specs.FirstAnswers.{PendingLoad}
-use Rattle.addr2line_unit_lookups.specs.Lookups.{other_than, one_each}
-use Rattle.addr2line_unit_lookups.specs.UnitRange.{UnitRange}
-use Rattle.addr2line_unit_lookups.specs.ResolvedUnits.{AnsweredUnit}
-use Rattle.addr2line_unit_lookups.specs.Preloads.{load_at, loads_at, is_listed, AreNumbersOf, with_load, with_load_if_any}
+use Rattle.addr2line_unit.specs.Error.{Error}
+use Rattle.addr2line_unit.specs.FirstAnswers.{PendingLoad}
+use Rattle.addr2line_unit.specs.Lookups.{other_than, one_each}
+use Rattle.addr2line_unit.specs.UnitRange.{UnitRange}
+use Rattle.addr2line_unit.specs.ResolvedUnits.{AnsweredUnit}
+use Rattle.addr2line_lookups.specs.Preloads.{load_at, loads_at, is_listed, AreNumbersOf, with_load, with_load_if_any}
 
 -- ---- filters
 

@@ -2,17 +2,17 @@
 use Rattle.std.proofs.Common.{◌≡◌, ℕ, zero, suc, ◌+◌, ◌≤◌, List, [], ◌∷◌, ◌++◌, length, map, set, take, Option, None, Result, Ok, Err, refl, sym, ap, ◌∙◌, subst, append_assoc, arith}
 use Rattle.std.proofs.lemmas.List.{length-map, take_all}
 use Rattle.std.proofs.lemmas.List.Elements.{All-head, All-tail}
-use Rattle.addr2line_unit_lookups.specs.Error.{Error}
-use Rattle.addr2line_unit_lookups.specs.DwarfFiles.{DwarfFile}
-use Rattle.addr2line_unit_lookups.specs.UnitFacts.{in_file}
-use Rattle.addr2line_unit_lookups.specs.FirstAnswers.{FirstAnswer, FirstAnswers, Lookup, recorded_answer, decision, first_or, with_answer, load_of}
-use Rattle.addr2line_unit_lookups.specs.Contexts.{ContextUnit, FileContext}
-use Rattle.addr2line_unit_lookups.specs.Histories.{parse_from, unless_refused as unless_refused_before}
-use Rattle.addr2line_unit_lookups.specs.ResolvedUnits.{AnsweredUnit, main_unit, first_answer}
-use Rattle.addr2line_unit_lookups.proofs.NewUnits.{unit_of}
-use Rattle.addr2line_unit_lookups.specs.AnsweredUnits.{answers_of, IsOfFile, AreOfFile}
-use Rattle.addr2line_unit_lookups.specs.UnitParses.{without_load, unless_refused, walk_first, walk_all}
-use Rattle.addr2line_unit_lookups.proofs.AnsweredLoads.{decided_after, answers_after}
+use Rattle.addr2line_unit.specs.Error.{Error}
+use Rattle.addr2line_unit.specs.DwarfFiles.{DwarfFile}
+use Rattle.addr2line_unit.specs.UnitFacts.{in_file}
+use Rattle.addr2line_unit.specs.FirstAnswers.{FirstAnswer, FirstAnswers, Lookup, recorded_answer, decision, first_or, with_answer, load_of}
+use Rattle.addr2line_unit.specs.Contexts.{ContextUnit, FileContext}
+use Rattle.addr2line_unit.specs.Histories.{parse_from, unless_refused as unless_refused_before}
+use Rattle.addr2line_unit.specs.ResolvedUnits.{AnsweredUnit, main_unit, first_answer}
+use Rattle.addr2line_unit.proofs.NewUnits.{unit_of}
+use Rattle.addr2line_lookups.specs.AnsweredUnits.{answers_of, IsOfFile, AreOfFile}
+use Rattle.addr2line_lookups.specs.UnitParses.{without_load, unless_refused, walk_first, walk_all}
+use Rattle.addr2line_lookups.proofs.AnsweredLoads.{decided_after, answers_after}
 use Rattle.addr2line_lookups.proofs.UnitWalks.{Walked}
 
 -- ---- lists

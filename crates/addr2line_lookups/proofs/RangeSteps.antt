@@ -3,28 +3,28 @@ use Rattle.std.proofs.Common.{◌≡◌, ℕ, max, min, List, [], ◌∷◌, dro
 use Rattle.std.specs.Prelude.{◌≢◌, option_and_then}
 use Rattle.std.specs.Borrow.{Bor}
 use Rattle.std.proofs.lemmas.Option.{slice_get-map}
-use Rattle.addr2line_unit_lookups.specs.Error.{Error}
-use Rattle.addr2line_unit_lookups.specs.Error.TheVariants.{Memory}
-use Rattle.addr2line_unit_lookups.specs.Repetition.{no_items, prepend}
-use Rattle.addr2line_unit_lookups.specs.Results.{and_then}
-use Rattle.addr2line_unit_lookups.specs.Lines.{Lines, row_location}
-use Rattle.addr2line_unit_lookups.specs.LineIndexes.{CountedLines}
-use Rattle.addr2line_unit_lookups.specs.Contexts.{ContextUnit, ranges_of, lines_of}
-use Rattle.addr2line_unit_lookups.specs.PlaceLookups.{stretches_between}
-use Rattle.addr2line_unit_lookups.specs.UnitRange.{UnitRange}
-use Rattle.addr2line_unit_lookups.specs.RangePlace.{RangePlace}
-use Rattle.addr2line_unit_lookups.specs.UnitPlaces.{UnitPlaces}
-use Rattle.addr2line_unit_lookups.specs.NumberedRanges.{overlapping_ranges}
-use Rattle.addr2line_unit_lookups.specs.RangeIndexLaws.{stretches_from}
-use Rattle.addr2line_unit_lookups.specs.LineCursor.{LineCursor}
-use Rattle.addr2line_unit_lookups.specs.LineCursors.{lines_left}
-use Rattle.addr2line_unit_lookups.specs.RowStretch.{RowStretch}
-use Rattle.addr2line_unit_lookups.specs.Stretches.{stretch_of_row}
-use Rattle.addr2line_unit_lookups.specs.StretchesLeft.{stretches_from_index}
-use Rattle.addr2line_unit_lookups.specs.ContextUnits.{unit_places, ordered_ranges}
-use Rattle.addr2line_unit_lookups.specs.ResolvedUnits.{ResolvedUnit, location_of_row}
-use Rattle.addr2line_unit_lookups.proofs.UnitViews.{stretches_of_views, stretches_by_numbers}
-use Rattle.addr2line_unit_lookups.specs.KeptUnits.{lines_if_unit, lines_at}
+use Rattle.addr2line_unit.specs.Error.{Error}
+use Rattle.addr2line_unit.specs.Error.TheVariants.{Memory}
+use Rattle.addr2line_unit.specs.Repetition.{no_items, prepend}
+use Rattle.addr2line_unit.specs.Results.{and_then}
+use Rattle.addr2line_unit.specs.Lines.{Lines, row_location}
+use Rattle.addr2line_unit.specs.LineIndexes.{CountedLines}
+use Rattle.addr2line_unit.specs.Contexts.{ContextUnit, ranges_of, lines_of}
+use Rattle.addr2line_unit.specs.PlaceLookups.{stretches_between}
+use Rattle.addr2line_unit.specs.UnitRange.{UnitRange}
+use Rattle.addr2line_unit.specs.RangePlace.{RangePlace}
+use Rattle.addr2line_unit.specs.UnitPlaces.{UnitPlaces}
+use Rattle.addr2line_unit.specs.NumberedRanges.{overlapping_ranges}
+use Rattle.addr2line_unit.specs.RangeIndexLaws.{stretches_from}
+use Rattle.addr2line_unit.specs.LineCursor.{LineCursor}
+use Rattle.addr2line_unit.specs.LineCursors.{lines_left}
+use Rattle.addr2line_unit.specs.RowStretch.{RowStretch}
+use Rattle.addr2line_unit.specs.Stretches.{stretch_of_row}
+use Rattle.addr2line_unit.specs.StretchesLeft.{stretches_from_index}
+use Rattle.addr2line_unit.specs.ContextUnits.{unit_places, ordered_ranges}
+use Rattle.addr2line_unit.specs.ResolvedUnits.{ResolvedUnit, location_of_row}
+use Rattle.addr2line_unit.proofs.UnitViews.{stretches_of_views, stretches_by_numbers}
+use Rattle.addr2line_lookups.specs.KeptUnits.{lines_if_unit, lines_at}
 use Rattle.addr2line_lookups.specs.RangeWalks.{clipped_left, unit_left, rows_left, BeginsRange, FirstStretch, NextInRange, NextOfRows, walk_left, stretches_left, FindsStretch}
 use Rattle.addr2line_lookups.specs.declared.range_walk.RangeRows.{RangeRows}
 use Rattle.addr2line_lookups.specs.declared.range_walk.RangeWalk.{RangeWalk}

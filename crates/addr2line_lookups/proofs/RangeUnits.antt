@@ -1,12 +1,12 @@
 -- Which units a walk over ranges comes to, one step after the other.
 use Rattle.std.proofs.Common.{◌≡◌, inl, inr, ℕ, List, [], ◌∷◌, drop, Option, Some, None, Result, Ok, Err, refl, sym, ap, ◌∙◌, subst}
-use Rattle.addr2line_unit_lookups.specs.Error.{Error}
-use Rattle.addr2line_unit_lookups.specs.Contexts.{ContextUnit}
-use Rattle.addr2line_unit_lookups.specs.UnitRange.{UnitRange}
-use Rattle.addr2line_unit_lookups.specs.RangePlace.{RangePlace}
-use Rattle.addr2line_unit_lookups.specs.NumberedRanges.{overlapping_ranges}
-use Rattle.addr2line_unit_lookups.specs.UnitPlaces.{UnitPlaces}
-use Rattle.addr2line_unit_lookups.specs.KeptUnits.{IsUnitOf}
+use Rattle.addr2line_unit.specs.Error.{Error}
+use Rattle.addr2line_unit.specs.Contexts.{ContextUnit}
+use Rattle.addr2line_unit.specs.UnitRange.{UnitRange}
+use Rattle.addr2line_unit.specs.RangePlace.{RangePlace}
+use Rattle.addr2line_unit.specs.NumberedRanges.{overlapping_ranges}
+use Rattle.addr2line_unit.specs.UnitPlaces.{UnitPlaces}
+use Rattle.addr2line_lookups.specs.KeptUnits.{IsUnitOf}
 use Rattle.addr2line_lookups.specs.RangeWalks.{NextOfRows, IsUnitOfRows, ComesTo, AsksAlong, AsksForStretch, StaysOnItsWay, AreOfRange}
 use Rattle.addr2line_lookups.specs.declared.range_walk.RangeRows.{RangeRows}
 use Rattle.addr2line_lookups.specs.declared.range_walk.RangeWalk.{RangeWalk}

@@ -2,12 +2,12 @@
 use Rattle.std.proofs.Common.{◌≡◌, inl, inr, ℕ, zero, suc, ◌+◌, ◌≤◌, List, [], ◌∷◌, length, map, slice_get, Option, Some, None, Result, Ok, Err, refl, sym, ap, ◌∙◌, subst, arith, add-one}
 use Rattle.std.proofs.lemmas.Simd.{map-map}
 use Rattle.std.proofs.lemmas.List.Elements.{All-cons, All-head, All-tail}
-use Rattle.addr2line_unit_lookups.specs.Error.{Error}
-use Rattle.addr2line_unit_lookups.specs.DwarfFiles.{DwarfFile}
-use Rattle.addr2line_unit_lookups.specs.ResolvedUnits.{ResolvedUnit, AnsweredUnit, value_of_unit, plain_unit}
-use Rattle.addr2line_unit_lookups.proofs.NewUnits.{unit_of}
-use Rattle.addr2line_unit_lookups.specs.AnsweredUnits.{IsOfFile, AreOfFile}
-use Rattle.addr2line_unit_lookups.specs.UnitParses.{without_load, ChecksOrNoMemory, after_turn_of, after_turn, check_unit_at, unless_refused, walk_first, walk_all, WalksOrNoMemory}
+use Rattle.addr2line_unit.specs.Error.{Error}
+use Rattle.addr2line_unit.specs.DwarfFiles.{DwarfFile}
+use Rattle.addr2line_unit.specs.ResolvedUnits.{ResolvedUnit, AnsweredUnit, value_of_unit, plain_unit}
+use Rattle.addr2line_unit.proofs.NewUnits.{unit_of}
+use Rattle.addr2line_lookups.specs.AnsweredUnits.{IsOfFile, AreOfFile}
+use Rattle.addr2line_lookups.specs.UnitParses.{without_load, ChecksOrNoMemory, after_turn_of, after_turn, check_unit_at, unless_refused, walk_first, walk_all, WalksOrNoMemory}
 
 abbrev pub Walked : Type 0
 Walked = Result (Unit {0}) Error × List AnsweredUnit

@@ -1,21 +1,21 @@
 -- The stretches between two ends that are left of a walk over the units' ranges.
 use Rattle.std.specs.Prelude.{◌≡◌, ◌≢◌, ◌⊎◌, ℕ, max, min, List, [], ◌∷◌, drop, map, slice_get, Option, Some, None, Result, Ok, Err}
-use Rattle.addr2line_unit_lookups.specs.Error.{Error}
-use Rattle.addr2line_unit_lookups.specs.Error.TheVariants.{Memory}
-use Rattle.addr2line_unit_lookups.specs.Repetition.{Listing, no_items, prepend}
-use Rattle.addr2line_unit_lookups.specs.Range.{Range}
-use Rattle.addr2line_unit_lookups.specs.Lines.{Lines, Stretch}
-use Rattle.addr2line_unit_lookups.specs.Contexts.{ContextUnit}
-use Rattle.addr2line_unit_lookups.specs.UnitRange.{UnitRange}
-use Rattle.addr2line_unit_lookups.specs.NumberedRanges.{overlapping_ranges}
-use Rattle.addr2line_unit_lookups.specs.UnitPlaces.{UnitPlaces}
-use Rattle.addr2line_unit_lookups.specs.RangeIndexLaws.{with_unit_stretches}
-use Rattle.addr2line_unit_lookups.specs.LineCursor.{LineCursor}
-use Rattle.addr2line_unit_lookups.specs.LineCursors.{lines_left}
-use Rattle.addr2line_unit_lookups.specs.StretchesLeft.{stretches_from_index}
-use Rattle.addr2line_unit_lookups.specs.ContextUnits.{unit_places, ordered_ranges}
-use Rattle.addr2line_unit_lookups.specs.ResolvedUnits.{ResolvedUnit}
-use Rattle.addr2line_unit_lookups.specs.KeptUnits.{KeepsAt, IsUnitOf, location_of_unit_row}
+use Rattle.addr2line_unit.specs.Error.{Error}
+use Rattle.addr2line_unit.specs.Error.TheVariants.{Memory}
+use Rattle.addr2line_unit.specs.Repetition.{Listing, no_items, prepend}
+use Rattle.addr2line_unit.specs.Range.{Range}
+use Rattle.addr2line_unit.specs.Lines.{Lines, Stretch}
+use Rattle.addr2line_unit.specs.Contexts.{ContextUnit}
+use Rattle.addr2line_unit.specs.UnitRange.{UnitRange}
+use Rattle.addr2line_unit.specs.NumberedRanges.{overlapping_ranges}
+use Rattle.addr2line_unit.specs.UnitPlaces.{UnitPlaces}
+use Rattle.addr2line_unit.specs.RangeIndexLaws.{with_unit_stretches}
+use Rattle.addr2line_unit.specs.LineCursor.{LineCursor}
+use Rattle.addr2line_unit.specs.LineCursors.{lines_left}
+use Rattle.addr2line_unit.specs.StretchesLeft.{stretches_from_index}
+use Rattle.addr2line_unit.specs.ContextUnits.{unit_places, ordered_ranges}
+use Rattle.addr2line_unit.specs.ResolvedUnits.{ResolvedUnit}
+use Rattle.addr2line_lookups.specs.KeptUnits.{KeepsAt, IsUnitOf, location_of_unit_row}
 use Rattle.addr2line_lookups.specs.declared.range_walk.RangeRows.{RangeRows}
 use Rattle.addr2line_lookups.specs.declared.range_walk.RangeWalk.{RangeWalk}
 use Rattle.addr2line_lookups.specs.declared.range_walk.UnitStretch.{UnitStretch}

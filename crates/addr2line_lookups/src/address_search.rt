@@ -1,14 +1,16 @@
 //! Searches for an address among units: what each finds, and what it makes of a refusal.
 
 ghost use Rattle.std.specs.Prelude.{◌≡◌, ℕ, Bool, List, Err};
-ghost use Rattle.addr2line_unit_lookups.specs.Error.{Error};
-ghost use Rattle.addr2line_unit_lookups.specs.Error.TheVariants.{Memory};
-ghost use Rattle.addr2line_unit_lookups.specs.FirstAnswers.{Lookup};
-ghost use Rattle.addr2line_unit_lookups.specs.EntryReferences.{KnownUnits};
-ghost use Rattle.addr2line_unit_lookups.specs.ResolvedUnits.{AnsweredUnit, ResolvedUnit};
-ghost use Rattle.addr2line_unit_lookups.specs.AddressSearches.{EndsSearch, SettlesFrom};
+ghost use Rattle.addr2line_unit.specs.Error.{Error};
+ghost use Rattle.addr2line_unit.specs.Error.TheVariants.{Memory};
+ghost use Rattle.addr2line_unit.specs.FirstAnswers.{Lookup};
+ghost use Rattle.addr2line_unit.specs.EntryReferences.{KnownUnits};
+ghost use Rattle.addr2line_unit.specs.ResolvedUnits.{AnsweredUnit, ResolvedUnit};
+ghost use Rattle.addr2line_lookups.specs.AddressSearches.{EndsSearch, SettlesFrom};
 
-use addr2line_unit_lookups::{Error, FramePlace, Settled};
+use crate::frame_place::FramePlace;
+use crate::settled::Settled;
+use addr2line_unit::Error;
 
 // A search for an address among units, one after the other.
 pub(crate) trait AddressSearch {
@@ -47,11 +49,11 @@ pub(crate) struct FrameSearch;
 
 impl AddressSearch for FrameSearch {
     ghost use Rattle.std.specs.Prelude.{List, [], Result, Ok, refl};
-    ghost use Rattle.addr2line_unit_lookups.specs.Error.{Error};
-    ghost use Rattle.addr2line_unit_lookups.specs.Frames.{Frame};
-    ghost use Rattle.addr2line_unit_lookups.specs.Lookups.{is_answer};
-    ghost use Rattle.addr2line_unit_lookups.specs.FramePlaces.{frames_of_answered};
-    ghost use Rattle.addr2line_unit_lookups.specs.UnitLookups.{FoundFrames, RefusesFrames, some_answer};
+    ghost use Rattle.addr2line_unit.specs.Error.{Error};
+    ghost use Rattle.addr2line_unit.specs.Frames.{Frame};
+    ghost use Rattle.addr2line_unit.specs.Lookups.{is_answer};
+    ghost use Rattle.addr2line_lookups.specs.FramePlaces.{frames_of_answered};
+    ghost use Rattle.addr2line_lookups.specs.UnitLookups.{FoundFrames, RefusesFrames, some_answer};
 
     type Found = FramePlace;
 
@@ -93,10 +95,10 @@ pub(crate) struct UnitSearch;
 
 impl AddressSearch for UnitSearch {
     ghost use Rattle.std.specs.Prelude.{◌≡◌, Option, None, refl};
-    ghost use Rattle.addr2line_unit_lookups.specs.Error.TheVariants.{Memory};
-    ghost use Rattle.addr2line_unit_lookups.specs.Lookups.{is_there};
-    ghost use Rattle.addr2line_unit_lookups.specs.UnitFacts.{UnitInFile};
-    ghost use Rattle.addr2line_unit_lookups.specs.UnitLookups.{unit_of_answered, unit_at_number, FoundUnit};
+    ghost use Rattle.addr2line_unit.specs.Error.TheVariants.{Memory};
+    ghost use Rattle.addr2line_unit.specs.Lookups.{is_there};
+    ghost use Rattle.addr2line_unit.specs.UnitFacts.{UnitInFile};
+    ghost use Rattle.addr2line_lookups.specs.UnitLookups.{unit_of_answered, unit_at_number, FoundUnit};
 
     type Found = usize;
 

@@ -1,21 +1,22 @@
 //! Searches for an address, settled by the units' numbers.
 
 ghost use Rattle.std.specs.Prelude.{◌≡◌, ◌≢◌, None, Err, map, is_some};
-ghost use Rattle.addr2line_unit_lookups.specs.Error.TheVariants.{Memory};
-ghost use Rattle.addr2line_unit_lookups.specs.ResolvedUnits.{value_of_unit};
-ghost use Rattle.addr2line_unit_lookups.specs.KeptUnits.{KeepsFunctionsAt};
-ghost use Rattle.addr2line_unit_lookups.specs.KeptCalls.{known_among, HoldCalls};
-ghost use Rattle.addr2line_unit_lookups.specs.Preloads.{load_at};
-ghost use Rattle.addr2line_unit_lookups.specs.UnitLookups.{ask_at, Settles, unit_at_number};
-ghost use Rattle.addr2line_unit_lookups.specs.PassedUnits.{Pass, PassedAreKept};
-ghost use Rattle.addr2line_unit_lookups.specs.AddressSearches.{SearchesUnit, SettlesAmong, found_nothing};
+ghost use Rattle.addr2line_unit.specs.Error.TheVariants.{Memory};
+ghost use Rattle.addr2line_unit.specs.ResolvedUnits.{value_of_unit};
+ghost use Rattle.addr2line_lookups.specs.KeptUnits.{KeepsFunctionsAt};
+ghost use Rattle.addr2line_lookups.specs.KeptCalls.{known_among, HoldCalls};
+ghost use Rattle.addr2line_lookups.specs.Preloads.{load_at};
+ghost use Rattle.addr2line_lookups.specs.UnitLookups.{ask_at, Settles, unit_at_number};
+ghost use Rattle.addr2line_lookups.specs.PassedUnits.{Pass, PassedAreKept};
+ghost use Rattle.addr2line_lookups.specs.AddressSearches.{SearchesUnit, SettlesAmong, found_nothing};
 
 use crate::address_search::AddressSearch;
+use crate::covering::next_covering;
+use crate::frame_place::find_frames_at;
 use crate::preload::load_at;
-use addr2line_unit_lookups::{
-    Error, Reader, ResUnit, Settled, Unit, UnitRanges, UnitRef, find_frames_at, next_covering,
-    unit_at,
-};
+use crate::settle::unit_at;
+use crate::settled::Settled;
+use addr2line_unit::{Error, Reader, ResUnit, Unit, UnitRanges, UnitRef};
 use std::alloc::Global;
 
 // Whether the load of the unit of a number needs an answer.

@@ -1,14 +1,14 @@
 //! The lines of all units.
 
 ghost use Rattle.std.specs.Prelude.{◌≡◌, ◌≢◌, Err, map};
-ghost use Rattle.addr2line_unit_lookups.specs.Calls.{ReturnsOrNoMemory};
-ghost use Rattle.addr2line_unit_lookups.specs.Error.TheVariants.{Memory};
-ghost use Rattle.addr2line_unit_lookups.specs.Contexts.{all_lines_or_refusal};
-ghost use Rattle.addr2line_unit_lookups.specs.ResolvedUnits.{plain_unit};
-ghost use Rattle.addr2line_unit_lookups.specs.KeptUnits.{KeepsAt, KeepsAsked, ReadsAsked, AsksForLines, check_at};
-ghost use Rattle.addr2line_unit_lookups.specs.LookupCosts.{ReadsLines};
+ghost use Rattle.addr2line_unit.specs.Calls.{ReturnsOrNoMemory};
+ghost use Rattle.addr2line_unit.specs.Error.TheVariants.{Memory};
+ghost use Rattle.addr2line_unit.specs.Contexts.{all_lines_or_refusal};
+ghost use Rattle.addr2line_unit.specs.ResolvedUnits.{plain_unit};
+ghost use Rattle.addr2line_lookups.specs.KeptUnits.{KeepsAt, KeepsAsked, ReadsAsked, AsksForLines, check_at};
+ghost use Rattle.addr2line_lookups.specs.LookupCosts.{ReadsLines};
 
-use addr2line_unit_lookups::{Error, Reader, ResUnit};
+use addr2line_unit::{Error, Reader, ResUnit};
 use std::alloc::Global;
 
 // Whether the lines of the unit of a number can be read, or else the refusal; they are read and

@@ -1,14 +1,14 @@
 //! The functions of all units.
 
 ghost use Rattle.std.specs.Prelude.{◌≡◌, ◌≢◌, ◌<◌, true, None, Err, map};
-ghost use Rattle.addr2line_unit_lookups.specs.Error.TheVariants.{Memory};
-ghost use Rattle.addr2line_unit_lookups.specs.ResolvedUnits.{pending_load, value_of_unit};
-ghost use Rattle.addr2line_unit_lookups.specs.KeptUnits.{ReadsNoLines, KeepsFunctionsAt};
-ghost use Rattle.addr2line_unit_lookups.specs.KeptCalls.{LeavesCalls, LeavesCallsOf};
-ghost use Rattle.addr2line_unit_lookups.specs.LookupCosts.{AtMostLooks, AtMostLooksOf};
-ghost use Rattle.addr2line_unit_lookups.specs.UnitParses.{without_load, check_functions_of, ChecksOrNoMemory, after_turn, check_unit_at, KeepsParsed, WalksOrNoMemory};
+ghost use Rattle.addr2line_unit.specs.Error.TheVariants.{Memory};
+ghost use Rattle.addr2line_unit.specs.ResolvedUnits.{pending_load, value_of_unit};
+ghost use Rattle.addr2line_lookups.specs.KeptUnits.{ReadsNoLines, KeepsFunctionsAt};
+ghost use Rattle.addr2line_lookups.specs.KeptCalls.{LeavesCalls, LeavesCallsOf};
+ghost use Rattle.addr2line_lookups.specs.LookupCosts.{AtMostLooks, AtMostLooksOf};
+ghost use Rattle.addr2line_lookups.specs.UnitParses.{without_load, check_functions_of, ChecksOrNoMemory, after_turn, check_unit_at, KeepsParsed, WalksOrNoMemory};
 
-use addr2line_unit_lookups::{Error, Reader, ResUnit};
+use addr2line_unit::{Error, Reader, ResUnit};
 use std::alloc::Global;
 
 // Answers the load of a unit by no file, if it is pending.

@@ -1,15 +1,16 @@
 //! The loads that lookups of an address may wait for.
 
 ghost use Rattle.std.specs.Prelude.{◌≡◌, ◌≢◌, [], None, Ok, Err, OnOk, map, option_map};
-ghost use Rattle.addr2line_unit_lookups.specs.Calls.{ReturnsAsOrNoMemory};
-ghost use Rattle.addr2line_unit_lookups.specs.Error.TheVariants.{Memory};
-ghost use Rattle.addr2line_unit_lookups.specs.Lookups.{one_each};
-ghost use Rattle.addr2line_unit_lookups.specs.NumberedRanges.{covering_ranges};
-ghost use Rattle.addr2line_unit_lookups.specs.ResolvedUnits.{pending_load, value_of_unit};
-ghost use Rattle.addr2line_unit_lookups.specs.Preloads.{numbered_load, load_at, loads_at, load_of_item, AreNumbersOf, with_load, with_load_if_any};
+ghost use Rattle.addr2line_unit.specs.Calls.{ReturnsAsOrNoMemory};
+ghost use Rattle.addr2line_unit.specs.Error.TheVariants.{Memory};
+ghost use Rattle.addr2line_unit.specs.Lookups.{one_each};
+ghost use Rattle.addr2line_unit.specs.NumberedRanges.{covering_ranges};
+ghost use Rattle.addr2line_unit.specs.ResolvedUnits.{value_of_unit};
+ghost use Rattle.addr2line_lookups.specs.Preloads.{numbered_load, load_at, loads_at, load_of_item, AreNumbersOf, with_load, with_load_if_any};
 
+use crate::settle::unit_at;
 use crate::token::UnitToken;
-use addr2line_unit_lookups::{Error, Reader, ResUnit, SplitDwarfLoad, UnitRanges, unit_at};
+use addr2line_unit::{Error, Reader, ResUnit, SplitDwarfLoad, UnitRanges};
 use std::alloc::Global;
 use std::collections::BTreeSet;
 

@@ -2,22 +2,22 @@
 //! it, and kept.
 
 ghost use Rattle.std.specs.Prelude.{◌≡◌, ◌≢◌, ℕ, List, Ok, Err, map, option_map, MatchOption, IfOk};
-ghost use Rattle.addr2line_unit_lookups.specs.Calls.{ReturnsAs};
-ghost use Rattle.addr2line_unit_lookups.specs.Error.TheVariants.{Memory};
-ghost use Rattle.addr2line_unit_lookups.specs.Contexts.{ContextUnit, ranges_of, lines_of};
-ghost use Rattle.addr2line_unit_lookups.specs.PlaceLookups.{stretches_between};
-ghost use Rattle.addr2line_unit_lookups.specs.UnitRange.{UnitRange as Numbered};
-ghost use Rattle.addr2line_unit_lookups.specs.NumberedRanges.{overlapping_ranges};
-ghost use Rattle.addr2line_unit_lookups.specs.ContextUnits.{unit_places};
-ghost use Rattle.addr2line_unit_lookups.specs.ResolvedUnits.{KeepsLines, plain_unit};
-ghost use Rattle.addr2line_unit_lookups.specs.KeptUnits.{KeepsAt, KeepsAsked, ReadsAsked, IsUnitOf, lines_at, check_at};
-ghost use Rattle.addr2line_unit_lookups.specs.LookupCosts.{ReadsLines};
+ghost use Rattle.addr2line_unit.specs.Calls.{ReturnsAs};
+ghost use Rattle.addr2line_unit.specs.Error.TheVariants.{Memory};
+ghost use Rattle.addr2line_unit.specs.Contexts.{ContextUnit, ranges_of, lines_of};
+ghost use Rattle.addr2line_unit.specs.PlaceLookups.{stretches_between};
+ghost use Rattle.addr2line_unit.specs.UnitRange.{UnitRange as Numbered};
+ghost use Rattle.addr2line_unit.specs.NumberedRanges.{overlapping_ranges};
+ghost use Rattle.addr2line_unit.specs.ContextUnits.{unit_places};
+ghost use Rattle.addr2line_unit.specs.ResolvedUnits.{KeepsLines, plain_unit};
+ghost use Rattle.addr2line_lookups.specs.KeptUnits.{KeepsAt, KeepsAsked, ReadsAsked, IsUnitOf, lines_at, check_at};
+ghost use Rattle.addr2line_lookups.specs.LookupCosts.{ReadsLines};
 ghost use Rattle.addr2line_lookups.specs.RangeWalks.{BeginsRange, NextInRange, NextOfRows, KeepsStretch, FindsStretch, walk_left, stretches_left, AreOfRange, IsUnitOfRows, ComesTo, AsksForStretch, StaysOnItsWay};
 
 use crate::parsing::check_at;
-use addr2line_unit_lookups::{
+use crate::settle::{UnitRow, read_at, unit_at};
+use addr2line_unit::{
     Error, LineCursor, LineIndex, RangePlace, Reader, ResUnit, RowStretch, UnitRange, UnitRanges,
-    UnitRow, read_at, unit_at,
 };
 use std::alloc::Global;
 
@@ -71,7 +71,7 @@ fn lines_of<R: Reader>(unit: &ResUnit<R>) -> Result<&LineIndex, Error>
     ensures counter { IfOk result (λ l. l.now.counter ≡ unit.now.probes.name) }
 {
     match unit.kept_lines() {
-        Some(Ok(lines)) => Ok(lines),
+        Some(Ok(lines)) => Ok(lines.index()),
         Some(Err(error)) => Err(*error),
         None => unreachable!(),
     }

@@ -1,40 +1,43 @@
 //! The units of a context with their ranges, in the order in which lookups ask them.
 
 ghost use Rattle.std.specs.Prelude.{◌≡◌, ◌≢◌, [], None, Ok, Err, map, option_map, IfOk, OnOk, IfErr};
-ghost use Rattle.addr2line_unit_lookups.specs.Calls.{ReturnsAsOrNoMemory, ReturnsOrNoMemory};
-ghost use Rattle.addr2line_unit_lookups.specs.Error.TheVariants.{Memory};
-ghost use Rattle.addr2line_unit_lookups.specs.Contexts.{all_lines_or_refusal};
-ghost use Rattle.addr2line_unit_lookups.specs.BorrowedLocations.{location_value};
-ghost use Rattle.addr2line_unit_lookups.specs.Lookups.{one_each};
-ghost use Rattle.addr2line_unit_lookups.specs.NumberedRanges.{covering_ranges};
-ghost use Rattle.addr2line_unit_lookups.specs.ContextUnits.{ordered_ranges};
-ghost use Rattle.addr2line_unit_lookups.specs.ResolvedUnits.{plain_unit, value_of_unit};
-ghost use Rattle.addr2line_unit_lookups.specs.KeptCalls.{LeavesCalls, HoldCalls, known_among};
-ghost use Rattle.addr2line_unit_lookups.specs.LoadAnswers.{AnswersOrNoMemory, answer_at};
-ghost use Rattle.addr2line_unit_lookups.specs.Preloads.{load_at, loads_at, load_of_item, first_number, first_load};
-ghost use Rattle.addr2line_unit_lookups.specs.FramePlaces.{LendsFrames};
-ghost use Rattle.addr2line_unit_lookups.specs.PassedUnits.{Pass, PassFrames, PassUnits, PassLoads, PassedAreKept, AsksFramesAmong, AsksUnitAmong, KeepsAskedFunctions};
-ghost use Rattle.addr2line_unit_lookups.specs.UnitLookups.{frames_among, SettlesFrames, unit_among, SettlesUnit, unit_at_number};
-ghost use Rattle.addr2line_unit_lookups.specs.AddressSearches.{SettlesAmong};
-ghost use Rattle.addr2line_unit_lookups.specs.BorrowedFrames.{frames_left};
-ghost use Rattle.addr2line_unit_lookups.specs.KeptUnits.{KeepsAt, KeepsFound, KeepsAsked, ReadsAsked, ReadsNoLines, ReadsAskedFunctions, ReadsNoFunctions, AsksForRow, AsksForLines, FindsRow, location_of_unit_row};
+ghost use Rattle.addr2line_unit.specs.Calls.{ReturnsAsOrNoMemory, ReturnsOrNoMemory};
+ghost use Rattle.addr2line_unit.specs.Error.TheVariants.{Memory};
+ghost use Rattle.addr2line_unit.specs.Contexts.{all_lines_or_refusal};
+ghost use Rattle.addr2line_unit.specs.BorrowedLocations.{location_value};
+ghost use Rattle.addr2line_unit.specs.Lookups.{one_each};
+ghost use Rattle.addr2line_unit.specs.NumberedRanges.{covering_ranges};
+ghost use Rattle.addr2line_unit.specs.ContextUnits.{ordered_ranges};
+ghost use Rattle.addr2line_unit.specs.ResolvedUnits.{plain_unit, value_of_unit};
+ghost use Rattle.addr2line_lookups.specs.KeptCalls.{LeavesCalls, HoldCalls, known_among};
+ghost use Rattle.addr2line_lookups.specs.LoadAnswers.{AnswersOrNoMemory, answer_at};
+ghost use Rattle.addr2line_lookups.specs.Preloads.{load_at, loads_at, load_of_item, first_number, first_load};
+ghost use Rattle.addr2line_lookups.specs.FramePlaces.{LendsFrames};
+ghost use Rattle.addr2line_lookups.specs.PassedUnits.{Pass, PassFrames, PassUnits, PassLoads, PassedAreKept, AsksFramesAmong, AsksUnitAmong, KeepsAskedFunctions};
+ghost use Rattle.addr2line_lookups.specs.UnitLookups.{frames_among, SettlesFrames, unit_among, SettlesUnit, unit_at_number};
+ghost use Rattle.addr2line_lookups.specs.AddressSearches.{SettlesAmong};
+ghost use Rattle.addr2line_unit.specs.BorrowedFrames.{frames_left};
+ghost use Rattle.addr2line_lookups.specs.KeptUnits.{KeepsAt, KeepsFound, KeepsAsked, ReadsAsked, ReadsNoLines, ReadsAskedFunctions, ReadsNoFunctions, AsksForRow, AsksForLines, FindsRow, location_of_unit_row};
 ghost use Rattle.addr2line_lookups.specs.RangeWalks.{FindsStretch, KeepsStretch, stretches_left, AsksForNextStretch, StaysOnItsWay};
-ghost use Rattle.addr2line_unit_lookups.specs.LookupCosts.{AtMostLooks, row_probes_at, frame_probes_at, probes_among};
-ghost use Rattle.addr2line_unit_lookups.specs.UnitParses.{WalksOrNoMemory, KeepsParsed, KeepAllCalls, check_functions_of, check_calls_of};
+ghost use Rattle.addr2line_lookups.specs.LookupCosts.{AtMostLooks, row_looks, frame_search_looks, unit_search_looks};
+ghost use Rattle.addr2line_lookups.specs.UnitParses.{WalksOrNoMemory, KeepsParsed, KeepAllCalls, check_functions_of, check_calls_of};
 
 use crate::address_search::{AddressSearch, FrameSearch, UnitSearch};
+use crate::frame_place::{FramePlace, frames_at_place};
+use crate::load_answers::answer_at;
 use crate::lookups::{functions_unit_at, settle};
 use crate::parsing::check_lines;
 use crate::parsing_calls::check_calls;
 use crate::parsing_functions::check_functions;
 use crate::preload::pending_loads;
 use crate::range_walk::{RangeWalk, UnitStretch, next_stretch};
+use crate::settle::{UnitRow, find_row, place_in};
+use crate::settled::Settled;
 use crate::token::UnitToken;
 use crate::waiting::{copy_load_at, first_waiting};
-use addr2line_unit_lookups::{
-    Dwarf, Error, FrameIter, FramePlace, Location, Reader, ResUnit, Settled, SplitDwarfLoad, Unit,
-    UnitRanges, UnitRef, UnitRow, answer_at, find_row, frame_without_function, frames_at_place,
-    ordered_ranges, place_in,
+use addr2line_unit::{
+    Dwarf, Error, FrameIter, Location, Reader, ResUnit, SplitDwarfLoad, Unit, UnitRanges, UnitRef,
+    frame_without_function, ordered_ranges,
 };
 use std::alloc::Global;
 use std::marker::Model;
@@ -58,8 +61,8 @@ impl<R: Reader> Drop for Units<R> {
 
 impl<R: Reader> Model for Units<R> {
     ghost use Rattle.std.specs.Prelude.{◌≡◌, List, map};
-    ghost use Rattle.addr2line_unit_lookups.specs.ContextUnits.{ordered_ranges};
-    ghost use Rattle.addr2line_unit_lookups.specs.ResolvedUnits.{ResolvedUnit, plain_unit};
+    ghost use Rattle.addr2line_unit.specs.ContextUnits.{ordered_ranges};
+    ghost use Rattle.addr2line_unit.specs.ResolvedUnits.{ResolvedUnit, plain_unit};
 
     ghost Value = { List ResolvedUnit };
 
@@ -96,7 +99,8 @@ impl<R: Reader> Units<R> {
         ensures reads { ReadsAsked (AsksForRow (map plain_unit self.old) probe)
             self.old self.new }
         ensures functions { ReadsNoFunctions self.old self.new }
-        ensures cost { AtMostLooks (probes_among (row_probes_at (map value_of_unit self.old) probe)
+        ensures cost { AtMostLooks (row_looks (map plain_unit self.old)
+            (map value_of_unit self.old) probe
             (covering_ranges probe (ordered_ranges (map plain_unit self.old)))) self.old self.new }
         ensures free { KeepsAsked (AsksForRow (map plain_unit self.old) probe) self.old
             → result ≢ Err Memory }
@@ -268,9 +272,8 @@ impl<R: Reader> Units<R> {
         ensures found { SettlesFrames self.new
             (frames_among (known_among self.old supplement_units.now) (map value_of_unit self.old)
             probe (covering_ranges probe (ordered_ranges (map plain_unit self.old)))) result }
-        ensures cost { AtMostLooks (probes_among
-            (frame_probes_at (known_among self.old supplement_units.now)
-            (map value_of_unit self.old) probe)
+        ensures cost { AtMostLooks (frame_search_looks
+            (known_among self.old supplement_units.now) (map value_of_unit self.old) probe
             (covering_ranges probe (ordered_ranges (map plain_unit self.old)))) self.old self.new }
         ensures reads { ReadsAsked (AsksFramesAmong (known_among self.old supplement_units.now)
             (map value_of_unit self.old) probe
@@ -311,9 +314,8 @@ impl<R: Reader> Units<R> {
         ensures found { SettlesUnit (map value_of_unit self.old)
             (unit_among (known_among self.old supplement_units.now) (map value_of_unit self.old)
             probe (covering_ranges probe (ordered_ranges (map plain_unit self.old)))) result }
-        ensures cost { AtMostLooks (probes_among
-            (frame_probes_at (known_among self.old supplement_units.now)
-            (map value_of_unit self.old) probe)
+        ensures cost { AtMostLooks (unit_search_looks
+            (known_among self.old supplement_units.now) (map value_of_unit self.old) probe
             (covering_ranges probe (ordered_ranges (map plain_unit self.old)))) self.old self.new }
         ensures reads { ReadsAsked (AsksUnitAmong (known_among self.old supplement_units.now)
             (map value_of_unit self.old) probe

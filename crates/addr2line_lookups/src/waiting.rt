@@ -1,14 +1,15 @@
 //! The load that a lookup waits for: the first of those of its address.
 
 ghost use Rattle.std.specs.Prelude.{◌≡◌, Ok, map, option_map};
-ghost use Rattle.addr2line_unit_lookups.specs.Calls.{ReturnsAsOrNoMemory};
-ghost use Rattle.addr2line_unit_lookups.specs.NumberedRanges.{covering_ranges};
-ghost use Rattle.addr2line_unit_lookups.specs.ResolvedUnits.{value_of_unit};
-ghost use Rattle.addr2line_unit_lookups.specs.PassedUnits.{PassLoads};
-ghost use Rattle.addr2line_unit_lookups.specs.Preloads.{load_at, loads_at, first_number};
+ghost use Rattle.addr2line_unit.specs.Calls.{ReturnsAsOrNoMemory};
+ghost use Rattle.addr2line_unit.specs.NumberedRanges.{covering_ranges};
+ghost use Rattle.addr2line_unit.specs.ResolvedUnits.{value_of_unit};
+ghost use Rattle.addr2line_lookups.specs.PassedUnits.{PassLoads};
+ghost use Rattle.addr2line_lookups.specs.Preloads.{load_at, loads_at, first_number};
 
+use crate::covering::next_covering;
 use crate::preload::load_at;
-use addr2line_unit_lookups::{Error, Reader, ResUnit, SplitDwarfLoad, UnitRanges, next_covering};
+use addr2line_unit::{Error, Reader, ResUnit, SplitDwarfLoad, UnitRanges};
 
 // The number of the first unit with a range over an address whose load needs an answer. No load of
 // those before an index does.

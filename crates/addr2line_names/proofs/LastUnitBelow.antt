@@ -1,6 +1,6 @@
--- The last unit that begins below an offset: looked for from the last unit back, or, of units in the order of their
--- offsets, found before the point where those end that begin below it.
-use Rattle.std.proofs.Common.{◌≡◌, ℕ, zero, suc, ◌+◌, ◌<◌, ◌≤◌, Bool, true, false, cond, List, [], ◌∷◌, ◌++◌, length, slice_get, map, filter, Option, Some, None, option_map, refl, sym, ap, ◌∙◌, subst, arith}
+-- The last unit that begins below an offset, of units in the order of their offsets: it comes before the point where
+-- those end that begin below it.
+use Rattle.std.proofs.Common.{◌≡◌, ℕ, zero, suc, ◌+◌, ◌<◌, ◌≤◌, Bool, true, false, cond, List, [], ◌∷◌, length, slice_get, map, filter, Option, Some, None, option_map, refl, sym, ap, ◌∙◌, subst, arith}
 use Rattle.std.specs.List.{last_or}
 use Rattle.std.specs.List.Sorted.{IsNonDecreasingBy, IsPartitionPoint}
 use Rattle.std.proofs.Math.ListN.{get_or-map}
@@ -10,35 +10,6 @@ last_or_more : {A : Type 0} (b : Bool) (o : Option A) (y : A) (rest : List A)
     → last_or o (cond b (y ∷ rest) rest) ≡ last_or (cond b (Some y) o) rest
 last_or_more true o y rest = refl
 last_or_more false o y rest = refl
-
-cond_true : {A : Type 0} (b : Bool) (x y : A) → b ≡ true → cond b x y ≡ x
-cond_true true x y h = refl
-cond_true false x y h = absurd cc
-
-module _ {X A : Type 0} (f : X → A) (p : A → Bool) where
-  abbrev pub last_in : List X → Option A
-  last_in xs = last_or None (filter p (map f xs))
-
-  last_back : (o : Option A) (before : List X) (x : X)
-      → last_or o (filter p (map f (before ++ x ∷ [])))
-      ≡ cond (p (f x)) (Some (f x)) (last_or o (filter p (map f before)))
-  last_back o [] x = last_or_more (p (f x)) o (f x) []
-  last_back o (y ∷ ys) x =
-      last_or_more (p (f y)) o (f y) (filter p (map f (ys ++ x ∷ [])))
-      ∙ last_back (cond (p (f y)) (Some (f y)) o) ys x
-      ∙ ap (λ r. cond (p (f x)) (Some (f x)) r) (sym (last_or_more (p (f y)) o (f y) (filter p (map f ys))))
-
-  by_last : (xs before : List X) (x : X) → xs ≡ before ++ (x ∷ [])
-      → last_in xs ≡ cond (p (f x)) (Some (f x)) (last_in before)
-  by_last xs before x is = ap last_in is ∙ last_back None before x
-
-  -- the last element is it
-  pub last_is : (xs before : List X) (x : X) (whole : Option A) → xs ≡ before ++ (x ∷ []) → p (f x) ≡ true
-      → last_in xs ≡ whole → whole ≡ Some (f x)
-  last_is xs before x whole is passes same =
-      sym same ∙ by_last xs before x is ∙ cond_true (p (f x)) (Some (f x)) (last_in before) passes
-
--- ---- in order
 
 module _ {X A : Type 0} (f : X → A) where
   -- what is in order by what f gives of it

@@ -37,18 +37,6 @@ impl<'a, R: Reader, U: HasUnit<R>> Model for KnownUnits<'a, R, U> {
 }
 
 impl<'a, R: Reader, U: HasUnit<R>> KnownUnits<'a, R, U> {
-    /// Units in any order. Those of a section are looked at one after the other for each reference
-    /// by an offset of it.
-    pub fn new(units: &'a [U], supplement_units: &'a [Unit<R>]) -> Self
-        ensures units { result.units ≡ map U.facts units.now }
-        ensures supplement { result.supplement_units ≡ supplement_units.now }
-    {
-        KnownUnits {
-            units: SectionUnits::new(units),
-            supplement_units: SectionUnits::new(supplement_units),
-        }
-    }
-
     /// Units in the order of their offsets, as a section has them. A reference by an offset of it
     /// is followed by a bisection.
     pub fn in_order(units: &'a [U], supplement_units: &'a [Unit<R>]) -> Self

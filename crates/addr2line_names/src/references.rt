@@ -21,25 +21,6 @@ fn begins_below<R: Reader>(unit: &Unit<R>, offset: DebugInfoOffset<R::Offset>) -
     unit.header.offset().0.into_u64() < offset.0.into_u64()
 }
 
-// The last unit that begins below an offset of the section, whatever the order of the units.
-fn unit_below<'a, R: Reader, U: HasUnit<R>>(
-    units: &'a [U],
-    offset: DebugInfoOffset<R::Offset>,
-) -> Option<&'a Unit<R>>
-    ensures { option_map (λ u. u.now) result
-        ≡ unit_below (R.Offset.count offset.0) (map U.facts units.now) }
-{
-    let mut left = units;
-    while let Some((unit, before)) = left.split_last() {
-        let unit = unit.unit();
-        if begins_below(unit, offset) {
-            return Some(unit);
-        }
-        left = before;
-    }
-    None
-}
-
 // How many units begin below an offset of the section. It is a bisection.
 fn count_below<R: Reader, U: HasUnit<R>>(units: &[U], offset: DebugInfoOffset<R::Offset>) -> usize
     requires { AreInOrder (map U.facts units.now) }
@@ -55,8 +36,8 @@ fn count_below<R: Reader, U: HasUnit<R>>(units: &[U], offset: DebugInfoOffset<R:
     )
 }
 
-// The last unit that begins below an offset of the section, of units in the order of their offsets.
-fn unit_below_in_order<'a, R: Reader, U: HasUnit<R>>(
+// The last unit that begins below an offset of the section.
+fn unit_below<'a, R: Reader, U: HasUnit<R>>(
     units: &'a [U],
     offset: DebugInfoOffset<R::Offset>,
 ) -> Option<&'a Unit<R>>
@@ -72,17 +53,16 @@ fn unit_below_in_order<'a, R: Reader, U: HasUnit<R>>(
     Some(unit.unit())
 }
 
-/// The units of one section, among which references by its offsets lead.
+/// The units of one section in the order of their offsets, among which references by its offsets
+/// lead.
 #[derive(Drop)]
 pub(crate) struct SectionUnits<'a, R: Reader, U: HasUnit<R>> {
     units: &'a [U],
-    /// Whether they are known to be in the order of their offsets.
-    in_order: bool,
     reader: PhantomData<R>,
 }
 
 impl<'a, R: Reader, U: HasUnit<R>> Model for SectionUnits<'a, R, U> {
-    ghost use Rattle.std.specs.Prelude.{◌≡◌, true, List, map};
+    ghost use Rattle.std.specs.Prelude.{List, map};
     ghost use Rattle.gimli_dwarf.specs.UnitFacts.{UnitFacts};
     ghost use Rattle.addr2line_names.specs.OrderedUnits.{AreInOrder};
 
@@ -90,21 +70,10 @@ impl<'a, R: Reader, U: HasUnit<R>> Model for SectionUnits<'a, R, U> {
 
     ghost view = { λ s. map U.facts s.units.now };
 
-    ghost invariant = { λ s. s.in_order ≡ true → AreInOrder (map U.facts s.units.now) };
+    ghost invariant = { λ s. AreInOrder (map U.facts s.units.now) };
 }
 
 impl<'a, R: Reader, U: HasUnit<R>> SectionUnits<'a, R, U> {
-    /// Units in any order.
-    pub(crate) fn new(units: &'a [U]) -> Self
-        ensures { result ≡ map U.facts units.now }
-    {
-        SectionUnits {
-            units,
-            in_order: false,
-            reader: PhantomData,
-        }
-    }
-
     /// Units in the order of their offsets.
     pub(crate) fn in_order(units: &'a [U]) -> Self
         requires { AreInOrder (map U.facts units.now) }
@@ -112,24 +81,11 @@ impl<'a, R: Reader, U: HasUnit<R>> SectionUnits<'a, R, U> {
     {
         SectionUnits {
             units,
-            in_order: true,
             reader: PhantomData,
         }
     }
 
-    // The last unit that begins below an offset of the section.
-    fn unit_below(&self, offset: DebugInfoOffset<R::Offset>) -> Option<&'a Unit<R>>
-        ensures { option_map (λ u. u.now) result ≡ unit_below (R.Offset.count offset.0) self.now }
-    {
-        if self.in_order {
-            unit_below_in_order(self.units, offset)
-        } else {
-            unit_below(self.units, offset)
-        }
-    }
-
-    /// The entry at an offset of the section. Where the units are known to be in order, it is found
-    /// by a bisection; else each may be looked at, from the last one back.
+    /// The entry at an offset of the section. Its unit is found by a bisection.
     pub(crate) fn entry_at(
         &self,
         file: DebugFile,
@@ -140,7 +96,7 @@ impl<'a, R: Reader, U: HasUnit<R>> SectionUnits<'a, R, U> {
             (entry_among file dwarf.now.file self.now (R.Offset.count offset.0)) }
     {
         let refusal = Error::NoEntryAtGivenOffset(offset.0.into_u64());
-        let unit = self.unit_below(offset).ok_or(refusal)?;
+        let unit = unit_below(self.units, offset).ok_or(refusal)?;
         let offset = offset.to_unit_offset(&unit.header).ok_or(refusal)?;
         let holder = HoldingUnit::new(file, UnitRef::new(dwarf, unit));
         Ok(ReferredEntry { holder, offset })

@@ -1,12 +1,12 @@
 //! The ranges in the sets of `.debug_aranges` (DWARF 5, 6.1.2).
 
 ghost use Rattle.std.specs.Prelude.{◌≡◌, ◌++◌, ◌∷◌, [], Ok, OnOk, IfOk, IfErr};
-ghost use Rattle.std.specs.Option.{option_to_list};
 ghost use Rattle.gimli_lines_rows.specs.Repetition.{fault_of};
 ghost use Rattle.gimli_lines_rows.specs.Error.TheVariants.{Memory};
 ghost use Rattle.gimli_lines_rows.specs.ArangeSets.{sets_to_come};
 ghost use Rattle.addr2line_ranges.specs.ArangeIndexes.{arange_at, aranges_from, aranges_of_sets};
 
+use crate::push::push_if_any;
 use crate::unit_arange::UnitArange;
 use gimli_lines_rows::{
     ArangeEntry, ArangeEntryIter, ArangeHeader, ArangeHeaderIter, Error, Reader, ReaderOffset,
@@ -24,17 +24,6 @@ fn arange_at(offset: u64, entry: ArangeEntry) -> Option<UnitArange>
             range: entry.range(),
         })
     }
-}
-
-// Appends an item, if there is one.
-pub(crate) fn push_if_any<T: Drop>(items: &mut Vec<T>, item: Option<T>) -> Result<(), Error>
-    ensures ok { OnOk result (items.new.items ≡ items.old.items ++ option_to_list item) }
-    ensures refusal { IfErr result (λ e. e ≡ Memory) }
-{
-    if let Some(item) = item {
-        items.push(item)?;
-    }
-    Ok(())
 }
 
 // Appends the ranges of the entries that are to come, which are those of the unit at an offset; one

@@ -11,10 +11,10 @@ ghost use Rattle.addr2line_ranges.specs.LastFacts.{root_range, declared_by, entr
 ghost use Rattle.addr2line_ranges.specs.LastLists.{IsLastOf};
 
 use crate::arange_index::ArangeIndex;
-use crate::aranges::push_if_any;
 use crate::facts::{LastFacts, facts_of};
 use crate::last_list::{LastList, shared_list};
 use crate::lists::listed_ranges;
+use crate::push::push_if_any;
 use gimli_dwarf::UnitRef;
 use gimli_lines_rows::{Attribute, Error, Range, Reader, ReaderOffset};
 use std::alloc::Global;

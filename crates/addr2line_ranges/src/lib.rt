@@ -8,6 +8,7 @@ pub mod fact;
 pub mod facts;
 pub mod last_list;
 mod lists;
+pub mod push;
 mod unit_arange;
 
 pub use addr2line_index::{
@@ -33,3 +34,4 @@ pub use gimli_lines_rows::{
     UnitHeader, UnitOffset, UnitType,
 };
 pub use last_list::{LastList, share};
+pub use push::push_if_any;

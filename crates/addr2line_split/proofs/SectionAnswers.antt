@@ -1,11 +1,11 @@
 -- What calls for sections give, where each answers what a definition says of its section.
 use Rattle.std.proofs.Common.{◌≡◌, ◌≢◌, List, [], ◌∷◌, ◌++◌, map, Result, Ok, Err, IfOk, IfErr, refl, sym, subst, ap, ◌∙◌}
-use Rattle.addr2line_kept.specs.View.{View}
-use Rattle.addr2line_kept.specs.Results.{and_then, each}
+use Rattle.addr2line_unit.specs.View.{View}
+use Rattle.addr2line_unit.specs.Results.{and_then, each}
 use Rattle.gimli_dwarf_spec.specs.SectionId.{SectionId}
-use Rattle.addr2line_kept.specs.DwarfFiles.{DwarfFile}
-use Rattle.addr2line_kept.specs.CachedFiles.{CachedFile}
-use Rattle.addr2line_kept.specs.SectionLoading.{load_order, loaded_file, GivesSections, Loads, RefusesToLoad}
+use Rattle.addr2line_unit.specs.DwarfFiles.{DwarfFile}
+use Rattle.addr2line_unit.specs.CachedFiles.{CachedFile}
+use Rattle.addr2line_unit.specs.SectionLoading.{load_order, loaded_file, GivesSections, Loads, RefusesToLoad}
 use Rattle.addr2line_elf.specs.declared.error.LoadError.{LoadError}
 use Rattle.addr2line_elf.specs.declared.error.LoadError.TheVariants.{Memory}
 use Rattle.addr2line_elf.specs.ImageLoading.{LoadsAsOrNoMemory}

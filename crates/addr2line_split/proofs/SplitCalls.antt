@@ -1,10 +1,10 @@
 -- What a load gets, by whether it has a name.
 use Rattle.std.proofs.Common.{◌≡◌, ℕ, List, Option, Some, None, option_map, Result, Ok, refl, sym, subst}
-use Rattle.addr2line_kept.specs.View.{View}
-use Rattle.addr2line_kept.specs.Error.{Error}
-use Rattle.addr2line_kept.specs.Results.{and_then}
-use Rattle.addr2line_kept.specs.DwarfFiles.{DwarfFile}
-use Rattle.addr2line_kept.specs.FirstAnswers.{SplitLoad}
+use Rattle.addr2line_unit.specs.View.{View}
+use Rattle.addr2line_unit.specs.Error.{Error}
+use Rattle.addr2line_unit.specs.Results.{and_then}
+use Rattle.addr2line_unit.specs.DwarfFiles.{DwarfFile}
+use Rattle.addr2line_unit.specs.FirstAnswers.{SplitLoad}
 use Rattle.addr2line_split.specs.SplitLoading.{file_for, directory_bytes, GetsNamed, GetsFile}
 
 pub same_directory : (directory : Option View)

@@ -1,10 +1,10 @@
 -- The sections of an ELF file as those of a file of debugging information, or why they are refused.
 use Rattle.std.specs.Prelude.{ℕ, ◌^◌, false, [], Result, Ok, Err}
-use Rattle.addr2line_kept.specs.View.{View}
-use Rattle.addr2line_kept.specs.Results.{each, ◌>>=◌}
+use Rattle.addr2line_unit.specs.View.{View}
+use Rattle.addr2line_unit.specs.Results.{each, ◌>>=◌}
 use Rattle.gimli_dwarf_spec.specs.SectionId.{SectionId}
-use Rattle.addr2line_kept.specs.DwarfFiles.{DwarfFile}
-use Rattle.addr2line_kept.specs.SectionLoading.{load_order, loaded_file}
+use Rattle.addr2line_unit.specs.DwarfFiles.{DwarfFile}
+use Rattle.addr2line_unit.specs.SectionLoading.{load_order, loaded_file}
 use Rattle.addr2line_elf.specs.declared.error.LoadError.{LoadError}
 use Rattle.addr2line_elf.specs.ElfImages.{Image}
 use Rattle.addr2line_elf.specs.ElfDebugSections.{main_section, split_section}

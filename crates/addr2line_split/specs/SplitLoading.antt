@@ -1,15 +1,15 @@
 -- What a load gets from what a source answers (DWARF 5, 7.3.2).
 use Rattle.std.specs.Prelude.{◌≡◌, ℕ, ◌==◌, Bool, false, List, [], Option, Some, None, option_and_then, Result, Ok, Err, if◌then◌else◌}
 use Rattle.std.specs.Result.{result_ok}
-use Rattle.addr2line_kept.specs.Error.{Error}
-use Rattle.addr2line_kept.specs.View.{View}
-use Rattle.addr2line_kept.specs.Results.{and_then, ◌>>=◌}
-use Rattle.addr2line_kept.specs.Tiling.{whole_section}
-use Rattle.addr2line_kept.specs.UnitHeaders.{DebugUnit, next_unit}
-use Rattle.addr2line_kept.specs.DwarfFiles.{DwarfFile}
+use Rattle.addr2line_unit.specs.Error.{Error}
+use Rattle.addr2line_unit.specs.View.{View}
+use Rattle.addr2line_unit.specs.Results.{and_then, ◌>>=◌}
+use Rattle.addr2line_unit.specs.UnitHeaders.{DebugUnit}
+use Rattle.addr2line_unit.specs.DwarfFiles.{DwarfFile}
 use Rattle.gimli_dwarf_spec.specs.Splitting.{split_from}
-use Rattle.addr2line_kept.specs.UnitFacts.{unit_facts}
-use Rattle.addr2line_kept.specs.FirstAnswers.{SplitLoad}
+use Rattle.addr2line_unit.specs.UnitFacts.{unit_facts}
+use Rattle.addr2line_unit.specs.FirstAnswers.{SplitLoad}
+use Rattle.addr2line_unit.specs.ContextUnits.{first_header}
 use Rattle.addr2line_elf.specs.declared.error.LoadError.{LoadError}
 use Rattle.addr2line_elf.specs.ElfImages.{image_of}
 use Rattle.addr2line_split.specs.ImageFiles.{dwo_file}
@@ -26,8 +26,8 @@ dwo_id_of file (Some h) = do
 -- the identifier of a file's first unit
 abbrev pub first_dwo_id : DwarfFile → Result (Option ℕ) Error
 first_dwo_id file = do
-  next ← next_unit file.offset_limit (whole_section file.sections.debug_info)
-  dwo_id_of file next.0
+  header ← first_header file
+  dwo_id_of file header
 
 -- it is there, it can be read, and it is this one
 abbrev pub is_id : ℕ → Result (Option ℕ) Error → Bool

@@ -7,7 +7,7 @@ ghost use Rattle.addr2line_elf.specs.declared.error.LoadError.{LoadError};
 ghost use Rattle.addr2line_split.specs.FileReads.{IsRead, IsReadRefusal, ReadsRegularFile, read_refusal, if_readable};
 
 use addr2line_elf::LoadError;
-use addr2line_kept::Error;
+use addr2line_unit::Error;
 use bytes::Bytes;
 use std::fs::{self, File, OpenFile};
 use std::io;

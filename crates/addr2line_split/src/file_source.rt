@@ -6,7 +6,7 @@ ghost use Rattle.addr2line_split.specs.FileReads.{as_text, path_in};
 
 use crate::file_reads::{FileSystem, if_readable, read_regular_file};
 use crate::source::SplitSource;
-use addr2line_kept::Error;
+use addr2line_unit::Error;
 use bytes::Bytes;
 use std::alloc::{AllocError, Global};
 use std::marker::Model;

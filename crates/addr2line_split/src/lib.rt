@@ -9,7 +9,7 @@ pub mod source;
 pub mod split_file;
 
 pub use addr2line_elf::{Elf, LoadError, Symbol, Symbols};
-use addr2line_kept::{EndianBytes, RunTimeEndian};
+use addr2line_unit::{EndianBytes, RunTimeEndian};
 pub use file_reads::{FileSystem, read_file};
 pub use file_source::FileSource;
 pub use map_source::{MapSource, SplitFile};

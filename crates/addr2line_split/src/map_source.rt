@@ -2,12 +2,12 @@
 
 ghost use Rattle.std.specs.Prelude.{◌≡◌, [], ◌∷◌, ◌++◌, IfErr, OnOk, OnErr, Ok, option_map};
 ghost use Rattle.std.specs.List.{find};
-ghost use Rattle.addr2line_kept.specs.Calls.{ReturnsAsOrNoMemory};
-ghost use Rattle.addr2line_kept.specs.Error.TheVariants.{Memory};
+ghost use Rattle.addr2line_unit.specs.Calls.{ReturnsAsOrNoMemory};
+ghost use Rattle.addr2line_unit.specs.Error.TheVariants.{Memory};
 ghost use Rattle.addr2line_split.specs.NamedFiles.{is_named, bytes_named};
 
 use crate::source::SplitSource;
-use addr2line_kept::Error;
+use addr2line_unit::Error;
 use bytes::Bytes;
 use std::alloc::Global;
 use std::marker::Model;
@@ -59,7 +59,7 @@ impl MapSource {
 
 impl SplitSource for MapSource {
     ghost use Rattle.std.specs.Prelude.{◌≡◌, Ok};
-    ghost use Rattle.addr2line_kept.specs.Calls.{ReturnsOrNoMemory};
+    ghost use Rattle.addr2line_unit.specs.Calls.{ReturnsOrNoMemory};
     ghost use Rattle.addr2line_split.specs.NamedFiles.{bytes_named};
 
     ghost answers = { λ old directory name result new.

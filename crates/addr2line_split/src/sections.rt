@@ -6,7 +6,7 @@ ghost use Rattle.addr2line_split.specs.ImageFiles.{dwo_file};
 
 use crate::ImageReader;
 use addr2line_elf::{Elf, LoadError};
-use addr2line_kept::{Dwarf, SectionId};
+use addr2line_unit::{Dwarf, SectionId};
 use std::alloc::Global;
 
 /// The sections of an ELF file under the names that they have in a split file (DWARF 5, 7.3.2). It

@@ -1,10 +1,10 @@
 //! Where the bytes of split files come from.
 
 ghost use Rattle.std.specs.Prelude.{◌≡◌, ℕ, List, Option, Result, IfErr};
-ghost use Rattle.addr2line_kept.specs.Error.{Error};
-ghost use Rattle.addr2line_kept.specs.Error.TheVariants.{Memory};
+ghost use Rattle.addr2line_unit.specs.Error.{Error};
+ghost use Rattle.addr2line_unit.specs.Error.TheVariants.{Memory};
 
-use addr2line_kept::Error;
+use addr2line_unit::Error;
 use bytes::Bytes;
 
 /// Where the bytes of split files come from.

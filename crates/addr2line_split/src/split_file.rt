@@ -1,13 +1,11 @@
 //! What a load gets of the bytes of a split file.
 
 ghost use Rattle.std.specs.Prelude.{◌≡◌, ◌≢◌, Result, Option, Ok, Err, Some, None, IfOk, IfErr, option_map};
-ghost use Rattle.addr2line_kept.specs.Calls.{ReturnsAsOrNoMemory, ReturnsOrNoMemory};
-ghost use Rattle.addr2line_kept.specs.Error.{Error};
-ghost use Rattle.addr2line_kept.specs.Error.TheVariants.{Memory};
-ghost use Rattle.addr2line_kept.specs.DwarfFiles.{DwarfFile};
-ghost use Rattle.addr2line_kept.specs.Tiling.{whole_section};
-ghost use Rattle.addr2line_kept.specs.UnitHeaders.{next_unit};
-ghost use Rattle.addr2line_kept.specs.Results.{and_then};
+ghost use Rattle.addr2line_unit.specs.Calls.{ReturnsAsOrNoMemory, ReturnsOrNoMemory};
+ghost use Rattle.addr2line_unit.specs.Error.{Error};
+ghost use Rattle.addr2line_unit.specs.Error.TheVariants.{Memory};
+ghost use Rattle.addr2line_unit.specs.DwarfFiles.{DwarfFile};
+ghost use Rattle.addr2line_unit.specs.Results.{and_then};
 ghost use Rattle.gimli_dwarf_spec.specs.Splitting.{split_from};
 ghost use Rattle.addr2line_elf.specs.ImageLoading.{LoadsAsOrNoMemory};
 ghost use Rattle.addr2line_split.specs.FileReads.{if_readable};
@@ -18,7 +16,8 @@ use crate::file_reads::if_readable;
 use crate::sections::dwo_sections;
 use crate::source::SplitSource;
 use addr2line_elf::{Elf, LoadError};
-use addr2line_kept::{Dwarf, DwoId, Error, Reader, SplitDwarfLoad, UnitHeader};
+use addr2line_unit::first_answer::first_header;
+use addr2line_unit::{Dwarf, DwoId, Error, Reader, SplitDwarfLoad, UnitHeader};
 use bytes::Bytes;
 use std::alloc::Global;
 use std::rc::Rc;
@@ -165,14 +164,4 @@ fn dwo_id_of<R: Reader>(
 {
     let unit = dwarf.unit(alloc, header)?;
     Ok(unit.dwo_id)
-}
-
-// The first header of a file's units, if it has one.
-fn first_header<R: Reader>(dwarf: &Dwarf<R>) -> Result<Option<UnitHeader<R>>, Error>
-    ensures { ReturnsOrNoMemory result
-        (and_then (next_unit dwarf.now.file.offset_limit
-        (whole_section dwarf.now.file.sections.debug_info)) (λ next. Ok next.0)) }
-{
-    let mut headers = dwarf.units()?;
-    headers.next()
 }

@@ -3,7 +3,7 @@ use Rattle.addr2line_lookups.specs.BorrowedFrames.{frames_left}
 use Rattle.addr2line_lookups.specs.FirstAnswers.{output}
 use Rattle.addr2line_lookups.specs.UnitLookups.{FoundFrames, SettlesFrames}
 use Rattle.addr2line_context.specs.KeptContexts.{ResolvedContext}
-use Rattle.addr2line_context.specs.ContextCosts.{AsksForFrames}
+use Rattle.addr2line_context.specs.ContextCosts.{frame_search}
 use Rattle.addr2line_context.specs.SettledLookups.{frames_in}
 use Rattle.addr2line_lookups.proofs.AskedFunctions.{is_value}
 use Rattle.addr2line_context.proofs.FoundRows.{same_refusal}
@@ -20,7 +20,7 @@ returns-in-Ok-Nothing g c =
       (
         refl,
         λ w. tt,
-        search_of AsksForFrames a old c.context.view_is (λ has. is_value _) c.in-Ok-Nothing.ensures.after,
+        search_of frame_search a old c.context.view_is (λ has. is_value _) c.in-Ok-Nothing.ensures.after,
       ),
       record {
         found =
@@ -38,7 +38,7 @@ returns-in-Err g c =
       (
         refl,
         λ w. tt,
-        search_of AsksForFrames a old c.context.view_is (same_refusal c.in-Err.error) c.in-Err.ensures.after,
+        search_of frame_search a old c.context.view_is (same_refusal c.in-Err.error) c.in-Err.ensures.after,
       ),
       record { found = c.in-Err.ensures.found; after = tt },
     )
@@ -57,7 +57,7 @@ returns-in-Ok-Found g c =
       (
         refl,
         λ w. tt,
-        search_of AsksForFrames a old c.context.view_is (λ has. is_value _) c.in-Ok-Found.ensures.after,
+        search_of frame_search a old c.context.view_is (λ has. is_value _) c.in-Ok-Found.ensures.after,
       ),
       record {
         found = frames_lent us meaning place (frames_left c.frames_at_place.result) c.frames_at_place.ensures found;

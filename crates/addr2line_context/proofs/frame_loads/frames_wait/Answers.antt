@@ -1,4 +1,4 @@
-use Rattle.addr2line_context.specs.ContextCosts.{AsksForFrames}
+use Rattle.addr2line_context.specs.ContextCosts.{frame_search}
 use Rattle.addr2line_context.proofs.FrameLoads.{frames_tell, settled_with_memory}
 use Rattle.addr2line_context.proofs.ResumedLookups.{with_memory}
 use Rattle.addr2line_context.proofs.frame_loads.frames_wait.Goals as goal
@@ -8,5 +8,5 @@ returns-clause-waits g c = frames_tell _ _ _ _ c.settle_frames-settled.ensures.f
 
 pub returns-clause-after : goal.returns-clause-after
 returns-clause-after g c =
-    with_memory AsksForFrames _ _ c.args.probe c.args.context.now _ (settled_with_memory _ _ c.is_waiting.ensures)
+    with_memory frame_search _ _ c.args.probe c.args.context.now _ (settled_with_memory _ _ c.is_waiting.ensures)
     c.settle_frames-settled.ensures.after

@@ -1,6 +1,7 @@
 use Rattle.std.proofs.Common.{◌≤◌, sym, ap, ◌∙◌, subst, Some, option_map}
 use Rattle.std.proofs.lemmas.Option.{slice_get-get_or, slice_get_past}
-use Rattle.addr2line_context.specs.ContextCosts.{runs_of_unit}
+use Rattle.addr2line_lookups.specs.CountedRuns.{RunCount}
+use Rattle.addr2line_lookups.specs.ResolvedUnits.{runs_of_unit}
 use Rattle.addr2line_context.proofs.UnitRuns.{runs_once}
 use Rattle.addr2line_context.proofs.runs.runs_at.Goals as goal
 
@@ -13,7 +14,7 @@ returns-in-Some-clause-runs g c =
 
 pub returns-in-Some-clause-once : goal.returns-in-Some-clause-once
 returns-in-Some-clause-once g c =
-    subst (λ n. n ≤ 1) (sym c.runs.ensures) (runs_once c.in-Some.unit.now)
+    subst (λ (r : RunCount). r.count ≤ 1) (sym c.runs.ensures) (runs_once c.in-Some.unit.now)
 
 pub returns-in-None-clause-runs : goal.returns-in-None-clause-runs
 returns-in-None-clause-runs g c =

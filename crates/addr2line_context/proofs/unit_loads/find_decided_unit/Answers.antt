@@ -2,7 +2,7 @@ use Rattle.std.proofs.Common.{subst, sym, map, Ok}
 use Rattle.addr2line_lookups.specs.ResolvedUnits.{value_of_unit}
 use Rattle.addr2line_lookups.specs.UnitLookups.{FoundUnit, SettlesUnit}
 use Rattle.addr2line_context.specs.SettledLookups.{unit_in}
-use Rattle.addr2line_context.specs.ContextCosts.{AsksForUnit}
+use Rattle.addr2line_context.specs.ContextCosts.{unit_search}
 use Rattle.addr2line_lookups.proofs.AskedFunctions.{is_value}
 use Rattle.addr2line_context.proofs.FoundRows.{same_refusal}
 use Rattle.addr2line_context.proofs.FrameLoads.{waits_not}
@@ -32,12 +32,12 @@ unreachable-requires g c =
 
 pub returns-in-Ok-Nothing-clause-after : goal.returns-in-Ok-Nothing-clause-after
 returns-in-Ok-Nothing-clause-after g c =
-    with_memory AsksForUnit _ _ c.args.probe c.args.context.now _ (λ has. is_value _) c.in-Ok-Nothing.ensures.after
+    with_memory unit_search _ _ c.args.probe c.args.context.now _ (λ has. is_value _) c.in-Ok-Nothing.ensures.after
 
 pub returns-in-Ok-Found-clause-after : goal.returns-in-Ok-Found-clause-after
 returns-in-Ok-Found-clause-after g c =
-    with_memory AsksForUnit _ _ c.args.probe c.args.context.now _ (λ has. is_value _) c.in-Ok-Found.ensures.after
+    with_memory unit_search _ _ c.args.probe c.args.context.now _ (λ has. is_value _) c.in-Ok-Found.ensures.after
 
 pub returns-in-Err-clause-after : goal.returns-in-Err-clause-after
 returns-in-Err-clause-after g c =
-    with_memory AsksForUnit _ _ c.args.probe c.args.context.now _ (same_refusal _) c.in-Err.ensures.after
+    with_memory unit_search _ _ c.args.probe c.args.context.now _ (same_refusal _) c.in-Err.ensures.after

@@ -1,4 +1,4 @@
-use Rattle.addr2line_context.specs.ContextCosts.{AsksForUnit}
+use Rattle.addr2line_context.specs.ContextCosts.{unit_search}
 use Rattle.addr2line_context.proofs.FrameLoads.{settled_with_memory}
 use Rattle.addr2line_context.proofs.ResumedLookups.{with_memory}
 use Rattle.addr2line_context.proofs.UnitLoads.{unit_tells}
@@ -9,5 +9,5 @@ returns-clause-waits g c = unit_tells _ _ _ _ c.settle_unit-settled.ensures.foun
 
 pub returns-clause-after : goal.returns-clause-after
 returns-clause-after g c =
-    with_memory AsksForUnit _ _ c.args.probe c.args.context.now _ (settled_with_memory _ _ c.is_waiting.ensures)
+    with_memory unit_search _ _ c.args.probe c.args.context.now _ (settled_with_memory _ _ c.is_waiting.ensures)
     c.settle_unit-settled.ensures.after

@@ -1,8 +1,8 @@
-use Rattle.std.proofs.Common.{◌∙◌, ◌++◌, ap, sym, option_to_list, arith}
+use Rattle.std.proofs.Common.{◌∙◌, ap, sym, arith}
 use Rattle.std.proofs.lemmas.Result.{err_from_is_err_and}
 use Rattle.gimli_units_entries.specs.View.{bytes_left}
 use Rattle.addr2line_functions.specs.NextFunctions.{functions_from}
-use Rattle.addr2line_functions.proofs.FunctionEntrySteps.{functions_then, functions-start, functions-more, functions-refused, functions-end, function-takes, some_left, none_left, items_of_ok}
+use Rattle.addr2line_functions.proofs.FunctionEntrySteps.{functions_then, functions-start, functions-more, functions-refused, functions-end, function-takes, some_left, none_left}
 use Rattle.addr2line_functions.proofs.functions.read_functions.Goals as goal
 
 pub loop-alloc-init : goal.loop-alloc-init
@@ -37,7 +37,7 @@ loop-alloc-preserved g c =
     let found = c.loop-alloc.functions.items in
     let next = c.in_ok-next.next in
     ap (λ l. functions_then l (functions_from limit u c.next_function.new.entries))
-    (sym (items_of_ok (found ++ option_to_list next) c.push_if_any.new.functions.items c.in_ok-push_if_any.ensures))
+    c.in_ok-push_if_any.ensures.ok
     ∙ functions-more limit u found c.find_function.new.entries c.next_function.new.entries next c.in_ok-next.ensures
     ∙ ap (functions_then found) (c.find_function.ensures.functions u)
     ∙ c.loop-alloc.invariant

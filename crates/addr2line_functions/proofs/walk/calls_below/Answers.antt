@@ -1,4 +1,4 @@
-use Rattle.std.proofs.Common.{◌≡◌, ◌≤◌, ◌∙◌, ◌++◌, [], ◌∷◌, pos, ◌<ℤ◌, ap, sym, subst, arith, rules, option_to_list}
+use Rattle.std.proofs.Common.{◌≡◌, ◌≤◌, ◌∙◌, [], ◌∷◌, pos, ◌<ℤ◌, ap, sym, subst, arith, rules}
 use Rattle.std.proofs.lemmas.Int.{ints}
 use Rattle.std.proofs.lemmas.Result.{err_from_is_err_and}
 use Rattle.gimli_units_entries.specs.View.{bytes_left}
@@ -6,7 +6,7 @@ use Rattle.gimli_units_entries.specs.EntryWalks.{Walk}
 use Rattle.addr2line_ranges.proofs.EntryLevels.{leads, lt_is, not_lt_is}
 use Rattle.addr2line_functions.specs.CallNesting.{calls_from, leave, is_call_where}
 use Rattle.addr2line_functions.proofs.NestingLemmas.{matches_first}
-use Rattle.addr2line_functions.proofs.CallEntrySteps.{calls_then, entry_parts, calls-more, call-takes, calls-refused, calls-end, calls-start, never, items_of_ok}
+use Rattle.addr2line_functions.proofs.CallEntrySteps.{calls_then, entry_parts, calls-more, call-takes, calls-refused, calls-end, calls-start}
 use Rattle.addr2line_functions.proofs.OtherCallSteps.{below_first, below_more, calls-found, inside_within}
 use Rattle.addr2line_functions.proofs.walk.calls_below.Goals as goal
 
@@ -63,7 +63,6 @@ loop-alloc-preserved g c =
     let now = c.find_call.new.nesting in
     let p = c.next_call.new.nesting in
     let i = c.loop-alloc.invariant in
-    let all = c.push_if_any.new.calls.items in
     let s = calls-found limit u naming i.0 c.loop-alloc.entries w c.loop-alloc.nesting now i.2 i.1
     c.find_call.ensures.inside c.find_call.ensures.others in
     let some : pos 0 <ℤ w.depth =
@@ -71,11 +70,11 @@ loop-alloc-preserved g c =
     let e = entry_parts limit u naming w t now p next c.in_ok-next.ensures in
     let more = calls-more limit u naming found s.rows w t now p next some s.matches e in
     let at = (leads limit (is_call_where (leave w.depth now)) w t e.row e.read).at in
-    let same = items_of_ok (found ++ option_to_list next) all c.in_ok-push_if_any.ensures in (
+    let same = c.in_ok-push_if_any.ensures.ok in (
       e.row ∷ s.rows,
       more.0,
       below_more e.row s.rows (omega (arith, ints, some, at)) s.below,
-      ap (λ l. calls_then l (calls_from limit u naming (record { walk = t; before = e.row ∷ s.rows }))) (sym same)
+      ap (λ l. calls_then l (calls_from limit u naming (record { walk = t; before = e.row ∷ s.rows }))) same
           ∙ more.1 ∙ ap (calls_then found) s.same ∙ i.3,
     )
 
@@ -83,9 +82,7 @@ pub returns-in_err-push_if_any : goal.returns-in_err-push_if_any
 returns-in_err-push_if_any g c =
     let p = err_from_is_err_and c.from_residual-in_err-push_if_any.result
     c.from_residual-in_err-push_if_any.ensures.1 in
-    rw (p.1, p.2)
-    (λ m. never (c.loop-alloc.calls.items ++ option_to_list c.in_ok-next.next) c.in_err-push_if_any.field-0.0
-    (c.in_err-push_if_any.ensures m))
+    rw (p.1, p.2) (λ m. absurd (m c.in_err-push_if_any.ensures.refusal))
 
 pub returns : goal.returns
 returns g c =

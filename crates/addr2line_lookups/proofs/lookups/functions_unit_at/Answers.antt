@@ -1,7 +1,7 @@
 use Rattle.std.proofs.Common.{ap, sym, ◌∙◌, Some, None}
-use Rattle.addr2line_unit_lookups.specs.EntryReferences.{HoldingUnit}
-use Rattle.addr2line_unit_lookups.specs.UnitLookups.{unit_if_any}
-use Rattle.addr2line_unit_lookups.proofs.SettledUnits.{unit_by_number}
+use Rattle.addr2line_unit.specs.EntryReferences.{HoldingUnit}
+use Rattle.addr2line_lookups.specs.UnitLookups.{unit_if_any}
+use Rattle.addr2line_lookups.proofs.SettledUnits.{unit_by_number}
 use Rattle.addr2line_lookups.proofs.lookups.functions_unit_at.Goals as goal
 
 pub returns-in-Ok : goal.returns-in-Ok

@@ -1,4 +1,4 @@
-use Rattle.addr2line_unit_lookups.proofs.AddressSearches.{search_begins, search_calls, search_goes_on, search_ends, search_done}
+use Rattle.addr2line_lookups.proofs.AddressSearches.{search_begins, search_calls, search_goes_on, search_ends, search_done}
 use Rattle.addr2line_lookups.proofs.lookups.settle.Goals as goal
 
 pub loop-unit-init : goal.loop-unit-init

@@ -1,11 +1,11 @@
 use Rattle.std.proofs.Common.{◌≡◌, map, sym, subst}
-use Rattle.addr2line_unit_lookups.specs.FirstAnswers.{Lookup}
-use Rattle.addr2line_unit_lookups.specs.ResolvedUnits.{value_of_unit}
-use Rattle.addr2line_unit_lookups.specs.KeptCalls.{known_among}
-use Rattle.addr2line_unit_lookups.specs.UnitLookups.{Settles}
-use Rattle.addr2line_unit_lookups.proofs.SettledUnits.{waits_here, decided_here, asked_decided}
-use Rattle.addr2line_unit_lookups.proofs.AskedFunctions.{waits_undecided}
-use Rattle.addr2line_unit_lookups.proofs.AddressSearches.{searches_none}
+use Rattle.addr2line_unit.specs.FirstAnswers.{Lookup}
+use Rattle.addr2line_unit.specs.ResolvedUnits.{value_of_unit}
+use Rattle.addr2line_lookups.specs.KeptCalls.{known_among}
+use Rattle.addr2line_lookups.specs.UnitLookups.{Settles}
+use Rattle.addr2line_lookups.proofs.SettledUnits.{waits_here, decided_here, asked_decided}
+use Rattle.addr2line_lookups.proofs.AskedFunctions.{waits_undecided}
+use Rattle.addr2line_lookups.proofs.AddressSearches.{searches_none}
 use Rattle.addr2line_lookups.proofs.lookups.settle_at.Goals as goal
 
 pub find_frames_at-frames-requires-clause-decided : goal.find_frames_at-frames-requires-clause-decided

@@ -1,6 +1,6 @@
 use Rattle.std.proofs.Common.{ap, sym, ◌∙◌}
 use Rattle.std.specs.Prelude.{is_some}
-use Rattle.addr2line_unit_lookups.proofs.CallsOfUnits.{same_there}
+use Rattle.addr2line_lookups.proofs.CallsOfUnits.{same_there}
 use Rattle.addr2line_lookups.proofs.lookups.waits_at.Goals as goal
 
 pub returns : goal.returns

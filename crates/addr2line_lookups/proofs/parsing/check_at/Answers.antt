@@ -1,12 +1,12 @@
 use Rattle.std.proofs.Common.{◌<◌, length, subst, sym, Result, arith}
-use Rattle.addr2line_unit_lookups.specs.Error.{Error}
-use Rattle.addr2line_unit_lookups.specs.Calls.{ReturnsOrNoMemory}
-use Rattle.addr2line_unit_lookups.specs.ResolvedUnits.{KeepsLines}
-use Rattle.addr2line_unit_lookups.proofs.AskedLines.{reads_set}
-use Rattle.addr2line_unit_lookups.proofs.CallsOfUnits.{if_here}
-use Rattle.addr2line_unit_lookups.proofs.KeptLines.{keeps_set}
-use Rattle.addr2line_unit_lookups.proofs.ReadLines.{lines_set}
-use Rattle.addr2line_unit_lookups.proofs.UnitRows.{check_here}
+use Rattle.addr2line_unit.specs.Error.{Error}
+use Rattle.addr2line_unit.specs.Calls.{ReturnsOrNoMemory}
+use Rattle.addr2line_unit.specs.ResolvedUnits.{KeepsLines}
+use Rattle.addr2line_lookups.proofs.AskedLines.{reads_set}
+use Rattle.addr2line_lookups.proofs.CallsOfUnits.{if_here}
+use Rattle.addr2line_lookups.proofs.KeptLines.{keeps_set}
+use Rattle.addr2line_lookups.proofs.ReadLines.{lines_set}
+use Rattle.addr2line_lookups.proofs.UnitRows.{check_here}
 use Rattle.addr2line_lookups.proofs.parsing.check_at.Goals as goal
 
 pub returns : goal.returns

@@ -1,10 +1,10 @@
 use Rattle.std.proofs.Common.{◌<◌, length, map, refl, arith}
 use Rattle.std.proofs.lemmas.Result.{err_from_is_err_and}
-use Rattle.addr2line_unit_lookups.specs.Contexts.{all_lines_or_refusal}
-use Rattle.addr2line_unit_lookups.specs.ResolvedUnits.{plain_unit}
-use Rattle.addr2line_unit_lookups.proofs.AskedLines.{units_begin, unit_next, unit_refused, unit_reads, unit_kept, units_end, no_stop}
-use Rattle.addr2line_unit_lookups.proofs.KeptLines.{check_more, check_stops}
-use Rattle.addr2line_unit_lookups.proofs.ReadLines.{lines_none, lines_both}
+use Rattle.addr2line_unit.specs.Contexts.{all_lines_or_refusal}
+use Rattle.addr2line_unit.specs.ResolvedUnits.{plain_unit}
+use Rattle.addr2line_lookups.proofs.AskedLines.{units_begin, unit_next, unit_refused, unit_reads, unit_kept, units_end, no_stop}
+use Rattle.addr2line_lookups.proofs.KeptLines.{check_more, check_stops}
+use Rattle.addr2line_lookups.proofs.ReadLines.{lines_none, lines_both}
 use Rattle.addr2line_lookups.proofs.parsing.check_lines.Goals as goal
 
 pub loop-number-init : goal.loop-number-init

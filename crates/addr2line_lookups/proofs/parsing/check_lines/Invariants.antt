@@ -1,10 +1,10 @@
 -- The lines of the units before a number can be read, and are kept. No others were read, and nothing else.
 use Rattle.std.proofs.Common.{◌≡◌, ◌-◌, length, map}
-use Rattle.addr2line_unit_lookups.specs.Contexts.{all_lines_or_refusal}
-use Rattle.addr2line_unit_lookups.specs.ResolvedUnits.{plain_unit}
-use Rattle.addr2line_unit_lookups.proofs.AskedLines.{AsksUnits}
-use Rattle.addr2line_unit_lookups.proofs.KeptLines.{check_from}
-use Rattle.addr2line_unit_lookups.specs.LookupCosts.{ReadsLines}
+use Rattle.addr2line_unit.specs.Contexts.{all_lines_or_refusal}
+use Rattle.addr2line_unit.specs.ResolvedUnits.{plain_unit}
+use Rattle.addr2line_lookups.proofs.AskedLines.{AsksUnits}
+use Rattle.addr2line_lookups.proofs.KeptLines.{check_from}
+use Rattle.addr2line_lookups.specs.LookupCosts.{ReadsLines}
 use Rattle.addr2line_lookups.proofs.parsing.check_lines.Given as goal
 
 abbrev pub invariant-loop-number : goal.invariant-loop-number

@@ -1,14 +1,14 @@
 use Rattle.std.proofs.Common.{◌≡◌, ◌<◌, ◌∙◌, ap, length, map, refl, sym, subst, Ok, Err, arith}
 use Rattle.std.proofs.lemmas.Result.{err_from_is_err_and}
 use Rattle.std.proofs.lemmas.List.{length-map}
-use Rattle.addr2line_unit_lookups.specs.EntryReferences.{KnownUnits}
-use Rattle.addr2line_unit_lookups.specs.ResolvedUnits.{value_of_unit, plain_unit}
-use Rattle.addr2line_unit_lookups.specs.KeptCalls.{known_among, HoldCalls}
-use Rattle.addr2line_unit_lookups.specs.UnitParses.{ChecksOrNoMemory, check_unit_at, check_calls_of}
-use Rattle.addr2line_unit_lookups.proofs.AskedLines.{no_lines_none, no_lines_both}
-use Rattle.addr2line_unit_lookups.proofs.CallsLeft.{same_known}
+use Rattle.addr2line_unit.specs.EntryReferences.{KnownUnits}
+use Rattle.addr2line_unit.specs.ResolvedUnits.{value_of_unit, plain_unit}
+use Rattle.addr2line_lookups.specs.KeptCalls.{known_among, HoldCalls}
+use Rattle.addr2line_lookups.specs.UnitParses.{ChecksOrNoMemory, check_unit_at, check_calls_of}
+use Rattle.addr2line_lookups.proofs.AskedLines.{no_lines_none, no_lines_both}
+use Rattle.addr2line_lookups.proofs.CallsLeft.{same_known}
 use Rattle.addr2line_lookups.proofs.UnitWalks.{walk_goes_on, walk_refused, walk_ends, plain_so_far, plain_after_turn}
-use Rattle.addr2line_unit_lookups.proofs.UnitProbes.{looks_none, looks_after}
+use Rattle.addr2line_lookups.proofs.UnitProbes.{looks_none, looks_after}
 use Rattle.addr2line_lookups.proofs.KeptAhead.{units_further, calls_of_all}
 use Rattle.addr2line_lookups.proofs.parsing_calls.check_calls.Goals as goal
 

@@ -1,16 +1,16 @@
 use Rattle.std.proofs.Common.{◌<◌, ◌∙◌, refl, sym, ap, subst, length, Result, Ok, Err, map, arith}
 use Rattle.std.proofs.lemmas.Result.{err_from_is_err_and}
-use Rattle.addr2line_unit_lookups.specs.Error.{Error}
-use Rattle.addr2line_unit_lookups.specs.EntryReferences.{KnownUnits}
-use Rattle.addr2line_unit_lookups.specs.ResolvedUnits.{value_of_unit}
-use Rattle.addr2line_unit_lookups.specs.KeptCalls.{known_among, HoldCalls}
-use Rattle.addr2line_unit_lookups.specs.UnitParses.{ChecksOrNoMemory, check_unit_at, check_calls_of}
-use Rattle.addr2line_unit_lookups.proofs.AskedLines.{no_lines_none, no_lines_both}
-use Rattle.addr2line_unit_lookups.proofs.KeptLines.{same_length}
-use Rattle.addr2line_unit_lookups.proofs.UnitTurns.{no_check_past}
-use Rattle.addr2line_unit_lookups.proofs.CallsOfUnits.{count_here}
+use Rattle.addr2line_unit.specs.Error.{Error}
+use Rattle.addr2line_unit.specs.EntryReferences.{KnownUnits}
+use Rattle.addr2line_unit.specs.ResolvedUnits.{value_of_unit}
+use Rattle.addr2line_lookups.specs.KeptCalls.{known_among, HoldCalls}
+use Rattle.addr2line_lookups.specs.UnitParses.{ChecksOrNoMemory, check_unit_at, check_calls_of}
+use Rattle.addr2line_lookups.proofs.AskedLines.{no_lines_none, no_lines_both}
+use Rattle.addr2line_lookups.proofs.KeptLines.{same_length}
+use Rattle.addr2line_lookups.proofs.UnitTurns.{no_check_past}
+use Rattle.addr2line_lookups.proofs.CallsOfUnits.{count_here}
 use Rattle.addr2line_lookups.proofs.KeptCallsAt.{functions_at, known_now, checked_now, pass_further, all_checked, refused_at}
-use Rattle.addr2line_unit_lookups.proofs.UnitProbes.{looks_none, looks_after}
+use Rattle.addr2line_lookups.proofs.UnitProbes.{looks_none, looks_after}
 use Rattle.addr2line_lookups.proofs.KeptAhead.{calls_further, calls_of_unit, no_calls_past}
 use Rattle.addr2line_lookups.proofs.parsing_calls.parse_calls_at.Goals as goal
 

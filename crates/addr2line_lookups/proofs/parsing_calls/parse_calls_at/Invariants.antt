@@ -1,12 +1,12 @@
 -- The calls of the functions before a number can be read and are kept, what is kept is the definition's, nothing was
 -- looked at, and no lines were read.
 use Rattle.std.proofs.Common.{◌≡◌, ◌-◌, map}
-use Rattle.addr2line_unit_lookups.specs.ResolvedUnits.{value_of_unit}
-use Rattle.addr2line_unit_lookups.specs.KeptUnits.{ReadsNoLines}
-use Rattle.addr2line_unit_lookups.specs.KeptCalls.{known_among, HoldCalls}
-use Rattle.addr2line_unit_lookups.specs.FunctionPlaces.{count_at}
+use Rattle.addr2line_unit.specs.ResolvedUnits.{value_of_unit}
+use Rattle.addr2line_lookups.specs.KeptUnits.{ReadsNoLines}
+use Rattle.addr2line_lookups.specs.KeptCalls.{known_among, HoldCalls}
+use Rattle.addr2line_lookups.specs.FunctionPlaces.{count_at}
 use Rattle.addr2line_lookups.proofs.KeptCallsAt.{PassBelow}
-use Rattle.addr2line_unit_lookups.specs.LookupCosts.{AtMostLooks}
+use Rattle.addr2line_lookups.specs.LookupCosts.{AtMostLooks}
 use Rattle.addr2line_lookups.proofs.KeptAhead.{CallsBelow}
 use Rattle.addr2line_lookups.proofs.parsing_calls.parse_calls_at.Given as goal
 

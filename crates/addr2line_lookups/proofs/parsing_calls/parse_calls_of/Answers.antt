@@ -1,9 +1,9 @@
 use Rattle.std.proofs.Common.{◌<◌, ◌∙◌, ap, length, inr, Err, arith}
 use Rattle.std.proofs.lemmas.Result.{err_from_is_err_and}
-use Rattle.addr2line_unit_lookups.specs.KeptCalls.{known_among}
-use Rattle.addr2line_unit_lookups.proofs.KeptLines.{same_length}
+use Rattle.addr2line_lookups.specs.KeptCalls.{known_among}
+use Rattle.addr2line_lookups.proofs.KeptLines.{same_length}
 use Rattle.addr2line_lookups.proofs.UnitCalls.{on_ok_always}
-use Rattle.addr2line_unit_lookups.proofs.CallsOfUnits.{has_function}
+use Rattle.addr2line_lookups.proofs.CallsOfUnits.{has_function}
 use Rattle.addr2line_lookups.proofs.KeptCallsAt.{call_checked}
 use Rattle.addr2line_lookups.proofs.parsing_calls.parse_calls_of.Goals as goal
 

@@ -1,15 +1,15 @@
 use Rattle.std.proofs.Common.{◌∙◌, ap, sym, subst, map, List, Result, Err}
 use Rattle.std.proofs.lemmas.Result.{err_from_is_err_and}
-use Rattle.addr2line_unit_lookups.specs.Error.{Error}
-use Rattle.addr2line_unit_lookups.specs.EntryReferences.{KnownUnits}
-use Rattle.addr2line_unit_lookups.specs.ResolvedUnits.{AnsweredUnit, value_of_unit}
-use Rattle.addr2line_unit_lookups.specs.KeptCalls.{known_among, HoldCalls}
-use Rattle.addr2line_unit_lookups.specs.UnitParses.{ChecksOrNoMemory, check_unit_at, check_calls_of}
-use Rattle.addr2line_unit_lookups.proofs.AskedLines.{no_lines_both, no_stop}
+use Rattle.addr2line_unit.specs.Error.{Error}
+use Rattle.addr2line_unit.specs.EntryReferences.{KnownUnits}
+use Rattle.addr2line_unit.specs.ResolvedUnits.{AnsweredUnit, value_of_unit}
+use Rattle.addr2line_lookups.specs.KeptCalls.{known_among, HoldCalls}
+use Rattle.addr2line_lookups.specs.UnitParses.{ChecksOrNoMemory, check_unit_at, check_calls_of}
+use Rattle.addr2line_lookups.proofs.AskedLines.{no_lines_both, no_stop}
 use Rattle.addr2line_lookups.proofs.UnitWalks.{plain_after_turn}
-use Rattle.addr2line_unit_lookups.proofs.CallsLeft.{same_known}
+use Rattle.addr2line_lookups.proofs.CallsLeft.{same_known}
 use Rattle.addr2line_lookups.proofs.KeptCallsAt.{functions_refused_at, readable_of}
-use Rattle.addr2line_unit_lookups.proofs.UnitProbes.{looks_after}
+use Rattle.addr2line_lookups.proofs.UnitProbes.{looks_after}
 use Rattle.addr2line_lookups.proofs.parsing_calls.parse_unit_at.Goals as goal
 
 pub parse_calls_at-requires : goal.parse_calls_at-requires

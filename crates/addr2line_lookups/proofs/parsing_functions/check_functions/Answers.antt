@@ -1,14 +1,14 @@
 use Rattle.std.proofs.Common.{map, refl, arith}
 use Rattle.std.proofs.lemmas.Result.{err_from_is_err_and}
 use Rattle.std.proofs.lemmas.List.{length-map}
-use Rattle.addr2line_unit_lookups.specs.ResolvedUnits.{value_of_unit}
-use Rattle.addr2line_unit_lookups.specs.UnitParses.{check_functions_of}
-use Rattle.addr2line_unit_lookups.proofs.AskedLines.{no_lines_none, no_lines_both, no_stop}
-use Rattle.addr2line_unit_lookups.proofs.CallsLeft.{leaves_none, leaves_both}
+use Rattle.addr2line_unit.specs.ResolvedUnits.{value_of_unit}
+use Rattle.addr2line_lookups.specs.UnitParses.{check_functions_of}
+use Rattle.addr2line_lookups.proofs.AskedLines.{no_lines_none, no_lines_both, no_stop}
+use Rattle.addr2line_lookups.proofs.CallsLeft.{leaves_none, leaves_both}
 use Rattle.addr2line_lookups.proofs.UnitWalks.{walk_goes_on, walk_ends, walk_refused}
-use Rattle.addr2line_unit_lookups.proofs.UnitProbes.{looks_none, looks_after}
+use Rattle.addr2line_lookups.proofs.UnitProbes.{looks_none, looks_after}
 use Rattle.addr2line_lookups.proofs.KeptAhead.{functions_further, functions_of_all, functions_refused}
-use Rattle.addr2line_unit_lookups.proofs.AskedFunctions.{is_other}
+use Rattle.addr2line_lookups.proofs.AskedFunctions.{is_other}
 use Rattle.addr2line_lookups.proofs.parsing_functions.check_functions.Goals as goal
 
 pub loop-number-init : goal.loop-number-init

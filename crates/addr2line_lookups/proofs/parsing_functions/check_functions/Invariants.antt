@@ -1,13 +1,13 @@
 -- The functions of the units before a number can be read and are kept, calls that are kept stay the definition's, and
 -- no lines were read.
 use Rattle.std.proofs.Common.{◌-◌, length, map}
-use Rattle.addr2line_unit_lookups.specs.ResolvedUnits.{value_of_unit}
-use Rattle.addr2line_unit_lookups.specs.KeptUnits.{ReadsNoLines}
-use Rattle.addr2line_unit_lookups.specs.KeptCalls.{LeavesCalls}
-use Rattle.addr2line_unit_lookups.specs.UnitParses.{check_functions_of}
+use Rattle.addr2line_unit.specs.ResolvedUnits.{value_of_unit}
+use Rattle.addr2line_lookups.specs.KeptUnits.{ReadsNoLines}
+use Rattle.addr2line_lookups.specs.KeptCalls.{LeavesCalls}
+use Rattle.addr2line_lookups.specs.UnitParses.{check_functions_of}
 use Rattle.addr2line_lookups.proofs.UnitWalks.{HasWalked}
 use Rattle.addr2line_lookups.proofs.KeptAhead.{FunctionsBelow}
-use Rattle.addr2line_unit_lookups.specs.LookupCosts.{AtMostLooks}
+use Rattle.addr2line_lookups.specs.LookupCosts.{AtMostLooks}
 use Rattle.addr2line_lookups.proofs.parsing_functions.check_functions.Given as goal
 
 abbrev pub invariant-loop-number : goal.invariant-loop-number

@@ -1,12 +1,12 @@
 use Rattle.std.proofs.Common.{◌∙◌, ap, sym, inl, inr, Err}
 use Rattle.std.proofs.lemmas.Result.{err_from_is_err_and}
-use Rattle.addr2line_unit_lookups.specs.ResolvedUnits.{ResolvedUnit}
-use Rattle.addr2line_unit_lookups.specs.UnitParses.{check_functions_of}
-use Rattle.addr2line_unit_lookups.proofs.CallsLeft.{leaves_functions, leaves_value}
-use Rattle.addr2line_unit_lookups.proofs.CallsOfUnits.{value_left, functions_kept, counts_left}
-use Rattle.addr2line_unit_lookups.proofs.KeptFunctionLists.{functions_read}
-use Rattle.addr2line_unit_lookups.proofs.UnitProbes.{looks_nowhere, looks_unchanged}
-use Rattle.addr2line_unit_lookups.proofs.AskedFunctions.{memory_refused}
+use Rattle.addr2line_unit.specs.ResolvedUnits.{ResolvedUnit}
+use Rattle.addr2line_lookups.specs.UnitParses.{check_functions_of}
+use Rattle.addr2line_lookups.proofs.CallsLeft.{leaves_functions, leaves_value}
+use Rattle.addr2line_lookups.proofs.CallsOfUnits.{value_left, functions_kept, counts_left, runs_left}
+use Rattle.addr2line_lookups.proofs.KeptFunctionLists.{functions_read}
+use Rattle.addr2line_lookups.proofs.UnitProbes.{looks_nowhere, looks_unchanged}
+use Rattle.addr2line_lookups.proofs.AskedFunctions.{memory_refused}
 use Rattle.addr2line_lookups.proofs.parsing_functions.check_functions_of.Goals as goal
 
 pub returns-in_err-read_functions : goal.returns-in_err-read_functions
@@ -37,6 +37,6 @@ returns g c =
       found = inl (ap check_functions_of (sym (value_left old new read)) ∙ c.check_kept.ensures kept);
       kept = λ answered. kept;
       calls = leaves_functions old new read;
-      cost = looks_nowhere old new counts.0 counts.1 (functions_read old new read);
+      cost = looks_nowhere old new counts.0 (runs_left old new read) counts.1 (functions_read old new read);
       lines = counts.1;
     }

@@ -1,10 +1,10 @@
 use Rattle.std.proofs.Common.{◌<◌, ◌∙◌, sym, length, subst, arith}
-use Rattle.addr2line_unit_lookups.specs.UnitParses.{check_functions_of, ChecksOrNoMemory}
-use Rattle.addr2line_unit_lookups.proofs.AskedLines.{no_lines_set}
-use Rattle.addr2line_unit_lookups.proofs.CallsOfUnits.{leaves_calls}
-use Rattle.addr2line_unit_lookups.proofs.CallsLeft.{leaves_both_of}
-use Rattle.addr2line_unit_lookups.proofs.UnitTurns.{turn_there, check_there, functions_there, no_functions_past}
-use Rattle.addr2line_unit_lookups.proofs.UnitProbes.{looks_set, looks_both_of}
+use Rattle.addr2line_lookups.specs.UnitParses.{check_functions_of, ChecksOrNoMemory}
+use Rattle.addr2line_lookups.proofs.AskedLines.{no_lines_set}
+use Rattle.addr2line_lookups.proofs.CallsOfUnits.{leaves_calls}
+use Rattle.addr2line_lookups.proofs.CallsLeft.{leaves_both_of}
+use Rattle.addr2line_lookups.proofs.UnitTurns.{turn_there, check_there, functions_there, no_functions_past}
+use Rattle.addr2line_lookups.proofs.UnitProbes.{looks_set, looks_both_of}
 use Rattle.addr2line_lookups.proofs.parsing_functions.parse_functions_at.Goals as goal
 
 pub returns-then-number-len-clause-kept : goal.returns-then-number-len-clause-kept

@@ -1,9 +1,9 @@
 use Rattle.std.proofs.Common.{Ok, None, ap}
-use Rattle.addr2line_unit_lookups.specs.ResolvedUnits.{ResolvedUnit}
-use Rattle.addr2line_unit_lookups.proofs.CallsLeft.{leaves_answer}
+use Rattle.addr2line_unit.specs.ResolvedUnits.{ResolvedUnit}
+use Rattle.addr2line_lookups.proofs.CallsLeft.{leaves_answer}
 use Rattle.addr2line_lookups.proofs.UnitCalls.{decided_after_answer}
-use Rattle.addr2line_unit_lookups.proofs.KeptFunctionLists.{functions_same}
-use Rattle.addr2line_unit_lookups.proofs.UnitProbes.{looks_nowhere}
+use Rattle.addr2line_lookups.proofs.KeptFunctionLists.{functions_same}
+use Rattle.addr2line_lookups.proofs.UnitProbes.{looks_nowhere}
 use Rattle.addr2line_lookups.proofs.parsing_functions.skip_load.Goals as goal
 
 pub returns : goal.returns
@@ -18,6 +18,7 @@ returns g c =
           (ap (λ (u : ResolvedUnit). u.calls) c.record_answer.ensures.kept) c.record_answer.ensures.functions;
       cost =
           looks_nowhere old new (ap (λ (u : ResolvedUnit). u.probes) c.record_answer.ensures.kept)
+          (ap (λ (u : ResolvedUnit). u.runs) c.record_answer.ensures.kept)
           (ap (λ (u : ResolvedUnit). u.keeps_lines) c.record_answer.ensures.kept)
           (functions_same old new (ap (λ (u : ResolvedUnit). u.keeps_functions) c.record_answer.ensures.kept)
           (ap (λ (u : ResolvedUnit). u.calls) c.record_answer.ensures.kept));

@@ -3,8 +3,8 @@ use Rattle.std.specs.BTreeSet.{contains}
 use Rattle.std.proofs.Common.{◌≡◌, ℕ, true, false, ◌∷◌, ◌++◌, [], List, map, ap, sym, ◌∙◌, Ok, subst}
 use Rattle.std.proofs.lemmas.Bool.{not-true, not-false}
 use Rattle.std.proofs.lemmas.List.{map-append}
-use Rattle.addr2line_unit_lookups.specs.FirstAnswers.{PendingLoad}
-use Rattle.addr2line_unit_lookups.specs.Preloads.{numbered_load, load_of_item, AreNumbersOf}
+use Rattle.addr2line_unit.specs.FirstAnswers.{PendingLoad}
+use Rattle.addr2line_lookups.specs.Preloads.{numbered_load, load_of_item, AreNumbersOf}
 use Rattle.addr2line_lookups.proofs.ListedLoads.{load_added, numbers_added, load_again, numbers_again}
 use Rattle.addr2line_lookups.proofs.preload.add_load.Goals as goal
 

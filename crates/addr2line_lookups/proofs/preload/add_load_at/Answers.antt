@@ -1,7 +1,7 @@
 use Rattle.std.proofs.Common.{map, Option, Ok, subst, ◌∙◌}
-use Rattle.addr2line_unit_lookups.specs.Calls.{ReturnsAsOrNoMemory}
-use Rattle.addr2line_unit_lookups.specs.FirstAnswers.{PendingLoad}
-use Rattle.addr2line_unit_lookups.specs.Preloads.{load_of_item, with_load_if_any}
+use Rattle.addr2line_unit.specs.Calls.{ReturnsAsOrNoMemory}
+use Rattle.addr2line_unit.specs.FirstAnswers.{PendingLoad}
+use Rattle.addr2line_lookups.specs.Preloads.{load_of_item, with_load_if_any}
 use Rattle.addr2line_lookups.proofs.preload.add_load_at.Goals as goal
 
 pub returns-in-Some-clause-loads : goal.returns-in-Some-clause-loads

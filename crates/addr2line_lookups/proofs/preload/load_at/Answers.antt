@@ -1,4 +1,4 @@
-use Rattle.addr2line_unit_lookups.proofs.PendingUnits.{load_there, no_load_past}
+use Rattle.addr2line_lookups.proofs.PendingUnits.{load_there, no_load_past}
 use Rattle.addr2line_lookups.proofs.preload.load_at.Goals as goal
 
 pub returns-in-Some : goal.returns-in-Some

@@ -1,13 +1,13 @@
 use Rattle.std.proofs.Common.{◌∙◌, ap, sym, map, List, Ok}
 use Rattle.std.proofs.lemmas.Result.{err_from_is_err_and}
-use Rattle.addr2line_unit_lookups.specs.Error.TheVariants.{Memory}
-use Rattle.addr2line_unit_lookups.specs.Lookups.{one_each}
-use Rattle.addr2line_unit_lookups.specs.UnitRange.{UnitRange}
-use Rattle.addr2line_unit_lookups.specs.ResolvedUnits.{value_of_unit}
-use Rattle.addr2line_unit_lookups.specs.Preloads.{load_of_item, loads_at}
-use Rattle.addr2line_unit_lookups.proofs.AskedFunctions.{is_value}
-use Rattle.addr2line_unit_lookups.proofs.FirstLoads.{none_here}
-use Rattle.addr2line_unit_lookups.proofs.UnitProbes.{refused_so}
+use Rattle.addr2line_unit.specs.Error.TheVariants.{Memory}
+use Rattle.addr2line_unit.specs.Lookups.{one_each}
+use Rattle.addr2line_unit.specs.UnitRange.{UnitRange}
+use Rattle.addr2line_unit.specs.ResolvedUnits.{value_of_unit}
+use Rattle.addr2line_lookups.specs.Preloads.{load_of_item, loads_at}
+use Rattle.addr2line_lookups.proofs.AskedFunctions.{is_value}
+use Rattle.addr2line_lookups.proofs.FirstLoads.{none_here}
+use Rattle.addr2line_lookups.proofs.UnitProbes.{refused_so}
 use Rattle.addr2line_lookups.proofs.ListedLoads.{no_numbers, listed_none, listed_next, listed_all}
 use Rattle.addr2line_lookups.proofs.preload.pending_loads.Goals as goal
 

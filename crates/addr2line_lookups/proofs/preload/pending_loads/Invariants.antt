@@ -1,10 +1,10 @@
 -- The loads that are listed, and those of the ranges that are left, that of each unit once, are all. Where there are
 -- none, none are left.
 use Rattle.std.proofs.Common.{◌≡◌, [], length, map}
-use Rattle.addr2line_unit_lookups.specs.Lookups.{one_each}
-use Rattle.addr2line_unit_lookups.specs.NumberedRanges.{covering_ranges}
-use Rattle.addr2line_unit_lookups.specs.ResolvedUnits.{value_of_unit}
-use Rattle.addr2line_unit_lookups.specs.Preloads.{loads_at, load_of_item, AreNumbersOf}
+use Rattle.addr2line_unit.specs.Lookups.{one_each}
+use Rattle.addr2line_unit.specs.NumberedRanges.{covering_ranges}
+use Rattle.addr2line_unit.specs.ResolvedUnits.{value_of_unit}
+use Rattle.addr2line_lookups.specs.Preloads.{loads_at, load_of_item, AreNumbersOf}
 use Rattle.addr2line_lookups.proofs.ListedLoads.{listed_first}
 use Rattle.addr2line_lookups.proofs.preload.pending_loads.Given as goal
 

@@ -1,16 +1,16 @@
 use Rattle.std.proofs.Common.{◌≡◌, ◌∙◌, List, Option, Ok, ap, map, subst, sym}
 use Rattle.std.proofs.lemmas.Result.{err_from_is_err_and}
-use Rattle.addr2line_unit_lookups.specs.Error.TheVariants.{Memory}
-use Rattle.addr2line_unit_lookups.specs.Contexts.{ContextUnit}
-use Rattle.addr2line_unit_lookups.specs.ContextUnits.{unit_places}
-use Rattle.addr2line_unit_lookups.specs.ResolvedUnits.{ResolvedUnit, plain_unit}
-use Rattle.addr2line_unit_lookups.specs.KeptUnits.{KeepsAt, check_at}
+use Rattle.addr2line_unit.specs.Error.TheVariants.{Memory}
+use Rattle.addr2line_unit.specs.Contexts.{ContextUnit}
+use Rattle.addr2line_unit.specs.ContextUnits.{unit_places}
+use Rattle.addr2line_unit.specs.ResolvedUnits.{ResolvedUnit, plain_unit}
+use Rattle.addr2line_lookups.specs.KeptUnits.{KeepsAt, check_at}
 use Rattle.addr2line_lookups.specs.RangeWalks.{BeginsRange}
 use Rattle.addr2line_lookups.specs.declared.range_walk.RangeRows.{RangeRows}
-use Rattle.addr2line_unit_lookups.proofs.AskedLines.{no_stop}
+use Rattle.addr2line_lookups.proofs.AskedLines.{no_stop}
 use Rattle.addr2line_lookups.proofs.AskedStretches.{refused_range_ends}
-use Rattle.addr2line_unit_lookups.proofs.KeptLines.{same_plain}
-use Rattle.addr2line_unit_lookups.proofs.UnitProbes.{refused_so}
+use Rattle.addr2line_lookups.proofs.KeptLines.{same_plain}
+use Rattle.addr2line_lookups.proofs.UnitProbes.{refused_so}
 use Rattle.addr2line_lookups.proofs.range_walk.first_rows.Goals as goal
 
 pub returns-in_err-check_at-clause-rows : goal.returns-in_err-check_at-clause-rows

@@ -1,5 +1,5 @@
 use Rattle.std.proofs.Common.{◌∙◌, ap, map}
-use Rattle.addr2line_unit_lookups.specs.ResolvedUnits.{plain_unit}
+use Rattle.addr2line_unit.specs.ResolvedUnits.{plain_unit}
 use Rattle.addr2line_lookups.proofs.RangeSteps.{ok_lines, next_of_lines, none_after_rows, none_without_unit, none_where_refused}
 use Rattle.addr2line_lookups.proofs.range_walk.next_in.Goals as goal
 

@@ -1,17 +1,17 @@
 use Rattle.std.proofs.Common.{◌≡◌, ◌∙◌, List, [], Option, Some, None, ap, map, refl, subst, sym}
 use Rattle.std.proofs.lemmas.Result.{err_from_is_err_and}
-use Rattle.addr2line_unit_lookups.specs.Error.TheVariants.{Memory}
-use Rattle.addr2line_unit_lookups.specs.Contexts.{ContextUnit}
-use Rattle.addr2line_unit_lookups.specs.UnitRange.{UnitRange}
-use Rattle.addr2line_unit_lookups.specs.ContextUnits.{unit_places}
-use Rattle.addr2line_unit_lookups.specs.ResolvedUnits.{plain_unit}
-use Rattle.addr2line_unit_lookups.specs.KeptUnits.{KeepsAt, ReadsAsked}
+use Rattle.addr2line_unit.specs.Error.TheVariants.{Memory}
+use Rattle.addr2line_unit.specs.Contexts.{ContextUnit}
+use Rattle.addr2line_unit.specs.UnitRange.{UnitRange}
+use Rattle.addr2line_unit.specs.ContextUnits.{unit_places}
+use Rattle.addr2line_unit.specs.ResolvedUnits.{plain_unit}
+use Rattle.addr2line_lookups.specs.KeptUnits.{KeepsAt, ReadsAsked}
 use Rattle.addr2line_lookups.specs.RangeWalks.{rows_left, FirstStretch, NextInRange, IsUnitOfRows}
 use Rattle.addr2line_lookups.specs.declared.range_walk.RangeRows.{RangeRows}
 use Rattle.addr2line_lookups.specs.declared.range_walk.UnitStretch.{UnitStretch}
 use Rattle.addr2line_lookups.proofs.AskedStretches.{rows_are_kept, unit_is_kept, no_rows_kept, refused_stretch}
-use Rattle.addr2line_unit_lookups.proofs.KeptLines.{same_plain}
-use Rattle.addr2line_unit_lookups.proofs.UnitProbes.{refused_so}
+use Rattle.addr2line_lookups.proofs.KeptLines.{same_plain}
+use Rattle.addr2line_lookups.proofs.UnitProbes.{refused_so}
 use Rattle.addr2line_lookups.proofs.range_walk.next_of_rows.Goals as goal
 
 pub returns-in-Some-next_in-clause-stretch : goal.returns-in-Some-next_in-clause-stretch

@@ -1,18 +1,18 @@
 use Rattle.std.proofs.Common.{◌≡◌, ◌∙◌, List, Option, Ok, Err, ap, map, refl, subst, sym}
 use Rattle.std.proofs.lemmas.Result.{err_from_is_err_and}
-use Rattle.addr2line_unit_lookups.specs.Error.TheVariants.{Memory}
-use Rattle.addr2line_unit_lookups.specs.Contexts.{ContextUnit}
-use Rattle.addr2line_unit_lookups.specs.ContextUnits.{unit_places}
-use Rattle.addr2line_unit_lookups.specs.ResolvedUnits.{plain_unit}
+use Rattle.addr2line_unit.specs.Error.TheVariants.{Memory}
+use Rattle.addr2line_unit.specs.Contexts.{ContextUnit}
+use Rattle.addr2line_unit.specs.ContextUnits.{unit_places}
+use Rattle.addr2line_unit.specs.ResolvedUnits.{plain_unit}
 use Rattle.addr2line_lookups.specs.RangeWalks.{BeginsRange, NextOfRows, walk_left, StaysOnItsWay}
 use Rattle.addr2line_lookups.specs.declared.range_walk.RangeRows.{RangeRows}
 use Rattle.addr2line_lookups.specs.declared.range_walk.UnitStretch.{UnitStretch}
 use Rattle.addr2line_lookups.proofs.AskedStretches.{AsksAfter, walk_begins, rows_found, rows_passed, rows_reads, rows_kept, walk_ends, next_begins, next_refused, next_reads, next_kept, refused_stretch, stretch_not_refused, rows_not_refused}
-use Rattle.addr2line_unit_lookups.proofs.KeptLines.{same_plain}
+use Rattle.addr2line_lookups.proofs.KeptLines.{same_plain}
 use Rattle.addr2line_lookups.proofs.RangeSteps.{first_left, next_range, refused_range, no_range, stays_empty, ok_stretch}
 use Rattle.addr2line_lookups.proofs.RangeUnits.{way_of_rows, way_of_range}
-use Rattle.addr2line_unit_lookups.proofs.ReadLines.{lines_none, lines_both}
-use Rattle.addr2line_unit_lookups.proofs.UnitProbes.{refused_so}
+use Rattle.addr2line_lookups.proofs.ReadLines.{lines_none, lines_both}
+use Rattle.addr2line_lookups.proofs.UnitProbes.{refused_so}
 use Rattle.addr2line_lookups.proofs.range_walk.next_stretch.Goals as goal
 
 pub range-init : goal.range-init

@@ -1,10 +1,10 @@
 -- What is left is what was left at first. The lines of the units that were asked are kept; no others were read, and
 -- nothing else. The walk comes to no other units.
 use Rattle.std.proofs.Common.{◌≡◌, length, drop, map}
-use Rattle.addr2line_unit_lookups.specs.NumberedRanges.{overlapping_ranges}
-use Rattle.addr2line_unit_lookups.specs.ContextUnits.{unit_places}
-use Rattle.addr2line_unit_lookups.specs.ResolvedUnits.{plain_unit}
-use Rattle.addr2line_unit_lookups.specs.LookupCosts.{ReadsLines}
+use Rattle.addr2line_unit.specs.NumberedRanges.{overlapping_ranges}
+use Rattle.addr2line_unit.specs.ContextUnits.{unit_places}
+use Rattle.addr2line_unit.specs.ResolvedUnits.{plain_unit}
+use Rattle.addr2line_lookups.specs.LookupCosts.{ReadsLines}
 use Rattle.addr2line_lookups.specs.RangeWalks.{walk_left, StaysOnItsWay}
 use Rattle.addr2line_lookups.proofs.AskedStretches.{AsksWalk}
 use Rattle.addr2line_lookups.proofs.range_walk.next_stretch.Given as goal

@@ -1,5 +1,5 @@
 use Rattle.std.proofs.Common.{map, sym, ◌∙◌}
-use Rattle.addr2line_unit_lookups.specs.ResolvedUnits.{plain_unit}
+use Rattle.addr2line_unit.specs.ResolvedUnits.{plain_unit}
 use Rattle.addr2line_lookups.proofs.AskedStretches.{no_sequences, answer_some, answer_none, begins_with_none, begins_with_rows, begins_without_unit, lines_not_refused}
 use Rattle.addr2line_lookups.proofs.range_walk.rows_in.Goals as goal
 

@@ -1,7 +1,7 @@
 use Rattle.std.proofs.Common.{◌≡◌, option_map, ap, sym, ◌∙◌, Ok, Some, Option}
 use Rattle.std.proofs.lemmas.Result.{err_from_is_err_and}
-use Rattle.addr2line_unit_lookups.specs.FirstAnswers.{SplitLoad, PendingLoad}
-use Rattle.addr2line_unit_lookups.proofs.FirstLoads.{ok_load, copies}
+use Rattle.addr2line_unit.specs.FirstAnswers.{SplitLoad, PendingLoad}
+use Rattle.addr2line_lookups.proofs.FirstLoads.{ok_load, copies}
 use Rattle.addr2line_lookups.proofs.waiting.copy_load_at.Goals as goal
 
 pub returns-in_err-copy-in-Some : goal.returns-in_err-copy-in-Some

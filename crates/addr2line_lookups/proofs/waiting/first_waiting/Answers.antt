@@ -1,9 +1,9 @@
 use Rattle.std.proofs.Common.{map, drop, ◌∙◌}
-use Rattle.addr2line_unit_lookups.specs.UnitRange.{UnitRange}
-use Rattle.addr2line_unit_lookups.specs.NumberedRanges.{covering_ranges}
-use Rattle.addr2line_unit_lookups.specs.ResolvedUnits.{value_of_unit}
-use Rattle.addr2line_unit_lookups.specs.Preloads.{loads_at}
-use Rattle.addr2line_unit_lookups.proofs.FirstLoads.{number_if_any, further_if_none, no_number}
+use Rattle.addr2line_unit.specs.UnitRange.{UnitRange}
+use Rattle.addr2line_unit.specs.NumberedRanges.{covering_ranges}
+use Rattle.addr2line_unit.specs.ResolvedUnits.{value_of_unit}
+use Rattle.addr2line_lookups.specs.Preloads.{loads_at}
+use Rattle.addr2line_lookups.proofs.FirstLoads.{number_if_any, further_if_none, no_number}
 use Rattle.addr2line_lookups.proofs.waiting.first_waiting.Goals as goal
 
 pub returns-then-is_some : goal.returns-then-is_some

@@ -1,8 +1,8 @@
 -- the loads are those from the index on
 use Rattle.std.proofs.Common.{length, map, drop}
-use Rattle.addr2line_unit_lookups.specs.NumberedRanges.{covering_ranges}
-use Rattle.addr2line_unit_lookups.specs.ResolvedUnits.{value_of_unit}
-use Rattle.addr2line_unit_lookups.specs.PassedUnits.{PassLoads}
+use Rattle.addr2line_unit.specs.NumberedRanges.{covering_ranges}
+use Rattle.addr2line_unit.specs.ResolvedUnits.{value_of_unit}
+use Rattle.addr2line_lookups.specs.PassedUnits.{PassLoads}
 use Rattle.addr2line_lookups.proofs.waiting.first_waiting.Given as goal
 
 abbrev pub invariant-loop-unit : goal.invariant-loop-unit

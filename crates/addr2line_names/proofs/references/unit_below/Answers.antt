@@ -1,14 +1,25 @@
-use Rattle.std.proofs.Common.{◌≡◌, Some, true, sym, ap, ◌∙◌}
-use Rattle.gimli_dwarf.specs.UnitFacts.{UnitFacts}
+use Rattle.std.proofs.Common.{◌≡◌, ◌+◌, ◌-◌, ◌<◌, length, Some, option_map, sym, ap, ◌∙◌, arith}
+use Rattle.std.proofs.lemmas.Option.{slice_get-get_or}
 use Rattle.addr2line_names.specs.EntryReferences.{begins_below}
-use Rattle.addr2line_names.proofs.LastUnitBelow.{last_is}
+use Rattle.addr2line_names.proofs.LastUnitBelow.{none_before_point, last_before_point}
 use Rattle.addr2line_names.proofs.references.unit_below.Goals as goal
 
-pub returns-then-begins_below : goal.returns-then-begins_below
-returns-then-begins_below g c =
+pub returns-then-count-eq0 : goal.returns-then-count-eq0
+returns-then-count-eq0 g c =
     let below = begins_below (g.R.Offset.ReaderOffset.count c.args.offset.0) in
-    let passes : below (g.U.HasUnit.facts c.in-Some.unit.now) ≡ true =
-    ap below (sym c.unit-unit.ensures) ∙ sym c.begins_below.ensures ∙ c.if-begins_below.true in
-    ap (λ (u : UnitFacts). Some u) c.unit-unit.ensures
-    ∙ sym (last_is g.U.HasUnit.facts below c.loop-unit.left.now c.in-Some.before.now c.in-Some.unit.now _
-    c.in-Some.ensures.cases.0 passes c.loop-unit.invariant)
+    sym (none_before_point g.U.HasUnit.facts below c.count_below-count.result c.args.units.now c.if-count-eq0.true
+    c.count_below-count.ensures.point)
+
+pub returns : goal.returns
+returns g c =
+    let facts = g.U.HasUnit.facts in
+    let below = begins_below (g.R.Offset.ReaderOffset.count c.args.offset.0) in
+    let units = c.args.units.now in
+    let n = c.count_below-count.result in
+    let some = c.if-count-eq0.false in
+    let within = c.count_below-count.ensures.within in
+    let last : n ≡ (n - 1) + 1 = omega (arith, some) in
+    let here : n - 1 < length units = omega (arith, some, within) in
+    sym (last_before_point facts below n (n - 1) units last within c.count_below-count.ensures.point
+    ∙ ap (option_map facts) (slice_get-get_or units (n - 1) c.index-units-count.result here)
+    ∙ ap (λ u. Some (facts u)) (sym c.index-units-count.is) ∙ ap Some (sym c.unit.ensures))

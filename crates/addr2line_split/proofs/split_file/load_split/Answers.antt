@@ -1,6 +1,6 @@
 use Rattle.std.proofs.Common.{◌≡◌, ℕ, List, Some, None, option_map, refl, sym, ap, ◌∙◌, subst}
-use Rattle.addr2line_kept.specs.View.{View}
-use Rattle.addr2line_kept.specs.FirstAnswers.{SplitLoad}
+use Rattle.addr2line_unit.specs.View.{View}
+use Rattle.addr2line_unit.specs.FirstAnswers.{SplitLoad}
 use Rattle.addr2line_split.specs.SplitLoading.{directory_bytes}
 use Rattle.addr2line_split.proofs.SplitCalls.{same_directory, gets_none, gets_named}
 use Rattle.addr2line_split.proofs.split_file.load_split.Goals as goal

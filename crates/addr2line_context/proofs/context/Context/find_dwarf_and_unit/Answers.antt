@@ -2,7 +2,7 @@ use Rattle.std.proofs.Common.{refl, subst, sym, map, None, Ok}
 use Rattle.addr2line_lookups.specs.ResolvedUnits.{value_of_unit}
 use Rattle.addr2line_lookups.specs.UnitLookups.{IsPending, FoundUnit, SettlesUnit}
 use Rattle.addr2line_context.specs.KeptContexts.{ResolvedContext}
-use Rattle.addr2line_context.specs.ContextCosts.{AsksForUnit}
+use Rattle.addr2line_context.specs.ContextCosts.{unit_search}
 use Rattle.addr2line_context.specs.SettledLookups.{unit_in}
 use Rattle.addr2line_context.proofs.AnsweredFirst.{unit_has_load}
 use Rattle.addr2line_context.proofs.LookupResults.{unit_lent, no_unit, pending_unit}
@@ -17,14 +17,14 @@ returns-in-Ok-Waits g c =
     let a = c.args.probe in
     let meaning = unit_in old a in
     let after = c.in-Ok-Waits.ensures.after in
-    let found_after = with_memory AsksForUnit (Unit {0}) _ a c.args.self.now _ (λ has. is_value _) after in
+    let found_after = with_memory unit_search (Unit {0}) _ a c.args.self.now _ (λ has. is_value _) after in
     let waits : IsPending meaning =
     subst (λ o. SettlesUnit (map value_of_unit c.settle_unit.new.self.units) meaning (Ok o)) c.in-Ok-Waits.field-0-is
     c.in-Ok-Waits.ensures.found in (
       (
         refl,
         λ w. refl,
-        with_memory AsksForUnit _ _ a c.args.self.now _ (λ has. is_value _) after,
+        with_memory unit_search _ _ a c.args.self.now _ (λ has. is_value _) after,
       ),
       record {
         found = pending_unit meaning waits;
@@ -50,7 +50,7 @@ returns-in-Ok-Found g c =
       (
         refl,
         λ w. tt,
-        search_of AsksForUnit a old c.self.view_is (λ has. is_value _) c.in-Ok-Found.ensures.after,
+        search_of unit_search a old c.self.view_is (λ has. is_value _) c.in-Ok-Found.ensures.after,
       ),
       record {
         found = lent;
@@ -72,7 +72,7 @@ returns-in-Ok-Nothing g c =
       (
         refl,
         λ w. tt,
-        with_memory AsksForUnit _ _ a c.args.self.now _ (λ has. is_value _) c.in-Ok-Nothing.ensures.after,
+        with_memory unit_search _ _ a c.args.self.now _ (λ has. is_value _) c.in-Ok-Nothing.ensures.after,
       ),
       record {
         found = none;
@@ -87,7 +87,7 @@ returns-in-Err g c = (
   (
     refl,
     λ w. tt,
-    with_memory AsksForUnit _ _ c.args.probe c.args.self.now _ (refused_with_memory _) c.in-Err.ensures.after,
+    with_memory unit_search _ _ c.args.probe c.args.self.now _ (refused_with_memory _) c.in-Err.ensures.after,
   ),
   record {
     found = λ m. absurd (m c.in-Err.ensures.found);

@@ -3,7 +3,7 @@ use Rattle.addr2line_lookups.specs.BorrowedFrames.{frames_left}
 use Rattle.addr2line_lookups.specs.FirstAnswers.{output}
 use Rattle.addr2line_lookups.specs.UnitLookups.{IsPending, FoundFrames, SettlesFrames}
 use Rattle.addr2line_context.specs.KeptContexts.{ResolvedContext}
-use Rattle.addr2line_context.specs.ContextCosts.{AsksForFrames}
+use Rattle.addr2line_context.specs.ContextCosts.{frame_search}
 use Rattle.addr2line_context.specs.SettledLookups.{frames_in}
 use Rattle.addr2line_context.proofs.AnsweredFirst.{frames_have_load}
 use Rattle.addr2line_context.proofs.LookupResults.{frames_lent}
@@ -18,14 +18,14 @@ returns-in-Ok-Waits g c =
     let a = c.args.probe in
     let meaning = frames_in old a in
     let after = c.in-Ok-Waits.ensures.after in
-    let found_after = with_memory AsksForFrames (Unit {0}) _ a c.args.self.now _ (λ has. is_value _) after in
+    let found_after = with_memory frame_search (Unit {0}) _ a c.args.self.now _ (λ has. is_value _) after in
     let waits : IsPending meaning =
     subst (λ o. SettlesFrames c.settle_frames.new.self.units meaning (Ok o)) c.in-Ok-Waits.field-0-is
     c.in-Ok-Waits.ensures.found in (
       (
         refl,
         λ w. refl,
-        with_memory AsksForFrames _ _ a c.args.self.now _ (λ has. is_value _) after,
+        with_memory frame_search _ _ a c.args.self.now _ (λ has. is_value _) after,
       ),
       record {
         found = waits;
@@ -50,7 +50,7 @@ returns-in-Ok-Found g c =
       (
         refl,
         λ w. tt,
-        search_of AsksForFrames a old c.self.view_is (λ has. is_value _) c.in-Ok-Found.ensures.after,
+        search_of frame_search a old c.self.view_is (λ has. is_value _) c.in-Ok-Found.ensures.after,
       ),
       record {
         found = lent;
@@ -71,7 +71,7 @@ returns-in-Ok-Nothing g c =
       (
         refl,
         λ w. tt,
-        with_memory AsksForFrames _ _ a c.args.self.now _ (λ has. is_value _) c.in-Ok-Nothing.ensures.after,
+        with_memory frame_search _ _ a c.args.self.now _ (λ has. is_value _) c.in-Ok-Nothing.ensures.after,
       ),
       record {
         found = none;
@@ -86,7 +86,7 @@ returns-in-Err g c = (
   (
     refl,
     λ w. tt,
-    with_memory AsksForFrames _ _ c.args.probe c.args.self.now _ (refused_with_memory _) c.in-Err.ensures.after,
+    with_memory frame_search _ _ c.args.probe c.args.self.now _ (refused_with_memory _) c.in-Err.ensures.after,
   ),
   record {
     found = c.in-Err.ensures.found;

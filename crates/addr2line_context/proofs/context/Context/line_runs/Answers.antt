@@ -1,5 +1,5 @@
 use Rattle.std.proofs.Common.{ap, ◌∙◌, option_map, slice_get}
-use Rattle.addr2line_context.specs.ContextCosts.{runs_of_unit}
+use Rattle.addr2line_lookups.specs.ResolvedUnits.{runs_of_unit}
 use Rattle.addr2line_context.specs.KeptContexts.{ResolvedContext}
 use Rattle.addr2line_context.proofs.context.Context.line_runs.Goals as goal
 

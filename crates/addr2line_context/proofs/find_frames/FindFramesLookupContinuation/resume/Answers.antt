@@ -1,7 +1,7 @@
 use Rattle.std.proofs.Common.{refl, ap, ◌∙◌, subst, option_map, arith}
 use Rattle.addr2line_lookups.specs.BorrowedFrames.{frames_left}
 use Rattle.addr2line_context.specs.AnsweredContexts.{AnsweredContext}
-use Rattle.addr2line_context.specs.ContextCosts.{AsksForFrames}
+use Rattle.addr2line_context.specs.ContextCosts.{frame_search}
 use Rattle.addr2line_context.specs.Suspended.{FollowsLookup}
 use Rattle.addr2line_context.specs.SkippedLoads.{FindsFrames}
 use Rattle.addr2line_context.specs.SettledLookups.{frames_in, after_answer}
@@ -22,18 +22,18 @@ returns-in-Ok g c =
       (
         refl,
         c.find_frames.follows.holds,
-        after_again AsksForFrames old mid a file ok free c.in-Ok.ensures.lines c.in-Ok.ensures.functions result _
+        after_again frame_search old mid a file ok free c.in-Ok.ensures.lines c.in-Ok.ensures.functions result _
             c.find_frames.follows.holds-at-none,
       ),
       record {
         fewer =
-            fewer_left AsksForFrames old mid a (λ w. w.context.now) (λ w. w.probe) c.in-Ok.ensures.fewer result waits;
-        waits = has_loads AsksForFrames old mid a (λ w. w.context.now) (λ w. w.probe) result waits;
+            fewer_left frame_search old mid a (λ w. w.context.now) (λ w. w.probe) c.in-Ok.ensures.fewer result waits;
+        waits = has_loads frame_search old mid a (λ w. w.context.now) (λ w. w.probe) result waits;
         found =
             subst (λ (x : AnsweredContext). FollowsLookup frames_left result (frames_in x a)) ok
             c.find_frames.ensures.found;
         again =
-            waits_again AsksForFrames old mid a file ok free c.in-Ok.ensures.lines c.in-Ok.ensures.functions
+            waits_again frame_search old mid a file ok free c.in-Ok.ensures.lines c.in-Ok.ensures.functions
             (λ w. w.context.now) (λ w. w.probe) result waits;
         skips =
             λ none found h.
@@ -50,7 +50,7 @@ returns-in-Err g c = (
   (
     refl,
     λ w. tt,
-    after_error AsksForFrames _ _ _ _ _ c.in-Err.ensures.refusal c.in-Err.ensures.left c.in-Err.ensures.cost
+    after_error frame_search _ _ _ _ _ c.in-Err.ensures.refusal c.in-Err.ensures.left c.in-Err.ensures.cost
         c.in-Err.ensures.lines c.in-Err.ensures.functions,
   ),
   record {

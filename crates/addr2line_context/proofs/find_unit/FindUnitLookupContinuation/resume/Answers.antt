@@ -1,7 +1,7 @@
 use Rattle.std.proofs.Common.{refl, ap, ◌∙◌, subst, option_map, arith, Ok}
 use Rattle.addr2line_lookups.specs.Lookups.{map_output}
 use Rattle.addr2line_context.specs.AnsweredContexts.{AnsweredContext}
-use Rattle.addr2line_context.specs.ContextCosts.{AsksForUnit}
+use Rattle.addr2line_context.specs.ContextCosts.{unit_search}
 use Rattle.addr2line_context.specs.Suspended.{FollowsLookup}
 use Rattle.addr2line_context.specs.SkippedLoads.{FindsUnit}
 use Rattle.addr2line_context.specs.SettledLookups.{unit_in, after_answer}
@@ -22,17 +22,17 @@ returns-in-Ok g c =
       (
         refl,
         c.find_dwarf_and_unit.follows.holds,
-        after_again AsksForUnit old mid a file ok free c.in-Ok.ensures.lines c.in-Ok.ensures.functions result _
+        after_again unit_search old mid a file ok free c.in-Ok.ensures.lines c.in-Ok.ensures.functions result _
             c.find_dwarf_and_unit.follows.holds-at-none,
       ),
       record {
-        fewer = fewer_left AsksForUnit old mid a (λ w. w.context.now) (λ w. w.probe) c.in-Ok.ensures.fewer result waits;
-        waits = has_loads AsksForUnit old mid a (λ w. w.context.now) (λ w. w.probe) result waits;
+        fewer = fewer_left unit_search old mid a (λ w. w.context.now) (λ w. w.probe) c.in-Ok.ensures.fewer result waits;
+        waits = has_loads unit_search old mid a (λ w. w.context.now) (λ w. w.probe) result waits;
         found =
             subst (λ (x : AnsweredContext). FollowsLookup (λ u. u) result (map_output (λ u. Ok u) (unit_in x a))) ok
             c.find_dwarf_and_unit.ensures.found;
         again =
-            waits_again AsksForUnit old mid a file ok free c.in-Ok.ensures.lines c.in-Ok.ensures.functions
+            waits_again unit_search old mid a file ok free c.in-Ok.ensures.lines c.in-Ok.ensures.functions
             (λ w. w.context.now) (λ w. w.probe) result waits;
         skips =
             λ none found h.
@@ -49,7 +49,7 @@ returns-in-Err g c = (
   (
     refl,
     λ w. tt,
-    after_error AsksForUnit _ _ _ _ _ c.in-Err.ensures.refusal c.in-Err.ensures.left c.in-Err.ensures.cost
+    after_error unit_search _ _ _ _ _ c.in-Err.ensures.refusal c.in-Err.ensures.left c.in-Err.ensures.cost
         c.in-Err.ensures.lines c.in-Err.ensures.functions,
   ),
   record {

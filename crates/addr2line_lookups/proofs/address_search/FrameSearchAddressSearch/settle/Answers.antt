@@ -1,7 +1,7 @@
 use Rattle.std.proofs.Common.{ap, subst, ◌∙◌}
-use Rattle.addr2line_unit_lookups.specs.FirstAnswers.{output}
-use Rattle.addr2line_unit_lookups.specs.FramePlaces.{FindsFrames, frames_at_number}
-use Rattle.addr2line_unit_lookups.proofs.SettledUnits.{ok_place, asked_frames}
+use Rattle.addr2line_unit.specs.FirstAnswers.{output}
+use Rattle.addr2line_lookups.specs.FramePlaces.{FindsFrames, frames_at_number}
+use Rattle.addr2line_lookups.proofs.SettledUnits.{ok_place, asked_frames}
 use Rattle.addr2line_lookups.proofs.address_search.FrameSearchAddressSearch.settle.Goals as goal
 
 pub returns-in-Some-clause-settled : goal.returns-in-Some-clause-settled

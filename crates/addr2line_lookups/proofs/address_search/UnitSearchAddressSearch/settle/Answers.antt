@@ -1,6 +1,6 @@
 use Rattle.std.proofs.Common.{ap, subst, ◌∙◌}
-use Rattle.addr2line_unit_lookups.specs.FramePlaces.{FindsFrames, HoldsFrames, frames_at_number}
-use Rattle.addr2line_unit_lookups.proofs.SettledUnits.{ok_place, no_unit, refused_unit, has_unit}
+use Rattle.addr2line_lookups.specs.FramePlaces.{FindsFrames, HoldsFrames, frames_at_number}
+use Rattle.addr2line_lookups.proofs.SettledUnits.{ok_place, no_unit, refused_unit, has_unit}
 use Rattle.addr2line_lookups.proofs.address_search.UnitSearchAddressSearch.settle.Goals as goal
 
 pub returns-in-Some-clause-settled : goal.returns-in-Some-clause-settled

@@ -1,11 +1,11 @@
 use Rattle.std.proofs.Common.{◌≡◌, ◌∙◌, ap, sym, subst, map, option_map, List, None}
-use Rattle.addr2line_unit_lookups.specs.ContextUnits.{ordered_ranges}
-use Rattle.addr2line_unit_lookups.specs.ResolvedUnits.{ResolvedUnit, value_of_unit}
-use Rattle.addr2line_unit_lookups.specs.KeptUnits.{ReadsNoLines, ReadsNoFunctions}
-use Rattle.addr2line_unit_lookups.specs.KeptCalls.{LeavesCalls}
-use Rattle.addr2line_unit_lookups.specs.Preloads.{load_at}
-use Rattle.addr2line_unit_lookups.specs.LoadAnswers.{AnswersOrNoMemory, answer_at}
-use Rattle.addr2line_unit_lookups.proofs.AnsweredLoads.{plain_left}
+use Rattle.addr2line_unit.specs.ContextUnits.{ordered_ranges}
+use Rattle.addr2line_unit.specs.ResolvedUnits.{ResolvedUnit, value_of_unit}
+use Rattle.addr2line_lookups.specs.KeptUnits.{ReadsNoLines, ReadsNoFunctions}
+use Rattle.addr2line_lookups.specs.KeptCalls.{LeavesCalls}
+use Rattle.addr2line_lookups.specs.Preloads.{load_at}
+use Rattle.addr2line_lookups.specs.LoadAnswers.{AnswersOrNoMemory, answer_at}
+use Rattle.addr2line_lookups.proofs.AnsweredLoads.{plain_left}
 use Rattle.addr2line_lookups.proofs.units.Units.answer_at.Goals as goal
 
 pub invariant_of-self : goal.invariant_of-self

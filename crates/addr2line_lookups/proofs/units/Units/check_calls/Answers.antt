@@ -1,9 +1,9 @@
 use Rattle.std.proofs.Common.{◌∙◌, List, map, ap, sym, subst}
-use Rattle.addr2line_unit_lookups.specs.ContextUnits.{ordered_ranges}
-use Rattle.addr2line_unit_lookups.specs.ResolvedUnits.{ResolvedUnit, value_of_unit}
-use Rattle.addr2line_unit_lookups.specs.KeptUnits.{ReadsNoLines}
-use Rattle.addr2line_unit_lookups.specs.KeptCalls.{known_among, HoldCalls}
-use Rattle.addr2line_unit_lookups.specs.UnitParses.{check_calls_of, WalksOrNoMemory}
+use Rattle.addr2line_unit.specs.ContextUnits.{ordered_ranges}
+use Rattle.addr2line_unit.specs.ResolvedUnits.{ResolvedUnit, value_of_unit}
+use Rattle.addr2line_lookups.specs.KeptUnits.{ReadsNoLines}
+use Rattle.addr2line_lookups.specs.KeptCalls.{known_among, HoldCalls}
+use Rattle.addr2line_lookups.specs.UnitParses.{check_calls_of, WalksOrNoMemory}
 use Rattle.addr2line_lookups.proofs.UnitWalks.{plain_walked}
 use Rattle.addr2line_lookups.proofs.units.Units.check_calls.Goals as goal
 

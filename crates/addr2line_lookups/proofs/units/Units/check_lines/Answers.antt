@@ -1,9 +1,9 @@
 use Rattle.std.proofs.Common.{◌∙◌, List, map, ap, sym, subst}
-use Rattle.addr2line_unit_lookups.specs.ContextUnits.{ordered_ranges}
-use Rattle.addr2line_unit_lookups.specs.ResolvedUnits.{ResolvedUnit, plain_unit}
-use Rattle.addr2line_unit_lookups.specs.KeptCalls.{LeavesCalls}
-use Rattle.addr2line_unit_lookups.specs.KeptUnits.{KeepsAsked, ReadsAsked, AsksForLines, ReadsNoFunctions}
-use Rattle.addr2line_unit_lookups.proofs.KeptLines.{same_plain}
+use Rattle.addr2line_unit.specs.ContextUnits.{ordered_ranges}
+use Rattle.addr2line_unit.specs.ResolvedUnits.{ResolvedUnit, plain_unit}
+use Rattle.addr2line_lookups.specs.KeptCalls.{LeavesCalls}
+use Rattle.addr2line_lookups.specs.KeptUnits.{KeepsAsked, ReadsAsked, AsksForLines, ReadsNoFunctions}
+use Rattle.addr2line_lookups.proofs.KeptLines.{same_plain}
 use Rattle.addr2line_lookups.proofs.units.Units.check_lines.Goals as goal
 
 pub invariant_of-self : goal.invariant_of-self

@@ -1,13 +1,13 @@
 use Rattle.std.proofs.Common.{◌∙◌, List, map, ap, sym, subst}
-use Rattle.addr2line_unit_lookups.specs.ContextUnits.{ordered_ranges}
-use Rattle.addr2line_unit_lookups.specs.ResolvedUnits.{ResolvedUnit, plain_unit}
-use Rattle.addr2line_unit_lookups.specs.KeptCalls.{LeavesCalls}
-use Rattle.addr2line_unit_lookups.proofs.KeptLines.{same_plain}
-use Rattle.addr2line_unit_lookups.specs.UnitRange.{UnitRange}
-use Rattle.addr2line_unit_lookups.specs.NumberedRanges.{covering_ranges}
-use Rattle.addr2line_unit_lookups.specs.KeptUnits.{KeepsAsked, ReadsAsked, AsksAmong, AsksForRow, ReadsNoFunctions}
-use Rattle.addr2line_unit_lookups.specs.LookupCosts.{AtMostLooks}
-use Rattle.addr2line_unit_lookups.proofs.LookupProbes.{row_probes_among}
+use Rattle.addr2line_unit.specs.ContextUnits.{ordered_ranges}
+use Rattle.addr2line_unit.specs.ResolvedUnits.{ResolvedUnit, plain_unit}
+use Rattle.addr2line_lookups.specs.KeptCalls.{LeavesCalls}
+use Rattle.addr2line_lookups.proofs.KeptLines.{same_plain}
+use Rattle.addr2line_unit.specs.UnitRange.{UnitRange}
+use Rattle.addr2line_unit.specs.NumberedRanges.{covering_ranges}
+use Rattle.addr2line_lookups.specs.KeptUnits.{KeepsAsked, ReadsAsked, AsksAmong, AsksForRow, ReadsNoFunctions}
+use Rattle.addr2line_lookups.specs.LookupCosts.{AtMostLooks}
+use Rattle.addr2line_lookups.proofs.LookupProbes.{row_probes_among}
 use Rattle.addr2line_lookups.proofs.units.Units.find_row.Goals as goal
 
 pub invariant_of-self : goal.invariant_of-self

@@ -1,11 +1,11 @@
 use Rattle.std.proofs.Common.{List, map, option_map, sym, ap, ◌∙◌, subst, Ok, Option}
-use Rattle.addr2line_unit_lookups.specs.Calls.{ReturnsAsOrNoMemory}
-use Rattle.addr2line_unit_lookups.specs.FirstAnswers.{SplitLoad}
-use Rattle.addr2line_unit_lookups.specs.NumberedRanges.{covering_ranges}
-use Rattle.addr2line_unit_lookups.specs.ContextUnits.{ordered_ranges}
-use Rattle.addr2line_unit_lookups.specs.ResolvedUnits.{ResolvedUnit, plain_unit, value_of_unit}
-use Rattle.addr2line_unit_lookups.specs.Preloads.{loads_at, load_at}
-use Rattle.addr2line_unit_lookups.proofs.FirstLoads.{load_of_first, no_first_load}
+use Rattle.addr2line_unit.specs.Calls.{ReturnsAsOrNoMemory}
+use Rattle.addr2line_unit.specs.FirstAnswers.{SplitLoad}
+use Rattle.addr2line_unit.specs.NumberedRanges.{covering_ranges}
+use Rattle.addr2line_unit.specs.ContextUnits.{ordered_ranges}
+use Rattle.addr2line_unit.specs.ResolvedUnits.{ResolvedUnit, plain_unit, value_of_unit}
+use Rattle.addr2line_lookups.specs.Preloads.{loads_at, load_at}
+use Rattle.addr2line_lookups.proofs.FirstLoads.{load_of_first, no_first_load}
 use Rattle.addr2line_lookups.proofs.units.Units.first_load.Goals as goal
 
 pub returns-in-Some : goal.returns-in-Some

@@ -1,10 +1,10 @@
 use Rattle.std.proofs.Common.{List, map, ◌∙◌, ap, sym, subst}
-use Rattle.addr2line_unit_lookups.specs.NumberedRanges.{covering_ranges}
-use Rattle.addr2line_unit_lookups.specs.UnitRange.{UnitRange}
-use Rattle.addr2line_unit_lookups.specs.ContextUnits.{ordered_ranges}
-use Rattle.addr2line_unit_lookups.specs.ResolvedUnits.{ResolvedUnit, plain_unit, value_of_unit}
-use Rattle.addr2line_unit_lookups.specs.Preloads.{loads_at, first_number}
-use Rattle.addr2line_unit_lookups.specs.PassedUnits.{PassLoads}
+use Rattle.addr2line_unit.specs.NumberedRanges.{covering_ranges}
+use Rattle.addr2line_unit.specs.UnitRange.{UnitRange}
+use Rattle.addr2line_unit.specs.ContextUnits.{ordered_ranges}
+use Rattle.addr2line_unit.specs.ResolvedUnits.{ResolvedUnit, plain_unit, value_of_unit}
+use Rattle.addr2line_lookups.specs.Preloads.{loads_at, first_number}
+use Rattle.addr2line_lookups.specs.PassedUnits.{PassLoads}
 use Rattle.addr2line_lookups.proofs.units.Units.first_waiting.Goals as goal
 
 pub first_waiting-requires : goal.first_waiting-requires

@@ -1,8 +1,8 @@
 use Rattle.std.proofs.Common.{List, ◌∙◌, subst}
-use Rattle.addr2line_unit_lookups.specs.BorrowedFrames.{frames_left}
-use Rattle.addr2line_unit_lookups.specs.ResolvedUnits.{ResolvedUnit}
-use Rattle.addr2line_unit_lookups.specs.FramePlaces.{LendsFrames}
-use Rattle.addr2line_unit_lookups.proofs.FoundFrames.{lends_frames, lends_none}
+use Rattle.addr2line_unit.specs.BorrowedFrames.{frames_left}
+use Rattle.addr2line_unit.specs.ResolvedUnits.{ResolvedUnit}
+use Rattle.addr2line_lookups.specs.FramePlaces.{LendsFrames}
+use Rattle.addr2line_lookups.proofs.FoundFrames.{lends_frames, lends_none}
 use Rattle.addr2line_lookups.proofs.units.Units.frames_at_place.Goals as goal
 
 pub returns-in-Ok : goal.returns-in-Ok

@@ -1,6 +1,6 @@
 use Rattle.std.proofs.Common.{◌∙◌, ap, List, map}
-use Rattle.addr2line_unit_lookups.specs.ResolvedUnits.{ResolvedUnit, value_of_unit}
-use Rattle.addr2line_unit_lookups.specs.UnitLookups.{unit_at_number}
+use Rattle.addr2line_unit.specs.ResolvedUnits.{ResolvedUnit, value_of_unit}
+use Rattle.addr2line_lookups.specs.UnitLookups.{unit_at_number}
 use Rattle.addr2line_lookups.proofs.units.Units.functions_unit_at.Goals as goal
 
 pub returns : goal.returns

@@ -1,11 +1,11 @@
 use Rattle.std.proofs.Common.{◌∙◌, List, ap, sym, subst, map}
-use Rattle.addr2line_unit_lookups.specs.UnitRange.{UnitRange}
-use Rattle.addr2line_unit_lookups.specs.ContextUnits.{unit_places, ordered_ranges}
-use Rattle.addr2line_unit_lookups.specs.ResolvedUnits.{ResolvedUnit, plain_unit}
-use Rattle.addr2line_unit_lookups.specs.KeptUnits.{KeepsAsked, ReadsAsked, ReadsNoFunctions}
-use Rattle.addr2line_unit_lookups.specs.KeptCalls.{LeavesCalls}
+use Rattle.addr2line_unit.specs.UnitRange.{UnitRange}
+use Rattle.addr2line_unit.specs.ContextUnits.{unit_places, ordered_ranges}
+use Rattle.addr2line_unit.specs.ResolvedUnits.{ResolvedUnit, plain_unit}
+use Rattle.addr2line_lookups.specs.KeptUnits.{KeepsAsked, ReadsAsked, ReadsNoFunctions}
+use Rattle.addr2line_lookups.specs.KeptCalls.{LeavesCalls}
 use Rattle.addr2line_lookups.specs.RangeWalks.{FindsStretch, walk_left, stretches_left, AsksForStretch, StaysOnItsWay}
-use Rattle.addr2line_unit_lookups.proofs.KeptLines.{same_plain}
+use Rattle.addr2line_lookups.proofs.KeptLines.{same_plain}
 use Rattle.addr2line_lookups.proofs.units.Units.next_stretch.Goals as goal
 
 pub invariant_of-self : goal.invariant_of-self

@@ -1,11 +1,11 @@
 use Rattle.std.proofs.Common.{◌≡◌, List, [], Ok, map, ◌∙◌, ap, sym, subst}
-use Rattle.addr2line_unit_lookups.specs.Calls.{ReturnsAsOrNoMemory}
-use Rattle.addr2line_unit_lookups.specs.Lookups.{one_each}
-use Rattle.addr2line_unit_lookups.specs.NumberedRanges.{covering_ranges}
-use Rattle.addr2line_unit_lookups.specs.UnitRange.{UnitRange}
-use Rattle.addr2line_unit_lookups.specs.ContextUnits.{ordered_ranges}
-use Rattle.addr2line_unit_lookups.specs.ResolvedUnits.{ResolvedUnit, plain_unit, value_of_unit}
-use Rattle.addr2line_unit_lookups.specs.Preloads.{loads_at, load_of_item}
+use Rattle.addr2line_unit.specs.Calls.{ReturnsAsOrNoMemory}
+use Rattle.addr2line_unit.specs.Lookups.{one_each}
+use Rattle.addr2line_unit.specs.NumberedRanges.{covering_ranges}
+use Rattle.addr2line_unit.specs.UnitRange.{UnitRange}
+use Rattle.addr2line_unit.specs.ContextUnits.{ordered_ranges}
+use Rattle.addr2line_unit.specs.ResolvedUnits.{ResolvedUnit, plain_unit, value_of_unit}
+use Rattle.addr2line_lookups.specs.Preloads.{loads_at, load_of_item}
 use Rattle.addr2line_lookups.proofs.units.Units.pending_loads.Goals as goal
 
 pub returns-clause-loads : goal.returns-clause-loads

@@ -1,7 +1,7 @@
 use Rattle.std.proofs.Common.{◌≡◌, ◌∙◌, subst, List, map, option_map}
-use Rattle.addr2line_unit_lookups.specs.BorrowedLocations.{location_value}
-use Rattle.addr2line_unit_lookups.specs.ResolvedUnits.{ResolvedUnit, plain_unit}
-use Rattle.addr2line_unit_lookups.specs.KeptUnits.{KeepsAt, location_of_unit_row}
+use Rattle.addr2line_unit.specs.BorrowedLocations.{location_value}
+use Rattle.addr2line_unit.specs.ResolvedUnits.{ResolvedUnit, plain_unit}
+use Rattle.addr2line_lookups.specs.KeptUnits.{KeepsAt, location_of_unit_row}
 use Rattle.addr2line_lookups.proofs.units.Units.place_in.Goals as goal
 
 pub returns : goal.returns

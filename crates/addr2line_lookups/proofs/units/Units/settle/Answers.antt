@@ -1,11 +1,11 @@
 use Rattle.std.proofs.Common.{◌∙◌, ap, sym, subst, map, List}
-use Rattle.addr2line_unit_lookups.specs.UnitRange.{UnitRange}
-use Rattle.addr2line_unit_lookups.specs.ContextUnits.{ordered_ranges}
-use Rattle.addr2line_unit_lookups.specs.ResolvedUnits.{ResolvedUnit, plain_unit, value_of_unit}
-use Rattle.addr2line_unit_lookups.specs.KeptCalls.{known_among, HoldCalls}
-use Rattle.addr2line_unit_lookups.specs.PassedUnits.{Pass, PassedAreKept}
-use Rattle.addr2line_unit_lookups.specs.AddressSearches.{SettlesAmong}
-use Rattle.addr2line_unit_lookups.proofs.KeptLines.{same_plain}
+use Rattle.addr2line_unit.specs.UnitRange.{UnitRange}
+use Rattle.addr2line_unit.specs.ContextUnits.{ordered_ranges}
+use Rattle.addr2line_unit.specs.ResolvedUnits.{ResolvedUnit, plain_unit, value_of_unit}
+use Rattle.addr2line_lookups.specs.KeptCalls.{known_among, HoldCalls}
+use Rattle.addr2line_lookups.specs.PassedUnits.{Pass, PassedAreKept}
+use Rattle.addr2line_lookups.specs.AddressSearches.{SettlesAmong}
+use Rattle.addr2line_lookups.proofs.KeptLines.{same_plain}
 use Rattle.addr2line_lookups.proofs.units.Units.settle.Goals as goal
 
 pub settle-requires : goal.settle-requires

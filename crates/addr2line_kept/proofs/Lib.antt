@@ -1,9 +1,0 @@
-pub use Rattle.addr2line_functions.proofs.UnitAnswers
-pub use Rattle.addr2line_functions.proofs.UnitViews
-pub use Rattle.addr2line_functions.proofs.PendingLoads
-pub use Rattle.addr2line_functions.proofs.RangeNumbers
-pub use Rattle.addr2line_functions.proofs.NumberedCalls
-pub use Rattle.addr2line_functions.proofs.TilingLemmas
-pub use Rattle.addr2line_functions.proofs.UnitHeaderLemmas
-pub use Rattle.addr2line_units.proofs.HolderViews
-pub use Rattle.addr2line_units.proofs.HeadersInFiles

@@ -1,5 +1,0 @@
-mod ProgramHeaders
-mod LinesOfPrograms
-mod LineProgramRows
-mod BuilderRows
-mod FileTextLemmas

@@ -1,3 +1,0 @@
-pub mod LineProgramRuns
-pub mod FileTextLists
-pub mod CountedRuns

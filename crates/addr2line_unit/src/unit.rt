@@ -1,0 +1,551 @@
+//! A unit of a context, and what was read of it.
+
+ghost use Rattle.std.specs.Prelude.{◌≡◌, ◌≢◌, ◌<◌, ◌∷◌, ℕ, [], true, length, Some, None, Ok, Err, IfSome, MatchOption, IfOk, OnOk, OnErr, IfErr, option_map, option_and_then, is_some};
+ghost use Rattle.addr2line_functions.specs.Calls.{Returns, ReturnsAs, ReturnsAsOrNoMemory, ReturnsOrNoMemory};
+ghost use Rattle.addr2line_functions.specs.Error.TheVariants.{Memory};
+ghost use Rattle.addr2line_functions.specs.Results.{and_then};
+ghost use Rattle.addr2line_functions.specs.EntryViews.{entry_of};
+ghost use Rattle.addr2line_functions.specs.BorrowedFrames.{frames_left};
+ghost use Rattle.addr2line_functions.specs.BorrowedLocations.{location_value};
+ghost use Rattle.addr2line_root.specs.ArangeIndexes.{IsIndexOf};
+ghost use Rattle.addr2line_root.specs.LastPrograms.{HasHeaderInFile};
+ghost use Rattle.addr2line_root.specs.LastRanges.{AreLastOf, AreLastFor};
+ghost use Rattle.addr2line_root.specs.LineIndexes.{counted_lines};
+ghost use Rattle.addr2line_functions.specs.LineCursors.{lines_left};
+ghost use Rattle.addr2line_functions.specs.Lines.{lines_between};
+ghost use Rattle.addr2line_functions.specs.Stretches.{stretch_of_row};
+ghost use Rattle.addr2line_root.specs.CountedRuns.{without_runs};
+ghost use Rattle.addr2line_root.specs.RootRanges.{RunsForRanges, unit_with};
+ghost use Rattle.addr2line_root.specs.Searches.{AtMostProbes};
+ghost use Rattle.addr2line_unit.specs.KeptFunctions.{kept_at, plain_functions, plain_calls, count_of_functions, number_in, number_probes, function_at_number, FindsChain, kept_chain_probes, frames_by_numbers};
+ghost use Rattle.addr2line_unit.specs.ResolvedUnits.{HasRoot, main_unit, pending_load, decided, first_answer, answer_or_none, unit_of_functions, functions_of, calls_of_number, if_kept, runs_of_unit, row_or_refusal, row_in_kept, lines_probes, kept_probes, location_of_row, with_functions, with_calls, with_probes, with_chain, with_unit_answer, without_answer, new_unit, KeepsLines, KeepsNoFunctions, RunsForRangesAlone};
+
+use crate::kept::Kept;
+use crate::load::{KeptLoad, SplitDwarfLoad};
+use crate::unit_functions::UnitFunctions;
+use addr2line_functions::{
+    DebugFile, DebuggingInformationEntry, DwLang, Error, FrameIter, FunctionCalls, Functions,
+    HasUnit, HoldingUnit, LineCursor, LineIndex, Location, Names, Probes, Range, Reader,
+    RowStretch, Unit, calls_of_function, functions_of_unit,
+};
+use addr2line_root::{
+    ArangeIndex, CountedUnit, Counters, LastRanges, LineRow, OwnedUnit, Runs, UnitLines, UnitRoot,
+};
+use std::alloc::Global;
+use std::marker::Model;
+use std::rc::Rc;
+
+/// A unit of a context: the ranges that it covers, its language, the load of its split part and the
+/// first answer to it. Its lines, its functions and their calls are read when they are asked for,
+/// and kept, refusals too.
+pub struct ResUnit<R: Reader> {
+    /// With the counter of the runs of its line number program.
+    main: CountedUnit<R>,
+    /// Shared with the units before and after it that have the same range list.
+    ranges: Rc<Vec<Range>>,
+    language: Option<DwLang>,
+    load: KeptLoad<R>,
+    first: Option<Result<Option<OwnedUnit<R>>, Error>>,
+    lines: Kept<UnitLines>,
+    /// Of the unit that has them under the first answer.
+    functions: UnitFunctions<R>,
+    /// Looks at what is kept.
+    probes: Probes,
+    /// The maker of counters of walks over the lines.
+    walks: Counters,
+    /// The numbers of the calls that were found last, the outermost first.
+    chain: Vec<usize>,
+}
+
+impl<R: Reader> Drop for ResUnit<R> {
+    fn drop(self) {
+        let ResUnit {
+            main: _,
+            ranges: _,
+            language: _,
+            load: _,
+            first: _,
+            lines: _,
+            functions: _,
+            probes: _,
+            walks: _,
+            chain: _,
+        } = self;
+    }
+}
+
+impl<R: Reader> Model for ResUnit<R> {
+    ghost use Rattle.std.specs.Prelude.{map, option_map, is_some};
+    ghost use Rattle.addr2line_functions.specs.UnitLines.{lines_of_unit};
+    ghost use Rattle.addr2line_unit.specs.KeptFunctions.{plain_calls};
+    ghost use Rattle.addr2line_unit.specs.ResolvedUnits.{ResolvedUnit, KeepsParses};
+
+    ghost Value = { ResolvedUnit };
+
+    ghost view = { λ u. record {
+      value = record {
+        file = u.main.unit.file;
+        unit = record {
+          facts = u.main.unit.facts;
+          ranges = u.ranges.value.items;
+          language = option_map (λ l. l.0) u.language;
+          lines = lines_of_unit u.main.unit;
+        };
+        first = u.first;
+      };
+      keeps_lines = is_some u.lines;
+      runs = u.main.runs.name;
+      keeps_functions = is_some u.functions.functions;
+      calls = map (option_map plain_calls) u.functions.calls;
+      probes = u.probes;
+      chain = u.chain.items;
+    } };
+
+    ghost invariant = { λ u.
+        KeepsParses u.main u.load u.first u.lines u.functions u.probes.name u.walks };
+}
+
+// The row of an address in lines, or the refusal of them; none where they aren't kept.
+fn row_in_kept(
+    lines: &Kept<UnitLines>,
+    probe: u64,
+    probes: &mut Probes,
+) -> Result<Option<LineRow>, Error>
+    requires counter { IfSome lines.now (λ r. IfOk r (λ l. probes.old.name ≡ l.counter)) }
+    ensures row { Returns result (row_in_kept probe lines.now) }
+    ensures refusal { result ≢ Err Memory }
+    ensures cost { AtMostProbes (kept_probes probe lines.now) probes.old probes.new }
+{
+    match lines.result() {
+        Some(Ok(lines)) => Ok(lines.index().find_row(probe, probes)),
+        Some(Err(error)) => Err(*error),
+        None => Ok(None),
+    }
+}
+
+// Puts an answer in the place of what was there.
+fn put_answer<R: Reader>(
+    first: &mut Option<Result<Option<OwnedUnit<R>>, Error>>,
+    answer: Result<Option<OwnedUnit<R>>, Error>,
+)
+    ensures { first.new ≡ Some answer }
+{
+    *first = Some(answer);
+}
+
+// The unit that has the functions of a unit with this load, if it has one.
+fn unit_decided<'a, R: Reader>(
+    main: &'a OwnedUnit<R>,
+    load: Option<&SplitDwarfLoad<R>>,
+    first: &'a Option<Result<Option<OwnedUnit<R>>, Error>>,
+) -> Result<HoldingUnit<'a, R>, Error>
+    ensures { Returns result
+        (unit_of_functions main.now
+        (decided (Ok (option_map (λ l. l.now) load.entry)) first.now)) }
+{
+    match load {
+        Some(_) => unit_under(main, first),
+        None => Ok(HoldingUnit::new(DebugFile::Primary, main.unit_ref())),
+    }
+}
+
+// The unit that has the functions, under the first answer to its load, if there was one.
+fn unit_under<'a, R: Reader>(
+    main: &'a OwnedUnit<R>,
+    first: &'a Option<Result<Option<OwnedUnit<R>>, Error>>,
+) -> Result<HoldingUnit<'a, R>, Error>
+    ensures { Returns result (unit_of_functions main.now (answer_or_none first.now)) }
+{
+    match first {
+        Some(Ok(Some(split))) => Ok(HoldingUnit::new(DebugFile::Dwo, split.unit_ref())),
+        Some(Ok(None)) | None => Ok(HoldingUnit::new(DebugFile::Primary, main.unit_ref())),
+        Some(Err(error)) => Err(*error),
+    }
+}
+
+impl<R: Reader> ResUnit<R> {
+    /// The unit, with what its root says. Its line number program is run only where its ranges are
+    /// those of its lines, which are then kept. Refused by its root or its ranges. A range list or
+    /// a program that is the last one of the file isn't read or run again, and the lines of such a
+    /// program are shared where the unit's are the same.
+    pub fn read(
+        alloc: Global,
+        main: OwnedUnit<R>,
+        entry: &DebuggingInformationEntry<R>,
+        aranges: &ArangeIndex,
+        last: &mut LastRanges<R>,
+    ) -> Result<Self, Error>
+        requires index { IsIndexOf main.file aranges.now }
+        requires last { AreLastFor main last.old }
+        requires root { HasRoot main (entry_of R.view R.Offset.count entry.now) }
+        ensures unit { ReturnsAsOrNoMemory (λ u. u.value) result (new_unit main) }
+        ensures lines { IfOk result RunsForRangesAlone }
+        ensures functions { IfOk result KeepsNoFunctions }
+        ensures last { HasHeaderInFile main → AreLastOf main.file last.new }
+    {
+        let probes = last.counter();
+        let walks = last.counters();
+        let mut unit = CountedUnit::new(main);
+        let root = UnitRoot::read(alloc, &mut unit, entry, aranges, last, &probes)?;
+        ResUnit::of_root(alloc, unit, root, probes, walks)
+    }
+
+    // The unit with what its root says, what was run for that, the counter of looks at it, and the
+    // maker of counters of walks.
+    fn of_root(
+        alloc: Global,
+        main: CountedUnit<R>,
+        root: UnitRoot,
+        probes: Probes,
+        walks: Counters,
+    ) -> Result<Self, Error>
+        requires runs { RunsForRanges probes.name root.ranges root.lines (without_runs main) main }
+        requires walks { walks ≡ probes.name }
+        ensures unit { ReturnsAsOrNoMemory (λ u. u.value) result
+            (Ok (without_answer main.unit.file (unit_with main.unit root))) }
+        ensures lines { IfOk result RunsForRangesAlone }
+        ensures functions { IfOk result KeepsNoFunctions }
+    {
+        let load = KeptLoad::read(alloc, main.unit())?;
+        let UnitRoot {
+            ranges,
+            language,
+            lines,
+        } = root;
+        let lines = Kept::of(lines)?;
+        Ok(ResUnit {
+            main,
+            ranges,
+            language,
+            load,
+            first: None,
+            lines,
+            functions: UnitFunctions::not_read(alloc),
+            probes,
+            walks,
+            chain: Vec::new(alloc),
+        })
+    }
+
+    /// The unit of the main file.
+    pub fn main(&self) -> &OwnedUnit<R>
+        ensures { result.now ≡ main_unit self.now.value }
+    {
+        self.main.unit()
+    }
+
+    /// The ranges that the unit covers, in the order in which its entries or sections list them.
+    pub fn ranges(&self) -> &[Range]
+        ensures { result.now ≡ self.now.value.unit.ranges }
+    {
+        self.ranges.as_ref().as_slice()
+    }
+
+    /// The language of the unit, if its root names one (DWARF 5, 7.12).
+    pub fn language(&self) -> Option<DwLang>
+        ensures { option_map (λ l. l.0) result ≡ self.now.value.unit.language }
+    {
+        self.language
+    }
+
+    // ---- lines
+
+    /// How often the unit's line number program was run: once where it has one and its lines are
+    /// kept, and else never. It is the same counter as long as there is the unit.
+    pub fn runs(&self) -> &Runs
+        ensures { result.now ≡ runs_of_unit self.now }
+    {
+        self.main.runs()
+    }
+
+    /// Reads the lines, unless they are kept. A refusal is kept too: the only error is out of
+    /// memory, after which they are read again.
+    pub fn read_lines(&mut self, alloc: Global) -> Result<(), Error>
+        ensures unit { self.new ≡ record self.old { keeps_lines = self.new.keeps_lines } }
+        ensures kept { OnOk result (self.new.keeps_lines ≡ true) }
+        ensures refusal { IfErr result (λ e. e ≡ Memory) }
+        ensures free { self.old.keeps_lines ≡ true → result ≡ Ok tt }
+    {
+        if self.lines.is_read() {
+            return Ok(());
+        }
+        let lines = UnitLines::run(alloc, &mut self.main, &self.probes)?;
+        self.lines.keep(lines)
+    }
+
+    /// The lines as lookups search them, or the refusal of them, if they are kept.
+    pub fn kept_lines(&self) -> Option<&Result<UnitLines, Error>>
+        ensures { option_map (λ r. r.now) result ≡ if_kept self.now.keeps_lines
+            (counted_lines self.now.probes.name self.now.value.unit.lines) }
+    {
+        self.lines.result()
+    }
+
+    /// The row of an address in the lines, or the refusal of them. They are read before, unless
+    /// they are kept. It is found by one search among the sequences and one among the rows of one.
+    pub fn find_row(&mut self, alloc: Global, probe: u64) -> Result<Option<LineRow>, Error>
+        ensures unit { self.new ≡ record self.old {
+          keeps_lines = self.new.keeps_lines;
+          probes = self.new.probes;
+        } }
+        ensures row { ReturnsOrNoMemory result (row_or_refusal probe self.old.value.unit.lines) }
+        ensures kept { result ≢ Err Memory → KeepsLines self.new }
+        ensures more { KeepsLines self.old → KeepsLines self.new }
+        ensures free { KeepsLines self.old → result ≢ Err Memory }
+        ensures cost { AtMostProbes (lines_probes probe self.old.value.unit.lines)
+            self.old.probes self.new.probes }
+    {
+        self.read_lines(alloc)?; // a refusal is kept too
+        row_in_kept(&self.lines, probe, &mut self.probes)
+    }
+
+    /// Where a walk over the rows of the lines, which are kept, from a low end on begins. It is a
+    /// search, which isn't counted as a look of a lookup.
+    pub fn cursor_from(&self, lines: &LineIndex, low: u64) -> LineCursor
+        requires { lines.now.counter ≡ self.now.probes.name }
+        ensures { (high : ℕ) → lines_left lines.now.lines low high result
+            ≡ lines_between lines.now.lines low high }
+    {
+        let mut walk = self.walks.counter();
+        lines.cursor_from(low, &mut walk)
+    }
+
+    /// The next row of such a walk between two ends, and how far it came with it.
+    pub fn next_between(
+        &self,
+        lines: &LineIndex,
+        cursor: LineCursor,
+        low: u64,
+        high: u64,
+    ) -> Option<(RowStretch, LineCursor)>
+        requires { lines.now.counter ≡ self.now.probes.name }
+        ensures { MatchOption result (lines_left lines.now.lines low high cursor ≡ [])
+            (λ f. lines_left lines.now.lines low high cursor
+            ≡ stretch_of_row lines.now.lines.files f.0
+            ∷ lines_left lines.now.lines low high f.1) }
+    {
+        let mut walk = self.walks.counter();
+        lines.next_between(cursor, low, high, &mut walk)
+    }
+
+    /// The place of a row in the lines that are kept, unless they are refused. Nothing is searched.
+    pub fn location_of_row(&self, row: &LineRow) -> Option<Location<'_>>
+        ensures { self.now.keeps_lines ≡ true → option_map location_value result
+            ≡ location_of_row row.now self.now.value.unit.lines }
+    {
+        match self.kept_lines() {
+            Some(Ok(lines)) => Some(lines.index().location_of_row(row)),
+            _ => None,
+        }
+    }
+
+    /// Whether the lines can be read, or the refusal of them. They are read before, unless they are
+    /// kept.
+    pub fn check_lines(&mut self, alloc: Global) -> Result<(), Error>
+        ensures unit { self.new ≡ record self.old { keeps_lines = self.new.keeps_lines } }
+        ensures found { ReturnsOrNoMemory result
+            (and_then self.old.value.unit.lines (λ lines. Ok tt)) }
+        ensures kept { result ≢ Err Memory → KeepsLines self.new }
+        ensures more { KeepsLines self.old → KeepsLines self.new }
+        ensures free { KeepsLines self.old → result ≢ Err Memory }
+    {
+        self.read_lines(alloc)?;
+        match self.lines.result() {
+            Some(Err(error)) => Err(*error),
+            _ => Ok(()),
+        }
+    }
+
+    // ---- split parts
+
+    /// The load of the unit's split part, if it has one and there was no answer to it.
+    pub fn pending_load(&self) -> Option<&SplitDwarfLoad<R>>
+        ensures { option_map (λ l. l.now) result ≡ pending_load self.now.value }
+    {
+        match self.load.load() {
+            Ok(load) => match &self.first {
+                Some(_) => None,
+                None => load,
+            },
+            Err(_) => None,
+        }
+    }
+
+    /// Records an answer to the load. A unit that is decided stays as it is; no functions were kept
+    /// of one that is not.
+    pub fn record_answer(&mut self, answer: Result<Option<OwnedUnit<R>>, Error>)
+        ensures value { self.new.value ≡ with_unit_answer answer self.old.value }
+        ensures kept { self.new ≡ record self.old { value = self.new.value } }
+        ensures functions { is_some (pending_load self.old.value) ≡ true
+            → KeepsNoFunctions self.new }
+    {
+        if self.pending_load().is_some() {
+            put_answer(&mut self.first, answer);
+        } else {
+            drop(answer);
+        }
+    }
+
+    /// The unit that has the functions, with the file that it is in: the split unit that the first
+    /// answer gave, or the unit itself, or the refusal of the load or the answer.
+    pub fn functions_unit(&self) -> Result<HoldingUnit<'_, R>, Error>
+        ensures { Returns result
+            (unit_of_functions (main_unit self.now.value) (first_answer self.now.value)) }
+    {
+        match self.load.load() {
+            Ok(load) => unit_decided(self.main.unit(), load, &self.first),
+            Err(error) => Err(error),
+        }
+    }
+
+    // ---- functions
+
+    // The functions of the unit that has them.
+    fn parse_functions(&self, alloc: Global) -> Result<Functions<R::Offset>, Error>
+        ensures functions { ReturnsAsOrNoMemory (λ f. f.functions) result
+            (functions_of self.now.value) }
+        ensures counter { IfOk result (λ f. f.counter ≡ self.now.probes.name) }
+    {
+        let holder = self.functions_unit()?;
+        functions_of_unit(alloc, &holder.unit, &self.probes)
+    }
+
+    /// Reads the functions of a unit whose load isn't pending, unless they are kept; of none of
+    /// them the calls. A refusal is kept too: the only error is out of memory, after which they are
+    /// read again.
+    pub fn read_functions(&mut self, alloc: Global) -> Result<(), Error>
+        requires { pending_load self.old.value ≡ None }
+        ensures ok { OnOk result (self.new ≡ with_functions self.old) }
+        ensures err { OnErr result (self.new ≡ self.old) }
+        ensures refusal { IfErr result (λ e. e ≡ Memory) }
+        ensures free { self.old.keeps_functions ≡ true → result ≡ Ok tt }
+    {
+        if self.functions.is_read() {
+            return Ok(());
+        }
+        let functions = self.parse_functions(alloc);
+        self.functions.keep(alloc, functions)
+    }
+
+    /// The functions or the refusal of them, if they are kept. A function's number is its index
+    /// among them.
+    pub fn kept_functions(&self) -> Option<&Result<Functions<R::Offset>, Error>>
+        ensures { option_map (λ r. plain_functions r.now) result
+            ≡ if_kept self.now.keeps_functions (functions_of self.now.value) }
+    {
+        self.functions.functions()
+    }
+
+    /// The number of the function that an address is in, or the refusal of the functions, where
+    /// they are kept. One bisection finds it, without memory.
+    pub fn find_function(&mut self, probe: u64) -> Result<Option<usize>, Error>
+        ensures unit { self.new ≡ with_probes self.old self.new.probes }
+        ensures number { self.old.keeps_functions ≡ true
+            → Returns result (number_in (functions_of self.old.value) probe) }
+        ensures below { IfOk result (λ number. IfSome number (λ n. n < length self.new.calls)) }
+        ensures cost { AtMostProbes (number_probes (functions_of self.old.value))
+            self.old.probes self.new.probes }
+    {
+        self.functions.find(probe, &mut self.probes)
+    }
+
+    /// How many functions there are, where they are kept and not refused.
+    pub fn function_count(&self) -> usize
+        ensures calls { result ≡ length self.now.calls }
+        ensures functions { self.now.keeps_functions ≡ true
+            → result ≡ count_of_functions (functions_of self.now.value) }
+    {
+        self.functions.count()
+    }
+
+    // ---- calls
+
+    /// The calls of the function of a number, read from the unit that has the functions. Nothing is
+    /// kept, so that names may be looked for in all units of a context; `keep_calls` does.
+    pub fn read_calls<N: Names<R>>(
+        &self,
+        alloc: Global,
+        names: &N,
+        function: usize,
+    ) -> Result<FunctionCalls<R>, Error>
+        requires { function < length self.now.calls }
+        ensures calls { ReturnsAsOrNoMemory (λ c. c.function) result
+            (calls_of_number self.now.value (N.naming names.now) function) }
+        ensures counter { IfOk result (λ c. c.counter ≡ self.now.probes.name) }
+    {
+        let holder = self.functions_unit()?;
+        match self.functions.offset(function) {
+            Some(offset) => calls_of_function(alloc, &holder.unit, names, offset, &self.probes),
+            None => Err(Error::NoSuchUnit),
+        }
+    }
+
+    /// Keeps the calls of the function of a number, or the refusal of them, as `read_calls` gave
+    /// them. Out of memory is returned, and nothing changes.
+    pub fn keep_calls(
+        &mut self,
+        function: usize,
+        read: Result<FunctionCalls<R>, Error>,
+    ) -> Result<(), Error>
+        requires number { function < length self.old.calls }
+        requires counter { IfOk read (λ c. c.counter ≡ self.old.probes.name) }
+        ensures ok { OnOk result (self.new ≡ with_calls self.old function (plain_calls read)) }
+        ensures answer { OnOk result (read ≢ Err Memory) }
+        ensures err { OnErr result (self.new ≡ self.old) }
+        ensures refusal { IfErr result (λ e. e ≡ Memory) }
+        ensures cause { OnErr result (read ≡ Err Memory) }
+    {
+        self.functions.keep_calls(function, read)
+    }
+
+    /// The calls of the function of a number, or the refusal of them, if they are kept.
+    pub fn kept_calls(&self, function: usize) -> Option<&Result<FunctionCalls<R>, Error>>
+        ensures { option_map (λ r. plain_calls r.now) result ≡ kept_at self.now.calls function }
+    {
+        self.functions.calls(function)
+    }
+
+    /// Finds the calls of a function that an address is in, and keeps their numbers, the outermost
+    /// first, in place of those that were found last; none where the calls aren't kept. Their
+    /// refusal is the error. One bisection finds each. It takes memory only where there are more of
+    /// them than ever before.
+    pub fn find_chain(&mut self, function: usize, probe: u64) -> Result<(), Error>
+        ensures unit { self.new ≡ with_chain self.old self.new.probes self.new.chain }
+        ensures chain { FindsChain (λ done. self.new.chain) (kept_at self.old.calls function)
+            probe result }
+        ensures cost { AtMostProbes (kept_chain_probes (kept_at self.old.calls function) probe)
+            self.old.probes self.new.probes }
+    {
+        self.functions
+            .find_chain(function, probe, &mut self.probes, &mut self.chain)
+    }
+
+    /// The frames at a place in a function whose calls are kept, by the numbers of the calls that
+    /// `find_chain` gave; without a function that of the place. Nothing is searched, and no memory
+    /// is taken. Call sites are named by the files of these lines.
+    pub fn frames<'ctx>(
+        &'ctx self,
+        lines: &'ctx LineIndex,
+        place: Option<Location<'ctx>>,
+        function: Option<usize>,
+    ) -> Result<FrameIter<'ctx, R>, Error>
+        ensures { ReturnsAs frames_left result
+            (frames_by_numbers self.now.value.unit.language lines.now.lines.files
+            (option_map location_value place.entry)
+            (option_and_then (function_at_number (functions_of self.now.value) self.now.calls)
+            function) self.now.chain) }
+    {
+        let chain = self.chain.as_slice();
+        self.functions
+            .frames(self.language, lines, place, function, chain)
+    }
+}
+
+impl<R: Reader> HasUnit<R> for ResUnit<R> {
+    ghost facts = { λ u. u.value.unit.facts };
+
+    fn unit(&self) -> &Unit<R> {
+        let main = self.main.unit();
+        main.unit()
+    }
+}
