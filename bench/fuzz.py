@@ -5,7 +5,7 @@ usage: bench/fuzz.py MINUTES [FOLDER]
 
 The seeds are what is emitted of tables, in each of the 28 targets, the files that linemap_cases is asked about, and the
 images of FOLDER. They are mutated: bits are flipped, bytes cut out, put in and copied from other seeds, numbers set to
-extremes. Four things are done with them, in turn, until the time is up:
+extremes. Six things are done with them, in turn, until the time is up:
 
 - sections: thousands of files go through one process of `linemap_cases`, each through both readers and all three
   constructors; what it answers must be what tests/model.py computes.
@@ -15,6 +15,11 @@ extremes. Four things are done with them, in turn, until the time is up:
   same image, once through each reader, and both must answer alike.
 - beside: `linemap lookup` reads an image that is whole, and a split file or a supplement of it that isn't. What a split
   file says may change no place.
+- compressed: `linemap lookup --decompress` reads an image whose sections are zlib's streams, in the standard's form or in
+  GNU's old one, some of them damaged. Its answers
+  must be the model's over the texts that Python's zlib has, or a refusal where that has none.
+- linked: `linemap lookup --find-debug` reads a program that names a damaged debug file by `.gnu_debuglink`. Where the sum is that
+  file's, the answers must be the model's over it; where it isn't, there are none.
 
 A file may take 10 seconds of a processor, and 30 times its size and 100 MB; its process must end with status 0 or 1. Many files
 in one process may take together what one may, the largest of them; if they don't, halves of them run, down to one file.
@@ -33,10 +38,12 @@ import random
 import resource
 import shutil
 import signal
+import struct
 import subprocess
 import sys
 import tempfile
 import time
+import zlib
 from typing import NamedTuple
 
 sys.dont_write_bytecode = True
@@ -44,7 +51,7 @@ TOP = os.path.dirname(os.path.dirname(os.path.abspath(__file__)))
 sys.path.insert(0, f"{TOP}/tests")
 import cases
 from cases import NAMES
-from images import image_of, sections_of
+from images import image_of, image_with, sections_of
 from model import LIMIT, Model, Refused
 
 CASES = os.environ.get("CASES", f"{TOP}/crates/linemap_cases/out/linemap_cases")
@@ -56,6 +63,10 @@ CHUNK = 500
 SECONDS, FACTOR, MEGABYTES = 10, 30, 100
 # Larger seeds aren't mutated section by section.
 SMALL = 20_000
+# The flag of a compressed section, the type of zlib's streams, and the fields before one, in images of 64 and of 32 bits.
+COMPRESSED, ZLIB, STREAM_HEADERS = 0x800, 1, {True: "IIQQ", False: "III"}
+# The bytes with which a section of GNU's old form begins, before its size.
+OLD_MAGIC = b"ZLIB"
 EXTREMES = 0, 1, 2, 3, 4, 5, 0x7f, 0x80, 0xff, 0x7fff, 0xffff, 0x7fffffff, 0xfffffff0, 0xffffffff, 1 << 63, (1 << 64) - 2, (1 << 64) - 1
 
 
@@ -237,6 +248,35 @@ def damaged(random, seed, seeds):
     return sections
 
 
+def compressed_section(random, text, wide, big, is_old):
+    """A section whose text is compressed by zlib, at some level, in the standard's form or in GNU's old one."""
+    stream = zlib.compress(text, random.choice((0, 1, 6, 9)))
+    if is_old:
+        return OLD_MAGIC + len(text).to_bytes(8, "big") + stream
+    size = (ZLIB, 0, len(text), 1) if wide else (ZLIB, len(text), 1)
+    return struct.pack((">" if big else "<") + STREAM_HEADERS[wide], *size) + stream
+
+
+def text_of_section(content, wide, big, is_old):
+    """The text of a compressed section, as zlib has it: none where it has no stream, or one of another size. What follows a stream
+    isn't looked at. One of the old form that doesn't begin as such is taken as it is."""
+    if is_old and content[:4] != OLD_MAGIC:
+        return content
+    header = struct.Struct(">4sQ" if is_old else (">" if big else "<") + STREAM_HEADERS[wide])
+    if len(content) < header.size:
+        return None
+    kind, *fields = header.unpack_from(content)
+    size = fields[0] if is_old else fields[-2]
+    if not is_old and kind != ZLIB:
+        return None
+    inflater = zlib.decompressobj()
+    try:
+        text = inflater.decompress(content[header.size:], min(size + 1, 1 << 30))
+    except zlib.error:
+        return None
+    return text if inflater.eof and len(text) == size else None
+
+
 def addresses(random, seed):
     return [random.choice(seed.addresses) for _ in range(4)]
 
@@ -303,7 +343,7 @@ class Fuzzer:
         self.small = [it for it in self.seeds if it.is_small]
         self.little = [it for it in self.small if not it.big]
         self.pairs = [*pairs()]
-        self.ran = dict.fromkeys(("sections", "images", "lookups", "files beside"), 0)
+        self.ran = dict.fromkeys(("sections", "images", "lookups", "files beside", "compressed files", "linked files"), 0)
         self.finds = 0
 
     def find(self, why, text, *files):
@@ -451,8 +491,58 @@ class Fuzzer:
             os.remove(f"{self.folder}/{name}")
             self.ran["files beside"] += 1
 
+    def answer(self, image, words, wanted, why, *files):
+        """Asks the program about an image, and finds where it doesn't answer with the status and the output that are wanted."""
+        with open(f"{self.folder}/image", "wb") as file:
+            file.write(image)
+        words = [LINEMAP, "lookup", "-e", "image", *words]
+        size = len(image) + sum(map(len, files))
+        run = Process(words, b"", SECONDS, MEGABYTES + FACTOR * size / 1e6, self.folder)
+        fault = run.fault((0, 1))
+        if fault or (run.status, run.out) != wanted:
+            self.find(fault or f"{why}: answered\n{run.status} {run.out}\nand not\n{wanted}", " ".join(words).encode(), image, *files)
+
+    def compressed(self):
+        """Images whose sections are compressed, and some of them damaged then, through the program."""
+        for _ in range(20):
+            seed = self.random.choice(self.small)
+            is_old = not self.random.randrange(3)
+            form = seed.wide, seed.big, is_old
+            kept = {name: compressed_section(self.random, text, *form) for name, text in seed.sections.items()}
+            others = [*kept.values(), b"\0"]
+            for name in self.random.sample(sorted(kept), min(len(kept), self.random.choice((0, 1, 1, 2)))):
+                kept[name] = mutate(self.random, kept[name], others)
+            texts = {name: text_of_section(content, *form) for name, content in kept.items()}
+            asked = addresses(self.random, seed)
+            wanted = 1, ""
+            if None not in texts.values():
+                wanted = program_answer(Model(texts, seed.big), asked)
+            start, flags = (".zdebug_", 0) if is_old else (".debug_", COMPRESSED)
+            image = image_with([(f"{start}{name}".encode(), 1, 0, content, 0, flags) for name, content in kept.items()],
+                               seed.wide, seed.big)
+            self.answer(image, ["--decompress", "-a", "-f", "-i", *(f"{it:x}" for it in asked)], wanted, "compressed")
+            self.ran["compressed files"] += 1
+
+    def linked(self):
+        """Damaged debug files that a program names, with their sum or another one, through the program."""
+        for _ in range(20):
+            seed = self.random.choice(self.small)
+            debug_file = image_of(damaged(self.random, seed, self.small), seed.wide, seed.big)
+            is_named = self.random.randrange(4) > 0
+            number = zlib.crc32(debug_file) ^ (0 if is_named else 1 << self.random.randrange(32))
+            link = b"other.debug\0" + number.to_bytes(4, "big" if seed.big else "little")
+            with open(f"{self.folder}/other.debug", "wb") as file:
+                file.write(debug_file)
+            asked = addresses(self.random, seed)
+            wanted = program_answer(model_of(debug_file) if is_named else Model({}, seed.big), asked)
+            image = image_with([(b".gnu_debuglink", 1, 0, link, 0)], seed.wide, seed.big)
+            words = ["--find-debug", "--debug-dir", ".", "-a", "-f", "-i", *(f"{it:x}" for it in asked)]
+            self.answer(image, words, wanted, "linked", debug_file)
+            self.ran["linked files"] += 1
+
     def run(self):
-        steps = ([self.sections, self.images] if CASES else []) + ([self.lookups, self.beside] if LINEMAP else [])
+        steps = [self.sections, self.images] if CASES else []
+        steps += [self.lookups, self.beside, self.compressed, self.linked] if LINEMAP else []
         for step in itertools.cycle(steps):
             step()
             if time.monotonic() > self.end:

@@ -73,7 +73,7 @@ def write(path, data):
         file.write(data)
 
 
-# ---- ELF files of 64 bits
+# ---- ELF files of 64 bits, the less significant byte first
 
 
 def sections(image):
@@ -103,6 +103,36 @@ def text_of(stream, size):
     return text if inflater.eof and len(text) == size else None
 
 
+# ---- ELF files of both classes and orders
+
+
+def old_form(image, content=lambda text: b"ZLIB" + struct.pack(">Q", len(text)) + zlib.compress(text), spare=""):
+    """Returns an image whose sections .debug_* have the names and contents of GNU's old form, but for the one of a name."""
+    order = "><"[image[5] == 1]
+    table_place, counts, header = ("I", 48, "10I") if image[4] == 1 else ("Q", 60, "IIQQQQIIQQ")
+    table, = struct.unpack_from(order + table_place, image, 32 if image[4] == 1 else 40)
+    count, names_index = struct.unpack_from(f"{order}HH", image, counts)
+    places = [table + struct.calcsize(f"={header}") * i for i in range(count)]
+    headers = [list(struct.unpack_from(order + header, image, place)) for place in places]
+    names = image[headers[names_index][4]:][:headers[names_index][5]]
+    new = bytearray(image)
+
+    def put(fields, data):
+        fields[4:6] = len(new), len(data)
+        new.extend(data)
+
+    for fields in headers:
+        name = names[fields[0]:names.index(b"\0", fields[0])].decode()
+        if name.startswith(".debug_") and name != spare:
+            fields[0] = len(names)
+            names += b".z" + name[1:].encode() + b"\0"
+            put(fields, content(image[fields[4]:][:fields[5]]))
+    put(headers[names_index], names)
+    for place, fields in zip(places, headers):
+        struct.pack_into(order + header, new, place, *fields)
+    return bytes(new)
+
+
 # ---- the runs
 
 
@@ -123,10 +153,45 @@ def try_compression():
 
 
 def try_old_names():
-    """Sections of the names .zdebug_*, an older form of compression, are no debug sections, with the option too."""
+    """Sections of GNU's old form, .zdebug_*: as objcopy makes them, and in each class and order."""
     tool("objcopy", "--compress-debug-sections=zlib-gnu", "plain", "old")
-    expect(without("", "old"), "-e", "old", "--decompress", "-f", PLACE)
-    expect(without("", "old"), "-e", "old", "--find-debug", "-f", PLACE)
+    if ".zdebug_info" not in sections(read("old")):
+        print("objcopy doesn't know zlib-gnu: made here")
+        write("old", old_form(read("plain")))
+    expect(PLAIN, "-e", "old", "--decompress", "--all", "-afi")
+    expect(PLAIN, "-e", "old", "--find-debug", "--all", "-afi")
+    expect(without("", "old"), "-e", "old", "-f", PLACE)
+    # A section that isn't compressed, and one that has its new name already
+    write("named", old_form(read("plain"), content=lambda text: text))
+    expect(PLAIN, "-e", "named", "--decompress", "--all", "-afi")
+    write("both", old_form(read("plain"), spare=".debug_line"))
+    expect(PLAIN, "-e", "both", "--decompress", "--all", "-afi")
+    write("ignored", b"ZLIB" + bytes(8) + b"no stream")
+    tool("objcopy", "--add-section", ".zdebug_info=ignored", "plain", "both")
+    expect(PLAIN, "-e", "both", "--decompress", "--all", "-afi")
+    # Headers and streams that are cut or claim too much
+    for claimed in 0, 1, 2 ** 31, 2 ** 63, 2 ** 64 - 1:
+        refuse_old(lambda text, size=claimed: b"ZLIB" + struct.pack(">Q", size) + zlib.compress(text))
+    for length in 4, 11, 12, 13, 40:
+        refuse_old(lambda text, end=length: (b"ZLIB" + struct.pack(">Q", len(text)) + zlib.compress(text))[:end])
+    for size in "4", "8":
+        for order in [], ["--big"]:
+            tool(PROGRAM, "emit", f"{TOP}/examples/c.json", "image", "--size", size, *order)
+            answers = lookup("-e", "image", "--all", "-afi")
+            if answers[0] or "main" not in answers[1]:
+                sys.exit(f"a table's image: {answers}")
+            write("old", old_form(read("image")))
+            expect(answers, "-e", "old", "--decompress", "--all", "-afi")
+
+
+def refuse_old(content):
+    """A program whose sections have this content in GNU's old form is refused."""
+    global runs
+    write("changed", old_form(read("plain"), content=content))
+    status, out, err = lookup("-e", "changed", "--decompress", "--all", "-afi")
+    if status != 1 or out or not re.fullmatch(r"linemap: failed to decompress debug info: section \d+ .*\n", err):
+        sys.exit(f"old form: {status} {out[:300]} {err[:300]}")
+    runs += 1
 
 
 def try_stream(image, at, wanted_text, stream, text):
@@ -289,12 +354,15 @@ def try_split_files():
     tool("gcc", "-g", "-O1", "-gsplit-dwarf", "-o", "split", "a.c")
     answers = lookup("-e", "split", "--all", "-afi")
     dwo = next(it for it in os.listdir(".") if it.endswith(".dwo"))
+    whole = read(dwo)
     tool("objcopy", "--compress-debug-sections=zlib", dwo)
     if "a_1\n" not in answers[1] or not any(h[2] & COMPRESSED for _, h in sections(read(dwo)).values()):
         return print("gcc made no split file that is compressed: not tried")
-    expect(answers, "-e", "split", "--decompress", "--all", "-afi")
-    if lookup("-e", "split", "--all", "-afi") == answers:
-        sys.exit("a compressed split file is read without the option")
+    for image in read(dwo), old_form(whole):
+        write(dwo, image)
+        expect(answers, "-e", "split", "--decompress", "--all", "-afi")
+        if lookup("-e", "split", "--all", "-afi") == answers:
+            sys.exit("a compressed split file is read without the option")
 
 
 def try_words():

@@ -28,13 +28,14 @@ def image_of(sections, wide, big):
 
 
 def image_with(parts, wide, big):
-    """An image of sections: of each the name, the type, the address, the bytes and the link; their names come after them."""
+    """An image of sections: of each the name, the type, the address, the bytes, the link, and the flags where it has some; their names
+    come after them."""
     order = ">" if big else "<"
     strings = b"\0" + b"".join(name + b"\0" for name, *_ in parts) + b".shstrtab\0"
     size, header = (64, 64) if wide else (52, 40)
     body, headers = b"", [(0,) * 10]
-    for name, kind, address, content, link in [*parts, (b".shstrtab", 3, 0, strings, 0)]:
-        headers.append((strings.index(b"\0" + name + b"\0") + 1, kind, 0, address, size + len(body), len(content), link, 0, 1, 0))
+    for name, kind, address, content, link, *flags in [*parts, (b".shstrtab", 3, 0, strings, 0)]:
+        headers.append((strings.index(b"\0" + name + b"\0") + 1, kind, sum(flags), address, size + len(body), len(content), link, 0, 1, 0))
         body += content
     body += b"\0" * (-(size + len(body)) % 8)
     table = b"".join(struct.pack(order + ("IIQQQQIIQQ" if wide else "10I"), *it) for it in headers)

@@ -85,7 +85,8 @@ same_part xs ys start end offset size a within = (
   λ after_end.
       let le : end ≤ offset = ltb-false offset end after_end in
       let whole : length xs ≡ length a.front + (length a.old + length a.back) =
-      ap length a.old_is ∙ length-append a.front (a.old ++ a.back) ∙ ap (λ n. length a.front + n) (length-append a.old a.back) in
+      ap length a.old_is ∙ length-append a.front (a.old ++ a.back)
+      ∙ ap (λ n. length a.front + n) (length-append a.old a.back) in
       ap (λ (l : List ℕ). take size (drop offset l)) (a.new_is ∙ sym (append_assoc a.front a.new (a.back ++ a.more)))
       ∙ take_between offset size (a.front ++ a.new) a.back a.more
       (omega (arith, length-append a.front a.new, a.new_end))

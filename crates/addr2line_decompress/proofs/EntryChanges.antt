@@ -1,7 +1,6 @@
--- The bytes of a section header read as one, as they are and with other flags, offset and size.
+-- The bytes of a section header read as one, as they are and with another name, other flags, offset and size.
 use Rattle.std.proofs.Common.{◌≡◌, ℕ, zero, suc, ◌+◌, ◌*◌, ◌<◌, ◌≤◌, ◌^◌, Bool, true, false, List, [], ◌∷◌, ◌++◌, length, take, drop, get_or, refl, sym, ap, ◌∙◌, arith, append_assoc, length-drop}
 use Rattle.std.proofs.Math.Nat.{pow-succ', mul-le-mul_right}
-use Rattle.std.proofs.Math.Seq.{take-add}
 use Rattle.std.proofs.lemmas.List.{length-take, take-append-drop, drop-drop}
 use Rattle.gimli_core_readers.specs.Fixed.{number, number_bytes, little, big}
 use Rattle.gimli_core_readers.specs.NumberParsers.{fixed}
@@ -98,12 +97,13 @@ entry_again Elf64 is_big first e len =
     (number_field is_big 40 4 e (omega arith)) (number_field is_big 44 4 e (omega arith))
     (omega (arith, length-drop 48 e)))
 
--- the same with other flags, another offset and another size
+-- the same with another name, other flags, another offset and another size
 abbrev pub with_changes : SectionHeader → SectionHeader → SectionHeader
-with_changes h k = record h { flags = k.flags; offset = k.offset; size = k.size }
+with_changes h k = record h { name = k.name; flags = k.flags; offset = k.offset; size = k.size }
 
 -- the numbers have room
 pub record FitsFields (class : Class) (h : SectionHeader) : Type 0 where
+  pub name : h.name < 256 ^ 4
   pub flags : h.flags < 256 ^ word_size class
   pub offset : h.offset < 256 ^ word_size class
   pub size : h.size < 256 ^ word_size class
@@ -120,26 +120,22 @@ pub changed_again : (class : Class) (is_big : Bool) (first : ℕ) (e : List ℕ)
     (changed_entry class is_big k e)
 changed_again Elf32 is_big first e k len fits =
     again_regrouped
-    (sym (ap (λ (ys : List ℕ). ys ++ (number_bytes is_big 4 k.flags ++ (take 4 (drop 12 e)
-    ++ (number_bytes is_big 4 k.offset ++ (number_bytes is_big 4 k.size ++ drop 24 e))))) (take-add 4 4 e)
-    ∙ regroup_changed (take 4 e) (take 4 (drop 4 e)) (number_bytes is_big 4 k.flags) (take 4 (drop 12 e))
-    (number_bytes is_big 4 k.offset) (number_bytes is_big 4 k.size) (drop 24 e)
-    (take 4 (drop 24 e) ++ (take 4 (drop 28 e) ++ drop 32 e)) (more_part 24 4 e _ (more_part 28 4 e _ refl))))
+    (sym (regroup_changed (number_bytes is_big 4 k.name) (take 4 (drop 4 e)) (number_bytes is_big 4 k.flags)
+    (take 4 (drop 12 e)) (number_bytes is_big 4 k.offset) (number_bytes is_big 4 k.size) (drop 24 e) _
+    (more_part 24 4 e _ (more_part 28 4 e _ refl))))
     (fields_again Elf32 is_big first _ _ _ _ _ _ _ _ _ (with_changes (header_of Elf32 is_big e) k)
-    (first_field is_big 4 e (omega arith)) (number_field is_big 4 4 e (omega arith))
+    (spelled_field is_big 4 k.name fits.name) (number_field is_big 4 4 e (omega arith))
     (spelled_field is_big 4 k.flags fits.flags) (number_field is_big 12 4 e (omega arith))
     (spelled_field is_big 4 k.offset fits.offset) (spelled_field is_big 4 k.size fits.size)
     (number_field is_big 24 4 e (omega arith)) (number_field is_big 28 4 e (omega arith))
     (omega (arith, length-drop 32 e)))
 changed_again Elf64 is_big first e k len fits =
     again_regrouped
-    (sym (ap (λ (ys : List ℕ). ys ++ (number_bytes is_big 8 k.flags ++ (take 8 (drop 16 e)
-    ++ (number_bytes is_big 8 k.offset ++ (number_bytes is_big 8 k.size ++ drop 40 e))))) (take-add 4 4 e)
-    ∙ regroup_changed (take 4 e) (take 4 (drop 4 e)) (number_bytes is_big 8 k.flags) (take 8 (drop 16 e))
-    (number_bytes is_big 8 k.offset) (number_bytes is_big 8 k.size) (drop 40 e)
-    (take 4 (drop 40 e) ++ (take 4 (drop 44 e) ++ drop 48 e)) (more_part 40 4 e _ (more_part 44 4 e _ refl))))
+    (sym (regroup_changed (number_bytes is_big 4 k.name) (take 4 (drop 4 e)) (number_bytes is_big 8 k.flags)
+    (take 8 (drop 16 e)) (number_bytes is_big 8 k.offset) (number_bytes is_big 8 k.size) (drop 40 e) _
+    (more_part 40 4 e _ (more_part 44 4 e _ refl))))
     (fields_again Elf64 is_big first _ _ _ _ _ _ _ _ _ (with_changes (header_of Elf64 is_big e) k)
-    (first_field is_big 4 e (omega arith)) (number_field is_big 4 4 e (omega arith))
+    (spelled_field is_big 4 k.name fits.name) (number_field is_big 4 4 e (omega arith))
     (spelled_field is_big 8 k.flags fits.flags) (number_field is_big 16 8 e (omega arith))
     (spelled_field is_big 8 k.offset fits.offset) (spelled_field is_big 8 k.size fits.size)
     (number_field is_big 40 4 e (omega arith)) (number_field is_big 44 4 e (omega arith))

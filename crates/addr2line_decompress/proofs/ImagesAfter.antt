@@ -1,11 +1,10 @@
 -- The image of a file after decompression.
-use Rattle.std.proofs.Common.{◌≡◌, ℕ, ◌+◌, ◌*◌, ◌<◌, ◌≤◌, ◌%◌, ◌&&◌, Bool, true, false, cond, eqb, ltb, nat_lt, List, [], ◌∷◌, ◌++◌, length, take, drop, Option, Result, Ok, refl, sym, ap, subst, ◌∙◌, arith, append_assoc}
-use Rattle.std.specs.Prelude.{flat_map, sum_by, bit_and, bit_xor}
+use Rattle.std.proofs.Common.{◌≡◌, ℕ, ◌+◌, ◌*◌, ◌<◌, ◌≤◌, ◌&&◌, not, Bool, true, false, cond, eqb, ltb, nat_lt, List, [], ◌∷◌, ◌++◌, length, take, drop, Option, Some, None, unwrap_or, Result, Ok, refl, sym, ap, subst, ◌∙◌, arith, append_assoc}
+use Rattle.std.specs.Prelude.{flat_map, sum_by}
+use Rattle.std.specs.Option.{is_some}
 use Rattle.std.specs.List.{slice_get}
 use Rattle.std.proofs.lemmas.Bool.{ltb-false, eq-eqb}
 use Rattle.std.proofs.lemmas.List.{length-append, length-take, take-append-drop, drop-drop}
-use Rattle.std.proofs.lemmas.Nat.Bits.{and_pow, bit_at_xor, bit_at-pow_same, bit_at-lt}
-use Rattle.std.specs.Int.{bit_at}
 use Rattle.gimli_core_readers.specs.Error.{Error}
 use Rattle.gimli_core_readers.specs.View.{View, prefix}
 use Rattle.gimli_core_readers.specs.Parsers.{Parser, proceed, skip, value_of}
@@ -22,21 +21,24 @@ use Rattle.addr2line_elf.specs.declared.headers.SectionHeader.{SectionHeader}
 use Rattle.addr2line_elf.specs.ElfClasses.{section_header_size}
 use Rattle.addr2line_elf.specs.ElfHeaders.{file_header, section_header, header_at, headers_at}
 use Rattle.addr2line_elf.specs.ImageLoading.{or_truncated, read_in}
+use Rattle.addr2line_elf.specs.ElfSymbols.{symbol_table}
 use Rattle.addr2line_elf.specs.ElfImages.{Image, Identification, identification, Sections, section_count, names_index, contents, contents_of, linked_contents, sections_of, image_of, image_in}
-use Rattle.addr2line_decompress.specs.declared.error.DecompressError.{DecompressError}
-use Rattle.addr2line_decompress.specs.declared.error.DecompressError.TheVariants.{SectionCut, OverlappingSection}
+use Rattle.addr2line_decompress.specs.declared.error.DecompressError.TheVariants.{SectionCut, OverlappingSection, CompressedNames, SharedNames}
 use Rattle.addr2line_decompress.specs.declared.sections.DebugSections.{DebugSections}
 use Rattle.addr2line_decompress.specs.DecompressResults.{refuse_if}
 use Rattle.addr2line_decompress.specs.ImageTables.{ImageTable, file_header_size}
-use Rattle.addr2line_decompress.specs.CompressedSections.{is_compressed, overlaps, refuse_staying, refuse_names, Section, entry_of}
-use Rattle.addr2line_decompress.specs.DecompressedBytes.{size_of, headers_after, table_bytes, text_bytes, size_limit, bytes_after}
+use Rattle.addr2line_decompress.specs.CompressedSections.{text_of, is_flagged, is_compressed, new_name_of, added_names, with_added, new_names, names_start, holds, overlaps, refuse_staying, refuse_names, link_of, refuse_new_names, Section, entry_of}
+use Rattle.addr2line_decompress.specs.Compression.{size_of, Change}
+use Rattle.addr2line_decompress.specs.DecompressedBytes.{new_size, changed_header, headers_after, table_bytes, text_bytes, size_limit, bytes_after}
 use Rattle.addr2line_decompress.proofs.EntryReads.{Determined, determined_file_header, again_skip}
 use Rattle.addr2line_decompress.proofs.EntryChanges.{AreBytes, header_of}
 use Rattle.addr2line_decompress.proofs.TableReads.{SectionsRead, ok_parts, read_parts, read_first, skipped}
-use Rattle.addr2line_decompress.proofs.ContentReads.{contents_in, contents_nobits, Agree, same_part}
-use Rattle.addr2line_decompress.proofs.SectionsAfter.{SectionsOf, end, stay, change, entry_is}
+use Rattle.addr2line_decompress.proofs.ContentReads.{contents_in, contents_nobits, Agree, same_part, appended_part}
+use Rattle.addr2line_decompress.proofs.SectionsAfter.{SectionsOf, end, stay, change, entry_is, Changes, flagged, renamed, named}
 use Rattle.addr2line_decompress.proofs.TablesAfter.{table_again, table_size, stays_again}
-use Rattle.addr2line_decompress.proofs.IndexedSections.{AtIndex, missing, stays, changed, same_index, at_index}
+use Rattle.addr2line_decompress.proofs.IndexedSections.{AtIndex, missing, stays, changed, same_index, at_index, IsIn, changed_is, AllKept}
+use Rattle.addr2line_decompress.proofs.NewNames.{Placed, nothing, placed}
+use Rattle.addr2line_decompress.proofs.KeptNames.{test_fails, true_or, or_true, either_false, ok_view_same, ok_text_same, some_same, none_added, none_kept, later_kept, all_named, fits}
 
 -- ---- the start of a file
 
@@ -65,35 +67,11 @@ module _ {A : Type 0} (k : ℕ) (p : Parser A) (d : Determined k p) (is_big : Bo
     pub same_start : (x y : List ℕ) → read_in (bytes_at is_big 0 (xs ++ x)) p ≡ read_in (bytes_at is_big 0 (xs ++ y)) p
     same_start x y = start_reads x ∙ sym (start_reads y)
 
--- ---- a flag that is cleared
-
-pub flag_cleared : (f : ℕ) → eqb (bit_and f 0x800) 0 ≡ false → bit_and (bit_xor f 0x800) 0x800 ≡ 0
-flag_cleared f set =
-    let some : bit_and f 0x800 ≡ 0 → ⊥ = λ e. let t = eq-eqb (bit_and f 0x800) 0 e in absurd cc in
-    let old : bit_and f 0x800 ≡ bit_at f 11 * 0x800 = and_pow f 11 in
-    let new : bit_and (bit_xor f 0x800) 0x800 ≡ bit_at (bit_xor f 0x800) 11 * 0x800 = and_pow (bit_xor f 0x800) 11 in
-    let one : bit_at 0x800 11 ≡ 1 = bit_at-pow_same 11 in
-    sums (bit_and f 0x800) (bit_and (bit_xor f 0x800) 0x800) (bit_at f 11) (bit_at (bit_xor f 0x800) 11) (bit_at 0x800 11)
-    some old new (bit_at_xor f 0x800 11) one (bit_at-lt f 11)
-  where
-    sums : (a x b c d : ℕ) → (a ≡ 0 → ⊥) → a ≡ b * 0x800 → x ≡ c * 0x800 → c ≡ (b + d) % 2 → d ≡ 1 → b < 2 → x ≡ 0
-    sums a x b c d h i j k l m = omega arith
-
--- ---- refusals that didn't come
-
-test_fails : (b : Bool) (e : DecompressError) → refuse_if b e ≡ Ok tt → b ≡ false
-test_fails true e is = absurd cc
-test_fails false e is = refl
-
-either_false : (a b : Bool) (P : Type 0) → (a && b) ≡ false → (a ≡ false → P) → (b ≡ false → P) → P
-either_false true b P is f g = g is
-either_false false b P is f g = f refl
-
 -- ---- the file
 
 module _ (which : DebugSections) (class : Class) (is_big : Bool) (file : List ℕ) (file_type : ℕ)
     (headers : List SectionHeader) (names : View) (header : FileHeader) (first : SectionHeader)
-    (sections : List Section) (texts : List (Option (List ℕ))) where
+    (fresh : Option (List ℕ)) (sections : List Section) (texts : List (Option (List ℕ))) where
   abbrev pub view : View
   view = bytes_at is_big 0 file
 
@@ -112,8 +90,12 @@ module _ (which : DebugSections) (class : Class) (is_big : Bool) (file : List �
   abbrev pub new_headers : List SectionHeader
   new_headers = headers_after (length file) sections
 
-  abbrev pub after : Image
-  after = record { file = view_after; class = class; file_type = header.file_type; sections = new_headers; names = names }
+  -- all names
+  abbrev pub all_names : List ℕ
+  all_names = unwrap_or fresh names.bytes
+
+  abbrev names_at : ℕ
+  names_at = names_index header first
 
   abbrev start : ℕ
   start = header.table_offset
@@ -144,8 +126,11 @@ module _ (which : DebugSections) (class : Class) (is_big : Bool) (file : List �
     pub first_is : read_in view (header_at class start) ≡ Ok first
     pub read : SectionsRead class is_big file header first (record { headers = headers; names = names })
     pub apart : file_header_size class ≤ start
-    pub all : SectionsOf which table 0 headers sections texts
-    pub room : length file + sum_by (λ (s : Section). size_of s.stream) sections < size_limit class
+    pub fresh_are : new_names which before ≡ fresh
+    pub names_stay : refuse_names which before names_at (slice_get headers names_at) ≡ Ok tt
+    pub fit : refuse_new_names table fresh ≡ Ok tt
+    pub all : SectionsOf which table fresh 0 (names_start before fresh) headers sections texts
+    pub room : length file + sum_by (λ (s : Section). new_size s.change) sections < size_limit class
     pub are_bytes : AreBytes file
 
   module _ (k : Known) where
@@ -162,8 +147,9 @@ module _ (which : DebugSections) (class : Class) (is_big : Bool) (file : List �
     old_size : length old ≡ table_len
     old_size = let h = table_room in omega (arith, length-take table_len (drop start file))
 
-    new_size : length new ≡ table_len
-    new_size = table_size table k.are_bytes which 0 headers sections texts (length file) k.all
+    new_length : length new ≡ table_len
+    new_length = table_size table k.are_bytes which fresh 0 (names_start before fresh) headers sections texts
+        (length file) k.all
 
     file_is : file ≡ front ++ (old ++ back)
     file_is =
@@ -183,7 +169,7 @@ module _ (which : DebugSections) (class : Class) (is_big : Bool) (file : List �
       new_is = refl;
       start_is = front_size;
       old_end = let h = front_size in let i = old_size in omega arith;
-      new_end = let h = front_size in let i = new_size in omega arith;
+      new_end = let h = front_size in let i = new_length in omega arith;
     }
 
     -- the bytes before the texts
@@ -195,7 +181,7 @@ module _ (which : DebugSections) (class : Class) (is_big : Bool) (file : List �
     whole_size =
         let a = front_size in
         let b = old_size in
-        let c = new_size in
+        let c = new_length in
         let d = ap length file_is in
         omega (
           arith,
@@ -214,11 +200,12 @@ module _ (which : DebugSections) (class : Class) (is_big : Bool) (file : List �
     -- ---- the section of an index
 
     pub section_of_index : (i : ℕ)
-        → AtIndex which table file_after i (slice_get headers i) (slice_get new_headers i) (slice_get texts i)
+        → AtIndex which table fresh file_after i (slice_get headers i) (slice_get new_headers i) (slice_get texts i)
     section_of_index i =
-        same_index which table file_after (0 + i) i _ _ _ (omega arith)
-        (at_index which table file_after (front ++ (new ++ back)) 0 headers sections texts (length file) k.all texts_at
-        whole_size i)
+        same_index which table fresh file_after (0 + i) i _ _ _ (omega arith)
+        (at_index which table fresh file_after (front ++ (new ++ back)) 0
+        (names_start before fresh) headers sections texts
+        (length file) k.all texts_at whole_size i)
 
     -- ---- the bytes of a section that stays
 
@@ -254,22 +241,197 @@ module _ (which : DebugSections) (class : Class) (is_big : Bool) (file : List �
         cases true b x = contents_nobits is_big file_after file h b
         cases false b x = in_file_same h i b x
 
+    -- ---- the bytes of a section that changes
+
+    pub contents_changed : (i at : ℕ) (h : SectionHeader) (c : Change) (t : List ℕ) (offset : ℕ)
+        → Changes which table fresh i at h c → length t ≡ size_of c.content → IsIn file_after offset t
+        → contents (changed_header h offset (Some c)) view_after ≡ Ok (bytes_at is_big (0 + offset) t)
+    contents_changed i at h c t offset ch size place =
+        let g = changed_header h offset (Some c) in
+        let some = (changed_is which table fresh i at h c ch).plain.no_nobits in
+        let long = ap length place.whole in
+        let within : offset + size_of c.content ≤ length file_after =
+        ends offset (size_of c.content) (length place.before) (length t) (length place.after)
+        (length file_after) place.place
+        size (long ∙ length-append place.before (t ++ place.after)
+        ∙ ap (λ (n : ℕ). length place.before + n) (length-append t place.after)) in
+        let part : take (size_of c.content) (drop offset file_after) ≡ t =
+        ap (λ (l : List ℕ). take (size_of c.content) (drop offset l)) place.whole
+        ∙ appended_part place.before t place.after offset (size_of c.content) place.place size in
+        contents_in is_big file_after g some within ∙ ap (λ (l : List ℕ). ok (bytes_at is_big (0 + offset) l)) part
+      where
+        ok : View → Result View LoadError
+        ok v = Ok v
+
+        ends : (o s b u a n : ℕ) → b ≡ o → u ≡ s → n ≡ b + (u + a) → o + s ≤ n
+        ends o s b u a n p q r = omega arith
+
     -- ---- sections that hold names
 
-    names_of_index : (i : ℕ) (a b : Option SectionHeader) (t : Option (Option (List ℕ)))
-        → AtIndex which table file_after i a b t → refuse_names which before i a ≡ Ok tt
-        → contents_of b view_after ≡ contents_of a view
-    names_of_index i a b t missing is = refl
-    names_of_index i a b t (stays h plain stays_is) is = contents_same i h stays_is
-    names_of_index i a b t (changed h s u offset compressed size place) is =
-        let no = test_fails (is_compressed which before i h) _ is in
+    -- a section that isn't compressed, and doesn't get new names
+    not_changed : (i at : ℕ) (h : SectionHeader) (c : Change) → Changes which table fresh i at h c
+        → refuse_names which before i (Some h) ≡ Ok tt → holds names_at i fresh ≡ false → ⊥
+    not_changed i at h c (flagged x is none) stays_is apart =
+        let yes : true ≡ false =
+        sym (true_or (is_flagged which before i h) (is_some (new_name_of which before i h)) is)
+        ∙ test_fails (is_compressed which before i h) (CompressedNames i) stays_is in
         absurd cc
+    not_changed i at h c (renamed x n new) stays_is apart =
+        let yes : true ≡ false =
+        sym (or_true (is_flagged which before i h) (is_some (new_name_of which before i h))
+        (ap (λ (o : Option (List ℕ)). is_some o) new))
+        ∙ test_fails (is_compressed which before i h) (CompressedNames i) stays_is in
+        absurd cc
+    not_changed i at h c (named n some is other none) stays_is apart =
+        let yes : true ≡ false = sym is ∙ apart in absurd cc
+
+    names_of_index : (i : ℕ) (a b : Option SectionHeader) (t : Option (Option (List ℕ)))
+        → AtIndex which table fresh file_after i a b t → refuse_names which before i a ≡ Ok tt
+        → holds names_at i fresh ≡ false → contents_of b view_after ≡ contents_of a view
+    names_of_index i a b t missing is apart = refl
+    names_of_index i a b t (stays h s) is apart = contents_same i h s.stays
+    names_of_index i a b t (changed at h c u offset ch text place) is apart =
+        absurd (not_changed i at h c ch is apart)
 
     pub linked_same : (i : ℕ) → refuse_names which before i (slice_get headers i) ≡ Ok tt
+        → holds names_at i fresh ≡ false
         → linked_contents i new_headers view_after ≡ linked_contents i headers view
-    linked_same i is =
+    linked_same i is apart =
         ap (λ (r : Result View LoadError). cond (eqb i 0) (Ok (prefix 0 view)) r)
-        (names_of_index i _ _ _ (section_of_index i) is)
+        (names_of_index i _ _ _ (section_of_index i) is apart)
+
+    -- the names after decompression
+    pub record NamesNow (all : List ℕ) : Type 0 where
+      pub view_now : View
+      pub linked : linked_contents names_at new_headers view_after ≡ Ok view_now
+      pub bytes : view_now.bytes ≡ all
+
+    -- the section of new names isn't that at index 0, without names
+    has_names : (n : List ℕ) → fresh ≡ Some n → eqb names_at 0 ≡ false
+    has_names n some = of (eqb names_at 0) refl
+      where
+        of : (b : Bool) → eqb names_at 0 ≡ b → b ≡ false
+        of false h = refl
+        of true h =
+            let empty_is : prefix 0 view ≡ names = ok_view_same (prefix 0 view) names
+            (sym (ap (λ (t : Bool). cond t (Ok (prefix 0 view)) (contents_of (slice_get headers names_at) view)) h)
+            ∙ k.read.names) in
+            let none : added_names which before 0 headers ≡ [] =
+            none_added which before (sym (ap (λ (v : View). v.bytes) empty_is)) 0 headers in
+            let both : None ≡ Some n = ap (with_added names.bytes) (sym none) ∙ k.fresh_are ∙ some in
+            absurd cc
+
+    names_changed : (n : List ℕ) → fresh ≡ Some n → (a b : Option SectionHeader) (t : Option (Option (List ℕ)))
+        → AtIndex which table fresh file_after names_at a b t → refuse_names which before names_at a ≡ Ok tt
+        → contents_of a view ≡ Ok names
+        → (v : View) × (contents_of b view_after ≡ Ok v) × (v.bytes ≡ n)
+    names_changed n some a b t missing is read = let no : contents_of None view ≡ Ok names = read in absurd cc
+    names_changed n some a b t (stays h s) is read =
+        let yes : true ≡ false =
+        sym (ap (λ (t : Bool). not t && eqb names_at names_at) (has_names n some)
+        ∙ eq-eqb names_at names_at refl) ∙ sym (ap (holds names_at names_at) some) ∙ s.other in
+        absurd cc
+    names_changed n some a b t (changed at h c u offset ch text place) is read = (
+      bytes_at is_big (0 + offset) u,
+      contents_changed names_at at h c u offset ch text.size place,
+      text_is c ch text.text,
+    )
+      where
+        text_is : (c : Change) → Changes which table fresh names_at at h c → text_of names_at c.content ≡ Ok u → u ≡ n
+        text_is c (flagged x f none) has =
+            let yes : true ≡ false =
+            sym (true_or (is_flagged which before names_at h) (is_some (new_name_of which before names_at h)) f)
+            ∙ test_fails (is_compressed which before names_at h) (CompressedNames names_at) is in
+            absurd cc
+        text_is c (renamed x m new) has =
+            let yes : true ≡ false =
+            sym (or_true (is_flagged which before names_at h) (is_some (new_name_of which before names_at h))
+            (ap (λ (o : Option (List ℕ)). is_some o) new))
+            ∙ test_fails (is_compressed which before names_at h) (CompressedNames names_at) is in
+            absurd cc
+        text_is c (named m m_is f other none) has =
+            let same : m ≡ u = ok_text_same m u has in
+            let names_are : Some m ≡ Some n = sym m_is ∙ some in
+            sym same ∙ some_same m n names_are
+
+    pub names_now : NamesNow all_names
+    names_now = of fresh refl
+      where
+        of : (o : Option (List ℕ)) → fresh ≡ o → NamesNow (unwrap_or o names.bytes)
+        of None none =
+            record {
+              view_now = names;
+              linked = linked_same names_at k.names_stay (ap (holds names_at names_at) none) ∙ k.read.names;
+              bytes = refl;
+            }
+        of (Some n) some =
+            let later = has_names n some in
+            let read : contents_of (slice_get headers names_at) view ≡ Ok names =
+            sym (ap (λ (t : Bool). cond t (Ok (prefix 0 view)) (contents_of (slice_get headers names_at) view)) later)
+            ∙ k.read.names in
+            let r = names_changed n some _ _ _ (section_of_index names_at) k.names_stay read in
+            record {
+              view_now = r.0;
+              linked = ap (λ (t : Bool). cond t (Ok (prefix 0 view))
+                  (contents_of (slice_get new_headers names_at) view_after))
+                  later ∙ r.1;
+              bytes = r.2;
+            }
+
+    abbrev pub after : Image
+    after = record {
+      file = view_after;
+      class = class;
+      file_type = header.file_type;
+      sections = new_headers;
+      names = names_now.view_now;
+    }
+
+    pub names_bytes : after.names.bytes ≡ all_names
+    names_bytes = names_now.bytes
+
+    -- ---- where new names are, and that the old ones stay
+
+    pub names_placed : Placed all_names (names_start before fresh) (added_names which before 0 headers)
+    names_placed = of fresh (added_names which before 0 headers) k.fresh_are k.fit
+      where
+        of : (o : Option (List ℕ)) (added : List ℕ) → with_added names.bytes added ≡ o
+            → refuse_new_names table o ≡ Ok tt → Placed (unwrap_or o names.bytes) (names_start before o) added
+        of None [] is fit = nothing refl
+        of None (b ∷ bs) is fit = absurd cc
+        of (Some n) [] is fit = absurd cc
+        of (Some n) (b ∷ bs) is fit =
+            let whole : names.bytes ++ b ∷ bs ≡ n = some_same (names.bytes ++ b ∷ bs) n is in
+            placed names.bytes (sym whole) refl (fits table n fit)
+
+    pub names_kept : AllKept all_names before (drop 1 headers)
+    names_kept = of fresh (added_names which before 0 headers) k.fresh_are k.fit
+      where
+        of : (o : Option (List ℕ)) (added : List ℕ) → with_added names.bytes added ≡ o
+            → refuse_new_names table o ≡ Ok tt → AllKept (unwrap_or o names.bytes) before (drop 1 headers)
+        of None added is fit = none_kept before (drop 1 headers)
+        of (Some n) [] is fit = absurd cc
+        of (Some n) (b ∷ bs) is fit =
+            let whole : names.bytes ++ b ∷ bs ≡ n = some_same (names.bytes ++ b ∷ bs) n is in
+            subst (λ (l : List ℕ). AllKept l before (drop 1 headers)) whole
+            (later_kept before (b ∷ bs) headers (all_named table n fit))
+
+    -- new names aren't in the section of the symbols' names
+    pub symbols_apart : holds names_at (link_of (symbol_table headers)) fresh ≡ false
+    symbols_apart = of fresh k.fit
+      where
+        of : (o : Option (List ℕ)) → refuse_new_names table o ≡ Ok tt
+            → holds names_at (link_of (symbol_table headers)) o ≡ false
+        of None fit = refl
+        of (Some n) fit =
+            let link = link_of (symbol_table headers) in
+            let a = ok_parts (refuse_if (eqb link names_at) (SharedNames names_at)) _ tt fit in
+            ap (λ (t : Bool). not (eqb link 0) && t) (test_fails (eqb link names_at) (SharedNames names_at) a.1)
+            ∙ and_false (not (eqb link 0))
+          where
+            and_false : (b : Bool) → (b && false) ≡ false
+            and_false true = refl
+            and_false false = refl
 
     -- ---- the headers
 
@@ -278,7 +440,10 @@ module _ (which : DebugSections) (class : Class) (is_big : Bool) (file : List �
     front_skipped rest = (again_skip is_big 0 start front front_size).again rest
 
     table_reads : Again is_big (0 + length front) (times (length headers) (section_header class)) new_headers new
-    table_reads = table_again table k.are_bytes which 0 headers sections texts (length file) (0 + length front) k.all k.room
+    table_reads =
+        table_again table k.are_bytes which fresh all_names 0 (names_start before fresh) headers sections texts
+        (length file)
+        (0 + length front) k.all names_placed k.room
 
     headers_are : read_in view_after (headers_at class start (length headers)) ≡ Ok new_headers
     headers_are =
@@ -289,12 +454,13 @@ module _ (which : DebugSections) (class : Class) (is_big : Bool) (file : List �
         (table_reads.again (back ++ more))
 
     -- the first header stays, since the section at index 0 is skipped
-    first_of : (hs : List SectionHeader) (ss : List Section) (ts : List (Option (List ℕ)))
-        → SectionsOf which table 0 hs ss ts → (h : SectionHeader) (rest : List SectionHeader) → hs ≡ h ∷ rest
+    first_of : (at_name : ℕ) (hs : List SectionHeader) (ss : List Section) (ts : List (Option (List ℕ)))
+        → SectionsOf which table fresh 0 at_name hs ss ts → (h : SectionHeader) (rest : List SectionHeader)
+        → hs ≡ h ∷ rest
         → entry_is table 0 h × ((at : ℕ) (last : List ℕ) → (v : View)
         × (section_header class (bytes_at is_big at (table_bytes class is_big (length file) ss ++ last)) ≡ Ok (h, v)))
-    first_of hs ss ts (end _) h rest is = absurd cc
-    first_of hs ss ts (stay _ g gs ss' ts' e plain stays_is others) h rest is =
+    first_of at_name hs ss ts (end _ _) h rest is = absurd cc
+    first_of at_name hs ss ts (stay _ _ g gs ss' ts' e s others) h rest is =
         let same : g ≡ h = cc in
         subst (λ (x : SectionHeader). entry_is table 0 x × ((at : ℕ) (last : List ℕ) → (v : View)
         × (section_header class (bytes_at is_big at
@@ -308,12 +474,13 @@ module _ (which : DebugSections) (class : Class) (is_big : Bool) (file : List �
                     ∙ (stays_again table k.are_bytes 0 g at e).again (table_rest ++ last),
               ),
         )
-    first_of hs ss ts (change _ g gs ss' ts' s t e compressed size others) h rest is = absurd cc
+    first_of at_name hs ss ts (change _ _ g gs ss' ts' c t e ch text others) h rest is =
+        let yes : true ≡ false = (changed_is which table fresh 0 at_name g c ch).later in absurd cc
 
     module _ (h : SectionHeader) (rest : List SectionHeader) (some : headers ≡ h ∷ rest) where
       first_is_first : h ≡ first
       first_is_first =
-          let e = (first_of headers sections texts k.all h rest some).0 in
+          let e = (first_of _ headers sections texts k.all h rest some).0 in
           let a = read_parts (header_at class start view) first k.first_is in
           let b = begins (skip start view) (λ _. section_header class) first a.0 a.1 in
           let v = skipped is_big file start b.1 b.2 in
@@ -325,7 +492,7 @@ module _ (which : DebugSections) (class : Class) (is_big : Bool) (file : List �
 
       first_again : read_in view_after (header_at class start) ≡ Ok first
       first_again =
-          let f = (first_of headers sections texts k.all h rest some).1 (0 + length front) (back ++ more) in
+          let f = (first_of _ headers sections texts k.all h rest some).1 (0 + length front) (back ++ more) in
           ap (λ (r : Result (Unit {0} × View) Error). or_truncated (value_of (proceed r (λ _. section_header class))))
           (front_skipped (new ++ (back ++ more)))
           ∙ ap (λ (r : Result (SectionHeader × View) Error). or_truncated (value_of r)) f.1
@@ -353,44 +520,39 @@ module _ (which : DebugSections) (class : Class) (is_big : Bool) (file : List �
           six Elf32 n m a b = omega arith
           six Elf64 n m a b = omega arith
 
-      module _ (names_stay : refuse_names which before (names_index header first)
-          (slice_get headers (names_index header first)) ≡ Ok tt) where
-        names_again : linked_contents (names_index header first) new_headers view_after ≡ Ok names
-        names_again = linked_same (names_index header first) names_stay ∙ k.read.names
+      abbrev found : List SectionHeader → View → Result Sections LoadError
+      found hs n = Ok (record { headers = hs; names = n })
 
-        abbrev found : List SectionHeader → View → Result Sections LoadError
-        found hs n = Ok (record { headers = hs; names = n })
+      table_after : (read_in view_after (header_at class start) >>= λ f.
+          read_in view_after (headers_at class start (section_count header f)) >>= λ hs.
+          linked_contents (names_index header f) hs view_after >>= λ n. found hs n)
+          ≡ found new_headers names_now.view_now
+      table_after =
+          ap (λ (r : Result SectionHeader LoadError). r >>= λ f.
+          read_in view_after (headers_at class start (section_count header f)) >>= λ hs.
+          linked_contents (names_index header f) hs view_after >>= λ n. found hs n) first_again
+          ∙ ap (λ (n : ℕ). read_in view_after (headers_at class start n) >>= λ hs.
+          linked_contents (names_index header first) hs view_after >>= λ m. found hs m) (sym k.read.read.count)
+          ∙ ap (λ (r : Result (List SectionHeader) LoadError). r >>= λ hs.
+          linked_contents (names_index header first) hs view_after >>= λ m. found hs m) headers_are
+          ∙ ap (λ (r : Result View LoadError). r >>= λ m. found new_headers m) names_now.linked
 
-        table_after : (read_in view_after (header_at class start) >>= λ f.
-            read_in view_after (headers_at class start (section_count header f)) >>= λ hs.
-            linked_contents (names_index header f) hs view_after >>= λ n. found hs n)
-            ≡ found new_headers names
-        table_after =
-            ap (λ (r : Result SectionHeader LoadError). r >>= λ f.
-            read_in view_after (headers_at class start (section_count header f)) >>= λ hs.
-            linked_contents (names_index header f) hs view_after >>= λ n. found hs n) first_again
-            ∙ ap (λ (n : ℕ). read_in view_after (headers_at class start n) >>= λ hs.
-            linked_contents (names_index header first) hs view_after >>= λ m. found hs m) (sym k.read.read.count)
-            ∙ ap (λ (r : Result (List SectionHeader) LoadError). r >>= λ hs.
-            linked_contents (names_index header first) hs view_after >>= λ m. found hs m) headers_are
-            ∙ ap (λ (r : Result View LoadError). r >>= λ m. found new_headers m) names_again
+      sections_after : sections_of class header view_after ≡ found new_headers names_now.view_now
+      sections_after = rw k.read.some (rw k.read.sized table_after)
 
-        sections_after : sections_of class header view_after ≡ found new_headers names
-        sections_after = rw k.read.some (rw k.read.sized table_after)
-
-        pub image_is : image_of file_after ≡ Ok after
-        image_is =
-            ap (λ (r : Result Identification LoadError). r >>= λ id. image_in id.class (bytes_at id.is_big 0 file_after))
-            identified_again
-            ∙ ap (λ (r : Result FileHeader LoadError). r >>= λ f. of_sections f (sections_of class f view_after))
-            header_again
-            ∙ ap (of_sections header) sections_after
-          where
-            of_sections : FileHeader → Result Sections LoadError → Result Image LoadError
-            of_sections f r = r >>= λ s. Ok (record {
-              file = view_after;
-              class = class;
-              file_type = f.file_type;
-              sections = s.headers;
-              names = s.names;
-            })
+      pub image_is : image_of file_after ≡ Ok after
+      image_is =
+          ap (λ (r : Result Identification LoadError). r >>= λ id. image_in id.class (bytes_at id.is_big 0 file_after))
+          identified_again
+          ∙ ap (λ (r : Result FileHeader LoadError). r >>= λ f. of_sections f (sections_of class f view_after))
+          header_again
+          ∙ ap (of_sections header) sections_after
+        where
+          of_sections : FileHeader → Result Sections LoadError → Result Image LoadError
+          of_sections f r = r >>= λ s. Ok (record {
+            file = view_after;
+            class = class;
+            file_type = f.file_type;
+            sections = s.headers;
+            names = s.names;
+          })

@@ -173,7 +173,8 @@ unfolding block_of
 block_of_most stream size text kind at short =
     either _ size (stored_most stream size text at)
     (either _ size (all_elements_most stream size _ text at short)
-    (either _ size (onward size (dynamic_codes stream at) _ (λ codes s. all_elements_most stream size codes text s short)) (ended size _)))
+    (either _ size (onward size (dynamic_codes stream at) _
+    (λ codes s. all_elements_most stream size codes text s short)) (ended size _)))
 
 block_most : (stream : List ℕ) (size : ℕ) (text : List ℕ) (at : ℕ) → length text ≤ size
     → AtMost size (block stream size text at)

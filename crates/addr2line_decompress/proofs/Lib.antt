@@ -1,13 +1,15 @@
-mod Loads
-mod SectionLoops
 mod EntryReads
 mod EntryChanges
 mod TableReads
 mod ContentReads
 mod InflatedSizes
+mod NewNames
 mod SectionsAfter
 mod TablesAfter
 mod IndexedSections
+mod NameChoices
+mod KeptNames
 mod ImagesAfter
 mod Relations
 mod ReadAgain
+mod SectionLoops

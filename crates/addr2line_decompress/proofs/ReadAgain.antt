@@ -13,18 +13,19 @@ use Rattle.addr2line_elf.specs.declared.headers.SectionHeader.{SectionHeader}
 use Rattle.addr2line_elf.specs.ElfClasses.{section_header_size}
 use Rattle.addr2line_elf.specs.ImageLoading.{read_in}
 use Rattle.addr2line_elf.specs.ElfHeaders.{file_header, header_at}
-use Rattle.addr2line_elf.specs.ElfImages.{Image, identification, index_named, section_named, image_of}
+use Rattle.addr2line_elf.specs.ElfImages.{Image, identification, section_at, section_named, addresses_at, image_of}
 use Rattle.addr2line_decompress.specs.declared.error.DecompressError.{DecompressError}
 use Rattle.addr2line_decompress.specs.declared.error.DecompressError.TheVariants.{OverlappingHeaders, TooLarge}
 use Rattle.addr2line_decompress.specs.declared.sections.DebugSections.{DebugSections}
 use Rattle.addr2line_decompress.specs.DecompressResults.{refuse_if, or_image}
 use Rattle.addr2line_decompress.specs.ImageTables.{ImageTable, file_header_size, table_of}
-use Rattle.addr2line_decompress.specs.CompressedSections.{has_compressed, refuse_names, refuse_all_names, sections_from}
-use Rattle.addr2line_decompress.specs.DecompressedBytes.{size_limit, size_after, SectionTexts, section_texts, texts_if_small, bytes_after, if_any, rewritten, rewritten_if_any, decompressed}
-use Rattle.addr2line_decompress.specs.Decompression.{text_at_index, waits, IsSectionAfter, IsDecompressionOf, texts_if_any, texts_of, Decompresses, AreBytes}
+use Rattle.addr2line_decompress.specs.CompressedSections.{has_compressed, new_names, names_start, refuse_names, refuse_all_names, refuse_new_names, sections_from}
+use Rattle.addr2line_decompress.specs.DecompressedBytes.{size_limit, size_after, SectionTexts, section_texts, texts_if_small, bytes_after, if_any, new_image, new_image_if_any, decompressed}
+use Rattle.addr2line_decompress.specs.Decompression.{index_after, text_at_index, waits, IsSectionAfter, IsDecompressionOf, texts_if_any, texts_of, Decompresses, AreBytes}
 use Rattle.addr2line_decompress.proofs.TableReads.{TableParts, table_parts, table_sections, no_table, some_table, SectionsRead, MayBeRead, ok_parts, Entries}
 use Rattle.addr2line_decompress.proofs.SectionsAfter.{sections_all}
 use Rattle.addr2line_decompress.proofs.ImagesAfter.{Known, image_is, after, table}
+use Rattle.addr2line_decompress.proofs.NameChoices.{others_same, present_same, none_renamed}
 use Rattle.addr2line_decompress.proofs.Relations.{decompression}
 
 image_parts_of : {A : Type 0} (r : Result A LoadError) (x : A) → or_image r ≡ Ok x → r ≡ Ok x
@@ -52,26 +53,31 @@ no_text : (o : Option ℕ) → text_at_index [] o ≡ None
 no_text None = refl
 no_text (Some i) = refl
 
-unchanged : (image : Image) → IsDecompressionOf [] image image
-unchanged image = record {
+unchanged : (which : DebugSections) (image : Image) → has_compressed which image 0 image.sections ≡ false
+    → IsDecompressionOf which [] image image
+unchanged which image none = record {
   class = refl;
   order = refl;
   file_type = refl;
   sections = λ name.
-      let o = index_named name image in
-      let same = section_named name image in
-      subst (λ (t : Option (List ℕ)). IsSectionAfter t image.file.is_big (waits o image) same same) (sym (no_text o)) refl;
-  ranges = λ name none. refl;
+      let o = index_after which name image in
+      subst (λ (t : Option (List ℕ)). IsSectionAfter t image.file.is_big (waits o image) (section_at o image)
+      (section_named name image)) (sym (no_text o))
+      (ap (λ (p : Option ℕ). section_at p image) (none_renamed which image name none));
+  ranges = λ name _. ap (λ (p : Option ℕ). addresses_at p image) (none_renamed which image name none);
+  others = others_same which image;
+  present = present_same which image;
   symbols = refl;
 }
 
 -- ---- an image that is changed
 
 -- what is read of it
-record ReadAfter (texts : List (Option (List ℕ))) (image : Image) (bytes : List ℕ) : Type 0 where
+record ReadAfter (which : DebugSections) (texts : List (Option (List ℕ))) (image : Image)
+    (bytes : List ℕ) : Type 0 where
   pub image_after : Image
   pub after_is : image_of bytes ≡ Ok image_after
-  pub decompression : IsDecompressionOf texts image image_after
+  pub decompression : IsDecompressionOf which texts image image_after
 
 has_room : (class : Class) (n : ℕ) → file_header_size class ≤ n → n ≡ 0 → ⊥
 has_room Elf32 n h e = absurd (omega arith)
@@ -81,7 +87,10 @@ module _ (which : DebugSections) (class : Class) (is_big : Bool) (file : List �
     (headers : List SectionHeader) (names : View) (header : FileHeader) (first : SectionHeader) (found : SectionTexts)
   where
     abbrev t : ImageTable
-    t = table which class is_big file file_type headers names header first [] []
+    t = table which class is_big file file_type headers names header first None [] []
+
+    abbrev fresh : Option (List ℕ)
+    fresh = new_names which t.image
 
     changed_file : (identified : identification file ≡ Ok (record { class = class; is_big = is_big }))
         → read_in (bytes_at is_big 0 file) (file_header class) ≡ Ok header → header.file_type ≡ file_type
@@ -89,11 +98,14 @@ module _ (which : DebugSections) (class : Class) (is_big : Bool) (file : List �
         → MayBeRead class is_big file header first (record { headers = headers; names = names }) → AreBytes file
         → (h : SectionHeader) (rest : List SectionHeader) → headers ≡ h ∷ rest
         → section_texts which t ≡ Ok found
-        → ReadAfter found.texts t.image (bytes_after t found.sections found.texts)
+        → ReadAfter which found.texts t.image (bytes_after t found.sections found.texts)
     changed_file identified header_is type_is first_is read are_bytes h rest some is =
-        let a = ok_parts (refuse_if (nat_lt header.table_offset (file_header_size class)) OverlappingHeaders) _ found is in
+        let a = ok_parts (refuse_if (nat_lt header.table_offset
+        (file_header_size class)) OverlappingHeaders) _ found is in
         let b = ok_parts (refuse_all_names which t) _ found a.2 in
-        let c = ok_parts (sections_from which t 0 headers) _ found b.2 in
+        let n = ok_parts (refuse_new_names t fresh) _ found b.2 in
+        let start = names_start t.image fresh in
+        let c = ok_parts (sections_from which t fresh 0 start headers) _ found n.2 in
         let d = ok_parts (texts_if_small t c.0) _ found c.2 in
         let e = ok_parts (refuse_if (not (nat_lt (size_after t c.0) (size_limit class))) TooLarge) _ d.0 d.1 in
         let f = ok_parts (refuse_names which t.image t.names_index (slice_get headers t.names_index)) _ tt b.1 in
@@ -104,23 +116,27 @@ module _ (which : DebugSections) (class : Class) (is_big : Bool) (file : List �
         let r = section_headers read apart in
         let at_start : header.table_offset ≡ header.table_offset + 0 * section_header_size class = omega arith in
         let entries = subst (λ (n : ℕ). Entries class is_big headers (drop n file)) at_start r.read.entries in
-        let known : Known which class is_big file file_type headers names header first c.0 d.0 = record {
+        let known : Known which class is_big file file_type headers names header first fresh c.0 d.0 = record {
           identified = identified;
           header_is = header_is;
           type_is = type_is;
           first_is = first_is;
           read = r;
           apart = apart;
-          all = sections_all which t 0 headers c.0 d.0 entries c.1 e.2;
+          fresh_are = refl;
+          names_stay = f.1;
+          fit = n.1;
+          all = sections_all which t fresh 0 start headers c.0 d.0 entries c.1 e.2;
           room = room;
           are_bytes = are_bytes;
         } in
-        subst (λ (g : SectionTexts). ReadAfter g.texts t.image (bytes_after t g.sections g.texts)) whole
+        subst (λ (g : SectionTexts). ReadAfter which g.texts t.image (bytes_after t g.sections g.texts)) whole
         (record {
-          image_after = after which class is_big file file_type headers names header first c.0 d.0;
-          after_is = image_is which class is_big file file_type headers names header first c.0 d.0 known h rest some f.1;
+          image_after = after which class is_big file file_type headers names header first fresh c.0 d.0 known;
+          after_is =
+              image_is which class is_big file file_type headers names header first fresh c.0 d.0 known h rest some;
           decompression =
-              decompression which class is_big file file_type headers names header first c.0 d.0 known f.2;
+              decompression which class is_big file file_type headers names header first fresh c.0 d.0 known f.2;
         })
       where
         section_headers : MayBeRead class is_big file header first (record { headers = headers; names = names })
@@ -134,7 +150,9 @@ module _ (which : DebugSections) (class : Class) (is_big : Bool) (file : List �
 
 abbrev table_with : ImageTable → FileHeader → SectionHeader → List ℕ → DebugSections → ImageTable
 table_with t header first file which =
-    table which t.image.class t.image.file.is_big file t.image.file_type t.image.sections t.image.names header first [] []
+    table which t.image.class t.image.file.is_big file t.image.file_type t.image.sections t.image.names
+    header first None
+    [] []
 
 table_same : (which : DebugSections) (file : List ℕ) (t : ImageTable) (p : TableParts file t)
     → t ≡ table_with t p.parts.header p.first file which
@@ -173,14 +191,15 @@ some_header which image (h ∷ rest) is = (h, rest, refl)
 
 read_after : (which : DebugSections) (file : List ℕ) (t : ImageTable) (found : SectionTexts) → table_of file ≡ Ok t
     → AreBytes file → has_compressed which t.image 0 t.image.sections ≡ true → section_texts which t ≡ Ok found
-    → ReadAfter found.texts t.image (bytes_after t found.sections found.texts)
+    → ReadAfter which found.texts t.image (bytes_after t found.sections found.texts)
 read_after which file t found table_is are_bytes some is =
     let p = table_parts file t table_is in
     let header = p.parts.header in
     let same = table_same which file t p in
     let view_is = p.parts.file_is in
     let h = some_header which t.image t.image.sections some in
-    subst (λ (u : ImageTable). ReadAfter found.texts u.image (bytes_after u found.sections found.texts)) (sym same)
+    subst (λ (u : ImageTable). ReadAfter which found.texts u.image (bytes_after u found.sections found.texts))
+    (sym same)
     (changed_file which t.image.class t.image.file.is_big file t.image.file_type t.image.sections t.image.names header
     p.first found p.parts.identified
     (ap (λ (v : View). read_in v (file_header t.image.class)) (sym view_is) ∙ p.parts.header_is)
@@ -201,16 +220,16 @@ module _ (which : DebugSections) (file after : List ℕ) (are_bytes : AreBytes f
       ∙ ap (λ (r : Result (Option SectionTexts) DecompressError). r >>= λ f. Ok (texts_if_any f)) is
 
   of_any : (b : Bool) → has_compressed which t.image 0 t.image.sections ≡ b → (o : Option (List ℕ))
-      → cond b (some_of (rewritten which t)) (Ok None) ≡ Ok o → unwrap_or o file ≡ after
+      → cond b (some_of (new_image which t)) (Ok None) ≡ Ok o → unwrap_or o file ≡ after
       → Decompresses which file after
   of_any true some o is after_is =
-      let a = ok_parts (rewritten which t) (λ x. Ok (Some x)) o is in
+      let a = ok_parts (new_image which t) (λ x. Ok (Some x)) o is in
       let b = ok_parts (section_texts which t) (λ found. Ok (bytes_after t found.sections found.texts)) a.0 a.1 in
       let option_is : Some a.0 ≡ o = ok_same (Some a.0) o a.2 in
       let bytes_are : bytes_after t b.0.sections b.0.texts ≡ a.0 = ok_same _ a.0 b.2 in
       let whole : bytes_after t b.0.sections b.0.texts ≡ after =
       bytes_are ∙ ap (λ (x : Option (List ℕ)). unwrap_or x file) option_is ∙ after_is in
-      let r = subst (λ (bytes : List ℕ). ReadAfter b.0.texts t.image bytes) whole
+      let r = subst (λ (bytes : List ℕ). ReadAfter which b.0.texts t.image bytes) whole
       (read_after which file t b.0 table_is are_bytes some b.1) in
       let found_is : if_any which t (section_texts which t) ≡ Ok (Some b.0) =
       ap (λ (c : Bool). cond c (some_of (section_texts which t)) (Ok None)) some
@@ -237,14 +256,14 @@ module _ (which : DebugSections) (file after : List ℕ) (are_bytes : AreBytes f
         before_is = image;
         image_after = t.image;
         after_is = subst (λ (l : List ℕ). image_of l ≡ Ok t.image) same image;
-        decompression = unchanged t.image;
+        decompression = unchanged which t.image none;
       }
 
 pub decompresses : (which : DebugSections) (file after : List ℕ) → AreBytes file → decompressed which file ≡ Ok after
     → Decompresses which file after
 decompresses which file after are_bytes is =
-    let a = ok_parts (rewritten_if_any which file) (λ o. Ok (unwrap_or o file)) after is in
-    let b = ok_parts (or_image (table_of file)) (λ t. if_any which t (rewritten which t)) a.0 a.1 in
+    let a = ok_parts (new_image_if_any which file) (λ o. Ok (unwrap_or o file)) after is in
+    let b = ok_parts (or_image (table_of file)) (λ t. if_any which t (new_image which t)) a.0 a.1 in
     let after_is : unwrap_or a.0 file ≡ after = ok_same (unwrap_or a.0 file) after a.2 in
     of_any which file after are_bytes b.0 (image_parts_of (table_of file) b.0 b.1)
     (has_compressed which b.0.image 0 b.0.image.sections) refl a.0 b.2 after_is

@@ -1,7 +1,6 @@
 -- What is known of the section headers of an image that is loaded.
-use Rattle.std.proofs.Common.{◌≡◌, ℕ, zero, suc, ◌+◌, ◌-◌, ◌*◌, ◌≤◌, Bool, true, false, cond, eqb, ltb, nat_eq, List, [], ◌∷◌, length, take, drop, Option, Some, None, Result, Ok, Err, refl, sym, ap, subst, ◌∙◌, arith, length-drop}
+use Rattle.std.proofs.Common.{◌≡◌, ℕ, zero, suc, ◌+◌, ◌-◌, ◌*◌, ◌≤◌, Bool, true, false, cond, eqb, ltb, List, [], ◌∷◌, length, take, drop, Option, Some, None, Result, Ok, Err, refl, sym, ap, subst, ◌∙◌, arith, length-drop}
 use Rattle.std.specs.Prelude.{IfOk}
-use Rattle.std.specs.List.{slice_get, starts_with}
 use Rattle.std.proofs.lemmas.Bool.{ltb-false, eqb-true}
 use Rattle.std.proofs.lemmas.List.{length-take, take-append-drop}
 use Rattle.gimli_core_readers.specs.Error.{Error}
@@ -16,14 +15,14 @@ use Rattle.gimli_lines_write_bytes.specs.BytesAt.{bytes_at}
 use Rattle.addr2line_elf.specs.declared.class.Class.{Class}
 use Rattle.addr2line_elf.specs.declared.class.Class.TheVariants.{Elf32, Elf64}
 use Rattle.addr2line_elf.specs.declared.error.LoadError.{LoadError}
-use Rattle.addr2line_elf.specs.declared.error.LoadError.TheVariants.{NotElf, UnsupportedElf}
+use Rattle.addr2line_elf.specs.declared.error.LoadError.TheVariants.{UnsupportedElf}
 use Rattle.addr2line_elf.specs.declared.headers.FileHeader.{FileHeader}
 use Rattle.addr2line_elf.specs.declared.headers.SectionHeader.{SectionHeader}
 use Rattle.addr2line_elf.specs.ElfClasses.{word_size, section_header_size}
 use Rattle.addr2line_elf.specs.ElfHeaders.{file_header, section_header, header_at, headers_at}
 use Rattle.addr2line_elf.specs.ImageLoading.{or_truncated, read_in, LoadsAsOrNoMemory}
-use Rattle.addr2line_elf.specs.ElfImages.{Image, Identification, magic, class_of, is_big_of, class_and_order, identification, Sections, section_count, names_index, linked_contents, table, sections_of, image_in, image_of}
-use Rattle.addr2line_decompress.specs.ImageTables.{ImageTable, is_same_byte, class_at, table_in, table_of, file_bytes, table_end}
+use Rattle.addr2line_elf.specs.ElfImages.{Image, Identification, identification, Sections, section_count, names_index, linked_contents, table, sections_of, image_in, image_of}
+use Rattle.addr2line_decompress.specs.ImageTables.{ImageTable, table_of, file_bytes, table_end}
 use Rattle.addr2line_decompress.proofs.EntryChanges.{header_of, entry_again}
 
 -- ---- a value leaves at most n of the bytes with k more
@@ -227,89 +226,6 @@ module _ (file : List ℕ) (image : Image) where
   pub image_parts : image_of file ≡ Ok image → Parts file image
   image_parts is = of_identification (identification file) refl is
 
--- ---- the class
-
-class_byte : (o : Option ℕ) (class : Class) → class_of o ≡ Ok class → cond (is_same_byte o 1) Elf32 Elf64 ≡ class
-class_byte None class is = absurd cc
-class_byte (Some n) class is = cases (nat_eq n 1) (nat_eq n 2) is
-  where
-    cases : (a b : Bool) → cond {A = Result Class LoadError} a (Ok Elf32) (cond b (Ok Elf64) (Err UnsupportedElf)) ≡ Ok class
-        → cond a Elf32 Elf64 ≡ class
-    cases true b h = cc
-    cases false true h = cc
-    cases false false h = absurd cc
-
-pub class_is : (file : List ℕ) (id : Identification) → identification file ≡ Ok id → class_at file ≡ id.class
-class_is file id is = cases (starts_with nat_eq file magic) is
-  where
-    of_order : (class : Class) (r : Result Bool LoadError)
-        → (r >>= λ b. Ok (record { class = class; is_big = b })) ≡ Ok id → class ≡ id.class
-    of_order class (Ok b) h =
-        let same : (record { class = class; is_big = b }) ≡ id = cc in ap (λ (i : Identification). i.class) same
-    of_order class (Err e) h = absurd cc
-
-    of_class : (r : Result Class LoadError) → class_of (slice_get file 4) ≡ r
-        → (r >>= λ class. is_big_of (slice_get file 5) >>= λ b. Ok (record { class = class; is_big = b })) ≡ Ok id
-        → class_at file ≡ id.class
-    of_class (Ok class) byte h =
-        class_byte (slice_get file 4) class byte ∙ of_order class (is_big_of (slice_get file 5)) h
-    of_class (Err e) byte h = absurd cc
-
-    cases : (b : Bool) → cond b (class_and_order file) (Err NotElf) ≡ Ok id → class_at file ≡ id.class
-    cases true h = of_class (class_of (slice_get file 4)) refl h
-    cases false h = absurd cc
-
--- ---- the table
-
-abbrev table_from : Class → View → FileHeader → Sections → Result SectionHeader LoadError
-    → Result ImageTable LoadError
-table_from class file header s r = r >>= λ first. Ok (record {
-  image = image_with class file header s;
-  offset = header.table_offset;
-  names_index = names_index header first;
-})
-
--- the table of an image that is loaded
-pub table_is : (file : List ℕ) (image : Image) → image_of file ≡ Ok image
-    → table_of file ≡ table_in image.class image.file
-table_is file image is =
-    let p = image_parts file image is in
-    let s : Sections = record { headers = image.sections; names = image.names } in
-    let first = read_in image.file (header_at image.class p.header.table_offset) in
-    ap (λ (r : Result Image LoadError). r >>= λ i. read_in i.file (file_header i.class) >>= λ h. rest i h) is
-    ∙ ap (λ (r : Result FileHeader LoadError). r >>= λ h. rest image h) p.header_is
-    ∙ ap (λ (t : ℕ). first >>= λ f. Ok (record {
-      image = record {
-        file = image.file;
-        class = image.class;
-        file_type = t;
-        sections = image.sections;
-        names = image.names;
-      };
-      offset = p.header.table_offset;
-      names_index = names_index p.header f;
-    })) (sym p.type_is)
-    ∙ sym (ap (λ (r : Result Sections LoadError). r >>= λ t. table_from image.class image.file p.header t first)
-    p.sections_are)
-    ∙ sym (ap (λ (r : Result FileHeader LoadError). r >>= λ h. sections_of image.class h image.file >>= λ t.
-    table_from image.class image.file h t (read_in image.file (header_at image.class h.table_offset))) p.header_is)
-  where
-    rest : Image → FileHeader → Result ImageTable LoadError
-    rest i h = read_in i.file (header_at i.class h.table_offset) >>= λ f. Ok (record {
-      image = i;
-      offset = h.table_offset;
-      names_index = names_index h f;
-    })
-
--- the same, where its class and its bytes are known otherwise
-pub table_as : (file : List ℕ) (image : Image) (class : Class) (view : View) → image_of file ≡ Ok image
-    → class ≡ class_at file → view ≡ bytes_at image.file.is_big 0 file → table_in class view ≡ table_of file
-table_as file image class view is class_same view_same =
-    let p = image_parts file image is in
-    ap (λ (k : Class). table_in k view) (class_same ∙ class_is file _ p.identified)
-    ∙ ap (λ (v : View). table_in image.class v) (view_same ∙ sym p.file_is)
-    ∙ sym (table_is file image is)
-
 -- ---- steps that gave a value
 
 abbrev ok : {A : Type 0} → A → Result A LoadError
@@ -400,7 +316,8 @@ module _ (class : Class) (is_big : Bool) (file : List ℕ) (header : FileHeader)
       let b = ok_parts (read_in view (headers_at class header.table_offset (section_count header a.0))) _ s a.2 in
       let c = ok_parts (linked_contents (names_index header a.0) b.0 view) _ s b.2 in
       let r = read_parts (headers_at class header.table_offset (section_count header a.0) view) b.0 b.1 in
-      let d = begins (skip header.table_offset view) (λ _. times (section_count header a.0) (section_header class)) b.0 r.0 r.1 in
+      let d = begins (skip header.table_offset view)
+      (λ _. times (section_count header a.0) (section_header class)) b.0 r.0 r.1 in
       let k = skipped is_big file header.table_offset d.1 d.2 in
       let read = entries_read class is_big (section_count header a.0) (0 + header.table_offset)
       (drop header.table_offset file) b.0 r.0

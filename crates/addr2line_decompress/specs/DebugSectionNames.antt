@@ -1,5 +1,5 @@
 -- The sections of debugging information that are decompressed, by their names.
-use Rattle.std.specs.Prelude.{◌≡◌, ℕ, ◌||◌, nat_eq, Bool, true, false, List, codes, Option, Some, None}
+use Rattle.std.specs.Prelude.{◌≡◌, ℕ, ◌||◌, nat_eq, Bool, true, false, List, ◌++◌, length, drop, codes, Option, Some, None}
 use Rattle.std.specs.List.{starts_with, list_any}
 use Rattle.std.specs.Cmp.Lexicographic.{pointwise}
 use Rattle.gimli_core_readers.specs.SectionId.{SectionId}
@@ -29,6 +29,16 @@ is_among Lookups name = is_lookup_name name
 abbrev pub is_wanted : DebugSections → Option (List ℕ) → Bool
 is_wanted which None = false
 is_wanted which (Some name) = is_among which name
+
+-- ---- GNU's old form, in which a compressed section is named otherwise
+
+-- such a name
+abbrev pub is_old_name : List ℕ → Bool
+is_old_name name = starts_with nat_eq name (codes ".zdebug_")
+
+-- the name without the z: .debug_ in place of .zdebug_
+abbrev pub new_name : List ℕ → List ℕ
+new_name name = codes ".debug_" ++ drop (length (codes ".zdebug_")) name
 
 -- each section that lookups read is among those for lookups
 abbrev pub LookupsReadThem : Type 0

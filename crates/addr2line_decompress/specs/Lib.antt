@@ -1,4 +1,5 @@
 pub use Rattle.addr2line_elf.specs.ElfImages
+pub mod ErrorText
 pub mod DecompressResults
 pub mod DebugSectionNames
 pub mod Compression

@@ -21,6 +21,11 @@ append bytes w = record { bytes = w.bytes ++ bytes; class = w.class; is_big = w.
 abbrev pub AreEntries : Class → List Section → Type 0
 AreEntries class sections = All (λ s. length s.entry ≡ section_header_size class) sections
 
+-- Names are written after the bytes so far, or out of memory.
+abbrev pub WritesNames : Result (Unit {0}) DecompressError → List ℕ → List ℕ → List ℕ → Type 0
+WritesNames (Ok done) old new names = new ≡ old ++ names
+WritesNames (Err e) old new names = e ≡ Memory
+
 -- A text, if there is one, is written after the bytes so far, or the refusal, or out of memory.
 abbrev pub WritesText : Result (Unit {0}) DecompressError → ImageBytes → ImageBytes
     → Result (Option (List ℕ)) DecompressError → Type 0

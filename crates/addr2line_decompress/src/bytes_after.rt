@@ -5,14 +5,15 @@ ghost use Rattle.gimli_core_readers.specs.ByteOrders.{is_big_endian};
 ghost use Rattle.gimli_core_readers.specs.Fixed.{number_bytes};
 ghost use Rattle.addr2line_elf.specs.ElfClasses.{word_size, section_header_size};
 ghost use Rattle.addr2line_decompress.specs.DecompressResults.{DecompressesAsOrNoMemory};
-ghost use Rattle.addr2line_decompress.specs.CompressedSections.{text_if_any, texts_from};
-ghost use Rattle.addr2line_decompress.specs.DecompressedBytes.{size_of, size_limit, size_below, header_after, changed_entry, entry_after, table_bytes, written};
+ghost use Rattle.std.specs.Option.{is_some};
+ghost use Rattle.gimli_core_readers.specs.Results.{some_of};
+ghost use Rattle.addr2line_decompress.specs.CompressedSections.{text_of, text_if_any, texts_from};
+ghost use Rattle.addr2line_decompress.specs.DecompressedBytes.{new_size, size_limit, size_below, header_after, name_and_type, changed_entry, entry_after, table_bytes, with_texts};
 ghost use Rattle.addr2line_decompress.specs.WrittenBytes.{WritesText, WritesTexts, AreEntries};
 ghost use Rattle.addr2line_decompress.specs.ImageTables.{file_bytes, table_end};
 
-use crate::constants::SHF_COMPRESSED;
+use crate::compression::Content;
 use crate::error::DecompressError;
-use crate::headers::word_size;
 use crate::streams::Section;
 use crate::table::ImageTable;
 use addr2line_elf::class::Class;
@@ -31,37 +32,38 @@ fn size_limit(class: Class) -> u64
     }
 }
 
-// The size of the text of a section, if it has one.
-fn text_size(section: &Section<'_>) -> u64
-    ensures { result ≡ size_of section.now.stream }
+// How many new bytes a section has.
+fn new_size(section: &Section<'_>) -> u64
+    ensures { result ≡ new_size section.now.change }
 {
-    match &section.stream {
-        Some(stream) => stream.size(),
+    match &section.change {
+        Some(change) => change.content.size(),
         None => 0,
     }
 }
 
-// The size of a file of some bytes and of the texts after it, if it is below a limit.
+// The size of a file of some bytes and of the new bytes after it, if it is below a limit.
 fn size_below(len: u64, sections: &[Section<'_>], limit: u64) -> Option<u64>
     ensures { result ≡ size_below len sections.now limit }
 {
     let mut size = len;
     for section in sections {
-        size = size.checked_add(text_size(section))?;
+        size = size.checked_add(new_size(section))?;
     }
     (size < limit).then_some(size)
 }
 
-// The header of a section whose text, if it has one, is at an offset.
+// The header of a section that changes, if it does, with its new bytes at an offset.
 fn header_after(section: &Section<'_>, offset: u64) -> SectionHeader
     ensures { result ≡ header_after offset section.now }
 {
     let header = section.header;
-    match &section.stream {
-        Some(stream) => SectionHeader {
-            flags: header.flags ^ SHF_COMPRESSED,
+    match &section.change {
+        Some(change) => SectionHeader {
+            name: change.name,
+            flags: change.flags,
             offset,
-            size: stream.size(),
+            size: change.content.size(),
             ..header
         },
         None => header,
@@ -104,7 +106,7 @@ impl ImageBytes {
         ensures { OnOk result (self.new
             ≡ append (number_bytes self.old.is_big (word_size self.old.class) n) self.old) }
     {
-        let size = word_size(self.class);
+        let size = self.class.word_size();
         let mut bytes = [0; 8];
         self.endian.write_u64(&mut bytes, n);
         if self.endian.is_big_endian() {
@@ -114,14 +116,34 @@ impl ImageBytes {
         }
     }
 
-    // Writes a section header of some bytes, with other flags, another offset and another size.
+    // Writes a number of four bytes.
+    fn number(&mut self, n: u32) -> Result<(), AllocError>
+        ensures { OnOk result (self.new ≡ append (number_bytes self.old.is_big 4 n) self.old) }
+    {
+        let mut bytes = [0; 4];
+        self.endian.write_u32(&mut bytes, n);
+        self.write(&bytes)
+    }
+
+    // Writes the name and the type of a section header of some bytes, with another name.
+    fn name_and_type(&mut self, header: &SectionHeader, entry: &[u8]) -> Result<(), AllocError>
+        requires { 8 ≤ length entry.now }
+        ensures { OnOk result (self.new
+            ≡ append (name_and_type self.old.is_big header.now entry.now) self.old) }
+    {
+        self.number(header.name)?;
+        self.write(&entry[4..8])
+    }
+
+    // Writes a section header of some bytes, with another name, other flags, another offset and
+    // another size.
     fn changed_entry(&mut self, header: &SectionHeader, entry: &[u8]) -> Result<(), AllocError>
         requires { length entry.now ≡ section_header_size self.old.class }
         ensures { OnOk result (self.new
             ≡ append (changed_entry self.old.class self.old.is_big header.now entry.now) self.old) }
     {
-        let size = word_size(self.class);
-        self.write(&entry[..8])?;
+        let size = self.class.word_size();
+        self.name_and_type(header, entry)?;
         self.address(header.flags)?;
         self.write(&entry[8 + size..8 + 2 * size])?;
         self.address(header.offset)?;
@@ -129,30 +151,30 @@ impl ImageBytes {
         self.write(&entry[8 + 4 * size..])
     }
 
-    // Writes the header of a section whose text, if it has one, is at an offset.
+    // Writes the header of a section, whose new bytes, if it has some, are at an offset.
     fn entry(&mut self, section: &Section<'_>, offset: u64) -> Result<(), AllocError>
         requires { length section.now.entry ≡ section_header_size self.old.class }
         ensures { OnOk result (self.new
             ≡ append (entry_after self.old.class self.old.is_big offset section.now) self.old) }
     {
-        if section.stream.is_some() {
+        if section.change.is_some() {
             self.changed_entry(&header_after(section, offset), section.entry)
         } else {
             self.write(section.entry)
         }
     }
 
-    // Writes the section headers. The texts follow each other from an offset on.
+    // Writes the section headers. The new bytes follow each other from an offset on.
     fn table(&mut self, sections: &[Section<'_>], start: u64) -> Result<(), AllocError>
         requires entries { AreEntries self.old.class sections.now }
-        requires small { start + sum_by (λ s. size_of s.stream) sections.now < 2 ^ 64 }
+        requires small { start + sum_by (λ s. new_size s.change) sections.now < 2 ^ 64 }
         ensures { OnOk result (self.new
             ≡ append (table_bytes self.old.class self.old.is_big start sections.now) self.old) }
     {
         let mut offset = start;
         for section in sections {
             self.entry(section, offset)?;
-            offset += text_size(section);
+            offset += new_size(section);
         }
         Ok(())
     }
@@ -164,11 +186,26 @@ impl ImageBytes {
         section: &Section<'_>,
         index: usize,
     ) -> Result<(), DecompressError>
-        ensures { WritesText result self.old self.new (text_if_any index section.now.stream) }
+        ensures { WritesText result self.old self.new (text_if_any index section.now.change) }
     {
-        match &section.stream {
-            Some(stream) => Ok(self.write(&stream.text(alloc, index)?)?),
+        match &section.change {
+            Some(change) => self.content(alloc, &change.content, index),
             None => Ok(()),
+        }
+    }
+
+    // Writes the new bytes of a section.
+    fn content(
+        &mut self,
+        alloc: Global,
+        content: &Content<'_>,
+        index: usize,
+    ) -> Result<(), DecompressError>
+        ensures { WritesText result self.old self.new (some_of (text_of index content.now)) }
+    {
+        match content.text_size() {
+            Some(size) => Ok(self.write(&content.text(alloc, size, index)?)?),
+            None => Ok(self.write(content.bytes())?),
         }
     }
 
@@ -187,13 +224,13 @@ impl ImageBytes {
 // another one while it is copied.
 pub(crate) fn bytes_after(
     alloc: Global,
-    table: &ImageTable<'_>,
+    table: &ImageTable,
     sections: &[Section<'_>],
 ) -> Result<Vec<u8>, DecompressError>
     requires room { table_end table.now ≤ length (file_bytes table.now) }
     requires fit { AreEntries table.now.image.class sections.now }
     ensures { DecompressesAsOrNoMemory (λ bytes. bytes.items) result
-        (written table.now sections.now) }
+        (with_texts table.now sections.now) }
 {
     let file = table.bytes();
     let Some(size) = size_below(file.len() as u64, sections, size_limit(table.class())) else {

@@ -1,12 +1,6 @@
 //! Constants of ELF files, by the names of the standard (System V ABI, "ELF Header", "Sections" and
 //! "Section Compression").
 
-// The index of the file's class in its identification.
-pub(crate) const EI_CLASS: usize = 4;
-
-// Objects of 32 bits.
-pub(crate) const ELFCLASS32: u8 = 1;
-
 // A section with all symbols.
 pub(crate) const SHT_SYMTAB: u32 = 2;
 
@@ -27,9 +21,6 @@ pub(crate) const SHF_COMPRESSED: u64 = 0x800;
 
 // The index that names no section.
 pub(crate) const SHN_UNDEF: u16 = 0;
-
-// The index that means that the index is in the first section header.
-pub(crate) const SHN_XINDEX: u16 = 0xffff;
 
 // A section compressed by DEFLATE, in the zlib format (RFC 1950 and 1951).
 pub(crate) const ELFCOMPRESS_ZLIB: u32 = 1;

@@ -8,7 +8,7 @@ use addr2line_inflate::InflateError;
 use std::alloc::{AllocError, AllocFailed};
 use std::fmt;
 
-/// Why an image isn't decompressed. A section is named by its index in the table of sections.
+/// Why an image isn't decompressed. Displayed as a sentence. A section is named by its index in the table of sections.
 #[derive(Clone, Copy, Debug, PartialEq, Eq)]
 pub enum DecompressError {
     /// Out of memory.
@@ -23,6 +23,11 @@ pub enum DecompressError {
     SectionCut(usize),
     /// A compressed section is that of the names of sections or symbols.
     CompressedNames(usize),
+    /// The section of the sections' names, some of which change, has another use, as for those of
+    /// symbols.
+    SharedNames(usize),
+    /// The name of a section doesn't end, where other names change.
+    NameCut(usize),
     /// A compressed section ends before its compression header does.
     HeaderCut(usize),
     /// A section is compressed by Zstandard.
@@ -33,7 +38,7 @@ pub enum DecompressError {
     ImpossibleSize(usize),
     /// A section's stream has no text.
     Stream(usize, InflateError),
-    /// The decompressed image is larger than its class allows.
+    /// The decompressed image is larger than its class allows, or its section of names too large.
     TooLarge,
 }
 
@@ -80,48 +85,56 @@ impl<T: Drop> From<AllocFailed<T>> for DecompressError {
 }
 
 impl fmt::Display for DecompressError {
+    ghost use Rattle.std.specs.Prelude.{Some};
+    ghost use Rattle.addr2line_decompress.specs.ErrorText.{error_text};
+
+    ghost output = { λ e. Some (error_text e) };
+
     fn fmt<W: fmt::Write>(&self, f: &mut fmt::Formatter<W>) -> fmt::Result {
-        match self {
-            DecompressError::Memory => f.write_str("out of memory"),
-            DecompressError::Image(error) => write!(f, "the image can't be loaded ({error})"),
+        let (section, reason) = match self {
+            DecompressError::Memory => return f.write_str("out of memory"),
+            DecompressError::Image(error) => {
+                return write!(f, "the image can't be loaded ({error})");
+            }
             DecompressError::OverlappingHeaders => {
-                f.write_str("the section headers overlap the file's header")
+                return f.write_str("the section headers overlap the file's header");
             }
-            DecompressError::OverlappingSection(section) => {
-                write!(f, "section {section} overlaps the section headers")
-            }
-            DecompressError::SectionCut(section) => {
-                write!(f, "the file ends before section {section} does")
-            }
-            DecompressError::CompressedNames(section) => {
-                write!(f, "section {section} holds names and is compressed")
-            }
-            DecompressError::HeaderCut(section) => {
-                write!(f, "section {section} ends in its compression header")
-            }
-            DecompressError::Zstandard(section) => write!(
-                f,
-                "section {section} is compressed by zstd; run objcopy --decompress-debug-sections on the file first"
-            ),
             DecompressError::UnknownCompression(section, kind) => {
-                write!(
+                return write!(
                     f,
                     "section {section} has the unknown compression type {kind}"
-                )
-            }
-            DecompressError::ImpossibleSize(section) => {
-                write!(
-                    f,
-                    "section {section} is too small for the size that it claims"
-                )
+                );
             }
             DecompressError::Stream(section, error) => {
-                write!(f, "section {section} has an invalid stream ({error:?})")
+                return write!(f, "section {section} has an invalid stream: {error}");
             }
             DecompressError::TooLarge => {
-                f.write_str("the decompressed image is too large for its ELF class")
+                return f.write_str("the decompressed image is too large for its ELF class");
             }
-        }
+            DecompressError::OverlappingSection(section) => {
+                (*section, "overlaps the section headers")
+            }
+            DecompressError::SectionCut(section) => {
+                (*section, "goes on after the end of the file")
+            }
+            DecompressError::CompressedNames(section) => {
+                (*section, "holds names and is compressed")
+            }
+            DecompressError::SharedNames(section) => (
+                *section,
+                "holds more than the names of sections, which change",
+            ),
+            DecompressError::NameCut(section) => (*section, "has a name that doesn't end"),
+            DecompressError::HeaderCut(section) => (*section, "ends in its compression header"),
+            DecompressError::Zstandard(section) => (
+                *section,
+                "is compressed by zstd; run objcopy --decompress-debug-sections on the file first",
+            ),
+            DecompressError::ImpossibleSize(section) => {
+                (*section, "is too small for the size that it claims")
+            }
+        };
+        write!(f, "section {section} {reason}")
     }
 }
 

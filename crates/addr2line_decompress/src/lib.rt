@@ -6,7 +6,7 @@ pub mod compression;
 mod constants;
 mod decompress;
 pub mod error;
-mod headers;
+mod names;
 pub mod sections;
 mod streams;
 pub mod table;
