@@ -60,6 +60,8 @@ enum {
   A2L_ALREADY_OPEN = 6,
   /* The bytes are no split file of the unit that waits. */
   A2L_WRONG_FILE = 7,
+  /* a2l_open_with has no such flag. */
+  A2L_UNKNOWN_FLAG = 8,
 
   /* E1 to E33: why debugging information can't be read. a2l_error_sentence says what each means. */
   A2L_E1 = 101, /* out of memory */
@@ -104,7 +106,21 @@ enum {
   A2L_L5 = 205, /* the file ends before a header, a section or a table does */
   A2L_L6 = 206, /* a section of debugging information is compressed */
   A2L_L7 = 207, /* a linker has yet to fill in addresses of debugging information */
-  A2L_L8 = 300  /* the debugging information can't be read: 300 + n for En, 302 to 333 */
+  A2L_L8 = 300, /* the debugging information can't be read: 300 + n for En, 302 to 333 */
+
+  /* Z1 to Z12: why compressed sections can't be decompressed. */
+  A2L_Z1 = 401, /* the section headers overlap the file's header */
+  A2L_Z2 = 402, /* a section overlaps the section headers */
+  A2L_Z3 = 403, /* the file ends before a section does */
+  A2L_Z4 = 404, /* a section holds names and is compressed */
+  A2L_Z5 = 405, /* a section ends in its compression header */
+  A2L_Z6 = 406, /* a section is compressed by zstd */
+  A2L_Z7 = 407, /* a section is compressed in a way that isn't known */
+  A2L_Z8 = 408, /* a section is too small for the size that it claims */
+  A2L_Z9 = 409, /* a section has an invalid stream */
+  A2L_Z10 = 410, /* the decompressed file is too large for its class */
+  A2L_Z11 = 411, /* a section holds more than the names of sections, which change */
+  A2L_Z12 = 412 /* the name of a section doesn't end */
 };
 
 /* ---- What crosses */
@@ -217,6 +233,27 @@ int32_t a2l_open_in_place(const uint8_t *image, size_t image_len, a2l_loader *lo
 int32_t a2l_open_in_place_with_sup(const uint8_t *image, size_t image_len, const uint8_t *sup,
                                    size_t sup_len, a2l_loader *loader);
 
+/* What a2l_open_with does; flags are added. */
+enum {
+  /* The bytes stay where they are, mapped and unchanged, until the loader is closed. Without this
+   * flag they are copied. */
+  A2L_IN_PLACE = 1,
+  /* There is a supplementary file. Without this flag `sup` isn't read. */
+  A2L_SUP = 2,
+  /* Compressed sections that lookups read are decompressed: of the file, of its supplementary
+   * file, and of split files that are brought. A file that has none is used as it is. */
+  A2L_DECOMPRESS = 4
+};
+
+/* Opens a closed loader as flags say: what the four calls above do, in one, and files whose
+ * sections are compressed by zlib, which those refuse by L6, or, where the sections have the older
+ * names .zdebug_*, open without them. A file with compressed sections takes memory for itself and
+ * for their texts. Refused, in this order, by A2L_ALREADY_OPEN or A2L_BAD_LOADER; by
+ * A2L_UNKNOWN_FLAG, before any bytes are read; by L1 to L8, or Z1 to Z12. The loader then stays as
+ * it is. */
+int32_t a2l_open_with(const uint8_t *image, size_t image_len, const uint8_t *sup, size_t sup_len,
+                      uint32_t flags, a2l_loader *loader);
+
 /* Closes an open loader, and frees what it owns. It can be opened again. A2L_CLOSED or
  * A2L_BAD_LOADER otherwise. */
 int32_t a2l_close(a2l_loader *loader);
@@ -287,14 +324,15 @@ int32_t a2l_find_loads(a2l_loader *loader, uint64_t address, size_t *count);
 int32_t a2l_get_load(a2l_loader *loader, size_t number, a2l_load *out);
 
 /* Brings the split file of a number, of those that the last a2l_find_loads found, as a copy of its
- * bytes. A2L_PAST_END where there is none of that number; A2L_WRONG_FILE where the bytes are not
- * that unit's split file, which then still waits. Else the unit is decided for good: A2L_OK, or
- * the refusal (E2 to E33) that lookups in it return from then on. A unit that was decided before
- * stays so. */
+ * bytes. It is decompressed where the loader was opened with A2L_DECOMPRESS. A2L_PAST_END where
+ * there is none of that number; A2L_WRONG_FILE where the bytes are not that unit's split file, or
+ * can't be read or decompressed: the unit then still waits. Else it is decided for good: A2L_OK,
+ * or the refusal (E2 to E33) that lookups in it return from then on. A unit that was decided
+ * before stays so. */
 int32_t a2l_answer_load(a2l_loader *loader, size_t number, const uint8_t *bytes, size_t len);
 
 /* The same over bytes that stay where they are, mapped and unchanged, until the loader is closed.
- * Nothing is copied. */
+ * Nothing is copied that isn't decompressed. */
 int32_t a2l_answer_load_in_place(a2l_loader *loader, size_t number, const uint8_t *bytes,
                                  size_t len);
 
@@ -304,8 +342,9 @@ int32_t a2l_skip_load(a2l_loader *loader, size_t number);
 
 /* ---- Refusals */
 
-/* The letter and the number of what a call returned, as "E16", "L6" or "L8 E16", and for 1 to 7 as
- * "C4". A2L_NOT_FOUND for A2L_OK and for numbers that no call returns. The text is never freed. */
+/* The letter and the number of what a call returned, as "E16", "L6", "L8 E16" or "Z9", and for 1
+ * to 8 as "C4". A2L_NOT_FOUND for A2L_OK and for numbers that no call returns. The text is never
+ * freed. */
 int32_t a2l_error_code(int32_t number, a2l_text *out);
 
 /* A sentence that says what it means, in English, without a full stop. As a2l_error_code. */

@@ -1,10 +1,13 @@
 /* For c_interface.sh: calls each function of addr2line.h, over the files of crates/linemap_cases/data, and prints the answers.
  *
  *     c_interface DATA COUNT      COUNT is how often a file is opened and closed, and how many damaged files there are
+ *     c_interface PLAIN PACKED SPLIT DWO STEP      PACKED is PLAIN with compressed sections, and DWO the split file of SPLIT so;
+ *                                                  each STEPth address is asked
  *
  * Where memory is refused for a call, it is made again, so that the output is the same. It is C and C++.
  */
 #include <addr2line.h>
+#include <elf.h>
 #include <fcntl.h>
 #include <inttypes.h>
 #include <stdio.h>
@@ -38,11 +41,9 @@ static int fail(const char *what) {
 
 static const char *data;
 
-static a2l_text file_of(const char *name) {
+static a2l_text map_of(const char *path) {
     a2l_text image = no_text;
-    char path[4096];
     struct stat about;
-    snprintf(path, sizeof path, "%s/%s", data, name);
     int file = open(path, O_RDONLY);
     if (file < 0 || fstat(file, &about) != 0) fail(path);
     void *map = mmap(NULL, (size_t)about.st_size, PROT_READ, MAP_PRIVATE, file, 0);
@@ -51,6 +52,12 @@ static a2l_text file_of(const char *name) {
     image.ptr = (const uint8_t *)map;
     image.len = (size_t)about.st_size;
     return image;
+}
+
+static a2l_text file_of(const char *name) {
+    char path[4096];
+    snprintf(path, sizeof path, "%s/%s", data, name);
+    return map_of(path);
 }
 
 static a2l_loader opened(const char *name) {
@@ -364,6 +371,192 @@ static void supplements(void) {
     }
 }
 
+/* ---- Files that are opened by flags */
+
+static int32_t open_with(a2l_text image, a2l_text sup, uint32_t flags, a2l_loader *loader) {
+    int32_t number = 0;
+    return AGAIN(a2l_open_with(image.ptr, image.len, sup.ptr, sup.len, flags, loader));
+}
+
+static void flags(void) {
+    a2l_text image = file_of("refers.elf"), sup = file_of("supplement.elf"), text = file_of("a.json");
+    a2l_loader loader = closed, bad = closed;
+    static const uint32_t unknown[] = {8, 9, 16, 0x80000000, UINT32_MAX};
+    for (uint32_t flags = 0; flags < 8; flags++) {
+        /* (what has no flag isn't read) */
+        int32_t number = open_with(image, flags & A2L_SUP ? sup : text, flags, &loader);
+        printf("flags %" PRIu32 ": ", flags);
+        print_number(number);
+        printf("\n");
+        ask_frames(&loader, 0x40, A2L_RAW);
+        a2l_close(&loader);
+    }
+    printf("a text: ");
+    print_number(open_with(text, no_text, A2L_DECOMPRESS, &loader));
+    printf(" as a supplement: ");
+    print_number(open_with(image, text, A2L_SUP, &loader));
+    printf(" ");
+    print_number(open_with(image, text, A2L_SUP | A2L_DECOMPRESS, &loader));
+    printf("\nunknown flags:");
+    for (size_t place = 0; place < sizeof unknown / sizeof *unknown; place++) {
+        printf(" ");
+        print_number(a2l_open_with(text.ptr, text.len, nothing, 0, unknown[place], &loader));
+        if (loader.opened) fail("opened by an unknown flag");
+    }
+    printf("\nnot closed: ");
+    print_number(open_with(image, no_text, A2L_IN_PLACE, &loader));
+    printf(" ");
+    print_number(a2l_open_with(image.ptr, image.len, nothing, 0, 8, &loader));
+    bad.opened = 2;
+    printf(" ");
+    print_number(a2l_open_with(image.ptr, image.len, nothing, 0, 0, &bad));
+    printf(" ");
+    print_number(a2l_close(&loader));
+    printf("\n");
+}
+
+/* ---- Files whose sections are compressed */
+
+static int is_same_text(a2l_text one, a2l_text other) { return one.len == other.len && memcmp(one.ptr, other.ptr, one.len) == 0; }
+
+static int is_same_place(const a2l_location *one, const a2l_location *other) {
+    return is_same_text(one->file, other->file) && one->line == other->line && one->column == other->column &&
+           one->has_file == other->has_file && one->has_line == other->has_line && one->discriminator == other->discriminator;
+}
+
+/* Both have the same places, frames, symbols and stretches; the number of frames. */
+static size_t compare_answers(a2l_loader *one, a2l_loader *other, uint64_t step) {
+    a2l_section text = no_section, other_text = no_section;
+    size_t sum = 0;
+    if (a2l_find_section(one, (const uint8_t *)".text", 5, &text) != A2L_OK) fail("no .text");
+    if (a2l_find_section(other, (const uint8_t *)".text", 5, &other_text) != A2L_OK) fail("no .text where it was compressed");
+    if (text.begin != other_text.begin || text.end != other_text.end) fail("another .text");
+    for (uint64_t address = text.begin; address < text.end; address += step) {
+        a2l_location place = no_location, other_place = no_location;
+        a2l_symbol symbol = no_symbol, other_symbol = no_symbol;
+        size_t count = 0, other_count = 0;
+        int32_t number = 0, of_one = AGAIN(a2l_find_location(one, address, &place));
+        int32_t of_other = AGAIN(a2l_find_location(other, address, &other_place));
+        if (of_one != of_other || !is_same_place(&place, &other_place)) fail("another place");
+        of_one = AGAIN(a2l_find_frames(one, address, A2L_RAW, &count));
+        of_other = AGAIN(a2l_find_frames(other, address, A2L_RAW, &other_count));
+        if (of_one != of_other || count != other_count) fail("other frames");
+        for (size_t place_in = 0; place_in < count; place_in++) {
+            a2l_frame frame = no_frame, other_frame = no_frame;
+            if (a2l_get_frame(one, place_in, &frame) != A2L_OK) fail("a frame is missing");
+            if (a2l_get_frame(other, place_in, &other_frame) != A2L_OK) fail("another frame is missing");
+            if (!is_same_text(frame.function, other_frame.function)) fail("another function");
+            if (!is_same_place(&frame.location, &other_frame.location)) fail("another place of a frame");
+            sum += frame.has_function;
+        }
+        of_one = a2l_find_symbol(one, address, A2L_RAW, &symbol);
+        of_other = a2l_find_symbol(other, address, A2L_RAW, &other_symbol);
+        if (of_one != of_other || !is_same_text(symbol.name, other_symbol.name)) fail("another symbol");
+    }
+    return sum;
+}
+
+/* The first section that is compressed. */
+static Elf64_Shdr *compressed_section(uint8_t *image) {
+    Elf64_Ehdr *header = (Elf64_Ehdr *)image;
+    Elf64_Shdr *sections = (Elf64_Shdr *)(image + header->e_shoff);
+    for (size_t place = 0; place < header->e_shnum; place++)
+        if (sections[place].sh_flags & SHF_COMPRESSED) return &sections[place];
+    fail("no section is compressed");
+    return NULL;
+}
+
+/* A file is damaged where its sections are compressed, refused, and opened once it is mended. */
+static void damage_packed(a2l_text packed) {
+    static const char *const damage[] = {"none", "stream", "size", "header", "past the end", "zstd", "another kind"};
+    uint8_t *bytes = NULL;
+    while (bytes == NULL) bytes = (uint8_t *)malloc(packed.len);
+    for (int kind = 0; kind < 7; kind++) {
+        a2l_loader loader = closed;
+        a2l_text image = {bytes, packed.len};
+        memcpy(bytes, packed.ptr, packed.len);
+        Elf64_Shdr *section = compressed_section(bytes);
+        Elf64_Chdr *header = (Elf64_Chdr *)(bytes + section->sh_offset);
+        if (kind == 1) bytes[section->sh_offset + sizeof *header] ^= 0xff;
+        if (kind == 2) header->ch_size = UINT64_MAX / 2;
+        if (kind == 3) section->sh_size = sizeof *header - 1;
+        if (kind == 4) section->sh_size = packed.len;
+        if (kind == 5) header->ch_type = 2;
+        if (kind == 6) header->ch_type = 99;
+        printf("damage: %s: ", damage[kind]);
+        print_number(open_with(image, no_text, A2L_DECOMPRESS, &loader));
+        printf(" ");
+        if (loader.opened) a2l_close(&loader);
+        print_number(open_with(image, no_text, A2L_DECOMPRESS | A2L_IN_PLACE, &loader));
+        printf(" as a supplement: ");
+        if (loader.opened) a2l_close(&loader);
+        print_number(open_with(packed, image, A2L_DECOMPRESS | A2L_SUP, &loader));
+        if (loader.opened) a2l_close(&loader);
+        printf(" without the flag: ");
+        print_number(open_with(image, no_text, 0, &loader));
+        printf("\n");
+        if (loader.opened) fail("opened without the flag");
+        if (open_with(packed, no_text, A2L_DECOMPRESS, &loader) != A2L_OK) fail("not opened once it is mended");
+        a2l_close(&loader);
+    }
+    free(bytes);
+}
+
+static void compressed(const char *plain_path, const char *packed_path, uint64_t step) {
+    a2l_text plain = map_of(plain_path), packed = map_of(packed_path);
+    static const uint32_t ways[] = {A2L_DECOMPRESS, A2L_DECOMPRESS | A2L_IN_PLACE};
+    a2l_loader one = closed, other = closed;
+    printf("compressed: ");
+    print_number(open_with(packed, no_text, 0, &other));
+    printf(" ");
+    print_number(open_with(packed, no_text, A2L_IN_PLACE, &other));
+    printf("\n");
+    if (open_with(plain, no_text, 0, &one) != A2L_OK) fail(plain_path);
+    for (size_t way = 0; way < 4; way++) {
+        uint32_t flags = ways[way % 2];
+        a2l_text image = way < 2 ? packed : plain;
+        uint8_t *bytes = NULL;
+        if (!(flags & A2L_IN_PLACE)) {
+            while (bytes == NULL) bytes = (uint8_t *)malloc(image.len);
+            memcpy(bytes, image.ptr, image.len);
+            image.ptr = bytes;
+        }
+        if (open_with(image, no_text, flags, &other) != A2L_OK) fail(packed_path);
+        if (bytes) memset(bytes, 0xff, image.len);
+        free(bytes);
+        if (compare_answers(&one, &other, step) == 0) fail("no function has a name");
+        a2l_close(&other);
+    }
+    a2l_close(&one);
+    printf("the same answers, compressed or not\n");
+    damage_packed(packed);
+}
+
+/* A unit's split file, compressed. */
+static void compressed_split(const char *path, const char *packed_path) {
+    a2l_text image = map_of(path), packed = map_of(packed_path);
+    for (uint32_t flags = 0; flags <= A2L_DECOMPRESS; flags += A2L_DECOMPRESS)
+        for (int is_in_place = 0; is_in_place < 2; is_in_place++) {
+            a2l_loader loader = closed;
+            a2l_range range = no_range;
+            size_t count = 0, written = 0;
+            int32_t number = open_with(image, no_text, flags | A2L_IN_PLACE, &loader);
+            if (number != A2L_OK) fail(path);
+            a2l_find_ranges(&loader, 0, UINT64_MAX);
+            number = AGAIN(a2l_next_ranges(&loader, &range, 1, &written));
+            number = AGAIN(a2l_find_loads(&loader, range.address, &count));
+            if (number != A2L_OK || count != 1) fail("no load");
+            printf("a split file that is compressed, flags %" PRIu32 ": ", flags);
+            print_number(is_in_place ? AGAIN(a2l_answer_load_in_place(&loader, 0, packed.ptr, packed.len))
+                                     : AGAIN(a2l_answer_load(&loader, 0, packed.ptr, packed.len)));
+            number = AGAIN(a2l_find_frames(&loader, range.address, A2L_RAW, &count));
+            a2l_frame frame = no_frame;
+            a2l_get_frame(&loader, 0, &frame);
+            printf(frame.has_function ? ", and has functions\n" : "\n");
+            a2l_close(&loader);
+        }
+}
+
 static void split_file(const char *brought, int is_in_place) {
     a2l_loader loader = opened("split.elf");
     a2l_load load = no_load;
@@ -412,7 +605,7 @@ static void split_file(const char *brought, int is_in_place) {
 static void refusals(void) {
     a2l_text code = no_text, sentence = no_text;
     int last = -1000, count = 0;
-    for (int32_t number = -400; number <= 400; number++) {
+    for (int32_t number = -500; number <= 500; number++) {
         int has_code = a2l_error_code(number, &code) == A2L_OK;
         int has_sentence = a2l_error_sentence(number, &sentence) == A2L_OK;
         if (has_code != has_sentence) fail("a code without a sentence");
@@ -452,6 +645,11 @@ static void many(size_t count) {
 }
 
 int main(int argc, char **argv) {
+    if (argc == 6) {
+        compressed(argv[1], argv[2], strtoul(argv[5], NULL, 10));
+        compressed_split(argv[3], argv[4]);
+        return 0;
+    }
     if (argc != 3) return 2;
     data = argv[1];
     size_t count = strtoul(argv[2], NULL, 10);
@@ -460,6 +658,7 @@ int main(int argc, char **argv) {
     answers();
     copies();
     supplements();
+    flags();
     split_file("split.dwo", 0);
     split_file("split.dwo", 1);
     split_file("other.dwo", 0);

@@ -95,6 +95,25 @@ stack_cases() { # FOLDER
     case_of 'backtrace | sed -n "s|/[^ ]*/||; s/:[0-9]*$//; /backtrace.c/p"'
 }
 
+# A program and its split file, and the same with compressed sections.
+pack() { # PROGRAM
+    mkdir -p packing
+    cp "$1" packing/plain
+    objcopy --compress-debug-sections=zlib packing/plain packing/packed || return
+    objcopy --compress-debug-sections=zlib-gnu packing/plain packing/packed_gnu || return
+    (
+        cd packing || exit
+        cc -g -gsplit-dwarf -O1 -c -o split.o "$top/tests/c_interface.c" $flags && cc -o split split.o $flags || exit
+        objcopy --compress-debug-sections=zlib split.dwo packed.dwo
+    )
+}
+
+compressed_cases() { # FOLDER
+    export PATH="$work/$1:$PATH"
+    cd "$work/packing" || return
+    case_of 'c_interface plain packed split packed.dwo 1'
+}
+
 # Each answer comes before the next line is written.
 turns() { # FOLDER
     local line
@@ -156,10 +175,10 @@ compare() { # GROUP FOLDER
 }
 
 # What the caller prints is what the program does.
-is_lookup() { # FOLDER FILE
+is_lookup() { # FOLDER FILE [WORD..]
     local words status=0
     for words in "" -a -f -i -fi -afip -afis -fiC --all; do
-        "$LINEMAP" lookup -e "$2" $words < addresses > wanted 2> /dev/null
+        "$LINEMAP" lookup -e "$2" "${@:3}" $words < addresses > wanted 2> /dev/null
         "$1/addr2line" -e "$2" $words < addresses > found 2> /dev/null
         cmp wanted found || { status=1; echo "addr2line -e $2 $words"; diff wanted found | head -n 5; }
     done
@@ -192,6 +211,15 @@ cc -g -O1 -o steps "$top/examples/steps.c"
 for file in steps "$data"/a.elf "$data"/split.elf "$data"/symbols.elf "$first/addr2line"; do
     check "addr2line as linemap lookup: $(basename "$file")" is_lookup "$first" "$file"
 done
+packing="packing/plain packing/packed packing/split packing/packed.dwo"
+check "compressed sections" pack "$first/c_interface"
+check "what is answered where sections are compressed" compare compressed_cases "$first"
+# (these programs are larger)
+printf '%x\n' $(seq 0 7 $((0x6000))) > addresses
+check "addr2line as linemap lookup: compressed" is_lookup "$first" packing/packed --decompress
+check "addr2line as linemap lookup: .zdebug_*" is_lookup "$first" packing/packed_gnu --decompress
+cp packing/packed.dwo packing/split.dwo
+check "addr2line as linemap lookup: a compressed split file" is_lookup "$first" packing/split --decompress
 flags_of_shared="$flags" flags="-I$prefix/include $prefix/lib/libaddr2line.a"
 check "cc builds the callers over the archive" build by-archive cc -O2
 check "what the callers print, over the archive" compare cases by-archive
@@ -211,6 +239,7 @@ if "${sanitized[@]}" -o nothing nothing.c > said 2>&1 && ./nothing >> said 2>&1;
     # (what is freed is given back soon, so that memory doesn't grow)
     check "c_interface with sanitizers" env ASAN_OPTIONS=quarantine_size_mb=1 sanitized-by-cc/c_interface "$data" 400
     check "what the callers print, with sanitizers" compare cases sanitized-by-cc
+    check "compressed sections, with sanitizers" sanitized-by-cc/c_interface $packing 1
     check "a program's own stack, with sanitizers" sanitized-by-cc/backtrace
 else
     lacking+=("sanitizers ($(head -n 1 said))")
@@ -218,8 +247,8 @@ fi
 if has valgrind && ! { cc -o nothing nothing.c && valgrind -q ./nothing; } > said 2>&1; then
     lacking+=("valgrind ($(head -n 1 said))")
 elif type -P valgrind > /dev/null; then
-    for words in "c_interface $data 100" "addr2line -e $data/split.elf -afip 0x1000 0x1003 zz" "addr2line -e steps --all" \
-        backtrace; do
+    for words in "c_interface $data 100" "c_interface $packing 97" "addr2line -e $data/split.elf -afip 0x1000 0x1003 zz" \
+        "addr2line -e steps --all" backtrace; do
         check "valgrind: ${words%% *}" valgrind -q --leak-check=full --show-leak-kinds=definite,possible --error-exitcode=9 \
             --errors-for-leak-kinds=definite,possible "$first/"$words
     done
@@ -259,6 +288,7 @@ refuse_some() { # WORD..
 cc -O2 -shared -fPIC -o refuse.so "$top/bench/refuse.c"
 check "each allocation refused: c_interface" refuse_each "$first/c_interface" "$data" 0
 allocations="$(tail -n 1 said)"
+check "each allocation refused: compressed sections" refuse_each "$first/c_interface" $packing 997
 check "each allocation refused: addr2line" refuse_some "$first/addr2line" -e "$data/split.elf" -afip 0x1000 0x1003 0xfff
 
 [ ${#lacking[@]} = 0 ] || echo "left out, since it isn't there: ${lacking[*]}"

@@ -6,7 +6,8 @@ usage: tests/header.py [ARCHIVE]
 - The calls and their parameters are those of the exports in crates/addr2line_c/src, and of ARCHIVE where one is named.
 - The structs have the fields of the `#[repr(C)]` structs there, in that order, of the same types.
 - Sizes and offsets are the same by C's rules, by a C compiler where there is one, and in examples/python/addr2line.py.
-- The numbers are those of the constants in crates/addr2line_c/src, and E1 to E33 and L1 to L7 count from 100 and 200.
+- The numbers are those of the constants in crates/addr2line_c/src, and E1 to E33, L1 to L7 and Z1 to Z12 count from 100, 200
+  and 400.
 """
 import ctypes
 import glob
@@ -199,8 +200,8 @@ def main():
     else:
         print("no sources: the header is compared with what there is else")
     for name, number in numbers.items():
-        if found := re.fullmatch(r"([EL])(\d+)", name):
-            wanted = 300 if name == "L8" else {"E": 100, "L": 200}[found[1]] + int(found[2])
+        if found := re.fullmatch(r"([ELZ])(\d+)", name):
+            wanted = 300 if name == "L8" else {"E": 100, "L": 200, "Z": 400}[found[1]] + int(found[2])
             compare(name, number, wanted, "the header", "the rule")
     compare_compiler(structs)
     compare_python(structs)

@@ -4,8 +4,9 @@
  *     ./addr2line -e FILE [-afipsC] [ADDRESS..]
  *
  * Addresses are hexadecimal, and come from the standard input where none is given; then each answer is written before
- * the program waits for more, as `perf` needs it. The file is mapped, and nothing of it is copied. Split files (.dwo) are
- * looked for where it says, and mapped too. `--all` prints all places of the file, one for each address that begins one.
+ * the program waits for more, as `perf` needs it. The file is mapped, and nothing of it is copied unless sections of it are
+ * compressed (gcc -gz): these are always decompressed. Split files (.dwo) are looked for where it says, mapped, and
+ * decompressed too. `--all` prints all places of the file, one for each address that begins one.
  */
 #include <addr2line.h>
 #include <errno.h>
@@ -268,7 +269,7 @@ static void answer_all(void) {
     if (why != A2L_PAST_END) say_refusal("--all", why);
 }
 
-/* Maps the file and opens it, or says why it isn't opened. */
+/* Maps the file and opens it, decompressed if it needs that, or says why it isn't opened. */
 static int open_file(void) {
     a2l_text image;
     errno = 0;
@@ -276,7 +277,8 @@ static int open_file(void) {
         fprintf(stderr, "addr2line: %s: %s\n", options.file, strerror(errno));
         return 0;
     }
-    int32_t why = a2l_open_in_place(image.ptr, image.len, &loader);
+    uint32_t flags = A2L_IN_PLACE | A2L_DECOMPRESS;
+    int32_t why = a2l_open_with(image.ptr, image.len, (const uint8_t *)"", 0, flags, &loader);
     if (why != A2L_OK) say_refusal(options.file, why);
     return why == A2L_OK;
 }

@@ -4,5 +4,5 @@ mod KeptAnswers
 mod KeptStretches
 mod LoadNumbers
 mod MemoryNumber
-mod OneFileLoads
 mod WrittenSlices
+mod OpenNumbers

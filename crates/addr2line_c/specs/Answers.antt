@@ -12,6 +12,7 @@ use Rattle.addr2line_context.specs.RangeWalks.{stretches_left}
 use Rattle.addr2line_context.specs.Repetition.{Listing, no_items, prepend}
 use Rattle.addr2line_split.specs.ElfSymbols.{NamedSymbol}
 use Rattle.addr2line_split.specs.SplitLoading.{file_for}
+use Rattle.addr2line_loader.specs.DecompressedFiles.{decompressed_or_same}
 use Rattle.addr2line_loader.specs.SourceAnswers.{SourceFindsFrames}
 use Rattle.addr2line_c.specs.COutputs.{has, location_out, location_written, or_empty, range_out, range_written}
 use Rattle.addr2line_c.specs.Copies.{frame_of, stretch_of}
@@ -137,9 +138,15 @@ pub record WritesLoad (load : SplitLoad) (out : A2lLoad) : Type 0 where
   pub has_directory : out.has_directory ≡ has load.comp_dir
   pub has_name : out.has_name ≡ has load.path
 
+-- the bytes of a split file, decompressed, if they can be, or as they are
+abbrev pub bytes_by : Bool → List ℕ → List ℕ
+bytes_by true bytes = decompressed_or_same bytes
+bytes_by false bytes = bytes
+
 -- the split file of a load that some bytes are; none for a load without a name
-abbrev pub split_file_of : SplitLoad → List ℕ → Option DwarfFile
-split_file_of load bytes = option_and_then (λ name. file_for load (Some bytes)) load.path
+abbrev pub split_file_of : Bool → SplitLoad → List ℕ → Option DwarfFile
+split_file_of decompress load bytes =
+    option_and_then (λ name. file_for load (Some (bytes_by decompress bytes))) load.path
 
 -- the unit of a token is decided by a file, or was before; or out of memory
 pub record Decides (token : ℕ) (file : Option DwarfFile) (old new : OpenFile) (result : ℤ)
@@ -161,7 +168,7 @@ DecidesIfAny token None old new result = (result ≡ WRONG_FILE) × (new ≡ old
 abbrev pub AnswersLoad : List ℕ → Option (SplitLoad × ℕ) → OpenFile → OpenFile → ℤ → Type 0
 AnswersLoad bytes None old new result = (result ≡ PAST_END) × (new ≡ old)
 AnswersLoad bytes (Some load) old new result =
-    DecidesIfAny load.1 (split_file_of load.0 bytes) old new result
+    DecidesIfAny load.1 (split_file_of old.decompresses load.0 bytes) old new result
     ⊎ ((result ≡ error_number Memory) × (new ≡ old))
 
 -- an answer by no file

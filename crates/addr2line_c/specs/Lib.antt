@@ -5,6 +5,7 @@ pub mod COutputs
 pub mod Sources
 pub mod Handles
 pub mod Lending
+pub mod OpenFlags
 pub mod OpenHandles
 pub mod Answers
 pub mod RefusalTexts

@@ -4,6 +4,8 @@ use Rattle.addr2line_context.specs.Error.{Error}
 use Rattle.addr2line_context.specs.Error.TheVariants.{Memory, UnexpectedEof, BadUnsignedLeb128, BadSignedLeb128, UnknownReservedLength, UnsupportedOffset, UnsupportedAddressSize, AbbreviationTagZero, AttributeNameZero, AttributeFormZero, InvalidAbbreviationChildren, DuplicateAbbreviationCode, InvalidAbbreviationCode, UnknownForm, InvalidImplicitConst, UnknownVersion, UnsupportedUnitType, UnsupportedSegmentSize, OffsetOutOfBounds, NoEntryAtGivenOffset, MissingUnitDie, AddressOverflow, UnknownRangeListsEntry, UnknownLocListsEntry, MinimumInstructionLengthZero, MaximumOperationsPerInstructionZero, LineRangeZero, OpcodeBaseZero, MissingFileEntryFormatPath, ExpectedStringAttributeValue, BadUtf8, OffsetSumOverflow, NoSuchUnit}
 use Rattle.addr2line_split.specs.LoadError.{LoadError}
 use Rattle.addr2line_split.specs.LoadError.TheVariants as load
+use Rattle.addr2line_loader.specs.DecompressError.{DecompressError}
+use Rattle.addr2line_loader.specs.DecompressError.TheVariants as decompress
 use Rattle.addr2line_c.specs.declared.numbers.TheConstants.{OK, NOT_FOUND, PAST_END, NO_ROOM, CLOSED, BAD_LOADER, ALREADY_OPEN}
 
 -- the n of a refusal En
@@ -59,6 +61,24 @@ load_error_number load.NeedsRelocation = pos 207
 load_error_number (load.Dwarf Memory) = pos 201
 load_error_number (load.Dwarf e) = pos (300 + error_ordinal e)
 
+-- the number of a refusal of a file that is decompressed: out of memory, and what the file itself
+-- is refused by, are those of a file that is opened as it is
+abbrev pub decompress_error_number : DecompressError → ℤ
+decompress_error_number decompress.Memory = load_error_number load.Memory
+decompress_error_number (decompress.Image e) = load_error_number e
+decompress_error_number decompress.OverlappingHeaders = pos 401
+decompress_error_number (decompress.OverlappingSection _) = pos 402
+decompress_error_number (decompress.SectionCut _) = pos 403
+decompress_error_number (decompress.CompressedNames _) = pos 404
+decompress_error_number (decompress.HeaderCut _) = pos 405
+decompress_error_number (decompress.Zstandard _) = pos 406
+decompress_error_number (decompress.UnknownCompression _ _) = pos 407
+decompress_error_number (decompress.ImpossibleSize _) = pos 408
+decompress_error_number (decompress.Stream _ _) = pos 409
+decompress_error_number decompress.TooLarge = pos 410
+decompress_error_number (decompress.SharedNames _) = pos 411
+decompress_error_number (decompress.NameCut _) = pos 412
+
 -- ---- of results
 
 -- of a call that is done, or refused
@@ -91,6 +111,15 @@ loaded_number (Err e) = load_error_number e
 abbrev pub IsLoadedOrNoMemory : {A : Type 0} → ℤ → Result A LoadError → Type 0
 IsLoadedOrNoMemory result loaded =
     (result ≡ loaded_number loaded) ⊎ (result ≡ load_error_number load.Memory)
+
+-- the same of a file that is decompressed
+abbrev pub decompressed_number : {A : Type 0} → Result A DecompressError → ℤ
+decompressed_number (Ok x) = OK
+decompressed_number (Err e) = decompress_error_number e
+
+abbrev pub IsDecompressedOrNoMemory : {A : Type 0} → ℤ → Result A DecompressError → Type 0
+IsDecompressedOrNoMemory result loaded =
+    (result ≡ decompressed_number loaded) ⊎ (result ≡ load_error_number load.Memory)
 
 -- the number, or that of out of memory
 abbrev pub IsOrNoMemory : ℤ → ℤ → Type 0

@@ -6,7 +6,8 @@ use Rattle.std.specs.Prelude.{ℕ, ◌-◌, ℤ, pos, negsuc, nat_le, List, [], 
 -- of the numbers from 1 on
 abbrev pub call_codes : List (List ℕ)
 call_codes =
-    codes "C1" ∷ codes "C2" ∷ codes "C3" ∷ codes "C4" ∷ codes "C5" ∷ codes "C6" ∷ codes "C7" ∷ []
+    codes "C1" ∷ codes "C2" ∷ codes "C3" ∷ codes "C4" ∷ codes "C5" ∷ codes "C6" ∷ codes "C7" ∷
+    codes "C8" ∷ []
 
 -- from 101 on: why debugging information can't be read
 abbrev pub error_codes : List (List ℕ)
@@ -34,6 +35,12 @@ dwarf_codes =
     codes "L8 E27" ∷ codes "L8 E28" ∷ codes "L8 E29" ∷ codes "L8 E30" ∷ codes "L8 E31" ∷
     codes "L8 E32" ∷ codes "L8 E33" ∷ []
 
+-- from 401 on: why the compressed sections of a file that isn't opened can't be decompressed
+abbrev pub decompress_codes : List (List ℕ)
+decompress_codes =
+    codes "Z1" ∷ codes "Z2" ∷ codes "Z3" ∷ codes "Z4" ∷ codes "Z5" ∷ codes "Z6" ∷ codes "Z7" ∷
+    codes "Z8" ∷ codes "Z9" ∷ codes "Z10" ∷ codes "Z11" ∷ codes "Z12" ∷ []
+
 -- ---- sentences, of the same
 
 abbrev pub call_sentences : List (List ℕ)
@@ -42,7 +49,7 @@ call_sentences =
     codes "the number is past the last, or no stretch is left" ∷
     codes "there is no room for results" ∷ codes "the loader is closed" ∷
     codes "the loader is neither open nor closed" ∷ codes "the loader is already open" ∷
-    codes "the bytes are not the split file of this unit" ∷ []
+    codes "the bytes are not the split file of this unit" ∷ codes "there is no such flag" ∷ []
 
 abbrev pub error_sentences : List (List ℕ)
 error_sentences =
@@ -83,6 +90,22 @@ load_sentences =
     codes "a section of debugging information is compressed" ∷
     codes "a linker has yet to fill in the addresses of a section of debugging information" ∷ []
 
+abbrev pub decompress_sentences : List (List ℕ)
+decompress_sentences =
+    codes "the section headers overlap the file's header" ∷
+    codes "a section overlaps the section headers" ∷
+    codes "the file ends before a section does" ∷
+    codes "a section holds names and is compressed" ∷
+    codes "a section ends in its compression header" ∷
+    codes
+    "a section is compressed by zstd; run objcopy --decompress-debug-sections on the file first" ∷
+    codes "a section has an unknown compression type" ∷
+    codes "a section is too small for the size that it claims" ∷
+    codes "a section has an invalid stream" ∷
+    codes "the decompressed image is too large for its ELF class" ∷
+    codes "a section holds more than the names of sections, which change" ∷
+    codes "the name of a section doesn't end" ∷ []
+
 -- ---- the text of a number
 
 -- that of the number n, among texts of the numbers from one on
@@ -98,13 +121,15 @@ or_else None other = other
 abbrev pub code_text : ℕ → Option (List ℕ)
 code_text n =
     or_else (text_from 1 call_codes n) (or_else (text_from 101 error_codes n)
-    (or_else (text_from 201 load_codes n) (text_from 302 dwarf_codes n)))
+    (or_else (text_from 201 load_codes n) (or_else (text_from 302 dwarf_codes n)
+    (text_from 401 decompress_codes n))))
 
 -- the sentence
 abbrev pub sentence_text : ℕ → Option (List ℕ)
 sentence_text n =
     or_else (text_from 1 call_sentences n) (or_else (text_from 101 error_sentences n)
-    (or_else (text_from 201 load_sentences n) (text_from 302 (drop 1 error_sentences) n)))
+    (or_else (text_from 201 load_sentences n) (or_else (text_from 302 (drop 1 error_sentences) n)
+    (text_from 401 decompress_sentences n))))
 
 -- the text of a number, which one below 0 hasn't
 abbrev pub of_number : (ℕ → Option (List ℕ)) → ℤ → Option (List ℕ)

@@ -9,6 +9,7 @@ mod handle;
 mod load_sources;
 mod numbers;
 mod open_file;
+mod open_with;
 mod opening;
 mod places;
 pub mod refusal_laws;

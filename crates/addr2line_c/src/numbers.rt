@@ -1,9 +1,10 @@
 //! The numbers that calls return.
 
 ghost use Rattle.std.specs.Prelude.{◌≡◌, pos};
-ghost use Rattle.addr2line_c.specs.Numbers.{done_number, error_number, error_ordinal, load_error_number, refused_number};
+ghost use Rattle.addr2line_c.specs.Numbers.{decompress_error_number, done_number, error_number, error_ordinal, load_error_number, refused_number};
 
 use addr2line_context::Error;
+use addr2line_loader::DecompressError;
 use addr2line_split::LoadError;
 
 pub const OK: i32 = 0;
@@ -21,6 +22,8 @@ pub const BAD_LOADER: i32 = 5;
 pub const ALREADY_OPEN: i32 = 6;
 
 pub const WRONG_FILE: i32 = 7;
+
+pub const UNKNOWN_FLAG: i32 = 8;
 
 // The n of a refusal En.
 fn error_ordinal(error: Error) -> i32
@@ -84,6 +87,28 @@ pub(crate) fn load_error_number(error: LoadError) -> i32
         LoadError::NeedsRelocation => 207,
         LoadError::Dwarf(Error::Memory) => 201,
         LoadError::Dwarf(error) => 300 + error_ordinal(error),
+    }
+}
+
+// That of a refusal of a file that is decompressed.
+pub(crate) fn decompress_error_number(error: DecompressError) -> i32
+    ensures { result ≡ decompress_error_number error }
+{
+    match error {
+        DecompressError::Memory => load_error_number(LoadError::Memory),
+        DecompressError::Image(error) => load_error_number(error),
+        DecompressError::OverlappingHeaders => 401,
+        DecompressError::OverlappingSection(_) => 402,
+        DecompressError::SectionCut(_) => 403,
+        DecompressError::CompressedNames(_) => 404,
+        DecompressError::HeaderCut(_) => 405,
+        DecompressError::Zstandard(_) => 406,
+        DecompressError::UnknownCompression(_, _) => 407,
+        DecompressError::ImpossibleSize(_) => 408,
+        DecompressError::Stream(_, _) => 409,
+        DecompressError::TooLarge => 410,
+        DecompressError::SharedNames(_) => 411,
+        DecompressError::NameCut(_) => 412,
     }
 }
 

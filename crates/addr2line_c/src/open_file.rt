@@ -1,27 +1,27 @@
 //! What a handle owns while it is open: a loaded file, and the last answers, which C reads one
 //! after the other.
 
-ghost use Rattle.std.specs.Prelude.{◌≡◌, [], ◌≤◌, map, length, slice_get, Ok, IfErr, IfOk, IsOk, OnErr};
+ghost use Rattle.std.specs.Prelude.{◌≡◌, [], true, false, map, Ok, IfErr, IfOk, IsOk, OnErr};
 ghost use Rattle.addr2line_context.specs.BorrowedFrames.{frames_left};
-ghost use Rattle.addr2line_context.specs.Calls.{ReturnsAsOrNoMemory};
-ghost use Rattle.addr2line_context.specs.Contexts.{stretches};
 ghost use Rattle.addr2line_context.specs.Error.TheVariants.{Memory};
 ghost use Rattle.addr2line_context.specs.Preloads.{load_of_item};
-ghost use Rattle.addr2line_context.specs.RangeWalks.{stretches_left};
 ghost use Rattle.addr2line_context.specs.SettledLookups.{loads_in};
 ghost use Rattle.addr2line_split.specs.ImageLoading.{LoadsAsOrNoMemory};
+ghost use Rattle.addr2line_loader.specs.DecompressedFiles.{decompressed_file};
+ghost use Rattle.addr2line_loader.specs.DecompressResults.{DecompressesAsOrNoMemory};
 ghost use Rattle.addr2line_loader.specs.LoadedFiles.{loaded_file};
 ghost use Rattle.addr2line_loader.specs.ResolvedFiles.{answered_context};
 ghost use Rattle.addr2line_c.specs.Answers.{KeepsFrames, KeepsNext, KeepsStretches};
-ghost use Rattle.addr2line_c.specs.Copies.{CopiesOrNoMemory, frame_of};
+ghost use Rattle.addr2line_c.specs.Copies.{frame_of};
+ghost use Rattle.addr2line_c.specs.OpenHandles.{IsNew};
 ghost use Rattle.addr2line_c.specs.ShownFrames.{shown_frame};
 
 use crate::copies::{OwnedFrame, OwnedStretch};
-use crate::load_sources::{NoFiles, OneFile};
+use crate::load_sources::NoFiles;
 use addr2line_context::{Error, FrameIter, RangeWalk, Reader, SplitDwarfLoad, UnitToken};
-use addr2line_loader::Loader;
 use addr2line_loader::stretches::next_place;
-use addr2line_split::{ImageReader, LoadError, load_split};
+use addr2line_loader::{DecompressError, Loader};
+use addr2line_split::{ImageReader, LoadError};
 use bytes::Bytes;
 use std::alloc::Global;
 
@@ -29,6 +29,8 @@ use std::alloc::Global;
 #[derive(Drop)]
 pub struct OpenFile {
     pub loader: Loader,
+    // Whether compressed sections are decompressed, of split files too.
+    pub decompresses: bool,
     // The frames of the last address.
     pub frames: Vec<OwnedFrame>,
     // How far the walk over stretches came.
@@ -69,21 +71,40 @@ impl OpenFile {
     ) -> Result<OpenFile, LoadError>
         ensures file { LoadsAsOrNoMemory (λ f. f.loader.file) result
             (loaded_file image supplement) }
-        ensures frames { IfOk result (λ f. f.frames.items ≡ []) }
-        ensures loads { IfOk result (λ f. f.loads.items ≡ []) }
-        ensures walk { IfOk result (λ f.
-            stretches_left f.loader.file.context.context.units f.walk
-            ≡ stretches f.loader.file.context.context 0 0) }
+        ensures new { IfOk result (λ f. IsNew false f) }
     {
         let loader = Loader::from_bytes(alloc, image, supplement)?;
-        Ok(OpenFile {
+        Ok(OpenFile::over(alloc, loader, false))
+    }
+
+    /// The same with compressed sections decompressed. Where there are none, it shares the bytes.
+    pub(crate) fn load_decompressed(
+        alloc: Global,
+        image: Bytes,
+        supplement: Option<Bytes>,
+    ) -> Result<OpenFile, DecompressError>
+        ensures file { DecompressesAsOrNoMemory (λ f. f.loader.file) result
+            (decompressed_file image supplement) }
+        ensures new { IfOk result (λ f. IsNew true f) }
+    {
+        let loader = Loader::from_bytes_decompressed(alloc, image, supplement)?;
+        Ok(OpenFile::over(alloc, loader, true))
+    }
+
+    // A file that is loaded, of which nothing was asked.
+    fn over(alloc: Global, loader: Loader, decompresses: bool) -> OpenFile
+        ensures loader { result.loader ≡ loader }
+        ensures new { IsNew decompresses result }
+    {
+        OpenFile {
             loader,
+            decompresses,
             frames: Vec::new(alloc),
             walk: RangeWalk::new(0, 0),
             stretches: Vec::new(alloc),
             loads: Vec::new(alloc),
             symbol: String::new(alloc),
-        })
+        }
     }
 
     // Copies the frames of an address over those that are kept, which are none.

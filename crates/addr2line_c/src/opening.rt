@@ -1,9 +1,10 @@
 //! Opening and closing.
 
-ghost use Rattle.std.specs.Prelude.{◌≡◌, ◌≢◌, [], Some, None, Ok};
+ghost use Rattle.std.specs.Prelude.{◌≡◌, ◌≢◌, ◌⊎◌, false, Some, None};
 ghost use Rattle.addr2line_loader.specs.LoadedFiles.{loaded_file};
+ghost use Rattle.addr2line_split.specs.LoadError.TheVariants.{Memory};
 ghost use Rattle.addr2line_c.specs.OpenHandles.{IsOpenOver};
-ghost use Rattle.addr2line_c.specs.Numbers.{IsLoadedOrNoMemory, loaded_number, not_closed_number, refused_number};
+ghost use Rattle.addr2line_c.specs.Numbers.{IsLoadedOrNoMemory, load_error_number, not_closed_number, refused_number};
 
 use crate::handle::Handle;
 use crate::numbers::{ALREADY_OPEN, BAD_LOADER, OK, load_error_number, refused_number};
@@ -13,7 +14,7 @@ use bytes::Bytes;
 use std::alloc::Global;
 
 // The number for a loader that isn't closed, by its first word.
-fn not_closed_number(opened: u32) -> i32
+pub(crate) fn not_closed_number(opened: u32) -> i32
     ensures { result ≡ not_closed_number opened }
 {
     if opened == 1 {
@@ -23,17 +24,13 @@ fn not_closed_number(opened: u32) -> i32
     }
 }
 
-// Opens a closed handle over bytes that it shares.
-fn open_over(alloc: Global, image: Bytes, supplement: Option<Bytes>, handle: &mut Handle) -> i32
+// Opens a closed handle with a file, in a box of its own.
+pub(crate) fn open_file(alloc: Global, file: OpenFile, handle: &mut Handle) -> i32
     requires { handle.old.opened ≡ 0 }
-    ensures number { IsLoadedOrNoMemory result (loaded_file image supplement) }
-    ensures file { result ≡ OK → IsOpenOver image supplement handle.new }
+    ensures number { (result ≡ OK) ⊎ (result ≡ load_error_number Memory) }
+    ensures file { result ≡ OK → (handle.new.opened ≡ 1) × (handle.new.file ≡ file) }
     ensures same { result ≢ OK → handle.new ≡ handle.old }
 {
-    let file = match OpenFile::load(alloc, image, supplement) {
-        Ok(file) => file,
-        Err(error) => return load_error_number(error),
-    };
     match Box::new(alloc, file) {
         Ok(file) => {
             handle.put(file);
@@ -43,12 +40,30 @@ fn open_over(alloc: Global, image: Bytes, supplement: Option<Bytes>, handle: &mu
     }
 }
 
+// Opens a closed handle over bytes that it shares.
+pub(crate) fn open_over(
+    alloc: Global,
+    image: Bytes,
+    supplement: Option<Bytes>,
+    handle: &mut Handle,
+) -> i32
+    requires { handle.old.opened ≡ 0 }
+    ensures number { IsLoadedOrNoMemory result (loaded_file image supplement) }
+    ensures file { result ≡ OK → IsOpenOver false image supplement handle.new }
+    ensures same { result ≢ OK → handle.new ≡ handle.old }
+{
+    match OpenFile::load(alloc, image, supplement) {
+        Ok(file) => open_file(alloc, file, handle),
+        Err(error) => load_error_number(error),
+    }
+}
+
 /// Opens a handle over a copy of the bytes of a file.
 #[unsafe(no_mangle)]
 pub extern "C" fn a2l_open(alloc: Global, image: &[u8], handle: &mut Handle) -> i32
     ensures number { handle.old.opened ≡ 0
         → IsLoadedOrNoMemory result (loaded_file image.now None) }
-    ensures file { result ≡ OK → IsOpenOver image.now None handle.new }
+    ensures file { result ≡ OK → IsOpenOver false image.now None handle.new }
     ensures same { result ≢ OK → handle.new ≡ handle.old }
     ensures refused { handle.old.opened ≢ 0 → result ≡ not_closed_number handle.old.opened }
 {
@@ -66,7 +81,7 @@ pub extern "C" fn a2l_open(alloc: Global, image: &[u8], handle: &mut Handle) -> 
 fn open_copies(alloc: Global, image: &[u8], sup: &[u8], handle: &mut Handle) -> i32
     requires { handle.old.opened ≡ 0 }
     ensures number { IsLoadedOrNoMemory result (loaded_file image.now (Some sup.now)) }
-    ensures file { result ≡ OK → IsOpenOver image.now (Some sup.now) handle.new }
+    ensures file { result ≡ OK → IsOpenOver false image.now (Some sup.now) handle.new }
     ensures same { result ≢ OK → handle.new ≡ handle.old }
 {
     let Ok(image) = Bytes::copy_from_slice(alloc, image) else {
@@ -88,7 +103,7 @@ pub extern "C" fn a2l_open_with_sup(
 ) -> i32
     ensures number { handle.old.opened ≡ 0
         → IsLoadedOrNoMemory result (loaded_file image.now (Some sup.now)) }
-    ensures file { result ≡ OK → IsOpenOver image.now (Some sup.now) handle.new }
+    ensures file { result ≡ OK → IsOpenOver false image.now (Some sup.now) handle.new }
     ensures same { result ≢ OK → handle.new ≡ handle.old }
     ensures refused { handle.old.opened ≢ 0 → result ≡ not_closed_number handle.old.opened }
 {
@@ -104,7 +119,7 @@ pub extern "C" fn a2l_open_with_sup(
 pub extern "C" fn a2l_open_in_place(alloc: Global, image: &'static [u8], handle: &mut Handle) -> i32
     ensures number { handle.old.opened ≡ 0
         → IsLoadedOrNoMemory result (loaded_file image.now None) }
-    ensures file { result ≡ OK → IsOpenOver image.now None handle.new }
+    ensures file { result ≡ OK → IsOpenOver false image.now None handle.new }
     ensures same { result ≢ OK → handle.new ≡ handle.old }
     ensures refused { handle.old.opened ≢ 0 → result ≡ not_closed_number handle.old.opened }
 {
@@ -125,7 +140,7 @@ pub extern "C" fn a2l_open_in_place_with_sup(
 ) -> i32
     ensures number { handle.old.opened ≡ 0
         → IsLoadedOrNoMemory result (loaded_file image.now (Some sup.now)) }
-    ensures file { result ≡ OK → IsOpenOver image.now (Some sup.now) handle.new }
+    ensures file { result ≡ OK → IsOpenOver false image.now (Some sup.now) handle.new }
     ensures same { result ≢ OK → handle.new ≡ handle.old }
     ensures refused { handle.old.opened ≢ 0 → result ≡ not_closed_number handle.old.opened }
 {

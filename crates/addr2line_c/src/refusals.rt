@@ -8,7 +8,7 @@ use crate::c_types::A2lText;
 use crate::numbers::{NOT_FOUND, OK};
 
 // Those of numbers from 1 on.
-const CALL_CODES: [&str; 7] = ["C1", "C2", "C3", "C4", "C5", "C6", "C7"];
+const CALL_CODES: [&str; 8] = ["C1", "C2", "C3", "C4", "C5", "C6", "C7", "C8"];
 
 // Those from 101 on.
 const ERROR_CODES: [&str; 33] = [
@@ -28,8 +28,13 @@ const DWARF_CODES: [&str; 32] = [
     "L8 E30", "L8 E31", "L8 E32", "L8 E33",
 ];
 
+// Those from 401 on.
+const DECOMPRESS_CODES: [&str; 12] = [
+    "Z1", "Z2", "Z3", "Z4", "Z5", "Z6", "Z7", "Z8", "Z9", "Z10", "Z11", "Z12",
+];
+
 // What those from 1 on mean.
-const CALL_SENTENCES: [&str; 7] = [
+const CALL_SENTENCES: [&str; 8] = [
     "there is no such location, symbol or section",
     "the number is past the last, or no stretch is left",
     "there is no room for results",
@@ -37,6 +42,7 @@ const CALL_SENTENCES: [&str; 7] = [
     "the loader is neither open nor closed",
     "the loader is already open",
     "the bytes are not the split file of this unit",
+    "there is no such flag",
 ];
 
 // What those from 101 on mean, and those from 301 on.
@@ -87,6 +93,22 @@ const LOAD_SENTENCES: [&str; 7] = [
     "a linker has yet to fill in the addresses of a section of debugging information",
 ];
 
+// What those from 401 on mean.
+const DECOMPRESS_SENTENCES: [&str; 12] = [
+    "the section headers overlap the file's header",
+    "a section overlaps the section headers",
+    "the file ends before a section does",
+    "a section holds names and is compressed",
+    "a section ends in its compression header",
+    "a section is compressed by zstd; run objcopy --decompress-debug-sections on the file first",
+    "a section has an unknown compression type",
+    "a section is too small for the size that it claims",
+    "a section has an invalid stream",
+    "the decompressed image is too large for its ELF class",
+    "a section holds more than the names of sections, which change",
+    "the name of a section doesn't end",
+];
+
 // The text of a number, among those of the numbers from one on.
 fn text_from(first: u32, texts: &[&'static str], number: u32) -> Option<&'static str>
     ensures { option_map (λ t. t.now) result
@@ -120,7 +142,9 @@ fn code_text(number: u32) -> Option<&'static str>
     let of_errors = text_from(101, &ERROR_CODES, number);
     let of_files = text_from(201, &LOAD_CODES, number);
     let of_dwarf = text_from(302, &DWARF_CODES, number);
-    or_else(of_calls, or_else(of_errors, or_else(of_files, of_dwarf)))
+    let of_sections = text_from(401, &DECOMPRESS_CODES, number);
+    let of_loading = or_else(of_files, or_else(of_dwarf, of_sections));
+    or_else(of_calls, or_else(of_errors, of_loading))
 }
 
 // What it means.
@@ -131,7 +155,9 @@ fn sentence_text(number: u32) -> Option<&'static str>
     let of_errors = text_from(101, &ERROR_SENTENCES, number);
     let of_files = text_from(201, &LOAD_SENTENCES, number);
     let of_dwarf = text_from(302, &ERROR_SENTENCES[1..], number);
-    or_else(of_calls, or_else(of_errors, or_else(of_files, of_dwarf)))
+    let of_sections = text_from(401, &DECOMPRESS_SENTENCES, number);
+    let of_loading = or_else(of_files, or_else(of_dwarf, of_sections));
+    or_else(of_calls, or_else(of_errors, of_loading))
 }
 
 // Writes a text, if there is one.

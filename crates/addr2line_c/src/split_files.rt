@@ -1,11 +1,11 @@
 //! The split files that an address waits for, and answers to them.
 
-ghost use Rattle.std.specs.Prelude.{◌≡◌, ◌≢◌, ◌⊎◌, [], length, map, slice_get, IfSome, option_map};
+ghost use Rattle.std.specs.Prelude.{◌≡◌, ◌≢◌, ◌⊎◌, [], length, map, slice_get, IfErr, IfOk, IfSome, option_map};
 ghost use Rattle.addr2line_context.specs.Error.TheVariants.{Memory};
 ghost use Rattle.addr2line_context.specs.Preloads.{load_of_item};
 ghost use Rattle.addr2line_context.specs.SettledLookups.{loads_in};
 ghost use Rattle.addr2line_loader.specs.ResolvedFiles.{answered_context};
-ghost use Rattle.addr2line_c.specs.Answers.{AnswersLoad, SkipsLoad, WritesLoad};
+ghost use Rattle.addr2line_c.specs.Answers.{AnswersLoad, SkipsLoad, WritesLoad, split_file_of};
 ghost use Rattle.addr2line_c.specs.COutputs.{has, or_empty};
 ghost use Rattle.addr2line_c.specs.Numbers.{error_number, refused_number, some_number};
 
@@ -14,10 +14,12 @@ use crate::handle::Handle;
 use crate::load_sources::OneFile;
 use crate::numbers::{OK, PAST_END, WRONG_FILE, done_number, error_number, refused_number};
 use crate::open_file::OpenFile;
-use addr2line_context::{Error, Reader, SplitDwarfLoad, UnitToken};
+use addr2line_context::{Dwarf, Error, Reader, SplitDwarfLoad, UnitToken};
+use addr2line_loader::DecompressedSource;
 use addr2line_split::{ImageReader, load_split};
 use bytes::Bytes;
 use std::alloc::Global;
+use std::rc::Rc;
 
 /// Finds the split files that an address waits for, and keeps them.
 #[unsafe(no_mangle)]
@@ -101,6 +103,26 @@ pub extern "C" fn a2l_get_load<'a>(
     }
 }
 
+// The split file of a load, if these bytes are one, decompressed or as they are. The only refusal
+// is out of memory.
+fn split_file_of(
+    alloc: Global,
+    load: &SplitDwarfLoad<ImageReader>,
+    decompress: bool,
+    bytes: Bytes,
+) -> Result<Option<Rc<Dwarf<ImageReader>>>, Error>
+    ensures file { IfOk result (λ file. split_file_of decompress load.now bytes
+        ≡ option_map (λ d. d.value.file) file) }
+    ensures memory { IfErr result (λ e. e ≡ Memory) }
+{
+    let mut source = OneFile { bytes };
+    if decompress {
+        load_split(alloc, load, &mut DecompressedSource::new(alloc, source))
+    } else {
+        load_split(alloc, load, &mut source)
+    }
+}
+
 impl OpenFile {
     // Answers the load of a number by the bytes of its split file, unless they are not that.
     fn answer_load(&mut self, alloc: Global, number: usize, bytes: Bytes) -> i32
@@ -110,7 +132,7 @@ impl OpenFile {
         let Some(item) = self.loads.get(number) else {
             return PAST_END;
         };
-        match load_split(alloc, &item.0, &mut OneFile { bytes }) {
+        match split_file_of(alloc, &item.0, self.decompresses, bytes) {
             Ok(Some(file)) => done_number(self.loader.answer_load(item.1, Some(file))),
             Ok(None) => WRONG_FILE,
             Err(error) => error_number(error),

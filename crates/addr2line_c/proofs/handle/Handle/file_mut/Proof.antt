@@ -8,7 +8,8 @@ use base.Fraction.{full_share}
 use base.Logic.{ent, sep, never, fst∗, id⊢}
 use base.Fml.{GName, Fml, ftrue, fsep, flft}
 use types.Logic.{Logic, sem}
-use types.Kit.{‵, raw, ◌⊛◌, some, later, at_ret, ◌$◌, ◌∵◌, !, qed, move, keep, drop, use0, use1, await, pick, split, join, fsplit, fsplit3, fjoin, fpack, rewrite, suffices, frame, group, done}
+use types.Kit.{‵, raw, ◌⊛◌, some, later, at_ret, ◌$◌, ◌∵◌, !, qed, move, keep, drop, use0, use1, await, pick}
+use types.Kit.{split, join, fsplit, fsplit3, fjoin, fpack, rewrite, suffices, frame, group, done}
 use types.Part.{sub, whole, look_in}
 use types.Run.{stop, fld, load, of_opd, addr, first, blocks, exec, returns, enter}
 use types.ByLocal.{alloc_all, pass_all, free_all, look_at, get, through, sets, sets_last, env}

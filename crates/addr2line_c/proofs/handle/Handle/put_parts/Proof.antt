@@ -6,7 +6,8 @@ use base.Logic.{SProp, ent, id⊢}
 use base.Fraction.{full_share}
 use base.Fml.{ftrue, fsep, flft}
 use prog.Wp.{WpFn}
-use types.Kit.{‵, raw, ◌⊛◌, ◌$◌, ◌∵◌, !, qed, move, keep, drop, use0, split, join, fsplit3, fjoin, feq_i, rewrite, suffices, frame, group, done}
+use types.Kit.{‵, raw, ◌⊛◌, ◌$◌, ◌∵◌, !, qed, move, keep, drop, use0, split, join, fsplit3, fjoin, feq_i}
+use types.Kit.{rewrite, suffices, frame, group, done}
 use types.Part.{sub, whole, store_in}
 use types.Run.{stop, fld, of_opd, lit, unit_lit, assigns, returns, enter}
 use types.ByLocal.{alloc_all, pass_all, free_all, look_at, get, get_in, through, sets}

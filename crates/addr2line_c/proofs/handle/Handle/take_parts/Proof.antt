@@ -7,7 +7,8 @@ use base.Fraction.{full_share}
 use base.Fml.{ftrue, fsep, flft}
 use prog.Wp.{WpFn}
 use types.Logic.{sem}
-use types.Kit.{‵, raw, ◌⊛◌, ◌$◌, ◌∵◌, !, qed, move, keep, drop, use0, use1, split, join, fsplit, fsplit3, fjoin, rewrite, suffices, frame, group, done}
+use types.Kit.{‵, raw, ◌⊛◌, ◌$◌, ◌∵◌, !, qed, move, keep, drop, use0, use1, split, join, fsplit, fsplit3}
+use types.Kit.{fjoin, rewrite, suffices, frame, group, done}
 use types.Part.{sub, whole, look_in, store_in, agg}
 use types.Run.{stop, fld, load, of_opd, lit, assigns, no_more, and_then, returns, enter}
 use types.ByLocal.{alloc_all, pass_all, free_all, look_at, get, through, sets}

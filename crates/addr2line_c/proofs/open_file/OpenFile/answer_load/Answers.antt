@@ -1,8 +1,7 @@
 use Rattle.std.proofs.Common.{rules, option_map, refl, ap, ◌∙◌, slice_get, w32}
 use Rattle.std.proofs.lemmas.Int.{to_z-of_z}
 use Rattle.addr2line_c.specs.Numbers.{error_number}
-use Rattle.addr2line_c.proofs.LoadNumbers.{at_number}
-use Rattle.addr2line_c.proofs.OneFileLoads.{decided, file_of_bytes, no_memory, wrong_file}
+use Rattle.addr2line_c.proofs.LoadNumbers.{at_number, decided, no_memory, wrong_file}
 use Rattle.addr2line_c.proofs.open_file.OpenFile.answer_load.Goals as goal
 
 pub returns-in-Ok-Some : goal.returns-in-Ok-Some
@@ -10,13 +9,10 @@ returns-in-Ok-Some c =
     let load = c.in-Some.item.now in
     let old = c.args.self.now in
     let lookup = c.in-Some.ensures.lookup in
-    let file = c.in-Ok-Some.ensures.file in
     decided c.args.bytes (slice_get old.loads.items c.args.number) load old
     (at_number old.loads.items c.deref.result.now c.args.number load c.deref.ensures.value lookup.1 lookup.3.0)
     c.in-Ok-Some.file.value.file _ _
-    (file_of_bytes load.0 c.args.bytes c.load_split.new.source file.0
-    (option_map (λ d. d.value.file) c.in-Ok-Some.field-0) file.1 file.2
-    ∙ ap (option_map (λ d. d.value.file)) c.in-Ok-Some.field-0-is)
+    (c.in-Ok-Some.ensures.file ∙ ap (option_map (λ d. d.value.file)) c.in-Ok-Some.field-0-is)
     (record {
       done = c.answer_load.result;
       answers = c.answer_load.ensures.answers;
@@ -30,15 +26,12 @@ returns-in-Ok-None c =
     let load = c.in-Some.item.now in
     let old = c.args.self.now in
     let lookup = c.in-Some.ensures.lookup in
-    let file = c.in-Ok-None.ensures.file in
     wrong_file c.args.bytes (slice_get old.loads.items c.args.number) load old
     (at_number old.loads.items c.deref.result.now c.args.number load c.deref.ensures.value lookup.1 lookup.3.0)
-    (file_of_bytes load.0 c.args.bytes c.load_split.new.source file.0
-    (option_map (λ d. d.value.file) c.in-Ok-None.field-0) file.1 file.2
-    ∙ ap (option_map (λ d. d.value.file)) c.in-Ok-None.field-0-is)
+    (c.in-Ok-None.ensures.file ∙ ap (option_map (λ d. d.value.file)) c.in-Ok-None.field-0-is)
 
-pub returns : goal.returns
-returns c =
+pub returns-in-Err : goal.returns-in-Err
+returns-in-Err c =
     let load = c.in-Some.item.now in
     let old = c.args.self.now in
     let lookup = c.in-Some.ensures.lookup in
