@@ -1,7 +1,7 @@
 -- The addresses of the rows of a line number program.
 use Rattle.std.specs.Prelude.{ℕ, List, Result, Ok}
-use Rattle.gimli_core.specs.Results.{and_then, each}
-use Rattle.gimli_dwarf.specs.Error.{Error}
+use Rattle.gimli_lines.specs.Results.{and_then, each}
+use Rattle.gimli_lines.specs.Error.{Error}
 use Rattle.gimli_lines.specs.LineHeaders.{LineHeader}
 use Rattle.gimli_lines.specs.ProgramRows.{Row, rows_to_come}
 use Rattle.gimli_lines.specs.RowSequences.{program_rows}

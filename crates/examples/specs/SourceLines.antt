@@ -1,7 +1,7 @@
 -- The source line of an address.
 use Rattle.std.specs.Prelude.{ℕ, Option, option_and_then, Result, Ok}
-use Rattle.gimli_core.specs.Results.{◌>>=◌}
-use Rattle.gimli_dwarf.specs.Error.{Error}
+use Rattle.addr2line.specs.Results.{◌>>=◌}
+use Rattle.addr2line.specs.Error.{Error}
 use Rattle.addr2line.specs.Contexts.{Context, location}
 
 -- the line of the place that a context has for an address

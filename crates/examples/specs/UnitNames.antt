@@ -1,9 +1,9 @@
 -- The name of a unit.
 use Rattle.std.specs.Prelude.{Option, Result, Ok}
-use Rattle.gimli_core.specs.Results.{◌>>=◌}
-use Rattle.gimli_core.specs.View.{View}
+use Rattle.gimli_dwarf.specs.Results.{◌>>=◌}
+use Rattle.gimli_dwarf.specs.View.{View}
 use Rattle.gimli_dwarf.specs.Error.{Error}
-use Rattle.gimli_units.specs.UnitHeaders.{DebugUnit}
+use Rattle.gimli_dwarf.specs.UnitHeaders.{DebugUnit}
 use Rattle.gimli_dwarf.specs.DwarfFiles.{DwarfFile}
 use Rattle.gimli_dwarf.specs.UnitFacts.{unit_facts}
 

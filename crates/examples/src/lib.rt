@@ -1,4 +1,5 @@
-//! Callers of the six crates, one for each: what a first program may want of them.
+//! Callers of the six crates, one for each: what a first program may want of them. Each states
+//! what it finds by the definitions that its crate passes on.
 #![tactic(auto)]
 
 pub mod names;

@@ -1,4 +1,4 @@
-//! With `gimli_core`: a number in bytes.
+//! With `gimli_core` alone: a number in bytes.
 
 ghost use Rattle.std.specs.Prelude.{false};
 ghost use Rattle.gimli_core.specs.Calls.{Returns};

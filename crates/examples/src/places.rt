@@ -1,10 +1,9 @@
-//! With `addr2line`: the source line of an address.
+//! With `addr2line` alone: the source line of an address.
 
-ghost use Rattle.gimli_core.specs.Calls.{ReturnsOrNoMemory};
+ghost use Rattle.addr2line.specs.Calls.{ReturnsOrNoMemory};
 ghost use Rattle.examples.specs.SourceLines.{source_line};
 
-use addr2line::Context;
-use gimli_core::{Error, Reader};
+use addr2line::{Context, Error, Reader};
 
 /// The source line of an address, where one is known. What the context reads on the way it keeps
 /// for later calls.

@@ -1,10 +1,9 @@
-//! With `gimli_lines`: the rows of a line number program.
+//! With `gimli_lines` alone: the rows of a line number program.
 
-ghost use Rattle.gimli_core.specs.Calls.{ReturnsAsOrNoMemory};
+ghost use Rattle.gimli_lines.specs.Calls.{ReturnsAsOrNoMemory};
 ghost use Rattle.examples.specs.RowAddresses.{row_addresses};
 
-use gimli_core::{Error, Reader};
-use gimli_lines::{IncompleteLineProgram, LineProgramHeader};
+use gimli_lines::{Error, IncompleteLineProgram, LineProgramHeader, Reader};
 use std::alloc::Global;
 
 /// The addresses of a program's rows, in order, or the first fault among them.

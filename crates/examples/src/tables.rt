@@ -1,4 +1,4 @@
-//! With `linemap`: answers from a table.
+//! With `linemap` alone: answers from a table.
 
 ghost use Rattle.std.specs.Prelude.{◌≡◌, IfErr, IfOk, map, string_bytes};
 ghost use Rattle.linemap.specs.Ask.{IsClean, ask_outcome};

@@ -1,14 +1,13 @@
-//! With `gimli_units`: the units of a section.
+//! With `gimli_units` alone: the units of a section.
 
 ghost use Rattle.std.specs.Prelude.{Ok};
-ghost use Rattle.gimli_core.specs.Calls.{ReturnsAsOrNoMemory};
-ghost use Rattle.gimli_core.specs.Repetition.{fault_of};
-ghost use Rattle.gimli_core.specs.Results.{unless};
+ghost use Rattle.gimli_units.specs.Calls.{ReturnsAsOrNoMemory};
+ghost use Rattle.gimli_units.specs.Repetition.{fault_of};
+ghost use Rattle.gimli_units.specs.Results.{unless};
 ghost use Rattle.gimli_units.specs.Tiling.{whole_section};
 ghost use Rattle.gimli_units.specs.UnitHeaders.{units_to_come};
 
-use gimli_core::{Error, Reader};
-use gimli_units::{DebugInfo, UnitHeader};
+use gimli_units::{DebugInfo, Error, Reader, UnitHeader};
 use std::alloc::Global;
 
 /// The headers of the units in `.debug_info`, in order, or the first fault among them.

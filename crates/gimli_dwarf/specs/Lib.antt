@@ -1,14 +1,19 @@
 pub use Rattle.gimli_dwarf_spec.specs.AbbreviationViews
 pub use Rattle.gimli_dwarf_spec.specs.Declarations
+pub use Rattle.gimli_dwarf_spec.specs.TableCache
 pub use Rattle.gimli_dwarf_spec.specs.TableParsing
 pub use Rattle.gimli_dwarf_spec.specs.Calls
+pub use Rattle.gimli_dwarf_spec.specs.Parsers
 pub use Rattle.gimli_dwarf_spec.specs.Repetition
 pub use Rattle.gimli_dwarf_spec.specs.Results
 pub use Rattle.gimli_dwarf_spec.specs.View
+pub use Rattle.gimli_dwarf_spec.specs.SectionId
 pub use Rattle.gimli_dwarf_spec.specs.TheConstants
 pub use Rattle.gimli_dwarf_spec.specs.Error
+pub use Rattle.gimli_dwarf_spec.specs.SectionReads
 pub use Rattle.gimli_dwarf_spec.specs.Attributes
 pub use Rattle.gimli_dwarf_spec.specs.DwarfFiles
+pub use Rattle.gimli_dwarf_spec.specs.Splitting
 pub use Rattle.gimli_dwarf_spec.specs.UnitFacts
 pub use Rattle.gimli_dwarf_spec.specs.EntryRows
 pub use Rattle.gimli_dwarf_spec.specs.EntryViews
@@ -16,6 +21,7 @@ pub use Rattle.gimli_dwarf_spec.specs.EntryWalks
 pub use Rattle.gimli_dwarf_spec.specs.UnitEntries
 pub use Rattle.gimli_dwarf_spec.specs.AttributeMeanings
 pub use Rattle.gimli_dwarf_spec.specs.AttributeValues
+pub use Rattle.gimli_dwarf_spec.specs.Tiling
 pub use Rattle.gimli_dwarf_spec.specs.UnitHeaders
 pub use Rattle.gimli_dwarf_spec.specs.UnitOffsets
 pub use Rattle.gimli_dwarf_spec.specs.ListSections

@@ -3,17 +3,20 @@
 #![tactic(auto)]
 
 pub use gimli_lines_rows::{
-    BorrowedLineProgram, ColumnType, CompleteLineProgram, DebugLine, FileEntry, FileEntryFormat,
-    IncompleteLineProgram, LineInstruction, LineInstructions, LineProgram, LineProgramHeader,
-    LinePrograms, LineRow, LineRows, LineRules, LineSequence, ProgramInstructions,
+    BorrowedLineProgram, ColumnType, CompleteLineProgram, DebugLine, Error, FileEntry,
+    FileEntryFormat, IncompleteLineProgram, LineInstruction, LineInstructions, LineProgram,
+    LineProgramHeader, LinePrograms, LineRow, LineRows, LineRules, LineSequence,
+    ProgramInstructions, Reader,
 };
 
 /// Line number programs as they are built and written.
 pub mod write {
+    pub use gimli_lines_write_laws::FileKey;
     pub use gimli_lines_write_program::{
         Address, DirectoryId, EndianVec, Error, FileId, FileInfo, InitialLengthOffset, LineProgram,
         LineRow, LineString, LineStringId, LineStringTable, StringId, StringTable, Writer,
     };
+    pub use gimli_lines_write_rows::LineEntry;
 }
 
 /// What holds of the definitions, as contracts.

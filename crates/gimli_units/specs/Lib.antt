@@ -34,10 +34,12 @@ pub use Rattle.gimli_units_entries.specs.Range
 pub use Rattle.gimli_units_entries.specs.SectionId
 pub use Rattle.gimli_units_entries.specs.View
 pub use Rattle.gimli_core_readers.specs.Iterators
+pub use Rattle.gimli_core_readers.specs.ErrorText
 pub use Rattle.gimli_units_headers.specs.NumberParsers
 pub use Rattle.gimli_units_forms.specs.AbbreviationViews
 pub use Rattle.gimli_units_forms.specs.Declarations
 pub use Rattle.gimli_units_forms.specs.SkippingLaws
+pub use Rattle.gimli_units_forms.specs.TableParsing
 pub use Rattle.gimli_units_entries.specs.Repetition
 pub use Rattle.gimli_units_entries.specs.Results
 pub use Rattle.gimli_units_entries.specs.Encoding

@@ -7,7 +7,6 @@ pub use linemap_commands::{
 };
 pub use linemap_lookup_laws::{
     Error, FileSource, LoadError, MapSource, SplitSource, load_out_of_memory, read_file, run,
-    table_printed,
 };
 pub use linemap_replay::{
     Answer, Call, OwnedFrame, OwnedLocation, OwnedName, OwnedStretch, OwnedUnit, replay,
@@ -20,3 +19,15 @@ pub use linemap_text::{
 pub use linemap_words::{
     Options, Request, WordsError, explain, explain_refusal, meaning_of, read_words,
 };
+
+/// What holds of the definitions, as contracts.
+pub mod laws {
+    pub use linemap_commands::{image_laws as images, written_numbers as numbers};
+    pub use linemap_lookup_laws::{limits as reads, table_printed};
+    pub use linemap_replay::table_laws as histories;
+    pub use linemap_text::{
+        emission_laws as emission, fit_laws as sizes, limits as writes,
+        recorded_table_laws as recorded, table_laws as tables, word_laws as words,
+    };
+    pub use linemap_words::mistake_texts as mistakes;
+}

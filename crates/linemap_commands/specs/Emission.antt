@@ -8,7 +8,7 @@ use Rattle.linemap_image.specs.EmittedSections.{emitted_sections}
 use Rattle.linemap_image.specs.EmitError.{EmitError}
 use Rattle.linemap_image.specs.EmitError.TheVariants.{Memory as NoRoom, TooLarge as TooHeavy}
 use Rattle.linemap_output.specs.declared.ended.Ended.{Ended}
-use Rattle.linemap_output.specs.ErrorLine.{Fails, error_line}
+use Rattle.linemap_output.specs.ErrorLine.{Fails, emission_line, error_line, table_line}
 use Rattle.linemap_image.specs.TableErrorCodes.{table_error_code}
 use Rattle.linemap_image.specs.TableError.{TableError}
 use Rattle.linemap_image.specs.TableError.TheVariants.{Memory as NoMemory}
@@ -63,11 +63,11 @@ IsImage e is_big (Ok units) bytes = (refusal_of e (Ok units) ≡ None)
 
 -- the error line of a refusal
 abbrev pub refusal_line : Refusal → List ℕ
-refusal_line TableMemory = error_line (codes "table refused: ") (codes "B1")
-refusal_line (Table error) = error_line (codes "table refused: ") (table_error_code error)
+refusal_line TableMemory = table_line (codes "B1")
+refusal_line (Table error) = table_line (table_error_code error)
 refusal_line DoesNotFit = error_line (codes "table does not fit the target") []
-refusal_line EmissionMemory = error_line (codes "emit refused: ") (codes "M1")
-refusal_line TooLarge = error_line (codes "emit refused: ") (codes "M2")
+refusal_line EmissionMemory = emission_line (codes "M1")
+refusal_line TooLarge = emission_line (codes "M2")
 
 -- whether memory is refused, which sets its flag
 abbrev pub is_memory : Refusal → Bool

@@ -6,9 +6,10 @@ ghost use Rattle.linemap_image.specs.EmissionTargets.{encoding_of, is_big_of};
 ghost use Rattle.linemap_image.specs.TableInText.{table_in};
 ghost use Rattle.linemap_commands.specs.Emission.{EndsRefused, IsImage, RefusesTable, Reports};
 
-use crate::reports::table_out_of_memory;
 use linemap_image::{EmitError, Table, TableError, Target, emit};
-use linemap_output::{Ended, fail};
+use linemap_output::{
+    Ended, emission_out_of_memory, fail, table_out_of_memory, table_refused, table_too_large,
+};
 use std::alloc::Global;
 use std::io::Write;
 
@@ -60,10 +61,10 @@ impl Refusal {
     {
         match self {
             Refusal::TableMemory => table_out_of_memory(err),
-            Refusal::Table(error) => fail(err, "table refused: ", error.code()),
+            Refusal::Table(error) => table_refused(err, error.code()),
             Refusal::DoesNotFit => fail(err, "table does not fit the target", ""),
-            Refusal::EmissionMemory => fail(err, "emit refused: ", "M1").with_memory_refused(),
-            Refusal::TooLarge => fail(err, "emit refused: ", "M2"),
+            Refusal::EmissionMemory => emission_out_of_memory(err),
+            Refusal::TooLarge => table_too_large(err),
         }
     }
 }

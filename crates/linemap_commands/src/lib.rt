@@ -7,6 +7,7 @@ mod reports;
 mod targets;
 
 pub use images::emission;
-pub use linemap_image::emit;
-pub use reports::{cannot_load, cannot_write, no_such_target, table_out_of_memory};
+pub use linemap_image::{emit, image_laws, written_numbers};
+pub use linemap_output::table_out_of_memory;
+pub use reports::{cannot_load, cannot_write, no_such_target};
 pub use targets::target_of;

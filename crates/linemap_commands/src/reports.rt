@@ -1,6 +1,6 @@
-//! The error lines of files, tables and targets.
+//! The error lines of files and targets.
 
-ghost use Rattle.std.specs.Prelude.{◌≡◌, [], codes, false, true};
+ghost use Rattle.std.specs.Prelude.{◌≡◌, [], codes, false};
 ghost use Rattle.linemap_output.specs.ErrorLine.{EndsAtRead, Fails, error_line};
 ghost use Rattle.linemap_commands.specs.Reports.{EndsAtTarget};
 
@@ -25,15 +25,6 @@ pub fn cannot_load<W: Write>(err: &mut W) -> Ended
         read: true,
         ..fail(err, "failed to load debug info: ", "L2")
     }
-}
-
-/// Ends with status 1 and the line for a table that memory is refused for.
-pub fn table_out_of_memory<W: Write>(err: &mut W) -> Ended
-    ensures line { Fails (error_line (codes "table refused: ") (codes "B1")) (W.contents err.old)
-        (W.contents err.new) result }
-    ensures memory { result.memory ≡ true }
-{
-    fail(err, "table refused: ", "B1").with_memory_refused()
 }
 
 /// Ends with status 2 and the line for numbers that are no target.

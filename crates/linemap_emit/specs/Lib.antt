@@ -33,3 +33,6 @@ pub mod EmitErrorCodes
 pub mod SectionBytesById
 pub mod TableEmitterSteps
 pub mod SectionAnswers
+pub use Rattle.linemap_emit_laws.specs.EmissionLaws
+pub use Rattle.linemap_emit_laws.specs.ListTables
+pub use Rattle.linemap_emit_fits.specs.FittingUnits

@@ -7,10 +7,12 @@ mod table_emitter;
 mod table_sections;
 
 pub use error::EmitError;
+pub use linemap_emit_fits::fit_laws;
+pub use linemap_emit_laws::{emission_laws, recorded_table_laws};
 pub use linemap_table::error::TableError;
 pub use linemap_table::{
     Rule, Table, TableCall, TableFile, TableFunction, TableRange, TableRow, TableSequence,
-    TableUnit, Target, read_address,
+    TableUnit, Target, push_discriminator, push_line, read_address, table_laws,
 };
 pub use sections::Sections;
 pub use table_sections::emit_sections;

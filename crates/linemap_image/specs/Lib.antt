@@ -19,3 +19,6 @@ pub use Rattle.linemap_emit.specs.TargetEncodings
 pub use Rattle.linemap_emit.specs.declared.error.EmitError
 pub mod TableImages
 pub mod ImageAnswers
+pub use Rattle.linemap_elf.specs.ImageLaws
+pub use Rattle.linemap_elf.specs.SpelledImages
+pub use Rattle.linemap_elf.specs.WrittenNumbers

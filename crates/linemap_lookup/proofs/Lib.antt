@@ -7,4 +7,3 @@ mod RunSteps
 mod LineRuns
 mod AllAddresses
 mod ProgramSteps
-mod FoundFileSteps

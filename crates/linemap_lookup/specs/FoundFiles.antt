@@ -1,20 +1,23 @@
 -- Files whose debugging information is compressed, or in files of its own.
 use Rattle.std.specs.Prelude.{◌≡◌, ◌≢◌, ◌⊎◌, ℕ, List, Option, Some, None, option_map, codes, Result, Ok, Err}
 use Rattle.std.specs.Io.KnownBytes.{Keeps}
+use Rattle.std.specs.declared.alloc.AllocError.{AllocError}
 use Rattle.addr2line_context.specs.Results.{◌>>=◌}
 use Rattle.addr2line_debug_files.specs.declared.debug_files.DebugFiles.{DebugFiles}
 use Rattle.addr2line_debug_files.specs.declared.files.NamedFile.{NamedFile}
+use Rattle.addr2line_debug_files.specs.Searches.{FindsDebugFiles}
 use Rattle.addr2line_loader.specs.DecompressResults.{or_image}
 use Rattle.addr2line_loader.specs.DecompressError.{DecompressError}
 use Rattle.addr2line_loader.specs.DecompressError.TheVariants.{Memory, Image}
 use Rattle.addr2line_loader.specs.DecompressedFiles.{decompressed_file}
 use Rattle.addr2line_loader.specs.LoadedFiles.{LoadedFile}
 use Rattle.addr2line_loader.specs.SymbolFiles.{with_symbols_of}
+use Rattle.addr2line_split.specs.ElfImages.{image_of}
 use Rattle.addr2line_split.specs.LoadErrors.{text_of}
 use Rattle.linemap_output.specs.ErrorLine.{error_line}
 use Rattle.linemap_output.specs.WriterBytes.{AppendsPrefix}
 use Rattle.linemap_output.specs.declared.ended.Ended.{Ended}
-use Rattle.linemap_lookup.specs.Programs.{EndsWithLine, LacksMemory, load_memory_line}
+use Rattle.linemap_lookup.specs.Programs.{EndsWithLine, LacksMemory, RefusesByOrLacksMemory, load_memory_line, or_line}
 
 -- ---- what is loaded
 
@@ -65,3 +68,24 @@ abbrev pub RefusesDecompression : Result LoadedFile DecompressError → Option (
 RefusesDecompression file old new e =
     LacksMemory load_memory_line old new e
     ⊎ ((refusal : DecompressError) × (file ≡ Err refusal) × ReportsRefusal refusal old new e)
+
+-- a program whose files are looked for is refused: it can't be read, or memory is refused
+abbrev pub RefusesProgram : NamedFile → Option (List ℕ) → Option (List ℕ) → Ended → Type 0
+RefusesProgram program old new e =
+    RefusesByOrLacksMemory
+    (or_line (codes "failed to load debug info: ") text_of (image_of program.bytes))
+    load_memory_line old new e
+
+-- `answers` says what a source may answer, as in `FindsDebugFiles`.
+module _ {F : Type 0} (answers : F → List ℕ → Result (Option NamedFile) AllocError → F → Type 0)
+  where
+    -- The program is refused, or else, after the line where no debug file was found, what was
+    -- found.
+    abbrev pub RefusesFound : List ℕ → NamedFile → List (List ℕ) → Option (List ℕ) → F → F
+        → Option (List ℕ) → Option (List ℕ) → Ended → Type 0
+    RefusesFound name program folders supplement files files_left old new e =
+        RefusesProgram program old new e
+        ⊎ ((found : DebugFiles) × (mid : Option (List ℕ))
+        × FindsDebugFiles answers program folders files found files_left
+        × ReportsNone name found.debug_file old mid
+        × RefusesDecompression (found_file program supplement found) mid new e)

@@ -27,6 +27,10 @@ pub mod FirstFrames
 pub mod LookupAnswers
 pub mod AnswerBuffers
 pub mod LineReads
+pub mod ReadLimits
 pub mod LookupRuns
 pub mod Programs
 pub mod FoundFiles
+pub use Rattle.addr2line_split.specs.FileReads
+pub use Rattle.addr2line_split.specs.NamedFiles
+pub use Rattle.addr2line_split.specs.declared.map_source.SplitFile

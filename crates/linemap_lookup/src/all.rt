@@ -1,6 +1,6 @@
 //! All addresses of a file at which a place begins.
 
-ghost use Rattle.std.specs.Prelude.{◌≡◌, ◌-◌, ◌^◌, IfErr, IfOk, Ok, OnErr, OnOk, codes, option_map, true};
+ghost use Rattle.std.specs.Prelude.{◌≡◌, ◌-◌, ◌^◌, IfErr, IfOk, Ok, OnErr, OnOk, codes, false, option_map, true};
 ghost use Rattle.addr2line_context.specs.Calls.{ReturnsAsOrNoMemory};
 ghost use Rattle.addr2line_context.specs.Contexts.{stretches};
 ghost use Rattle.gimli_core_base.specs.ErrorText.{error_text};
@@ -63,7 +63,7 @@ fn all_refused<E: Write>(alloc: Global, error: Error, err: &mut E) -> Ended
     }
 }
 
-// All addresses, if they are asked for.
+// All addresses, if they are asked for; else nothing of the loader changes.
 pub(crate) fn find_all<E: Write>(
     alloc: Global,
     loader: &mut Loader,
@@ -74,7 +74,8 @@ pub(crate) fn find_all<E: Write>(
         all_if_asked options.now.all loader.old.file.context.context
         ≡ Ok (option_map (λ addresses. addresses.items) all)) }
     ensures same { OnOk result (err.new ≡ err.old) }
-    ensures file { loader.new.file ≡ loader.old.file }
+    ensures loader { (loader.new.file ≡ loader.old.file)
+        × (options.now.all ≡ false → loader.new ≡ loader.old) }
     ensures asked { OnErr result (options.now.all ≡ true) }
     ensures refusal { IfErr result (RefusesByOrLacksMemory
         (all_if_asked options.now.all loader.old.file.context.context) all_memory_line

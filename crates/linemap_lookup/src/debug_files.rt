@@ -1,15 +1,12 @@
 //! Files whose debugging information is compressed, or in a file of its own.
 
-ghost use Rattle.std.specs.Prelude.{◌≡◌, IfErr, IfOk, Ok, OnOk, codes};
+ghost use Rattle.std.specs.Prelude.{◌≡◌, IfErr, IfOk, Ok, OnOk};
 ghost use Rattle.addr2line_debug_files.specs.Searches.{FindsDebugFiles};
 ghost use Rattle.addr2line_debug_files.specs.declared.debug_files.DebugFiles.{DebugFiles};
 ghost use Rattle.addr2line_loader.specs.DecompressResults.{DecompressesAsOrNoMemory, or_image};
 ghost use Rattle.addr2line_loader.specs.DecompressedFiles.{decompressed_file};
 ghost use Rattle.addr2line_loader.specs.SymbolFiles.{with_symbols_of};
-ghost use Rattle.addr2line_split.specs.ElfImages.{image_of};
-ghost use Rattle.addr2line_split.specs.LoadErrors.{text_of};
-ghost use Rattle.linemap_lookup.specs.FoundFiles.{RefusesDecompression, ReportsNone, ReportsRefusal, debug_bytes, found_file, supplement_or};
-ghost use Rattle.linemap_lookup.specs.Programs.{RefusesByOrLacksMemory, load_memory_line, or_line};
+ghost use Rattle.linemap_lookup.specs.FoundFiles.{RefusesDecompression, RefusesFound, RefusesProgram, ReportsNone, ReportsRefusal, debug_bytes, found_file, supplement_or};
 
 use crate::program::{load_out_of_memory, load_refused};
 use addr2line_debug_files::{DebugFiles, FilesByPath, NamedFile, find_debug_files};
@@ -55,7 +52,8 @@ pub fn load_found<F: FilesByPath, E: Write>(
         × FindsDebugFiles F.answers program.now folders.now files.old found files.new
         × (found_file program.now supplement found ≡ Ok loader.file)
         × ReportsNone name.now found.debug_file (E.contents err.old) (E.contents err.new)) }
-    ensures refusal { IfErr result (λ ended. ended.status ≡ 1) }
+    ensures refusal { IfErr result (RefusesFound F.answers name.now program.now folders.now
+        supplement files.old files.new (E.contents err.old) (E.contents err.new)) }
 {
     let found = find_files(alloc, program, folders, files, err)?;
     report_none(name, &found.debug_file, err);
@@ -76,9 +74,8 @@ fn find_files<F: FilesByPath, E: Write>(
     ensures files { IfOk result (λ found.
         FindsDebugFiles F.answers program.now folders.now files.old found files.new) }
     ensures same { OnOk result (err.new ≡ err.old) }
-    ensures refusal { IfErr result (RefusesByOrLacksMemory
-        (or_line (codes "failed to load debug info: ") text_of (image_of program.now.bytes))
-        load_memory_line (E.contents err.old) (E.contents err.new)) }
+    ensures refusal { IfErr result
+        (RefusesProgram program.now (E.contents err.old) (E.contents err.new)) }
 {
     match find_debug_files(alloc, program, folders, files) {
         Ok(found) => Ok(found),

@@ -7,6 +7,7 @@ mod answer;
 mod debug_files;
 mod engine;
 mod frames;
+pub mod limits;
 mod lines;
 mod loaded;
 mod lookups;

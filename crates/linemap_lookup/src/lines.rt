@@ -98,6 +98,7 @@ impl LineBuffer {
     /// A buffer without room.
     pub fn new(alloc: Global) -> LineBuffer
         ensures start { result.is_at_end ≡ false }
+        ensures tries { result.tries_left ≡ MAX_TRIES }
         ensures failed { result.has_failed ≡ false }
     {
         LineBuffer {
@@ -135,6 +136,8 @@ impl LineBuffer {
     // Counts a try.
     fn count_try(&mut self) -> Result<(), LineFault>
         ensures fewer { OnOk result (self.new.tries_left < self.old.tries_left) }
+        ensures fault { IfErr result
+            (λ fault. (fault ≡ LineFault.Read) × (self.old.tries_left ≡ 0)) }
         ensures same { self.new ≡ record self.old { tries_left = self.new.tries_left } }
     {
         if self.tries_left == 0 {

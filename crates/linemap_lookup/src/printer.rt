@@ -2,11 +2,12 @@
 
 ghost use Rattle.std.specs.Prelude.{◌≡◌, ◌++◌, None, OnOk, codes, decimal, option_map, unwrap_or};
 ghost use Rattle.std.specs.String.{string_bytes};
-ghost use Rattle.linemap_meaning.specs.AnswerTexts.{discriminator_text, number_text, unknown_text};
+ghost use Rattle.linemap_meaning.specs.AnswerTexts.{unknown_text};
 ghost use Rattle.addr2line_context.specs.BorrowedLocations.{location_value};
 ghost use Rattle.linemap_lookup.specs.AddressTexts.{address_text, printed_address, last_component, location_text, location_text_if_any, printed_file, statement_text};
 
 use addr2line_context::Location;
+use linemap_meaning::line_text::{push_discriminator, push_line};
 use linemap_output::Options;
 use std::alloc::AllocError;
 use std::path::Path;
@@ -30,30 +31,6 @@ fn printed_file<'a>(options: &Options, file: Option<&'a str>) -> &'a str
         None => "??",
         Some(path) if options.basenames => last_component(path),
         Some(path) => path,
-    }
-}
-
-// Appends a file and a line; `?` is one that isn't known.
-#[tactic(auto, using(std::proofs::lemmas::Fmt::decimal_digit))]
-fn push_line(text: &mut String, file: &str, line: Option<u32>) -> Result<(), AllocError>
-    ensures { OnOk result (string_bytes text.new
-        ≡ string_bytes text.old ++ (file.now ++ (codes ":" ++ number_text line))) }
-{
-    match line {
-        Some(line) => write!(text, "{file}:{line}"),
-        None => write!(text, "{file}:?"),
-    }
-}
-
-// Appends a discriminator above 0.
-#[tactic(auto, using(std::proofs::lemmas::Fmt::decimal_digit))]
-fn push_discriminator(text: &mut String, discriminator: Option<u64>) -> Result<(), AllocError>
-    ensures { OnOk result (string_bytes text.new
-        ≡ string_bytes text.old ++ discriminator_text discriminator) }
-{
-    match discriminator {
-        None | Some(0) => Ok(()),
-        Some(number) => write!(text, " (discriminator {number})"),
     }
 }
 

@@ -4,7 +4,6 @@ ghost use Rattle.std.specs.Prelude.{◌≡◌, ℕ, [], ◌∷◌, IfErr, OnOk, 
 ghost use Rattle.std.specs.String.{string_bytes};
 ghost use Rattle.std.specs.Io.KnownBytes.{Appends};
 ghost use Rattle.linemap_meaning.specs.AnswerTexts.{word_address};
-ghost use Rattle.linemap_output.specs.WriterBytes.{AppendsPrefix};
 ghost use Rattle.linemap_lookup.specs.AnswerBuffers.{answer_of};
 ghost use Rattle.linemap_lookup.specs.LookupRuns.{Records, Stops, StopsAmong, StopsBefore, WritesAnswer, WritesAddress, WritesAddresses, with_flags};
 
@@ -13,7 +12,7 @@ use crate::engine::Engine;
 use addr2line_context::Range;
 use addr2line_split::SplitSource;
 use linemap_meaning::address::read_address;
-use linemap_output::{Ended, Options, WriteFault, flush, out_of_memory, output_failed, write_text};
+use linemap_output::{Ended, Options, out_of_memory, output_failed, write_flushed};
 use std::io::Write;
 
 // What is asked of each address: the options, and the section that addresses count from.
@@ -45,15 +44,6 @@ impl ToAddress for String {
     fn to_address(&self) -> Option<u64> {
         read_address(self)
     }
-}
-
-// Writes a text, and flushes.
-fn write_flushed<W: Write>(out: &mut W, text: &str) -> Result<(), WriteFault>
-    ensures whole { OnOk result (Appends (W.contents out.old) (W.contents out.new) text.now) }
-    ensures prefix { AppendsPrefix (W.contents out.old) (W.contents out.new) text.now }
-{
-    write_text(out, text)?;
-    flush(out)
 }
 
 // Writes the error lines of an answer, and records a fault of the error stream.

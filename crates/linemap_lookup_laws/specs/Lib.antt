@@ -1,3 +1,17 @@
+pub use Rattle.linemap_lookup.specs.AddressTexts
+pub use Rattle.linemap_lookup.specs.FrameTexts
+pub use Rattle.linemap_lookup.specs.LineReads
+pub use Rattle.linemap_lookup.specs.LookupAnswers
+pub use Rattle.linemap_lookup.specs.LookupRuns
 pub use Rattle.linemap_lookup.specs.Programs
+pub use Rattle.linemap_lookup.specs.ReadLimits
 pub mod TableTexts
 pub mod TableTextLaws
+pub use Rattle.linemap_lookup.specs.Calls
+pub use Rattle.linemap_lookup.specs.Error
+pub use Rattle.linemap_lookup.specs.ErrorText
+pub use Rattle.linemap_lookup.specs.FileReads
+pub use Rattle.linemap_lookup.specs.LoadError
+pub use Rattle.linemap_lookup.specs.LoadErrors
+pub use Rattle.linemap_lookup.specs.NamedFiles
+pub use Rattle.linemap_lookup.specs.SplitFile

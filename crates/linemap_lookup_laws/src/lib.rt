@@ -4,6 +4,7 @@
 mod table_text_laws;
 
 pub use linemap_lookup::{
-    Error, FileSource, LoadError, MapSource, SplitSource, load_out_of_memory, read_file, run,
+    Error, FileSource, LoadError, MapSource, SplitSource, limits, load_out_of_memory, read_file,
+    run,
 };
 pub use table_text_laws::table_printed;

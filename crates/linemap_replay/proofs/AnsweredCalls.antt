@@ -1,19 +1,23 @@
 -- Calls on a context, one after the other.
-use Rattle.std.proofs.Common.{arith, Bool, true, false, ◌≡◌, ℕ, ◌+◌, ◌<◌, ◌≤◌, List, [], ◌∷◌, ◌++◌, map, length, drop, get_or, Option, is_some, if◌then◌else◌, refl, sym, ap, ◌∙◌, append_assoc, append-nil}
-use Rattle.std.proofs.lemmas.List.{drop_all, map-append}
+use Rattle.std.proofs.Common.{arith, All, Bool, true, false, ◌≡◌, ℕ, ◌+◌, ◌<◌, ◌≤◌, List, [], ◌∷◌, ◌++◌, map, length, drop, get_or, Option, is_some, if◌then◌else◌, refl, sym, ap, ◌∙◌, append_assoc, append-nil, take, subst}
+use Rattle.std.proofs.lemmas.List.{drop_all, map-append, map_more, take-append-drop}
 use Rattle.std.proofs.lemmas.List.Elements.{All-nil, All-cons}
+use Rattle.std.proofs.lemmas.Simd.{map-map}
 use Rattle.addr2line_context.specs.AnsweredContexts.{AnsweredContext}
-use Rattle.addr2line_context.specs.ContextCosts.{runs_of_unit}
 use Rattle.addr2line_context.specs.ContextNames.{naming_in}
 use Rattle.addr2line_context.specs.Contexts.{FileContext}
 use Rattle.addr2line_context.specs.DwarfFiles.{DwarfFile}
-use Rattle.addr2line_context.specs.ResolvedUnits.{ResolvedUnit}
+use Rattle.addr2line_context.specs.FirstAnswers.{FirstAnswers}
+use Rattle.addr2line_context.specs.LookupCosts.{counters_of}
+use Rattle.addr2line_context.specs.ResolvedUnits.{ResolvedUnit, runs_of_unit}
 use Rattle.addr2line_context.specs.Histories.{ContextCall, CallAnswer, ContextState, call, history_from}
 use Rattle.linemap_replay.specs.declared.answer.Answer.{Answer}
 use Rattle.linemap_replay.specs.declared.call.Call.{Call}
 use Rattle.linemap_replay.specs.OwnedAnswers.{CopiedAnswer, answer_of, copied_answer}
+use Rattle.linemap_replay.specs.CallEffects.{LeavesPart, LeavesSome}
 use Rattle.linemap_replay.specs.Replays.{AreRunOnce, context_call, call_on, state_of, state_after, replay_answers}
 use Rattle.linemap_replay.proofs.AnsweredPlaces.{items_at}
+use Rattle.linemap_replay.proofs.PartAnswers.{state_after-append}
 
 -- what the calls that are left answer and leave
 abbrev answers_left : FileContext → List ContextCall → ContextState → List CopiedAnswer
@@ -35,6 +39,8 @@ module _ (files : List (Option DwarfFile)) (start : AnsweredContext) (calls : Li
     pub state :
         state_left start.plain (calls_from i) (state_of v tokens)
         ≡ state_left start.plain (map (context_call files) calls) (state_of start [])
+    pub reached :
+        state_of v tokens ≡ state_left start.plain (map (context_call files) (take i calls)) (state_of start [])
 
   pub none_before : (found : List Answer) (tokens : List ℕ) → found ≡ [] → tokens ≡ []
       → AnsweredBefore start tokens found 0
@@ -45,6 +51,7 @@ module _ (files : List (Option DwarfFile)) (start : AnsweredContext) (calls : Li
         ++ answers_left start.plain (map (context_call files) calls) (state_of start tokens)) nothing
         ∙ ap (λ (ns : List ℕ). answers_left start.plain (map (context_call files) calls) (state_of start ns)) none;
     state = ap (λ (ns : List ℕ). state_left start.plain (map (context_call files) calls) (state_of start ns)) none;
+    reached = ap (λ (ns : List ℕ). state_of start ns) none;
   }
 
   module _ (v new : AnsweredContext) (tokens later : List ℕ) (found : List Answer) (i : ℕ) (k : Call) (answer : Answer)
@@ -60,6 +67,16 @@ module _ (files : List (Option DwarfFile)) (start : AnsweredContext) (calls : Li
 
     first_call : calls_from i ≡ context_call files k ∷ calls_from (i + 1)
     first_call = ap (map (context_call files)) (items_at calls i k lt at)
+
+    next_state : here.1
+        ≡ state_left start.plain (map (context_call files) (take (i + 1) calls)) (state_of start [])
+    next_state =
+        ap (λ (s : ContextState). (call start.plain (naming_in start.plain) (context_call files k) s).1) before.reached
+        ∙ sym (state_after-append start.plain (naming_in start.plain) (map (context_call files) (take i calls))
+        (context_call files k) (state_of start []))
+        ∙ ap (λ ks. state_left start.plain ks (state_of start []))
+        (ap (λ (x : Call). map (context_call files) (take i calls) ++ context_call files x ∷ []) at
+        ∙ sym (map_more (context_call files) calls i k lt))
 
     abbrev rest : ContextState → List CopiedAnswer
     rest s = answers_left start.plain (calls_from (i + 1)) s
@@ -83,6 +100,7 @@ module _ (files : List (Option DwarfFile)) (start : AnsweredContext) (calls : Li
           (left ∙ ap (λ (r : CallAnswer × ContextState). r.1) same_call)
           ∙ ap (λ ks. state_left start.plain ks (state_of v tokens)) (sym first_call)
           ∙ before.state;
+      reached = left ∙ ap (λ (r : CallAnswer × ContextState). r.1) same_call ∙ next_state;
     }
 
   module _ (v : AnsweredContext) (tokens : List ℕ) (found : List Answer) (i : ℕ) (ended : length calls ≤ i)
@@ -102,14 +120,47 @@ module _ (files : List (Option DwarfFile)) (start : AnsweredContext) (calls : Li
         ap (λ (s : ContextState). s.answers)
         (ap (λ ks. state_left start.plain ks (state_of v tokens)) (sym none_left) ∙ before.state)
 
+  -- memory is refused during a call, or after it
+  module _ (v : AnsweredContext) (tokens : List ℕ) (found : List Answer) (i : ℕ) (k : Call) (new : FirstAnswers)
+      (lt : i < length calls) (at : k ≡ get_or calls i k) (before : AnsweredBefore v tokens found i) where
+    abbrev done : List ContextCall
+    done = map (context_call files) (take i calls)
+
+    are_calls : map (context_call files) calls ≡ done ++ context_call files k ∷ calls_from (i + 1)
+    are_calls =
+        ap (map (context_call files)) (sym (take-append-drop i calls))
+        ∙ map-append (context_call files) (take i calls) (drop i calls)
+        ∙ ap (λ ks. done ++ map (context_call files) ks) (items_at calls i k lt at)
+
+    pub leaves_some : LeavesPart v.plain (naming_in v.plain) (context_call files k) (state_of v tokens) new
+        → LeavesSome start (map (context_call files) calls) new
+    leaves_some part = record {
+      done = done;
+      next = context_call files k;
+      rest = calls_from (i + 1);
+      are_calls = are_calls;
+      part =
+          subst (λ s. LeavesPart start.plain (naming_in start.plain) (context_call files k) s new) before.reached
+          (subst (λ c. LeavesPart c (naming_in c) (context_call files k) (state_of v tokens) new) before.plain part);
+    }
+
 -- a program is run where there is one and its lines are kept, and then once
-pub run_once : (us : List ResolvedUnit) → AreRunOnce us
-run_once [] = All-nil (λ (u : ResolvedUnit). runs_of_unit u ≤ 1)
+run_once : (us : List ResolvedUnit) → All (λ (u : ResolvedUnit). (runs_of_unit u).count ≤ 1) us
+run_once [] = All-nil (λ (u : ResolvedUnit). (runs_of_unit u).count ≤ 1)
 run_once (u ∷ us) =
-    All-cons (λ (v : ResolvedUnit). runs_of_unit v ≤ 1) u us
+    All-cons (λ (v : ResolvedUnit). (runs_of_unit v).count ≤ 1) u us
     (by u.keeps_lines (is_some u.value.unit.facts.line_header)) (run_once us)
   where
     by : (is_kept has_program : Bool) → (if is_kept then (if has_program then 1 else 0) else 0) ≤ 1
     by true true = omega arith
     by true false = omega arith
     by false has_program = omega arith
+
+-- so each unit was run once at most, by the counter that it had
+pub runs_once : (old new : List ResolvedUnit) → map counters_of new ≡ map counters_of old → AreRunOnce old new
+runs_once old new same = record {
+  counters =
+      sym (map-map (λ (p : ℕ × ℕ). p.1) counters_of new) ∙ ap (map (λ (p : ℕ × ℕ). p.1)) same
+      ∙ map-map (λ (p : ℕ × ℕ). p.1) counters_of old;
+  once = run_once new;
+}

@@ -5,9 +5,7 @@ use Rattle.addr2line_context.specs.AnsweredContexts.{AnsweredContext}
 use Rattle.addr2line_context.specs.DwarfFiles.{DwarfFile}
 use Rattle.addr2line_context.specs.FirstAnswers.{FirstAnswers, Lookup, output}
 use Rattle.addr2line_context.specs.FrameLoads.{IsDone}
-use Rattle.addr2line_context.specs.KeptUnits.{KeepsMore}
 use Rattle.addr2line_context.specs.Lookups.{if_output, answer_load, resume}
-use Rattle.addr2line_context.specs.ResolvedUnits.{ResolvedUnit}
 use Rattle.addr2line_context.specs.SettledLookups.{loads_in, answers_with_first, after_answer}
 use Rattle.addr2line_context.specs.UnitLookups.{IsPending}
 use Rattle.linemap_replay.specs.Replays.{WaitsForFirst, resume_with_all}
@@ -16,11 +14,6 @@ use Rattle.linemap_replay.specs.Replays.{WaitsForFirst, resume_with_all}
 pub if_ok : {A E : Type 0} (r : Result A E) (P : Type 0) → P → OnOk r P
 if_ok (Ok x) P h = h
 if_ok (Err e) P h = tt
-
--- what is kept stays kept
-pub keeps_more : (first mid last : List ResolvedUnit) → KeepsMore first mid → KeepsMore mid last
-    → KeepsMore first last
-keeps_more first mid last f g = λ n h. g n (f n h)
 
 -- the items from one on are that one and those after it
 pub items_at : {A : Type 0} (xs : List A) (i : ℕ) (x : A) → i < length xs → x ≡ get_or xs i x

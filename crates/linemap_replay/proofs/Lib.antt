@@ -1,4 +1,7 @@
 mod AnsweredPlaces
+mod CopiedStretches
+mod KeptReads
+mod PartAnswers
 mod AnsweredCalls
 mod CopiedAnswers
 mod AnsweredTokens

@@ -2,11 +2,10 @@
 use Rattle.std.specs.Prelude.{◌≡◌, ℕ, ◌≤◌, All, List, [], ◌∷◌, map, slice_get, Option, option_and_then}
 use Rattle.addr2line_context.specs.DwarfFiles.{DwarfFile}
 use Rattle.addr2line_context.specs.AnsweredContexts.{AnsweredContext}
-use Rattle.addr2line_context.specs.ContextCosts.{runs_of_unit}
 use Rattle.addr2line_context.specs.ContextNames.{naming_in}
 use Rattle.addr2line_context.specs.Contexts.{FileContext}
 use Rattle.addr2line_context.specs.FirstAnswers.{SplitLoad, PendingLoad, FirstAnswers, Lookup, pending}
-use Rattle.addr2line_context.specs.ResolvedUnits.{ResolvedUnit}
+use Rattle.addr2line_context.specs.ResolvedUnits.{ResolvedUnit, runs_of_unit}
 use Rattle.addr2line_context.specs.Lookups.{Namings, resume}
 use Rattle.addr2line_context.specs.Histories.{ContextCall, find_location, find_frames, find_unit, find_location_range, preload_units, answer_token, parse_lines, parse_functions, parse_inlined_functions, CallAnswer, ContextState, call, history_from}
 use Rattle.linemap_replay.specs.declared.call.Call.{Call}
@@ -75,6 +74,11 @@ answers_after c ks = (state_after c.plain (naming_in c.plain) ks (state_of c [])
 
 -- ---- runs
 
--- the line number program of each unit was run once at most
-abbrev pub AreRunOnce : List ResolvedUnit → Type 0
-AreRunOnce us = All (λ u. runs_of_unit u ≤ 1) us
+-- the name of the counter of the runs of a unit's line number program
+abbrev pub run_counter : ResolvedUnit → ℕ
+run_counter u = (runs_of_unit u).name
+
+-- Each unit has the counter of runs that it had. Its line number program was run once at most.
+pub record AreRunOnce (old new : List ResolvedUnit) : Type 0 where
+  pub counters : map run_counter new ≡ map run_counter old
+  pub once : All (λ u. (runs_of_unit u).count ≤ 1) new

@@ -5,8 +5,8 @@ ghost use Rattle.addr2line_context.specs.AnsweredContexts.{AnsweredContext};
 ghost use Rattle.addr2line_context.specs.FirstAnswers.{Lookup};
 ghost use Rattle.addr2line_context.specs.FrameLoads.{IsDone, TellsWaiting};
 ghost use Rattle.addr2line_context.specs.Histories.{CallAnswer, answer_or_suspension};
-ghost use Rattle.addr2line_context.specs.KeptUnits.{KeepsMore};
 ghost use Rattle.addr2line_context.specs.SettledLookups.{loads_in};
+ghost use Rattle.linemap_replay.specs.CallEffects.{Covers, KeepsAndReads};
 ghost use Rattle.linemap_replay.specs.Outcomes.{CopiesOrNoMemory};
 ghost use Rattle.linemap_replay.specs.OwnedAnswers.{answer_of, copied_answer};
 ghost use Rattle.linemap_replay.specs.Replays.{WaitsForFirst};
@@ -36,7 +36,8 @@ pub(crate) trait AddressLookup<R: Reader> {
         ensures first { WaitsForFirst (loads_in context.old.value probe)
             (lookup context.old.value probe) }
         ensures value { context.new.value ≡ context.old.value }
-        ensures kept { KeepsMore context.old.units context.new.units };
+        ensures kept { KeepsAndReads (Covers context.old.value probe)
+            context.old.units context.new.units };
 
     // A copy of what it finds, where it waits for no load.
     fn copy_found(alloc: Global, context: &mut Context<R>, probe: u64) -> Result<Answer, Error>
@@ -44,7 +45,8 @@ pub(crate) trait AddressLookup<R: Reader> {
         ensures answer { CopiesOrNoMemory answer_of result
             (copied_answer (answer_or_suspension answer (lookup context.old.value probe))) }
         ensures value { context.new.value ≡ context.old.value }
-        ensures kept { KeepsMore context.old.units context.new.units };
+        ensures kept { KeepsAndReads (Covers context.old.value probe)
+            context.old.units context.new.units };
 }
 
 // The lookup of the frames of an address.

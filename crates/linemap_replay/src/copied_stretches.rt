@@ -2,9 +2,9 @@
 
 ghost use Rattle.std.specs.Prelude.{◌≡◌, map};
 ghost use Rattle.addr2line_context.specs.Contexts.{stretches};
-ghost use Rattle.addr2line_context.specs.KeptUnits.{KeepsMore};
 ghost use Rattle.addr2line_context.specs.Histories.{stretches_answer};
 ghost use Rattle.addr2line_context.specs.RangeItems.{stretch_of_item};
+ghost use Rattle.linemap_replay.specs.CallEffects.{KeepsAndReads};
 ghost use Rattle.linemap_replay.specs.Outcomes.{CopiesOrNoMemory};
 ghost use Rattle.linemap_replay.specs.OwnedAnswers.{stretch_of, answer_of, copied_answer};
 ghost use Rattle.linemap_replay.specs.StretchEnds.{EndsBy};
@@ -45,7 +45,7 @@ pub(crate) fn copy_stretches<R: Reader>(
     ensures answer { CopiesOrNoMemory answer_of result
         (copied_answer (stretches_answer (stretches context.old.value.plain.context low high))) }
     ensures value { context.new.value ≡ context.old.value }
-    ensures kept { KeepsMore context.old.units context.new.units }
+    ensures kept { KeepsAndReads (λ _. ⊥) context.old.units context.new.units }
 {
     let mut stretches = context.find_location_range(low, high)?;
     let mut copies = Vec::new(alloc);

@@ -1,10 +1,11 @@
 //! Calls on one context, one after the other.
 
-ghost use Rattle.std.specs.Prelude.{◌≡◌, OnOk, map, option_map};
-ghost use Rattle.addr2line_context.specs.KeptUnits.{KeepsMore};
+ghost use Rattle.std.specs.Prelude.{◌≡◌, OnErr, OnOk, map, option_map};
+ghost use Rattle.addr2line_context.specs.ContextNames.{naming_in};
+ghost use Rattle.linemap_replay.specs.CallEffects.{KeepsAndReads, LeavesAnswers, LeavesPart, MayReadFunctions, SomeMayReadFunctions};
 ghost use Rattle.linemap_replay.specs.Outcomes.{CopiesOrNoMemory};
 ghost use Rattle.linemap_replay.specs.OwnedAnswers.{answer_of, copied_answer};
-ghost use Rattle.linemap_replay.specs.Replays.{AreRunOnce, context_call, call_on, state_of, token_of, replay_answers, answers_after};
+ghost use Rattle.linemap_replay.specs.Replays.{AreRunOnce, context_call, call_on, state_of, token_of, replay_answers};
 
 use crate::address_lookup::{FrameLookup, UnitLookup};
 use crate::answer::Answer;
@@ -32,7 +33,12 @@ fn answer_call<R: Reader>(
         ≡ (call_on context.old.value (map token_of loads.old.items)
         (context_call (map (option_map (λ f. f.value.file)) answers.now) call.now)).1) }
     ensures plain { context.new.value.plain ≡ context.old.value.plain }
-    ensures kept { KeepsMore context.old.units context.new.units }
+    ensures part { OnErr result (LeavesPart context.old.value.plain
+        (naming_in context.old.value.plain)
+        (context_call (map (option_map (λ f. f.value.file)) answers.now) call.now)
+        (state_of context.old.value (map token_of loads.old.items)) context.new.value.answers) }
+    ensures kept { KeepsAndReads (MayReadFunctions context.old.value call.now)
+        context.old.units context.new.units }
 {
     match call {
         Call::Location(probe) => find_place(alloc, context, *probe),
@@ -54,7 +60,6 @@ fn answer_call<R: Reader>(
     }
 }
 
-#[tactic(auto, using(crate::proofs::AnsweredCalls::run_once))]
 /// The answers of calls on a context, in their order, as copies. Each call is answered as the
 /// context's own method answers it after those before. A lookup that waits for a load is resumed
 /// with the answers at the call's places in turn, and dropped where there are no more of them; the
@@ -70,11 +75,13 @@ pub fn replay<R: Reader>(
     ensures answers { CopiesOrNoMemory (λ found. map answer_of found.items) result
         (replay_answers context.old.value
         (map (context_call (map (option_map (λ f. f.value.file)) answers.now)) calls.now)) }
-    ensures left { OnOk result (context.new.value.answers ≡ answers_after context.old.value
-        (map (context_call (map (option_map (λ f. f.value.file)) answers.now)) calls.now)) }
+    ensures left { LeavesAnswers result context.old.value
+        (map (context_call (map (option_map (λ f. f.value.file)) answers.now)) calls.now)
+        context.new.value.answers }
     ensures plain { context.new.value.plain ≡ context.old.value.plain }
-    ensures kept { KeepsMore context.old.units context.new.units }
-    ensures once { AreRunOnce context.new.units }
+    ensures kept { KeepsAndReads (SomeMayReadFunctions context.old.value calls.now)
+        context.old.units context.new.units }
+    ensures once { AreRunOnce context.old.units context.new.units }
 {
     let mut found = Vec::new(alloc);
     let mut loads = Vec::new(alloc);

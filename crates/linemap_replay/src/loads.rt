@@ -1,10 +1,10 @@
 //! Lookups that wait for loads, which the answers at some places of a list answer.
 
-ghost use Rattle.std.specs.Prelude.{◌≡◌, OnOk, IfErr, map, option_map};
+ghost use Rattle.std.specs.Prelude.{◌≡◌, ◌⊎◌, ℕ, IfErr, OnErr, OnOk, map, option_map, take};
 ghost use Rattle.addr2line_context.specs.Error.TheVariants.{Memory};
 ghost use Rattle.addr2line_context.specs.FrameLoads.{TellsWaiting};
-ghost use Rattle.addr2line_context.specs.KeptUnits.{KeepsMore};
 ghost use Rattle.addr2line_context.specs.SettledLookups.{after_answer};
+ghost use Rattle.linemap_replay.specs.CallEffects.{Covers, KeepsAndReads};
 ghost use Rattle.linemap_replay.specs.Outcomes.{CopiesOrNoMemory};
 ghost use Rattle.linemap_replay.specs.Replays.{file_at, resume_with_all};
 
@@ -37,8 +37,11 @@ fn answer_next<R: Reader>(
     ensures plain { context.new.value.plain ≡ context.old.value.plain }
     ensures answered { OnOk result (context.new.value.answers ≡ (after_answer context.old.value
         probe (file_at (map (option_map (λ f. f.value.file)) answers.now) place)).answers) }
+    ensures left { (context.new.value.answers ≡ (after_answer context.old.value probe
+        (file_at (map (option_map (λ f. f.value.file)) answers.now) place)).answers)
+        ⊎ (context.new.value.answers ≡ context.old.value.answers) }
     ensures refusal { IfErr result (λ e. e ≡ Memory) }
-    ensures kept { KeepsMore context.old.units context.new.units }
+    ensures kept { KeepsAndReads (λ _. ⊥) context.old.units context.new.units }
 {
     let file = answer_at(answers, place)?;
     answer_first(context, probe, file)
@@ -57,7 +60,11 @@ pub(crate) fn resume_lookup<R: Reader, L: AddressLookup<R>>(
         (map (file_at (map (option_map (λ f. f.value.file)) answers.now)) places.now)
         ≡ (L.lookup context.new.value probe, context.new.value.answers)) }
     ensures plain { context.new.value.plain ≡ context.old.value.plain }
-    ensures kept { KeepsMore context.old.units context.new.units }
+    ensures part { OnErr result ((n : ℕ) × (context.new.value.answers
+        ≡ (resume_with_all L.lookup context.old.value probe (take n
+        (map (file_at (map (option_map (λ f. f.value.file)) answers.now)) places.now))).1)) }
+    ensures kept { KeepsAndReads (Covers context.old.value probe)
+        context.old.units context.new.units }
 {
     for place in places {
         if !L::waits(context, probe)? {

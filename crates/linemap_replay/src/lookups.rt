@@ -1,8 +1,8 @@
 //! Lookups, and calls that read all units, with copies of what they find.
 
-ghost use Rattle.std.specs.Prelude.{◌≡◌, [], OnOk, map, option_map};
-ghost use Rattle.addr2line_context.specs.KeptUnits.{KeepsMore};
+ghost use Rattle.std.specs.Prelude.{◌≡◌, ℕ, [], OnErr, OnOk, map, option_map, take};
 ghost use Rattle.addr2line_context.specs.Histories.{find_location, find_location_range, answer_or_suspension};
+ghost use Rattle.linemap_replay.specs.CallEffects.{Covers, KeepsAndReads};
 ghost use Rattle.linemap_replay.specs.Outcomes.{CopiesOrNoMemory};
 ghost use Rattle.linemap_replay.specs.OwnedAnswers.{answer_of, copied_answer};
 ghost use Rattle.linemap_replay.specs.Replays.{file_at, call_on, resume_with_all};
@@ -26,7 +26,7 @@ pub(crate) fn find_place<R: Reader>(
     ensures answer { CopiesOrNoMemory answer_of result
         (copied_answer (call_on context.old.value [] (find_location probe)).0) }
     ensures value { context.new.value ≡ context.old.value }
-    ensures kept { KeepsMore context.old.units context.new.units }
+    ensures kept { KeepsAndReads (λ _. ⊥) context.old.units context.new.units }
 {
     match context.find_location(probe) {
         Ok(place) => answer_place(alloc, place),
@@ -44,7 +44,7 @@ pub(crate) fn find_stretches<R: Reader>(
     ensures answer { CopiesOrNoMemory answer_of result
         (copied_answer (call_on context.old.value [] (find_location_range low high)).0) }
     ensures value { context.new.value ≡ context.old.value }
-    ensures kept { KeepsMore context.old.units context.new.units }
+    ensures kept { KeepsAndReads (λ _. ⊥) context.old.units context.new.units }
 {
     copy_stretches(alloc, context, low, high)
 }
@@ -64,7 +64,11 @@ pub(crate) fn find_copied<R: Reader, L: AddressLookup<R>>(
         ≡ (resume_with_all L.lookup context.old.value probe
         (map (file_at (map (option_map (λ f. f.value.file)) answers.now)) places.now)).1) }
     ensures plain { context.new.value.plain ≡ context.old.value.plain }
-    ensures kept { KeepsMore context.old.units context.new.units }
+    ensures part { OnErr result ((n : ℕ) × (context.new.value.answers
+        ≡ (resume_with_all L.lookup context.old.value probe (take n
+        (map (file_at (map (option_map (λ f. f.value.file)) answers.now)) places.now))).1)) }
+    ensures kept { KeepsAndReads (Covers context.old.value probe)
+        context.old.units context.new.units }
 {
     if resume_lookup::<R, L>(context, probe, places, answers)? {
         return Ok(Answer::Suspended);

@@ -1,8 +1,9 @@
 //! Calls that read all units.
 
-ghost use Rattle.std.specs.Prelude.{◌≡◌, [], OnOk};
-ghost use Rattle.addr2line_context.specs.KeptUnits.{KeepsMore};
-ghost use Rattle.addr2line_context.specs.Histories.{parse_lines, parse_functions, parse_inlined_functions};
+ghost use Rattle.std.specs.Prelude.{◌≡◌, [], ⊤, OnErr, OnOk};
+ghost use Rattle.addr2line_context.specs.ContextNames.{naming_in};
+ghost use Rattle.addr2line_context.specs.Histories.{calls_or_refusal, functions_or_refusal, parse_lines, parse_functions, parse_inlined_functions};
+ghost use Rattle.linemap_replay.specs.CallEffects.{KeepsAndReads, SomeUnitsParsed};
 ghost use Rattle.linemap_replay.specs.Outcomes.{CopiesOrNoMemory};
 ghost use Rattle.linemap_replay.specs.OwnedAnswers.{answer_of, copied_answer};
 ghost use Rattle.linemap_replay.specs.Replays.{call_on};
@@ -16,7 +17,7 @@ pub(crate) fn read_lines<R: Reader>(context: &mut Context<R>) -> Result<Answer, 
     ensures answer { CopiesOrNoMemory answer_of result
         (copied_answer (call_on context.old.value [] parse_lines).0) }
     ensures value { context.new.value ≡ context.old.value }
-    ensures kept { KeepsMore context.old.units context.new.units }
+    ensures kept { KeepsAndReads (λ _. ⊥) context.old.units context.new.units }
 {
     complete(context.parse_lines())
 }
@@ -28,7 +29,10 @@ pub(crate) fn read_functions<R: Reader>(context: &mut Context<R>) -> Result<Answ
     ensures left { OnOk result (context.new.value.answers
         ≡ (call_on context.old.value [] parse_functions).1.answers) }
     ensures plain { context.new.value.plain ≡ context.old.value.plain }
-    ensures kept { KeepsMore context.old.units context.new.units }
+    ensures part { OnErr result (SomeUnitsParsed context.old.value.plain
+        (functions_or_refusal context.old.value.plain)
+        context.old.value.answers context.new.value.answers) }
+    ensures kept { KeepsAndReads (λ _. ⊤) context.old.units context.new.units }
 {
     complete(context.parse_functions())
 }
@@ -40,7 +44,10 @@ pub(crate) fn read_calls<R: Reader>(context: &mut Context<R>) -> Result<Answer, 
     ensures left { OnOk result (context.new.value.answers
         ≡ (call_on context.old.value [] parse_inlined_functions).1.answers) }
     ensures plain { context.new.value.plain ≡ context.old.value.plain }
-    ensures kept { KeepsMore context.old.units context.new.units }
+    ensures part { OnErr result (SomeUnitsParsed context.old.value.plain
+        (calls_or_refusal context.old.value.plain (naming_in context.old.value.plain))
+        context.old.value.answers context.new.value.answers) }
+    ensures kept { KeepsAndReads (λ _. ⊤) context.old.units context.new.units }
 {
     complete(context.parse_inlined_functions())
 }

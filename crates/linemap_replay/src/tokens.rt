@@ -1,8 +1,8 @@
 //! Loads that are asked for ahead, and answers to them.
 
-ghost use Rattle.std.specs.Prelude.{◌≡◌, [], OnOk, map, option_map, slice_get};
-ghost use Rattle.addr2line_context.specs.KeptUnits.{KeepsMore};
+ghost use Rattle.std.specs.Prelude.{◌≡◌, ◌⊎◌, [], OnErr, OnOk, map, option_map, slice_get};
 ghost use Rattle.addr2line_context.specs.Histories.{preload_units, answer_token};
+ghost use Rattle.linemap_replay.specs.CallEffects.{KeepsAndReads};
 ghost use Rattle.linemap_replay.specs.Outcomes.{CopiesOrNoMemory};
 ghost use Rattle.linemap_replay.specs.OwnedAnswers.{dwo_ids, answer_of, copied_answer};
 ghost use Rattle.linemap_replay.specs.Replays.{call_on, token_of};
@@ -86,7 +86,10 @@ pub(crate) fn answer_by_token<R: Reader>(
         (map token_of loads.now)
         (answer_token number (option_map (λ f. f.value.file) file))).1.answers) }
     ensures plain { context.new.value.plain ≡ context.old.value.plain }
-    ensures kept { KeepsMore context.old.units context.new.units }
+    ensures part { OnErr result ((context.new.value.answers ≡ context.old.value.answers)
+        ⊎ (context.new.value.answers ≡ (call_on context.old.value (map token_of loads.now)
+        (answer_token number (option_map (λ f. f.value.file) file))).1.answers)) }
+    ensures kept { KeepsAndReads (λ _. ⊥) context.old.units context.new.units }
 {
     match token_at(loads, number) {
         Some(token) => complete(context.answer_load(token, file)),

@@ -8,6 +8,7 @@ use Rattle.addr2line_context.specs.Contexts.{Context, context}
 use Rattle.linemap_emit.specs.AnswerTexts.{ask_text}
 use Rattle.linemap_emit.specs.TableParts.{UnitPart}
 use Rattle.linemap_emit.specs.TableWeight.{table_weight}
+use Rattle.linemap_output.specs.ErrorLine.{emission_line}
 use Rattle.linemap_output.specs.WriterBytes.{AppendsPrefix}
 use Rattle.linemap_emit.specs.TableInText.{table_in}
 use Rattle.linemap_emit.specs.EmittedSections.{SectionBytes}
@@ -46,7 +47,7 @@ outcome_light : (text : List ℕ) (words : List (List ℕ)) (us : List UnitPart)
 outcome_light text words us is light =
     ap (λ r. outcome_of r words) is
     ∙ ap (λ b. if b then record { out = ask_text us words; err = []; status = 0 }
-    else refusal (codes "emit refused: ") (codes "M2")) (lt-ltb (table_weight us) (2 ^ 31) light)
+    else refusal (emission_line (codes "M2"))) (lt-ltb (table_weight us) (2 ^ 31) light)
 
 on_ok : {T E : Type 0} (r : Result T E) (P Q : Type 0) → (P → Q) → OnOk r P → OnOk r Q
 on_ok (Ok x) P Q f p = f p

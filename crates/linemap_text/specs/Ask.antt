@@ -5,7 +5,7 @@ use Rattle.linemap_emit.specs.AnswerTexts.{ask_text}
 use Rattle.linemap_emit.specs.TableWeight.{table_weight}
 use Rattle.linemap_emit.specs.declared.error.EmitError.{EmitError}
 use Rattle.linemap_emit.specs.declared.error.EmitError.TheVariants.{Memory as NoRoom, TooLarge as TooHeavy}
-use Rattle.linemap_output.specs.ErrorLine.{EndsAtFault, Fails, error_line}
+use Rattle.linemap_output.specs.ErrorLine.{EndsAtFault, Fails, emission_line, error_line, table_line}
 use Rattle.linemap_output.specs.Outcome.{Outcome}
 use Rattle.linemap_output.specs.declared.ended.Ended.{Ended}
 use Rattle.linemap_output.specs.declared.writing.WriteFault.{WriteFault}
@@ -20,15 +20,15 @@ use Rattle.linemap_text.specs.declared.stops.Stop.TheVariants.{Memory, Table, To
 
 -- ---- what is printed
 
-abbrev pub refusal : List ℕ → List ℕ → Outcome
-refusal message detail = record { out = []; err = error_line message detail; status = 1 }
+abbrev pub refusal : List ℕ → Outcome
+refusal line = record { out = []; err = line; status = 1 }
 
 -- the answers, unless the table weighs 2^31 or more
 abbrev pub outcome_of : Result (List UnitPart) TableError → List (List ℕ) → Outcome
-outcome_of (Err e) words = refusal (codes "table refused: ") (table_error_code e)
+outcome_of (Err e) words = refusal (table_line (table_error_code e))
 outcome_of (Ok units) words = if nat_lt (table_weight units) (2 ^ 31)
     then record { out = ask_text units words; err = []; status = 0 }
-    else refusal (codes "emit refused: ") (codes "M2")
+    else refusal (emission_line (codes "M2"))
 
 -- what `ask` prints for the text of a table and for words
 abbrev pub ask_outcome : List ℕ → List (List ℕ) → Outcome
@@ -66,7 +66,7 @@ StopsWriting (Output fault) = ⊤
 
 -- the text is a table: there are answers to print, or the table is refused for its weight
 abbrev pub EmitsTable : Outcome → Type 0
-EmitsTable p = (p.status ≡ 0) ⊎ (p ≡ refusal (codes "emit refused: ") (codes "M2"))
+EmitsTable p = (p.status ≡ 0) ⊎ (p ≡ refusal (emission_line (codes "M2")))
 
 -- memory may be refused for the table, then for its sections, and, where there are answers to
 -- print, for the context and the answers
@@ -79,16 +79,16 @@ MayRefuse p memory.Answers = p.status ≡ 0
 -- a refusal is the one that `ask` prints, and nothing is written before it
 abbrev pub StopsAt : Outcome → Stop → Type 0
 StopsAt p (Memory what) = MayRefuse p what
-StopsAt p (Table e) = p ≡ refusal (codes "table refused: ") (table_error_code e)
-StopsAt p TooLarge = p ≡ refusal (codes "emit refused: ") (codes "M2")
+StopsAt p (Table e) = p ≡ refusal (table_line (table_error_code e))
+StopsAt p TooLarge = p ≡ refusal (emission_line (codes "M2"))
 StopsAt p (Output fault) = p.status ≡ 0
 
 -- ---- how it is reported
 
 -- the error line of memory that is refused
 abbrev pub memory_line : MemoryUse → List ℕ
-memory_line memory.Table = error_line (codes "table refused: ") (codes "B1")
-memory_line memory.Emission = error_line (codes "emit refused: ") (codes "M1")
+memory_line memory.Table = table_line (codes "B1")
+memory_line memory.Emission = emission_line (codes "M1")
 memory_line memory.Context = error_line (codes "failed to load debug info: ") (codes "E1")
 memory_line memory.Answers = error_line (codes "out of memory") []
 
@@ -96,10 +96,8 @@ memory_line memory.Answers = error_line (codes "out of memory") []
 abbrev pub Reports : Stop → Option (List ℕ) → Option (List ℕ) → Ended → Type 0
 Reports (Memory what) old new e = Fails (memory_line what) old new e × (e.memory ≡ true)
 Reports (Table error) old new e =
-    Fails (error_line (codes "table refused: ") (table_error_code error)) old new e
-    × (e.memory ≡ false)
-Reports TooLarge old new e =
-    Fails (error_line (codes "emit refused: ") (codes "M2")) old new e × (e.memory ≡ false)
+    Fails (table_line (table_error_code error)) old new e × (e.memory ≡ false)
+Reports TooLarge old new e = Fails (emission_line (codes "M2")) old new e × (e.memory ≡ false)
 Reports (Output fault) old new e = EndsAtFault fault old new e
 
 -- the error stream failed while the refusal was written, or the output failed

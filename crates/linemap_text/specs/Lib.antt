@@ -1,4 +1,11 @@
 pub use Rattle.addr2line_context.specs.FilePaths
+pub use Rattle.addr2line_context.specs.BorrowedLocations
+pub use Rattle.addr2line_context.specs.Contexts
+pub use Rattle.linemap_emit.specs.ByteOrders
+pub use Rattle.linemap_emit.specs.EmissionBounds
+pub use Rattle.linemap_emit.specs.EmissionLaws
+pub use Rattle.linemap_emit.specs.RecordedTableLaws
+pub use Rattle.linemap_emit.specs.TargetEncodings
 pub use Rattle.linemap_emit.specs.EmissionTargets
 pub use Rattle.linemap_emit.specs.EmitErrorCodes
 pub use Rattle.linemap_emit.specs.SectionAnswers
@@ -20,6 +27,8 @@ pub use Rattle.linemap_emit.specs.TableWeight
 pub use Rattle.linemap_output.specs.ErrorLine
 pub use Rattle.linemap_output.specs.Outcome
 pub use Rattle.linemap_output.specs.WriterBytes
+pub use Rattle.linemap_output.specs.WritingLimits
+pub use Rattle.linemap_output.specs.declared.ended.Ended
 pub use Rattle.linemap_emit.specs.JsonShapes
 pub use Rattle.linemap_emit.specs.ShapeFaults
 pub use Rattle.linemap_emit.specs.TableErrorCodes
@@ -28,3 +37,5 @@ pub use Rattle.linemap_emit.specs.TableUnits
 pub mod Ask
 pub mod WordTexts
 pub mod WordLaws
+pub use Rattle.linemap_emit.specs.FittingUnits
+pub use Rattle.linemap_emit.specs.ListTables

@@ -12,9 +12,10 @@ pub use addr2line_context::{Context, Dwarf, EndianSlice, Error, Format, RunTimeE
 pub use engine::ask;
 pub use linemap_emit::{
     EmitError, Rule, Sections, Table, TableCall, TableError, TableFile, TableFunction, TableRange,
-    TableRow, TableSequence, TableUnit, Target, emit_sections,
+    TableRow, TableSequence, TableUnit, Target, emission_laws, emit_sections, fit_laws,
+    recorded_table_laws, table_laws,
 };
-pub use linemap_output::{Ended, cannot_read, out_of_memory, words_not_text};
+pub use linemap_output::{Ended, cannot_read, limits, out_of_memory, words_not_text};
 pub use section_readers::dwarf_of;
 pub use table_contexts::context_of;
 pub use word_lines::{place_line, word_line};

@@ -4,7 +4,10 @@ ghost use Rattle.linemap_output.specs.ErrorLine.{Fails};
 ghost use Rattle.linemap_text.specs.Ask.{memory_line};
 
 use linemap_emit::{EmitError, TableError};
-use linemap_output::{Ended, WriteFault, fail, out_of_memory, output_failed};
+use linemap_output::{
+    Ended, WriteFault, emission_out_of_memory, fail, out_of_memory, output_failed,
+    table_out_of_memory, table_refused, table_too_large,
+};
 use std::alloc::AllocError;
 use std::io::Write;
 
@@ -89,8 +92,8 @@ impl MemoryUse {
         ensures memory { result.memory ≡ true }
     {
         match self {
-            MemoryUse::Table => fail(err, "table refused: ", "B1").with_memory_refused(),
-            MemoryUse::Emission => fail(err, "emit refused: ", "M1").with_memory_refused(),
+            MemoryUse::Table => table_out_of_memory(err),
+            MemoryUse::Emission => emission_out_of_memory(err),
             MemoryUse::Context => fail(
                 err,
                 "failed to load debug info: ",
@@ -110,8 +113,8 @@ impl Stop {
     {
         match self {
             Stop::Memory(memory) => memory.report(err),
-            Stop::Table(error) => fail(err, "table refused: ", error.code()),
-            Stop::TooLarge => fail(err, "emit refused: ", "M2"),
+            Stop::Table(error) => table_refused(err, error.code()),
+            Stop::TooLarge => table_too_large(err),
             Stop::Output(fault) => output_failed(err, fault),
         }
     }

@@ -1,44 +1,22 @@
 //! The lines that answer words.
 
-ghost use Rattle.std.specs.Prelude.{◌≡◌, ◌++◌, Err, IfOk, option_map};
+ghost use Rattle.std.specs.Prelude.{◌≡◌, ◌++◌, Some, IfOk, OnOk, option_map};
 ghost use Rattle.std.specs.String.{string_bytes};
 ghost use Rattle.addr2line_context.specs.BorrowedLocations.{location_value};
 ghost use Rattle.addr2line_context.specs.Contexts.{location};
-ghost use Rattle.linemap_emit.specs.AnswerTexts.{discriminator_text, place_text};
 ghost use Rattle.linemap_text.specs.WordTexts.{NeverRefuses, text_of_place, text_of_answer, word_text};
 
 use addr2line_context::{Context, Error, Location, Reader};
-use linemap_emit::read_address;
+use linemap_emit::{push_discriminator, push_line, read_address};
 use std::alloc::{AllocError, Global};
 
-// A file and a line; `??` is a file that isn't known, and `?` a line that isn't.
-#[tactic(auto, using(std::proofs::lemmas::Fmt::decimal_digit))]
-fn file_and_line(alloc: Global, file: Option<&str>, line: Option<u32>) -> Result<String, AllocError>
-    ensures { IfOk result
-        (λ text. string_bytes text ≡ place_text (option_map (λ t. t.now) file.entry) line) }
+// Appends a place as file and line, with its discriminator.
+fn push_place(text: &mut String, place: Location<'_>) -> Result<(), AllocError>
+    ensures { OnOk result (string_bytes text.new
+        ≡ string_bytes text.old ++ text_of_place (Some (location_value place.entry))) }
 {
-    match (file, line) {
-        (None, None) => String::from_str(alloc, "??:?"),
-        (None, Some(line)) => format!(in alloc; "??:{line}"),
-        (Some(file), None) => format!(in alloc; "{file}:?"),
-        (Some(file), Some(line)) => format!(in alloc; "{file}:{line}"),
-    }
-}
-
-// A text with a discriminator after it.
-#[tactic(auto, using(std::proofs::lemmas::Fmt::decimal_digit))]
-fn with_discriminator(
-    alloc: Global,
-    text: String,
-    discriminator: Option<u64>,
-) -> Result<String, AllocError>
-    ensures { IfOk result (λ line.
-        string_bytes line ≡ string_bytes text ++ discriminator_text discriminator) }
-{
-    match discriminator {
-        None | Some(0) => Ok(text),
-        Some(number) => format!(in alloc; "{text} (discriminator {number})"),
-    }
+    push_line(text, place.file.unwrap_or("??"), place.line)?;
+    push_discriminator(text, place.discriminator)
 }
 
 /// A place as file and line, without a line end; `??` is a file that isn't known, and `?` a line
@@ -51,8 +29,9 @@ pub fn place_line(alloc: Global, place: Option<Location<'_>>) -> Result<String, 
     match place {
         None => String::from_str(alloc, "??:0"),
         Some(place) => {
-            let text = file_and_line(alloc, place.file, place.line)?;
-            with_discriminator(alloc, text, place.discriminator)
+            let mut text = String::new(alloc);
+            push_place(&mut text, place)?;
+            Ok(text)
         }
     }
 }

@@ -1,6 +1,6 @@
 -- The calls so far are answered.
 use Rattle.std.proofs.Common.{map, option_map}
-use Rattle.addr2line_context.specs.KeptUnits.{KeepsMore}
+use Rattle.linemap_replay.specs.CallEffects.{KeepsAndReads, SomeMayReadFunctions}
 use Rattle.linemap_replay.specs.Replays.{token_of}
 use Rattle.linemap_replay.proofs.AnsweredCalls.{AnsweredBefore}
 use Rattle.linemap_replay.proofs.history.replay.Given as goal
@@ -9,4 +9,4 @@ abbrev pub invariant-loop-call : goal.invariant-loop-call
 invariant-loop-call g l =
     AnsweredBefore (map (option_map (λ f. f.value.file)) l.answers) l.fn.context.value l.calls l.context.value
     (map token_of l.loads.items) l.found.items l.call-index
-    × KeepsMore l.fn.context.units l.context.units
+    × KeepsAndReads (SomeMayReadFunctions l.fn.context.value l.calls) l.fn.context.units l.context.units

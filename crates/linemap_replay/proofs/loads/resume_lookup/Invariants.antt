@@ -1,6 +1,6 @@
 -- The loads so far were answered in turn, and what is left to resume is the same.
-use Rattle.std.proofs.Common.{◌≡◌, map, drop, option_map}
-use Rattle.addr2line_context.specs.KeptUnits.{KeepsMore}
+use Rattle.std.proofs.Common.{◌≡◌, map, drop, take, option_map}
+use Rattle.linemap_replay.specs.CallEffects.{Covers, KeepsAndReads}
 use Rattle.linemap_replay.specs.Replays.{file_at, resume_with_all}
 use Rattle.linemap_replay.proofs.loads.resume_lookup.Given as goal
 
@@ -10,6 +10,8 @@ invariant-loop-place g l =
     let files = map (option_map (λ f. f.value.file)) l.answers in
     let start = l.fn.context.value in
     (l.context.value.plain ≡ start.plain)
-    × KeepsMore l.fn.context.units l.context.units
+    × KeepsAndReads (Covers start l.probe) l.fn.context.units l.context.units
     × (resume_with_all lookup l.context.value l.probe (map (file_at files) (drop l.place-index l.places))
     ≡ resume_with_all lookup start l.probe (map (file_at files) l.places))
+    × (l.context.value.answers
+    ≡ (resume_with_all lookup start l.probe (map (file_at files) (take l.place-index l.places))).1)

@@ -1,9 +1,12 @@
-use Rattle.std.proofs.Common.{◌≡◌, sym, ap, Result}
+use Rattle.std.proofs.Common.{◌≡◌, inr, sym, ap, Result}
+use Rattle.std.specs.Prelude.{⊤}
 use Rattle.addr2line_context.specs.Error.{Error}
 use Rattle.addr2line_context.specs.FirstAnswers.{FirstAnswers}
 use Rattle.addr2line_context.specs.ContextNames.{naming_in}
 use Rattle.addr2line_context.specs.Histories.{calls_or_refusal, parse_all}
 use Rattle.linemap_replay.proofs.CopiedAnswers.{completion_copy, if_completed, meaning_is_parse}
+use Rattle.linemap_replay.proofs.KeptReads.{by_looks}
+use Rattle.linemap_replay.proofs.PartAnswers.{if_err, parsed_part}
 use Rattle.linemap_replay.proofs.parses.read_calls.Goals as goal
 
 pub returns-clause-answer : goal.returns-clause-answer
@@ -26,3 +29,16 @@ returns-clause-left g c =
     (meaning_is_parse old.plain parse c.parse_inlined_functions.result old.answers
     c.parse_inlined_functions.new.self.value.answers
     c.parse_inlined_functions.ensures.calls other))) c.complete.ensures
+
+pub returns-clause-part : goal.returns-clause-part
+returns-clause-part g c =
+    let old = c.args.context.now.value in
+    if_err c.complete.result _
+    (parsed_part old.plain (calls_or_refusal old.plain (naming_in old.plain))
+    c.parse_inlined_functions.result old.answers
+    c.parse_inlined_functions.new.self.value.answers c.parse_inlined_functions.ensures.calls)
+
+pub returns-clause-kept : goal.returns-clause-kept
+returns-clause-kept g c =
+    by_looks (λ n. ⊤) 0 c.args.context.now.units c.parse_inlined_functions.new.self.units
+    c.parse_inlined_functions.ensures.cost (λ n h. inr tt)

@@ -1,8 +1,11 @@
-use Rattle.std.proofs.Common.{◌≡◌, sym, ap, Result}
+use Rattle.std.proofs.Common.{◌≡◌, inr, sym, ap, Result}
+use Rattle.std.specs.Prelude.{⊤}
 use Rattle.addr2line_context.specs.Error.{Error}
 use Rattle.addr2line_context.specs.FirstAnswers.{FirstAnswers}
 use Rattle.addr2line_context.specs.Histories.{functions_or_refusal, parse_all}
 use Rattle.linemap_replay.proofs.CopiedAnswers.{completion_copy, if_completed, meaning_is_parse}
+use Rattle.linemap_replay.proofs.KeptReads.{by_looks}
+use Rattle.linemap_replay.proofs.PartAnswers.{if_err, parsed_part}
 use Rattle.linemap_replay.proofs.parses.read_functions.Goals as goal
 
 pub returns-clause-answer : goal.returns-clause-answer
@@ -23,3 +26,15 @@ returns-clause-left g c =
     (λ other. sym (ap (λ (x : Result (Unit {0}) Error × FirstAnswers). x.1)
     (meaning_is_parse old.plain parse c.parse_functions.result old.answers c.parse_functions.new.self.value.answers
     c.parse_functions.ensures.functions other))) c.complete.ensures
+
+pub returns-clause-part : goal.returns-clause-part
+returns-clause-part g c =
+    let old = c.args.context.now.value in
+    if_err c.complete.result _
+    (parsed_part old.plain (functions_or_refusal old.plain) c.parse_functions.result old.answers
+    c.parse_functions.new.self.value.answers c.parse_functions.ensures.functions)
+
+pub returns-clause-kept : goal.returns-clause-kept
+returns-clause-kept g c =
+    by_looks (λ n. ⊤) 0 c.args.context.now.units c.parse_functions.new.self.units
+    c.parse_functions.ensures.cost (λ n h. inr tt)

@@ -1,5 +1,7 @@
 use Rattle.std.proofs.Common.{sym, option_map}
 use Rattle.linemap_replay.proofs.AnsweredTokens.{token_copy, token_left, no_token_copy, no_token_left}
+use Rattle.linemap_replay.proofs.KeptReads.{by_looks, keeps_same, reads_none}
+use Rattle.linemap_replay.proofs.PartAnswers.{if_err, token_part}
 use Rattle.linemap_replay.proofs.tokens.answer_by_token.Goals as goal
 
 pub returns-in-Some-clause-answer : goal.returns-in-Some-clause-answer
@@ -23,3 +25,18 @@ pub returns-in-None-clause-left : goal.returns-in-None-clause-left
 returns-in-None-clause-left g c =
     no_token_left c.args.context.now.value c.args.loads.now c.args.number (option_map (λ f. f.value.file) c.args.file)
     (sym c.in-None.ensures)
+
+pub returns-in-Some-clause-part : goal.returns-in-Some-clause-part
+returns-in-Some-clause-part g c =
+    if_err c.complete.result _
+    (token_part c.args.context.now.value c.args.loads.now c.args.number (option_map (λ f. f.value.file) c.args.file)
+    c.in-Some.token (sym c.in-Some.ensures) c.answer_load.result c.answer_load.new.self.value.answers
+    c.answer_load.ensures.answers)
+
+pub returns-in-Some-clause-kept : goal.returns-in-Some-clause-kept
+returns-in-Some-clause-kept g c =
+    by_looks (λ n. ⊥) 0 c.args.context.now.units c.answer_load.new.self.units c.answer_load.ensures.cost
+    (reads_none (λ n. ⊥) c.args.context.now.units c.answer_load.new.self.units c.answer_load.ensures.functions)
+
+pub returns-in-None-clause-kept : goal.returns-in-None-clause-kept
+returns-in-None-clause-kept g c = keeps_same (λ n. ⊥) c.args.context.now.units
