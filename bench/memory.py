@@ -83,7 +83,7 @@ def case_inputs():
     every = cases.paragraphs()
     every = every[:next(place for place, it in enumerate(every) if it.startswith(cases.MADE))]
     for case in every:
-        if not re.search("^(context|image|bytes) ", case, re.MULTILINE) or LEFT_OUT.search(case):
+        if not re.search("^(context|image|sections|bytes) ", case, re.MULTILINE) or LEFT_OUT.search(case):
             continue
         words, named = set(case.split()), []
         for it in reversed(every):

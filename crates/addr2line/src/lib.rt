@@ -1,11 +1,13 @@
 //! Which file, line and column of the source an address of a program belongs to, and which
 //! functions are at work there, read from debug information. The names are those of the Rust crate
-//! `addr2line`; each is defined and proved in one of the crates below.
+//! `addr2line`; each is defined and proved in one of the crates below. The definitions that their
+//! contracts cite are passed on, but those of `Dwarf`, `Error` and `Reader`, which are `gimli`'s.
 #![tactic(auto)]
 
 pub use addr2line_context::{
-    Context, FindFrames, FindUnit, Frame, FrameIter, FunctionName, Location, LocationRangeIter,
-    LookupContinuation, LookupResult, Runs, SplitDwarfLoad, UnitLines, UnitToken,
+    Context, Dwarf, Error, FindFrames, FindUnit, Frame, FrameIter, FunctionName, Location,
+    LocationRangeIter, LookupContinuation, LookupResult, Reader, Runs, SplitDwarfLoad, UnitLines,
+    UnitToken,
 };
 pub use addr2line_debug_files::{
     Candidate, DebugFiles, FilesByPath, Identity, MemoryFiles, NamedFile, SystemFiles,
@@ -31,6 +33,3 @@ pub mod laws {
         call_laws as calls, lookup_laws as meaning, suspension_laws as suspension,
     };
 }
-
-#[cfg(test)]
-mod tests;

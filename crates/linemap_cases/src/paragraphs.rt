@@ -11,6 +11,8 @@
 //! Where memory is refused for an answer, the same context or loader is asked again, and the second
 //! answer begins with `E1, then`; so is an iterator for its next item, and a file is loaded again.
 //!
+//! - `sections NAME` begins questions about the sections and the units of a file, through borrowed
+//!   bytes alone. `sections.rt` says which; a line `supplement NAME` may be before them.
 //! - `image PATH` begins questions about an ELF file, which a loader reads.
 //! - `bytes PATH` is the same of its bytes in memory.
 //!
@@ -29,6 +31,7 @@ mod loaders;
 mod loads;
 mod places;
 mod question;
+mod sections;
 mod sources;
 mod units;
 
@@ -70,7 +73,11 @@ fn answers_about_file(
         return Ok(String::new(alloc));
     }
     let mut out = Answer::new(alloc);
-    contexts::answer(alloc, files, &case, &mut out);
+    if case.is_about_sections {
+        sections::answer(alloc, files, &case, &mut out);
+    } else {
+        contexts::answer(alloc, files, &case, &mut out);
+    }
     Ok(out.finish()?)
 }
 

@@ -24,7 +24,7 @@
 //! - `weight TABLE` asks what a table weighs.
 //! - `large COUNT ORDER` asks how many units a table has that is made of one with COUNT ranges,
 //!   functions and sequences: `ascending`, `descending`, or `overlapping` where a range is there
-//!   twice.
+//!   twice; or, as `nested`, with COUNT calls of which each is inlined into the one before.
 //! - `lookup TABLE WORD..` asks what `lookup` prints of the image of a table, and how it ends. A
 //!   word is an address; options, as `-fi`, `--all`, `--llvm` and `--statements`; `section=NAME`;
 //!   `target=VERSION:BITS:SIZE:ORDER` for another one than 4:32:8:little; `in=TEXT`, what is read
@@ -63,6 +63,7 @@ mod streams;
 
 use crate::answer::Answer;
 pub use emission::Refusal;
+pub use ending::add_stream;
 use question::{Question, Topic, question_in};
 use std::alloc::AllocError;
 use std::fs;

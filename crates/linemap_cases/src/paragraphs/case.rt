@@ -1,8 +1,8 @@
 //! Paragraphs of the input.
 
-use super::data::bytes_of;
+use super::data::{bytes_of, number_of};
 use super::files::{File, file_number, section_of};
-use super::question::{Question, question_of};
+use super::question::{Question, question_of, section_question_of};
 use super::units::units_of;
 use crate::mistake::Mistake;
 use addr2line_context::SectionId;
@@ -21,8 +21,12 @@ pub struct Case {
     /// The file is kept under its name, and nothing is asked.
     pub is_file: bool,
     pub file: File,
+    /// What is asked is asked of the file's sections and units, and of no context.
+    pub is_about_sections: bool,
     /// The number of its supplement among the files.
     pub supplement: Option<usize>,
+    /// The number of its main file among the files, and that of the skeleton of its units there.
+    pub skeleton: Option<(usize, usize)>,
     pub asked: Vec<Asked>,
 }
 
@@ -32,7 +36,9 @@ impl Case {
         let mut case = Case {
             is_file: false,
             file: File::new(alloc),
+            is_about_sections: false,
             supplement: None,
+            skeleton: None,
             asked: Vec::new(alloc),
         };
         for line in lines {
@@ -46,6 +52,14 @@ impl Case {
         match word {
             "file" => self.begin_file(alloc, files, rest),
             "context" => self.add_sections(alloc, files, rest),
+            "sections" => {
+                self.is_about_sections = true;
+                self.add_sections(alloc, files, rest)
+            }
+            "skeleton" => {
+                self.skeleton = Some(skeleton_of(files, rest)?);
+                Ok(())
+            }
             "supplement" => {
                 self.supplement = Some(file_number(files, rest)?);
                 Ok(())
@@ -83,8 +97,20 @@ impl Case {
     }
 
     fn ask(&mut self, alloc: Global, files: &[File], line: &str) -> Result<(), Mistake> {
-        let question = question_of(files, line)?;
+        let question = if self.is_about_sections {
+            section_question_of(line)
+        } else {
+            question_of(files, line)?
+        };
         let line = line.to_string(alloc)?;
         Ok(self.asked.push(Asked { line, question })?)
     }
+}
+
+// The words are the main file's name and the skeleton's number.
+fn skeleton_of(files: &[File], words: &str) -> Result<(usize, usize), Mistake> {
+    let (name, number) = words.split_once(' ').ok_or(Mistake::Word)?;
+    let main = file_number(files, name)?;
+    let number = usize::try_from(number_of(number)?).map_err(|_| Mistake::Word)?;
+    Ok((main, number))
 }

@@ -81,7 +81,11 @@ fn answers_by_shared(alloc: Global, files: &[File], case: &Case) -> Result<Strin
     answers_with(alloc, case, context, &named)
 }
 
-fn supplement_in<'a, R: Reader>(case: &Case, named: &'a [Sections<R>]) -> Option<&'a Sections<R>> {
+/// The supplement of a paragraph's file.
+pub fn supplement_in<'a, R: Reader>(
+    case: &Case,
+    named: &'a [Sections<R>],
+) -> Option<&'a Sections<R>> {
     match case.supplement {
         Some(number) => named.get(number),
         None => None,
@@ -147,7 +151,8 @@ fn context_of_sections<'a>(alloc: Global, file: &'a File) -> Result<Context<Borr
     )
 }
 
-fn dwarf_of<R: Reader>(
+/// A file with its supplement, if it has one.
+pub fn dwarf_of<R: Reader>(
     alloc: Global,
     file: &Sections<R>,
     supplement: Option<&Sections<R>>,

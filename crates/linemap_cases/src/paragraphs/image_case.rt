@@ -22,6 +22,8 @@ pub enum ImageQuestion {
     Section,
     /// The address that addresses count from.
     Base,
+    /// What the source of split files gives for the directory and the name that end the line.
+    SplitFile,
     /// How many prefixes of the image can be loaded.
     Prefixes,
 }
@@ -136,6 +138,7 @@ fn question_of(line: &str) -> Result<ImageQuestion, Mistake> {
     let mut words = line.split_whitespace();
     match words.next() {
         Some("section") => Ok(ImageQuestion::Section),
+        Some("split_file") => Ok(ImageQuestion::SplitFile),
         Some("base") => Ok(ImageQuestion::Base),
         Some("prefixes") => Ok(ImageQuestion::Prefixes),
         Some(word) if word.starts_with('#') => Ok(ImageQuestion::Heading),

@@ -3,6 +3,7 @@
 use super::image_case::{ImageAsked, ImageCase, ImageQuestion, Patch, Source};
 use super::{frames, places, sources};
 use crate::answer::Answer;
+use crate::tables::add_stream;
 use addr2line_loader::Loader;
 use addr2line_split::{FileSource, LoadError, SplitSource, Symbol};
 use bytes::Bytes;
@@ -130,6 +131,7 @@ fn ask<S: SplitSource>(loader: &mut Loader, asked: &ImageAsked, source: &mut S, 
         ImageQuestion::Stretches(low, high) => stretches(loader, low, high, out),
         ImageQuestion::Symbol(probe) => symbol(loader, probe, out),
         ImageQuestion::Section => section(loader, &asked.line, out),
+        ImageQuestion::SplitFile => split_file(source, &asked.line, out),
         ImageQuestion::Base => out.hex(loader.relative_address_base()),
         _ => {}
     }
@@ -181,6 +183,17 @@ fn section(loader: &Loader, line: &str, out: &mut Answer) {
             out.hex(range.end);
         }
         None => out.text("none"),
+    }
+}
+
+// What a source has for the directory, if there is one, and the name after the line's first word.
+fn split_file<S: SplitSource>(source: &mut S, line: &str, out: &mut Answer) {
+    let words = line.strip_prefix("split_file ").unwrap_or("");
+    let (directory, name) = words.split_once(' ').unwrap_or(("", words));
+    match source.get(directory.as_bytes(), name.as_bytes()) {
+        Ok(Some(bytes)) => add_stream("", bytes.as_slice(), out),
+        Ok(None) => out.text("none"),
+        Err(error) => out.refuse_named(error),
     }
 }
 

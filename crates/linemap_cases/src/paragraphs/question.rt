@@ -5,7 +5,8 @@ use super::files::{File, file_number};
 use crate::mistake::Mistake;
 use std::str::SplitWhitespace;
 
-/// What is asked of a context. A file that answers a load is one by its number, or none.
+/// What is asked of a context, or of sections. A file that answers a load is one by its number, or
+/// none.
 #[derive(Clone, Copy)]
 pub enum Question {
     /// Nothing: the line is repeated.
@@ -40,6 +41,8 @@ pub enum Question {
     Resume(u64, Option<usize>),
     /// The unit of an address, likewise.
     ResumeUnit(u64, Option<usize>),
+    /// What the line says of the sections of a file.
+    Sections,
 }
 
 /// Addresses at equal steps.
@@ -64,6 +67,15 @@ pub fn question_of(files: &[File], line: &str) -> Result<Question, Mistake> {
         Some("frames_of_each") => Ok(Question::FramesOfEach(steps_of(&mut words)?)),
         Some(word) => question_of_number(files, word, &mut words),
         None => Err(Mistake::Word),
+    }
+}
+
+/// The same of a line about sections.
+pub fn section_question_of(line: &str) -> Question {
+    if line.starts_with('#') {
+        Question::Heading
+    } else {
+        Question::Sections
     }
 }
 

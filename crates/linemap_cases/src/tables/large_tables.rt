@@ -15,12 +15,18 @@ pub enum Order {
     Descending,
     /// The last range is there twice.
     Overlapping,
+    /// One function, with a call in which each of the others is inlined into the one before.
+    Nested,
 }
 
 /// Adds the number of units of a table, which is made of one with `count` ranges, functions and
-/// sequences; or why it is refused.
+/// sequences, or `count` calls; or why it is refused.
 pub fn answer(count: u32, order: Order, out: &mut Answer) {
-    match unit_of(out.alloc, count, order) {
+    let unit = match order {
+        Order::Nested => unit_of_calls(out.alloc, count),
+        _ => unit_of(out.alloc, count, order),
+    };
+    match unit {
         Ok(unit) => check(unit, out),
         Err(_) => out.refuse_memory(),
     }
@@ -54,20 +60,42 @@ fn range_at(index: u32) -> TableRange {
     }
 }
 
-fn function_at(alloc: Global, place: u32) -> Result<TableFunction, AllocError> {
-    let call = TableCall {
+fn call_at(alloc: Global, place: u32, calls: Vec<TableCall>) -> Result<TableCall, AllocError> {
+    Ok(TableCall {
         name: String::from_str(alloc, "f")?,
         ranges: vec![in alloc; range_at(place)]?,
         file: 0,
         line: 1,
         column: 1,
-        calls: Vec::new(alloc),
-    };
+        calls,
+    })
+}
+
+fn function_with(
+    alloc: Global,
+    place: u32,
+    calls: Vec<TableCall>,
+) -> Result<TableFunction, AllocError> {
     Ok(TableFunction {
         name: String::from_str(alloc, "f")?,
         ranges: vec![in alloc; range_at(place)]?,
-        calls: vec![in alloc; call]?,
+        calls,
     })
+}
+
+fn function_at(alloc: Global, place: u32) -> Result<TableFunction, AllocError> {
+    let call = call_at(alloc, place, Vec::new(alloc))?;
+    function_with(alloc, place, vec![in alloc; call]?)
+}
+
+// Calls of one range, each inlined into the one before.
+fn nested_calls(alloc: Global, count: u32) -> Result<Vec<TableCall>, AllocError> {
+    let mut calls = Vec::new(alloc);
+    for _ in 0..count {
+        let call = call_at(alloc, 0, calls)?;
+        calls = vec![in alloc; call]?;
+    }
+    Ok(calls)
 }
 
 fn sequence_at(alloc: Global, place: u32) -> Result<TableSequence, AllocError> {
@@ -83,6 +111,18 @@ fn sequence_at(alloc: Global, place: u32) -> Result<TableSequence, AllocError> {
         rows: vec![in alloc; row]?,
         end: range_at(place).end,
     })
+}
+
+// A unit of one function with nested calls.
+fn unit_of_calls(alloc: Global, count: u32) -> Result<TableUnit, AllocError> {
+    let function = function_with(alloc, 0, nested_calls(alloc, count)?)?;
+    let sequence = sequence_at(alloc, 0)?;
+    unit_with(
+        alloc,
+        vec![in alloc; range_at(0)]?,
+        vec![in alloc; function]?,
+        vec![in alloc; sequence]?,
+    )
 }
 
 // A unit of ranges, which ascend, and as many functions with a call each and sequences.
@@ -105,6 +145,15 @@ fn unit_of(alloc: Global, count: u32, order: Order) -> Result<TableUnit, AllocEr
         let last = range_at(count.saturating_sub(1));
         ranges.push(last).map_err(AllocError::from)?;
     }
+    unit_with(alloc, ranges, functions, sequences)
+}
+
+fn unit_with(
+    alloc: Global,
+    ranges: Vec<TableRange>,
+    functions: Vec<TableFunction>,
+    sequences: Vec<TableSequence>,
+) -> Result<TableUnit, AllocError> {
     let file = TableFile {
         directory: String::from_str(alloc, "/w")?,
         name: String::from_str(alloc, "a.c")?,

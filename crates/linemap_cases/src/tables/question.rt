@@ -97,6 +97,7 @@ fn large_question_in<'a>(text: &str) -> Option<Question<'a>> {
         "ascending" => Order::Ascending,
         "descending" => Order::Descending,
         "overlapping" => Order::Overlapping,
+        "nested" => Order::Nested,
         _ => return None,
     };
     Some(Question::LargeTable(count.parse().ok()?, order))
