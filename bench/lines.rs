@@ -43,6 +43,38 @@ fn section(size: usize) -> Vec<u8> {
     section
 }
 
+const BEFORE_LENGTH: &[u8] = &[5, 0, 8, 0];
+const BEFORE_DIRECTORIES: &[u8] = &[1, 1, 1, 0xfb, 14, 13, 0, 1, 1, 1, 1, 0, 0, 0, 1, 0, 0, 1, 1, 1, 0x1f];
+const FILE_FORMATS: &[u8] = &[2, 1, 0x1f, 2, 0x0f];
+const FILE_FORMATS_WITH_DIGEST: &[u8] = &[3, 1, 0x1f, 2, 0x0f, 5, 0x1e];
+
+fn headers_section(size: usize) -> Vec<u8> {
+    let mut source = Source(1);
+    let mut section = Vec::new();
+    while section.len() < size {
+        let mut fields = BEFORE_DIRECTORIES.to_vec();
+        let directories = 1 + source.next() % 4;
+        fields.push(directories);
+        fields.extend((0..4 * usize::from(directories)).map(|_| source.next()));
+        let has_digests = source.next() < 0x80;
+        fields.extend(if has_digests { FILE_FORMATS_WITH_DIGEST } else { FILE_FORMATS });
+        let files = 1 + source.next() % 64;
+        fields.push(files);
+        for _ in 0..files {
+            fields.extend((0..4).map(|_| source.next()));
+            source.number(&mut fields);
+            if has_digests {
+                fields.extend((0..16).map(|_| source.next()));
+            }
+        }
+        section.extend((fields.len() as u32 + 8).to_le_bytes());
+        section.extend(BEFORE_LENGTH);
+        section.extend((fields.len() as u32).to_le_bytes());
+        section.extend(fields);
+    }
+    section
+}
+
 fn instruction(source: &mut Source, bytes: &mut Vec<u8>) {
     let with_number = |opcode, source: &mut Source, bytes: &mut Vec<u8>| {
         bytes.push(opcode);
@@ -102,6 +134,167 @@ fn header(section: &[u8]) -> Option<Header<'_>> {
         operand_counts: unit.get(12..11 + opcode_base as usize)?,
         program: unit.get(6 + header_length..)?,
     })
+}
+
+// ---- headers with files
+
+enum Value<'a> {
+    Number(u64),
+    Offset(usize),
+    Text { _bytes: &'a [u8] },
+    Digest([u8; 16]),
+}
+
+struct File<'a> {
+    path: Value<'a>,
+    directory: u64,
+    _timestamp: u64,
+    _size: u64,
+    digest: [u8; 16],
+}
+
+struct Tables<'a> {
+    _directory_formats: Vec<(u64, u64)>,
+    _directories: Vec<Value<'a>>,
+    _file_formats: Vec<(u64, u64)>,
+    files: Vec<File<'a>>,
+}
+
+fn fixed<const N: usize>(bytes: &[u8], at: &mut usize) -> Option<[u8; N]> {
+    let value = bytes.get(*at..)?.first_chunk()?;
+    *at += N;
+    Some(*value)
+}
+
+fn value<'a>(bytes: &'a [u8], at: &mut usize, form: u64) -> Option<Value<'a>> {
+    Some(match form {
+        0x08 => {
+            let text = bytes.get(*at..)?;
+            let length = text.iter().position(|byte| *byte == 0)?;
+            *at += length + 1;
+            Value::Text { _bytes: &text[..length] }
+        }
+        0x0b => Value::Number(u8::from_le_bytes(fixed(bytes, at)?).into()),
+        0x05 => Value::Number(u16::from_le_bytes(fixed(bytes, at)?).into()),
+        0x0f => Value::Number(leb128(bytes, at)?),
+        0x0e | 0x1f => Value::Offset(u32::from_le_bytes(fixed(bytes, at)?) as usize),
+        0x1e => Value::Digest(fixed(bytes, at)?),
+        _ => return None,
+    })
+}
+
+fn formats(bytes: &[u8], at: &mut usize) -> Option<Vec<(u64, u64)>> {
+    let [count] = fixed(bytes, at)?;
+    let mut formats = Vec::new();
+    for _ in 0..count {
+        formats.push((leb128(bytes, at)?, leb128(bytes, at)?));
+    }
+    (formats.iter().filter(|format| format.0 == 1).count() == 1).then_some(formats)
+}
+
+fn file<'a>(bytes: &'a [u8], at: &mut usize, formats: &[(u64, u64)]) -> Option<File<'a>> {
+    let mut file = File { path: Value::Number(0), directory: 0, _timestamp: 0, _size: 0, digest: [0; 16] };
+    for (content, form) in formats {
+        match (content, value(bytes, at, *form)?) {
+            (1, path) => file.path = path,
+            (2, Value::Number(number)) => file.directory = number,
+            (3, Value::Number(number)) => file._timestamp = number,
+            (4, Value::Number(number)) => file._size = number,
+            (5, Value::Digest(digest)) => file.digest = digest,
+            _ => {}
+        }
+    }
+    Some(file)
+}
+
+fn tables<'a>(bytes: &'a [u8], at: &mut usize) -> Option<Tables<'a>> {
+    let directory_formats = formats(bytes, at)?;
+    let mut directories = Vec::new();
+    for _ in 0..leb128(bytes, at)? {
+        directories.push(file(bytes, at, &directory_formats)?.path);
+    }
+    let file_formats = formats(bytes, at)?;
+    let mut files = Vec::new();
+    for _ in 0..leb128(bytes, at)? {
+        files.push(file(bytes, at, &file_formats)?);
+    }
+    Some(Tables { _directory_formats: directory_formats, _directories: directories, _file_formats: file_formats, files })
+}
+
+// The fields of a header of version 5, which begin at its third length, and its tables.
+fn header_of_5(unit: &[u8]) -> Option<Tables<'_>> {
+    let header_length = u32::from_le_bytes(unit.get(4..8)?.try_into().ok()?) as usize;
+    let fields = unit.get(8..8 + header_length)?;
+    if *fields.first()? == 0 || *fields.get(1)? == 0 || *fields.get(4)? == 0 || *fields.get(5)? == 0 {
+        return None;
+    }
+    tables(fields, &mut (5 + usize::from(fields[5])))
+}
+
+fn headers(section: &[u8]) -> Option<u64> {
+    let (mut sum, mut at) = (0, 0);
+    while at < section.len() {
+        let length = u32::from_le_bytes(section.get(at..at + 4)?.try_into().ok()?) as usize;
+        let unit = section.get(at + 4..at + 4 + length)?;
+        for file in &header_of_5(unit)?.files {
+            let path = if let Value::Offset(offset) = file.path { offset as u64 } else { 0 };
+            sum = mix(mix(mix(sum, path), file.directory), file.digest[0].into());
+        }
+        at += 4 + length;
+    }
+    Some(sum)
+}
+
+// ---- headers that are only checked
+
+fn skip(bytes: &[u8], at: &mut usize, count: usize) -> Option<()> {
+    bytes.get(*at..)?.get(..count)?;
+    *at += count;
+    Some(())
+}
+
+fn check_entries(bytes: &[u8], at: &mut usize) -> Option<()> {
+    let [count] = fixed(bytes, at)?;
+    let start = *at;
+    let mut paths = 0;
+    for _ in 0..count {
+        paths += u64::from(leb128(bytes, at)? == 1);
+        leb128(bytes, at)?;
+    }
+    if paths != 1 {
+        return None;
+    }
+    for _ in 0..leb128(bytes, at)? {
+        let mut format = start;
+        for _ in 0..count {
+            leb128(bytes, &mut format)?;
+            value(bytes, at, leb128(bytes, &mut format)?)?;
+        }
+    }
+    Some(())
+}
+
+fn check(unit: &[u8]) -> Option<()> {
+    let header_length = u32::from_le_bytes(unit.get(4..8)?.try_into().ok()?) as usize;
+    let fields = unit.get(8..8 + header_length)?;
+    if *fields.first()? == 0 || *fields.get(1)? == 0 || *fields.get(4)? == 0 || *fields.get(5)? == 0 {
+        return None;
+    }
+    let mut at = 6;
+    skip(fields, &mut at, usize::from(fields[5]) - 1)?;
+    check_entries(fields, &mut at)?;
+    check_entries(fields, &mut at)
+}
+
+fn checks(section: &[u8]) -> Option<u64> {
+    let (mut sum, mut at) = (0, 0);
+    while at < section.len() {
+        let length = u32::from_le_bytes(section.get(at..at + 4)?.try_into().ok()?) as usize;
+        check(section.get(at + 4..at + 4 + length)?)?;
+        sum = mix(sum, length as u64);
+        at += 4 + length;
+    }
+    Some(sum)
 }
 
 // ---- instructions
@@ -362,4 +555,7 @@ fn main() {
     let section = section(size);
     report("instructions", || instructions(&section));
     report("rows", || rows(&section));
+    let section = headers_section(size);
+    report("headers", || headers(&section));
+    report("checks", || checks(&section));
 }

@@ -104,3 +104,14 @@ pub use Rattle.addr2line_index.specs.ProbedLists
 pub use Rattle.addr2line_spec.specs.InlinedCallLaws
 pub use Rattle.addr2line_spec.specs.SuspensionLaws
 pub use Rattle.addr2line_root.specs.CountedRuns
+pub use Rattle.gimli_dwarf.specs.Attributes
+pub use Rattle.gimli_dwarf.specs.CachedFiles
+pub use Rattle.gimli_dwarf.specs.ListSections
+pub use Rattle.gimli_dwarf.specs.Parsers
+pub use Rattle.gimli_dwarf.specs.Readers
+pub use Rattle.gimli_dwarf.specs.SectionLoading
+pub use Rattle.gimli_dwarf.specs.SectionReads
+pub use Rattle.gimli_dwarf.specs.Splitting
+pub use Rattle.gimli_dwarf.specs.TableCache
+pub use Rattle.gimli_dwarf.specs.Tiling
+pub use Rattle.gimli_dwarf.specs.UnitFacts

@@ -1,7 +1,7 @@
 //! Which file, line and column of the source an address of a program belongs to, and which
 //! functions are at work there, read from debug information. The names are those of the Rust crate
 //! `addr2line`; each is defined and proved in one of the crates below. The definitions that their
-//! contracts cite are passed on, but those of `Dwarf`, `Error` and `Reader`, which are `gimli`'s.
+//! contracts cite are passed on.
 #![tactic(auto)]
 
 pub use addr2line_context::{
@@ -24,8 +24,10 @@ pub use addr2line_split::{FileSource, FileSystem, MapSource, SplitFile, SplitSou
 
 /// What holds of the definitions, as contracts.
 pub mod laws {
+    pub use addr2line_context::{skip_laws as skips, walk_laws as walks};
     pub use addr2line_demangle::name_laws as demangling;
     pub use addr2line_elf::symbol_laws as symbols;
+    pub use addr2line_functions::name_laws as entries;
     pub use addr2line_index::index_laws as lookups;
     pub use addr2line_names::laws as names;
     pub use addr2line_paths::path_laws as paths;

@@ -1,6 +1,6 @@
 //! Opening by flags.
 
-ghost use Rattle.std.specs.Prelude.{◌≡◌, ◌≢◌, ◌<◌, ◌≤◌, true, IfOk};
+ghost use Rattle.std.specs.Prelude.{◌≡◌, ◌≢◌, ◌<◌, ◌≤◌, true, IfOk, IsOk};
 ghost use Rattle.addr2line_loader.specs.DecompressedFiles.{decompressed_file};
 ghost use Rattle.addr2line_c.specs.Numbers.{IsDecompressedOrNoMemory, not_closed_number};
 ghost use Rattle.addr2line_c.specs.OpenHandles.{IsOpenOver, file_over};
@@ -34,9 +34,10 @@ fn has_flag(flags: u32, flag: u32) -> bool
     flags & flag != 0
 }
 
-// The bytes of a file, where they are or copied.
+// The bytes of a file, where they are or copied. In place that takes no memory.
 fn shared(alloc: Global, bytes: &'static [u8], in_place: bool) -> Result<Bytes, AllocError>
-    ensures { IfOk result (λ b. b ≡ bytes.now) }
+    ensures bytes { IfOk result (λ b. b ≡ bytes.now) }
+    ensures free { in_place ≡ true → IsOk result }
 {
     if in_place {
         Ok(Bytes::from_static(bytes))

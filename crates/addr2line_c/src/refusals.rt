@@ -45,7 +45,7 @@ const CALL_SENTENCES: [&str; 8] = [
     "there is no such flag",
 ];
 
-// What those from 101 on mean, and those from 301 on.
+// What those from 101 on mean. Those from 302 on mean what those from 102 on do.
 const ERROR_SENTENCES: [&str; 33] = [
     "out of memory",
     "the bytes end before a value does",

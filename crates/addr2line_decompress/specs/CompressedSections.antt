@@ -11,7 +11,8 @@ use Rattle.addr2line_elf.specs.ElfImages.{Image, name_of, index_named, contents}
 use Rattle.addr2line_elf.specs.ElfSymbols.{symbol_table}
 use Rattle.addr2line_inflate.specs.Streams.{inflated}
 use Rattle.addr2line_decompress.specs.declared.compression.CompressionHeader.{CompressionHeader}
-use Rattle.addr2line_decompress.specs.declared.constants.TheConstants.{SHT_SYMTAB, SHT_RELA, SHT_NOBITS, SHT_REL, SHT_DYNSYM, SHF_COMPRESSED, SHN_UNDEF, ELFCOMPRESS_ZLIB, ELFCOMPRESS_ZSTD, MOST_OF_ONE_BYTE}
+use Rattle.addr2line_elf.specs.declared.constants.TheConstants.{SHT_SYMTAB, SHT_RELA, SHT_NOBITS, SHT_REL, SHT_DYNSYM, SHF_COMPRESSED, SHN_UNDEF}
+use Rattle.addr2line_decompress.specs.declared.constants.TheConstants.{ELFCOMPRESS_ZLIB, ELFCOMPRESS_ZSTD, MOST_OF_ONE_BYTE}
 use Rattle.addr2line_decompress.specs.declared.error.DecompressError.{DecompressError}
 use Rattle.addr2line_decompress.specs.declared.error.DecompressError.TheVariants.{OverlappingSection, SectionCut, CompressedNames, SharedNames, NameCut, Zstandard, UnknownCompression, ImpossibleSize, TooLarge}
 use Rattle.addr2line_decompress.specs.declared.sections.DebugSections.{DebugSections}

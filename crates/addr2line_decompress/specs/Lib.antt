@@ -8,3 +8,4 @@ pub mod CompressedSections
 pub mod DecompressedBytes
 pub mod WrittenBytes
 pub mod Decompression
+pub mod StandardNumbers

@@ -8,6 +8,7 @@ mod decompress;
 pub mod error;
 mod names;
 pub mod sections;
+pub mod standard_numbers;
 mod streams;
 pub mod table;
 

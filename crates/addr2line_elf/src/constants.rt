@@ -22,26 +22,26 @@ pub(crate) const ELFDATA2MSB: u8 = 2;
 // A file that is yet to be linked.
 pub(crate) const ET_REL: u16 = 1;
 
-// A section with all symbols.
-pub(crate) const SHT_SYMTAB: u32 = 2;
+/// A section with all symbols.
+pub const SHT_SYMTAB: u32 = 2;
 
-// A section of relocations with addends.
-pub(crate) const SHT_RELA: u32 = 4;
+/// A section of relocations with addends.
+pub const SHT_RELA: u32 = 4;
 
-// A section that has no bytes in the file.
-pub(crate) const SHT_NOBITS: u32 = 8;
+/// A section that has no bytes in the file.
+pub const SHT_NOBITS: u32 = 8;
 
-// A section of relocations without addends.
-pub(crate) const SHT_REL: u32 = 9;
+/// A section of relocations without addends.
+pub const SHT_REL: u32 = 9;
 
-// A section with the symbols of dynamic linking.
-pub(crate) const SHT_DYNSYM: u32 = 11;
+/// A section with the symbols of dynamic linking.
+pub const SHT_DYNSYM: u32 = 11;
 
-// The flag of a compressed section.
-pub(crate) const SHF_COMPRESSED: u64 = 0x800;
+/// The flag of a compressed section.
+pub const SHF_COMPRESSED: u64 = 0x800;
 
-// The index that names no section.
-pub(crate) const SHN_UNDEF: u16 = 0;
+/// The index that names no section.
+pub const SHN_UNDEF: u16 = 0;
 
 // The index that means that the index is in the first section header.
 pub(crate) const SHN_XINDEX: u16 = 0xffff;

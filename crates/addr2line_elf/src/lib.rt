@@ -3,7 +3,7 @@
 #![tactic(auto)]
 
 pub mod class;
-mod constants;
+pub mod constants;
 mod debug;
 pub mod elf;
 pub mod error;

@@ -1,10 +1,10 @@
 //! The functions of a unit.
 
-ghost use Rattle.std.specs.Prelude.{◌≡◌, ◌==◌, ◌≤◌, [], not, option_map, slice_get, Ok, IfOk};
+ghost use Rattle.std.specs.Prelude.{◌≡◌, ◌==◌, ◌≤◌, [], not, Ok, IfOk};
 ghost use Rattle.gimli_units_entries.specs.Calls.{ReturnsAsOrNoMemory, ReturnsOrNoMemory};
 ghost use Rattle.gimli_units_entries.specs.View.{bytes_left};
 ghost use Rattle.addr2line_names.specs.UnitFacts.{UnitInFile};
-ghost use Rattle.addr2line_ranges.specs.Functions.{functions_of_unit, function_at, function_number};
+ghost use Rattle.addr2line_ranges.specs.Functions.{functions_of_unit, function_number};
 ghost use Rattle.addr2line_ranges.specs.Searches.{AtMostProbes};
 ghost use Rattle.addr2line_functions.specs.CountedFunctions.{function_probes};
 ghost use Rattle.addr2line_functions.specs.EntryRowViews.{row_view};
@@ -77,26 +77,6 @@ impl<O: ReaderOffset> Functions<O> {
     {
         number_at(&self.ranges, 0, probe, probes)
     }
-
-    /// The function that an address is in, found by one bisection of the ranges, without memory.
-    pub fn function_at(&self, probe: u64, probes: &mut Probes) -> Option<&Function<O>>
-        requires counter { probes.old.name ≡ self.now.counter }
-        ensures function { option_map (λ f. f.now) result ≡ function_at self.now.functions probe }
-        ensures cost { AtMostProbes (function_probes self.now.functions) probes.old probes.new }
-    {
-        let number = self.find_address(probe, probes)?;
-        function_of_number(self.functions(), number)
-    }
-}
-
-// The function of a number.
-fn function_of_number<O: ReaderOffset>(
-    functions: &[Function<O>],
-    number: usize,
-) -> Option<&Function<O>>
-    ensures { option_map (λ f. f.now) result ≡ slice_get functions.now number }
-{
-    functions.get(number)
 }
 
 // A function, if it has a range.

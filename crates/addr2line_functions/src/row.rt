@@ -43,7 +43,7 @@ pub fn next_row<R: Reader>(
     if chosen == Some(tag) {
         entries.read_attributes(abbreviation.attributes(), attributes)?;
     } else {
-        entries.skip_entry(abbreviation)?;
+        entries.skip_entry(&abbreviation)?;
     }
     Ok(EntryRow {
         offset,

@@ -11,3 +11,4 @@ pub mod Sums
 pub mod Streams
 pub mod Answers
 pub mod ErrorText
+pub mod StandardNumbers

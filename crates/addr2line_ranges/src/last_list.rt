@@ -1,13 +1,14 @@
 //! The range list that was read last. Units in a row may name the same one: it is read once, and
 //! they share its ranges.
 
-ghost use Rattle.std.specs.Prelude.{◌≡◌, Ok, None, MatchOption};
+ghost use Rattle.std.specs.Prelude.{◌≡◌, None, MatchOption};
 ghost use Rattle.gimli_lines_rows.specs.Calls.{ReturnsAsOrNoMemory};
 ghost use Rattle.gimli_lines_rows.specs.Error.TheVariants.{Memory};
 ghost use Rattle.addr2line_ranges.specs.RangeListReading.{listed_ranges};
 ghost use Rattle.addr2line_ranges.specs.LastLists.{key_of, IsLastOf, IsReadBy};
 
 use crate::lists::listed_ranges;
+use crate::sharing::share;
 use gimli_dwarf::UnitRef;
 use gimli_lines_rows::{Error, Format, Range, RangeListsOffset, Reader, ReaderOffset};
 use std::alloc::Global;
@@ -52,13 +53,6 @@ fn list_key<R: Reader>(unit: &UnitRef<'_, R>, offset: RangeListsOffset<R::Offset
         low_pc: unit.low_pc,
         address_base: unit.addr_base.0.into_u64(),
     }
-}
-
-/// The same ranges once more.
-pub fn share(ranges: &Rc<Vec<Range>>) -> Result<Rc<Vec<Range>>, Error>
-    ensures { ReturnsAsOrNoMemory (λ r. r.value.items) result (Ok ranges.now.value.items) }
-{
-    Ok(ranges.clone()?)
 }
 
 impl LastList {

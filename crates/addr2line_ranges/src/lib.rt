@@ -9,6 +9,7 @@ pub mod facts;
 pub mod last_list;
 mod lists;
 pub mod push;
+pub mod sharing;
 mod unit_arange;
 
 pub use addr2line_index::{
@@ -33,5 +34,6 @@ pub use gimli_lines_rows::{
     RawRangeListsOffset, Reader, ReaderOffset, ReaderOffsetId, RunTimeEndian, SectionId,
     UnitHeader, UnitOffset, UnitType,
 };
-pub use last_list::{LastList, share};
+pub use last_list::LastList;
 pub use push::push_if_any;
+pub use sharing::share;

@@ -11,11 +11,11 @@ use Rattle.gimli_lines_rows.specs.ProgramRows.{Row, RemainingRows, last_row, Nex
 use Rattle.gimli_lines_rows.proofs.RowPaths.{path_comes, path_path}
 use Rattle.gimli_lines_rows.proofs.SequenceLoops.{path_to_row, path_to_end, row_smaller}
 use Rattle.gimli_lines_rows.proofs.LineRowSteps.{step_end}
+use Rattle.gimli_lines_rows.proofs.ProgramHeaders.{path_keeps_header, header_at_end}
 use Rattle.addr2line_index.specs.Lines.{ProgramRow}
 use Rattle.addr2line_index.specs.PartialLines.{PartialLines, partial_lines}
 use Rattle.addr2line_index.specs.UnitLines.{program_row}
 use Rattle.addr2line_root.specs.LineProgramRuns.{Adds, shown_row, AddsRows}
-use Rattle.addr2line_root.proofs.ProgramHeaders.{path_keeps_header, header_at_end}
 
 -- the rows so far
 pub record RowsSoFar (limit : ℕ) (old now : RemainingRows) (before after : PartialLines) : Type 0 where

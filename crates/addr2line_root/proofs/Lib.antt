@@ -7,7 +7,6 @@ pub use Rattle.addr2line_ranges.proofs.HolderViews
 pub use Rattle.addr2line_ranges.proofs.RangeHolders
 pub use Rattle.addr2line_ranges.proofs.LastValueStep
 pub use Rattle.addr2line_ranges.proofs.UnitRangeLemmas
-mod ProgramHeaders
 mod LinesOfPrograms
 mod LineProgramRows
 mod BuilderRows

@@ -13,11 +13,12 @@ use Rattle.gimli_lines_rows.specs.Registers.{Registers}
 use Rattle.gimli_lines_rows.specs.Runs.{Execution, is_shown, row_of, shown_rows, files_of}
 use Rattle.gimli_lines_rows.specs.ProgramRows.{Row, RemainingRows, header_after, rows_of_run, with_ending, program_run, rows_to_come}
 use Rattle.gimli_lines_rows.specs.RowSequences.{registers_of, program_rows}
+use Rattle.gimli_lines_rows.specs.RowSinks.{last_header}
+use Rattle.gimli_lines_rows.proofs.ProgramHeaders.{ended_items}
 use Rattle.addr2line_index.specs.Lines.{ProgramRow}
 use Rattle.addr2line_index.specs.PartialLines.{PartialLines, partial_lines}
 use Rattle.addr2line_index.specs.UnitLines.{program_row, run_of_program, instructions_of, fault_of_program, with_defined_files}
-use Rattle.addr2line_root.specs.LineProgramRuns.{shown_row, last_header, AddsRows, RunsProgram}
-use Rattle.addr2line_root.proofs.ProgramHeaders.{ended_items}
+use Rattle.addr2line_root.specs.LineProgramRuns.{shown_row, AddsRows, RunsProgram}
 
 -- ---- rows and faults
 

@@ -1,13 +1,13 @@
 -- What running a line number program makes of what is left of its rows, and of a builder of lines
 -- (DWARF 5, 6.2.5).
-use Rattle.std.specs.Prelude.{◌≡◌, ◌≢◌, ℕ, Bool, List, [], ◌∷◌, ◌++◌, map, Some, None, Result, Ok, Err, if◌then◌else◌}
+use Rattle.std.specs.Prelude.{◌≡◌, ◌≢◌, ℕ, List, [], ◌∷◌, ◌++◌, map, Some, None, Result, Ok, Err}
 use Rattle.gimli_lines_rows.specs.Error.{Error}
 use Rattle.gimli_lines_rows.specs.Error.TheVariants.{Memory}
-use Rattle.gimli_lines_rows.specs.LineFiles.{FileFacts}
 use Rattle.gimli_lines_rows.specs.LineHeaders.{LineHeader}
-use Rattle.gimli_lines_rows.specs.Runs.{files_of, shown_rows}
+use Rattle.gimli_lines_rows.specs.Runs.{shown_rows}
 use Rattle.gimli_lines_rows.specs.Repetition.{answer}
-use Rattle.gimli_lines_rows.specs.ProgramRows.{Row, RemainingRows, program_run, rows_to_come}
+use Rattle.gimli_lines_rows.specs.ProgramRows.{Row, RemainingRows, rows_to_come}
+use Rattle.gimli_lines_rows.specs.RowSinks.{last_header}
 use Rattle.addr2line_index.specs.Lines.{ProgramRow}
 use Rattle.addr2line_index.specs.PartialLines.{PartialLines, partial_lines}
 use Rattle.addr2line_index.specs.UnitLines.{program_row, run_of_program, fault_of_program, with_defined_files}
@@ -20,16 +20,6 @@ Adds old new more =
 -- a row under its header, as lookups see it
 abbrev pub shown_row : Row → ProgramRow
 shown_row r = program_row r.registers
-
--- the header with further files, where a program takes files
-abbrev pub with_files : Bool → List FileFacts → LineHeader → LineHeader
-with_files takes_files files h = if takes_files then record h { files = h.files ++ files } else h
-
--- the header after all instructions to come
-abbrev pub last_header : ℕ → RemainingRows → LineHeader
-last_header limit s =
-    with_files s.takes_files
-    (files_of (program_run limit s.header s.registers s.rest).items) s.header
 
 -- All rows that were to come are added, and their header is after all instructions; else the fault
 -- that ends the rows is answered, or out of memory.

@@ -1,11 +1,10 @@
-//! With `gimli_dwarf`, and a unit's header of `gimli_units`: the name of a unit.
+//! With `gimli_dwarf`: the name of a unit.
 
 ghost use Rattle.std.specs.Prelude.{option_map};
 ghost use Rattle.gimli_dwarf.specs.Calls.{ReturnsAsOrNoMemory};
 ghost use Rattle.examples.specs.UnitNames.{name_of_unit};
 
-use gimli_dwarf::{Dwarf, Error, Reader, Unit};
-use gimli_units::UnitHeader;
+use gimli_dwarf::{Dwarf, Error, Reader, Unit, UnitHeader};
 use std::alloc::Global;
 
 /// The name of a unit: none where its root has none, or one that can't be read.

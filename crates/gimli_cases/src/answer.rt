@@ -138,6 +138,14 @@ impl Answer {
         }
     }
 
+    /// Whether a check found nothing that is refused.
+    pub fn check(&mut self, outcome: Result<(), Error>) {
+        match outcome {
+            Ok(()) => self.text("can be read"),
+            Err(error) => self.refuse(error),
+        }
+    }
+
     /// Bytes in hexadecimal.
     pub fn digits(&mut self, bytes: &[u8]) {
         match hex::encode(self.alloc, bytes) {

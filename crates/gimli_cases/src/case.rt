@@ -233,6 +233,11 @@ impl Case {
         O::from_u64(self.offset)
     }
 
+    /// The index in a list.
+    pub fn index(&self) -> usize {
+        usize::try_from(self.index).unwrap_or(usize::MAX)
+    }
+
     /// The offset in bytes that are written.
     pub fn place(&self) -> usize {
         usize::try_from(self.offset).unwrap_or(usize::MAX)
@@ -275,10 +280,27 @@ impl Case {
     }
 }
 
-// The bytes of a word, `-` for none.
+// The bytes of a word: `-` for none, else one part or several that `+` joins. A part is digits, or
+// `DIGITS*COUNT` for the same bytes as many times.
 fn bytes_of(alloc: Global, word: &str) -> Result<Vec<u8>, Mistake> {
+    let mut bytes = Vec::new(alloc);
     if word == "-" {
-        return Ok(Vec::new(alloc));
+        return Ok(bytes);
     }
-    Ok(hex::decode(alloc, word)?)
+    for part in word.split('+') {
+        add_part(alloc, part, &mut bytes)?;
+    }
+    Ok(bytes)
+}
+
+fn add_part(alloc: Global, part: &str, bytes: &mut Vec<u8>) -> Result<(), Mistake> {
+    let (digits, count) = match part.split_once('*') {
+        Some((digits, count)) => (digits, count.parse().map_err(|_| Mistake::Word)?),
+        None => (part, 1u32),
+    };
+    let repeated = hex::decode(alloc, digits)?;
+    for _ in 0..count {
+        bytes.extend_from_slice(&repeated)?;
+    }
+    Ok(())
 }

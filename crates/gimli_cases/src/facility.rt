@@ -22,6 +22,7 @@ pub enum Facility {
     ListsHeader,
     RangePlaces,
     Lines,
+    LineChecks,
     Steps,
     Writing,
     Programs,
@@ -30,7 +31,7 @@ pub enum Facility {
     Unknown,
 }
 
-const OPERATIONS: [(Facility, &[&str]); 24] = [
+const OPERATIONS: [(Facility, &[&str]); 25] = [
     (Facility::Refusals, &["refusals"]),
     (
         Facility::Numbers,
@@ -68,7 +69,10 @@ const OPERATIONS: [(Facility, &[&str]); 24] = [
         Facility::Sections,
         &[
             "abbreviations",
+            "attribute_at",
+            "check_abbreviations",
             "same_abbreviation",
+            "find_abbreviation",
             "string",
             "line_string",
             "string_offset",
@@ -107,6 +111,7 @@ const OPERATIONS: [(Facility, &[&str]); 24] = [
             "entries",
             "entries_skipped",
             "attributes_from",
+            "attributes_of_name",
             "entry",
             "attribute_of_entry",
         ],
@@ -150,6 +155,7 @@ const OPERATIONS: [(Facility, &[&str]); 24] = [
             "line_sequences",
         ],
     ),
+    (Facility::LineChecks, &["check_line_header"]),
     (Facility::Steps, &["line_steps", "line_copy"]),
     (
         Facility::Writing,

@@ -54,6 +54,19 @@ pub fn header<R: Reader>(
     }
 }
 
+/// Whether the header at the offset can be read.
+pub fn check<R: Reader>(case: &Case, section: &DebugLine<R>, out: &mut Answer) {
+    let size = case.address_size;
+    match (case.offset(), size) {
+        (Ok(offset), 1 | 2 | 4 | 8) => out.check(section.check_header(
+            DebugLineOffset(offset),
+            size,
+        )),
+        (Ok(_), _) => out.refuse(Error::UnsupportedAddressSize(size)),
+        (Err(error), _) => out.refuse(error),
+    }
+}
+
 // The fields of a header.
 fn line_header<R: Reader>(header: &LineProgramHeader<R>, out: &mut Answer) {
     out.word(&header.offset().0);

@@ -1,8 +1,8 @@
 //! Answers questions about DWARF bytes, one a line: the name of an operation, the numbers that it
-//! needs, and after a colon the sections that it reads, in hexadecimal. Each question is answered
-//! twice, from borrowed and from shared bytes, and a difference is a fault. A line that begins with
-//! `#` is a heading. A question for which memory is refused is asked again, and its answer begins
-//! with `E1, then`.
+//! needs, and after a colon the sections that it reads, in hexadecimal; `0b*70000` is a byte 70,000
+//! times, and `+` joins parts. Each question is answered twice, from borrowed and from shared bytes,
+//! and a difference is a fault. A line that begins with `#` is a heading. A question for which memory
+//! is refused is asked again, and its answer begins with `E1, then`.
 #![tactic(auto)]
 
 mod answer;
@@ -177,6 +177,7 @@ fn dispatch<R: Reader>(alloc: Global, case: &Case, sections: Sections<R>, out: &
             let section = DebugLine::from(sections.first);
             lines::answer(alloc, case, &section, sections.second, sections.third, out);
         }
+        Facility::LineChecks => lines::check(case, &DebugLine::from(sections.first), out),
         Facility::Steps => steps::answer(alloc, case, sections, out),
         Facility::Writing => writing::answer(alloc, case, sections.first.endian(), out),
         Facility::Programs => programs::answer(alloc, case, sections.first.endian(), out),

@@ -3,10 +3,11 @@
 use crate::answer::Answer;
 use crate::case::Case;
 use gimli_core::{
-    Abbreviation, Abbreviations, AddrHeader, DebugAbbrev, DebugAbbrevOffset, DebugAddr,
-    DebugAddrBase, DebugAddrIndex, DebugLineStr, DebugLineStrOffset, DebugLocListsBase,
-    DebugRngListsBase, DebugStr, DebugStrOffset, DebugStrOffsets, DebugStrOffsetsBase,
-    DebugStrOffsetsIndex, DefaultBase, DwForm, DwarfFileType, Error, Reader, ReaderOffset, Section,
+    Abbreviation, Abbreviations, AddrHeader, AttributeSpecification, DebugAbbrev,
+    DebugAbbrevOffset, DebugAddr, DebugAddrBase, DebugAddrIndex, DebugLineStr, DebugLineStrOffset,
+    DebugLocListsBase, DebugRngListsBase, DebugStr, DebugStrOffset, DebugStrOffsets,
+    DebugStrOffsetsBase, DebugStrOffsetsIndex, DefaultBase, DwForm, DwarfFileType, Error, Reader,
+    ReaderOffset, Section,
 };
 use std::alloc::Global;
 
@@ -23,7 +24,10 @@ pub fn answer<R: Reader>(alloc: Global, case: &Case, sections: Sections<R>, out:
     let section = sections.first;
     match case.operation.as_str() {
         "abbreviations" => abbreviations(table(alloc, section, case.offset()), out),
+        "attribute_at" => attribute_at(case, table(alloc, section, case.offset()), out),
+        "check_abbreviations" => check(alloc, case, &DebugAbbrev::from(section), out),
         "same_abbreviation" => same_abbreviation(alloc, section, sections.second, out),
+        "find_abbreviation" => find_abbreviation(alloc, case, &DebugAbbrev::from(section), out),
         "string" => string(case, &DebugStr::from(section), out),
         "line_string" => line_string(case, &DebugLineStr::from(section), out),
         "string_offset" => string_offset(case, &DebugStrOffsets::from(section), out),
@@ -56,26 +60,54 @@ pub fn abbreviations(table: Result<Abbreviations, Error>, out: &mut Answer) {
 pub fn declarations(table: &Abbreviations, out: &mut Answer) {
     for code in 0..8 {
         if let Some(found) = table.get(code) {
-            declaration(found, out);
+            declaration(&found, out);
         }
     }
 }
 
-fn declaration(found: &Abbreviation, out: &mut Answer) {
+fn declaration(found: &Abbreviation<'_>, out: &mut Answer) {
     out.text("[");
     out.word(&found.code());
     out.code(&found.tag());
     out.text_if(found.has_children(), " children");
     for attribute in found.attributes() {
         out.text(", ");
-        out.word(&attribute.name());
-        out.code(&attribute.form());
-        if let Some(constant) = attribute.implicit_const_value() {
-            out.text(" ");
-            out.value(&constant);
-        }
+        specification(attribute, out);
     }
     out.text("]");
+}
+
+fn specification(attribute: &AttributeSpecification, out: &mut Answer) {
+    out.word(&attribute.name());
+    out.code(&attribute.form());
+    if let Some(constant) = attribute.implicit_const_value() {
+        out.text(" ");
+        out.value(&constant);
+    }
+}
+
+// How many attributes the declaration of code 1 has, and the one at the index.
+fn attribute_at(case: &Case, table: Result<Abbreviations, Error>, out: &mut Answer) {
+    match table {
+        Ok(table) => {
+            if let Some(found) = table.get(1) {
+                let attributes = found.attributes();
+                out.word(&attributes.len());
+                if let Some(attribute) = attributes.get(case.index()) {
+                    specification(attribute, out);
+                }
+            }
+        }
+        Err(error) => out.refuse(error),
+    }
+}
+
+// Whether the table at the offset can be read.
+fn check<R: Reader>(alloc: Global, case: &Case, section: &DebugAbbrev<R>, out: &mut Answer) {
+    match case.offset() {
+        Ok(offset) => out.check(section.check_abbreviations(alloc, DebugAbbrevOffset(offset))),
+        Err(error) => out.refuse(error),
+    }
 }
 
 // Whether the declarations of code 1 in two tables are equal.
@@ -87,6 +119,24 @@ fn same_abbreviation<R: Reader>(alloc: Global, one: R, other: R, out: &mut Answe
         (Ok(one), Ok(other)) => out.value(&(one.get(1) == other.get(1))),
         (Err(error), _) => out.refuse(error),
         (_, Err(error)) => out.refuse(error),
+    }
+}
+
+// The declaration whose code is the index, from the table at the offset.
+fn find_abbreviation<R: Reader>(
+    alloc: Global,
+    case: &Case,
+    section: &DebugAbbrev<R>,
+    out: &mut Answer,
+) {
+    let found = match case.offset() {
+        Ok(offset) => section.find_abbreviation(alloc, DebugAbbrevOffset(offset), case.index),
+        Err(error) => Err(error),
+    };
+    match found {
+        Ok(Some(found)) => declaration(&found.as_abbreviation(), out),
+        Ok(None) => out.text("none"),
+        Err(error) => out.refuse(error),
     }
 }
 

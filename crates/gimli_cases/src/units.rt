@@ -4,7 +4,9 @@ use crate::answer::Answer;
 use crate::attributes;
 use crate::case::Case;
 use crate::sections::{Sections, table};
-use gimli_core::{Abbreviations, DebugAbbrev, DebugArangesOffset, Error, Reader, ReaderOffset};
+use gimli_core::{
+    Abbreviations, DW_AT_name, DebugAbbrev, DebugArangesOffset, Error, Reader, ReaderOffset,
+};
 use gimli_units::{
     ArangeEntry, ArangeEntryIter, ArangeHeader, Attribute, DebugAranges, DebugInfo,
     DebugInfoOffset, DebuggingInformationEntry, EntriesRaw, UnitEntries, UnitHeader, UnitOffset,
@@ -36,6 +38,7 @@ pub fn answer_about_entries<R: Reader>(
         "entries" => entries(alloc, first_unit(alloc, sections), out),
         "entries_skipped" => entries_skipped(first_unit(alloc, sections), out),
         "attributes_from" => attributes_from(alloc, case, first_unit(alloc, sections), out),
+        "attributes_of_name" => attributes_of_name(alloc, case, first_unit(alloc, sections), out),
         "entry" => one_entry(&entry(alloc, case, sections), out),
         _ => attribute_of_entry(case, entry(alloc, case, sections), out),
     }
@@ -336,7 +339,7 @@ fn attributes_from<R: Reader>(
     }
 }
 
-// The attributes, each with its form, and the depth after them.
+// The attributes, and the depth after them.
 fn read_attributes<R: Reader>(alloc: Global, entries: &mut EntriesRaw<'_, R>, out: &mut Answer) {
     let mut found = Vec::new(alloc);
     let outcome = match entries.read_abbreviation() {
@@ -344,10 +347,23 @@ fn read_attributes<R: Reader>(alloc: Global, entries: &mut EntriesRaw<'_, R>, ou
         Ok(None) => Ok(()),
         Err(error) => Err(error),
     };
-    for attribute in found.iter() {
+    each_attribute(&found, out);
+    depth_after(outcome, entries, out);
+}
+
+// Each attribute with its form.
+fn each_attribute<R: Reader>(attributes: &[Attribute<R>], out: &mut Answer) {
+    for attribute in attributes {
         out.code(&attribute.form());
         attributes::value_of(&attribute.raw_value(), out);
     }
+}
+
+fn depth_after<R: Reader>(
+    outcome: Result<(), Error>,
+    entries: &EntriesRaw<'_, R>,
+    out: &mut Answer,
+) {
     match outcome {
         Ok(()) => {
             out.text(" depth ");
@@ -355,6 +371,44 @@ fn read_attributes<R: Reader>(alloc: Global, entries: &mut EntriesRaw<'_, R>, ou
         }
         Err(error) => out.refuse(error),
     }
+}
+
+// Of the attributes of the entry at the offset, those of the name and `DW_AT_name`.
+fn attributes_of_name<R: Reader>(
+    alloc: Global,
+    case: &Case,
+    unit: Result<(UnitHeader<R>, Abbreviations), Error>,
+    out: &mut Answer,
+) {
+    match (unit, case.offset()) {
+        (Ok((unit, table)), Ok(offset)) => {
+            match entries_raw(&unit, &table, Some(UnitOffset(offset))) {
+                Ok(mut entries) => read_named_attributes(alloc, case, &mut entries, out),
+                Err(error) => out.refuse(error),
+            }
+        }
+        (Err(error), _) => out.refuse(error),
+        (_, Err(error)) => out.refuse(error),
+    }
+}
+
+fn read_named_attributes<R: Reader>(
+    alloc: Global,
+    case: &Case,
+    entries: &mut EntriesRaw<'_, R>,
+    out: &mut Answer,
+) {
+    let names = [case.name, DW_AT_name];
+    let mut found = Vec::new(alloc);
+    let outcome = match entries.read_abbreviation() {
+        Ok(Some(declared)) => {
+            entries.read_named_attributes(declared.attributes(), &names, &mut found)
+        }
+        Ok(None) => Ok(()),
+        Err(error) => Err(error),
+    };
+    each_attribute(&found, out);
+    depth_after(outcome, entries, out);
 }
 
 // The first attribute, and what its form makes of the bytes after it.

@@ -23,6 +23,9 @@ pub use Rattle.gimli_core_abbrev.specs.AbbreviationViews
 pub use Rattle.gimli_core_abbrev.specs.TableLayout
 pub use Rattle.gimli_core_abbrev.specs.FormWidths
 pub use Rattle.gimli_core_abbrev.specs.TableCache
+pub use Rattle.gimli_core_abbrev.specs.TableChecks
+pub use Rattle.gimli_core_abbrev.specs.DeclarationEquality
+pub use Rattle.gimli_core_abbrev.specs.DeclarationFacts
 pub use Rattle.gimli_core_abbrev.specs.TableLaws
 pub use Rattle.gimli_core_readers.specs.Addresses
 pub use Rattle.gimli_core_abbrev.specs.AttributeViews

@@ -8,6 +8,7 @@ pub use gimli_core_abbrev::AbbreviationsCache;
 pub use gimli_core_abbrev::AbbreviationsCacheStrategy;
 pub use gimli_core_abbrev::AttributeSpecification;
 pub use gimli_core_abbrev::DebugAbbrev;
+pub use gimli_core_abbrev::OwnedAbbreviation;
 pub use gimli_core_base::BigEndian;
 pub use gimli_core_base::DW_AT_GNU_addr_base;
 pub use gimli_core_base::DW_AT_GNU_dwo_id;

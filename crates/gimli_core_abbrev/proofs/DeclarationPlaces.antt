@@ -1,19 +1,15 @@
 -- Where the declarations of a list are found: at the places of their codes.
-use Rattle.std.proofs.Common.{◌≡◌, ℕ, zero, suc, ◌-◌, ◌<◌, ◌≤◌, Bool, true, false, cond, ◌||◌, eqb, ltb, List, [], ◌∷◌, ◌++◌, length, map, drop, get_or, Option, Some, None, option_map, refl, sym, ap, subst, ◌∙◌, inl, inr, arith}
+use Rattle.std.proofs.Common.{◌≡◌, ℕ, zero, suc, ◌-◌, ◌<◌, ◌≤◌, Bool, true, false, cond, not, ◌||◌, eqb, ltb, List, [], ◌∷◌, ◌++◌, length, drop, Option, Some, None, is_some, option_map, refl, sym, ap, subst, ◌∙◌, inl, inr, arith}
 use Rattle.std.specs.Ordering.{nat_cmp, is_eq}
 use Rattle.std.specs.declared.cmp.Ordering.TheVariants.{Less, Equal, Greater}
 use Rattle.std.specs.Cmp.{nat_cmp_is}
 use Rattle.std.specs.BTreeMap.{is_at}
 use Rattle.std.specs.List.{slice_get}
-use Rattle.std.proofs.lemmas.List.{length-map, map-append}
-use Rattle.std.proofs.lemmas.Option.{slice_get-map, slice_get-get_or}
-use Rattle.gimli_core_abbrev.specs.declared.declaration.Abbreviation.{Abbreviation}
-use Rattle.gimli_core_abbrev.specs.AbbreviationViews.{declaration_view}
 use Rattle.std.proofs.Math.Bool.{or-true}
-use Rattle.std.proofs.lemmas.Bool.{cases_lt, cases_order, cases_eq, le-ltb, lt-ltb, eq-eqb, ne_eqb}
+use Rattle.std.proofs.lemmas.Bool.{cases_lt, cases_order, cases_eq, le-ltb, lt-ltb, eq-eqb, ne_eqb, eqb-true}
 use Rattle.gimli_core_abbrev.specs.Declarations.{Declaration, declaration_at, has_code, by_code, repeated_after, repeated_code}
 use Rattle.gimli_core_abbrev.specs.TableLayout.{place_in, place_in_order, place_of, at_place, IsLayout}
-use Rattle.gimli_core_abbrev.proofs.TableCollection.{none_later, repeated_push, found_by_code}
+use Rattle.gimli_core_abbrev.proofs.TableCollection.{is_some-map, none_later, repeated_push, found_by_code}
 
 -- ---- keys
 
@@ -73,6 +69,33 @@ place_in-absent code [] e = refl
 place_in-absent code (x ∷ ds) e =
     let other = none_later (eqb x.code code) x (declaration_at code ds) e in
     rw other.0 (ap (option_map suc) (place_in-absent code ds other.1))
+
+place_there : (code : ℕ) (ds : List Declaration) → is_some (place_in code ds) ≡ is_some (declaration_at code ds)
+place_there code [] = refl
+place_there code (x ∷ ds) = by_test (eqb x.code code) (place_there code ds)
+  where
+    by_test : (b : Bool) → is_some (place_in code ds) ≡ is_some (declaration_at code ds)
+        → is_some (cond b (Some 0) (option_map suc (place_in code ds)))
+        ≡ is_some (cond b (Some x) (declaration_at code ds))
+    by_test true h = refl
+    by_test false h = is_some-map suc (place_in code ds) ∙ h
+
+-- a code has a place where a declaration has it
+pub place_known : (ds : List Declaration) (n : ℕ) (others : ℕ → Option ℕ) → IsLayout ds n others → (code : ℕ)
+    → is_some (place_of n others code) ≡ is_some (declaration_at code ds)
+place_known ds n others layout code = ap is_some (layout.places code) ∙ place_there code ds
+
+pub place_above : (n code : ℕ) (others : ℕ → Option ℕ) → n < code → place_of n others code ≡ others code
+place_above n code others lt =
+    ap (λ (b : Bool). cond b (others code) (place_in_order code)) (lt-ltb n code lt)
+
+pub place_below : (n code : ℕ) (others : ℕ → Option ℕ) → code ≤ n → is_some (place_of n others code) ≡ not (eqb code 0)
+place_below n code others le =
+    ap (λ (b : Bool). is_some (cond b (others code) (place_in_order code))) (le-ltb n code le) ∙ by_number code
+  where
+    by_number : (k : ℕ) → is_some (place_in_order k) ≡ not (eqb k 0)
+    by_number zero = refl
+    by_number (suc k) = ap not (sym (ne_eqb (suc k) 0 (λ e. omega (arith, e))))
 
 -- ---- one declaration more
 
@@ -264,16 +287,6 @@ found_from ds n others layout from code =
 
 -- ---- what a look-up gives
 
-place_in-within : (code : ℕ) (ds : List Declaration) (p : ℕ) → place_in code ds ≡ Some p → p < length ds
-place_in-within code [] p e = absurd cc
-place_in-within code (x ∷ ds) p e = by_test (eqb x.code code) (place_in code ds) (place_in-within code ds) e
-  where
-    by_test : (b : Bool) (o : Option ℕ) → ((q : ℕ) → o ≡ Some q → q < length ds)
-        → cond b (Some 0) (option_map suc o) ≡ Some p → p < length (x ∷ ds)
-    by_test true o k h = let is : 0 ≡ p = cc in omega (arith, is)
-    by_test false None k h = absurd cc
-    by_test false (Some q) k h = let is : suc q ≡ p = cc in omega (arith, is, k q refl)
-
 place_in_order-is : (code : ℕ) → 0 < code → place_in_order code ≡ Some (code - 1)
 place_in_order-is zero h = absurd (omega arith)
 place_in_order-is (suc k) h = ap (λ (n : ℕ). Some n) (omega arith)
@@ -284,34 +297,74 @@ place_is : (ds : List Declaration) (n : ℕ) (others : ℕ → Option ℕ) (code
 place_is ds n others code some le =
     ap (λ (b : Bool). cond b (others code) (place_in_order code)) (le-ltb n code le) ∙ place_in_order-is code some
 
-pub in_order_within : (items : List Abbreviation) (n : ℕ) (others : ℕ → Option ℕ)
-    → IsLayout (map declaration_view items) n others → (code : ℕ) → 0 < code → code ≤ n → code - 1 < length items
-in_order_within items n others layout code some le =
-    let ds = map declaration_view items in
-    let within = place_in-within code ds (code - 1)
-    (sym (layout.places code) ∙ place_is ds n others code some le) in
-    omega (arith, within, length-map items declaration_view)
+-- the declaration at the place of a code has that code
+place_in-code : (code : ℕ) (ds : List Declaration) (p : ℕ) → place_in code ds ≡ Some p
+    → option_map (λ d. d.code) (slice_get ds p) ≡ Some code
+place_in-code code [] p e = absurd cc
+place_in-code code (x ∷ ds) p e = by_test (eqb x.code code) refl (place_in code ds) (place_in-code code ds) e
+  where
+    by_test : (b : Bool) → eqb x.code code ≡ b → (o : Option ℕ)
+        → ((q : ℕ) → o ≡ Some q → option_map (λ d. d.code) (slice_get ds q) ≡ Some code)
+        → cond b (Some 0) (option_map suc o) ≡ Some p
+        → option_map (λ d. d.code) (slice_get (x ∷ ds) p) ≡ Some code
+    by_test true is o k h =
+        let first : 0 ≡ p = cc in
+        subst (λ (n : ℕ). option_map (λ d. d.code) (slice_get (x ∷ ds) n) ≡ Some code) first
+        (ap (λ (c : ℕ). Some c) (eqb-true x.code code is))
+    by_test false is None k h = absurd cc
+    by_test false is (Some q) k h =
+        let later : suc q ≡ p = cc in
+        subst (λ (n : ℕ). option_map (λ d. d.code) (slice_get (x ∷ ds) n) ≡ Some code) later (k q refl)
 
-pub found_first : (items : List Abbreviation) (n : ℕ) (others : ℕ → Option ℕ)
-    → IsLayout (map declaration_view items) n others → (from code : ℕ) (a : Abbreviation) → from < code → code ≤ n
-    → a ≡ get_or items (code - 1) a
-    → Some (declaration_view a) ≡ declaration_at code (by_code (drop from (map declaration_view items)))
-found_first items n others layout from code a above le item =
-    let ds = map declaration_view items in
-    ap (λ (x : Abbreviation). Some (declaration_view x)) item
-    ∙ ap (option_map declaration_view) (sym (slice_get-get_or items (code - 1) a
-    (in_order_within items n others layout code (omega (arith, above)) le)))
-    ∙ sym (slice_get-map declaration_view items (code - 1))
+pub code_in_order : (ds : List Declaration) (n : ℕ) (others : ℕ → Option ℕ) → IsLayout ds n others → (code : ℕ)
+    → 0 < code → code ≤ n → option_map (λ d. d.code) (slice_get ds (code - 1)) ≡ Some code
+code_in_order ds n others layout code some le =
+    place_in-code code ds (code - 1) (sym (layout.places code) ∙ place_is ds n others code some le)
+
+pub code_elsewhere : (ds : List Declaration) (n : ℕ) (others : ℕ → Option ℕ) → IsLayout ds n others
+    → (code place : ℕ) → n < code → others code ≡ Some place → option_map (λ d. d.code) (slice_get ds place) ≡ Some code
+code_elsewhere ds n others layout code place above there =
+    place_in-code code ds place
+    (sym (layout.places code)
+    ∙ ap (λ (b : Bool). cond b (others code) (place_in_order code)) (lt-ltb n code above) ∙ there)
+
+pub found_first : (ds : List Declaration) (n : ℕ) (others : ℕ → Option ℕ) → IsLayout ds n others
+    → (from code : ℕ) (d : Declaration) → from < code → code ≤ n → slice_get ds (code - 1) ≡ Some d
+    → Some d ≡ declaration_at code (by_code (drop from ds))
+found_first ds n others layout from code d above le item =
+    sym item
     ∙ ap (λ (b : Bool). cond {A = Option Declaration} b None (slice_get ds (code - 1)))
     (sym (le-ltb (code - 1) from (omega (arith, above))))
     ∙ ap (λ (o : Option ℕ). at_place from o ds) (sym (place_is ds n others code (omega (arith, above)) le))
     ∙ found_from ds n others layout from code
 
-pub found_other : (ds : List Declaration) (n : ℕ) (others : ℕ → Option ℕ) → IsLayout ds n others → (from code : ℕ)
+found_other : (ds : List Declaration) (n : ℕ) (others : ℕ → Option ℕ) → IsLayout ds n others → (from code : ℕ)
     → n < code → at_place from (others code) ds ≡ declaration_at code (by_code (drop from ds))
 found_other ds n others layout from code above =
     ap (λ (b : Bool). at_place from (cond b (others code) (place_in_order code)) ds) (sym (lt-ltb n code above))
     ∙ found_from ds n others layout from code
+
+pub found_at : (ds : List Declaration) (n : ℕ) (others : ℕ → Option ℕ) → IsLayout ds n others
+    → (from code place : ℕ) (d : Declaration) → n < code → others code ≡ Some place → from ≤ place
+    → slice_get ds place ≡ Some d → Some d ≡ declaration_at code (by_code (drop from ds))
+found_at ds n others layout from code place d above there le item =
+    sym item
+    ∙ ap (λ (b : Bool). cond {A = Option Declaration} b None (slice_get ds place)) (sym (le-ltb place from le))
+    ∙ ap (λ (o : Option ℕ). at_place from o ds) (sym there)
+    ∙ found_other ds n others layout from code above
+
+pub not_from : (ds : List Declaration) (n : ℕ) (others : ℕ → Option ℕ) → IsLayout ds n others
+    → (from code place : ℕ) → n < code → others code ≡ Some place → place < from
+    → None ≡ declaration_at code (by_code (drop from ds))
+not_from ds n others layout from code place above there before =
+    ap (λ (b : Bool). cond {A = Option Declaration} b None (slice_get ds place)) (sym (lt-ltb place from before))
+    ∙ ap (λ (o : Option ℕ). at_place from o ds) (sym there)
+    ∙ found_other ds n others layout from code above
+
+pub not_there : (ds : List Declaration) (n : ℕ) (others : ℕ → Option ℕ) → IsLayout ds n others
+    → (from code : ℕ) → n < code → others code ≡ None → None ≡ declaration_at code (by_code (drop from ds))
+not_there ds n others layout from code above there =
+    ap (λ (o : Option ℕ). at_place from o ds) (sym there) ∙ found_other ds n others layout from code above
 
 pub found_before : (ds : List Declaration) (n : ℕ) (others : ℕ → Option ℕ) → IsLayout ds n others → (from code : ℕ)
     → code ≤ from → code ≤ n → None ≡ declaration_at code (by_code (drop from ds))
@@ -324,30 +377,3 @@ found_before ds n others layout from code before le =
     none_before zero h = refl
     none_before (suc k) h =
         ap (λ (b : Bool). cond {A = Option Declaration} b None (slice_get ds k)) (lt-ltb k from (omega (arith, h)))
-
--- ---- a push
-
-pub pushed_in_order : (items more : List Abbreviation) (a : Abbreviation) (n m : ℕ) (others : ℕ → Option ℕ)
-    → IsLayout (map declaration_view items) n others → more ≡ items ++ a ∷ [] → n ≡ length items → m ≡ suc n
-    → a.code ≡ suc n → declaration_at a.code (map declaration_view items) ≡ None
-    → IsLayout (map declaration_view more) m others
-pushed_in_order items more a n m others layout is all count next absent =
-    subst (λ (ds : List Declaration). IsLayout ds m others)
-    (sym (ap (map declaration_view) is ∙ map-append declaration_view items (a ∷ [])))
-    (subst (λ (k : ℕ). IsLayout (map declaration_view items ++ declaration_view a ∷ []) k others) (sym count)
-    (next_in_order (map declaration_view items) n others (declaration_view a) layout
-    (omega (arith, all, length-map items declaration_view)) next absent))
-
-pub pushed_elsewhere : (items more : List Abbreviation) (a : Abbreviation) (n key place : ℕ) (others new : ℕ → Option ℕ)
-    → IsLayout (map declaration_view items) n others → more ≡ items ++ a ∷ [] → 0 < a.code
-    → declaration_at a.code (map declaration_view items) ≡ None → key ≡ a.code → place ≡ length items
-    → ((code : ℕ) → new code ≡ cond (is_at (nat_cmp key) code) (Some place) (others code))
-    → IsLayout (map declaration_view more) n new
-pushed_elsewhere items more a n key place others new layout is counts absent key_is place_is placed =
-    subst (λ (ds : List Declaration). IsLayout ds n new)
-    (sym (ap (map declaration_view) is ∙ map-append declaration_view items (a ∷ [])))
-    (other_place (map declaration_view items) n others new (declaration_view a) layout counts absent
-    (λ code. placed code
-    ∙ ap (λ (k : ℕ). cond (is_at (nat_cmp k) code) (Some place) (others code)) key_is
-    ∙ ap (λ (p : ℕ). cond (is_at (nat_cmp a.code) code) (Some p) (others code))
-    (place_is ∙ sym (length-map items declaration_view))))

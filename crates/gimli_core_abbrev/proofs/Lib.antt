@@ -5,7 +5,13 @@ pub use Rattle.gimli_core_readers.proofs.StepSizes
 pub use Rattle.gimli_core_readers.proofs.ViewCuts
 mod DeclarationSizes
 mod TableCollection
+mod ExactRefusals
+mod ImplicitConstants
+mod ShortAttributes
+mod SkippedAttributes
+mod SkippedDeclarations
 mod DeclarationPlaces
+mod StoredDeclarations
 mod RepeatedOffsets
 mod RisingCodes
 mod TableRoom
@@ -14,6 +20,11 @@ mod DeclarationMoves
 mod TableTails
 mod SectionEnds
 mod TableEndExamples
+mod CheckedTables
+mod FoundDeclarations
 mod CacheMaps
 mod CachedTables
 pub mod WidthSums
+mod CountedPrefixes
+mod ReadFacts
+mod AddedAttributes

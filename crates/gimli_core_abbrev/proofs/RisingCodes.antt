@@ -94,7 +94,7 @@ table_at-rises offset section ds made =
 
 -- ---- what that says
 
-below_all : (n code : ℕ) (ds : List Declaration) → Rise n ds → code ≤ n → declaration_at code ds ≡ None
+pub below_all : (n code : ℕ) (ds : List Declaration) → Rise n ds → code ≤ n → declaration_at code ds ≡ None
 below_all n code [] rises le = refl
 below_all n code (d ∷ ds) rises le =
     rw (ne_eqb d.code code (λ e. omega (arith, e, le, rises.0)))

@@ -1,6 +1,6 @@
 -- How many bytes a form's value has, where that depends on the form alone (DWARF 5, 7.5.6).
-use Rattle.std.specs.Prelude.{◌≡◌, ℕ, zero, suc, ◌+◌, ◌*◌, ◌==◌, Bool, Option, Some, None, option_map, option_and_then, List, [], ◌∷◌, if◌then◌else◌}
-use Rattle.std.specs.List.{list_any}
+use Rattle.std.specs.Prelude.{◌≡◌, ◌≤◌, ℕ, zero, suc, min, ◌+◌, ◌*◌, ◌==◌, Bool, Option, Some, None, is_some, option_map, option_and_then, List, [], ◌∷◌, if◌then◌else◌}
+use Rattle.std.specs.List.{list_any, prefix_len}
 use Rattle.gimli_core_readers.specs.TheConstants.{DW_FORM_flag_present, DW_FORM_implicit_const, DW_FORM_data1, DW_FORM_flag, DW_FORM_ref1, DW_FORM_strx1, DW_FORM_addrx1, DW_FORM_data2, DW_FORM_ref2, DW_FORM_strx2, DW_FORM_addrx2, DW_FORM_strx3, DW_FORM_addrx3, DW_FORM_data4, DW_FORM_ref4, DW_FORM_ref_sup4, DW_FORM_strx4, DW_FORM_addrx4, DW_FORM_data8, DW_FORM_ref8, DW_FORM_ref_sig8, DW_FORM_ref_sup8, DW_FORM_data16, DW_FORM_strp, DW_FORM_sec_offset, DW_FORM_strp_sup, DW_FORM_line_strp, DW_FORM_GNU_ref_alt, DW_FORM_GNU_strp_alt, DW_FORM_addr, DW_FORM_ref_addr}
 use Rattle.gimli_core_readers.specs.Encoding.{Encoding}
 use Rattle.gimli_core_readers.specs.FormatSizes.{word_size}
@@ -60,6 +60,11 @@ width_of encoding form =
     else if is_one_of forms_of_16 form then Some 16
     else None
 
+-- the same, none where they depend on the version of the standard
+abbrev pub fixed_width_of : Encoding → ℕ → Option ℕ
+fixed_width_of encoding form =
+    if form == DW_FORM_ref_addr.0 then None else width_of encoding form
+
 -- ---- several values
 
 -- the sum of the widths of the first n, none where there are fewer or one has no width
@@ -74,13 +79,30 @@ abbrev pub total_width : Encoding → FixedWidths → ℕ
 total_width encoding w =
     w.bytes + w.addresses * encoding.address_size + w.offsets * word_size encoding.format
 
+-- those of one attribute
+abbrev pub IsOfOne : FixedWidths → Type 0
+IsOfOne w = (w.attributes ≡ 1) × (w.bytes ≤ 16) × (w.addresses ≤ 1) × (w.offsets ≤ 1)
+
 -- how many attributes have these widths
 abbrev pub count_of_widths : FixedWidths → ℕ
 count_of_widths w = w.attributes
 
--- the widths are those of the first attributes, whatever the encoding
+-- the most attributes whose widths are counted: whatever their forms, the sum is below 256
+abbrev pub most_counted : ℕ
+most_counted = 15
+
+-- how many are counted: those before the first that has no such width, and at most so many
+abbrev pub count_of_fixed : Encoding → List Attribute → ℕ
+count_of_fixed encoding attributes =
+    min most_counted (prefix_len (λ a. is_some (fixed_width_of encoding a.form)) attributes)
+
+-- the widths are those of the first attributes, of as many as are counted
+pub record AreWidthsIn (encoding : Encoding) (attributes : List Attribute) (w : FixedWidths)
+    : Type 0 where
+  pub count : count_of_widths w ≡ count_of_fixed encoding attributes
+  pub sum : sum_of_first (λ a. width_of encoding a.form) (count_of_widths w) attributes
+      ≡ Some (total_width encoding w)
+
+-- whatever the encoding
 abbrev pub AreWidthsOf : List Attribute → FixedWidths → Type 0
-AreWidthsOf attributes w =
-    (encoding : Encoding)
-    → sum_of_first (λ a. width_of encoding a.form) w.attributes attributes
-    ≡ Some (total_width encoding w)
+AreWidthsOf attributes w = (encoding : Encoding) → AreWidthsIn encoding attributes w

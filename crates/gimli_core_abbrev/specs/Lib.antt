@@ -27,7 +27,10 @@ pub mod Declarations
 pub mod TableParsing
 pub mod AttributeViews
 pub mod AbbreviationViews
+pub mod DeclarationEquality
+pub mod DeclarationFacts
 pub mod TableLayout
 pub mod FormWidths
 pub mod TableCache
 pub mod TableLaws
+pub mod TableChecks

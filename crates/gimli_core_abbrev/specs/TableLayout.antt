@@ -1,11 +1,15 @@
 -- How a table stores its declarations: in the order of their bytes, with the places of all codes
--- but the first ones, which are 1, 2, ..
-use Rattle.std.specs.Prelude.{◌≡◌, ◌≤◌, ℕ, zero, suc, ◌==◌, nat_lt, List, [], ◌∷◌, drop, Option, Some, None, option_map, Ok, if◌then◌else◌}
+-- but the first ones, which are 1, 2, .., and with all attributes one after the other.
+use Rattle.std.specs.Prelude.{◌≡◌, ◌≤◌, ℕ, zero, suc, ◌+◌, ◌-◌, ◌==◌, nat_lt, nat_le, Bool, true, ◌&&◌, List, [], ◌∷◌, map, length, drop, slice_index, slice_range, Option, Some, None, option_map, Ok, if◌then◌else◌}
 use Rattle.std.specs.List.{slice_get}
 use Rattle.gimli_core_readers.specs.View.{View, bytes_left, after}
 use Rattle.gimli_core_readers.specs.Parsers.{Parser}
 use Rattle.gimli_core_readers.specs.Repetition.{Listing, listing_in, whole}
-use Rattle.gimli_core_abbrev.specs.Declarations.{Declaration, repeated_code}
+use Rattle.gimli_core_abbrev.specs.declared.abbreviation.AttributeSpecification.{AttributeSpecification}
+use Rattle.gimli_core_abbrev.specs.declared.table.StoredDeclaration.{StoredDeclaration}
+use Rattle.gimli_core_abbrev.specs.Declarations.{Attribute, Declaration, repeated_code}
+use Rattle.gimli_core_abbrev.specs.AbbreviationViews.{attribute_view, declaration_of_parts}
+use Rattle.gimli_core_abbrev.specs.DeclarationFacts.{KnowsAttributes}
 use Rattle.gimli_core_abbrev.specs.TableParsing.{declaration, distinct}
 
 -- ---- places
@@ -34,6 +38,50 @@ pub record IsLayout (ds : List Declaration) (in_order : ℕ) (others : ℕ → O
 abbrev pub at_place : ℕ → Option ℕ → List Declaration → Option Declaration
 at_place from None ds = None
 at_place from (Some place) ds = if nat_lt place from then None else slice_get ds place
+
+-- ---- what is stored
+
+-- the attributes of a list between two of its places
+abbrev pub attributes_between : List AttributeSpecification → ℕ → ℕ → List Attribute
+attributes_between list begin end = map attribute_view (slice_range list begin end)
+
+-- the code at a place: 1, 2, .. in order, and then those of a list
+abbrev pub code_at : ℕ → List ℕ → ℕ → ℕ
+code_at in_order others place =
+    if nat_lt place in_order then place + 1 else slice_index others (place - in_order)
+
+-- declarations from a place on, whose attributes begin at a place of the list of attributes
+abbrev pub declarations_from : (ℕ → ℕ) → List AttributeSpecification → ℕ → ℕ
+    → List StoredDeclaration → List Declaration
+declarations_from code_of list place begin [] = []
+declarations_from code_of list place begin (d ∷ ds) =
+    declaration_of_parts (code_of place) d.head (attributes_between list begin d.end)
+    ∷ declarations_from code_of list (place + 1) d.end ds
+
+-- all that are stored
+abbrev pub stored : ℕ → List ℕ → List AttributeSpecification → List StoredDeclaration
+    → List Declaration
+stored in_order others list ds = declarations_from (code_at in_order others) list 0 0 ds
+
+-- where the attributes of the declaration at a place begin
+abbrev pub begin_of : ℕ → List StoredDeclaration → ℕ → ℕ
+begin_of begin ds zero = begin
+begin_of begin [] (suc place) = begin
+begin_of begin (d ∷ ds) (suc place) = begin_of d.end ds place
+
+-- the attributes of each declaration follow those of the one before it, and the last end where the
+-- list does
+abbrev pub tiles : ℕ → ℕ → List StoredDeclaration → Bool
+tiles total begin [] = begin == total
+tiles total begin (d ∷ ds) = nat_le begin d.end && tiles total d.end ds
+
+-- declarations, the codes of those that aren't in order, and all attributes
+pub record IsStored (ds : List StoredDeclaration) (in_order : ℕ) (others : List ℕ)
+    (list : List AttributeSpecification) : Type 0 where
+  pub codes : in_order + length others ≡ length ds
+  pub tiled : tiles (length list) 0 ds ≡ true
+  pub heads : (place : ℕ) (d : StoredDeclaration) → slice_get ds place ≡ Some d
+      → KnowsAttributes d.head (attributes_between list (begin_of 0 ds place) d.end)
 
 -- ---- lists
 

@@ -1,9 +1,9 @@
 -- How an abbreviation table is read (DWARF 5, 7.5.3).
-use Rattle.std.specs.Prelude.{ℕ, ℤ, ◌==◌, Bool, true, false, not, ◌&&◌, List, [], ◌∷◌, Option, Some, None, Result, Ok, Err}
+use Rattle.std.specs.Prelude.{◌≡◌, ◌≤◌, ℕ, ℤ, ◌==◌, Bool, true, false, not, ◌&&◌, List, [], ◌∷◌, length, Option, Some, None, Result, Ok, Err}
 use Rattle.gimli_core_readers.specs.Error.{Error}
 use Rattle.gimli_core_readers.specs.Error.TheVariants.{AbbreviationTagZero, AttributeNameZero, AttributeFormZero, InvalidAbbreviationChildren, DuplicateAbbreviationCode}
 use Rattle.gimli_core_readers.specs.TheConstants.{DW_FORM_implicit_const, DW_CHILDREN_no, DW_CHILDREN_yes}
-use Rattle.gimli_core_readers.specs.View.{View, bytes_left}
+use Rattle.gimli_core_readers.specs.View.{View, bytes_left, after}
 use Rattle.gimli_core_readers.specs.Parsers.{Parser, ◌>>=◌, ◌>>◌, give, fail, branch, demand, skip, value_of, proceed}
 use Rattle.gimli_core_readers.specs.Repetition.{Listing, listing_in, all_of, whole}
 use Rattle.gimli_core_readers.specs.NumberParsers.{fixed, unsigned, unsigned_16, signed}
@@ -34,6 +34,12 @@ attribute = do
   name ← unsigned_16
   form ← unsigned_16
   branch (name == 0 && form == 0) (give None) (attribute_of name form)
+
+-- The first two bytes are an attribute, or the pair of zeros that ends them.
+abbrev pub IsShortAttribute : List ℕ → Option Attribute → Type 0
+IsShortAttribute bytes found =
+    (2 ≤ length bytes)
+    × ((v : View) → v.bytes ≡ bytes → attribute v ≡ Ok (found, after 2 v))
 
 unfoldable pub attributes : Parser (List Attribute)
 attributes = all_of bytes_left attribute

@@ -1,12 +1,18 @@
 //! The declarations of an abbreviation table.
 
-ghost use Rattle.std.specs.Prelude.{◌≡◌, ◌==◌, map, option_map, is_some};
-ghost use Rattle.gimli_core_readers.specs.Calls.{Reads, ReturnsAsOrNoMemory};
-ghost use Rattle.gimli_core_abbrev.specs.TableParsing.{implicit_const_form, implicit_const, attribute, attributes, children, declaration_of, declaration};
-ghost use Rattle.gimli_core_abbrev.specs.AbbreviationViews.{declaration_view, attribute_view};
+ghost use Rattle.std.specs.Prelude.{◌≡◌, ◌==◌, List, [], ◌∷◌, ◌++◌, option_map, is_some, IfOk, IfErr, IfSome, IfNone, OnOk};
+ghost use Rattle.std.specs.Option.{option_to_list};
+ghost use Rattle.gimli_core_readers.specs.Calls.{Reads, ReturnsAs, ReturnsAsOrNoMemory};
+ghost use Rattle.gimli_core_readers.specs.Parsers.{map_value};
+ghost use Rattle.gimli_core_abbrev.specs.TableParsing.{implicit_const_form, implicit_const, attribute, IsShortAttribute, attributes, children, declaration_of, declaration};
+ghost use Rattle.gimli_core_readers.specs.Error.TheVariants.{Memory};
+ghost use Rattle.gimli_core_abbrev.specs.AbbreviationViews.{attribute_view, added_view, Extends, with_attributes, nothing};
+ghost use Rattle.gimli_core_abbrev.specs.DeclarationFacts.{FitsInBytes, KnowsRead, KnowsAttributes};
+ghost use Rattle.gimli_core_abbrev.specs.Declarations.{Attribute};
 ghost use Rattle.gimli_core_abbrev.specs.FormWidths.{width_of};
 
-use crate::declaration::Abbreviation;
+use crate::declaration::{CodedHead, Head};
+use crate::facts::AttributeFacts;
 use gimli_core_readers::{
     DW_CHILDREN_no, DW_CHILDREN_yes, DW_FORM_GNU_ref_alt, DW_FORM_GNU_strp_alt, DW_FORM_addr,
     DW_FORM_addrx1, DW_FORM_addrx2, DW_FORM_addrx3, DW_FORM_addrx4, DW_FORM_data1, DW_FORM_data2,
@@ -14,17 +20,42 @@ use gimli_core_readers::{
     DW_FORM_implicit_const, DW_FORM_line_strp, DW_FORM_ref_addr, DW_FORM_ref_sig8,
     DW_FORM_ref_sup4, DW_FORM_ref_sup8, DW_FORM_ref1, DW_FORM_ref2, DW_FORM_ref4, DW_FORM_ref8,
     DW_FORM_sec_offset, DW_FORM_strp, DW_FORM_strp_sup, DW_FORM_strx1, DW_FORM_strx2,
-    DW_FORM_strx3, DW_FORM_strx4, DwAt, DwChildren, DwForm, DwTag, Encoding, Error, Reader,
+    DW_FORM_strx3, DW_FORM_strx4, DwAt, DwChildren, DwForm, DwTag, Encoding, EndianSlice,
+    Endianity, Error, Reader,
 };
-use smallvec::SmallVec;
-use std::alloc::Global;
+use std::mem::size_of;
 
-/// The name and the form of an attribute in a declaration.
-#[derive(Clone, Copy, Debug, PartialEq, Eq)]
+const _: () = prove!(size_of::<AttributeSpecification>() == 12);
+
+/// The name and the form of an attribute in a declaration, in 12 bytes.
+#[derive(Clone, Copy, Debug)]
 pub struct AttributeSpecification {
     name: DwAt,
     form: DwForm,
-    implicit_const_value: Option<i64>,
+    // The value of the form `DW_FORM_implicit_const`, little end first.
+    constant: [u8; 8],
+}
+
+/// By what it says: a constant counts where the form is `DW_FORM_implicit_const`.
+impl PartialEq for AttributeSpecification {
+    ghost use Rattle.gimli_core_abbrev.specs.DeclarationEquality.{is_same_specification, same_specification_laws};
+    ghost use Rattle.std.specs.Cmp.{partial_equiv_from_equiv};
+
+    ghost eq = { is_same_specification };
+
+    ghost laws = { partial_equiv_from_equiv same_specification_laws };
+
+    fn eq(&self, other: &Self) -> bool {
+        self.name == other.name
+            && (self.form == other.form
+                && self.implicit_const_value() == other.implicit_const_value())
+    }
+}
+
+impl Eq for AttributeSpecification {
+    ghost use Rattle.gimli_core_abbrev.specs.DeclarationEquality.{same_specification_laws};
+
+    ghost laws = { same_specification_laws };
 }
 
 /// The pair of zeros that ends the attributes of a declaration.
@@ -39,7 +70,7 @@ impl Default for AttributeSpecification {
         AttributeSpecification {
             name: DwAt(0),
             form: DwForm(0),
-            implicit_const_value: None,
+            constant: [0; 8],
         }
     }
 }
@@ -54,7 +85,7 @@ impl AttributeSpecification {
         AttributeSpecification {
             name,
             form,
-            implicit_const_value,
+            constant: implicit_const_value.unwrap_or(0).to_le_bytes(),
         }
     }
 
@@ -76,7 +107,11 @@ impl AttributeSpecification {
     pub fn implicit_const_value(&self) -> Option<i64>
         ensures { result ≡ (attribute_view self.now).implicit_const }
     {
-        self.implicit_const_value
+        if self.form == DW_FORM_implicit_const {
+            Some(i64::from_le_bytes(self.constant))
+        } else {
+            None
+        }
     }
 }
 
@@ -125,10 +160,11 @@ fn parse_implicit_const<R: Reader>(input: &mut R, form: DwForm) -> Result<Option
     }
 }
 
-// An attribute, or none at the pair of zeros that ends them.
+// An attribute, or none at the pair of zeros that ends them, whatever the bytes of its numbers.
+#[inline(never)]
 #[tactic(auto, unfolding(crate::specs::TableParsing::attribute, crate::specs::TableParsing::attribute_of))]
-fn parse_attribute<R: Reader>(input: &mut R) -> Result<Option<AttributeSpecification>, Error>
-    ensures { ReturnsAsOrNoMemory (λ a. (option_map attribute_view a, R.view input.new)) result
+fn parse_long_attribute<R: Reader>(input: &mut R) -> Result<Option<AttributeSpecification>, Error>
+    ensures { ReturnsAs (λ a. (option_map attribute_view a, R.view input.new)) result
         (attribute (R.view input.old)) }
 {
     let name = DwAt(input.read_uleb128_u16()?);
@@ -140,34 +176,141 @@ fn parse_attribute<R: Reader>(input: &mut R) -> Result<Option<AttributeSpecifica
         _ => {}
     }
     let implicit_const_value = parse_implicit_const(input, form)?;
-    Ok(Some(AttributeSpecification {
-        name,
-        form,
-        implicit_const_value,
-    }))
+    Ok(Some(AttributeSpecification::new(name, form, implicit_const_value)))
 }
 
-// The attributes of a declaration.
-#[tactic(auto, unfolding(crate::specs::TableParsing::attributes))]
-fn parse_attributes<R: Reader>(
-    alloc: Global,
-    input: &mut R,
-) -> Result<SmallVec<AttributeSpecification, 5>, Error>
-    ensures { ReturnsAsOrNoMemory (λ list. (map attribute_view list.items, R.view input.new))
-        result (attributes (R.view input.old)) }
+// An attribute whose name and form are a byte each, or none at a pair of zeros. Others, and those
+// that are refused or hold a value, aren't looked at.
+#[inline(always)]
+fn short_attribute(bytes: &[u8]) -> Option<Option<AttributeSpecification>>
+    ensures { IfSome result (λ a. IsShortAttribute bytes.now (option_map attribute_view a)) }
 {
-    let mut found = SmallVec::new(alloc);
-    while let Some(attribute) = parse_attribute(input)? {
-        found.push(attribute)?;
+    let [name, form, ..] = bytes else {
+        return None;
+    };
+    let (name, form) = (u16::from(*name), u16::from(*form));
+    if name >= 128 || form >= 128 {
+        return None;
     }
-    Ok(found)
+    if name == 0 {
+        return if form == 0 { Some(None) } else { None };
+    }
+    if form == 0 || form == DW_FORM_implicit_const.0 {
+        return None;
+    }
+    Some(Some(AttributeSpecification::new(DwAt(name), DwForm(form), None)))
+}
+
+// An attribute, or none at the pair of zeros that ends them.
+#[inline(always)]
+fn parse_attribute<R: Reader>(input: &mut R) -> Result<Option<AttributeSpecification>, Error>
+    ensures { ReturnsAs (λ a. (option_map attribute_view a, R.view input.new)) result
+        (attribute (R.view input.old)) }
+{
+    if let Some(attribute) = short_attribute(input.as_bytes()) {
+        input.advance(2);
+        return Ok(attribute);
+    }
+    parse_long_attribute(input)
+}
+
+// An attribute that was put after those of a list, and what is known with it of those after a place.
+#[derive(Clone, Copy, Debug)]
+struct Pushed {
+    attribute: AttributeSpecification,
+    facts: AttributeFacts,
+}
+
+// Puts an attribute after those of a list, if there is one.
+#[inline(always)]
+fn push(
+    attribute: Option<AttributeSpecification>,
+    found: &mut Vec<AttributeSpecification>,
+    facts: AttributeFacts,
+) -> Result<Option<Pushed>, Error>
+    requires { FitsInBytes facts }
+    ensures value { IfOk result (λ p. option_map (λ p. attribute_view p.attribute) p
+        ≡ option_map attribute_view attribute) }
+    ensures items { IfOk result (λ p. found.new.items
+        ≡ found.old.items ++ option_to_list (option_map (λ p. p.attribute) p)) }
+    ensures knows { IfOk result (λ p. IfSome p (λ p. FitsInBytes p.facts
+        × ((before : List Attribute) → KnowsRead facts before
+        → KnowsRead p.facts (before ++ attribute_view p.attribute ∷ [])))) }
+    ensures err { IfErr result (λ e. e ≡ Memory) }
+{
+    let Some(attribute) = attribute else {
+        return Ok(None);
+    };
+    found.push(attribute)?;
+    let facts = facts.with(attribute);
+    Ok(Some(Pushed { attribute, facts }))
+}
+
+// Reads an attribute from borrowed bytes, which stay in registers, and puts it after those of a
+// list.
+#[inline(always)]
+fn push_next<E: Endianity>(
+    place: &mut EndianSlice<'_, E>,
+    found: &mut Vec<AttributeSpecification>,
+    facts: AttributeFacts,
+) -> Result<Option<Pushed>, Error>
+    requires { FitsInBytes facts }
+    ensures value { ReturnsAsOrNoMemory
+        (λ p. (option_map (λ p. attribute_view p.attribute) p, place.new)) result
+        (attribute place.old) }
+    ensures items { IfOk result (λ p. found.new.items
+        ≡ found.old.items ++ option_to_list (option_map (λ p. p.attribute) p)) }
+    ensures knows { IfOk result (λ p. IfSome p (λ p. FitsInBytes p.facts
+        × ((before : List Attribute) → KnowsRead facts before
+        → KnowsRead p.facts (before ++ attribute_view p.attribute ∷ [])))) }
+{
+    if let Some(attribute) = short_attribute(place.slice()) {
+        place.advance(2);
+        return Ok(push(attribute, found, facts)?);
+    }
+    let mut next = place.range_from(0..);
+    let attribute = parse_long_attribute(&mut next)?;
+    *place = next;
+    Ok(push(attribute, found, facts)?)
+}
+
+// Reads the attributes of a declaration, and puts them after those of a list.
+#[inline(always)]
+#[tactic(auto, unfolding(crate::specs::TableParsing::attributes))]
+fn parse_attributes<E: Endianity>(
+    input: &mut EndianSlice<'_, E>,
+    found: &mut Vec<AttributeSpecification>,
+) -> Result<AttributeFacts, Error>
+    ensures value { ReturnsAsOrNoMemory
+        (λ _. (added_view found.old.items found.new.items, input.new)) result
+        (attributes input.old) }
+    ensures extends { OnOk result (Extends found.old.items found.new.items) }
+    ensures knows { IfOk result (λ f. FitsInBytes f
+        × KnowsRead f (added_view found.old.items found.new.items)) }
+{
+    let mut facts = AttributeFacts::none();
+    let mut place = input.range_from(0..);
+    'pushing: while let Some(pushed) = push_next(&mut place, found, facts)? {
+        facts = pushed.facts;
+    }
+    *input = place;
+    Ok(facts)
+}
+
+// Skips the attributes of a declaration.
+#[tactic(auto, unfolding(crate::specs::TableParsing::attributes))]
+fn skip_attributes<R: Reader>(input: &mut R) -> Result<(), Error>
+    ensures { ReturnsAs (λ x. (x, R.view input.new)) result
+        (map_value nothing attributes (R.view input.old)) }
+{
+    while parse_attribute(input)?.is_some() {}
+    Ok(())
 }
 
 // Whether children follow.
 #[tactic(auto, unfolding(crate::specs::TableParsing::children))]
 fn parse_children<R: Reader>(input: &mut R) -> Result<bool, Error>
-    ensures { ReturnsAsOrNoMemory (λ b. (b, R.view input.new)) result
-        (children (R.view input.old)) }
+    ensures { ReturnsAs (λ b. (b, R.view input.new)) result (children (R.view input.old)) }
 {
     match DwChildren(input.read_u8()?) {
         DW_CHILDREN_no => Ok(false),
@@ -176,30 +319,50 @@ fn parse_children<R: Reader>(input: &mut R) -> Result<bool, Error>
     }
 }
 
-// What follows a code.
+// What follows a code. The attributes are put after those of a list.
+#[inline(always)]
 #[tactic(auto, unfolding(crate::specs::TableParsing::declaration_of))]
-fn parse_after_code<R: Reader>(
-    alloc: Global,
-    input: &mut R,
+fn parse_after_code<E: Endianity>(
+    input: &mut EndianSlice<'_, E>,
     code: u64,
-) -> Result<Abbreviation, Error>
-    ensures { ReturnsAsOrNoMemory (λ a. (declaration_view a, R.view input.new)) result
-        (declaration_of code (R.view input.old)) }
+    attributes: &mut Vec<AttributeSpecification>,
+) -> Result<CodedHead, Error>
+    ensures value { ReturnsAsOrNoMemory
+        (λ d. (with_attributes (added_view attributes.old.items attributes.new.items) d, input.new))
+        result (declaration_of code input.old) }
+    ensures extends { OnOk result (Extends attributes.old.items attributes.new.items) }
+    ensures knows { IfOk result (λ d. KnowsAttributes d.head
+        (added_view attributes.old.items attributes.new.items)) }
 {
     let tag = DwTag(input.read_uleb128_u16()?);
     if tag.0 == 0 {
         return Err(Error::AbbreviationTagZero);
     }
     let has_children = parse_children(input)?;
-    let attributes = parse_attributes(alloc, input)?;
-    Ok(Abbreviation::new(code, tag, has_children, attributes))
+    let facts = parse_attributes(input, attributes)?;
+    let head = Head::new(tag, has_children, facts);
+    Ok(CodedHead { code, head })
 }
 
-// A declaration, or none where the table ends: at the code 0 and at the end of the bytes.
+// A declaration, or none where the table ends: at the code 0 and at the end of the bytes. Its
+// attributes are put after those of a list.
+#[inline(always)]
 #[tactic(auto, unfolding(crate::specs::TableParsing::declaration, crate::specs::TableParsing::coded_declaration))]
-pub(crate) fn parse<R: Reader>(alloc: Global, input: &mut R) -> Result<Option<Abbreviation>, Error>
-    ensures { ReturnsAsOrNoMemory (λ a. (option_map declaration_view a, R.view input.new)) result
-        (declaration (R.view input.old)) }
+pub(crate) fn parse<E: Endianity>(
+    input: &mut EndianSlice<'_, E>,
+    attributes: &mut Vec<AttributeSpecification>,
+) -> Result<Option<CodedHead>, Error>
+    ensures value { ReturnsAsOrNoMemory (λ d. (
+      option_map (λ d. with_attributes
+          (added_view attributes.old.items attributes.new.items) d) d,
+      input.new,
+    ))
+        result (declaration input.old) }
+    ensures extends { IfOk result (λ d. IfSome d
+        (λ _. Extends attributes.old.items attributes.new.items)) }
+    ensures knows { IfOk result (λ d. IfSome d (λ d. KnowsAttributes d.head
+        (added_view attributes.old.items attributes.new.items))) }
+    ensures ends { IfOk result (λ d. IfNone d (attributes.new.items ≡ attributes.old.items)) }
 {
     if input.is_empty() {
         return Ok(None);
@@ -208,5 +371,36 @@ pub(crate) fn parse<R: Reader>(alloc: Global, input: &mut R) -> Result<Option<Ab
     if code == 0 {
         return Ok(None);
     }
-    Ok(Some(parse_after_code(alloc, input, code)?))
+    Ok(Some(parse_after_code(input, code, attributes)?))
+}
+
+// Skips what follows a code.
+#[tactic(auto, unfolding(crate::specs::TableParsing::declaration_of))]
+pub(crate) fn skip_after_code<R: Reader>(input: &mut R, code: u64) -> Result<u64, Error>
+    ensures { ReturnsAs (λ c. (c, R.view input.new)) result
+        (map_value (λ d. d.code) (declaration_of code) (R.view input.old)) }
+{
+    let tag = DwTag(input.read_uleb128_u16()?);
+    if tag.0 == 0 {
+        return Err(Error::AbbreviationTagZero);
+    }
+    let _has_children = parse_children(input)?;
+    skip_attributes(input)?;
+    Ok(code)
+}
+
+// Skips a declaration, and returns its code; none where the table ends.
+#[tactic(auto, unfolding(crate::specs::TableParsing::declaration, crate::specs::TableParsing::coded_declaration))]
+pub(crate) fn skip<R: Reader>(input: &mut R) -> Result<Option<u64>, Error>
+    ensures { ReturnsAs (λ c. (c, R.view input.new)) result
+        (map_value (option_map (λ d. d.code)) declaration (R.view input.old)) }
+{
+    if input.is_empty() {
+        return Ok(None);
+    }
+    let code = input.read_uleb128()?;
+    if code == 0 {
+        return Ok(None);
+    }
+    Ok(Some(skip_after_code(input, code)?))
 }

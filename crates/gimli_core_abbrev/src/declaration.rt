@@ -1,97 +1,175 @@
 //! A declaration of an abbreviation table.
 
-ghost use Rattle.std.specs.Prelude.{◌≡◌, map};
+ghost use Rattle.std.specs.Prelude.{◌≡◌, List, map};
 ghost use Rattle.gimli_core_abbrev.specs.AttributeViews.{attribute_view};
+ghost use Rattle.gimli_core_abbrev.specs.AbbreviationViews.{declaration_of_parts};
+ghost use Rattle.gimli_core_abbrev.specs.DeclarationFacts.{names_ranges, FitsInBytes, KnowsRead, KnowsAttributes};
+ghost use Rattle.gimli_core_abbrev.specs.Declarations.{Attribute};
 ghost use Rattle.gimli_core_abbrev.specs.FormWidths.{AreWidthsOf};
 
 use crate::abbreviation::AttributeSpecification;
+use crate::facts::AttributeFacts;
 use crate::widths::FixedWidths;
 use gimli_core_readers::DwTag;
-use smallvec::SmallVec;
+use std::marker::Model;
 
-/// What entries of one code have in common. Up to five attributes take no memory of their own.
-#[derive(Debug, PartialEq, Eq)]
-pub struct Abbreviation {
-    code: u64,
+// What is said before the attributes of a declaration, and what is known of them.
+#[derive(Clone, Copy, Debug, PartialEq, Eq)]
+pub(crate) struct Head {
     tag: DwTag,
     has_children: bool,
-    attributes: SmallVec<AttributeSpecification, 5>,
+    has_ranges: bool,
     widths: FixedWidths,
-    ghost widths_fit: { AreWidthsOf (map attribute_view attributes.items) widths },
 }
 
-impl Drop for Abbreviation {
-    fn drop(self) {
-        let Abbreviation {
-            code: _,
-            tag: _,
-            has_children: _,
-            attributes: _,
-            widths: _,
-        } = self;
+impl Head {
+    // With what is known of its attributes.
+    #[inline(always)]
+    pub(crate) fn new(tag: DwTag, has_children: bool, facts: AttributeFacts) -> Self
+        requires { FitsInBytes facts }
+        ensures parts { (result.tag ≡ tag) × (result.has_children ≡ has_children) }
+        ensures knows { (attributes : List Attribute) → KnowsRead facts attributes
+            → KnowsAttributes result attributes }
+    {
+        Head {
+            tag,
+            has_children,
+            has_ranges: facts.has_ranges(),
+            widths: facts.widths(),
+        }
     }
 }
 
-impl Abbreviation {
-    ghost use Rattle.gimli_core_abbrev.specs.AbbreviationViews.{declaration_view};
+// A declaration but for its attributes.
+#[derive(Clone, Copy, Debug)]
+pub(crate) struct CodedHead {
+    pub(crate) code: u64,
+    pub(crate) head: Head,
+}
 
-    // With the widths of its attributes.
-    pub(crate) fn new(
+/// What entries of one code have in common: the view of a declaration, whose attributes are those
+/// of its table.
+#[derive(Debug, Drop)]
+pub struct Abbreviation<'table> {
+    code: u64,
+    head: Head,
+    attributes: &'table [AttributeSpecification],
+}
+
+impl<'table> Model for Abbreviation<'table> {
+    ghost use Rattle.std.specs.Prelude.{map};
+    ghost use Rattle.gimli_core_abbrev.specs.Declarations.{Declaration, declaration_coding};
+    ghost use Rattle.gimli_core_abbrev.specs.AttributeViews.{attribute_view};
+    ghost use Rattle.gimli_core_abbrev.specs.AbbreviationViews.{declaration_of_parts};
+    ghost use Rattle.gimli_core_abbrev.specs.DeclarationFacts.{KnowsAttributes};
+
+    ghost Value = { Declaration };
+
+    ghost coded = { declaration_coding };
+
+    ghost view = { λ a. declaration_of_parts a.code a.head (map attribute_view a.attributes.now) };
+
+    ghost invariant = { λ a. KnowsAttributes a.head (map attribute_view a.attributes.now) };
+}
+
+/// In all that a declaration says.
+impl<'table> PartialEq for Abbreviation<'table> {
+    ghost use Rattle.gimli_core_abbrev.specs.DeclarationEquality.{is_same_declaration, same_declaration_laws};
+    ghost use Rattle.std.specs.Cmp.{partial_equiv_from_equiv};
+
+    ghost eq = { is_same_declaration };
+
+    ghost laws = { partial_equiv_from_equiv same_declaration_laws };
+
+    fn eq(&self, other: &Self) -> bool {
+        self.code == other.code
+            && (self.head.tag == other.head.tag
+                && (self.head.has_children == other.head.has_children
+                    && self.attributes == other.attributes))
+    }
+}
+
+impl<'table> Eq for Abbreviation<'table> {
+    ghost use Rattle.gimli_core_abbrev.specs.DeclarationEquality.{same_declaration_laws};
+
+    ghost laws = { same_declaration_laws };
+}
+
+impl<'table> Abbreviation<'table> {
+    // A declaration of its parts.
+    #[inline(always)]
+    pub(crate) fn of_parts(
         code: u64,
-        tag: DwTag,
-        has_children: bool,
-        attributes: SmallVec<AttributeSpecification, 5>,
+        head: Head,
+        attributes: &'table [AttributeSpecification],
     ) -> Self
-        ensures { declaration_view result ≡ record {
-          code = code;
-          tag = tag.0;
-          has_children = has_children;
-          attributes = map attribute_view attributes.items;
-        } }
+        requires { KnowsAttributes head (map attribute_view attributes.now) }
+        ensures { result
+            ≡ declaration_of_parts code head (map attribute_view attributes.now) }
     {
-        let widths = FixedWidths::of(attributes.as_slice());
         Abbreviation {
             code,
-            tag,
-            has_children,
+            head,
             attributes,
-            widths,
         }
     }
 
     /// The code by which entries name it.
+    #[inline(always)]
     pub fn code(&self) -> u64
-        ensures { result ≡ (declaration_view self.now).code }
+        ensures { result ≡ self.now.code }
     {
         self.code
     }
 
     /// The tag of its entries.
+    #[inline(always)]
     pub fn tag(&self) -> DwTag
-        ensures { result.0 ≡ (declaration_view self.now).tag }
+        ensures { result.0 ≡ self.now.tag }
     {
-        self.tag
+        self.head.tag
     }
 
     /// Whether entries of this code may have children.
+    #[inline(always)]
     pub fn has_children(&self) -> bool
-        ensures { result ≡ (declaration_view self.now).has_children }
+        ensures { result ≡ self.now.has_children }
     {
-        self.has_children
+        self.head.has_children
+    }
+
+    /// Whether one of the attributes is `DW_AT_low_pc`, `DW_AT_high_pc` or `DW_AT_ranges` (DWARF 5,
+    /// 2.17). Known since the declaration was parsed.
+    #[inline(always)]
+    pub fn has_ranges(&self) -> bool
+        ensures { result ≡ names_ranges self.now.attributes }
+    {
+        self.head.has_ranges
     }
 
     /// The attributes in the order in which an entry gives their values.
-    pub fn attributes(&self) -> &[AttributeSpecification]
-        ensures { map attribute_view result.now ≡ (declaration_view self.now).attributes }
+    #[inline(always)]
+    pub fn attributes(&self) -> &'table [AttributeSpecification]
+        ensures { map attribute_view result.now ≡ self.now.attributes }
     {
-        self.attributes.as_slice()
+        self.attributes
     }
 
     /// The widths of the values of the first attributes, where their forms alone say them.
     #[inline(always)]
     pub fn fixed_widths(&self) -> FixedWidths
-        ensures { AreWidthsOf (declaration_view self.now).attributes result }
+        ensures { AreWidthsOf self.now.attributes result }
     {
-        self.widths
+        self.head.widths
+    }
+
+    // What is said before the attributes, and what is known of them.
+    #[inline(always)]
+    pub(crate) fn head(&self) -> Head
+        ensures parts { self.now ≡ declaration_of_parts
+            self.now.code result self.now.attributes }
+        ensures knows { KnowsAttributes result self.now.attributes }
+    {
+        self.head
     }
 }

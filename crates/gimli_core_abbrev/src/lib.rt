@@ -4,7 +4,10 @@
 pub mod abbreviation;
 pub mod abbreviation_laws;
 pub mod cache;
+mod checks;
 pub mod declaration;
+mod facts;
+pub mod owned;
 pub mod section;
 pub mod table;
 mod tails;
@@ -32,6 +35,7 @@ pub use gimli_core_readers::{
     DebugTypeSignature, DwAt, DwForm, DwLang, DwoId, Encoding, EndianSlice, Error, Expression,
     Format, RawRangeListsOffset, Reader, ReaderOffset, UnitOffset, borrowed, bytes_before, cut,
 };
+pub use owned::OwnedAbbreviation;
 pub use section::DebugAbbrev;
 pub use table::Abbreviations;
 pub use widths::FixedWidths;

@@ -2,13 +2,18 @@
 
 ghost use Rattle.std.specs.Prelude.{◌≡◌};
 ghost use Rattle.std.specs.Fn.{FnOnceReturnsAt};
-ghost use Rattle.gimli_core_readers.specs.Calls.{ReturnsOrNoMemory, ReturnsAsOrNoMemory};
+ghost use Rattle.gimli_core_readers.specs.Calls.{Returns, ReturnsAs, ReturnsOrNoMemory, ReturnsAsOrNoMemory};
 ghost use Rattle.gimli_core_readers.specs.Parsers.{skip};
 ghost use Rattle.gimli_core_abbrev.specs.TableParsing.{table_at};
+ghost use Rattle.gimli_core_abbrev.specs.TableLaws.{declarations_at};
+ghost use Rattle.gimli_core_abbrev.specs.TableChecks.{can_read, find_declaration, FindsNone, IsInOrder};
 
+use crate::checks;
+use crate::owned::OwnedAbbreviation;
 use crate::table::{self, Abbreviations};
 use gimli_core_readers::{
-    DebugAbbrevOffset, EndianSlice, Endianity, Error, Reader, Section, SectionId,
+    DebugAbbrevOffset, EndianSlice, Endianity, Error, Reader, ReaderOffset, Section, SectionId,
+    borrowed,
 };
 use std::alloc::Global;
 use std::marker::Model;
@@ -85,8 +90,65 @@ impl<R: Reader> DebugAbbrev<R> {
     ) -> Result<Abbreviations, Error>
         ensures { ReturnsOrNoMemory result (table_at (R.Offset.count offset.0) self.now) }
     {
-        let mut input = self.input_at(offset)?;
-        table::parse(alloc, &mut input)
+        let mut place = self.place_at(offset)?;
+        table::parse(alloc, &mut place)
+    }
+
+    /// Whether the table that begins at an offset can be read: refused exactly where it would be. A
+    /// table is read once, and none of it is kept. Takes no memory where the codes are 1, 2, .. in
+    /// order, as nearly all tables have them; else it takes that of the table for a time.
+    pub fn check_abbreviations(
+        &self,
+        alloc: Global,
+        offset: DebugAbbrevOffset<R::Offset>,
+    ) -> Result<(), Error>
+        ensures value { ReturnsOrNoMemory result
+            (can_read (table_at (R.Offset.count offset.0) self.now)) }
+        // Where the codes are in order, this takes no memory.
+        ensures free { IsInOrder (declarations_at (R.Offset.count offset.0) self.now)
+            → Returns result (can_read (table_at (R.Offset.count offset.0) self.now)) }
+    {
+        let place = self.place_at(offset)?;
+        checks::check(alloc, &place)
+    }
+
+    /// The declaration of one code in the table that begins at an offset: refused exactly where the
+    /// table would be. The whole table is checked on the way, and nothing else of it is kept. Where
+    /// the codes are 1, 2, .. in order, a table is read once, and memory is taken for the attributes
+    /// of the declaration alone; else that of the table is taken too, for a time.
+    pub fn find_abbreviation(
+        &self,
+        alloc: Global,
+        offset: DebugAbbrevOffset<R::Offset>,
+        code: u64,
+    ) -> Result<Option<OwnedAbbreviation>, Error>
+        ensures value { ReturnsOrNoMemory result
+            (find_declaration code (table_at (R.Offset.count offset.0) self.now)) }
+        // Where the codes are in order and none is found, this takes no memory.
+        ensures free { IsInOrder (declarations_at (R.Offset.count offset.0) self.now)
+            → FindsNone (find_declaration code (table_at (R.Offset.count offset.0) self.now))
+            → Returns result
+            (find_declaration code (table_at (R.Offset.count offset.0) self.now)) }
+    {
+        let place = self.place_at(offset)?;
+        checks::find(alloc, &place, code)
+    }
+
+    // The bytes from an offset on, borrowed.
+    fn place_at(
+        &self,
+        offset: DebugAbbrevOffset<R::Offset>,
+    ) -> Result<EndianSlice<'_, R::Endian>, Error>
+        ensures { ReturnsAs (λ place. (tt, place)) result
+            (skip (R.Offset.count offset.0) self.now) }
+    {
+        let mut place = borrowed(&self.section);
+        let offset = offset.0.into_u64();
+        if (place.slice().len() as u64) < offset {
+            return Err(Error::UnexpectedEof(place.offset_id()));
+        }
+        place.advance(offset as usize);
+        Ok(place)
     }
 
     // The bytes from an offset on.

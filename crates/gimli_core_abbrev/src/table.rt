@@ -1,30 +1,45 @@
 //! Abbreviation tables, by their codes.
 
-ghost use Rattle.std.specs.Prelude.{◌≡◌, ℕ, ◌<◌, [], ◌∷◌, ◌++◌, map, drop, length, option_map, Some, OnOk, IfOk, IfErr, if◌then◌else◌};
+ghost use Rattle.std.specs.Prelude.{◌≡◌, ℕ, ◌≤◌, drop, length, option_map, is_some, Some, OnOk, IfOk, IfErr, slice_range, if◌then◌else◌};
 ghost use Rattle.std.specs.Ordering.{nat_cmp};
 ghost use Rattle.std.specs.BTreeMap.{get, is_at};
+ghost use Rattle.std.specs.List.{slice_get};
 ghost use Rattle.gimli_core_readers.specs.Calls.{ReturnsAsOrNoMemory};
 ghost use Rattle.gimli_core_readers.specs.Error.TheVariants.{Memory};
 ghost use Rattle.gimli_core_abbrev.specs.Declarations.{declaration_at, by_code};
 ghost use Rattle.gimli_core_abbrev.specs.TableParsing.{table};
-ghost use Rattle.gimli_core_abbrev.specs.TableLayout.{declaration_list, at_place};
-ghost use Rattle.gimli_core_abbrev.specs.AbbreviationViews.{declaration_view};
+ghost use Rattle.gimli_core_abbrev.specs.TableLayout.{declaration_list, begin_of, place_of};
 
-use crate::abbreviation;
-use crate::declaration::Abbreviation;
-use gimli_core_readers::{Error, Reader};
+use crate::abbreviation::{self, AttributeSpecification};
+use crate::declaration::{Abbreviation, CodedHead, Head};
+use gimli_core_readers::{EndianSlice, Endianity, Error};
 use std::alloc::Global;
 use std::collections::BTreeMap;
 use std::marker::Model;
+use std::mem::size_of;
 use std::rc::Rc;
+
+const _: () = prove!(size_of::<StoredDeclaration>() == 16);
+
+// A declaration but for its code and its attributes, and where these end among all attributes, in
+// 16 bytes.
+#[derive(Clone, Copy, Debug)]
+pub(crate) struct StoredDeclaration {
+    end: usize,
+    head: Head,
+}
 
 // Declarations in the order of their bytes, no code twice.
 #[derive(Debug)]
 pub(crate) struct DeclarationList {
-    declarations: Vec<Abbreviation>,
+    declarations: Vec<StoredDeclaration>,
+    // The attributes of all declarations, one after the other.
+    attributes: Vec<AttributeSpecification>,
     // How many of the first have the codes 1, 2, ..
     in_order: usize,
-    // The places of all others, by their codes.
+    // The codes of all others.
+    others: Vec<u64>,
+    // Their places.
     places: BTreeMap<u64, usize>,
 }
 
@@ -32,43 +47,35 @@ impl Drop for DeclarationList {
     fn drop(self) {
         let DeclarationList {
             declarations: _,
+            attributes: _,
             in_order: _,
+            others: _,
             places: _,
         } = self;
     }
 }
 
 impl Model for DeclarationList {
-    ghost use Rattle.std.specs.Prelude.{List, map};
+    ghost use Rattle.std.specs.Prelude.{List};
     ghost use Rattle.std.specs.Coded.{coded_list};
     ghost use Rattle.std.specs.Ordering.{nat_cmp};
     ghost use Rattle.std.specs.BTreeMap.{get};
     ghost use Rattle.gimli_core_abbrev.specs.Declarations.{Declaration, declaration_coding};
-    ghost use Rattle.gimli_core_abbrev.specs.TableLayout.{IsLayout};
-    ghost use Rattle.gimli_core_abbrev.specs.AbbreviationViews.{declaration_view};
+    ghost use Rattle.gimli_core_abbrev.specs.TableLayout.{stored, IsLayout, IsStored};
 
     ghost Value = { List Declaration };
 
     ghost coded = { coded_list declaration_coding };
 
-    ghost view = { λ l. map declaration_view l.declarations.items };
+    ghost view = { λ l. stored l.in_order l.others.items l.attributes.items l.declarations.items };
 
-    ghost invariant = { λ l. IsLayout (map declaration_view l.declarations.items) l.in_order
-        (get nat_cmp l.places) };
+    ghost invariant = { λ l. IsStored l.declarations.items l.in_order l.others.items
+        l.attributes.items
+        × IsLayout (stored l.in_order l.others.items l.attributes.items l.declarations.items)
+        l.in_order (get nat_cmp l.places) };
 }
 
 impl DeclarationList {
-    // No declarations.
-    fn empty(alloc: Global) -> Self
-        ensures { result ≡ [] }
-    {
-        DeclarationList {
-            declarations: Vec::new(alloc),
-            in_order: 0,
-            places: BTreeMap::new(alloc),
-        }
-    }
-
     // How many there are.
     pub(crate) fn len(&self) -> usize
         ensures { result ≡ length self.now }
@@ -78,54 +85,100 @@ impl DeclarationList {
 
     // The declaration of a code among those from a place on.
     #[inline(always)]
-    fn get(&self, from: usize, code: u64) -> Option<&Abbreviation>
-        ensures { option_map (λ a. declaration_view a.now) result
-            ≡ declaration_at code (by_code (drop from self.now)) }
+    fn get(&self, from: usize, code: u64) -> Option<Abbreviation<'_>>
+        ensures { result ≡ declaration_at code (by_code (drop from self.now)) }
     {
         if (self.in_order as u64) < code {
-            get_by_place(&self.declarations, &self.places, from, code)
+            match self.places.get(&code) {
+                Some(place) => {
+                    if from <= *place {
+                        Some(self.at(*place, code))
+                    } else {
+                        None
+                    }
+                }
+                None => None,
+            }
         } else if (from as u64) < code {
-            Some(&self.declarations[(code - 1) as usize])
+            Some(self.at((code - 1) as usize, code))
         } else {
             None
         }
     }
 
-    // Adds a declaration, whose code isn't 0 and isn't there.
-    fn push(&mut self, abbreviation: Abbreviation) -> Result<(), Error>
-        requires counts { 0 < (declaration_view abbreviation).code }
-        requires is_new { declaration_at (declaration_view abbreviation).code self.old ≡ None }
-        ensures ok { OnOk result (self.new ≡ self.old ++ declaration_view abbreviation ∷ []) }
-        ensures err { IfErr result (λ e. e ≡ Memory) }
+    // The declaration at a place, whose code is known.
+    #[inline(always)]
+    fn at(&self, place: usize, code: u64) -> Abbreviation<'_>
+        requires { option_map (λ d. d.code) (slice_get self.now place) ≡ Some code }
+        ensures { slice_get self.now place ≡ Some result }
     {
-        let code = abbreviation.code();
-        let place = self.declarations.len();
-        self.declarations.push(abbreviation)?;
-        if self.in_order == place && code - 1 == place as u64 {
-            self.in_order = place + 1;
-            return Ok(());
+        let stored = self.declarations[place];
+        let declarations = self.declarations.as_slice();
+        let begin = begin_of(declarations, place);
+        let all = self.attributes.as_slice();
+        let attributes = between(all, begin, stored.end);
+        Abbreviation::of_parts(code, stored.head, attributes)
+    }
+
+    // The same with no room to spare.
+    fn shrunk(self) -> Self
+        ensures { result ≡ self }
+    {
+        let DeclarationList {
+            mut declarations,
+            mut attributes,
+            in_order,
+            others,
+            places,
+        } = self;
+        declarations.shrink_to_fit();
+        attributes.shrink_to_fit();
+        DeclarationList {
+            declarations,
+            attributes,
+            in_order,
+            others,
+            places,
         }
-        if let Err(refusal) = put_place(&mut self.places, code, place) {
-            self.declarations.pop();
-            return Err(refusal);
-        }
-        Ok(())
     }
 }
 
-// The declaration at a code's place, if that is at the first place or after it.
-fn get_by_place<'a>(
-    declarations: &'a [Abbreviation],
-    places: &BTreeMap<u64, usize>,
-    from: usize,
-    code: u64,
-) -> Option<&'a Abbreviation>
-    ensures { option_map (λ a. declaration_view a.now) result
-        ≡ at_place from (get nat_cmp places.now code) (map declaration_view declarations.now) }
+// Where the attributes of the declaration at a place begin.
+#[inline(always)]
+fn begin_of(declarations: &[StoredDeclaration], place: usize) -> usize
+    requires { place ≤ length declarations.now }
+    ensures { result ≡ begin_of 0 declarations.now place }
 {
-    match places.get(&code) {
-        Some(place) if from <= *place => declarations.get(*place),
-        _ => None,
+    if place == 0 {
+        0
+    } else {
+        declarations[place - 1].end
+    }
+}
+
+// The attributes between two places.
+#[inline(always)]
+fn between(
+    attributes: &[AttributeSpecification],
+    begin: usize,
+    end: usize,
+) -> &[AttributeSpecification]
+    requires begins { begin ≤ end }
+    requires ends { end ≤ length attributes.now }
+    ensures { result.now ≡ slice_range attributes.now begin end }
+{
+    &attributes[begin..end]
+}
+
+// Whether a code has a place.
+#[inline(always)]
+fn has_place(in_order: usize, places: &BTreeMap<u64, usize>, code: u64) -> bool
+    ensures { result ≡ is_some (place_of in_order (get nat_cmp places.now) code) }
+{
+    if (in_order as u64) < code {
+        places.contains_key(&code)
+    } else {
+        code != 0
     }
 }
 
@@ -179,12 +232,11 @@ impl Abbreviations {
         })
     }
 
-    /// The declaration of a code. It takes constant time where the codes 1, 2, .. came in order,
-    /// else that of a bisection.
+    /// The declaration of a code, borrowed from the table. It takes constant time where the codes 1,
+    /// 2, .. came in order, else that of a bisection.
     #[inline(always)]
-    pub fn get(&self, code: u64) -> Option<&Abbreviation>
-        ensures { option_map (λ a. declaration_view a.now) result
-            ≡ declaration_at code self.now }
+    pub fn get(&self, code: u64) -> Option<Abbreviation<'_>>
+        ensures { result ≡ declaration_at code self.now }
     {
         self.list.as_ref().get(self.from, code)
     }
@@ -192,24 +244,48 @@ impl Abbreviations {
 
 // Reads declarations up to the code 0 or the end of the bytes.
 #[tactic(auto, unfolding(crate::specs::TableLayout::declaration_list))]
-pub(crate) fn parse_list<R: Reader>(alloc: Global, input: &mut R) -> Result<DeclarationList, Error>
-    ensures { ReturnsAsOrNoMemory (λ l. (l, R.view input.new)) result
-        (declaration_list (R.view input.old)) }
+pub(crate) fn parse_list<E: Endianity>(
+    alloc: Global,
+    input: &mut EndianSlice<'_, E>,
+) -> Result<DeclarationList, Error>
+    ensures { ReturnsAsOrNoMemory (λ l. (l, input.new)) result (declaration_list input.old) }
 {
-    let mut found = DeclarationList::empty(alloc);
-    while let Some(abbreviation) = abbreviation::parse(alloc, input)? {
-        let code = abbreviation.code();
-        if found.get(0, code).is_some() {
+    let mut declarations = Vec::new(alloc);
+    let mut attributes = Vec::new(alloc);
+    let mut in_order: usize = 0;
+    let mut others = Vec::new(alloc);
+    let mut places = BTreeMap::new(alloc);
+    'reading: while let Some(parsed) = abbreviation::parse(input, &mut attributes)? {
+        let CodedHead { code, head } = parsed;
+        if has_place(in_order, &places, code) {
             return Err(Error::DuplicateAbbreviationCode(code));
         }
-        found.push(abbreviation)?;
+        let place = declarations.len();
+        let end = attributes.len();
+        declarations.push(StoredDeclaration { end, head })?;
+        if in_order == place && code == place as u64 + 1 {
+            in_order += 1;
+        } else {
+            others.push(code)?;
+            put_place(&mut places, code, place)?;
+        }
     }
-    Ok(found)
+    let list = DeclarationList {
+        declarations,
+        attributes,
+        in_order,
+        others,
+        places,
+    };
+    Ok(list.shrunk())
 }
 
 // Reads a table.
-pub(crate) fn parse<R: Reader>(alloc: Global, input: &mut R) -> Result<Abbreviations, Error>
-    ensures { ReturnsAsOrNoMemory (λ t. (t, R.view input.new)) result (table (R.view input.old)) }
+pub(crate) fn parse<E: Endianity>(
+    alloc: Global,
+    input: &mut EndianSlice<'_, E>,
+) -> Result<Abbreviations, Error>
+    ensures { ReturnsAsOrNoMemory (λ t. (t, input.new)) result (table input.old) }
 {
     let list = parse_list(alloc, input)?;
     Ok(Abbreviations {

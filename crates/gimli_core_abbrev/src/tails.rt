@@ -10,7 +10,7 @@ ghost use Rattle.gimli_core_abbrev.specs.TableParsing.{declaration, table_at};
 use crate::abbreviation;
 use crate::section::DebugAbbrev;
 use crate::table::{self, Abbreviations, DeclarationList};
-use gimli_core_readers::{DebugAbbrevOffset, Error, Reader, ReaderOffset, Section};
+use gimli_core_readers::{DebugAbbrevOffset, Error, Reader, ReaderOffset, Section, borrowed};
 use std::alloc::Global;
 use std::rc::Rc;
 
@@ -68,7 +68,7 @@ fn list_at<R: Reader>(
     ensures err { IfErr result (λ e. e ≡ Memory) }
 {
     if let Some(list) = last {
-        if let Some(list) = skip_to(alloc, section, offset, list)? {
+        if let Some(list) = skip_to(section, offset, list) {
             return Ok(Ok(list));
         }
     }
@@ -91,37 +91,36 @@ fn read_list<R: Reader>(
         (λ e. e ≢ Memory → table_at (R.Offset.count offset.0) section.now ≡ Err e) }
 {
     let input = section.input_at(offset)?;
-    let mut rest = input.copy()?;
+    let mut rest = borrowed(&input);
     let list = table::parse_list(alloc, &mut rest)?;
+    let left_after = rest.slice().len();
     Ok(ListTail {
         list: Rc::new(alloc, list)?,
         before: 0,
         input,
-        left_after: rest.as_bytes().len(),
+        left_after,
     })
 }
 
 // Goes on in a list to the declaration at an offset. There is none where the offset is inside one,
 // before those that were reached or after the list.
 fn skip_to<R: Reader>(
-    alloc: Global,
     section: &DebugAbbrev<R>,
     offset: DebugAbbrevOffset<R::Offset>,
     list: ListTail<R>,
-) -> Result<Option<ListTail<R>>, Error>
+) -> Option<ListTail<R>>
     requires { IsListOf section.now list.list.value list.before (R.view list.input) }
-    ensures ok { IfOk result (λ found. IfSome found (λ l. IsListAt section.now
-        (R.Offset.count offset.0) l.list.value l.before (R.view l.input))) }
-    ensures err { IfErr result (λ e. e ≡ Memory) }
+    ensures { IfSome result (λ l. IsListAt section.now (R.Offset.count offset.0) l.list.value
+        l.before (R.view l.input)) }
 {
     let total = section.reader().as_bytes().len() as u64;
     let place = offset.0.into_u64();
     if total < place {
-        return Ok(None);
+        return None;
     }
     let left = total - place;
     if left <= list.left_after as u64 {
-        return Ok(None);
+        return None;
     }
     let ListTail {
         list,
@@ -131,33 +130,30 @@ fn skip_to<R: Reader>(
     } = list;
     let count = list.as_ref().len();
     while before < count && left < input.as_bytes().len() as u64 {
-        if !skip_declaration(alloc, &mut input)? {
-            return Ok(None);
+        if !skip_declaration(&mut input) {
+            return None;
         }
         before += 1;
     }
     if input.as_bytes().len() as u64 == left {
-        Ok(Some(ListTail {
+        Some(ListTail {
             list,
             before,
             input,
             left_after,
-        }))
+        })
     } else {
-        Ok(None)
+        None
     }
 }
 
-// Reads a declaration and drops it, if there is one.
-fn skip_declaration<R: Reader>(alloc: Global, input: &mut R) -> Result<bool, Error>
-    ensures ok { IfOk result (λ b. b ≡ true → (d : Declaration)
-        × (declaration (R.view input.old) ≡ Ok (Some d, R.view input.new))) }
-    ensures err { IfErr result (λ e. e ≡ Memory) }
+// Skips a declaration, if there is one that can be read.
+fn skip_declaration<R: Reader>(input: &mut R) -> bool
+    ensures { result ≡ true → (d : Declaration)
+        × (declaration (R.view input.old) ≡ Ok (Some d, R.view input.new)) }
 {
-    match abbreviation::parse(alloc, input) {
-        Ok(Some(_)) => Ok(true),
-        Ok(None) => Ok(false),
-        Err(Error::Memory) => Err(Error::Memory),
-        Err(_) => Ok(false),
+    match abbreviation::skip(input) {
+        Ok(Some(_)) => true,
+        Ok(None) | Err(_) => false,
     }
 }

@@ -1,11 +1,9 @@
 //! How many bytes the first values of an entry have, where the forms alone say it.
 
-ghost use Rattle.std.specs.Prelude.{◌≡◌, ℕ, ◌+◌, Some, IfSome, map};
+ghost use Rattle.std.specs.Prelude.{◌≡◌, option_map, IfSome};
 ghost use Rattle.gimli_core_readers.specs.Encoding.{Encoding};
-ghost use Rattle.gimli_core_abbrev.specs.AbbreviationViews.{attribute_view};
-ghost use Rattle.gimli_core_abbrev.specs.FormWidths.{AreWidthsOf, count_of_widths, total_width, width_of};
+ghost use Rattle.gimli_core_abbrev.specs.FormWidths.{IsOfOne, count_of_widths, fixed_width_of, total_width};
 
-use crate::abbreviation::AttributeSpecification;
 use gimli_core_readers::{
     DW_FORM_GNU_ref_alt, DW_FORM_GNU_strp_alt, DW_FORM_addr, DW_FORM_addrx1, DW_FORM_addrx2,
     DW_FORM_addrx3, DW_FORM_addrx4, DW_FORM_data1, DW_FORM_data2, DW_FORM_data4, DW_FORM_data8,
@@ -17,29 +15,16 @@ use gimli_core_readers::{
 
 /// The bytes of the first values of an entry, known before the encoding is: plain bytes, addresses
 /// and offsets. They end before the first form whose width depends on the bytes or on the version
-/// of the standard (DWARF 5, 7.5.6), and before a form with which a count would be too large.
+/// of the standard (DWARF 5, 7.5.6), and after 15 attributes.
 #[derive(Clone, Copy, Debug, PartialEq, Eq)]
 pub struct FixedWidths {
-    bytes: u16,
-    addresses: u8,
-    offsets: u8,
-    attributes: u8,
+    pub(crate) bytes: u8,
+    pub(crate) addresses: u8,
+    pub(crate) offsets: u8,
+    pub(crate) attributes: u8,
 }
 
 impl FixedWidths {
-    // Of no attributes.
-    fn none() -> Self
-        ensures none { count_of_widths result ≡ 0 }
-        ensures total { (encoding : Encoding) → total_width encoding result ≡ 0 }
-    {
-        FixedWidths {
-            bytes: 0,
-            addresses: 0,
-            offsets: 0,
-            attributes: 0,
-        }
-    }
-
     /// How many attributes have these widths.
     #[inline(always)]
     pub fn attributes(self) -> usize
@@ -58,11 +43,12 @@ impl FixedWidths {
             + self.offsets as usize * encoding.format.word_size() as usize
     }
 
-    // Of one attribute of a form, if its width is known.
-    fn of_form(form: DwForm) -> Option<Self>
-        ensures one { IfSome result (λ w. count_of_widths w ≡ 1) }
-        ensures width { IfSome result (λ w. (encoding : Encoding)
-            → width_of encoding form.0 ≡ Some (total_width encoding w)) }
+    // Of one attribute of a form, if its width is the same in each version of the standard.
+    #[inline(always)]
+    pub(crate) fn of_form(form: DwForm) -> Option<Self>
+        ensures small { IfSome result IsOfOne }
+        ensures width { (encoding : Encoding)
+            → fixed_width_of encoding form.0 ≡ option_map (total_width encoding) result }
     {
         let mut widths = FixedWidths {
             bytes: 0,
@@ -94,39 +80,5 @@ impl FixedWidths {
             _ => return None,
         }
         Some(widths)
-    }
-
-    // With those of the attributes that follow, if the counts have room for them.
-    fn checked_add(self, other: Self) -> Option<Self>
-        ensures count { IfSome result (λ w. count_of_widths w
-            ≡ count_of_widths self + count_of_widths other) }
-        ensures total { IfSome result (λ w. (encoding : Encoding) → total_width encoding w
-            ≡ total_width encoding self + total_width encoding other) }
-    {
-        Some(FixedWidths {
-            bytes: self.bytes.checked_add(other.bytes)?,
-            addresses: self.addresses.checked_add(other.addresses)?,
-            offsets: self.offsets.checked_add(other.offsets)?,
-            attributes: self.attributes.checked_add(other.attributes)?,
-        })
-    }
-
-    // Of the first attributes, as many as have them.
-    pub(crate) fn of(attributes: &[AttributeSpecification]) -> Self
-        ensures { AreWidthsOf (map attribute_view attributes.now) result }
-    {
-        let mut widths = FixedWidths::none();
-        let mut left = attributes;
-        while let [attribute, rest @ ..] = left {
-            let Some(next) = FixedWidths::of_form(attribute.form()) else {
-                return widths;
-            };
-            let Some(wider) = widths.checked_add(next) else {
-                return widths;
-            };
-            widths = wider;
-            left = rest;
-        }
-        widths
     }
 }

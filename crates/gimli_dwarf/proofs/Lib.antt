@@ -1,7 +1,9 @@
 pub use Rattle.gimli_dwarf_spec.proofs.RefusedCalls
 mod CachedTables
+mod CachedFaults
 pub mod LastAttributes
 mod OffsetCallLemmas
 mod SectionCalls
 mod RootLemmas
+mod RootValueSteps
 mod UnitSteps

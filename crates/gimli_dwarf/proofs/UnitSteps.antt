@@ -9,14 +9,15 @@ use Rattle.gimli_dwarf_spec.specs.TableParsing.{table_at}
 use Rattle.gimli_dwarf_spec.specs.EntryRows.{Row}
 use Rattle.gimli_dwarf_spec.specs.EntryViews.{attribute_named}
 use Rattle.gimli_dwarf_spec.specs.AttributeMeanings.{value_under}
-use Rattle.gimli_dwarf_spec.specs.AttributeValues.{RawAttribute}
+use Rattle.gimli_dwarf_spec.specs.AttributeValues.{RawValue, RawAttribute}
 use Rattle.gimli_dwarf_spec.specs.UnitHeaders.{DebugUnit}
 use Rattle.gimli_dwarf_spec.specs.LineHeaders.{LineHeader}
 use Rattle.gimli_dwarf_spec.specs.Results.{and_then}
 use Rattle.gimli_dwarf_spec.specs.DwarfFiles.{DwarfFile}
-use Rattle.gimli_dwarf_spec.specs.UnitFacts.{UnitFacts, root, dwo_name, dwo_name_number, facts_of, bases_of, dwo_id_in, dwo_id_of, line_header_of, address_or_0, last_value_of_kind, last_value, line_reference_of, is_stmt_list, is_low_pc, is_dwo_id}
-use Rattle.gimli_dwarf.specs.RootBases.{TableBases, table_bases}
+use Rattle.gimli_dwarf_spec.specs.UnitFacts.{UnitFacts, root, dwo_name, dwo_name_number, facts_of, dwo_id_in, dwo_id_of, line_header_of, address_or_0}
+use Rattle.gimli_dwarf.specs.RootValues.{RootValues, TableBases, root_values, tables_of}
 use Rattle.gimli_dwarf.specs.Roots.{facts_without_texts, facts_with_texts, line_unit, with_program_and_begin, facts_with_program}
+use Rattle.gimli_dwarf.proofs.RootValueSteps.{ok_values}
 
 -- the facts of a unit whose root is read with a limit of offsets
 abbrev pub facts_with_limit : ℕ → DwarfFile → DebugUnit → Result UnitFacts Error
@@ -28,58 +29,53 @@ facts_with_limit limit file u =
 abbrev pub ok_facts : UnitFacts → Result UnitFacts Error
 ok_facts u = Ok u
 
--- an identifier, or none, that was read
-abbrev pub ok_id : Option ℕ → Result (Option ℕ) Error
-ok_id id = Ok id
-
--- bases that were read
-abbrev pub ok_tables : TableBases → Result TableBases Error
-ok_tables t = Ok t
-
 pub facts_by_steps : (file : DwarfFile) (u : DebugUnit) (table : List Declaration)
-    (attributes : List RawAttribute) (file_type : DwarfFileType) (tables : TableBases) (id : Option ℕ)
-    (first second : UnitFacts)
+    (attributes : List RawAttribute) (r found : RootValues) (file_type : DwarfFileType) (tables : TableBases)
+    (id : Option ℕ) (first second : UnitFacts)
+    → r ≡ found
     → file_type ≡ file.sections.file_type
-    → ok_tables (table_bases (bases_of file_type u.encoding attributes)) ≡ ok_tables tables
-    → ok_id (option_or (dwo_id_in u.kind) (option_and_then dwo_id_of (last_value is_dwo_id attributes))) ≡ ok_id id
+    → ok_values (root_values attributes) ≡ ok_values found
+    → tables ≡ tables_of file_type u.encoding found
+    → id ≡ option_or (dwo_id_in u.kind) (option_and_then dwo_id_of r.dwo_id)
     → first ≡ facts_without_texts u table tables id
-    → ok_facts (facts_with_texts file first attributes) ≡ ok_facts second
-    → facts_with_program file second attributes ≡ facts_of file u table attributes
-facts_by_steps file u table attributes file_type tables id first second type based identified bare named =
-    let own = option_or (dwo_id_in u.kind) (option_and_then dwo_id_of (last_value is_dwo_id attributes)) in
-    let one : table_bases (bases_of file_type u.encoding attributes) ≡ tables = cc in
-    let two : own ≡ id = cc in
-    let three : facts_with_texts file first attributes ≡ second = cc in
-    ap (λ (x : UnitFacts). facts_with_program file x attributes) (sym three)
-    ∙ ap (λ (x : UnitFacts). facts_with_program file (facts_with_texts file x attributes) attributes) bare
+    → ok_facts (facts_with_texts file first r.name r.comp_dir) ≡ ok_facts second
+    → facts_with_program file second r.line r.low_pc ≡ facts_of file u table attributes
+facts_by_steps file u table attributes r found file_type tables id first second is type read based identified bare
+    named =
+    let all : root_values attributes ≡ found = cc in
+    let one : root_values attributes ≡ r = all ∙ sym is in
+    let three : facts_with_texts file first r.name r.comp_dir ≡ second = cc in
+    ap (λ (x : UnitFacts). facts_with_program file x r.line r.low_pc) (sym three)
+    ∙ ap (λ (x : UnitFacts). facts_with_program file (facts_with_texts file x r.name r.comp_dir) r.line r.low_pc) bare
     ∙ ap (λ b. facts_with_program file
-    (facts_with_texts file (facts_without_texts u table b id) attributes) attributes) (sym one)
+    (facts_with_texts file (facts_without_texts u table b id) r.name r.comp_dir) r.line r.low_pc)
+    (based ∙ ap (tables_of file_type u.encoding) (sym is))
     ∙ ap (λ d. facts_with_program file
+    (facts_with_texts file (facts_without_texts u table (tables_of file_type u.encoding r) d) r.name r.comp_dir)
+    r.line r.low_pc) identified
+    ∙ ap (λ (x : RootValues). facts_with_program file
     (facts_with_texts file
-    (facts_without_texts u table (table_bases (bases_of file_type u.encoding attributes)) d) attributes)
-    attributes) (sym two)
-    ∙ ap (λ t. facts_with_program file
+    (facts_without_texts u table (tables_of file_type u.encoding x)
+    (option_or (dwo_id_in u.kind) (option_and_then dwo_id_of x.dwo_id))) x.name x.comp_dir) x.line x.low_pc) (sym one)
+    ∙ ap (λ t. let x : RootValues = root_values attributes in facts_with_program file
     (facts_with_texts file
-    (facts_without_texts u table (table_bases (bases_of t u.encoding attributes)) own) attributes)
-    attributes) type
+    (facts_without_texts u table (tables_of t u.encoding x)
+    (option_or (dwo_id_in u.kind) (option_and_then dwo_id_of x.dwo_id))) x.name x.comp_dir) x.line x.low_pc) type
 
-module _ (file : DwarfFile) (u : UnitFacts) (attributes : List RawAttribute) (e : Error) where
+module _ (file : DwarfFile) (u : UnitFacts) (line : Option ℕ) (low_pc : Option RawValue) (e : Error) where
   -- a refused line header refuses the unit
-  pub refused_line_header : line_header_of file (line_unit u)
-      (last_value_of_kind line_reference_of is_stmt_list attributes) ≡ Err e
-      → facts_with_program file u attributes ≡ Err e
+  pub refused_line_header : line_header_of file (line_unit u) line ≡ Err e
+      → facts_with_program file u line low_pc ≡ Err e
   refused_line_header h =
       ap (λ (o : Result (Option LineHeader) Error).
-      and_then o (λ l. with_program_and_begin u l (address_or_0 file u.bases (last_value is_low_pc attributes)))) h
+      and_then o (λ l. with_program_and_begin u l (address_or_0 file u.bases low_pc))) h
 
   -- and so does a refused begin
-  pub refused_low_pc : (l : Option LineHeader)
-      → line_header_of file (line_unit u) (last_value_of_kind line_reference_of is_stmt_list attributes) ≡ Ok l
-      → address_or_0 file u.bases (last_value is_low_pc attributes) ≡ Err e
-      → facts_with_program file u attributes ≡ Err e
+  pub refused_low_pc : (l : Option LineHeader) → line_header_of file (line_unit u) line ≡ Ok l
+      → address_or_0 file u.bases low_pc ≡ Err e → facts_with_program file u line low_pc ≡ Err e
   refused_low_pc l h k =
       ap (λ (o : Result (Option LineHeader) Error).
-      and_then o (λ l. with_program_and_begin u l (address_or_0 file u.bases (last_value is_low_pc attributes)))) h
+      and_then o (λ l. with_program_and_begin u l (address_or_0 file u.bases low_pc))) h
       ∙ ap (with_program_and_begin u l) k
 
 -- what names a split file, by the root and the number of the attribute
@@ -120,14 +116,15 @@ facts_of-parts : (file : DwarfFile) (u : DebugUnit) (table : List Declaration) (
     (f : UnitFacts) → facts_of file u table attributes ≡ Ok f
     → (f.header ≡ u) × (f.table ≡ table)
 facts_of-parts file u table attributes f h =
-    let tables : TableBases = table_bases (bases_of file.sections.file_type u.encoding attributes) in
-    let id : Option ℕ = option_or (dwo_id_in u.kind) (option_and_then dwo_id_of (last_value is_dwo_id attributes)) in
+    let r : RootValues = root_values attributes in
+    let tables : TableBases = tables_of file.sections.file_type u.encoding r in
+    let id : Option ℕ = option_or (dwo_id_in u.kind) (option_and_then dwo_id_of r.dwo_id) in
     let first : UnitFacts = facts_without_texts u table tables id in
-    let second : UnitFacts = facts_with_texts file first attributes in
-    program-parts second
-    (line_header_of file (line_unit second) (last_value_of_kind line_reference_of is_stmt_list attributes))
-    (address_or_0 file second.bases (last_value is_low_pc attributes)) f
-    (facts_by_steps file u table attributes file.sections.file_type tables id first second refl refl refl refl refl
+    let second : UnitFacts = facts_with_texts file first r.name r.comp_dir in
+    program-parts second (line_header_of file (line_unit second) r.line)
+    (address_or_0 file second.bases r.low_pc) f
+    (facts_by_steps file u table attributes r r file.sections.file_type tables id first second refl refl refl refl refl
+    refl refl
     ∙ h)
 
 -- it is the one that was read

@@ -1,8 +1,6 @@
 -- The offsets that a root names for its unit.
 use Rattle.std.specs.Prelude.{ℕ, Bool, Option}
-use Rattle.gimli_dwarf_spec.specs.AttributeMeanings.{value_under}
-use Rattle.gimli_dwarf_spec.specs.AttributeValues.{RawValue, RawAttribute}
-use Rattle.gimli_dwarf_spec.specs.Attributes.{Bases}
+use Rattle.gimli_dwarf_spec.specs.AttributeValues.{RawValue}
 use Rattle.gimli_dwarf_spec.specs.UnitFacts.{is_stmt_list, is_str_offsets_base, is_addr_base, is_loclists_base, is_rnglists_base, line_reference_of, string_offsets_base_of, address_base_of, location_lists_base_of, range_lists_base_of}
 use Rattle.gimli_dwarf.specs.declared.root.Base.{Base}
 use Rattle.gimli_dwarf.specs.declared.root.Base.TheVariants.{Line, StrOffsets, Addr, LocLists, RngLists}
@@ -22,22 +20,3 @@ offset_of_base StrOffsets v = string_offsets_base_of v
 offset_of_base Addr v = address_base_of v
 offset_of_base LocLists v = location_lists_base_of v
 offset_of_base RngLists v = range_lists_base_of v
-
--- what an attribute's name makes of its value
-abbrev pub named_value : RawAttribute → RawValue
-named_value a = value_under a.name a.value
-
--- where the tables of a unit begin
-pub record TableBases : Type 0 where
-  pub str_offsets : ℕ
-  pub addr : ℕ
-  pub loclists : ℕ
-  pub rnglists : ℕ
-
-abbrev pub table_bases : Bases → TableBases
-table_bases b = record {
-  str_offsets = b.str_offsets_base;
-  addr = b.addr_base;
-  loclists = b.loclists_base;
-  rnglists = b.rnglists_base;
-}

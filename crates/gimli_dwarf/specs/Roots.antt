@@ -2,14 +2,14 @@
 use Rattle.std.specs.Prelude.{ℕ, List, Option, None, Result, Ok}
 use Rattle.gimli_dwarf_spec.specs.Error.{Error}
 use Rattle.gimli_dwarf_spec.specs.Declarations.{Declaration}
-use Rattle.gimli_dwarf_spec.specs.AttributeValues.{RawAttribute}
+use Rattle.gimli_dwarf_spec.specs.AttributeValues.{RawValue}
 use Rattle.gimli_dwarf_spec.specs.UnitHeaders.{DebugUnit}
 use Rattle.gimli_dwarf_spec.specs.LineHeaders.{LineHeader}
 use Rattle.gimli_dwarf_spec.specs.HeaderParsing.{LineUnit}
 use Rattle.gimli_dwarf_spec.specs.Results.{◌>>=◌}
 use Rattle.gimli_dwarf_spec.specs.DwarfFiles.{DwarfFile}
-use Rattle.gimli_dwarf_spec.specs.UnitFacts.{UnitFacts, with_low_pc, last_value, last_value_of_kind, line_reference_of, is_stmt_list, is_name, is_comp_dir, is_low_pc, readable_text, line_header_of, address_or_0}
-use Rattle.gimli_dwarf.specs.RootBases.{TableBases}
+use Rattle.gimli_dwarf_spec.specs.UnitFacts.{UnitFacts, with_low_pc, readable_text, line_header_of, address_or_0}
+use Rattle.gimli_dwarf.specs.RootValues.{TableBases}
 
 -- its header, its declarations, where its tables begin and its identifier
 abbrev pub facts_without_texts : DebugUnit → List Declaration → TableBases → Option ℕ → UnitFacts
@@ -31,10 +31,11 @@ facts_without_texts u table tables dwo_id = record {
 }
 
 -- with its texts
-abbrev pub facts_with_texts : DwarfFile → UnitFacts → List RawAttribute → UnitFacts
-facts_with_texts file u attributes = record u {
-  name = readable_text file u.bases (last_value is_name attributes);
-  comp_dir = readable_text file u.bases (last_value is_comp_dir attributes);
+abbrev pub facts_with_texts : DwarfFile → UnitFacts → Option RawValue → Option RawValue
+    → UnitFacts
+facts_with_texts file u name comp_dir = record u {
+  name = readable_text file u.bases name;
+  comp_dir = readable_text file u.bases comp_dir;
 }
 
 -- what a line header takes of it
@@ -50,9 +51,8 @@ with_program_and_begin u line_header low_pc = do
   Ok (record u { bases = with_low_pc a u.bases; line_header = line_header })
 
 -- with its line header, and where it begins
-abbrev pub facts_with_program : DwarfFile → UnitFacts → List RawAttribute
+abbrev pub facts_with_program : DwarfFile → UnitFacts → Option ℕ → Option RawValue
     → Result UnitFacts Error
-facts_with_program file u attributes = do
-  let program = last_value_of_kind line_reference_of is_stmt_list attributes
-  h ← line_header_of file (line_unit u) program
-  with_program_and_begin u h (address_or_0 file u.bases (last_value is_low_pc attributes))
+facts_with_program file u line low_pc = do
+  h ← line_header_of file (line_unit u) line
+  with_program_and_begin u h (address_or_0 file u.bases low_pc)

@@ -1,6 +1,8 @@
 //! All sections of a file.
 
 ghost use Rattle.std.specs.Prelude.{◌≡◌, ◌≢◌, IsTrue, IfOk, OnOk, OnErr, IfErr, option_map, Ok, Err};
+ghost use Rattle.std.specs.List.{Contains};
+ghost use Rattle.gimli_dwarf_spec.specs.Error.{Error};
 ghost use Rattle.gimli_dwarf_spec.specs.Calls.{ReturnsAsOrNoMemory, ReturnsOrNoMemory};
 ghost use Rattle.gimli_dwarf_spec.specs.Error.TheVariants.{Memory};
 ghost use Rattle.gimli_dwarf_spec.specs.SectionReads.{string_at};
@@ -178,11 +180,16 @@ impl<R: Reader> Dwarf<R> {
     ) -> Result<Rc<Abbreviations>, Error>
         ensures value { ReturnsAsOrNoMemory (λ t. t.value) result
             (table_at (R.Offset.count offset.0) self.now.file.sections.debug_abbrev) }
+        // What is cached is not read again: a fault is answered without taking memory.
+        ensures free { (e : Error)
+            → Contains self.now.cached_offsets (R.Offset.count offset.0)
+            → table_at (R.Offset.count offset.0) self.now.file.sections.debug_abbrev ≡ Err e
+            → result ≡ Err e }
         // Offsets in the file are the reader's.
         ensures limit { self.now.file.offset_limit ≡ R.Offset.limit }
     {
-        self.abbreviations_cache
-            .get(alloc, &self.debug_abbrev, offset)
+        let section = &self.debug_abbrev;
+        self.abbreviations_cache.get(alloc, section, offset)
     }
 
     /// Makes this a split file of a main file: its addresses, its range lists of old versions and

@@ -16,7 +16,7 @@ pub use gimli_dwarf_spec::{
     DW_AT_abstract_origin, DW_AT_linkage_name, DW_AT_name, DW_AT_specification,
     DW_TAG_partial_unit, DebugInfoOffset, DebugRanges, DebugRngLists, DebuggingInformationEntry,
     DwAt, EntriesRaw, Error, LocationLists, OffsetInSection, RangeLists, Reader, ReaderOffset,
-    RngListIter, UnitOffset,
+    RngListIter, UnitHeader, UnitOffset,
 };
 pub use holders::{DebugMacinfo, DebugMacro, DebugNames, DebugTypes};
 pub use unit::Unit;

@@ -1,18 +1,20 @@
 //! What the root entry of a unit says.
 
-ghost use Rattle.std.specs.Prelude.{◌≡◌, ◌==◌, Ok, option_map, unwrap_or};
+ghost use Rattle.std.specs.Prelude.{◌≡◌, ◌==◌, Ok, option_map};
+ghost use Rattle.std.specs.Option.{option_or};
 ghost use Rattle.gimli_dwarf_spec.specs.Calls.{ReturnsAsOrNoMemory, ReturnsOrNoMemory};
 ghost use Rattle.gimli_dwarf_spec.specs.AttributeValues.{raw_value_of, raw_attribute_of};
 ghost use Rattle.gimli_dwarf_spec.specs.EntryViews.{entry_of, raw_attributes};
-ghost use Rattle.gimli_dwarf_spec.specs.UnitFacts.{root, value_of_kind, last_value_of_kind, any_value, last_value, bases_of};
-ghost use Rattle.gimli_dwarf.specs.RootBases.{names_base, offset_of_base, named_value, table_bases};
+ghost use Rattle.gimli_dwarf_spec.specs.UnitFacts.{root, value_of_kind, any_value};
+ghost use Rattle.gimli_dwarf.specs.RootBases.{names_base, offset_of_base};
+ghost use Rattle.gimli_dwarf.specs.RootValues.{named_value, no_values, root_values, tables_of, with_attribute};
 
 use gimli_dwarf_spec::{
-    Abbreviations, Attribute, AttributeValue, DW_AT_GNU_addr_base, DW_AT_GNU_ranges_base,
-    DW_AT_addr_base, DW_AT_loclists_base, DW_AT_rnglists_base, DW_AT_stmt_list,
-    DW_AT_str_offsets_base, DebugAddrBase, DebugLocListsBase, DebugRngListsBase,
-    DebugStrOffsetsBase, DebuggingInformationEntry, DefaultBase, DwAt, DwarfFileType, Error,
-    Reader, ReaderOffset, UnitHeader, entries_raw,
+    Abbreviations, Attribute, AttributeValue, DW_AT_GNU_addr_base, DW_AT_GNU_dwo_id,
+    DW_AT_GNU_ranges_base, DW_AT_addr_base, DW_AT_comp_dir, DW_AT_loclists_base, DW_AT_low_pc,
+    DW_AT_name, DW_AT_rnglists_base, DW_AT_stmt_list, DW_AT_str_offsets_base, DebugAddrBase,
+    DebugLocListsBase, DebugRngListsBase, DebugStrOffsetsBase, DebuggingInformationEntry,
+    DefaultBase, DwAt, DwarfFileType, Error, Reader, ReaderOffset, UnitHeader, entries_raw,
 };
 use std::alloc::Global;
 use std::marker::Model;
@@ -104,19 +106,6 @@ impl Base {
     }
 }
 
-// The offset in an attribute, where it is one that names the base, and fits it.
-fn offset_of<R: Reader>(attr: &Attribute<R>, base: Base) -> Result<Option<R::Offset>, Error>
-    ensures { ReturnsAsOrNoMemory (option_map R.Offset.count) result
-        (Ok (value_of_kind (offset_of_base base) (names_base base)
-        (raw_attribute_of R.view R.Offset.count attr.now))) }
-{
-    if base.is_named(attr.name()) {
-        offset_in(attr, base)
-    } else {
-        Ok(None)
-    }
-}
-
 // The offset in an attribute, where it fits the base.
 fn offset_in<R: Reader>(attr: &Attribute<R>, base: Base) -> Result<Option<R::Offset>, Error>
     ensures { ReturnsAsOrNoMemory (option_map R.Offset.count) result
@@ -126,33 +115,123 @@ fn offset_in<R: Reader>(attr: &Attribute<R>, base: Base) -> Result<Option<R::Off
     Ok(base.offset_in(&attr.value()?))
 }
 
-// The last offset that attributes name.
-pub(crate) fn last_offset<R: Reader>(
-    attrs: &[Attribute<R>],
-    base: Base,
-) -> Result<Option<R::Offset>, Error>
-    ensures { ReturnsAsOrNoMemory (option_map R.Offset.count) result
-        (Ok (last_value_of_kind (offset_of_base base) (names_base base)
-        (raw_attributes R.view R.Offset.count attrs.now))) }
-{
-    let mut found = None;
-    for attr in attrs {
-        found = offset_of(attr, base)?.or(found);
-    }
-    Ok(found)
+// What the attributes of a root say of its unit, read in one pass: the values of the last of some
+// names, and the offsets in the last that name a line number program or a base, and fit.
+#[derive(Drop)]
+pub(crate) struct RootAttributes<R: Reader> {
+    pub(crate) name: Option<AttributeValue<R>>,
+    pub(crate) comp_dir: Option<AttributeValue<R>>,
+    pub(crate) low_pc: Option<AttributeValue<R>>,
+    pub(crate) dwo_id: Option<AttributeValue<R>>,
+    pub(crate) line: Option<R::Offset>,
+    pub(crate) str_offsets: Option<R::Offset>,
+    pub(crate) addr: Option<R::Offset>,
+    pub(crate) loclists: Option<R::Offset>,
+    pub(crate) rnglists: Option<R::Offset>,
 }
 
-// The last offset that attributes name, or another where they name none.
-fn offset_or<R: Reader>(
-    attrs: &[Attribute<R>],
-    base: Base,
-    default: R::Offset,
-) -> Result<R::Offset, Error>
-    ensures { ReturnsAsOrNoMemory R.Offset.count result (Ok (unwrap_or
-        (last_value_of_kind (offset_of_base base) (names_base base)
-        (raw_attributes R.view R.Offset.count attrs.now)) (R.Offset.count default))) }
+impl<R: Reader> Model for RootAttributes<R> {
+    ghost use Rattle.std.specs.Prelude.{option_map};
+    ghost use Rattle.gimli_dwarf_spec.specs.AttributeValues.{raw_value_of};
+    ghost use Rattle.gimli_dwarf.specs.RootValues.{RootValues};
+
+    ghost Value = { RootValues };
+
+    ghost view = { λ r. record {
+      name = option_map (raw_value_of R.view R.Offset.count) r.name;
+      comp_dir = option_map (raw_value_of R.view R.Offset.count) r.comp_dir;
+      low_pc = option_map (raw_value_of R.view R.Offset.count) r.low_pc;
+      dwo_id = option_map (raw_value_of R.view R.Offset.count) r.dwo_id;
+      line = option_map R.Offset.count r.line;
+      str_offsets = option_map R.Offset.count r.str_offsets;
+      addr = option_map R.Offset.count r.addr;
+      loclists = option_map R.Offset.count r.loclists;
+      rnglists = option_map R.Offset.count r.rnglists;
+    } };
+}
+
+// Keeps an attribute's value, if it has this name.
+fn keep_value<R: Reader>(
+    found: &mut Option<AttributeValue<R>>,
+    attr: &Attribute<R>,
+    name: DwAt,
+) -> Result<(), Error>
+    ensures { ReturnsAsOrNoMemory
+        (λ _. option_map (raw_value_of R.view R.Offset.count) found.new) result
+        (Ok (option_or (value_of_kind any_value (λ n. n == name.0)
+        (raw_attribute_of R.view R.Offset.count attr.now))
+        (option_map (raw_value_of R.view R.Offset.count) found.old))) }
 {
-    Ok(last_offset(attrs, base)?.unwrap_or(default))
+    if attr.name() == name {
+        *found = Some(attr.value()?);
+    }
+    Ok(())
+}
+
+// Keeps the offset in an attribute, if it names the base, and fits it.
+fn keep_offset<R: Reader>(
+    found: &mut Option<R::Offset>,
+    attr: &Attribute<R>,
+    base: Base,
+) -> Result<(), Error>
+    ensures { ReturnsAsOrNoMemory (λ _. option_map R.Offset.count found.new) result
+        (Ok (option_or (value_of_kind (offset_of_base base) (names_base base)
+        (raw_attribute_of R.view R.Offset.count attr.now))
+        (option_map R.Offset.count found.old))) }
+{
+    if !base.is_named(attr.name()) {
+        return Ok(());
+    }
+    if let Some(offset) = offset_in(attr, base)? {
+        *found = Some(offset);
+    }
+    Ok(())
+}
+
+impl<R: Reader> RootAttributes<R> {
+    // What these attributes say.
+    pub(crate) fn read(attrs: &[Attribute<R>]) -> Result<Self, Error>
+        ensures { ReturnsOrNoMemory result
+            (Ok (root_values (raw_attributes R.view R.Offset.count attrs.now))) }
+    {
+        let mut found = RootAttributes::none();
+        for attr in attrs {
+            found.keep(attr)?;
+        }
+        Ok(found)
+    }
+
+    fn none() -> Self
+        ensures { result ≡ no_values }
+    {
+        RootAttributes {
+            name: None,
+            comp_dir: None,
+            low_pc: None,
+            dwo_id: None,
+            line: None,
+            str_offsets: None,
+            addr: None,
+            loclists: None,
+            rnglists: None,
+        }
+    }
+
+    // Takes what one more attribute says.
+    fn keep(&mut self, attr: &Attribute<R>) -> Result<(), Error>
+        ensures { ReturnsAsOrNoMemory (λ _. self.new) result
+            (Ok (with_attribute (raw_attribute_of R.view R.Offset.count attr.now) self.old)) }
+    {
+        keep_value(&mut self.name, attr, DW_AT_name)?;
+        keep_value(&mut self.comp_dir, attr, DW_AT_comp_dir)?;
+        keep_value(&mut self.low_pc, attr, DW_AT_low_pc)?;
+        keep_value(&mut self.dwo_id, attr, DW_AT_GNU_dwo_id)?;
+        keep_offset(&mut self.line, attr, Base::Line)?;
+        keep_offset(&mut self.str_offsets, attr, Base::StrOffsets)?;
+        keep_offset(&mut self.addr, attr, Base::Addr)?;
+        keep_offset(&mut self.loclists, attr, Base::LocLists)?;
+        keep_offset(&mut self.rnglists, attr, Base::RngLists)
+    }
 }
 
 // Where the tables of a unit begin: the bases that its root names, and else the default ones.
@@ -165,7 +244,7 @@ pub(crate) struct UnitBases<R: Reader> {
 }
 
 impl<R: Reader> Model for UnitBases<R> {
-    ghost use Rattle.gimli_dwarf.specs.RootBases.{TableBases};
+    ghost use Rattle.gimli_dwarf.specs.RootValues.{TableBases};
 
     ghost Value = { TableBases };
 
@@ -178,53 +257,23 @@ impl<R: Reader> Model for UnitBases<R> {
 }
 
 impl<R: Reader> UnitBases<R> {
-    // Those of a unit whose root has these attributes.
-    pub(crate) fn read(
+    // Those of a unit whose root says this.
+    pub(crate) fn new(
         file_type: DwarfFileType,
         header: &UnitHeader<R>,
-        attrs: &[Attribute<R>],
-    ) -> Result<Self, Error>
-        ensures { ReturnsOrNoMemory result (Ok (table_bases (bases_of file_type header.now.encoding
-            (raw_attributes R.view R.Offset.count attrs.now)))) }
+        found: &RootAttributes<R>,
+    ) -> Self
+        ensures { result ≡ tables_of file_type header.now.encoding found.now }
     {
         let encoding = header.encoding();
         let strings = DebugStrOffsetsBase::default_for_encoding_and_file(encoding, file_type);
         let locations = DebugLocListsBase::default_for_encoding_and_file(encoding, file_type);
         let ranges = DebugRngListsBase::default_for_encoding_and_file(encoding, file_type);
-        let strings = offset_or(attrs, Base::StrOffsets, strings.0)?;
-        let addresses = offset_or(attrs, Base::Addr, R::Offset::from_u8(0))?;
-        let locations = offset_or(attrs, Base::LocLists, locations.0)?;
-        let ranges = offset_or(attrs, Base::RngLists, ranges.0)?;
-        Ok(UnitBases {
-            str_offsets: DebugStrOffsetsBase(strings),
-            addr: DebugAddrBase(addresses),
-            loclists: DebugLocListsBase(locations),
-            rnglists: DebugRngListsBase(ranges),
-        })
+        UnitBases {
+            str_offsets: DebugStrOffsetsBase(found.str_offsets.unwrap_or(strings.0)),
+            addr: DebugAddrBase(found.addr.unwrap_or(R::Offset::from_u8(0))),
+            loclists: DebugLocListsBase(found.loclists.unwrap_or(locations.0)),
+            rnglists: DebugRngListsBase(found.rnglists.unwrap_or(ranges.0)),
+        }
     }
-}
-
-// The attribute, where it has this name.
-fn if_named<R: Reader>(attr: &Attribute<R>, name: DwAt) -> Option<&Attribute<R>>
-    ensures { option_map (λ a. named_value (raw_attribute_of R.view R.Offset.count a.now)) result
-        ≡ value_of_kind any_value (λ n. n == name.0)
-        (raw_attribute_of R.view R.Offset.count attr.now) }
-{
-    if attr.name() == name {
-        Some(attr)
-    } else {
-        None
-    }
-}
-
-// The last attribute of a name.
-pub(crate) fn last_attribute<R: Reader>(attrs: &[Attribute<R>], name: DwAt) -> Option<&Attribute<R>>
-    ensures { option_map (λ a. named_value (raw_attribute_of R.view R.Offset.count a.now)) result
-        ≡ last_value (λ n. n == name.0) (raw_attributes R.view R.Offset.count attrs.now) }
-{
-    let mut found = None;
-    for attr in attrs {
-        found = if_named(attr, name).or(found);
-    }
-    found
 }

@@ -1,22 +1,21 @@
 //! A unit and the facts of its root.
 
-ghost use Rattle.std.specs.Prelude.{◌≡◌, ◌==◌, Ok, IfOk, Some, option_map, option_and_then};
+ghost use Rattle.std.specs.Prelude.{◌≡◌, Ok, IfOk, Some, option_map, option_and_then};
 ghost use Rattle.std.specs.Option.{option_or};
 ghost use Rattle.gimli_dwarf_spec.specs.Calls.{ReturnsAsOrNoMemory, ReturnsOrNoMemory};
 ghost use Rattle.gimli_dwarf_spec.specs.AttributeValues.{raw_value_of};
 ghost use Rattle.gimli_dwarf_spec.specs.EntryViews.{entry_of, raw_attributes};
 ghost use Rattle.gimli_dwarf_spec.specs.HeaderParsing.{header_at};
 ghost use Rattle.gimli_dwarf_spec.specs.Splitting.{relocated_from};
-ghost use Rattle.gimli_dwarf_spec.specs.UnitFacts.{unit_facts, root, dwo_name, dwo_name_number, facts_of, readable_text, address_or_0, line_header_of, dwo_id_in, dwo_id_of, last_value, last_value_of_kind, line_reference_of, is_stmt_list, is_low_pc, is_dwo_id};
+ghost use Rattle.gimli_dwarf_spec.specs.UnitFacts.{unit_facts, root, dwo_name, dwo_name_number, facts_of, readable_text, address_or_0, line_header_of, dwo_id_in, dwo_id_of};
 ghost use Rattle.gimli_dwarf.specs.Roots.{facts_without_texts, facts_with_texts, line_unit, facts_with_program};
 
 use crate::dwarf::Dwarf;
-use crate::root::{Base, UnitBases, last_attribute, last_offset, read_root, root_entry};
+use crate::root::{RootAttributes, UnitBases, read_root, root_entry};
 use gimli_dwarf_spec::{
-    Abbreviations, Attribute, AttributeValue, DW_AT_GNU_dwo_id, DW_AT_GNU_dwo_name, DW_AT_comp_dir,
-    DW_AT_dwo_name, DW_AT_low_pc, DW_AT_name, DebugAddrBase, DebugLineOffset, DebugLocListsBase,
-    DebugRngListsBase, DebugStrOffsetsBase, DebuggingInformationEntry, DwAt, DwoId, Error,
-    LineProgramHeader, Reader, UnitHeader, UnitType,
+    Abbreviations, Attribute, AttributeValue, DW_AT_GNU_dwo_name, DW_AT_dwo_name, DebugAddrBase,
+    DebugLineOffset, DebugLocListsBase, DebugRngListsBase, DebugStrOffsetsBase,
+    DebuggingInformationEntry, DwAt, DwoId, Error, LineProgramHeader, Reader, UnitHeader, UnitType,
 };
 use std::alloc::Global;
 use std::marker::Model;
@@ -108,11 +107,20 @@ impl<R: Reader> Unit<R> {
             (facts_of dwarf.now.file header abbreviations.value
             (raw_attributes R.view R.Offset.count attrs.now)) }
     {
-        let bases = UnitBases::read(dwarf.file_type, &header, attrs)?;
-        let dwo_id = dwo_id_of(&header, attrs)?;
+        let found = RootAttributes::read(attrs)?;
+        let bases = UnitBases::new(dwarf.file_type, &header, &found);
+        let RootAttributes {
+            name,
+            comp_dir,
+            low_pc,
+            dwo_id,
+            line,
+            ..
+        } = found;
+        let dwo_id = dwo_id_of(&header, dwo_id);
         let mut unit = Unit::without_texts(header, abbreviations, bases, dwo_id);
-        unit.read_texts(dwarf, attrs)?;
-        unit.read_program(alloc, dwarf, attrs)?;
+        unit.read_texts(dwarf, name, comp_dir)?;
+        unit.read_program(alloc, dwarf, line, low_pc)?;
         Ok(unit)
     }
 
@@ -143,26 +151,32 @@ impl<R: Reader> Unit<R> {
     }
 
     // Takes its name and its directory. The only refusal is out of memory.
-    fn read_texts(&mut self, dwarf: &Dwarf<R>, attrs: &[Attribute<R>]) -> Result<(), Error>
+    fn read_texts(
+        &mut self,
+        dwarf: &Dwarf<R>,
+        name: Option<AttributeValue<R>>,
+        comp_dir: Option<AttributeValue<R>>,
+    ) -> Result<(), Error>
         ensures { ReturnsAsOrNoMemory (λ _. self.new) result
             (Ok (facts_with_texts dwarf.now.file self.old
-            (raw_attributes R.view R.Offset.count attrs.now))) }
+            (option_map (raw_value_of R.view R.Offset.count) name)
+            (option_map (raw_value_of R.view R.Offset.count) comp_dir))) }
     {
-        let name = self.text(dwarf, attrs, DW_AT_name)?;
-        let comp_dir = self.text(dwarf, attrs, DW_AT_comp_dir)?;
+        let name = self.text(dwarf, name)?;
+        let comp_dir = self.text(dwarf, comp_dir)?;
         self.name = name;
         self.comp_dir = comp_dir;
         Ok(())
     }
 
-    // The text of the last attribute of a name, if it can be read.
-    fn text(&self, dwarf: &Dwarf<R>, attrs: &[Attribute<R>], name: DwAt) -> Result<Option<R>, Error>
+    // The text of a value, if there is one that can be read.
+    fn text(&self, dwarf: &Dwarf<R>, value: Option<AttributeValue<R>>) -> Result<Option<R>, Error>
         ensures { ReturnsAsOrNoMemory (option_map R.view) result
             (Ok (readable_text dwarf.now.file self.now.bases
-            (last_value (λ n. n == name.0) (raw_attributes R.view R.Offset.count attrs.now)))) }
+            (option_map (raw_value_of R.view R.Offset.count) value))) }
     {
-        match last_attribute(attrs, name) {
-            Some(attr) => dwarf.text_of(self, attr.value()?),
+        match value {
+            Some(value) => dwarf.text_of(self, value),
             None => Ok(None),
         }
     }
@@ -172,42 +186,41 @@ impl<R: Reader> Unit<R> {
         &mut self,
         alloc: Global,
         dwarf: &Dwarf<R>,
-        attrs: &[Attribute<R>],
+        line: Option<R::Offset>,
+        low_pc: Option<AttributeValue<R>>,
     ) -> Result<(), Error>
         ensures { ReturnsAsOrNoMemory (λ _. self.new) result
-            (facts_with_program dwarf.now.file self.old
-            (raw_attributes R.view R.Offset.count attrs.now)) }
+            (facts_with_program dwarf.now.file self.old (option_map R.Offset.count line)
+            (option_map (raw_value_of R.view R.Offset.count) low_pc)) }
     {
-        let line_program = self.line_header(alloc, dwarf, attrs)?;
-        let low_pc = self.begin(dwarf, attrs)?;
+        let line_program = self.line_header(alloc, dwarf, line)?;
+        let low_pc = self.begin(dwarf, low_pc)?;
         self.line_program = line_program;
         self.low_pc = low_pc;
         Ok(())
     }
 
-    // The header of the line number program that the last fitting attribute names.
+    // The header of the line number program at an offset, if there is one.
     fn line_header(
         &self,
         alloc: Global,
         dwarf: &Dwarf<R>,
-        attrs: &[Attribute<R>],
+        line: Option<R::Offset>,
     ) -> Result<Option<Box<LineProgramHeader<R>>>, Error>
         ensures { ReturnsAsOrNoMemory (option_map (λ h. h.value)) result
             (line_header_of dwarf.now.file (line_unit self.now)
-            (last_value_of_kind line_reference_of is_stmt_list
-            (raw_attributes R.view R.Offset.count attrs.now))) }
+            (option_map R.Offset.count line)) }
     {
-        let line = last_offset(attrs, Base::Line)?;
         dwarf.line_header(alloc, &self.header, line, &self.comp_dir, &self.name)
     }
 
-    // The address that the unit begins at; 0 where its root doesn't say.
-    fn begin(&self, dwarf: &Dwarf<R>, attrs: &[Attribute<R>]) -> Result<u64, Error>
+    // The address of a value; 0 where there is none.
+    fn begin(&self, dwarf: &Dwarf<R>, value: Option<AttributeValue<R>>) -> Result<u64, Error>
         ensures { ReturnsOrNoMemory result (address_or_0 dwarf.now.file self.now.bases
-            (last_value is_low_pc (raw_attributes R.view R.Offset.count attrs.now))) }
+            (option_map (raw_value_of R.view R.Offset.count) value)) }
     {
-        match last_attribute(attrs, DW_AT_low_pc) {
-            Some(attr) => Ok(dwarf.attr_address(self, attr.value()?)?.unwrap_or(0)),
+        match value {
+            Some(value) => Ok(dwarf.attr_address(self, value)?.unwrap_or(0)),
             None => Ok(0),
         }
     }
@@ -268,31 +281,16 @@ fn named_dwo_id<R: Reader>(value: AttributeValue<R>) -> Option<DwoId>
     }
 }
 
-// The identifier that the last fitting attribute names.
-fn dwo_id_in_attributes<R: Reader>(attrs: &[Attribute<R>]) -> Result<Option<DwoId>, Error>
-    ensures { ReturnsAsOrNoMemory (option_map (λ id. id.0)) result
-        (Ok (option_and_then dwo_id_of
-        (last_value is_dwo_id (raw_attributes R.view R.Offset.count attrs.now)))) }
+// The identifier that a unit shares with another file's unit: of its header, or else a value of its
+// root.
+fn dwo_id_of<R: Reader>(header: &UnitHeader<R>, value: Option<AttributeValue<R>>) -> Option<DwoId>
+    ensures { option_map (λ id. id.0) result ≡ option_or (dwo_id_in header.now.kind)
+        (option_and_then dwo_id_of (option_map (raw_value_of R.view R.Offset.count) value)) }
 {
-    match last_attribute(attrs, DW_AT_GNU_dwo_id) {
-        Some(attr) => Ok(named_dwo_id(attr.value()?)),
-        None => Ok(None),
-    }
-}
-
-// The identifier that a unit shares with another file's unit: of its header, or else of its root.
-fn dwo_id_of<R: Reader>(
-    header: &UnitHeader<R>,
-    attrs: &[Attribute<R>],
-) -> Result<Option<DwoId>, Error>
-    ensures { ReturnsAsOrNoMemory (option_map (λ id. id.0)) result
-        (Ok (option_or (dwo_id_in header.now.kind)
-        (option_and_then dwo_id_of
-        (last_value is_dwo_id (raw_attributes R.view R.Offset.count attrs.now))))) }
-{
-    match header.type_() {
-        UnitType::Skeleton(id) | UnitType::SplitCompilation(id) => Ok(Some(id)),
-        _ => dwo_id_in_attributes(attrs),
+    match (header.type_(), value) {
+        (UnitType::Skeleton(id) | UnitType::SplitCompilation(id), _) => Some(id),
+        (_, Some(value)) => named_dwo_id(value),
+        _ => None,
     }
 }
 

@@ -9,6 +9,7 @@ pub use Rattle.gimli_units_entries.specs.Repetition
 pub use Rattle.gimli_units_entries.specs.Results
 pub use Rattle.gimli_units_entries.specs.View
 pub use Rattle.gimli_units_entries.specs.DwarfFileType
+pub use Rattle.gimli_units_entries.specs.Encoding
 pub use Rattle.gimli_units_entries.specs.SectionId
 pub use Rattle.gimli_units_entries.specs.TheConstants
 pub use Rattle.gimli_units_entries.specs.Error
@@ -31,6 +32,18 @@ pub use Rattle.gimli_lines_header.specs.SectionParts
 pub use Rattle.gimli_lines_header.specs.UnitHeaders
 pub use Rattle.gimli_lines_header.specs.UnitOffsets
 pub use Rattle.gimli_units_lists.specs.ListSections
+pub use Rattle.gimli_units_entries.specs.FormWidths
+pub use Rattle.gimli_units_lists.specs.DefaultBases
+pub use Rattle.gimli_units_lists.specs.Iterators
+pub use Rattle.gimli_units_lists.specs.NumberParsers
+pub use Rattle.gimli_units_lists.specs.Readers
+pub use Rattle.gimli_units_entries.specs.OtherEntries
+pub use Rattle.gimli_units_lists.specs.ListEntries
+pub use Rattle.gimli_units_lists.specs.ListEntryViews
+pub use Rattle.gimli_units_lists.specs.ListProgress
+pub use Rattle.gimli_units_lists.specs.Lists
+pub use Rattle.gimli_units_lists.specs.LocationEntries
+pub use Rattle.gimli_units_lists.specs.RangeEntries
 pub mod Attributes
 pub mod DwarfFiles
 pub mod Splitting

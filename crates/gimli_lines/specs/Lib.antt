@@ -27,6 +27,7 @@ pub use Rattle.gimli_lines_write_program.specs.HeaderContents
 pub use Rattle.gimli_lines_write_program.specs.UnitBytes
 pub use Rattle.gimli_lines_write_program.specs.UnitReadBack
 pub use Rattle.gimli_lines_write_program.specs.BuiltPrograms
+pub use Rattle.gimli_core_readers.specs.ErrorText
 pub use Rattle.gimli_lines_rows.specs.AttributeValues
 pub use Rattle.gimli_lines_rows.specs.Calls
 pub use Rattle.gimli_lines_rows.specs.Error

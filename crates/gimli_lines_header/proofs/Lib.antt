@@ -13,4 +13,5 @@ mod HeaderCopies
 mod FieldSizes
 mod FieldValues
 mod TableSizes
+mod UsualEntries
 mod HeaderPlaces

@@ -16,6 +16,7 @@ pub mod Checks
 pub mod LineFiles
 pub mod LineHeaders
 pub mod TableEntries
+pub mod UsualFormats
 pub mod HeaderTables
 pub mod HeaderParsing
 pub mod HeaderBounds

@@ -12,7 +12,7 @@ ghost use Rattle.gimli_lines_header.specs.TableEntries.{entry_format, entry_form
 ghost use Rattle.gimli_lines_header.specs.HeaderTables.{directory_text, file_text, directory_texts, file_texts, directories_of_5, files_of_5, directories, files};
 ghost use Rattle.gimli_lines_header.specs.HeaderParsing.{Bounds, opcodes, header_fields, header_in, header_at};
 
-use crate::field_values::{check_value, read_word, skip_bytes, skip_text};
+use crate::field_values::{check_value, read_number, read_word, skip_bytes, skip_text};
 use crate::formats::{FileEntryFormat, lists_one_path, parse_format};
 use crate::parsing::{parse_parameters, parse_sizes};
 use crate::section::DebugLine;
@@ -46,9 +46,9 @@ fn check_file_text<I: Reader>(input: &mut I) -> Result<bool, Error>
     if skip_text(input)? == 0 {
         return Ok(false);
     }
-    input.read_uleb128()?;
-    input.read_uleb128()?;
-    input.read_uleb128()?;
+    read_number(input)?;
+    read_number(input)?;
+    read_number(input)?;
     Ok(true)
 }
 
@@ -109,6 +109,7 @@ fn read_formats<I: Reader>(input: &mut I, room: &mut [FileEntryFormat]) -> Resul
 }
 
 // Checks the fields of an entry.
+#[inline(always)]
 fn check_entry<O: ReaderOffset, I: Reader>(
     input: &mut I,
     encoding: Encoding,

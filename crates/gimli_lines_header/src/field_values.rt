@@ -1,11 +1,11 @@
 //! The values of fields in version 5: each kind of field goes from the bytes to what is kept.
 
-ghost use Rattle.std.specs.Prelude.{◌≡◌};
-ghost use Rattle.gimli_units_headers.specs.Calls.{ReturnsAs, ReturnsAsOrNoMemory};
+ghost use Rattle.std.specs.Prelude.{◌≡◌, ◌≤◌, IfSome, Ok};
+ghost use Rattle.gimli_units_headers.specs.Calls.{Reads, ReturnsAs, ReturnsAsOrNoMemory};
 ghost use Rattle.gimli_units_headers.specs.Fixed.{number_bytes};
-ghost use Rattle.gimli_units_headers.specs.NumberParsers.{word};
+ghost use Rattle.gimli_units_headers.specs.NumberParsers.{unsigned, word};
 ghost use Rattle.gimli_units_headers.specs.Parsers.{map_value, null_terminated, skip};
-ghost use Rattle.gimli_units_headers.specs.View.{bytes_left};
+ghost use Rattle.gimli_units_headers.specs.View.{after, bytes_left};
 ghost use Rattle.gimli_units_forms.specs.AttributeMeanings.{unsigned_of};
 ghost use Rattle.gimli_units_forms.specs.AttributeValues.{raw_value_of};
 ghost use Rattle.gimli_lines_header.specs.Checks.{check};
@@ -68,6 +68,33 @@ pub(crate) fn read_word<O: ReaderOffset, I: Reader>(
         Format::Dwarf64 => input.read_u64()?,
     };
     O::from_u64(number)
+}
+
+// The next byte, where it is an unsigned LEB128 number by itself.
+#[inline(always)]
+fn short_number<I: Reader>(input: &I) -> Option<u64>
+    ensures number { IfSome result
+        (λ n. unsigned (I.view input.now) ≡ Ok (n, after 1 (I.view input.now))) }
+    ensures there { IfSome result (λ n. 1 ≤ bytes_left (I.view input.now)) }
+{
+    match input.as_bytes() {
+        [number, ..] if *number < 128 => Some(u64::from(*number)),
+        _ => None,
+    }
+}
+
+// An unsigned LEB128 number: one byte in most entries.
+#[inline(always)]
+pub(crate) fn read_number<I: Reader>(input: &mut I) -> Result<u64, Error>
+    ensures { Reads result (I.view input.old) (I.view input.new) (unsigned (I.view input.old)) }
+{
+    match short_number(input) {
+        Some(number) => {
+            input.advance(1);
+            Ok(number)
+        }
+        None => input.read_uleb128(),
+    }
 }
 
 // The value of a field in any form, by the attribute that would have it.
@@ -141,7 +168,7 @@ pub(crate) fn parse_number<R: Reader>(
 
 // The bytes of a digest that was read as a number.
 #[inline(always)]
-fn digest_bytes<E: Endianity>(endian: E, number: u128) -> [u8; 16]
+pub(crate) fn digest_bytes<E: Endianity>(endian: E, number: u128) -> [u8; 16]
     ensures { result ≡ number_bytes (E.is_big endian) 16 number }
 {
     if endian.is_big_endian() {
@@ -218,9 +245,36 @@ pub(crate) fn skip_text<I: Reader>(input: &mut I) -> Result<u64, Error>
     Ok(length.into_u64())
 }
 
-// Checks the value of a field: the same refusal as reading, or none, and nothing is kept.
-#[tactic(auto, using(crate::proofs::FieldValues::line_strp_is, crate::proofs::FieldValues::strp_is, crate::proofs::FieldValues::strp_sup_is, crate::proofs::FieldValues::sec_offset_is, crate::proofs::FieldValues::strx_is, crate::proofs::FieldValues::strx_1_is, crate::proofs::FieldValues::strx_2_is, crate::proofs::FieldValues::strx_3_is, crate::proofs::FieldValues::strx_4_is, crate::proofs::FieldValues::udata_is, crate::proofs::FieldValues::data_16_is, crate::proofs::FieldValues::data_1_is, crate::proofs::FieldValues::flag_is, crate::proofs::FieldValues::data_2_is, crate::proofs::FieldValues::data_4_is, crate::proofs::FieldValues::data_8_is, crate::proofs::FieldValues::sdata_is, crate::proofs::FieldValues::string_is, crate::proofs::FieldValues::block_is, crate::proofs::FieldValues::block_1_is, crate::proofs::FieldValues::block_2_is, crate::proofs::FieldValues::block_4_is), unfolding(gimli_units_forms::specs::AttributeReading::bytes_by_length))]
+// Checks the value of a field: the same refusal as reading, or none, and nothing is kept. The usual
+// forms at once.
+#[tactic(auto, using(crate::proofs::FieldValues::line_strp_is, crate::proofs::FieldValues::udata_is, crate::proofs::FieldValues::data_16_is))]
+#[inline(always)]
 pub(crate) fn check_value<O: ReaderOffset, I: Reader>(
+    input: &mut I,
+    encoding: Encoding,
+    form: DwForm,
+) -> Result<(), Error>
+    ensures { ReturnsAs (λ _. (tt, I.view input.new)) result
+        (check (entry_value O.limit encoding form.0) (I.view input.old)) }
+{
+    match form {
+        DW_FORM_line_strp => {
+            read_word::<O, I>(input, encoding.format)?;
+        }
+        DW_FORM_udata => {
+            read_number(input)?;
+        }
+        DW_FORM_data16 => {
+            input.read_u128()?;
+        }
+        _ => return check_other_value::<O, I>(input, encoding, form),
+    }
+    Ok(())
+}
+
+// The same of every form.
+#[tactic(auto, using(crate::proofs::FieldValues::line_strp_is, crate::proofs::FieldValues::strp_is, crate::proofs::FieldValues::strp_sup_is, crate::proofs::FieldValues::sec_offset_is, crate::proofs::FieldValues::strx_is, crate::proofs::FieldValues::strx_1_is, crate::proofs::FieldValues::strx_2_is, crate::proofs::FieldValues::strx_3_is, crate::proofs::FieldValues::strx_4_is, crate::proofs::FieldValues::udata_is, crate::proofs::FieldValues::data_16_is, crate::proofs::FieldValues::data_1_is, crate::proofs::FieldValues::flag_is, crate::proofs::FieldValues::data_2_is, crate::proofs::FieldValues::data_4_is, crate::proofs::FieldValues::data_8_is, crate::proofs::FieldValues::sdata_is, crate::proofs::FieldValues::string_is, crate::proofs::FieldValues::block_is, crate::proofs::FieldValues::block_1_is, crate::proofs::FieldValues::block_2_is, crate::proofs::FieldValues::block_4_is), unfolding(gimli_units_forms::specs::AttributeReading::bytes_by_length))]
+fn check_other_value<O: ReaderOffset, I: Reader>(
     input: &mut I,
     encoding: Encoding,
     form: DwForm,

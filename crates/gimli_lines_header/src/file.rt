@@ -1,12 +1,13 @@
 //! The files of a line number program.
 
-ghost use Rattle.std.specs.Prelude.{◌≡◌, option_map};
+ghost use Rattle.std.specs.Prelude.{◌≡◌, None, option_map};
 ghost use Rattle.gimli_units_headers.specs.Calls.{ReturnsAs};
 ghost use Rattle.gimli_units_forms.specs.AttributeValues.{raw_value_of};
 ghost use Rattle.gimli_lines_header.specs.LineFiles.{file_named};
 ghost use Rattle.gimli_lines_header.specs.LineHeaders.{directory_at};
 ghost use Rattle.gimli_lines_header.specs.HeaderTables.{file_after_path};
 
+use crate::field_values::read_number;
 use crate::header::LineProgramHeader;
 use gimli_units_forms::AttributeValue;
 use gimli_units_headers::{Error, Reader};
@@ -71,16 +72,43 @@ impl<R: Reader> FileEntry<R> {
         }
     }
 
+    // A file of a directory, with a digest, whose time and size aren't known.
+    #[inline(always)]
+    pub(crate) fn in_directory(
+        path_name: AttributeValue<R>,
+        directory_index: u64,
+        md5: [u8; 16],
+    ) -> Self
+        ensures { result ≡ record {
+          path = raw_value_of R.view R.Offset.count path_name;
+          directory_index = directory_index;
+          timestamp = 0;
+          size = 0;
+          md5 = md5;
+          source = None;
+        } }
+    {
+        FileEntry {
+            path_name,
+            directory_index,
+            timestamp: 0,
+            size: 0,
+            md5,
+            source: None,
+        }
+    }
+
     /// The file of a path up to version 4: the number of its directory, its time and its size
     /// follow the path.
     #[tactic(auto, unfolding(crate::specs::HeaderTables::file_after_path))]
+    #[inline(always)]
     pub fn parse(input: &mut R, path_name: R) -> Result<Self, Error>
         ensures { ReturnsAs (λ file. (file, R.view input.new)) result
             (file_after_path (R.view path_name) (R.view input.old)) }
     {
-        let directory_index = input.read_uleb128()?;
-        let timestamp = input.read_uleb128()?;
-        let size = input.read_uleb128()?;
+        let directory_index = read_number(input)?;
+        let timestamp = read_number(input)?;
+        let size = read_number(input)?;
         Ok(FileEntry {
             path_name: AttributeValue::String(path_name),
             directory_index,

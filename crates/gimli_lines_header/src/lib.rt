@@ -12,6 +12,7 @@ mod parsing;
 pub mod section;
 mod table_entries;
 mod tables;
+mod usual_entries;
 
 pub use file::FileEntry;
 pub use formats::FileEntryFormat;

@@ -1,14 +1,16 @@
 //! The entries of directories and files in version 5.
 
-ghost use Rattle.std.specs.Prelude.{◌≡◌, Ok, option_map};
+ghost use Rattle.std.specs.Prelude.{◌≡◌, Ok, IfSome, option_map};
 ghost use Rattle.gimli_units_headers.specs.Calls.{ReturnsAsOrNoMemory};
 ghost use Rattle.gimli_units_headers.specs.Parsers.{map_value};
 ghost use Rattle.gimli_units_forms.specs.AttributeValues.{raw_value_of};
 ghost use Rattle.gimli_lines_header.specs.TableEntries.{entry_value, no_facts, facts_with, entry, directory_entry, file_entry};
+ghost use Rattle.gimli_lines_header.specs.UsualFormats.{usual_formats};
 
 use crate::field_values::{check_value, parse_digest, parse_number, parse_value};
 use crate::file::FileEntry;
 use crate::formats::FileEntryFormat;
+use crate::usual_entries::{self, UsualFields};
 use gimli_units_forms::AttributeValue;
 use gimli_units_headers::{
     DW_LNCT_LLVM_source, DW_LNCT_MD5, DW_LNCT_directory_index, DW_LNCT_path, DW_LNCT_size,
@@ -118,9 +120,9 @@ fn parse_fields<R: Reader>(
     Ok(fields)
 }
 
-// A directory: the path of an entry.
+// A directory of any fields: the path of an entry.
 #[tactic(auto, unfolding(crate::specs::TableEntries::directory_entry))]
-pub(crate) fn parse_directory<R: Reader>(
+fn parse_any_directory<R: Reader>(
     input: &mut R,
     encoding: Encoding,
     formats: &[FileEntryFormat],
@@ -131,6 +133,28 @@ pub(crate) fn parse_directory<R: Reader>(
 {
     let fields = parse_fields(input, encoding, formats)?;
     fields.path.ok_or(Error::MissingFileEntryFormatPath)
+}
+
+// A directory, whose fields may be usual ones.
+#[inline(always)]
+pub(crate) fn parse_directory<R: Reader>(
+    input: &mut R,
+    encoding: Encoding,
+    formats: &[FileEntryFormat],
+    usual: Option<UsualFields>,
+) -> Result<AttributeValue<R>, Error>
+    requires { IfSome usual (λ fields. usual_formats fields ≡ formats.now) }
+    ensures { ReturnsAsOrNoMemory (λ path.
+        (raw_value_of R.view R.Offset.count path, R.view input.new)) result
+        (directory_entry R.Offset.limit encoding formats.now (R.view input.old)) }
+{
+    if let Some(fields) = usual
+        && let Some((directory, count)) = usual_entries::parse_directory(input, encoding, fields)
+    {
+        input.advance(count);
+        return Ok(directory);
+    }
+    parse_any_directory(input, encoding, formats)
 }
 
 // A value on the heap, if there is one.
@@ -147,9 +171,9 @@ fn boxed_value<R: Reader>(
     }
 }
 
-// A file.
+// A file of any fields.
 #[tactic(auto, unfolding(crate::specs::TableEntries::file_entry))]
-pub(crate) fn parse_file<R: Reader>(
+fn parse_any_file<R: Reader>(
     alloc: Global,
     input: &mut R,
     encoding: Encoding,
@@ -167,4 +191,26 @@ pub(crate) fn parse_file<R: Reader>(
         md5: fields.md5,
         source: boxed_value(alloc, fields.source)?,
     })
+}
+
+// A file, whose fields may be usual ones.
+#[inline(always)]
+pub(crate) fn parse_file<R: Reader>(
+    alloc: Global,
+    input: &mut R,
+    encoding: Encoding,
+    formats: &[FileEntryFormat],
+    usual: Option<UsualFields>,
+) -> Result<FileEntry<R>, Error>
+    requires { IfSome usual (λ fields. usual_formats fields ≡ formats.now) }
+    ensures { ReturnsAsOrNoMemory (λ file. (file, R.view input.new)) result
+        (file_entry R.Offset.limit encoding formats.now (R.view input.old)) }
+{
+    if let Some(fields) = usual
+        && let Some((file, count)) = usual_entries::parse_file(input, encoding, fields)
+    {
+        input.advance(count);
+        return Ok(file);
+    }
+    parse_any_file(alloc, input, encoding, formats)
 }

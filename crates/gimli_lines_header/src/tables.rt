@@ -3,6 +3,7 @@
 ghost use Rattle.std.specs.Prelude.{◌≡◌, ◌≤◌, [], map, option_map, IfOk};
 ghost use Rattle.gimli_units_headers.specs.Calls.{ReturnsAsOrNoMemory};
 ghost use Rattle.gimli_units_headers.specs.Repetition.{times};
+ghost use Rattle.gimli_units_headers.specs.View.{bytes_left};
 ghost use Rattle.gimli_units_forms.specs.AttributeValues.{raw_value_of};
 ghost use Rattle.gimli_lines_header.specs.TableEntries.{directory_entry, file_entry};
 ghost use Rattle.gimli_lines_header.specs.HeaderTables.{directory_text, file_text, directory_texts, file_texts, directory_entries, file_entries, directories_of_5, files_of_5, directories, files};
@@ -10,6 +11,7 @@ ghost use Rattle.gimli_lines_header.specs.HeaderTables.{directory_text, file_tex
 use crate::file::FileEntry;
 use crate::formats::{self, FileEntryFormat};
 use crate::table_entries::{parse_directory, parse_file};
+use crate::usual_entries::{UsualFields, most_entries, usual_fields};
 use gimli_units_forms::AttributeValue;
 use gimli_units_headers::{Encoding, Error, Reader};
 use std::alloc::Global;
@@ -34,6 +36,7 @@ fn parse_directory_text<R: Reader>(input: &mut R) -> Result<Option<AttributeValu
 
 // A file, or none at the empty path that ends them.
 #[tactic(auto, unfolding(crate::specs::HeaderTables::file_text))]
+#[inline(always)]
 fn parse_file_text<R: Reader>(input: &mut R) -> Result<Option<FileEntry<R>>, Error>
     ensures { ReturnsAsOrNoMemory (λ file. (file, R.view input.new)) result
         (file_text (R.view input.old)) }
@@ -77,6 +80,15 @@ fn parse_file_texts<R: Reader>(alloc: Global, input: &mut R) -> Result<Vec<FileE
 
 // ---- in version 5
 
+// How many entries to take memory for at once: all of them, or as many as the bytes left can hold.
+fn room<R: Reader>(input: &R, usual: Option<UsualFields>, count: u64) -> usize
+    ensures within { result ≤ bytes_left (R.view input.now) }
+    ensures counted { result ≤ count }
+{
+    let most = most_entries(input.as_bytes().len() as u64, usual);
+    count.min(most) as usize
+}
+
 // `count` directories.
 fn parse_counted_directories<R: Reader>(
     alloc: Global,
@@ -89,9 +101,10 @@ fn parse_counted_directories<R: Reader>(
         (map (raw_value_of R.view R.Offset.count) list.items, R.view input.new)) result
         (times count (directory_entry R.Offset.limit encoding formats.now) (R.view input.old)) }
 {
-    let mut found = Vec::new(alloc);
+    let usual = usual_fields(formats);
+    let mut found = Vec::with_capacity(alloc, room(input, usual, count))?;
     for _directory in 0..count {
-        found.push(parse_directory(input, encoding, formats)?)?;
+        found.push(parse_directory(input, encoding, formats, usual)?)?;
     }
     Ok(found)
 }
@@ -107,9 +120,10 @@ fn parse_counted_files<R: Reader>(
     ensures { ReturnsAsOrNoMemory (λ list. (list.items, R.view input.new)) result
         (times count (file_entry R.Offset.limit encoding formats.now) (R.view input.old)) }
 {
-    let mut found = Vec::new(alloc);
+    let usual = usual_fields(formats);
+    let mut found = Vec::with_capacity(alloc, room(input, usual, count))?;
     for _file in 0..count {
-        found.push(parse_file(alloc, input, encoding, formats)?)?;
+        found.push(parse_file(alloc, input, encoding, formats, usual)?)?;
     }
     Ok(found)
 }

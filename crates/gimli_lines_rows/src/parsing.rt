@@ -1,4 +1,5 @@
-//! How an instruction is read: all opcodes and their operands.
+//! How an instruction is read: all opcodes and their operands. Of the code that spells opcodes this
+//! is to be read first; the definition is `Decoding` of `gimli_lines_machine`.
 
 ghost use Rattle.std.specs.Prelude.{◌≡◌, ◌<◌, ◌-◌, ◌≤◌, slice_index, IfOk, IfSome, IsTrue, Ok};
 ghost use Rattle.gimli_lines_machine.specs.Calls.{ReturnsAs, ReturnsAsOrNoMemory};

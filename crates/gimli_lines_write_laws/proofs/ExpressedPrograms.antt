@@ -17,7 +17,7 @@ use Rattle.gimli_lines_write_unit.specs.WriteError.{Error}
 use Rattle.gimli_lines_write_unit.specs.WriteError.TheVariants.{ValueTooLarge, InitialLengthOverflow, NeedVersion}
 use Rattle.gimli_lines_write_unit.specs.NumberBytes.{bytes_in_width, length_bytes}
 use Rattle.gimli_lines_write_unit.specs.EntryBytes.{join_bytes, entries_bytes}
-use Rattle.gimli_lines_write_unit.specs.HeaderTexts.{WrittenText, in_place, in_strings, in_line_strings, form_of, form_in}
+use Rattle.gimli_lines_write_unit.specs.HeaderTexts.{form_of, form_in}
 use Rattle.gimli_lines_write_unit.specs.HeaderBytes.{mismatch, sized_text, text_bytes, all_bytes, bytes_after_path, file_bytes_to_4, file_bytes_of_5, directory_entries_bytes, directories_bytes, form_of_paths, form_of_sources, described_files, files_bytes, tables_bytes, header_bytes}
 use Rattle.gimli_lines_write_unit.specs.UnitBytes.{body_bytes, with_length, unit_with_length, unit_bytes}
 use Rattle.gimli_lines_write_unit.specs.EntryFields.{WrittenFile, Details, directory_formats, file_formats, spelled_formats}
@@ -73,12 +73,12 @@ module _ (P : Error → Type 0) (large : (e : Error) → IsTooLarge e → P e) (
       by true = ok_refuses P _
       by false = err_refuses P ValueTooLarge (large ValueTooLarge (inl refl))
 
-  sized_refuses : (format : Format) (t : WrittenText) → Refuses P (sized_text is_big format t)
-  sized_refuses format (in_place text) = ok_refuses P _
-  sized_refuses format (in_strings offset) = word_refuses format offset
-  sized_refuses format (in_line_strings offset) = word_refuses format offset
+  sized_refuses : (format : Format) (t : Text) → Refuses P (sized_text is_big format t)
+  sized_refuses format (in_header text) = ok_refuses P _
+  sized_refuses format (of_strings offset) = word_refuses format offset
+  sized_refuses format (of_line_strings offset) = word_refuses format offset
 
-  pub text_refuses : (e : Encoding) (form : ℕ) (t : WrittenText) → form_of t ≡ form
+  pub text_refuses : (e : Encoding) (form : ℕ) (t : Text) → form_of t ≡ form
       → Refuses P (text_bytes is_big e form t)
   text_refuses e form t is =
       subst (λ b. Refuses P (cond b (sized_text is_big e.format t) (Err (mismatch e.version))))
@@ -89,7 +89,7 @@ module _ (P : Error → Type 0) (large : (e : Error) → IsTooLarge e → P e) (
 
   -- ---- tables
 
-  directories_refuse : (e : Encoding) (ts : List WrittenText)
+  directories_refuse : (e : Encoding) (ts : List Text)
       → All (λ t. form_of t ≡ cond (nat_le e.version 4) 0x08 (form_in ts)) ts
       → Refuses P (directories_bytes is_big e ts)
   directories_refuse e ts all = by (nat_le e.version 4) all
@@ -257,7 +257,7 @@ all_sources P (i ∷ infos) all =
     by (Some t) is rest = rw is (All-cons P t (sources_of infos) (rw is at here) rest)
 
 -- written texts of one form have that of the first
-written_as_first : (form : ℕ) (ws : List WrittenText) → All (λ w. form_of w ≡ form) ws
+written_as_first : (form : ℕ) (ws : List Text) → All (λ w. form_of w ≡ form) ws
     → All (λ w. form_of w ≡ form_in ws) ws
 written_as_first form [] all = All-nil _
 written_as_first form (w ∷ ws) all = λ k d h. all k d h ∙ sym (All-head (λ v. form_of v ≡ form) w ws all)
@@ -318,7 +318,7 @@ module _ (s l : List (List ℕ)) (rules : LineRules) (k : ProgramFiles) (d : Fil
       let present = records_source k.version d in
       let P : Error → Type 0 = λ e. IsTooLarge e
       ⊎ (entries_bytes address_of is_big rules (first_row rules) entries ≡ Err e) in
-      let InForm : List WrittenText → Type 0 = λ ws.
+      let InForm : List Text → Type 0 = λ ws.
       All (λ w. form_of w ≡ cond (nat_le rules.encoding.version 4) 0x08 (form_in ws)) ws in
       let paths : InForm (map (λ (f : WrittenFile). f.path) t.files) =
       subst InForm (sym (paths_written s' l' present empty k.files k.infos counted))
@@ -340,7 +340,7 @@ module _ (s l : List (List ℕ)) (rules : LineRules) (k : ProgramFiles) (d : Fil
           let l' = line_strings_after (empty_form_of k d) l in
           let empty = empty_text s l (empty_form_of k d) in
           let present_is : records_source k.version d ≡ true = rw (new, has) refl in
-          let AsFirst : List WrittenText → Type 0 = λ ws. All (λ w. form_of w ≡ form_in ws) ws in
+          let AsFirst : List Text → Type 0 = λ ws. All (λ w. form_of w ≡ form_in ws) ws in
           let each : All (λ w. form_of w ≡ text_form (unwrap_or (first_source k.infos) (in_header [])))
           (map (λ (i : Info). source_text s' l' true empty i.source) k.infos) =
           All-map (λ w. form_of w ≡ text_form (unwrap_or (first_source k.infos) (in_header [])))

@@ -1,21 +1,20 @@
 -- The texts of a header are read as the texts of the tables that hold them.
-use Rattle.std.proofs.Common.{◌≡◌, ◌≢◌, ℕ, suc, ◌+◌, ◌-◌, ◌<◌, ◌≤◌, Bool, false, List, [], ◌∷◌, drop, map, length, get_or, Option, Some, None, refl, sym, ap, ◌∙◌, arith, append-nil}
-use Rattle.std.specs.Prelude.{All, slice_get, ◌==◌}
-use Rattle.std.proofs.lemmas.Bool.{ne_eqb}
+use Rattle.std.proofs.Common.{◌≡◌, ◌≢◌, ℕ, suc, ◌+◌, ◌-◌, ◌<◌, ◌≤◌, Bool, List, [], ◌∷◌, drop, map, length, get_or, Option, Some, None, refl, sym, ap, ◌∙◌, arith, append-nil}
+use Rattle.std.specs.Prelude.{All, slice_get}
 use Rattle.std.proofs.lemmas.List.{length-append, length-drop}
-use Rattle.std.proofs.lemmas.List.Elements.{All-nil, All-head, All-tail, All-weaker}
-use Rattle.std.proofs.lemmas.List.Folds.{list_any_none}
+use Rattle.std.proofs.lemmas.List.Elements.{All-nil, All-head, All-tail}
 use Rattle.std.proofs.lemmas.Option.{slice_get-get_or}
 use Rattle.gimli_lines_rows.specs.View.{View}
 use Rattle.gimli_lines_write_unit.specs.SectionReads.{string_at}
 use Rattle.gimli_lines_write_unit.specs.StringSections.{IsText, section_of, offset_of}
 use Rattle.gimli_lines_write_unit.specs.FileTables.{Text, in_header, of_strings, of_line_strings, HasNoZero, HasBytes}
 use Rattle.gimli_lines_write_unit.specs.HeaderTexts.{value_of_text}
-use Rattle.gimli_lines_write_unit.specs.HeaderContents.{header_text, IsKnown, strings_after, line_strings_after, empty_text}
+use Rattle.gimli_lines_write_unit.specs.HeaderContents.{header_text, strings_after, line_strings_after, empty_text}
+use Rattle.gimli_lines_write_unit.specs.LineStrings.{IsKnown, bytes_of_text}
 use Rattle.gimli_lines_write_unit.specs.BytesAt.{values_at}
 use Rattle.gimli_lines_write_unit.proofs.SectionTexts.{from_text, read_again, text_at_index}
-use Rattle.gimli_lines_write_laws.specs.UnitReadBack.{IsBelow, HasNoZero as HasNoZeroByte, HasBytes as IsFilled}
-use Rattle.gimli_lines_write_laws.specs.ProgramReadBack.{bytes_of, bytes_if_read, text_read, Holds}
+use Rattle.gimli_lines_write_laws.specs.UnitReadBack.{IsBelow}
+use Rattle.gimli_lines_write_laws.specs.ProgramReadBack.{bytes_if_read, text_read, Holds}
 
 -- ---- lists
 
@@ -59,7 +58,7 @@ module _ (strings line_strings : List (List ℕ)) where
   pub text_again : All IsText strings → All IsText line_strings → (str line_str : View) → Holds strings str
       → Holds line_strings line_str → (is_big : Bool) (first : ℕ) (t : Text) → IsKnown strings line_strings t
       → text_read str line_str (value_of_text is_big first (header_text strings line_strings t))
-      ≡ bytes_of strings line_strings t
+      ≡ bytes_of_text strings line_strings t
   text_again free line_free str line_str s l is_big first (in_header bytes) known = refl
   text_again free line_free str line_str s l is_big first (of_strings place) known =
       string_again strings free str s place known
@@ -73,21 +72,19 @@ module _ (strings line_strings : List (List ℕ)) where
   text_below limit s l (of_strings place) known = omega (arith, offset_within strings place known)
   text_below limit s l (of_line_strings place) known = omega (arith, offset_within line_strings place known)
 
-  pub text_zero_free : (t : Text) → HasNoZero t → HasNoZeroByte (header_text strings line_strings t)
-  text_zero_free (in_header bytes) free =
-      list_any_none (λ b. b == 0) bytes (All-weaker (λ b. b ≢ 0) (λ b. (b == 0) ≡ false) (λ b h. ne_eqb b 0 h) bytes
-      free)
+  pub text_zero_free : (t : Text) → HasNoZero t → HasNoZero (header_text strings line_strings t)
+  text_zero_free (in_header bytes) free = free
   text_zero_free (of_strings place) free = tt
   text_zero_free (of_line_strings place) free = tt
 
-  pub text_filled : (t : Text) → HasBytes t → IsFilled (header_text strings line_strings t)
+  pub text_filled : (t : Text) → HasBytes t → HasBytes (header_text strings line_strings t)
   text_filled (in_header bytes) filled = filled
   text_filled (of_strings place) filled = tt
   text_filled (of_line_strings place) filled = tt
 
 -- the empty text that is written where a file has none
 pub empty_is_empty : (strings line_strings : List (List ℕ)) (needed : Option Text)
-    → bytes_of (strings_after needed strings) (line_strings_after needed line_strings)
+    → bytes_of_text (strings_after needed strings) (line_strings_after needed line_strings)
     (empty_text strings line_strings needed) ≡ Some []
 empty_is_empty strings line_strings None = refl
 empty_is_empty strings line_strings (Some (in_header bytes)) = refl

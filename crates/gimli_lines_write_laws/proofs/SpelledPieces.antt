@@ -12,7 +12,7 @@ use Rattle.gimli_lines_write_unit.specs.WriteError.{Error}
 use Rattle.gimli_lines_write_unit.specs.WriteError.TheVariants.{ValueTooLarge}
 use Rattle.gimli_lines_write_unit.specs.NumberBytes.{bytes_in_width}
 use Rattle.gimli_lines_write_unit.specs.EntryBytes.{join_bytes}
-use Rattle.gimli_lines_write_unit.specs.HeaderTexts.{WrittenText, in_place, in_strings, in_line_strings, form_of, spelled_text}
+use Rattle.gimli_lines_write_unit.specs.HeaderTexts.{Text, in_header, of_strings, of_line_strings, form_of, spelled_text}
 use Rattle.gimli_lines_write_unit.specs.HeaderBytes.{mismatch, sized_text, text_bytes, all_bytes}
 
 -- ---- parts
@@ -33,10 +33,10 @@ same_ok a b e = cc
 -- ---- texts
 
 -- an offset that n bytes hold
-abbrev pub Fits : Format → WrittenText → Type 0
-Fits format (in_place text) = Unit {0}
-Fits format (in_strings offset) = offset < 256 ^ word_size format
-Fits format (in_line_strings offset) = offset < 256 ^ word_size format
+abbrev pub Fits : Format → Text → Type 0
+Fits format (in_header text) = Unit {0}
+Fits format (of_strings offset) = offset < 256 ^ word_size format
+Fits format (of_line_strings offset) = offset < 256 ^ word_size format
 
 pub sized_is : (is_big : Bool) (format : Format) (n : ℕ) (bytes : List ℕ) → bytes_in_width is_big (word_size format) n
     ≡ Ok bytes → (n < 256 ^ word_size format) × (bytes ≡ number_bytes is_big (word_size format) n)
@@ -53,14 +53,14 @@ sized_is is_big Dwarf64 n bytes e = by (nat_lt n (256 ^ 8)) refl e
     by true is h = (ltb-true n (256 ^ 8) is, sym (same_ok (number_bytes is_big 8 n) bytes h))
     by false is h = absurd (cc)
 
-sized_text_is : (is_big : Bool) (format : Format) (t : WrittenText) (bytes : List ℕ) → sized_text is_big format t
+sized_text_is : (is_big : Bool) (format : Format) (t : Text) (bytes : List ℕ) → sized_text is_big format t
     ≡ Ok bytes → Fits format t × (bytes ≡ spelled_text is_big format t)
-sized_text_is is_big format (in_place text) bytes e = (tt, sym (same_ok (text ++ 0 ∷ []) bytes e))
-sized_text_is is_big format (in_strings offset) bytes e = sized_is is_big format offset bytes e
-sized_text_is is_big format (in_line_strings offset) bytes e = sized_is is_big format offset bytes e
+sized_text_is is_big format (in_header text) bytes e = (tt, sym (same_ok (text ++ 0 ∷ []) bytes e))
+sized_text_is is_big format (of_strings offset) bytes e = sized_is is_big format offset bytes e
+sized_text_is is_big format (of_line_strings offset) bytes e = sized_is is_big format offset bytes e
 
 -- a text that was written in a list of a form
-pub text_is : (is_big : Bool) (e : Encoding) (form : ℕ) (t : WrittenText) (bytes : List ℕ) → text_bytes is_big e form t
+pub text_is : (is_big : Bool) (e : Encoding) (form : ℕ) (t : Text) (bytes : List ℕ) → text_bytes is_big e form t
     ≡ Ok bytes → (form_of t ≡ form) × Fits e.format t × (bytes ≡ spelled_text is_big e.format t)
 text_is is_big e form t bytes h = by (form_of t == form) refl h
   where

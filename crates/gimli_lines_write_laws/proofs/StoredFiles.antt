@@ -1,6 +1,6 @@
 -- The directories and files of a program that was written are read as they were built, with what their version and
 -- details store.
-use Rattle.std.proofs.Common.{◌≡◌, ℕ, ◌+◌, ◌<◌, ◌≤◌, ◌^◌, Bool, true, false, cond, not, ◌&&◌, ◌||◌, List, [], ◌∷◌, drop, map, length, get_or, Option, Some, None, unwrap_or, refl, sym, ap, subst, ◌∙◌, arith}
+use Rattle.std.proofs.Common.{◌≡◌, ◌≢◌, ℕ, ◌+◌, ◌<◌, ◌≤◌, ◌^◌, Bool, true, false, cond, not, ◌&&◌, ◌||◌, List, [], ◌∷◌, drop, map, length, get_or, Option, Some, None, unwrap_or, refl, sym, ap, subst, ◌∙◌, arith}
 use Rattle.std.specs.Prelude.{All, nat_le, option_map, if◌then◌else◌}
 use Rattle.std.specs.List.{zip}
 use Rattle.std.specs.Option.{IfSome}
@@ -11,15 +11,16 @@ use Rattle.gimli_lines_rows.specs.LineFiles.{no_md5}
 use Rattle.gimli_lines_write_unit.specs.Encoding.{Encoding}
 use Rattle.gimli_lines_write_unit.specs.Format.{Format}
 use Rattle.gimli_lines_write_unit.specs.StringSections.{IsText, section_of}
-use Rattle.gimli_lines_write_unit.specs.FileTables.{Text, File, Info, ProgramFiles, IsConsistent, HasNoZero, HasBytes}
-use Rattle.gimli_lines_write_unit.specs.HeaderTexts.{in_place, spelled_text, value_of_text}
+use Rattle.gimli_lines_write_unit.specs.FileTables.{Text, in_header, File, Info, ProgramFiles, IsConsistent, HasNoZero, HasBytes}
+use Rattle.gimli_lines_write_unit.specs.HeaderTexts.{spelled_text, value_of_text}
 use Rattle.gimli_lines_write_unit.specs.EntryFields.{WrittenFile, file_facts, spelled_file, spelled_fields, leading_fields}
 use Rattle.gimli_lines_write_unit.specs.BytesAt.{values_at}
 use Rattle.gimli_lines_write_unit.specs.HeaderSpelling.{spelled_file_to_4, file_facts_to_4, directory_values, facts_of_files, entries_offset, formats_of_directories, formats_of_files}
 use Rattle.gimli_lines_write_unit.specs.declared.details.FileDetails.{FileDetails}
-use Rattle.gimli_lines_write_unit.specs.HeaderContents.{details_of, header_text, listed_directories, records_source, source_text, header_file, header_files, tables_with, IsKnown, AllKnown}
-use Rattle.gimli_lines_write_laws.specs.UnitReadBack.{IsBelow, FileBelow, HasNoZero as HasNoZeroByte, HasBytes as IsFilled, FileReadsBack, TablesReadBack}
-use Rattle.gimli_lines_write_laws.specs.ProgramReadBack.{bytes_of, text_read, Holds, FileRead, file_read, source_bytes, file_built, InfoFits, SourceHasNoZero}
+use Rattle.gimli_lines_write_unit.specs.HeaderContents.{details_of, header_text, listed_directories, records_source, source_text, header_file, header_files, tables_with, AllKnown}
+use Rattle.gimli_lines_write_unit.specs.LineStrings.{IsKnown, bytes_of_text}
+use Rattle.gimli_lines_write_laws.specs.UnitReadBack.{IsBelow, FileBelow, FileReadsBack, TablesReadBack}
+use Rattle.gimli_lines_write_laws.specs.ProgramReadBack.{text_read, Holds, FileRead, file_read, source_bytes, file_built, InfoFits, SourceHasNoZero}
 use Rattle.gimli_lines_write_laws.proofs.ReadTexts.{values_read, text_again, text_below, text_zero_free, text_filled}
 
 -- ---- lists of pairs
@@ -69,13 +70,13 @@ module _ (s l : List (List ℕ)) (k : ProgramFiles) (d : FileDetails) (empty : T
       InfoSound i = InfoFits i × SourceHasNoZero i
 
       plain_source : (o : Option Text) → records_source k.version d ≡ false
-          → source_text s l (records_source k.version d) empty o ≡ in_place []
+          → source_text s l (records_source k.version d) empty o ≡ in_header []
       plain_source o none = ap (λ b. source_text s l b empty o) none
 
-      source_free : (b : Bool) (o : Option Text) → IfSome o HasNoZero → HasNoZeroByte (source_text s l b empty o)
+      source_free : (b : Bool) (o : Option Text) → IfSome o HasNoZero → HasNoZero (source_text s l b empty o)
       source_free true (Some t) free = text_zero_free s l t free
       source_free true None free = text_zero_free s l empty empty_free
-      source_free false o free = refl
+      source_free false o free = All-nil (λ b. b ≢ 0)
 
       file_reads_back : (p : File × Info) → FileSound p.0 × InfoSound p.1 → FileReadsBack (written p)
       file_reads_back p h = record {
@@ -94,8 +95,8 @@ module _ (s l : List (List ℕ)) (k : ProgramFiles) (d : FileDetails) (empty : T
       -- what the builder knows of its tables
       pub tables_read_back : TablesReadBack k.version (tables_with s l k d empty)
       tables_read_back = record {
-        directories = All-map HasNoZeroByte (header_text s l) (listed_directories k.version k.directories)
-            (All-weaker HasNoZero (λ t. HasNoZeroByte (header_text s l t)) (λ t h. text_zero_free s l t h)
+        directories = All-map HasNoZero (header_text s l) (listed_directories k.version k.directories)
+            (All-weaker HasNoZero (λ t. HasNoZero (header_text s l t)) (λ t h. text_zero_free s l t h)
             (listed_directories k.version k.directories)
             (listed HasNoZero k.directories consistent.directories_zero_free));
         files = all_written FileReadsBack (All-weaker (λ (p : File × Info). FileSound p.0 × InfoSound p.1)
@@ -104,14 +105,14 @@ module _ (s l : List (List ℕ)) (k : ProgramFiles) (d : FileDetails) (empty : T
             (All-both (λ (f : File). HasNoZero f.path) (λ (f : File). f.directory < length k.directories) k.files
             consistent.paths_zero_free consistent.in_directories)
             (All-both InfoFits SourceHasNoZero k.infos fit sources_free)));
-        no_sources = λ none. all_written (λ f. f.source ≡ in_place [])
+        no_sources = λ none. all_written (λ f. f.source ≡ in_header [])
             (λ n p h. plain_source (get_or (zip k.files k.infos) n p).1.source none);
-        directories_not_empty = λ old. All-map IsFilled (header_text s l) (listed_directories k.version k.directories)
-            (All-weaker HasBytes (λ t. IsFilled (header_text s l t)) (λ t h. text_filled s l t h)
+        directories_not_empty = λ old. All-map HasBytes (header_text s l) (listed_directories k.version k.directories)
+            (All-weaker HasBytes (λ t. HasBytes (header_text s l t)) (λ t h. text_filled s l t h)
             (listed_directories k.version k.directories) (filled_directories old));
-        paths_not_empty = λ old. all_written (λ f. IsFilled f.path)
+        paths_not_empty = λ old. all_written (λ f. HasBytes f.path)
             (All-weaker (λ (p : File × Info). HasBytes p.0.path × InfoFits p.1)
-            (λ (p : File × Info). IsFilled (written p).path) (λ p h. text_filled s l p.0.path h.0)
+            (λ (p : File × Info). HasBytes (written p).path) (λ p h. text_filled s l p.0.path h.0)
             (zip k.files k.infos)
             (All-zip (λ (f : File). HasBytes f.path) InfoFits k.files k.infos (consistent.paths_not_empty old) fit));
       }
@@ -145,22 +146,22 @@ module _ (s l : List (List ℕ)) (k : ProgramFiles) (d : FileDetails) (empty : T
   -- ---- what a reader gets
 
   module _ (known : AllKnown s l k d empty) (free : All IsText s) (line_free : All IsText l)
-      (empty_is : bytes_of s l empty ≡ Some []) (str line_str : View) (in_str : Holds s str)
+      (empty_is : bytes_of_text s l empty ≡ Some []) (str line_str : View) (in_str : Holds s str)
       (in_line_str : Holds l line_str) where
     again : (is_big : Bool) (n : ℕ) (t : Text) → IsKnown s l t
-        → text_read str line_str (value_of_text is_big n (header_text s l t)) ≡ bytes_of s l t
+        → text_read str line_str (value_of_text is_big n (header_text s l t)) ≡ bytes_of_text s l t
     again = text_again s l free line_free str line_str in_str in_line_str
 
     pub directories_read : (e : Encoding) (is_big : Bool) (first : ℕ)
         → map (text_read str line_str) (directory_values e is_big first (tables_with s l k d empty))
-        ≡ map (bytes_of s l) (listed_directories k.version k.directories)
+        ≡ map (bytes_of_text s l) (listed_directories k.version k.directories)
     directories_read e is_big first =
         values_read (header_text s l) (spelled_text is_big e.format) (value_of_text is_big) (text_read str line_str)
-        (bytes_of s l) (listed_directories k.version k.directories)
+        (bytes_of_text s l) (listed_directories k.version k.directories)
         (first + entries_offset e (formats_of_directories (tables_with s l k d empty))
         (length (tables_with s l k d empty).directories))
         (All-weaker (IsKnown s l) (λ t. (n : ℕ) → text_read str line_str (value_of_text is_big n (header_text s l t))
-        ≡ bytes_of s l t) (λ t h n. again is_big n t h) (listed_directories k.version k.directories)
+        ≡ bytes_of_text s l t) (λ t h n. again is_big n t h) (listed_directories k.version k.directories)
         (listed (IsKnown s l) k.directories known.directories))
 
     -- a file whose texts are known
@@ -176,7 +177,7 @@ module _ (s l : List (List ℕ)) (k : ProgramFiles) (d : FileDetails) (empty : T
     -- a file as it was built, by whether its version is at most 4
     abbrev built_at : Bool → File × Info → FileRead
     built_at old p = record {
-      path = bytes_of s l p.0.path;
+      path = bytes_of_text s l p.0.path;
       directory = p.0.directory;
       timestamp = if old || d.has_timestamp then p.1.timestamp else 0;
       size = if old || d.has_size then p.1.size else 0;
@@ -233,7 +234,7 @@ module _ (s l : List (List ℕ)) (k : ProgramFiles) (d : FileDetails) (empty : T
         (ap (λ t. by_texts t (option_map (text_read str line_str)
         (cond d.has_source (Some (value_of_text is_big sized (source_text s l d.has_source empty p.1.source))) None)))
         (again is_big n p.0.path h.0)
-        ∙ ap (λ o. by_texts (bytes_of s l p.0.path) o) source)
+        ∙ ap (λ o. by_texts (bytes_of_text s l p.0.path) o) source)
 
     pub files_read : (e : Encoding) (is_big : Bool) (first : ℕ) → e.version ≡ k.version
         → map (file_read str line_str) (facts_of_files e is_big first (tables_with s l k d empty))

@@ -5,7 +5,7 @@ use Rattle.gimli_lines_write_unit.specs.Encoding.{Encoding}
 use Rattle.gimli_lines_write_unit.specs.Spelling.{unsigned_string}
 use Rattle.gimli_lines_write_unit.specs.LineRules.{LineRules}
 use Rattle.gimli_lines_write_unit.specs.EntryBytes.{join_bytes}
-use Rattle.gimli_lines_write_unit.specs.HeaderTexts.{WrittenText, form_of, form_in, spelled_text}
+use Rattle.gimli_lines_write_unit.specs.HeaderTexts.{Text, form_of, form_in, spelled_text}
 use Rattle.gimli_lines_write_unit.specs.EntryFields.{WrittenFile, Details, spelled_file, spelled_formats, directory_formats, file_formats}
 use Rattle.gimli_lines_write_unit.specs.HeaderSpelling.{Tables, path_form, source_form, spelled_file_to_4, spelled_directories, spelled_files, spelled_parameters, spelled_opcodes, spelled_header}
 use Rattle.gimli_lines_write_unit.specs.HeaderBytes.{text_bytes, all_bytes, file_bytes_to_4, file_bytes_of_5, directory_entries_bytes, directories_bytes, entries_of_files, files_bytes, tables_bytes, header_bytes}
@@ -14,10 +14,10 @@ use Rattle.gimli_lines_write_laws.proofs.FileBytes.{PathIs, SourceIs, file_4_is,
 
 -- ---- directories
 
-abbrev pub DirectoryIs : Encoding → ℕ → WrittenText → Type 0
+abbrev pub DirectoryIs : Encoding → ℕ → Text → Type 0
 DirectoryIs e form t = (form_of t ≡ form) × Fits e.format t
 
-text_pair : (is_big : Bool) (e : Encoding) (form : ℕ) (t : WrittenText) (bytes : List ℕ) → text_bytes is_big e form t
+text_pair : (is_big : Bool) (e : Encoding) (form : ℕ) (t : Text) (bytes : List ℕ) → text_bytes is_big e form t
     ≡ Ok bytes → DirectoryIs e form t × (bytes ≡ spelled_text is_big e.format t)
 text_pair is_big e form t bytes h = let s = text_is is_big e form t bytes h in ((s.0, s.1), s.2)
 

@@ -1,8 +1,8 @@
 -- A unit that was written is read again.
-use Rattle.std.proofs.Common.{◌≡◌, ℕ, ◌+◌, ◌<◌, ◌≤◌, Bool, true, false, List, [], ◌∷◌, ◌++◌, length, map, Result, Ok, refl, sym, ap, subst, ◌∙◌, arith}
+use Rattle.std.proofs.Common.{◌≡◌, ◌≢◌, ℕ, ◌+◌, ◌<◌, ◌≤◌, Bool, true, false, List, [], ◌∷◌, ◌++◌, length, map, Result, Ok, refl, sym, ap, subst, ◌∙◌, arith}
 use Rattle.std.specs.Prelude.{nat_le, All}
 use Rattle.std.proofs.lemmas.Bool.{le-leb, lt-leb}
-use Rattle.std.proofs.lemmas.List.Elements.{All-head}
+use Rattle.std.proofs.lemmas.List.Elements.{All-nil, All-head}
 use Rattle.gimli_lines_write_unit.specs.Format.{Format}
 use Rattle.gimli_lines_write_unit.specs.LineRules.{LineRules}
 use Rattle.gimli_lines_write_laws.proofs.RowAnswers.{rows_answered}
@@ -12,12 +12,13 @@ use Rattle.gimli_lines_write_unit.specs.WriteError.{Error}
 use Rattle.gimli_lines_write_unit.specs.Address.{Address}
 use Rattle.gimli_lines_write_unit.specs.RowPieces.{IsBuildable}
 use Rattle.gimli_lines_write_unit.specs.UnitBytes.{unit_bytes}
-use Rattle.gimli_lines_write_unit.specs.HeaderTexts.{WrittenText, in_place, in_strings, in_line_strings, form_of, form_in, IsReadableText, IsEntry}
+use Rattle.gimli_lines_write_unit.specs.HeaderTexts.{form_of, form_in, IsReadableText, IsEntry}
+use Rattle.gimli_lines_write_unit.specs.FileTables.{Text, in_header, of_strings, of_line_strings, HasNoZero, HasBytes}
 use Rattle.gimli_lines_write_unit.specs.EntryFields.{WrittenFile, IsReadableFile}
 use Rattle.gimli_lines_write_unit.specs.HeaderSpelling.{Tables, path_form, source_form, spelled_header, spelled_body, fields_at, header_value}
 use Rattle.gimli_lines_write_unit.specs.HeaderReadBack.{FitsVersion4, FitsVersion5, CanWrite}
 use Rattle.gimli_lines_write_unit.proofs.LineUnitsAgain.{below_back, unit_again}
-use Rattle.gimli_lines_write_laws.specs.UnitReadBack.{IsBelow, FileBelow, HasNoZero, HasBytes, FileReadsBack, records_sources, TablesReadBack, UnitReadsBack}
+use Rattle.gimli_lines_write_laws.specs.UnitReadBack.{IsBelow, FileBelow, FileReadsBack, records_sources, TablesReadBack, UnitReadsBack}
 use Rattle.gimli_lines_write_laws.proofs.SpelledPieces.{Fits}
 use Rattle.gimli_lines_write_laws.proofs.TableBytes.{DirectoryIs, FileIs, form_at, header_is}
 use Rattle.gimli_lines_write_laws.proofs.UnitBytesAgain.{UnitIs, unit_is}
@@ -26,40 +27,42 @@ use Rattle.gimli_lines_write_unit.specs.NumberBytes.{spelled_length}
 
 -- ---- texts
 
-text_stands : (limit : ℕ) (format : Format) (t : WrittenText) → HasNoZero t → IsBelow limit t → Fits format t
+text_stands : (limit : ℕ) (format : Format) (t : Text) → HasNoZero t → IsBelow limit t → Fits format t
     → IsReadableText limit format t
-text_stands limit format (in_place text) free below fits = free
-text_stands limit format (in_strings offset) free below fits = (below, fits)
-text_stands limit format (in_line_strings offset) free below fits = (below, fits)
+text_stands limit format (in_header text) free below fits = free
+text_stands limit format (of_strings offset) free below fits = (below, fits)
+text_stands limit format (of_line_strings offset) free below fits = (below, fits)
 
-entry_stands : (t : WrittenText) → form_of t ≡ 0x08 → HasBytes t → IsEntry t
-entry_stands (in_place text) is filled = filled
-entry_stands (in_strings offset) is filled = absurd (omega arith)
-entry_stands (in_line_strings offset) is filled = absurd (omega arith)
+entry_stands : (t : Text) → form_of t ≡ 0x08 → HasBytes t → IsEntry t
+entry_stands (in_header text) is filled = filled
+entry_stands (of_strings offset) is filled = absurd (omega arith)
+entry_stands (of_line_strings offset) is filled = absurd (omega arith)
 
 -- sources that aren't recorded
-plain_form : (files : List WrittenFile) → All (λ (f : WrittenFile). f.source ≡ in_place []) files
+plain_form : (files : List WrittenFile) → All (λ (f : WrittenFile). f.source ≡ in_header []) files
     → form_in (map (λ (f : WrittenFile). f.source) files) ≡ 0x08
 plain_form [] all = refl
-plain_form (f ∷ files) all = ap form_of (All-head (λ (f : WrittenFile). f.source ≡ in_place []) f files all)
+plain_form (f ∷ files) all = ap form_of (All-head (λ (f : WrittenFile). f.source ≡ in_header []) f files all)
 
 module _ (rules : LineRules) (t : Tables) (read_back : TablesReadBack rules.encoding.version t) where
   -- the text of a file
   source_stands : (limit : ℕ) (f : WrittenFile) → HasNoZero f.source → IsBelow limit f.source
       → FileIs rules.encoding t.details (path_form t) (source_form t) f
-      → (records_sources rules.encoding.version t ≡ false → f.source ≡ in_place [])
+      → (records_sources rules.encoding.version t ≡ false → f.source ≡ in_header [])
       → IsReadableText limit rules.encoding.format f.source
   source_stands limit f free below is plain = by (nat_le rules.encoding.version 4) t.details.has_source refl refl
     where
       by : (a b : Bool) → nat_le rules.encoding.version 4 ≡ a → t.details.has_source ≡ b
           → IsReadableText limit rules.encoding.format f.source
       by false true p q = text_stands limit rules.encoding.format f.source free below (is.1 p q).1
-      by true b p q = subst (λ s. IsReadableText limit rules.encoding.format s) (sym (plain (rw p refl))) refl
-      by false false p q = subst (λ s. IsReadableText limit rules.encoding.format s) (sym (plain (rw (p, q) refl))) refl
+      by true b p q = subst (λ s. IsReadableText limit rules.encoding.format s) (sym (plain (rw p refl)))
+          (All-nil (λ b. b ≢ 0))
+      by false false p q = subst (λ s. IsReadableText limit rules.encoding.format s) (sym (plain (rw (p, q) refl)))
+          (All-nil (λ b. b ≢ 0))
 
   file_stands : (limit : ℕ) (f : WrittenFile) → FileReadsBack f → FileBelow limit f
       → FileIs rules.encoding t.details (path_form t) (source_form t) f
-      → (records_sources rules.encoding.version t ≡ false → f.source ≡ in_place [])
+      → (records_sources rules.encoding.version t ≡ false → f.source ≡ in_header [])
       → IsReadableFile limit rules.encoding.format f
   file_stands limit f is below well_formed plain = record {
     path = text_stands limit rules.encoding.format f.path is.path below.path well_formed.0.1;
@@ -93,7 +96,7 @@ module _ (rules : LineRules) (t : Tables) (read_back : TablesReadBack rules.enco
       paths : All (λ (f : WrittenFile). form_of f.path ≡ path_form t) t.files
       paths = λ k d h. rw later at (fs k d h).0.0
 
-      directories : All (λ (d : WrittenText). form_of d ≡ form_in t.directories) t.directories
+      directories : All (λ (d : Text). form_of d ≡ form_in t.directories) t.directories
       directories = λ k d h. rw later at (ds k d h).0
 
       by : (b : Bool) → t.details.has_source ≡ b → FitsVersion5 t

@@ -7,7 +7,7 @@ use Rattle.gimli_lines_write_unit.specs.LineEntry.{LineEntry}
 use Rattle.gimli_lines_write_unit.specs.WriteError.{Error}
 use Rattle.gimli_lines_write_unit.specs.Address.{Address}
 use Rattle.gimli_lines_write_unit.specs.FileTables.{Text, in_header, of_strings, of_line_strings, File, Info, ProgramFiles}
-use Rattle.gimli_lines_write_unit.specs.HeaderTexts.{WrittenText, form_of, form_in}
+use Rattle.gimli_lines_write_unit.specs.HeaderTexts.{form_of, form_in}
 use Rattle.gimli_lines_write_unit.specs.EntryFields.{WrittenFile}
 use Rattle.gimli_lines_write_unit.specs.HeaderSpelling.{path_form, source_form, spelled_header}
 use Rattle.gimli_lines_write_unit.specs.declared.details.FileDetails.{FileDetails}
@@ -108,7 +108,7 @@ module _ (s l : List (List ℕ)) (rules : LineRules) (k : ProgramFiles) (d : Fil
       let empty = empty_text s l (empty_form_of k d) in
       let form = source_form t in
       let flags = recorded (nat_le k.version 4) d.has_source present_is in
-      let InForm : WrittenText → Type 0 = λ w. form_of w ≡ form in
+      let InForm : Text → Type 0 = λ w. form_of w ≡ form in
       let written : All InForm (map (λ (f : WrittenFile). f.source) t.files) =
       All-map InForm (λ (f : WrittenFile). f.source) t.files
       (All-weaker (FileIs rules.encoding t.details (path_form t) (source_form t)) (λ (f : WrittenFile). InForm f.source)
@@ -133,7 +133,7 @@ module _ (s l : List (List ℕ)) (rules : LineRules) (k : ProgramFiles) (d : Fil
       let header = header_is is_big rules t in
       let parts = unit_is address_of is_big rules t entries (λ h made. (header h made).2) bytes e in
       let tables = header (spelled_header rules is_big t) parts.1.header in
-      let Written : ℕ → List WrittenText → Type 0 = λ v ts.
+      let Written : ℕ → List Text → Type 0 = λ v ts.
       All (λ w. form_of w ≡ cond (nat_le v 4) 0x08 (form_in ts)) ts in
       let paths : Written k.version (map (λ (f : WrittenFile). f.path) t.files) =
       subst (λ v. Written v (map (λ (f : WrittenFile). f.path) t.files)) (sym same)

@@ -1,6 +1,6 @@
 -- A program that was written, as a reader gets it: its header, its directories and files with their
 -- texts, and its rows (DWARF 5, 6.2).
-use Rattle.std.specs.Prelude.{◌≡◌, ℕ, ◌+◌, ◌^◌, ◌<◌, ◌≤◌, ◌||◌, ◌&&◌, not, nat_le, Bool, List, [], ◌++◌, length, map, Option, Some, None, option_map, slice_get, Result, Ok, Err, if◌then◌else◌}
+use Rattle.std.specs.Prelude.{◌≡◌, ℕ, ◌+◌, ◌^◌, ◌<◌, ◌≤◌, ◌||◌, ◌&&◌, not, nat_le, Bool, List, [], ◌++◌, length, map, Option, Some, None, option_map, Result, Ok, Err, if◌then◌else◌}
 use Rattle.std.specs.List.{zip}
 use Rattle.gimli_lines_rows.specs.Error.{Error}
 use Rattle.gimli_lines_rows.specs.View.{View}
@@ -16,7 +16,8 @@ use Rattle.gimli_lines_write_unit.specs.LineRules.{LineRules}
 use Rattle.gimli_lines_write_unit.specs.SectionReads.{string_at}
 use Rattle.gimli_lines_write_unit.specs.BytesAt.{bytes_at}
 use Rattle.gimli_lines_write_unit.specs.StringSections.{section_of}
-use Rattle.gimli_lines_write_unit.specs.FileTables.{Text, in_header, of_strings, of_line_strings, HasNoZero, File, Info, ProgramFiles}
+use Rattle.gimli_lines_write_unit.specs.FileTables.{Text, HasNoZero, File, Info, ProgramFiles}
+use Rattle.gimli_lines_write_unit.specs.LineStrings.{bytes_of_text}
 use Rattle.gimli_lines_write_unit.specs.EntryFields.{IsDigest}
 use Rattle.std.specs.Option.{IfSome}
 use Rattle.gimli_lines_write_unit.specs.declared.details.FileDetails.{FileDetails}
@@ -24,12 +25,6 @@ use Rattle.gimli_lines_write_unit.specs.HeaderContents.{listed_directories, reco
 use Rattle.gimli_lines_write_laws.specs.UnitReadBack.{answer_under}
 
 -- ---- texts
-
--- the bytes of a text, where its table has it
-abbrev pub bytes_of : List (List ℕ) → List (List ℕ) → Text → Option (List ℕ)
-bytes_of strings line_strings (in_header bytes) = Some bytes
-bytes_of strings line_strings (of_strings place) = slice_get strings place
-bytes_of strings line_strings (of_line_strings place) = slice_get line_strings place
 
 -- the bytes of a string, where it can be read
 abbrev pub bytes_if_read : Result View Error → Option (List ℕ)
@@ -72,14 +67,14 @@ file_read str line_str f = record {
 
 -- a file's own text; a missing one reads as the empty text
 abbrev pub source_bytes : List (List ℕ) → List (List ℕ) → Option Text → Option (List ℕ)
-source_bytes strings line_strings (Some t) = bytes_of strings line_strings t
+source_bytes strings line_strings (Some t) = bytes_of_text strings line_strings t
 source_bytes strings line_strings None = Some []
 
 -- A file as it was built, with what its version and the details store: up to version 4 the time and
 -- the size alone, in version 5 what the details say.
 abbrev pub file_built : List (List ℕ) → List (List ℕ) → ℕ → FileDetails → File × Info → FileRead
 file_built strings line_strings version d p = record {
-  path = bytes_of strings line_strings p.0.path;
+  path = bytes_of_text strings line_strings p.0.path;
   directory = p.0.directory;
   timestamp = if nat_le version 4 || d.has_timestamp then p.1.timestamp else 0;
   size = if nat_le version 4 || d.has_size then p.1.size else 0;
@@ -108,7 +103,7 @@ pub record HeaderShows (strings line_strings : List (List ℕ)) (rules : LineRul
   pub rules_are : rules_of h ≡ rules
   pub directories : (str line_str : View) → Holds strings str → Holds line_strings line_str
       → map (text_read str line_str) h.directories
-      ≡ map (bytes_of strings line_strings) (listed_directories k.version k.directories)
+      ≡ map (bytes_of_text strings line_strings) (listed_directories k.version k.directories)
   pub files : (str line_str : View) → Holds strings str → Holds line_strings line_str
       → map (file_read str line_str) h.files
       ≡ map (file_built strings line_strings k.version d) (zip k.files k.infos)

@@ -8,10 +8,9 @@ use Rattle.gimli_lines_rows.specs.ProgramInstructions.{rules_of}
 use Rattle.gimli_lines_rows.specs.ProgramRows.{Row, rows_to_come}
 use Rattle.gimli_lines_rows.specs.RowSequences.{rows_under}
 use Rattle.gimli_lines_write_unit.specs.HeaderParsing.{LineUnit, line_header}
-use Rattle.gimli_lines_write_unit.specs.HeaderTexts.{WrittenText, in_place, in_strings, in_line_strings}
+use Rattle.gimli_lines_write_unit.specs.FileTables.{Text, in_header, of_strings, of_line_strings, HasNoZero, HasBytes}
 use Rattle.gimli_lines_write_unit.specs.EntryFields.{WrittenFile, IsDigest}
 use Rattle.gimli_lines_write_unit.specs.HeaderSpelling.{Tables, fields_at, header_value}
-use Rattle.std.specs.List.{list_any}
 use Rattle.gimli_lines_write_unit.specs.WriteError.{Error}
 use Rattle.gimli_lines_write_unit.specs.Address.{Address}
 use Rattle.gimli_lines_write_unit.specs.Address.TheVariants.{Constant}
@@ -19,31 +18,19 @@ use Rattle.gimli_lines_write_unit.specs.LineEntry.{LineEntry}
 use Rattle.gimli_lines_write_unit.specs.BuiltRows.{first_row, follows, rows_of, IsReadable}
 use Rattle.gimli_lines_write_unit.specs.RowPieces.{IsBuildable}
 use Rattle.gimli_lines_write_unit.specs.UnitBytes.{unit_bytes}
-use Rattle.std.specs.Prelude.{◌==◌, ◌≢◌, ◌≤◌, ◌&&◌, not, nat_le, [], true, false, Result}
+use Rattle.std.specs.Prelude.{◌≤◌, ◌&&◌, not, nat_le, [], true, false, Result}
 use Rattle.gimli_lines_write_unit.specs.BytesAt.{bytes_at}
 
 -- an offset that a reader can hold
-abbrev pub IsBelow : ℕ → WrittenText → Type 0
-IsBelow limit (in_place text) = Unit {0}
-IsBelow limit (in_strings offset) = offset < limit
-IsBelow limit (in_line_strings offset) = offset < limit
+abbrev pub IsBelow : ℕ → Text → Type 0
+IsBelow limit (in_header text) = Unit {0}
+IsBelow limit (of_strings offset) = offset < limit
+IsBelow limit (of_line_strings offset) = offset < limit
 
 -- the offsets of a file's texts are below a limit
 pub record FileBelow (limit : ℕ) (f : WrittenFile) : Type 0 where
   pub path : IsBelow limit f.path
   pub source : IsBelow limit f.source
-
--- a text in its place holds no zero byte
-abbrev pub HasNoZero : WrittenText → Type 0
-HasNoZero (in_place text) = list_any (λ b. b == 0) text ≡ false
-HasNoZero (in_strings offset) = Unit {0}
-HasNoZero (in_line_strings offset) = Unit {0}
-
--- and isn't empty
-abbrev pub HasBytes : WrittenText → Type 0
-HasBytes (in_place text) = length text ≢ 0
-HasBytes (in_strings offset) = Unit {0}
-HasBytes (in_line_strings offset) = Unit {0}
 
 -- what is recorded of a file: numbers of 64 bits, a digest of sixteen bytes, and a text without a
 -- zero byte
@@ -59,14 +46,14 @@ pub record FileReadsBack (f : WrittenFile) : Type 0 where
 abbrev pub records_sources : ℕ → Tables → Bool
 records_sources version t = not (nat_le version 4) && t.details.has_source
 
--- Tables that can be read again: texts in their places hold no zero byte, and up to version 4
--- aren't empty.
+-- Tables that can be read again: texts in the header hold no zero byte, and up to version 4 aren't
+-- empty.
 pub record TablesReadBack (version : ℕ) (t : Tables) : Type 0 where
   pub directories : All HasNoZero t.directories
   pub files : All FileReadsBack t.files
   -- texts of files that aren't recorded are empty
   pub no_sources : records_sources version t ≡ false
-      → All (λ (f : WrittenFile). f.source ≡ in_place []) t.files
+      → All (λ (f : WrittenFile). f.source ≡ in_header []) t.files
   pub directories_not_empty : version ≤ 4 → All HasBytes t.directories
   pub paths_not_empty : version ≤ 4 → All (λ (f : WrittenFile). HasBytes f.path) t.files
 

@@ -6,7 +6,8 @@ use Rattle.std.proofs.lemmas.Bool.{and_parts, ltb-true, lt-ltb}
 use Rattle.std.proofs.lemmas.List.Elements.{All-nil, All-cons, All-head, All-tail}
 use Rattle.gimli_lines_write_laws.specs.FileTables.{Text, in_header, of_strings, of_line_strings, File, Info, ProgramFiles}
 use Rattle.gimli_lines_write_laws.specs.FileDetails.{FileDetails}
-use Rattle.gimli_lines_write_laws.specs.HeaderContents.{IsKnown, AllKnown, records_source}
+use Rattle.gimli_lines_write_laws.specs.HeaderContents.{AllKnown, records_source}
+use Rattle.gimli_lines_write_laws.specs.LineStrings.{IsKnown}
 use Rattle.gimli_lines_write_program.specs.TextTests.{is_known, is_source_known, has_texts}
 
 -- ---- lists

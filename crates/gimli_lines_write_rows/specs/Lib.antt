@@ -32,6 +32,7 @@ pub use Rattle.gimli_lines_write_bytes.specs.OutputBytes
 pub use Rattle.gimli_lines_write_bytes.specs.WriteErrorText
 pub use Rattle.gimli_lines_write_bytes.specs.declared.address.Address
 pub use Rattle.gimli_lines_write_bytes.specs.declared.error.Error as WriteError
+pub mod LineTexts
 pub mod BuiltRows
 pub mod RowPieces
 pub mod LineInstructionBytes

@@ -1,4 +1,5 @@
-//! The instructions that are written for rows, as bytes.
+//! The instructions that are written for rows, as bytes. For what the opcodes are, `parsing` of
+//! `gimli_lines_rows` is to be read first; the bytes here are those of `LineInstructionBytes`.
 
 ghost use Rattle.std.specs.Prelude.{◌≡◌, ◌+◌, ◌++◌, ◌∷◌, [], length, OnOk, IfErr};
 ghost use Rattle.gimli_lines_write_bytes.specs.Spelling.{unsigned_string, signed_string};

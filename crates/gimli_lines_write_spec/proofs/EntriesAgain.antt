@@ -12,7 +12,7 @@ use Rattle.gimli_lines_write_rows.specs.Fixed.{number, number_bytes}
 use Rattle.gimli_lines_header.specs.declared.formats.FileEntryFormat.{FileEntryFormat}
 use Rattle.gimli_lines_header.specs.LineFiles.{no_md5, path_content, directory_content, timestamp_content, size_content, source_content}
 use Rattle.gimli_lines_header.specs.TableEntries.{Field, EntryFacts, no_facts, facts_after, entry, entry_fields, directory_entry, file_entry}
-use Rattle.gimli_lines_write_spec.specs.HeaderTexts.{WrittenText, form_of, spelled_text, value_of_text, IsReadableText}
+use Rattle.gimli_lines_write_spec.specs.HeaderTexts.{Text, form_of, spelled_text, value_of_text, IsReadableText}
 use Rattle.gimli_lines_write_rows.specs.RowPieces.{when}
 use Rattle.gimli_lines_write_spec.specs.EntryFields.{WrittenFile, WrittenField, Details, text_field, number_field, digest_field, leading_fields, file_fields, spelled_fields, spelled_file, directory_formats, file_formats, file_facts, IsReadableFile}
 use Rattle.gimli_lines_write_rows.proofs.FollowedReads.{Again, again_then}
@@ -190,10 +190,10 @@ file_again limit e is_big d path_form source_form first f well_formed path sourc
 
 -- ---- a directory
 
-abbrev path_field : Bool → Format → WrittenText → WrittenField
+abbrev path_field : Bool → Format → Text → WrittenField
 path_field is_big format t = text_field is_big format path_content t
 
-pub directory_again : (limit : ℕ) (e : Encoding) (is_big : Bool) (form first : ℕ) (t : WrittenText)
+pub directory_again : (limit : ℕ) (e : Encoding) (is_big : Bool) (form first : ℕ) (t : Text)
     → IsReadableText limit e.format t → form_of t ≡ form
     → Again is_big first (directory_entry limit e (directory_formats form)) (value_of_text is_big first t)
     (spelled_text is_big e.format t)

@@ -1,14 +1,14 @@
 -- The fields of entries are read again.
-use Rattle.std.proofs.Common.{◌≡◌, ℕ, ◌+◌, ◌<◌, ◌^◌, Bool, false, List, [], ◌∷◌, ◌++◌, length, map, None, Result, Ok, Err, refl, sym, ap, ◌∙◌, arith}
+use Rattle.std.proofs.Common.{◌≡◌, ◌≢◌, ℕ, ◌+◌, ◌<◌, ◌^◌, Bool, false, List, [], ◌∷◌, ◌++◌, length, map, None, Result, Ok, Err, refl, sym, ap, ◌∙◌, arith}
 use Rattle.std.specs.Prelude.{◌==◌, All}
-use Rattle.std.proofs.lemmas.List.Elements.{All-head, All-tail}
+use Rattle.std.proofs.lemmas.List.Elements.{All-head, All-tail, All-weaker}
+use Rattle.std.proofs.lemmas.List.Folds.{list_any_none}
 use Rattle.gimli_lines_header.specs.declared.formats.FileEntryFormat.{FileEntryFormat}
-use Rattle.std.specs.List.{list_any}
-use Rattle.std.proofs.lemmas.Bool.{le-ltb}
+use Rattle.std.proofs.lemmas.Bool.{le-ltb, ne_eqb}
 use Rattle.std.proofs.lemmas.List.{length-append, take_at}
 use Rattle.gimli_lines_write_rows.specs.Error.{Error}
 use Rattle.gimli_lines_write_rows.specs.View.{View}
-use Rattle.gimli_lines_write_rows.specs.Parsers.{Parser, give, lift, proceed, ◌>>=◌}
+use Rattle.gimli_lines_write_rows.specs.Parsers.{Parser, give, lift, proceed, null_terminated, ◌>>=◌}
 use Rattle.gimli_lines_write_rows.proofs.PrefixReads.{after_is}
 use Rattle.gimli_lines_write_rows.specs.Encoding.{Encoding}
 use Rattle.gimli_lines_write_rows.specs.Format.{Format}
@@ -21,7 +21,8 @@ use Rattle.gimli_lines_header.specs.AttributeValues.{RawValue, RawAttribute, str
 use Rattle.gimli_lines_header.specs.FormSpellings.{spelling}
 use Rattle.gimli_lines_header.specs.AttributeReading.{attribute, final_form, form_within, value, number_value, from_number}
 use Rattle.gimli_lines_header.specs.TableEntries.{Field, entry_value, entry_fields}
-use Rattle.gimli_lines_write_spec.specs.HeaderTexts.{WrittenText, in_place, in_strings, in_line_strings, form_of, spelled_text, value_of_text, IsReadableText}
+use Rattle.gimli_lines_write_rows.specs.LineTexts.{IsText}
+use Rattle.gimli_lines_write_spec.specs.HeaderTexts.{Text, in_header, of_strings, of_line_strings, form_of, spelled_text, value_of_text, IsReadableText}
 use Rattle.gimli_lines_write_spec.specs.EntryFields.{WrittenField, field_format, spelled_fields}
 use Rattle.gimli_lines_write_rows.proofs.FollowedReads.{Again, again_nothing, again_onward, again_then, again_same, again_fixed, again_unsigned, null_again, offset_is_below}
 use Rattle.gimli_lines_write_rows.specs.BytesAt.{bytes_at, values_at}
@@ -55,13 +56,21 @@ sixteen is_big first md5 long = record {
       ∙ ap (λ n. Ok (number is_big md5, bytes_at is_big (first + n) rest)) (sym long));
 }
 
+-- a text and its zero byte
+pub ended_again : (is_big : Bool) (first : ℕ) (text : List ℕ) → IsText text
+    → Again is_big first null_terminated (bytes_at is_big first text) (text ++ 0 ∷ [])
+ended_again is_big first text free =
+    null_again is_big first text
+    (list_any_none (λ b. b == 0) text
+    (All-weaker (λ b. b ≢ 0) (λ b. (b == 0) ≡ false) (λ b h. ne_eqb b 0 h) text free))
+
 module _ (limit : ℕ) (e : Encoding) (is_big : Bool) (first : ℕ) where
-  text_value : (text : List ℕ) → list_any (λ b. b == 0) text ≡ false
+  text_value : (text : List ℕ) → IsText text
       → Again is_big first (entry_value limit e 0x08) (string (bytes_at is_big first text)) (text ++ 0 ∷ [])
   unfolding entry_value attribute final_form form_within value spelling
-  text_value text none =
+  text_value text free =
       again_same (λ v. raw_value_step 0x08 (value limit e 0 None 0x08 v))
-      (again_then (λ t. give (string t)) (null_again is_big first text none) (λ v. refl))
+      (again_then (λ t. give (string t)) (ended_again is_big first text free) (λ v. refl))
 
   offset_value : (offset : ℕ) → offset < limit → offset < 256 ^ word_size e.format
       → Again is_big first (entry_value limit e 0x0e) (string_reference offset)
@@ -110,12 +119,12 @@ module _ (limit : ℕ) (e : Encoding) (is_big : Bool) (first : ℕ) where
       (again_then (λ n. give (data_16 n)) (sixteen is_big first md5 long) (λ v. refl))
 
   -- a text
-  pub text_again : (t : WrittenText) → IsReadableText limit e.format t
+  pub text_again : (t : Text) → IsReadableText limit e.format t
       → Again is_big first (entry_value limit e (form_of t)) (value_of_text is_big first t)
       (spelled_text is_big e.format t)
-  text_again (in_place text) well_formed = text_value text well_formed
-  text_again (in_strings offset) well_formed = offset_value offset well_formed.0 well_formed.1
-  text_again (in_line_strings offset) well_formed = line_offset_value offset well_formed.0 well_formed.1
+  text_again (in_header text) well_formed = text_value text well_formed
+  text_again (of_strings offset) well_formed = offset_value offset well_formed.0 well_formed.1
+  text_again (of_line_strings offset) well_formed = line_offset_value offset well_formed.0 well_formed.1
 
 -- ---- fields
 

@@ -23,7 +23,7 @@ use Rattle.gimli_lines_header.specs.LineFiles.{path_content, directory_content, 
 use Rattle.gimli_lines_header.specs.TableEntries as entries
 use Rattle.gimli_lines_header.specs.TableEntries.{entry_formats, has_one_path, directory_entry, file_entry}
 use Rattle.gimli_lines_header.specs.HeaderTables.{directory_entries, file_entries, directories_of_5, files_of_5}
-use Rattle.gimli_lines_write_spec.specs.HeaderTexts.{WrittenText, in_place, in_strings, in_line_strings, form_of, form_in, spelled_text, value_of_text, IsReadableText}
+use Rattle.gimli_lines_write_spec.specs.HeaderTexts.{Text, in_header, of_strings, of_line_strings, form_of, form_in, spelled_text, value_of_text, IsReadableText}
 use Rattle.gimli_lines_write_rows.specs.RowPieces.{when}
 use Rattle.gimli_lines_write_spec.specs.EntryFields.{WrittenFile, Details, spelled_file, directory_formats, field_format, file_formats, spelled_format, spelled_formats, file_facts, IsReadableFile}
 use Rattle.gimli_lines_write_rows.proofs.FollowedReads.{Again, again_onward, again_then, again_unsigned, one_byte}
@@ -88,12 +88,12 @@ formats_again is_big first formats stand few one =
     (λ v. rw one refl))
 
 -- a form of a text is a small number
-low_form : (t : WrittenText) → form_of t < 128
-low_form (in_place text) = omega arith
-low_form (in_strings offset) = omega arith
-low_form (in_line_strings offset) = omega arith
+low_form : (t : Text) → form_of t < 128
+low_form (in_header text) = omega arith
+low_form (of_strings offset) = omega arith
+low_form (of_line_strings offset) = omega arith
 
-pub low_form_in : (ts : List WrittenText) → form_in ts < 128
+pub low_form_in : (ts : List Text) → form_in ts < 128
 low_form_in [] = omega arith
 low_form_in (t ∷ ts) = low_form t
 
@@ -168,10 +168,10 @@ directory_formats_again is_big first form low =
 -- ---- tables
 
 -- a directory whose form is that of its list
-abbrev InList : ℕ → Format → ℕ → WrittenText → Type 0
+abbrev InList : ℕ → Format → ℕ → Text → Type 0
 InList limit format form t = IsReadableText limit format t × (form_of t ≡ form)
 
-pub directories_again_5 : (limit : ℕ) (e : Encoding) (is_big : Bool) (first : ℕ) (ts : List WrittenText)
+pub directories_again_5 : (limit : ℕ) (e : Encoding) (is_big : Bool) (first : ℕ) (ts : List Text)
     → All (IsReadableText limit e.format) ts → All (λ t. form_of t ≡ form_in ts) ts → length ts < 2 ^ 64
     → Again is_big first (directories_of_5 limit e) (
       directory_formats (form_in ts),
@@ -249,11 +249,11 @@ word_some : (format : Format) → 1 ≤ word_size format
 word_some Dwarf32 = omega arith
 word_some Dwarf64 = omega arith
 
-pub text_some : (is_big : Bool) (format : Format) (t : WrittenText) → 1 ≤ length (spelled_text is_big format t)
-text_some is_big format (in_place text) = omega (arith, length-append text (0 ∷ []))
-text_some is_big format (in_strings offset) =
+pub text_some : (is_big : Bool) (format : Format) (t : Text) → 1 ≤ length (spelled_text is_big format t)
+text_some is_big format (in_header text) = omega (arith, length-append text (0 ∷ []))
+text_some is_big format (of_strings offset) =
     let some = word_some format in omega (arith, length-spelled is_big (word_size format) offset)
-text_some is_big format (in_line_strings offset) =
+text_some is_big format (of_line_strings offset) =
     let some = word_some format in omega (arith, length-spelled is_big (word_size format) offset)
 
 front_some : (a b : List ℕ) → 1 ≤ length a → 1 ≤ length (a ++ b)

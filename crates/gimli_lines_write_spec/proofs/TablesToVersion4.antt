@@ -10,21 +10,22 @@ use Rattle.gimli_lines_write_rows.specs.Spelling.{unsigned_string}
 use Rattle.gimli_lines_header.specs.LineFiles.{FileFacts, file_in}
 use Rattle.gimli_lines_header.specs.HeaderTables.{directory_text, file_text, file_after_path, directory_texts, file_texts}
 use Rattle.gimli_lines_header.proofs.TextSizes.{directory_text-shrinks, file_text-shrinks}
-use Rattle.gimli_lines_write_spec.specs.HeaderTexts.{WrittenText, in_place, in_strings, in_line_strings, spelled_text, value_of_text, IsReadableText, IsEntry}
+use Rattle.gimli_lines_write_spec.specs.HeaderTexts.{Text, in_header, of_strings, of_line_strings, spelled_text, value_of_text, IsReadableText, IsEntry}
 use Rattle.gimli_lines_write_spec.specs.EntryFields.{WrittenFile, IsReadableFile}
 use Rattle.gimli_lines_write_spec.specs.HeaderSpelling.{spelled_file_to_4, file_facts_to_4}
 use Rattle.gimli_lines_write_rows.proofs.FollowedReads.{Again, again_onward, again_then, again_same, again_unsigned, null_again, all_again}
+use Rattle.gimli_lines_write_spec.proofs.FieldsAgain.{ended_again}
 use Rattle.gimli_lines_write_rows.specs.BytesAt.{bytes_at, values_at}
 
 -- an entry of the directories
-directory_again : (limit : ℕ) (format : Format) (is_big : Bool) (first : ℕ) (t : WrittenText)
+directory_again : (limit : ℕ) (format : Format) (is_big : Bool) (first : ℕ) (t : Text)
     → IsReadableText limit format t → IsEntry t
     → Again is_big first directory_text (Some (value_of_text is_big first t)) (spelled_text is_big format t)
 unfolding directory_text
-directory_again limit format is_big first (in_place text) well_formed is =
-    again_then _ (null_again is_big first text well_formed) (λ v. rw (ne_eqb (length text) 0 is) refl)
-directory_again limit format is_big first (in_strings offset) well_formed is = absurd is
-directory_again limit format is_big first (in_line_strings offset) well_formed is = absurd is
+directory_again limit format is_big first (in_header text) well_formed is =
+    again_then _ (ended_again is_big first text well_formed) (λ v. rw (ne_eqb (length text) 0 is) refl)
+directory_again limit format is_big first (of_strings offset) well_formed is = absurd is
+directory_again limit format is_big first (of_line_strings offset) well_formed is = absurd is
 
 -- the empty text that ends them
 end_again : (is_big : Bool) (first : ℕ) → Again is_big first directory_text None (0 ∷ [])
@@ -44,7 +45,7 @@ after_again is_big first path directory timestamp size d t s =
     (first + length (unsigned_string directory) + length (unsigned_string timestamp)) size s) (λ v. refl)))
 
 -- a file
-file_again : (limit : ℕ) (format : Format) (is_big : Bool) (first : ℕ) (path : WrittenText) (f : WrittenFile)
+file_again : (limit : ℕ) (format : Format) (is_big : Bool) (first : ℕ) (path : Text) (f : WrittenFile)
     → IsReadableFile limit format f → IsReadableText limit format path → IsEntry path
     → Again is_big first file_text (Some
     (record {
@@ -58,18 +59,18 @@ file_again : (limit : ℕ) (format : Format) (is_big : Bool) (first : ℕ) (path
     (spelled_text is_big format path ++ (unsigned_string f.directory
     ++ (unsigned_string f.timestamp ++ unsigned_string f.size)))
 unfolding file_text
-file_again limit format is_big first (in_place text) f well_formed none is =
+file_again limit format is_big first (in_header text) f well_formed free is =
     let name = bytes_at is_big first text in
     let file_parser : Parser (Option FileFacts) = file_after_path name >>= λ file. give (Some file) in
     again_onward (λ path. branch (bytes_left path == 0) (give None) (file_after_path path >>= λ file. give (Some file)))
-    (null_again is_big first text none)
+    (ended_again is_big first text free)
     (again_same {q = branch (bytes_left name == 0) (give None) file_parser}
     (λ v. ap (λ b. cond {A = Result (Option FileFacts × View) Error} b (Ok (None, v)) (file_parser v))
     (ne_eqb (length text) 0 is))
     (again_then _ (after_again is_big (first + length (text ++ 0 ∷ [])) name f.directory f.timestamp f.size
     well_formed.directory well_formed.timestamp well_formed.size) (λ v. refl)))
-file_again limit format is_big first (in_strings offset) f well_formed none is = absurd is
-file_again limit format is_big first (in_line_strings offset) f well_formed none is = absurd is
+file_again limit format is_big first (of_strings offset) f well_formed free is = absurd is
+file_again limit format is_big first (of_line_strings offset) f well_formed free is = absurd is
 
 file_end_again : (is_big : Bool) (first : ℕ) → Again is_big first file_text None (0 ∷ [])
 unfolding file_text
@@ -77,10 +78,10 @@ file_end_again is_big first = again_then _ (null_again is_big first [] refl) (λ
 
 -- ---- tables
 
-abbrev EntryStands : ℕ → Format → WrittenText → Type 0
+abbrev EntryStands : ℕ → Format → Text → Type 0
 EntryStands limit format t = IsReadableText limit format t × IsEntry t
 
-pub directories_again_4 : (limit : ℕ) (format : Format) (is_big : Bool) (first : ℕ) (ts : List WrittenText)
+pub directories_again_4 : (limit : ℕ) (format : Format) (is_big : Bool) (first : ℕ) (ts : List Text)
     → All (IsReadableText limit format) ts → All IsEntry ts
     → Again is_big first directory_texts (values_at (spelled_text is_big format) (value_of_text is_big) first ts)
     (flat_map (spelled_text is_big format) ts ++ 0 ∷ [])

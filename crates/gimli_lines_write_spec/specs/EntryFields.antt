@@ -9,17 +9,17 @@ use Rattle.gimli_lines_write_rows.specs.RowPieces.{when}
 use Rattle.gimli_lines_header.specs.AttributeValues.{RawValue, unsigned_data, data_16}
 use Rattle.gimli_lines_header.specs.declared.formats.FileEntryFormat.{FileEntryFormat}
 use Rattle.gimli_lines_header.specs.LineFiles.{FileFacts, no_md5, path_content, directory_content, timestamp_content, size_content, md5_content, source_content}
-use Rattle.gimli_lines_write_spec.specs.HeaderTexts.{WrittenText, form_of, spelled_text, value_of_text, IsReadableText}
+use Rattle.gimli_lines_write_spec.specs.HeaderTexts.{Text, form_of, spelled_text, value_of_text, IsReadableText}
 
 -- a file: its path, the number of its directory, when it was modified, its size in bytes, its
 -- digest, and its text
 pub record WrittenFile : Type 0 where
-  pub path : WrittenText
+  pub path : Text
   pub directory : ℕ
   pub timestamp : ℕ
   pub size : ℕ
   pub md5 : List ℕ
-  pub source : WrittenText
+  pub source : Text
 
 -- what files of version 5 have beside path and directory
 pub record Details : Type 0 where
@@ -37,7 +37,7 @@ pub record WrittenField : Type 0 where
   pub value : ℕ → RawValue
 
 -- a text
-abbrev pub text_field : Bool → Format → ℕ → WrittenText → WrittenField
+abbrev pub text_field : Bool → Format → ℕ → Text → WrittenField
 text_field is_big format content text = record {
   content = content;
   form = form_of text;

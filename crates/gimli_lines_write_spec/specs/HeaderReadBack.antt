@@ -3,7 +3,7 @@ use Rattle.std.specs.Prelude.{◌≡◌, ℕ, ◌+◌, ◌<◌, ◌≤◌, Bool,
 use Rattle.gimli_lines_write_rows.specs.LineRules.{LineRules}
 use Rattle.gimli_lines_write_rows.specs.RowPieces.{IsBuildable}
 use Rattle.gimli_lines_header.specs.HeaderParsing.{LineUnit, line_header}
-use Rattle.gimli_lines_write_spec.specs.HeaderTexts.{WrittenText, form_of, form_in, IsReadableText, IsEntry}
+use Rattle.gimli_lines_write_spec.specs.HeaderTexts.{Text, form_of, form_in, IsReadableText, IsEntry}
 use Rattle.gimli_lines_write_spec.specs.EntryFields.{WrittenFile, IsReadableFile}
 use Rattle.gimli_lines_write_spec.specs.HeaderSpelling.{Tables, path_form, source_form, spelled_body, spelled_unit, fields_at, header_value}
 use Rattle.gimli_lines_write_rows.specs.BytesAt.{bytes_at}
@@ -16,7 +16,7 @@ pub record FitsVersion4 (t : Tables) : Type 0 where
 
 -- in version 5 the texts of a list have one form
 pub record FitsVersion5 (t : Tables) : Type 0 where
-  pub directories : All (λ (d : WrittenText). form_of d ≡ form_in t.directories) t.directories
+  pub directories : All (λ (d : Text). form_of d ≡ form_in t.directories) t.directories
   pub paths : All (λ (f : WrittenFile). form_of f.path ≡ path_form t) t.files
   pub sources : All (λ (f : WrittenFile). form_of f.source ≡ source_form t) t.files
 

@@ -13,14 +13,14 @@ use Rattle.gimli_lines_header.specs.declared.formats.FileEntryFormat.{FileEntryF
 use Rattle.gimli_lines_header.specs.LineFiles.{FileFacts, no_md5, file_named}
 use Rattle.gimli_lines_header.specs.LineHeaders.{LineHeader}
 use Rattle.gimli_lines_header.specs.HeaderParsing.{LineUnit}
-use Rattle.gimli_lines_write_spec.specs.HeaderTexts.{WrittenText, form_in, spelled_text, value_of_text}
+use Rattle.gimli_lines_write_spec.specs.HeaderTexts.{Text, form_in, spelled_text, value_of_text}
 use Rattle.gimli_lines_write_spec.specs.EntryFields.{WrittenFile, Details, spelled_file, directory_formats, file_formats, spelled_formats, file_facts}
 use Rattle.std.specs.Prelude.{None}
 use Rattle.gimli_lines_write_rows.specs.BytesAt.{values_at}
 
 -- the directories and files of a header, and what it records of files in version 5
 pub record Tables : Type 0 where
-  pub directories : List WrittenText
+  pub directories : List Text
   pub files : List WrittenFile
   pub details : Details
 

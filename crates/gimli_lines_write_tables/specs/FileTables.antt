@@ -1,9 +1,10 @@
 -- The directories and files of a program as they are built: each once, in the order of the first
 -- adds.
-use Rattle.std.specs.Prelude.{◌≡◌, ◌≢◌, ℕ, ◌<◌, ◌≤◌, nat_eq, ◌&&◌, Bool, true, false, List, [], ◌∷◌, ◌++◌, All, Option, Some, None, option_map, length, drop, replicate, set}
+use Rattle.std.specs.Prelude.{◌≡◌, ℕ, ◌<◌, ◌≤◌, nat_eq, ◌&&◌, Bool, true, false, List, [], ◌∷◌, ◌++◌, All, Option, Some, None, option_map, length, drop, replicate, set}
 use Rattle.std.specs.List.{list_any}
 use Rattle.std.specs.Cmp.Lexicographic.{pointwise}
-use Rattle.gimli_lines_write_tables.specs.StringSections.{IsText, with_item, item_index}
+pub use Rattle.gimli_lines_write_rows.specs.LineTexts.{Text, in_header, of_strings, of_line_strings, HasNoZero, HasBytes}
+use Rattle.gimli_lines_write_tables.specs.StringSections.{with_item, item_index}
 use Rattle.gimli_lines_write_tables.specs.declared.line_string.LineString.{LineString}
 use Rattle.gimli_lines_write_tables.specs.declared.line_string.LineString.TheVariants.{String, StringRef, LineStringRef}
 use Rattle.gimli_lines_write_tables.specs.declared.file.FileInfo.{FileInfo}
@@ -11,13 +12,7 @@ use Rattle.gimli_lines_write_tables.specs.declared.file.FileKey.{FileKey}
 
 -- ---- texts
 
--- A text: its bytes, or its place in the table of `.debug_str` or of `.debug_line_str`.
-pub data Text : Type 0 where
-  in_header : List ℕ → Text
-  of_strings : ℕ → Text
-  of_line_strings : ℕ → Text
-
--- the text that a builder has
+-- the text that a builder has: the texts of the tables by their places
 abbrev pub text_of : LineString → Text
 text_of (String bytes) = in_header bytes.items
 text_of (StringRef id) = of_strings id.0
@@ -29,18 +24,6 @@ is_same (in_header a) (in_header b) = pointwise nat_eq a b
 is_same (of_strings a) (of_strings b) = nat_eq a b
 is_same (of_line_strings a) (of_line_strings b) = nat_eq a b
 is_same _ _ = false
-
--- a text in a header holds no zero byte
-abbrev pub HasNoZero : Text → Type 0
-HasNoZero (in_header bytes) = IsText bytes
-HasNoZero (of_strings _) = Unit {0}
-HasNoZero (of_line_strings _) = Unit {0}
-
--- and isn't empty
-abbrev pub HasBytes : Text → Type 0
-HasBytes (in_header bytes) = length bytes ≢ 0
-HasBytes (of_strings _) = Unit {0}
-HasBytes (of_line_strings _) = Unit {0}
 
 -- ---- files
 

@@ -1,7 +1,8 @@
 -- The texts of a string section (DWARF 5, 7.26): each once, and a zero byte ends it.
-use Rattle.std.specs.Prelude.{◌≢◌, ℕ, ◌+◌, nat_eq, Bool, List, [], ◌∷◌, ◌++◌, All, length, take, sum_by, if◌then◌else◌}
+use Rattle.std.specs.Prelude.{ℕ, ◌+◌, nat_eq, Bool, List, [], ◌∷◌, ◌++◌, length, take, sum_by, if◌then◌else◌}
 use Rattle.std.specs.List.{list_any, position_or_len}
 use Rattle.std.specs.Cmp.Lexicographic.{pointwise}
+pub use Rattle.gimli_lines_write_rows.specs.LineTexts.{IsText}
 
 -- ---- items, each once
 
@@ -18,10 +19,6 @@ item_index same items x = position_or_len (same x) items
 -- the same bytes
 abbrev pub same_bytes : List ℕ → List ℕ → Bool
 same_bytes a b = pointwise nat_eq a b
-
--- a text holds no zero byte
-abbrev pub IsText : List ℕ → Type 0
-IsText bytes = All (λ b. b ≢ 0) bytes
 
 -- the texts, with another after them where it isn't among them
 abbrev pub with_text : List (List ℕ) → List ℕ → List (List ℕ)

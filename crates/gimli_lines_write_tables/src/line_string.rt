@@ -3,7 +3,8 @@
 ghost use Rattle.std.specs.Prelude.{◌≡◌, ◌≤◌, ◌<◌, Some, IfOk, OnErr, IfErr};
 ghost use Rattle.gimli_lines_write_rows.specs.WriteError.TheVariants.{Memory};
 ghost use Rattle.gimli_lines_write_tables.specs.StringSections.{IsText};
-ghost use Rattle.gimli_lines_write_tables.specs.LineStrings.{HoldsText, IsInTables, bytes_of_text, table_after};
+ghost use Rattle.gimli_lines_write_tables.specs.FileTables.{text_of};
+ghost use Rattle.gimli_lines_write_tables.specs.LineStrings.{HoldsText, IsKnown, bytes_of_text, table_after};
 
 use crate::string_tables::{LineStringId, LineStringTable, StringId, StringTable};
 use gimli_lines_write_rows::{Encoding, Error};
@@ -50,8 +51,9 @@ impl LineString {
         strings: &'a StringTable,
         line_strings: &'a LineStringTable,
     ) -> &'a [u8]
-        requires { IsInTables strings.now line_strings.now self.now }
-        ensures { bytes_of_text strings.now line_strings.now self.now ≡ Some result.now }
+        requires { IsKnown strings.now line_strings.now (text_of self.now) }
+        ensures { bytes_of_text strings.now line_strings.now (text_of self.now)
+            ≡ Some result.now }
     {
         match self {
             LineString::String(bytes) => bytes.as_slice(),

@@ -7,7 +7,8 @@ use Rattle.std.proofs.lemmas.List.Elements.{All-weaker}
 use Rattle.gimli_lines_write_tables.specs.StringSections.{same_bytes, with_text, text_index}
 use Rattle.gimli_lines_write_tables.specs.FileTables.{Text, in_header, of_strings, of_line_strings, File, Info, ProgramFiles}
 use Rattle.gimli_lines_write_unit.specs.declared.details.FileDetails.{FileDetails}
-use Rattle.gimli_lines_write_unit.specs.HeaderContents.{IsKnown, AllKnown, strings_after, line_strings_after, empty_text, empty_form_of, GainsEmpty}
+use Rattle.gimli_lines_write_unit.specs.HeaderContents.{AllKnown, strings_after, line_strings_after, empty_text, empty_form_of, GainsEmpty}
+use Rattle.gimli_lines_write_tables.specs.LineStrings.{IsKnown}
 use Rattle.gimli_lines_write_tables.proofs.SectionTexts.{text_at_index}
 
 with_text-longer : (texts : List (List ℕ)) (t : List ℕ) → length texts ≤ length (with_text texts t)

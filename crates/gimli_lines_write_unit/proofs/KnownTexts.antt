@@ -7,7 +7,8 @@ use Rattle.gimli_lines_write_tables.specs.declared.line_string.LineString.{LineS
 use Rattle.gimli_lines_write_tables.specs.declared.file.FileInfo.{FileInfo}
 use Rattle.gimli_lines_write_tables.specs.declared.file.FileKey.{FileKey}
 use Rattle.gimli_lines_write_tables.specs.FileTables.{Text, File, Info, text_of, file_of, info_of}
-use Rattle.gimli_lines_write_unit.specs.HeaderContents.{header_text, listed_directories, IsKnown}
+use Rattle.gimli_lines_write_unit.specs.HeaderContents.{header_text, listed_directories}
+use Rattle.gimli_lines_write_tables.specs.LineStrings.{IsKnown}
 
 -- what holds of the things seen holds of those that are seen
 pub All-view : {A B : Type 0} (P : B → Type 0) (see : A → B) (xs : List A) → All P (map see xs)

@@ -10,7 +10,7 @@ use Rattle.gimli_lines_write_tables.specs.WriteError.TheVariants.{NeedVersion, L
 use Rattle.gimli_lines_write_tables.specs.NumberBytes.{bytes_in_width}
 use Rattle.gimli_lines_write_tables.specs.LineRules.{LineRules}
 use Rattle.gimli_lines_write_tables.specs.EntryBytes.{join_bytes}
-use Rattle.gimli_lines_write_spec.specs.HeaderTexts.{WrittenText, in_place, in_strings, in_line_strings, form_of, form_in}
+use Rattle.gimli_lines_write_spec.specs.HeaderTexts.{Text, in_header, of_strings, of_line_strings, form_of, form_in}
 use Rattle.gimli_lines_write_spec.specs.EntryFields.{WrittenFile, Details, directory_formats, file_formats, spelled_formats}
 use Rattle.gimli_lines_write_spec.specs.HeaderSpelling.{Tables, spelled_parameters, spelled_opcodes}
 
@@ -21,13 +21,13 @@ abbrev pub mismatch : ℕ → Error
 mismatch version = if nat_le version 4 then NeedVersion else LineStringFormMismatch
 
 -- a text, or an offset in as many bytes as the format gives offsets, where they hold it
-abbrev pub sized_text : Bool → Format → WrittenText → Result (List ℕ) Error
-sized_text is_big format (in_place text) = Ok (text ++ 0 ∷ [])
-sized_text is_big format (in_strings offset) = bytes_in_width is_big (word_size format) offset
-sized_text is_big format (in_line_strings offset) = bytes_in_width is_big (word_size format) offset
+abbrev pub sized_text : Bool → Format → Text → Result (List ℕ) Error
+sized_text is_big format (in_header text) = Ok (text ++ 0 ∷ [])
+sized_text is_big format (of_strings offset) = bytes_in_width is_big (word_size format) offset
+sized_text is_big format (of_line_strings offset) = bytes_in_width is_big (word_size format) offset
 
 -- a text in a list of this form
-abbrev pub text_bytes : Bool → Encoding → ℕ → WrittenText → Result (List ℕ) Error
+abbrev pub text_bytes : Bool → Encoding → ℕ → Text → Result (List ℕ) Error
 text_bytes is_big e form t =
     if form_of t == form then sized_text is_big e.format t else Err (mismatch e.version)
 
@@ -66,14 +66,14 @@ file_bytes_of_5 is_big e d path_form source_form f =
 -- ---- tables
 
 -- in version 5 a format, how many directories there are, and the directories
-abbrev pub directory_entries_bytes : Bool → Encoding → List WrittenText → Result (List ℕ) Error
+abbrev pub directory_entries_bytes : Bool → Encoding → List Text → Result (List ℕ) Error
 directory_entries_bytes is_big e directories =
     join_bytes (Ok (spelled_formats (directory_formats (form_in directories))))
     (join_bytes (Ok (unsigned_string (length directories)))
     (all_bytes (text_bytes is_big e (form_in directories)) directories))
 
 -- the directories in every version
-abbrev pub directories_bytes : Bool → Encoding → List WrittenText → Result (List ℕ) Error
+abbrev pub directories_bytes : Bool → Encoding → List Text → Result (List ℕ) Error
 directories_bytes is_big e directories =
     if nat_le e.version 4 then join_bytes
     (all_bytes (text_bytes is_big e DW_FORM_string.0) directories) (Ok (0 ∷ []))

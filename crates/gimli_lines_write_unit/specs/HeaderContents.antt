@@ -1,9 +1,9 @@
 -- What a header records of a program's directories and files (DWARF 5, 6.2.4 and 6.2.4.1).
-use Rattle.std.specs.Prelude.{◌≡◌, ◌⊎◌, ℕ, ◌<◌, ◌&&◌, nat_le, Bool, true, List, [], ◌∷◌, All, Option, Some, None, is_none, map, length, drop, unwrap_or, if◌then◌else◌, not}
+use Rattle.std.specs.Prelude.{◌≡◌, ◌⊎◌, ℕ, ◌&&◌, nat_le, Bool, true, List, [], ◌∷◌, All, Option, Some, None, is_none, map, drop, unwrap_or, if◌then◌else◌, not}
 use Rattle.std.specs.List.{list_any}
 use Rattle.gimli_lines_write_tables.specs.StringSections.{with_text, text_index, offset_of}
 use Rattle.gimli_lines_write_tables.specs.FileTables.{Text, in_header, of_strings, of_line_strings, File, Info, ProgramFiles}
-use Rattle.gimli_lines_write_spec.specs.HeaderTexts.{WrittenText, in_place, in_strings, in_line_strings}
+use Rattle.gimli_lines_write_tables.specs.LineStrings.{IsKnown}
 use Rattle.gimli_lines_write_spec.specs.EntryFields.{WrittenFile, Details}
 use Rattle.gimli_lines_write_spec.specs.HeaderSpelling.{Tables}
 use Rattle.gimli_lines_write_unit.specs.declared.details.FileDetails.{FileDetails}
@@ -18,17 +18,11 @@ details_of d = record {
 }
 
 -- a text as it is written: the texts of the tables by their offsets
-abbrev pub header_text : List (List ℕ) → List (List ℕ) → Text → WrittenText
-header_text strings line_strings (in_header bytes) = in_place bytes
-header_text strings line_strings (of_strings place) = in_strings (offset_of strings place)
+abbrev pub header_text : List (List ℕ) → List (List ℕ) → Text → Text
+header_text strings line_strings (in_header bytes) = in_header bytes
+header_text strings line_strings (of_strings place) = of_strings (offset_of strings place)
 header_text strings line_strings (of_line_strings place) =
-    in_line_strings (offset_of line_strings place)
-
--- its table has it
-abbrev pub IsKnown : List (List ℕ) → List (List ℕ) → Text → Type 0
-IsKnown strings line_strings (in_header bytes) = Unit {0}
-IsKnown strings line_strings (of_strings place) = place < length strings
-IsKnown strings line_strings (of_line_strings place) = place < length line_strings
+    of_line_strings (offset_of line_strings place)
 
 -- up to version 4 the first directory, the working directory, isn't listed
 abbrev pub listed_directories : {A : Type 0} → ℕ → List A → List A
@@ -76,9 +70,9 @@ empty_text strings line_strings _ = in_header []
 -- ---- files
 
 -- the text of a file, or the empty text, where texts are recorded
-abbrev pub source_text : List (List ℕ) → List (List ℕ) → Bool → Text → Option Text → WrittenText
+abbrev pub source_text : List (List ℕ) → List (List ℕ) → Bool → Text → Option Text → Text
 source_text strings line_strings present empty source =
-    if present then header_text strings line_strings (unwrap_or source empty) else in_place []
+    if present then header_text strings line_strings (unwrap_or source empty) else in_header []
 
 -- a file as a header records it
 abbrev pub header_file : List (List ℕ) → List (List ℕ) → Bool → Text → File → Info → WrittenFile

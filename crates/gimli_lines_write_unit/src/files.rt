@@ -3,7 +3,8 @@
 ghost use Rattle.std.specs.Prelude.{◌≡◌, ◌<◌, [], true, false, Ok, if◌then◌else◌, unwrap_or};
 ghost use Rattle.gimli_lines_write_tables.specs.EntryBytes.{Continues};
 ghost use Rattle.gimli_lines_write_tables.specs.FileTables.{in_header, text_of, file_of, info_of};
-ghost use Rattle.gimli_lines_write_unit.specs.HeaderContents.{source_text, header_file, details_of, IsKnown};
+ghost use Rattle.gimli_lines_write_unit.specs.HeaderContents.{source_text, header_file, details_of};
+ghost use Rattle.gimli_lines_write_tables.specs.LineStrings.{IsKnown};
 ghost use Rattle.gimli_lines_write_unit.specs.HeaderBytes.{details_bytes, text_bytes, file_bytes_of_5};
 
 use crate::details::FileDetails;

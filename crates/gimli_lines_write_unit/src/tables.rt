@@ -4,7 +4,8 @@ ghost use Rattle.std.specs.Prelude.{◌≡◌, ℕ, List, ◌<◌, All, true, Ok
 ghost use Rattle.gimli_lines_write_tables.specs.EntryBytes.{Continues};
 ghost use Rattle.gimli_lines_write_tables.specs.FileTables.{text_of, file_of, info_of};
 ghost use Rattle.gimli_lines_write_spec.specs.HeaderTexts.{form_in};
-ghost use Rattle.gimli_lines_write_unit.specs.HeaderContents.{header_text, header_files, details_of, IsKnown};
+ghost use Rattle.gimli_lines_write_unit.specs.HeaderContents.{header_text, header_files, details_of};
+ghost use Rattle.gimli_lines_write_tables.specs.LineStrings.{IsKnown};
 ghost use Rattle.gimli_lines_write_unit.specs.HeaderBytes.{all_bytes, file_bytes_of_5, directory_entries_bytes, directories_bytes, form_of_paths, form_of_sources};
 
 use crate::details::FileDetails;

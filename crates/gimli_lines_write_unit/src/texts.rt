@@ -4,7 +4,8 @@ ghost use Rattle.std.specs.Prelude.{◌≡◌, All, map, []};
 ghost use Rattle.gimli_lines_write_tables.specs.EntryBytes.{Continues};
 ghost use Rattle.gimli_lines_write_tables.specs.FileTables.{text_of};
 ghost use Rattle.gimli_lines_write_spec.specs.HeaderTexts.{form_of};
-ghost use Rattle.gimli_lines_write_unit.specs.HeaderContents.{header_text, IsKnown};
+ghost use Rattle.gimli_lines_write_unit.specs.HeaderContents.{header_text};
+ghost use Rattle.gimli_lines_write_tables.specs.LineStrings.{IsKnown};
 ghost use Rattle.gimli_lines_write_unit.specs.HeaderBytes.{mismatch, sized_text, text_bytes, all_bytes};
 
 use gimli_lines_write_tables::{

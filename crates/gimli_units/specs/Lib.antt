@@ -14,6 +14,7 @@ pub use Rattle.gimli_units_entries.specs.EntryRows
 pub use Rattle.gimli_units_entries.specs.UnitEntries
 pub use Rattle.gimli_units_entries.specs.EntryLaws
 pub use Rattle.gimli_units_entries.specs.EntryViews
+pub use Rattle.gimli_units_entries.specs.NamedAttributes
 pub use Rattle.gimli_units_lists.specs.ListEntries
 pub use Rattle.gimli_units_lists.specs.ListResolutions
 pub use Rattle.gimli_units_lists.specs.ListEntryFields

@@ -15,3 +15,5 @@ pub mod RowSteps
 mod AttributePushLemmas
 mod EntryReads
 pub mod OtherEntryLemmas
+mod SureWidthLemmas
+mod NamedAttributeLemmas

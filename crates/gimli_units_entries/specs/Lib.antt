@@ -23,9 +23,12 @@ pub use Rattle.gimli_units_headers.specs.Tiling
 pub use Rattle.gimli_units_headers.specs.UnitHeaders
 pub use Rattle.gimli_units_headers.specs.UnitOffsets
 pub use Rattle.gimli_units_headers.specs.UnitTypes
+pub use Rattle.gimli_units_forms.specs.FormWidths
 pub mod EntryWalks
 pub mod UnitEntries
 pub mod EntryRows
 pub mod OtherEntries
 pub mod EntryLaws
 pub mod EntryViews
+pub mod NamedAttributes
+pub mod SureWidths

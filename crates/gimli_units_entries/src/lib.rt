@@ -5,6 +5,7 @@ mod attributes;
 mod codes;
 pub mod entry;
 pub mod entry_laws;
+mod named;
 mod others;
 pub mod raw;
 pub mod unit;

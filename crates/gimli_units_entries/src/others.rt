@@ -2,7 +2,6 @@
 
 ghost use Rattle.std.specs.Prelude.{◌≡◌, ℕ, ◌≤◌, ◌^◌, pos, ◌+ℤ◌, ◌≤ℤ◌, ◌<ℤ◌, None, Some, option_map};
 ghost use Rattle.gimli_core_base.specs.View.{after, bytes_left};
-ghost use Rattle.gimli_units_forms.specs.AbbreviationViews.{declaration_view};
 ghost use Rattle.gimli_units_entries.specs.EntryWalks.{depth_after};
 ghost use Rattle.gimli_units_entries.specs.OtherEntries.{DepthFits, after_other, is_tag_of, skip_others, walk_at};
 
@@ -37,9 +36,9 @@ fn depth_after_null(depth: isize) -> isize
 
 // The depth after an entry of a declaration.
 #[inline(always)]
-fn depth_after(depth: isize, abbreviation: &Abbreviation) -> isize
+fn depth_after(depth: isize, abbreviation: &Abbreviation<'_>) -> isize
     requires { (depth +ℤ pos 1) <ℤ pos (2 ^ 63) }
-    ensures { result ≡ depth_after depth (Some (declaration_view abbreviation.now)) }
+    ensures { result ≡ depth_after depth (Some abbreviation.now) }
 {
     if abbreviation.has_children() {
         depth + 1
@@ -76,10 +75,10 @@ fn skip_other<R: Reader>(
     if is_one_of(tags, abbreviation.tag()) {
         return None;
     }
-    let Ok(()) = skip_declared(place, encoding, abbreviation) else {
+    let Ok(()) = skip_declared(place, encoding, &abbreviation) else {
         return None;
     };
-    Some(depth_after(depth, abbreviation))
+    Some(depth_after(depth, &abbreviation))
 }
 
 // How many bytes the entries take that are skipped from a depth on, and the depth after them.

@@ -3,19 +3,21 @@
 ghost use Rattle.std.specs.Prelude.{◌≡◌, ◌==◌, ◌<◌, ◌≤◌, Ok, IfOk, IsTrue, OnErr, [], map, option_map};
 ghost use Rattle.gimli_core_base.specs.View.{after, bytes_left};
 ghost use Rattle.gimli_core_base.specs.Calls.{ReturnsAs, ReturnsAsOrNoMemory, ReturnsOrNoMemory, StepsAsOrNoMemory, ReadsAs, Reads};
-ghost use Rattle.gimli_units_forms.specs.AbbreviationViews.{declaration_view, attribute_view};
+ghost use Rattle.gimli_units_forms.specs.AbbreviationViews.{attribute_view};
 ghost use Rattle.gimli_units_forms.specs.AttributeValues.{raw_attribute_of};
 ghost use Rattle.gimli_units_entries.specs.EntryWalks.{IsWithin, next_offset, walk_after, entry_head, value, values, skip_values};
 ghost use Rattle.gimli_units_entries.specs.EntryRows.{null_at, row, present_row};
 ghost use Rattle.gimli_units_entries.specs.OtherEntries.{is_tag_of, skip_others};
 ghost use Rattle.gimli_units_entries.specs.EntryViews.{entry_of, raw_attributes};
+ghost use Rattle.gimli_units_entries.specs.NamedAttributes.{named_values};
 
 use crate::attributes::read_each;
 use crate::codes::code_at;
 use crate::entry::DebuggingInformationEntry;
+use crate::named::read_named;
 use crate::others::others_after;
 use gimli_core_base::error::Error;
-use gimli_core_base::{DwTag, Encoding, ReaderOffset};
+use gimli_core_base::{DwAt, DwTag, Encoding, ReaderOffset};
 use gimli_units_forms::{
     Abbreviation, Abbreviations, Attribute, AttributeSpecification, parse_attribute_inline,
     skip_attributes, skip_entry,
@@ -83,12 +85,11 @@ impl<'abbrev, R: Reader> EntriesRaw<'abbrev, R> {
     /// as it was.
     #[inline(always)]
     #[tactic(auto, unfolding(crate::specs::EntryWalks::entry_head))]
-    pub fn read_abbreviation(&mut self) -> Result<Option<&'abbrev Abbreviation>, Error>
-        ensures { ReadsAs (option_map (λ a. declaration_view a.now)) result self.old self.new
-            (entry_head self.old) }
+    pub fn read_abbreviation(&mut self) -> Result<Option<Abbreviation<'abbrev>>, Error>
+        ensures { Reads result self.old self.new (entry_head self.old) }
     {
         let (abbreviation, length) = self.next_abbreviation()?;
-        self.pass(length, abbreviation);
+        self.pass(length, &abbreviation);
         Ok(abbreviation)
     }
 
@@ -146,9 +147,9 @@ impl<'abbrev, R: Reader> EntriesRaw<'abbrev, R> {
     /// alone. Takes no memory. A refusal leaves the walk as it was.
     #[inline(always)]
     #[tactic(auto, unfolding(crate::specs::EntryWalks::skip_values))]
-    pub fn skip_entry(&mut self, abbreviation: &Abbreviation) -> Result<(), Error>
+    pub fn skip_entry(&mut self, abbreviation: &Abbreviation<'_>) -> Result<(), Error>
         ensures { Reads result self.old self.new
-            (skip_values (declaration_view abbreviation.now).attributes self.old) }
+            (skip_values abbreviation.now.attributes self.old) }
     {
         skip_entry(&mut self.input, self.encoding, abbreviation)
     }
@@ -189,6 +190,27 @@ impl<'abbrev, R: Reader> EntriesRaw<'abbrev, R> {
         Ok(())
     }
 
+    /// Reads the attributes that declarations describe, and puts those of some names in place of
+    /// those of a list, whose memory they take. Of the others, those that reading refuses only
+    /// where their bytes are missing are skipped by their widths. A refusal leaves the walk as it
+    /// was, and the list empty. Each attribute's name is compared with all of these.
+    #[tactic(auto, unfolding(crate::specs::EntryWalks::values))]
+    pub fn read_named_attributes(
+        &mut self,
+        specifications: &[AttributeSpecification],
+        names: &[DwAt],
+        attrs: &mut Vec<Attribute<R>>,
+    ) -> Result<(), Error>
+        ensures value { StepsAsOrNoMemory
+            (λ _. raw_attributes R.view R.Offset.count attrs.new.items) result self.old self.new
+            (named_values R.Offset.limit names.now (map attribute_view specifications.now)) }
+        ensures refusal { OnErr result (attrs.new.items ≡ []) }
+    {
+        let count = read_named(attrs, &self.input, self.encoding, specifications, names)?;
+        self.input.advance(count);
+        Ok(())
+    }
+
     /// Reads the next entry with its attributes in place of another, whose memory they take, and
     /// returns whether it isn't a null entry. A refusal leaves the walk as it was, and the entry
     /// null at the walk's place.
@@ -204,7 +226,7 @@ impl<'abbrev, R: Reader> EntriesRaw<'abbrev, R> {
         entry.set_null(self.next_offset(), self.next_depth());
         let (abbreviation, length) = self.next_abbreviation()?;
         let Some(abbreviation) = abbreviation else {
-            self.pass(length, None);
+            self.pass(length, &None);
             return Ok(false);
         };
         let specifications = abbreviation.attributes();
@@ -215,20 +237,17 @@ impl<'abbrev, R: Reader> EntriesRaw<'abbrev, R> {
             self.encoding,
             specifications,
         )?;
-        self.pass(count, Some(abbreviation));
         entry.tag = abbreviation.tag();
         entry.has_children = abbreviation.has_children();
+        self.pass(count, &Some(abbreviation));
         Ok(!entry.is_null())
     }
 
     // The next entry's declaration, and how many bytes its code takes.
     #[inline(always)]
     #[tactic(auto, unfolding(crate::specs::EntryWalks::entry_head))]
-    fn next_abbreviation(&self) -> Result<(Option<&'abbrev Abbreviation>, usize), Error>
-        ensures value { ReturnsAs (λ p. (
-          option_map (λ a. declaration_view a.now) p.0,
-          walk_after p.1 (option_map (λ a. declaration_view a.now) p.0) self.now,
-        )) result
+    fn next_abbreviation(&self) -> Result<(Option<Abbreviation<'abbrev>>, usize), Error>
+        ensures value { ReturnsAs (λ p. (p.0, walk_after p.1 p.0 self.now)) result
             (entry_head self.now) }
         ensures some { IfOk result (λ p. 0 < p.1) }
         ensures within { IfOk result (λ p. p.1 ≤ bytes_left self.now.rest) }
@@ -246,11 +265,10 @@ impl<'abbrev, R: Reader> EntriesRaw<'abbrev, R> {
 
     // Moves past bytes that begin with the code of an entry.
     #[inline(always)]
-    fn pass(&mut self, count: usize, abbreviation: Option<&Abbreviation>)
+    fn pass(&mut self, count: usize, abbreviation: &Option<Abbreviation<'_>>)
         requires some { 0 < count }
         requires within { count ≤ bytes_left self.old.rest }
-        ensures { self.new ≡ walk_after count
-            (option_map (λ a. declaration_view a.now) abbreviation.entry) self.old }
+        ensures { self.new ≡ walk_after count abbreviation.now self.old }
     {
         self.input.advance(count);
         let Some(abbreviation) = abbreviation else {

@@ -173,7 +173,7 @@ skip_with_widths e w n t specifications ss v count total same widths =
     ≡ map attribute_view (take (length specifications - n) (drop n specifications)) =
     ap (λ (k : ℕ). drop k ss) (sym count) ∙ ap (drop n) (sym same) ∙ drop-map attribute_view n specifications
     ∙ ap (map attribute_view) (sym (rest_of n specifications)) in
-    sym (skip_first e (count_of_widths w) ss (total_width e w) 0 v (widths e)
+    sym (skip_first e (count_of_widths w) ss (total_width e w) 0 v (widths e).sum
     ∙ ap (λ (k : ℕ). skip_bytes_and_values k e (drop (count_of_widths w) ss) v) all
     ∙ ap (λ (l : List Attribute). skip_bytes_and_values t e l v) left)
 
@@ -183,6 +183,6 @@ pub widths_within : (e : Encoding) (w : FixedWidths) (n : ℕ) (specifications :
     → n ≤ length specifications
 widths_within e w n specifications ss count same widths =
     let within = sum_within (λ (s : Attribute). forms.width_of e s.form) (count_of_widths w) ss (total_width e w)
-    (widths e) in
+    (widths e).sum in
     let many = simp length-map at (ap length same) in
     omega (arith, within, many, count)

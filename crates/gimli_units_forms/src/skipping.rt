@@ -1,7 +1,7 @@
 ghost use Rattle.std.specs.Prelude.{◌≡◌, ◌<◌, ◌+◌, ◌^◌, ◌≤◌, ℕ, Result, Ok, IfOk, IfSome, List, ◌∷◌, map, length, Some, None, option_map};
 ghost use Rattle.gimli_core_abbrev.specs.Calls.{ReturnsAs, Reads};
 ghost use Rattle.gimli_core_abbrev.specs.Declarations.{Attribute};
-ghost use Rattle.gimli_core_abbrev.specs.AbbreviationViews.{attribute_view, declaration_view};
+ghost use Rattle.gimli_core_abbrev.specs.AbbreviationViews.{attribute_view};
 ghost use Rattle.gimli_units_forms.specs.AttributeReading.{attributes};
 ghost use Rattle.gimli_core_abbrev.specs.NumberParsers.{unsigned};
 ghost use Rattle.gimli_units_forms.specs.AttributeValues.{RawAttribute};
@@ -204,10 +204,10 @@ fn skip_bytes_and_values<R: Reader>(
 pub fn skip_declared<R: Reader>(
     place: &mut R,
     encoding: Encoding,
-    abbreviation: &Abbreviation,
+    abbreviation: &Abbreviation<'_>,
 ) -> Result<(), Error>
     ensures { ReturnsAs (λ u. (u, R.view place.new)) result
-        (skip_values encoding (declaration_view abbreviation.now).attributes (R.view place.old)) }
+        (skip_values encoding abbreviation.now.attributes (R.view place.old)) }
 {
     let widths = abbreviation.fixed_widths();
     let left = &abbreviation.attributes()[widths.attributes()..];
@@ -259,10 +259,10 @@ pub fn skip_attributes<R: Reader>(
 pub fn skip_entry<R: Reader>(
     reader: &mut R,
     encoding: Encoding,
-    abbreviation: &Abbreviation,
+    abbreviation: &Abbreviation<'_>,
 ) -> Result<(), Error>
     ensures { Reads result (R.view reader.old) (R.view reader.new)
-        (skip_values encoding (declaration_view abbreviation.now).attributes
+        (skip_values encoding abbreviation.now.attributes
         (R.view reader.old)) }
 {
     let mut place = borrowed(reader);

@@ -2,6 +2,9 @@ pub use Rattle.gimli_core_readers.specs.Addresses
 pub use Rattle.gimli_core_readers.specs.DefaultBases
 pub use Rattle.gimli_core_readers.specs.SectionReads
 pub use Rattle.gimli_core_readers.specs.declared.range.Range
+pub use Rattle.gimli_core_readers.specs.Iterators
+pub use Rattle.gimli_core_readers.specs.NumberParsers
+pub use Rattle.gimli_core_readers.specs.Readers
 pub mod ListEntries
 pub mod ListResolutions
 pub mod ListEntryFields

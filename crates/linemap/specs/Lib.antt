@@ -46,6 +46,7 @@ pub use Rattle.linemap_text.specs.ByteOrders
 pub use Rattle.linemap_text.specs.Contexts
 pub use Rattle.linemap_text.specs.EmissionBounds
 pub use Rattle.linemap_text.specs.EmissionLaws
+pub use Rattle.linemap_text.specs.UnitDifferences
 pub use Rattle.linemap_text.specs.Ended
 pub use Rattle.linemap_text.specs.RecordedTableLaws
 pub use Rattle.linemap_text.specs.TargetEncodings

@@ -12,9 +12,9 @@ pub use linemap_replay::{
     Answer, Call, OwnedFrame, OwnedLocation, OwnedName, OwnedStretch, OwnedUnit, replay,
 };
 pub use linemap_text::{
-    EmitError, Ended, Rule, Sections, Table, TableCall, TableError, TableFile, TableFunction,
-    TableRange, TableRow, TableSequence, TableUnit, Target, ask, cannot_read, emit_sections,
-    out_of_memory, words_not_text,
+    Context, Dwarf, EmitError, Ended, Reader, Rule, Sections, Table, TableCall, TableError,
+    TableFile, TableFunction, TableRange, TableRow, TableSequence, TableUnit, Target, ask,
+    cannot_read, emit_sections, out_of_memory, words_not_text,
 };
 pub use linemap_words::{
     Options, Request, WordsError, explain, explain_refusal, meaning_of, read_words,
@@ -27,7 +27,8 @@ pub mod laws {
     pub use linemap_replay::table_laws as histories;
     pub use linemap_text::{
         emission_laws as emission, fit_laws as sizes, limits as writes,
-        recorded_table_laws as recorded, table_laws as tables, word_laws as words,
+        recorded_table_laws as recorded, table_laws as tables, unit_difference_laws as differences,
+        word_laws as words,
     };
     pub use linemap_words::mistake_texts as mistakes;
 }

@@ -9,8 +9,31 @@ use std::time::Instant;
 /// Times reading about `size` bytes of instructions, and the rows that they give.
 pub fn time<R: Runtime + AllocGlobal>(rt: &R, size: usize) -> io::Result<()> {
     let section = lines_bytes::section(rt.alloc(), size)?;
+    let headers = lines_bytes::headers(rt.alloc(), size)?;
     time_borrowed(rt, &section)?;
-    time_shared(rt, &section)
+    time_borrowed_headers(rt, &headers)?;
+    time_shared(rt, &section)?;
+    time_shared_headers(rt, &headers)
+}
+
+fn time_borrowed_headers<R: Runtime + AllocGlobal>(rt: &R, headers: &[u8]) -> io::Result<()> {
+    let start = Instant::now(rt)?;
+    let sum = lines_measures::headers(rt.alloc(), slice(headers));
+    report(rt, "headers slice", sum, start)?;
+    let start = Instant::now(rt)?;
+    let sum = lines_measures::checks(slice(headers));
+    report(rt, "checks slice", sum, start)
+}
+
+fn time_shared_headers<R: Runtime + AllocGlobal>(rt: &R, headers: &[u8]) -> io::Result<()> {
+    let bytes = share(rt, headers)?;
+    let start = Instant::now(rt)?;
+    let sum = lines_measures::headers(rt.alloc(), bytes);
+    report(rt, "headers bytes", sum, start)?;
+    let bytes = share(rt, headers)?;
+    let start = Instant::now(rt)?;
+    let sum = lines_measures::checks(bytes);
+    report(rt, "checks bytes", sum, start)
 }
 
 fn time_borrowed<R: Runtime + AllocGlobal>(rt: &R, section: &[u8]) -> io::Result<()> {

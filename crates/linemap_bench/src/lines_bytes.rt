@@ -88,3 +88,62 @@ fn with_header(alloc: Global, program: &[u8]) -> Result<Vec<u8>, AllocError> {
     section.extend_from_slice(program)?;
     Ok(section)
 }
+
+// A header of version 5 in the 32-bit format, from the version to its length, and from there to the
+// number of directories: each has a path in `.debug_line_str`.
+const BEFORE_LENGTH: &[u8] = &[5, 0, 8, 0];
+
+const BEFORE_DIRECTORIES: &[u8] = &[
+    1, 1, 1, 0xfb, 14, 13, 0, 1, 1, 1, 1, 0, 0, 0, 1, 0, 0, 1, 1, 1, 0x1f,
+];
+
+// The formats of files: a path in `.debug_line_str` and the number of the directory; with a digest.
+const FILE_FORMATS: &[u8] = &[2, 1, 0x1f, 2, 0x0f];
+
+const FILE_FORMATS_WITH_DIGEST: &[u8] = &[3, 1, 0x1f, 2, 0x0f, 5, 0x1e];
+
+/// `.debug_line` of units without instructions, about `size` bytes of headers: each has one to four
+/// directories and one to 64 files, half of the headers with digests of the files.
+pub fn headers(alloc: Global, size: usize) -> Result<Vec<u8>, AllocError> {
+    let mut source = Source::new();
+    let mut section = Vec::with_capacity(alloc, size)?;
+    for _ in 0..size {
+        if section.len() >= size {
+            break;
+        }
+        header(alloc, &mut source, &mut section)?;
+    }
+    Ok(section)
+}
+
+// A header with files, and no program.
+fn header(alloc: Global, source: &mut Source, section: &mut Vec<u8>) -> Result<(), AllocError> {
+    let mut fields = Vec::new(alloc);
+    fields.extend_from_slice(BEFORE_DIRECTORIES)?;
+    let directories = 1 + source.next() % 4;
+    fields.push(directories)?;
+    for _ in 0..directories {
+        source.bytes(4, &mut fields)?;
+    }
+    let has_digests = source.next() < 0x80;
+    fields.extend_from_slice(if has_digests {
+        FILE_FORMATS_WITH_DIGEST
+    } else {
+        FILE_FORMATS
+    })?;
+    let files = 1 + source.next() % 64;
+    fields.push(files)?;
+    for _ in 0..files {
+        source.bytes(4, &mut fields)?;
+        source.number(&mut fields)?;
+        if has_digests {
+            source.bytes(16, &mut fields)?;
+        }
+    }
+    let length = u32::try_from(fields.len()).unwrap_or(0);
+    section.extend_from_slice(&length.wrapping_add(8).to_le_bytes())?;
+    section.extend_from_slice(BEFORE_LENGTH)?;
+    section.extend_from_slice(&length.to_le_bytes())?;
+    section.extend_from_slice(&fields)?;
+    Ok(())
+}

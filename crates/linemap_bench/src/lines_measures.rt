@@ -4,8 +4,8 @@
 use crate::timing::mix;
 use gimli_core::{DebugLineOffset, Error, Reader, ReaderOffset};
 use gimli_lines_rows::{
-    ColumnType, DebugLine, IncompleteLineProgram, LineInstruction, LinePrograms, LineRow,
-    ProgramInstructions,
+    AttributeValue, ColumnType, DebugLine, FileEntry, IncompleteLineProgram, LineInstruction,
+    LinePrograms, LineRow, ProgramInstructions,
 };
 use std::alloc::Global;
 
@@ -76,4 +76,56 @@ fn with_row(sum: u64, row: &LineRow) -> u64 {
     let sum = mix(mix(sum, line), column);
     let sum = mix(mix(sum, row.discriminator()), u64::from(row.is_stmt()));
     mix(sum, u64::from(row.end_sequence()))
+}
+
+/// All headers of a section, each with its files.
+pub fn headers<R: Reader>(alloc: Global, section: R) -> Result<u64, Error> {
+    let size = section.len().into_u64();
+    let section = DebugLine::from(section);
+    let mut at = 0;
+    let mut sum = 0;
+    for _ in 0..size {
+        if at >= size {
+            break;
+        }
+        let offset = DebugLineOffset(R::Offset::from_u64(at)?);
+        let program = section.program(alloc, offset, ADDRESS, None, None)?;
+        let header = program.header();
+        for file in header.file_names() {
+            sum = with_file(sum, file);
+        }
+        at = at
+            .wrapping_add(header.unit_length().into_u64())
+            .wrapping_add(4);
+    }
+    Ok(sum)
+}
+
+fn with_file<R: Reader>(sum: u64, file: &FileEntry<R>) -> u64 {
+    let path = match file.path_name() {
+        AttributeValue::DebugLineStrRef(offset) => offset.0.into_u64(),
+        _ => 0,
+    };
+    let sum = mix(mix(sum, path), file.directory_index());
+    mix(sum, u64::from(file.md5()[0]))
+}
+
+/// Checks all headers of a section. The checksum is of their lengths.
+pub fn checks<R: Reader>(section: R) -> Result<u64, Error> {
+    let mut rest = section.copy()?;
+    let size = section.len().into_u64();
+    let section = DebugLine::from(section);
+    let mut at = 0;
+    let mut sum = 0;
+    for _ in 0..size {
+        if rest.is_empty() {
+            break;
+        }
+        section.check_header(DebugLineOffset(R::Offset::from_u64(at)?), ADDRESS)?;
+        let (length, _) = rest.read_initial_length()?;
+        rest.skip(length)?;
+        at = at.wrapping_add(length.into_u64()).wrapping_add(4);
+        sum = mix(sum, length.into_u64());
+    }
+    Ok(sum)
 }

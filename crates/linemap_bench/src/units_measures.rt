@@ -121,7 +121,7 @@ fn skip_entry<R: Reader>(entries: &mut EntriesRaw<'_, R>, sum: u64) -> Result<u6
     let Some(abbreviation) = entries.read_abbreviation()? else {
         return Ok(mix(sum, 0));
     };
-    entries.skip_entry(abbreviation)?;
+    entries.skip_entry(&abbreviation)?;
     Ok(mix(sum, u64::from(abbreviation.tag().0)))
 }
 

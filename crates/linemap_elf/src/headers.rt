@@ -2,7 +2,7 @@
 
 ghost use Rattle.std.specs.Prelude.{◌≡◌, ◌<◌, ◌≤◌, ◌^◌, ◌++◌, flat_map, map, OnOk};
 ghost use Rattle.gimli_lines_write_bytes.specs.ByteOrders.{is_big_endian};
-ghost use Rattle.addr2line_elf.specs.ElfClasses.{word_size, section_header_size};
+ghost use Rattle.addr2line_elf.specs.ElfClasses.{word_size};
 ghost use Rattle.linemap_elf.specs.ImageLaws.{ImageFits};
 ghost use Rattle.linemap_elf.specs.SpelledImages.{class_number, order_number, spelled_identification, file_header_size, file_header_fields, spelled_fields, FitsHeader, spelled_section_header, plain_header, all_sections, headers_from, spelled_table};
 ghost use Rattle.linemap_elf.specs.WrittenImages.{append};
@@ -26,16 +26,6 @@ pub(crate) fn file_header_size(class: Class) -> u16
 {
     match class {
         Class::Elf32 => 52,
-        Class::Elf64 => 64,
-    }
-}
-
-// The bytes of a section header.
-pub(crate) fn section_header_size(class: Class) -> u16
-    ensures { result ≡ section_header_size class }
-{
-    match class {
-        Class::Elf32 => 40,
         Class::Elf64 => 64,
     }
 }
@@ -92,7 +82,7 @@ fn write_file_fields(w: &mut ImageWriter, table_offset: u64, count: u16) -> Resu
         Field::Half(file_header_size(class)),
         Field::Half(0),
         Field::Half(0),
-        Field::Half(section_header_size(class)),
+        Field::Half(class.section_header_size()),
         Field::Half(count),
         Field::Half(count - 1),
     ])

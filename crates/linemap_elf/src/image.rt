@@ -6,7 +6,7 @@ ghost use Rattle.linemap_elf.specs.ImageLaws.{ImageFits, HoldsSections};
 ghost use Rattle.linemap_elf.specs.SpelledImages.{all_sections, body_end, next_multiple_of_8, table_offset as table_at, header_count, image_size, spelled_image};
 ghost use Rattle.linemap_elf.specs.WrittenImages.{append};
 
-use crate::headers::{file_header_size, section_header_size, write_file_header, write_table};
+use crate::headers::{file_header_size, write_file_header, write_table};
 use crate::section::Section;
 use crate::sections::{bytes_size, names_size, write_body};
 use crate::writer::ImageWriter;
@@ -47,7 +47,7 @@ fn image_size(class: Class, sections: &[Section<'_>], table_offset: u64) -> usiz
     ensures { result ≡ image_size class sections.now }
 {
     let count = u64::from(header_count(class, sections));
-    (table_offset + count * u64::from(section_header_size(class))) as usize
+    (table_offset + count * u64::from(class.section_header_size())) as usize
 }
 
 // Where the parts of an image are: the end of the sections' bytes, and the section headers.

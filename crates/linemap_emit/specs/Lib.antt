@@ -34,5 +34,6 @@ pub mod SectionBytesById
 pub mod TableEmitterSteps
 pub mod SectionAnswers
 pub use Rattle.linemap_emit_laws.specs.EmissionLaws
+pub use Rattle.linemap_emit_laws.specs.UnitDifferences
 pub use Rattle.linemap_emit_laws.specs.ListTables
 pub use Rattle.linemap_emit_fits.specs.FittingUnits

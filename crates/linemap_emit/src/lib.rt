@@ -8,7 +8,7 @@ mod table_sections;
 
 pub use error::EmitError;
 pub use linemap_emit_fits::fit_laws;
-pub use linemap_emit_laws::{emission_laws, recorded_table_laws};
+pub use linemap_emit_laws::{emission_laws, recorded_table_laws, unit_difference_laws};
 pub use linemap_table::error::TableError;
 pub use linemap_table::{
     Rule, Table, TableCall, TableFile, TableFunction, TableRange, TableRow, TableSequence,

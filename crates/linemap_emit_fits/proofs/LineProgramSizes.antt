@@ -17,7 +17,7 @@ use Rattle.linemap_emit_units.specs.BuiltRows.{first_row}
 use Rattle.linemap_emit_units.specs.LineEntry.{LineEntry}
 use Rattle.linemap_emit_units.specs.StringSections.{IsText, section_of, offset_of}
 use Rattle.linemap_emit_units.specs.FileTables.{Text, in_header, of_strings, of_line_strings, File, Info}
-use Rattle.linemap_emit_units.specs.HeaderTexts.{WrittenText, form_of, form_in}
+use Rattle.linemap_emit_units.specs.HeaderTexts.{form_of, form_in}
 use Rattle.linemap_emit_units.specs.HeaderSpelling.{Tables, spelled_parameters, spelled_opcodes, spelled_sizes}
 use Rattle.linemap_emit_units.specs.EntryFields.{WrittenFile, directory_formats, file_formats, spelled_formats}
 use Rattle.linemap_emit_units.specs.HeaderContents.{header_text, header_file, header_files, listed_directories, tables_with, records_source, details_of, empty_text, strings_after, line_strings_after}
@@ -126,7 +126,7 @@ module _ (e : Encoding) (is_big : Bool) (line_texts : List (List ℕ)) (small : 
         → IsWithin (31 + sum_by text_size ts) (directories_bytes is_big e (map (header_text [] line_texts) ts))
     directories_within ts all = by (nat_le e.version 4) refl
       where
-        ds : List WrittenText
+        ds : List Text
         ds = map (header_text [] line_texts) ts
 
         by : (b : Bool) → nat_le e.version 4 ≡ b → IsWithin (31 + sum_by text_size ts) (directories_bytes is_big e ds)

@@ -10,7 +10,8 @@ use Rattle.std.proofs.lemmas.List.Elements.{All-head, All-tail}
 use Rattle.std.proofs.lemmas.Option.{slice_get-map, slice_get_within, get_or_from_slice_get, slice_get-get_or}
 use Rattle.gimli_lines_write_laws.specs.FileTables.{Text, in_header, of_strings, of_line_strings, File, Info}
 use Rattle.gimli_lines_write_laws.specs.HeaderContents.{listed_directories}
-use Rattle.gimli_lines_write_laws.specs.ProgramReadBack.{bytes_of, bytes_if_read, text_read, FileRead, file_read, file_built}
+use Rattle.gimli_lines_write_laws.specs.ProgramReadBack.{bytes_if_read, text_read, FileRead, file_read, file_built}
+use Rattle.gimli_lines_write_laws.specs.LineStrings.{bytes_of_text}
 use Rattle.gimli_lines_write_program.specs.BuiltPrograms.{no_details}
 use Rattle.linemap_emit_rows.specs.Error.{Error}
 use Rattle.linemap_emit_rows.specs.View.{View}
@@ -57,7 +58,7 @@ after_first (y ∷ xs) n x h = h
 
 -- a text in the tables has bytes
 stands_for : (version : ℕ) (line_texts : List (List ℕ)) (t : Text) → Stands version line_texts t
-    → (bytes : List ℕ) × (bytes_of [] line_texts t ≡ Some bytes)
+    → (bytes : List ℕ) × (bytes_of_text [] line_texts t ≡ Some bytes)
 stands_for version line_texts (in_header bytes) h = (bytes, refl)
 stands_for version line_texts (of_strings place) h = absurd h
 stands_for version line_texts (of_line_strings place) h =
@@ -83,7 +84,7 @@ module _ (s : DwarfFile) (facts : UnitFacts) where
 -- the bytes of a text that may be absent
 abbrev some_bytes : List (List ℕ) → Option Text → Option (List ℕ)
 some_bytes line_texts None = None
-some_bytes line_texts (Some t) = bytes_of [] line_texts t
+some_bytes line_texts (Some t) = bytes_of_text [] line_texts t
 
 -- the directory of a number, where it isn't the unit's own
 abbrev pub directory_bytes : EmittedFiles → ℕ → Option (List ℕ)
@@ -93,7 +94,7 @@ directory_bytes st n = cond (n == 0) None (some_bytes st.line_texts (slice_get s
 abbrev pub text_for : UnitPart → EmittedFiles → File → List ℕ
 text_for u st f =
     file_text_of_bytes (Some u.directory) (directory_bytes st f.directory)
-    (unwrap_or (bytes_of [] st.line_texts f.path) [])
+    (unwrap_or (bytes_of_text [] st.line_texts f.path) [])
 
 -- the text of a unit's own name
 abbrev pub unit_text : UnitPart → List ℕ
@@ -128,7 +129,7 @@ pub record HasUnitTables (s : DwarfFile) (h : LineHeader) (u : UnitPart) (st : E
   where
     pub version_is : h.encoding.version ≡ st.tables.version
     pub directories_read : map (text_read s.sections.debug_str s.sections.debug_line_str) h.directories
-        ≡ map (bytes_of [] st.line_texts) (listed_directories st.tables.version st.tables.directories)
+        ≡ map (bytes_of_text [] st.line_texts) (listed_directories st.tables.version st.tables.directories)
     pub files_read : map (file_read s.sections.debug_str s.sections.debug_line_str) h.files
         ≡ map (file_built [] st.line_texts st.tables.version no_details) (zip st.tables.files st.tables.infos)
     pub unit_file_is : h.unit_file ≡ Some (file_named name)
@@ -145,7 +146,7 @@ module _ (s : DwarfFile) (facts : UnitFacts) (h : LineHeader) (u : UnitPart) (st
 
   -- the directory of a number above 0
   numbered : (n : ℕ) (t : Text) → n ≢ 0 → slice_get st.tables.directories n ≡ Some t
-      → (v : RawValue) × (directory_at h n ≡ Some v) × (see v ≡ bytes_of [] st.line_texts t)
+      → (v : RawValue) × (directory_at h n ≡ Some v) × (see v ≡ bytes_of_text [] st.line_texts t)
   numbered n t some there = by (nat_le st.tables.version 4) refl
     where
       back : n ≡ suc (n - 1)
@@ -155,14 +156,14 @@ module _ (s : DwarfFile) (facts : UnitFacts) (h : LineHeader) (u : UnitPart) (st
       found g b k = cond b (from_1 g.unit_directory g.directories k) (slice_get g.directories k)
 
       by : (b : Bool) → nat_le st.tables.version 4 ≡ b
-          → (v : RawValue) × (directory_at h n ≡ Some v) × (see v ≡ bytes_of [] st.line_texts t)
+          → (v : RawValue) × (directory_at h n ≡ Some v) × (see v ≡ bytes_of_text [] st.line_texts t)
       by true old =
-          let listed : map see h.directories ≡ map (bytes_of [] st.line_texts) (drop 1 st.tables.directories) =
+          let listed : map see h.directories ≡ map (bytes_of_text [] st.line_texts) (drop 1 st.tables.directories) =
           tables.directories_read
-          ∙ ap (λ b. map (bytes_of [] st.line_texts) (cond b (drop 1 st.tables.directories) st.tables.directories)) old
+          ∙ ap (λ b. map (bytes_of_text [] st.line_texts) (cond b (drop 1 st.tables.directories) st.tables.directories)) old
           in
           let at =
-          mapped_at see (bytes_of [] st.line_texts) h.directories (drop 1 st.tables.directories) (n - 1) t listed
+          mapped_at see (bytes_of_text [] st.line_texts) h.directories (drop 1 st.tables.directories) (n - 1) t listed
           (after_first st.tables.directories (n - 1) t (ap (slice_get st.tables.directories) (sym back) ∙ there)) in (
             at.0,
             ap (λ b. found h b n) (ap (λ v. nat_le v 4) tables.version_is ∙ old)
@@ -170,12 +171,12 @@ module _ (s : DwarfFile) (facts : UnitFacts) (h : LineHeader) (u : UnitPart) (st
             at.2,
           )
       by false new =
-          let listed : map see h.directories ≡ map (bytes_of [] st.line_texts) st.tables.directories =
+          let listed : map see h.directories ≡ map (bytes_of_text [] st.line_texts) st.tables.directories =
           tables.directories_read
-          ∙ ap (λ b. map (bytes_of [] st.line_texts) (cond b (drop 1 st.tables.directories) st.tables.directories)) new
+          ∙ ap (λ b. map (bytes_of_text [] st.line_texts) (cond b (drop 1 st.tables.directories) st.tables.directories)) new
           in
           let at =
-          mapped_at see (bytes_of [] st.line_texts) h.directories st.tables.directories n t listed there in (
+          mapped_at see (bytes_of_text [] st.line_texts) h.directories st.tables.directories n t listed there in (
             at.0,
             ap (λ b. found h b n) (ap (λ v. nat_le v 4) tables.version_is ∙ new) ∙ at.1,
             at.2,
@@ -211,7 +212,7 @@ module _ (s : DwarfFile) (facts : UnitFacts) (h : LineHeader) (u : UnitPart) (st
       ≡ file_built [] st.line_texts st.tables.version no_details (f, i)
       → text_of_file reader h x ≡ Ok (text_for u st f)
   file_again x f i stands same =
-      let path : see x.path ≡ bytes_of [] st.line_texts f.path = ap (λ (r : FileRead). r.path) same in
+      let path : see x.path ≡ bytes_of_text [] st.line_texts f.path = ap (λ (r : FileRead). r.path) same in
       let number : x.directory_index ≡ f.directory = ap (λ (r : FileRead). r.directory) same in
       let bytes = stands_for st.tables.version st.line_texts f.path stands.path in
       let whole : Option (List ℕ) → Option View → List ℕ → Result (List ℕ) Error =
@@ -313,7 +314,7 @@ joined_again directory rooted = rw rooted refl
 
 -- the text of a file of the table
 pub placed_text : (u : UnitPart) (st : EmittedFiles) (f : FilePart) (place : ℕ) (p : IsPlaced st f place) (own : Text)
-    → slice_get st.tables.directories 0 ≡ Some own → bytes_of [] st.line_texts own ≡ Some u.directory
+    → slice_get st.tables.directories 0 ≡ Some own → bytes_of_text [] st.line_texts own ≡ Some u.directory
     → is_rooted u.directory ≡ true → IsUtf8 u.directory → IsUtf8 f.directory → IsUtf8 f.name
     → text_for u st p.file ≡ file_text u f
 placed_text u st f place p own first own_is rooted utf8 directory_utf8 name_utf8 =
@@ -336,7 +337,7 @@ placed_text u st f place p own first own_is rooted utf8 directory_utf8 name_utf8
         let one : own ≡ p.directory = cc (first, there) in
         let same : u.directory ≡ f.directory =
         let both : Some u.directory ≡ Some f.directory =
-        sym own_is ∙ ap (bytes_of [] st.line_texts) one ∙ p.directory_name in cc in
+        sym own_is ∙ ap (bytes_of_text [] st.line_texts) one ∙ p.directory_name in cc in
         utf8_text_is_unchanged (Some u.directory) None f.name utf8 tt name_utf8
         ∙ ap (λ (l : List ℕ). join l f.name) (sym (joined_again u.directory rooted))
         ∙ ap (λ (l : List ℕ). join (join u.directory l) f.name) same

@@ -6,7 +6,7 @@ use Rattle.gimli_lines_write_tables.specs.LineStrings.{table_after}
 use Rattle.gimli_lines_write_tables.specs.FileTables.{Text, in_header, of_strings, of_line_strings, File, is_same, is_same_file}
 use Rattle.gimli_lines_write_tables.proofs.SectionTexts.{text_at_index}
 use Rattle.gimli_lines_write_tables.proofs.Additions.{place_within}
-use Rattle.gimli_lines_write_laws.specs.ProgramReadBack.{bytes_of}
+use Rattle.gimli_lines_write_laws.specs.LineStrings.{bytes_of_text}
 use Rattle.linemap_emit_rows.specs.Encoding.{Encoding}
 use Rattle.linemap_emit_rows.specs.TableParts.{FilePart, UnitPart}
 use Rattle.linemap_emit_programs.specs.EmittedFiles.{text_in, EmittedFiles, with_directory_text, directory_number, named_file, with_table_file, table_file_place, with_table_files, table_file_ids, first_unit_files, unit_file_ids, place_in, file_number}
@@ -15,17 +15,17 @@ use Rattle.linemap_emit_programs.proofs.SoundFiles.{texts_extend, StaysIn, files
 
 -- a text that was added is the text of its bytes
 pub text_is : (version : ℕ) (bytes : List ℕ) (line_texts : List (List ℕ))
-    → bytes_of [] (table_after version bytes line_texts) (text_in version line_texts bytes) ≡ Some bytes
+    → bytes_of_text [] (table_after version bytes line_texts) (text_in version line_texts bytes) ≡ Some bytes
 text_is version bytes line_texts = by (nat_le version 4)
   where
-    by : (b : Bool) → bytes_of [] (cond b line_texts (with_text line_texts bytes))
+    by : (b : Bool) → bytes_of_text [] (cond b line_texts (with_text line_texts bytes))
         (cond b (in_header bytes) (of_line_strings (text_index line_texts bytes))) ≡ Some bytes
     by true = refl
     by false = text_at_index line_texts bytes
 
 -- and stays so
 pub text_stays : (old new : List (List ℕ)) → Extends old new → (t : Text) (bytes : List ℕ)
-    → bytes_of [] old t ≡ Some bytes → bytes_of [] new t ≡ Some bytes
+    → bytes_of_text [] old t ≡ Some bytes → bytes_of_text [] new t ≡ Some bytes
 text_stays old new more (in_header text) bytes h = h
 text_stays old new more (of_strings place) bytes h = h
 text_stays old new more (of_line_strings place) bytes h = get_extended old new place bytes more h
@@ -34,10 +34,10 @@ text_stays old new more (of_line_strings place) bytes h = get_extended old new p
 pub record IsPlaced (st : EmittedFiles) (f : FilePart) (place : ℕ) : Type 0 where
   pub file : File
   pub there : slice_get st.tables.files place ≡ Some file
-  pub name : bytes_of [] st.line_texts file.path ≡ Some f.name
+  pub name : bytes_of_text [] st.line_texts file.path ≡ Some f.name
   pub directory : Text
   pub directory_there : slice_get st.tables.directories file.directory ≡ Some directory
-  pub directory_name : bytes_of [] st.line_texts directory ≡ Some f.directory
+  pub directory_name : bytes_of_text [] st.line_texts directory ≡ Some f.directory
 
 placed_on : (old new : EmittedFiles) (f : FilePart) (place : ℕ) → StaysIn old new → IsPlaced old f place
     → IsPlaced new f place

@@ -8,11 +8,11 @@ use Rattle.std.proofs.lemmas.Option.{slice_get-get_or, slice_get_within}
 use Rattle.gimli_lines_write_laws.specs.FileTables.{Text, in_header, of_line_strings, File, Info, no_info}
 use Rattle.gimli_lines_write_laws.specs.StringSections.{IsText, section_of}
 use Rattle.gimli_lines_write_laws.specs.HeaderSpelling.{Tables, fields_at, directories_at, files_at, header_value}
-use Rattle.gimli_lines_write_laws.specs.LineStrings.{table_after}
-use Rattle.gimli_lines_write_laws.specs.HeaderContents.{header_tables, tables_with, empty_text, strings_after, line_strings_after, records_source, IsKnown, AllKnown}
+use Rattle.gimli_lines_write_laws.specs.LineStrings.{table_after, IsKnown, bytes_of_text}
+use Rattle.gimli_lines_write_laws.specs.HeaderContents.{header_tables, tables_with, empty_text, strings_after, line_strings_after, records_source, AllKnown}
 use Rattle.gimli_lines_write_laws.specs.UnitBytes.{unit_bytes}
 use Rattle.gimli_lines_write_laws.specs.UnitReadBack.{TablesReadBack}
-use Rattle.gimli_lines_write_laws.specs.ProgramReadBack.{bytes_of, Holds, InfoFits, SourceHasNoZero}
+use Rattle.gimli_lines_write_laws.specs.ProgramReadBack.{Holds, InfoFits, SourceHasNoZero}
 use Rattle.gimli_lines_write_laws.proofs.StoredFiles.{tables_read_back, directories_below, files_below, directories_read, files_read}
 use Rattle.gimli_lines_write_laws.proofs.UnitReading.{UnitIsRead, unit_is_read}
 use Rattle.gimli_lines_write_program.specs.BuiltPrograms.{no_details}
@@ -288,7 +288,7 @@ module _ (e : Encoding) (is_big : Bool) (u : UnitPart) (line_texts : List (List 
       own_there =
           get_extended first.tables.directories st.tables.directories 0 own (files_stay u.files first).directories refl
 
-      own_is : bytes_of [] st.line_texts own ≡ Some u.directory
+      own_is : bytes_of_text [] st.line_texts own ≡ Some u.directory
       own_is =
           let one = table_after e.version u.directory line_texts in
           text_stays one st.line_texts

@@ -4,6 +4,7 @@ pub use Rattle.addr2line_context.specs.Contexts
 pub use Rattle.linemap_emit.specs.ByteOrders
 pub use Rattle.linemap_emit.specs.EmissionBounds
 pub use Rattle.linemap_emit.specs.EmissionLaws
+pub use Rattle.linemap_emit.specs.UnitDifferences
 pub use Rattle.linemap_emit.specs.RecordedTableLaws
 pub use Rattle.linemap_emit.specs.TargetEncodings
 pub use Rattle.linemap_emit.specs.EmissionTargets

@@ -8,12 +8,14 @@ pub mod table_contexts;
 pub mod word_laws;
 pub mod word_lines;
 
-pub use addr2line_context::{Context, Dwarf, EndianSlice, Error, Format, RunTimeEndian, SectionId};
+pub use addr2line_context::{
+    Context, Dwarf, EndianSlice, Error, Format, Reader, RunTimeEndian, SectionId,
+};
 pub use engine::ask;
 pub use linemap_emit::{
     EmitError, Rule, Sections, Table, TableCall, TableError, TableFile, TableFunction, TableRange,
     TableRow, TableSequence, TableUnit, Target, emission_laws, emit_sections, fit_laws,
-    recorded_table_laws, table_laws,
+    recorded_table_laws, table_laws, unit_difference_laws,
 };
 pub use linemap_output::{Ended, cannot_read, limits, out_of_memory, words_not_text};
 pub use section_readers::dwarf_of;

@@ -14,9 +14,10 @@ returns-in-Some-clause-ranges g c =
     let is = last_is u.file last p c.in-Some.ensures.0 c.requires.last.0 in
     let header = header_of_sharing u last p c.in-Some.ensures.0 c.requires.last in
     let key = c.in-Some.ensures.1 ∙ ap (λ (w : UnitInFile). program_key w.facts) c.unit_ref.ensures in
-    ap ok_ranges
-    (sym (shared_ranges u last.counter p is header key) ∙ sym c.ranges-in-Some.ensures)
-    ∙ c.in_ok-share.ensures
+    let lent = c.ranges-in-Some.ensures in
+    let was_shared = c.in_ok-share.ensures in
+    let same : p.ranges ≡ c.in_ok-share.field-0.value.items = cc in
+    ap ok_ranges (sym (shared_ranges u last.counter p is header key) ∙ same)
 
 pub returns-in-Some-clause-lines : goal.returns-in-Some-clause-lines
 returns-in-Some-clause-lines g c =

@@ -12,10 +12,9 @@ ok_table ds v = Ok (by_code ds, v)
 pub returns-in_err-list : goal.returns-in_err-list
 returns-in_err-list g c =
     returns_refused _ c.from_residual.result _ _ c.from_residual.ensures.1
-    (λ ne. table_refused (g.R.Reader.view c.args.input.now) _ (c.in_err-list.ensures ne))
+    (λ ne. table_refused c.args.input.now _ (c.in_err-list.ensures ne))
 
 pub returns : goal.returns
 returns g c =
-    let view = g.R.Reader.view in
-    table_is (view c.args.input.now) (view c.parse_list.new.input) c.in_ok-list.list c.in_ok-list.ensures
-    ∙ ap (λ (ds : List Declaration). ok_table ds (view c.parse_list.new.input)) (sym c.in_ok-new.ensures.ok)
+    table_is c.args.input.now c.parse_list.new.input c.in_ok-list.list c.in_ok-list.ensures
+    ∙ ap (λ (ds : List Declaration). ok_table ds c.parse_list.new.input) (sym c.in_ok-new.ensures.ok)

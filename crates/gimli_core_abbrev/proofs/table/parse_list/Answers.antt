@@ -1,73 +1,155 @@
-use Rattle.std.proofs.Common.{rules, ◌≡◌, ℕ, true, None, Result, Err, List, ap, sym, ◌∙◌, is_some}
+use Rattle.std.proofs.Common.{rules, ◌≡◌, ◌+◌, suc, length, subst, true, Option, None, option_map, Result, Ok, List, ◌++◌, refl, ap, sym, ◌∙◌, arith, is_some}
+use Rattle.std.specs.Prelude.{IfSome}
+use Rattle.std.specs.Ordering.{nat_cmp}
+use Rattle.std.specs.BTreeMap.{get}
 use Rattle.gimli_core_readers.specs.Error.{Error}
-use Rattle.gimli_core_readers.specs.Error.TheVariants.{DuplicateAbbreviationCode}
-use Rattle.gimli_core_readers.specs.View.{View}
+use Rattle.gimli_core_readers.specs.View.{View, bytes_left}
 use Rattle.gimli_core_readers.specs.Repetition.{prepend, listing_in}
-use Rattle.gimli_core_readers.specs.View.{bytes_left}
 use Rattle.gimli_core_readers.proofs.RefusedCalls.{returns_refused}
 use Rattle.gimli_core_readers.proofs.Listings.{item_smaller}
-use Rattle.gimli_core_abbrev.specs.Declarations.{Declaration, declaration_at, by_code, repeated_code}
+use Rattle.gimli_core_abbrev.specs.declared.abbreviation.AttributeSpecification.{AttributeSpecification}
+use Rattle.gimli_core_abbrev.specs.declared.table.StoredDeclaration.{StoredDeclaration}
+use Rattle.gimli_core_abbrev.specs.Declarations.{Declaration, declaration_at, by_code}
 use Rattle.gimli_core_abbrev.specs.TableParsing.{declaration}
-use Rattle.gimli_core_abbrev.specs.AbbreviationViews.{declaration_view}
+use Rattle.gimli_core_abbrev.specs.TableLayout.{stored}
+use Rattle.gimli_core_abbrev.specs.AbbreviationViews.{added, added_view, Extends, with_attributes}
+use Rattle.gimli_core_abbrev.specs.DeclarationFacts.{KnowsAttributes}
+use Rattle.gimli_core_abbrev.specs.declared.declaration.CodedHead.{CodedHead}
 use Rattle.gimli_core_abbrev.proofs.DeclarationSizes.{declarations-shrink}
-use Rattle.gimli_core_abbrev.proofs.TableCollection.{list_fault, list_end, list_repeated, listing_further, repeated_push, declaration-coded, found_by_code, is_some-map, none_there}
+use Rattle.gimli_core_abbrev.proofs.DeclarationPlaces.{place_known}
+use Rattle.gimli_core_abbrev.proofs.StoredDeclarations.{Adds, view_in_order, view_other, stays_in_order, stays_elsewhere}
+use Rattle.gimli_core_abbrev.proofs.TableCollection.{list_fault, list_end, list_repeated, listing_further, declaration-coded, found_by_code, none_there}
 use Rattle.gimli_core_abbrev.proofs.table.parse_list.Goals as goal
 
-abbrev refusal : ℕ → Result (List Declaration × View) Error
-refusal code = Err (DuplicateAbbreviationCode code)
+abbrev ok_list : View → List Declaration → Result (List Declaration × View) Error
+ok_list v ds = Ok (ds, v)
+
+abbrev ok_read : Option Declaration → View → Result (Option Declaration × View) Error
+ok_read o v = Ok (o, v)
+
+pub returns-in_err-parsed : goal.returns-in_err-parsed
+returns-in_err-parsed g c =
+    let l = c.reading in
+    let was = l.invariant in
+    returns_refused _ c.from_residual.result _ _ c.from_residual.ensures.1
+    (λ ne. list_fault (stored l.in_order l.others.items l.attributes.items l.declarations.items) _ _ _ was.listing
+    was.layout.once (c.in_err-parsed.ensures.value ne))
+
+pub reading-smaller : goal.reading-smaller
+reading-smaller g c =
+    item_smaller declarations-shrink c.reading.input
+    (with_attributes (added_view c.reading.attributes.items c.parse.new.attributes.items) c.in-Some.parsed)
+    c.parse.new.input (c.in_ok-parsed.ensures.value
+    ∙ ap (λ (o : Option CodedHead). ok_read (option_map (with_attributes (added_view c.reading.attributes.items c.parse.new.attributes.items)) o)
+    c.parse.new.input) c.in-Some.is)
+
+pub reading-smaller-then-code-place : goal.reading-smaller-then-code-place
+reading-smaller-then-code-place g c =
+    item_smaller declarations-shrink c.reading.input
+    (with_attributes (added_view c.reading.attributes.items c.parse.new.attributes.items) c.in-Some.parsed)
+    c.parse.new.input (c.in_ok-parsed.ensures.value
+    ∙ ap (λ (o : Option CodedHead). ok_read (option_map (with_attributes (added_view c.reading.attributes.items c.parse.new.attributes.items)) o)
+    c.parse.new.input) c.in-Some.is)
+
+pub returns-then-has_place : goal.returns-then-has_place
+returns-then-has_place g c =
+    let l = c.reading in
+    let was = l.invariant in
+    let ds = stored l.in_order l.others.items l.attributes.items l.declarations.items in
+    let a = with_attributes (added_view l.attributes.items c.parse.new.attributes.items) c.in-Some.parsed in
+    let there : is_some (declaration_at a.code (by_code ds)) ≡ true =
+    ap is_some (found_by_code a.code ds was.layout.once)
+    ∙ sym (place_known ds l.in_order (get nat_cmp l.places) was.layout a.code)
+    ∙ sym c.has_place.ensures ∙ c.if-has_place.true in
+    λ ne. list_repeated ds a _ _ c.parse.new.input was.listing was.layout.once (c.in_ok-parsed.ensures.value
+    ∙ ap (λ (o : Option CodedHead). ok_read (option_map (with_attributes (added_view c.reading.attributes.items c.parse.new.attributes.items)) o)
+    c.parse.new.input) c.in-Some.is) there
+
+pub reading-preserved-then-code-place : goal.reading-preserved-then-code-place
+reading-preserved-then-code-place g c =
+    let l = c.reading in
+    let was = l.invariant in
+    let old = l.attributes.items in
+    let new = c.parse.new.attributes.items in
+    let ds = stored l.in_order l.others.items old l.declarations.items in
+    let a = with_attributes (added_view old new) c.in-Some.parsed in
+    let d : StoredDeclaration = record { end = c.len-end.result; head = c.in-Some.parsed.head } in
+    let absent : declaration_at a.code ds ≡ None = none_there (declaration_at a.code ds)
+    (sym (place_known ds l.in_order (get nat_cmp l.places) was.layout a.code)
+    ∙ sym c.has_place.ensures ∙ c.if-has_place.false) in
+    let all_is : new ≡ old ++ added old new = subst (λ (o : Option CodedHead). IfSome o (λ _. Extends c.reading.attributes.items c.parse.new.attributes.items)) c.in-Some.is
+    c.in_ok-parsed.ensures.extends in
+    let end : d.end ≡ length new = omega (arith, c.len-end.ensures) in
+    let adds : Adds a d (added old new) = (
+      refl,
+      refl,
+      subst (λ (o : Option CodedHead). IfSome o (λ d. KnowsAttributes d.head
+          (added_view c.reading.attributes.items c.parse.new.attributes.items))) c.in-Some.is c.in_ok-parsed.ensures.knows,
+    ) in
+    let full : l.in_order ≡ length l.declarations.items = omega (arith, c.if-in_order-place.true, c.len-place.ensures) in
+    let code_is : a.code ≡ suc l.in_order = omega (arith, c.if-code-place.true, c.if-in_order-place.true) in
+    let now = stays_in_order l.declarations.items c.push.new.self.items d l.in_order (l.in_order + 1) l.others.items old
+    (added old new) new a (get nat_cmp l.places) (was.stored_so, was.layout) c.in_ok-push.ensures.items all_is end adds
+    full (omega arith) code_is absent in
+    let view = view_in_order l.declarations.items c.push.new.self.items d l.in_order (l.in_order + 1) l.others.items old
+    (added old new) new a was.stored_so c.in_ok-push.ensures.items all_is end adds full (omega arith) code_is in
+    record {
+      stored_so = now.0;
+      layout = now.1;
+      listing =
+          ap (λ (xs : List Declaration). prepend xs (listing_in bytes_left declaration c.parse.new.input)) view
+          ∙ listing_further ds a _ _ c.parse.new.input was.listing (c.in_ok-parsed.ensures.value
+          ∙ ap (λ (o : Option CodedHead). ok_read (option_map (with_attributes (added_view c.reading.attributes.items c.parse.new.attributes.items)) o)
+          c.parse.new.input) c.in-Some.is);
+    }
+
+pub reading-preserved : goal.reading-preserved
+reading-preserved g c =
+    let l = c.reading in
+    let was = l.invariant in
+    let old = l.attributes.items in
+    let new = c.parse.new.attributes.items in
+    let ds = stored l.in_order l.others.items old l.declarations.items in
+    let a = with_attributes (added_view old new) c.in-Some.parsed in
+    let d : StoredDeclaration = record { end = c.len-end.result; head = c.in-Some.parsed.head } in
+    let absent : declaration_at a.code ds ≡ None = none_there (declaration_at a.code ds)
+    (sym (place_known ds l.in_order (get nat_cmp l.places) was.layout a.code)
+    ∙ sym c.has_place.ensures ∙ c.if-has_place.false) in
+    let all_is : new ≡ old ++ added old new = subst (λ (o : Option CodedHead). IfSome o (λ _. Extends c.reading.attributes.items c.parse.new.attributes.items)) c.in-Some.is
+    c.in_ok-parsed.ensures.extends in
+    let end : d.end ≡ length new = omega (arith, c.len-end.ensures) in
+    let adds : Adds a d (added old new) = (
+      refl,
+      refl,
+      subst (λ (o : Option CodedHead). IfSome o (λ d. KnowsAttributes d.head
+          (added_view c.reading.attributes.items c.parse.new.attributes.items))) c.in-Some.is c.in_ok-parsed.ensures.knows,
+    ) in
+    let counts = declaration-coded l.input a c.parse.new.input (c.in_ok-parsed.ensures.value
+    ∙ ap (λ (o : Option CodedHead). ok_read (option_map (with_attributes (added_view c.reading.attributes.items c.parse.new.attributes.items)) o)
+    c.parse.new.input) c.in-Some.is) in
+    let now = stays_elsewhere l.declarations.items c.push.new.self.items d l.in_order l.others.items
+    c.push-else-in_order-place.new.self.items old (added old new) new a a.code c.len-place.result (get nat_cmp l.places)
+    (get nat_cmp c.put_place.new.places) (was.stored_so, was.layout) c.in_ok-push.ensures.items all_is end adds
+    c.in_ok-push-2.ensures.items counts absent refl (omega (arith, c.len-place.ensures)) c.in_ok-put_place.ensures.ok in
+    let view = view_other l.declarations.items c.push.new.self.items d l.in_order l.others.items c.push-else-in_order-place.new.self.items
+    old (added old new) new a was.stored_so c.in_ok-push.ensures.items all_is end adds c.in_ok-push-2.ensures.items in
+    record {
+      stored_so = now.0;
+      layout = now.1;
+      listing =
+          ap (λ (xs : List Declaration). prepend xs (listing_in bytes_left declaration c.parse.new.input)) view
+          ∙ listing_further ds a _ _ c.parse.new.input was.listing (c.in_ok-parsed.ensures.value
+          ∙ ap (λ (o : Option CodedHead). ok_read (option_map (with_attributes (added_view c.reading.attributes.items c.parse.new.attributes.items)) o)
+          c.parse.new.input) c.in-Some.is);
+    }
 
 pub returns : goal.returns
-returns g c = let was = c.loop-found.invariant in list_end c.loop-found.found _ _ _ was.0 was.1 (search rules)
-
-pub returns-in_err-abbreviation : goal.returns-in_err-abbreviation
-returns-in_err-abbreviation g c =
-    let was = c.loop-found.invariant in
-    returns_refused _ c.from_residual.result _ _ c.from_residual.ensures.1
-    (λ ne. list_fault c.loop-found.found _ _ _ was.0 was.1 (c.in_err-abbreviation.ensures ne))
-
-pub push-requires-clause-counts : goal.push-requires-clause-counts
-push-requires-clause-counts g c =
-    let view = g.R.Reader.view in declaration-coded (view c.loop-found.input) (declaration_view c.in-Some.abbreviation)
-    (view c.parse.new.input) (search rules)
-
-pub returns-then-is_some : goal.returns-then-is_some
-returns-then-is_some g c =
-    let view = g.R.Reader.view in
-    let was = c.loop-found.invariant in
-    let d = declaration_view c.in-Some.abbreviation in
-    let there : is_some (declaration_at d.code (by_code c.loop-found.found)) ≡ true =
-    ap (λ (k : ℕ). is_some (declaration_at k (by_code c.loop-found.found))) (sym c.code-code.ensures)
-    ∙ ap is_some (sym c.get.ensures) ∙ is_some-map (λ a. declaration_view a.now) c.get.result
-    ∙ sym c.is_some.ensures ∙ c.if-is_some.true in
-    λ ne. list_repeated c.loop-found.found d _ _ (view c.parse.new.input) was.0 was.1 (search rules) there
-    ∙ ap (λ (k : ℕ). refusal k) (sym c.code-code.ensures)
-
-pub loop-found-smaller : goal.loop-found-smaller
-loop-found-smaller g c =
-    let view = g.R.Reader.view in item_smaller declarations-shrink (view c.loop-found.input)
-    (declaration_view c.in-Some.abbreviation) (view c.parse.new.input) (search rules)
-
-pub push-requires-clause-is_new : goal.push-requires-clause-is_new
-push-requires-clause-is_new g c =
-    let d = declaration_view c.in-Some.abbreviation in
-    sym (found_by_code d.code c.loop-found.found c.loop-found.invariant.1)
-    ∙ none_there (declaration_at d.code (by_code c.loop-found.found))
-    (ap (λ (k : ℕ). is_some (declaration_at k (by_code c.loop-found.found))) (sym c.code-code.ensures)
-    ∙ ap is_some (sym c.get.ensures) ∙ is_some-map (λ a. declaration_view a.now) c.get.result
-    ∙ sym c.is_some.ensures ∙ c.if-is_some.false)
-
-pub loop-found-preserved : goal.loop-found-preserved
-loop-found-preserved g c =
-    let view = g.R.Reader.view in
-    let was = c.loop-found.invariant in
-    let d = declaration_view c.in-Some.abbreviation in
-    let absent : declaration_at d.code (by_code c.loop-found.found) ≡ None =
-    none_there (declaration_at d.code (by_code c.loop-found.found))
-    (ap (λ (k : ℕ). is_some (declaration_at k (by_code c.loop-found.found))) (sym c.code-code.ensures)
-    ∙ ap is_some (sym c.get.ensures) ∙ is_some-map (λ a. declaration_view a.now) c.get.result
-    ∙ sym c.is_some.ensures ∙ c.if-is_some.false) in (
-      ap (λ (ds : List Declaration). prepend ds (listing_in bytes_left declaration (view c.parse.new.input)))
-          c.in_ok-push.ensures.ok
-          ∙ listing_further c.loop-found.found d _ _ (view c.parse.new.input) was.0 (search rules),
-      ap repeated_code c.in_ok-push.ensures.ok ∙ repeated_push c.loop-found.found d was.1 absent,
-    )
+returns g c =
+    let l = c.reading in
+    let was = l.invariant in
+    let same : c.parse.new.attributes.items ≡ l.attributes.items = search rules in
+    list_end (stored l.in_order l.others.items l.attributes.items l.declarations.items) _ _ _ was.listing
+    was.layout.once (search rules)
+    ∙ ap (λ (xs : List AttributeSpecification).
+    ok_list c.parse.new.input (stored l.in_order l.others.items xs l.declarations.items)) (sym same)
+    ∙ ap (ok_list c.parse.new.input) (sym c.shrunk.ensures)

@@ -15,7 +15,7 @@ loop-directory-preserved g c =
 
 pub returns-in_err-parse_directory : goal.returns-in_err-parse_directory
 returns-in_err-parse_directory g c =
-    returns_refused _ c.from_residual.result _ _ c.from_residual.ensures.1
+    returns_refused _ c.from_residual-in_err-parse_directory.result _ _ c.from_residual-in_err-parse_directory.ensures.1
     (λ ne. count_fault (directory_entry g.R.Offset.ReaderOffset.limit c.args.encoding c.args.formats.now) c.args.count
     c.loop-directory._directory _ _ _ _ (omega arith) (c.in_err-parse_directory.ensures ne)
     c.loop-directory.invariant)

@@ -7,7 +7,7 @@ use Rattle.gimli_lines_header.proofs.tables.parse_counted_files.Goals as goal
 
 pub loop-file-init : goal.loop-file-init
 loop-file-init g c = count_start (file_entry g.R.Offset.ReaderOffset.limit c.args.encoding c.args.formats.now)
-    c.args.count c.new-found.result.items (g.R.Reader.view c.args.input.now) c.new-found.ensures.items
+    c.args.count c.in_ok-found.found.items (g.R.Reader.view c.args.input.now) c.in_ok-found.ensures.items
 
 pub loop-file-preserved : goal.loop-file-preserved
 loop-file-preserved g c =
@@ -17,7 +17,7 @@ loop-file-preserved g c =
 
 pub returns-in_err-parse_file : goal.returns-in_err-parse_file
 returns-in_err-parse_file g c =
-    returns_refused _ c.from_residual.result _ _ c.from_residual.ensures.1
+    returns_refused _ c.from_residual-in_err-parse_file.result _ _ c.from_residual-in_err-parse_file.ensures.1
     (λ ne. count_fault (file_entry g.R.Offset.ReaderOffset.limit c.args.encoding c.args.formats.now) c.args.count
     c.loop-file._file c.loop-file.found.items _ _ _ (omega arith) (c.in_err-parse_file.ensures ne)
     c.loop-file.invariant)

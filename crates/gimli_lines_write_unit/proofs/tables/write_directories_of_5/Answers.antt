@@ -5,7 +5,7 @@ use Rattle.gimli_lines_write_tables.specs.WriteError.{Error}
 use Rattle.gimli_lines_write_tables.specs.EntryBytes.{join_bytes, Continues}
 use Rattle.gimli_lines_write_tables.specs.declared.line_string.LineString.{LineString}
 use Rattle.gimli_lines_write_tables.specs.FileTables.{text_of}
-use Rattle.gimli_lines_write_spec.specs.HeaderTexts.{WrittenText}
+use Rattle.gimli_lines_write_spec.specs.HeaderTexts.{Text}
 use Rattle.gimli_lines_write_spec.specs.EntryFields.{directory_formats, spelled_formats}
 use Rattle.gimli_lines_write_unit.specs.HeaderContents.{header_text}
 use Rattle.gimli_lines_write_unit.specs.HeaderBytes.{all_bytes, text_bytes}
@@ -14,7 +14,7 @@ use Rattle.gimli_lines_write_unit.proofs.tables.write_directories_of_5.Goals as 
 
 pub returns : goal.returns
 returns g c =
-    let see : LineString → WrittenText = λ t. header_text c.args.strings.now c.args.line_strings.now (text_of t) in
+    let see : LineString → Text = λ t. header_text c.args.strings.now c.args.line_strings.now (text_of t) in
     let ds = map see c.args.directories.now in
     let form = c.first_form-form.result.0 in
     let formats : ℕ → Bool → Result (List ℕ) Error = λ n b. Ok (spelled_formats (directory_formats n)) in

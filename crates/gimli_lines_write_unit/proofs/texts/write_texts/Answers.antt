@@ -1,7 +1,7 @@
 use Rattle.std.proofs.Common.{◌+◌, drop, map}
 use Rattle.gimli_lines_write_tables.specs.declared.line_string.LineString.{LineString}
 use Rattle.gimli_lines_write_tables.specs.FileTables.{text_of}
-use Rattle.gimli_lines_write_spec.specs.HeaderTexts.{WrittenText}
+use Rattle.gimli_lines_write_spec.specs.HeaderTexts.{Text}
 use Rattle.gimli_lines_write_unit.specs.HeaderContents.{header_text}
 use Rattle.gimli_lines_write_unit.specs.HeaderBytes.{text_bytes}
 use Rattle.gimli_lines_write_unit.proofs.WrittenLists.{none_done, one_done, item_view}
@@ -14,7 +14,7 @@ loop-text-init g c =
 
 pub loop-text-preserved : goal.loop-text-preserved
 loop-text-preserved g c =
-    let see : LineString → WrittenText = λ t. header_text c.args.strings.now c.args.line_strings.now (text_of t) in
+    let see : LineString → Text = λ t. header_text c.args.strings.now c.args.line_strings.now (text_of t) in
     one_done (λ b. text_bytes b c.args.encoding c.args.form.0) (g.W.Writer.contents c.args.w.now)
     (g.W.Writer.contents c.loop-text.w) _ (see c.text-item.result)
     (map see (drop (c.loop-text.text-index + 1) c.args.texts.now))

@@ -2,7 +2,6 @@ use Rattle.std.proofs.Common.{◌≡◌, ℕ, Bool, true, false, eqb, ℤ, None,
 use Rattle.std.proofs.lemmas.Bool.Decides.{nat_tests}
 use Rattle.std.proofs.lemmas.Int.{to_z-of_z}
 use Rattle.gimli_core_base.proofs.StepParts.{read}
-use Rattle.gimli_units_forms.specs.AbbreviationViews.{declaration_view}
 use Rattle.gimli_units_entries.specs.EntryWalks.{depth_after}
 use Rattle.gimli_units_entries.specs.OtherEntries.{is_tag_of, walk_at}
 use Rattle.gimli_units_entries.proofs.OtherEntryLemmas.{some_walk, no_code, null_is_skipped, unknown_code, chosen_stays, refused_stays, other_is_skipped}
@@ -39,7 +38,7 @@ pub returns-then-is_one_of : goal.returns-then-is_one_of
 returns-then-is_one_of g c = λ end_offset.
     let w = walk_at c.args.encoding c.args.table.now end_offset c.args.depth (g.R.Reader.view c.args.place.now) in
     let nonzero : eqb c.in-Ok.code 0 ≡ false = grind (arith, nat_tests) in
-    chosen_stays (is_tag_of c.args.tags.now) w c.in-Ok.code (declaration_view c.in-Some.abbreviation.now) _
+    chosen_stays (is_tag_of c.args.tags.now) w c.in-Ok.code c.in-Some.abbreviation _
     c.in-Ok.ensures.value nonzero (sym c.in-Some.ensures)
     (ap (is_tag_of c.args.tags.now) (sym c.tag.ensures) ∙ sym c.is_one_of.ensures ∙ c.if-is_one_of.true)
 
@@ -47,7 +46,7 @@ pub returns-in_default-skip_declared : goal.returns-in_default-skip_declared
 returns-in_default-skip_declared g c = λ end_offset.
     let w = walk_at c.args.encoding c.args.table.now end_offset c.args.depth (g.R.Reader.view c.args.place.now) in
     let nonzero : eqb c.in-Ok.code 0 ≡ false = grind (arith, nat_tests) in
-    refused_stays (is_tag_of c.args.tags.now) w c.in-Ok.code (declaration_view c.in-Some.abbreviation.now)
+    refused_stays (is_tag_of c.args.tags.now) w c.in-Ok.code c.in-Some.abbreviation
     (g.R.Reader.view c.advance.new.self) _
     (c.in-Ok.ensures.value ∙ ap (read c.in-Ok.code) (sym c.advance.ensures)) nonzero (sym c.in-Some.ensures)
     (ap (is_tag_of c.args.tags.now) (sym c.tag.ensures) ∙ sym c.is_one_of.ensures ∙ c.if-is_one_of.false)
@@ -58,7 +57,7 @@ returns g c = λ end_offset.
     let w = walk_at c.args.encoding c.args.table.now end_offset c.args.depth (g.R.Reader.view c.args.place.now) in
     let nonzero : eqb c.in-Ok.code 0 ≡ false = grind (arith, nat_tests) in
     let skipped = other_is_skipped (is_tag_of c.args.tags.now) w c.in-Ok.code
-    (declaration_view c.in-Some.abbreviation.now) (g.R.Reader.view c.advance.new.self)
+    c.in-Some.abbreviation (g.R.Reader.view c.advance.new.self)
     (g.R.Reader.view c.skip_declared.new.place)
     (c.in-Ok.ensures.value ∙ ap (read c.in-Ok.code) (sym c.advance.ensures)) nonzero (sym c.in-Some.ensures)
     (ap (is_tag_of c.args.tags.now) (sym c.tag.ensures) ∙ sym c.is_one_of.ensures ∙ c.if-is_one_of.false)
@@ -70,4 +69,4 @@ returns g c = λ end_offset.
     ∙ ap (λ (d : ℤ). some_walk (walk_at c.args.encoding c.args.table.now end_offset d
     (g.R.Reader.view c.skip_declared.new.place)))
     (sym (depth ∙ c.depth_after.ensures
-    ∙ ap (λ (d : ℤ). depth_after d (Some (declaration_view c.in-Some.abbreviation.now))) start))
+    ∙ ap (λ (d : ℤ). depth_after d (Some c.in-Some.abbreviation)) start))

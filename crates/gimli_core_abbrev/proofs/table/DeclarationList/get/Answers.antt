@@ -1,39 +1,74 @@
-use Rattle.std.proofs.Common.{◌∙◌, arith, ap, List, drop, map}
+use Rattle.std.proofs.Common.{rules, ◌≡◌, ◌∙◌, ◌-◌, ℕ, List, Option, Some, None, option_map, drop, sym, ap, arith}
 use Rattle.std.specs.Ordering.{nat_cmp}
 use Rattle.std.specs.BTreeMap.{get}
-use Rattle.gimli_core_abbrev.specs.declared.declaration.Abbreviation.{Abbreviation}
+use Rattle.std.specs.List.{slice_get}
 use Rattle.gimli_core_abbrev.specs.Declarations.{Declaration, declaration_at, by_code}
-use Rattle.gimli_core_abbrev.specs.TableLayout.{at_place}
-use Rattle.gimli_core_abbrev.specs.AbbreviationViews.{declaration_view}
-use Rattle.gimli_core_abbrev.proofs.DeclarationPlaces.{in_order_within, found_first, found_other, found_before}
+use Rattle.gimli_core_abbrev.specs.TableLayout.{stored}
+use Rattle.gimli_core_abbrev.proofs.DeclarationPlaces.{code_in_order, code_elsewhere, found_first, found_at, not_from, not_there, found_before}
 use Rattle.gimli_core_abbrev.proofs.table.DeclarationList.get.Goals as goal
 
-pub index-requires : goal.index-requires
-index-requires c =
-    let within = in_order_within c.self.inside.declarations.items c.self.inside.in_order
-    (get nat_cmp c.self.inside.places) c.self.invariant c.args.code (omega (arith, c.if-from-code.true))
-    (omega (arith, c.if-self-code.false)) in
-    omega (arith, within)
+abbrev code_in : Option Declaration → Option ℕ
+code_in o = option_map (λ (d : Declaration). d.code) o
 
-pub returns-then-self-code : goal.returns-then-self-code
-returns-then-self-code c =
-    c.get_by_place.ensures
-    ∙ ap (λ (xs : List Abbreviation). at_place c.args.from (get nat_cmp c.self.inside.places c.args.code)
-    (map declaration_view xs)) c.deref.ensures.value
-    ∙ found_other (map declaration_view c.self.inside.declarations.items) c.self.inside.in_order
-    (get nat_cmp c.self.inside.places) c.self.invariant c.args.from c.args.code (omega (arith, c.if-self-code.true))
-    ∙ ap (λ (ds : List Declaration). declaration_at c.args.code (by_code (drop c.args.from ds))) c.self.view_is
+abbrev found_in : ℕ → ℕ → List Declaration → Option Declaration
+found_in from code ds = declaration_at code (by_code (drop from ds))
+
+pub at-requires : goal.at-requires
+at-requires c =
+    let i = c.self.inside in
+    let there : get nat_cmp i.places c.args.code ≡ Some c.in-Some.place.now = search rules in
+    ap (λ (ds : List Declaration). code_in (slice_get ds c.in-Some.place.now)) (sym c.self.view_is)
+    ∙ code_elsewhere (stored i.in_order i.others.items i.attributes.items i.declarations.items) i.in_order
+    (get nat_cmp i.places) c.self.invariant.1 c.args.code c.in-Some.place.now (omega (arith, c.if-self-code.true)) there
+
+pub returns-then-from-place : goal.returns-then-from-place
+returns-then-from-place c =
+    let i = c.self.inside in
+    let there : get nat_cmp i.places c.args.code ≡ Some c.in-Some.place.now = search rules in
+    found_at (stored i.in_order i.others.items i.attributes.items i.declarations.items) i.in_order
+    (get nat_cmp i.places) c.self.invariant.1 c.args.from c.args.code c.in-Some.place.now c.at.result
+    (omega (arith, c.if-self-code.true)) there (omega (arith, c.if-from-place.true))
+    (ap (λ (ds : List Declaration). slice_get ds c.in-Some.place.now) c.self.view_is ∙ c.at.ensures)
+    ∙ ap (found_in c.args.from c.args.code) c.self.view_is
+
+pub returns-else-from-place : goal.returns-else-from-place
+returns-else-from-place c =
+    let i = c.self.inside in
+    let there : get nat_cmp i.places c.args.code ≡ Some c.in-Some.place.now = search rules in
+    not_from (stored i.in_order i.others.items i.attributes.items i.declarations.items) i.in_order
+    (get nat_cmp i.places) c.self.invariant.1 c.args.from c.args.code c.in-Some.place.now
+    (omega (arith, c.if-self-code.true)) there (omega (arith, c.if-from-place.false))
+    ∙ ap (found_in c.args.from c.args.code) c.self.view_is
+
+pub returns-in-None : goal.returns-in-None
+returns-in-None c =
+    let i = c.self.inside in
+    let there : get nat_cmp i.places c.args.code ≡ None = search rules in
+    not_there (stored i.in_order i.others.items i.attributes.items i.declarations.items) i.in_order
+    (get nat_cmp i.places) c.self.invariant.1 c.args.from c.args.code (omega (arith, c.if-self-code.true)) there
+    ∙ ap (found_in c.args.from c.args.code) c.self.view_is
+
+pub at-requires-then-from-code : goal.at-requires-then-from-code
+at-requires-then-from-code c =
+    let i = c.self.inside in
+    ap (λ (ds : List Declaration). code_in (slice_get ds (c.args.code - 1))) (sym c.self.view_is)
+    ∙ code_in_order (stored i.in_order i.others.items i.attributes.items i.declarations.items) i.in_order
+    (get nat_cmp i.places) c.self.invariant.1 c.args.code (omega (arith, c.if-from-code.true))
+    (omega (arith, c.if-self-code.false))
 
 pub returns-then-from-code : goal.returns-then-from-code
 returns-then-from-code c =
-    found_first c.self.inside.declarations.items c.self.inside.in_order (get nat_cmp c.self.inside.places)
-    c.self.invariant c.args.from c.args.code c.index.result.now (omega (arith, c.if-from-code.true))
-    (omega (arith, c.if-self-code.false)) c.index.ensures
-    ∙ ap (λ (ds : List Declaration). declaration_at c.args.code (by_code (drop c.args.from ds))) c.self.view_is
+    let i = c.self.inside in
+    found_first (stored i.in_order i.others.items i.attributes.items i.declarations.items) i.in_order
+    (get nat_cmp i.places) c.self.invariant.1 c.args.from c.args.code c.at-then-from-code.result
+    (omega (arith, c.if-from-code.true)) (omega (arith, c.if-self-code.false))
+    (ap (λ (ds : List Declaration). slice_get ds (c.args.code - 1)) c.self.view_is ∙ c.at-then-from-code.ensures)
+    ∙ ap (found_in c.args.from c.args.code) c.self.view_is
 
 pub returns-else-from-code : goal.returns-else-from-code
 returns-else-from-code c =
-    found_before (map declaration_view c.self.inside.declarations.items) c.self.inside.in_order
-    (get nat_cmp c.self.inside.places) c.self.invariant c.args.from c.args.code
-    (omega (arith, c.if-from-code.false)) (omega (arith, c.if-self-code.false))
-    ∙ ap (λ (ds : List Declaration). declaration_at c.args.code (by_code (drop c.args.from ds))) c.self.view_is
+    let i = c.self.inside in
+    found_before (stored i.in_order i.others.items i.attributes.items i.declarations.items) i.in_order
+    (get nat_cmp i.places) c.self.invariant.1 c.args.from c.args.code (omega (arith, c.if-from-code.false))
+    (omega (arith, c.if-self-code.false))
+    ∙ ap (found_in c.args.from c.args.code) c.self.view_is

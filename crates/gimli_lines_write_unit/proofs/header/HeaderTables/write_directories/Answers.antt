@@ -2,7 +2,8 @@ use Rattle.std.proofs.Common.{ℕ, map, sym, ap, subst, ◌∙◌}
 use Rattle.std.specs.Prelude.{All}
 use Rattle.gimli_lines_write_tables.specs.EntryBytes.{Continues}
 use Rattle.gimli_lines_write_tables.specs.FileTables.{text_of}
-use Rattle.gimli_lines_write_unit.specs.HeaderContents.{VersionedTables, header_text, listed_directories, IsKnown}
+use Rattle.gimli_lines_write_unit.specs.HeaderContents.{VersionedTables, header_text, listed_directories}
+use Rattle.gimli_lines_write_tables.specs.LineStrings.{IsKnown}
 use Rattle.gimli_lines_write_unit.specs.HeaderBytes.{directories_bytes}
 use Rattle.gimli_lines_write_unit.proofs.KnownTexts.{told_known, told_written}
 use Rattle.gimli_lines_write_unit.proofs.header.HeaderTables.write_directories.Goals as goal

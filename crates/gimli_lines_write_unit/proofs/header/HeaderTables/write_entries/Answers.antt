@@ -2,7 +2,8 @@ use Rattle.std.proofs.Common.{sym, ap, subst, ◌∙◌, unwrap_or}
 use Rattle.std.specs.Prelude.{All}
 use Rattle.gimli_lines_write_tables.specs.EntryBytes.{Continues}
 use Rattle.gimli_lines_write_tables.specs.FileTables.{File, Info, text_of, file_of, info_of}
-use Rattle.gimli_lines_write_unit.specs.HeaderContents.{VersionedTables, records_source, writes_sources, details_of, IsKnown}
+use Rattle.gimli_lines_write_unit.specs.HeaderContents.{VersionedTables, records_source, writes_sources, details_of}
+use Rattle.gimli_lines_write_tables.specs.LineStrings.{IsKnown}
 use Rattle.gimli_lines_write_unit.specs.HeaderBytes.{all_bytes, file_bytes_of_5}
 use Rattle.gimli_lines_write_unit.proofs.KnownTexts.{All-view, lengths_of_views}
 use Rattle.gimli_lines_write_unit.proofs.FileLists.{listed_files}

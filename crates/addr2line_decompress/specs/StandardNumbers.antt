@@ -1,0 +1,14 @@
+-- The constants of this crate, each with the number that its standard gives it.
+use Rattle.std.specs.Prelude.{◌≡◌, ◌+◌, ◌*◌, ◌/◌}
+use Rattle.addr2line_decompress.specs.declared.constants.TheConstants.{ELFCOMPRESS_ZLIB, ELFCOMPRESS_ZSTD, MOST_OF_ONE_BYTE}
+
+-- how sections are compressed (System V ABI, "Sections", "Section Compression", ch_type)
+abbrev pub CompressionNumbers : Type 0
+CompressionNumbers =
+    (ELFCOMPRESS_ZLIB ≡ 1)
+    × (ELFCOMPRESS_ZSTD ≡ 2)
+
+-- the longest copy, as often as a byte has its bits: one at least for its length and one for its
+-- distance (RFC 1951, 3.2.5)
+abbrev pub GrowthNumbers : Type 0
+GrowthNumbers = MOST_OF_ONE_BYTE ≡ 258 * (8 / (1 + 1))
